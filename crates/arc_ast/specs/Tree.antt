@@ -1,0 +1,93 @@
+-- Trees without where they lie in memory.
+use Rattle.std.specs.Prelude.{ℕ, ℤ, List, [], ◌∷◌, Option, Some, None, option_map}
+use Rattle.arc_ast.specs.declared.tree.BinaryOperator.{BinaryOperator}
+use Rattle.arc_ast.specs.declared.tree.Parameters.{Parameters}
+use Rattle.arc_ast.specs.declared.tree.Expr.{Expr, Row_of-Expr, end_of-Expr, more_of-Expr}
+use Rattle.arc_ast.specs.declared.tree.Expr.TheVariants as e
+use Rattle.arc_ast.specs.declared.tree.Stmt.{Stmt, Row_of-Stmt, end_of-Stmt, more_of-Stmt}
+use Rattle.arc_ast.specs.declared.tree.Stmt.TheVariants as s
+use Rattle.arc_ast.specs.declared.tree.Function.{Function}
+use Rattle.arc_ast.specs.declared.tree.TranslationUnit.{TranslationUnit}
+
+mutual
+  -- an expression, with the place of its first byte (C99, section 6.5)
+  pub data ExprTree : Type 0 where
+    Integer : ℕ → ℤ → ExprTree
+    Text : ℕ → List ℕ → ExprTree
+    Paren : ℕ → ExprTree → ExprTree
+    Call : ℕ → List ℕ → ExprTrees → ExprTree
+    Negate : ℕ → ExprTree → ExprTree
+    Binary : ℕ → BinaryOperator → ExprTree → ExprTree → ExprTree
+
+  pub data ExprTrees : Type 0 where
+    no_exprs : ExprTrees
+    and_expr : ExprTree → ExprTrees → ExprTrees
+
+mutual
+  -- a statement, with the place of its first byte (C99, section 6.8)
+  pub data StmtTree : Type 0 where
+    Block : ℕ → StmtTrees → StmtTree
+    Empty : ℕ → StmtTree
+    Simple : ExprTree → StmtTree
+    Return : ℕ → Option ExprTree → StmtTree
+
+  pub data StmtTrees : Type 0 where
+    no_stmts : StmtTrees
+    and_stmt : StmtTree → StmtTrees → StmtTrees
+
+-- a function, with the place of its name (C99, section 6.9.1)
+pub record FunctionTree : Type 0 where
+  pub at : ℕ
+  pub parameters : Parameters
+  pub body : Option StmtTrees
+
+-- the place of an expression
+abbrev pub place : ExprTree → ℕ
+place (Integer at _) = at
+place (Text at _) = at
+place (Paren at _) = at
+place (Call at _ _) = at
+place (Negate at _) = at
+place (Binary at _ _ _) = at
+
+abbrev mutual
+  pub expr_tree : Expr → ExprTree
+  expr_tree (e.Integer at value) = Integer at value
+  expr_tree (e.Text at bytes) = Text at bytes.items
+  expr_tree (e.Paren' at q a) = Paren at (expr_tree a)
+  expr_tree (e.Call' at name shape args) = Call at name.items (row_exprs args)
+  expr_tree (e.Negate' at q a) = Negate at (expr_tree a)
+  expr_tree (e.Binary' at operator q a r b) = Binary at operator (expr_tree a) (expr_tree b)
+
+  pub row_exprs : {n : _} → Row_of-Expr n → ExprTrees
+  row_exprs end_of-Expr = no_exprs
+  row_exprs (more_of-Expr a row) = and_expr (expr_tree a) (row_exprs row)
+
+abbrev pub expr_trees : List Expr → ExprTrees
+expr_trees [] = no_exprs
+expr_trees (a ∷ others) = and_expr (expr_tree a) (expr_trees others)
+
+abbrev mutual
+  pub stmt_tree : Stmt → StmtTree
+  stmt_tree (s.Block' at shape all) = Block at (row_stmts all)
+  stmt_tree (s.Empty at) = Empty at
+  stmt_tree (s.Expr a) = Simple (expr_tree a)
+  stmt_tree (s.Return at a) = Return at (option_map expr_tree a)
+
+  pub row_stmts : {n : _} → Row_of-Stmt n → StmtTrees
+  row_stmts end_of-Stmt = no_stmts
+  row_stmts (more_of-Stmt a row) = and_stmt (stmt_tree a) (row_stmts row)
+
+abbrev pub stmt_trees : List Stmt → StmtTrees
+stmt_trees [] = no_stmts
+stmt_trees (a ∷ others) = and_stmt (stmt_tree a) (stmt_trees others)
+
+abbrev pub function_tree : Function → FunctionTree
+function_tree f = record { at = f.at; parameters = f.parameters; body = option_map (λ b. stmt_trees b.items) f.body }
+
+abbrev pub function_trees : List Function → List FunctionTree
+function_trees [] = []
+function_trees (f ∷ others) = function_tree f ∷ function_trees others
+
+abbrev pub unit_tree : TranslationUnit → List FunctionTree
+unit_tree u = function_trees u.functions.items

@@ -1,0 +1,55 @@
+-- Checked programs without where they lie in memory.
+use Rattle.std.specs.Prelude.{List, [], ◌∷◌, option_map}
+use Rattle.arc_check.specs.declared.checked.Piece.{Piece}
+use Rattle.arc_check.specs.declared.checked.Piece.TheVariants as p
+use Rattle.arc_check.specs.declared.checked.Value.{Value, Row_of-Value, end_of-Value, more_of-Value}
+use Rattle.arc_check.specs.declared.checked.Value.TheVariants as v
+use Rattle.arc_check.specs.declared.checked.Command.{Command, Row_of-Command, end_of-Command, more_of-Command}
+use Rattle.arc_check.specs.declared.checked.Command.TheVariants as c
+use Rattle.arc_check.specs.declared.checked.Checked as checked
+use Rattle.arc_spec.specs.Resolved as resolved
+use Rattle.arc_spec.specs.Resolved.{Number, ReadByte, Print, Negated, Combined, Converted, no_values, and_value, Sequence, Evaluate, Return, no_commands, and_command, Bytes, Decimal, Character}
+
+abbrev pub piece : Piece → resolved.Piece
+piece (p.Bytes bytes) = Bytes bytes.items
+piece p.Decimal = Decimal
+piece p.Character = Character
+
+abbrev pub pieces : List Piece → List resolved.Piece
+pieces [] = []
+pieces (a ∷ others) = piece a ∷ pieces others
+
+abbrev mutual
+  pub value : Value → resolved.Value
+  value (v.Number n) = Number n
+  value v.ReadByte = ReadByte
+  value (v.Print' all shape arguments) = Print (pieces all.items) (row_values arguments)
+  value (v.Negated' kind q a) = Negated kind (value a)
+  value (v.Combined' operator kind q a r b) = Combined operator kind (value a) (value b)
+  value (v.Converted' kind q a) = Converted kind (value a)
+
+  pub row_values : {n : _} → Row_of-Value n → resolved.Values
+  row_values end_of-Value = no_values
+  row_values (more_of-Value a row) = and_value (value a) (row_values row)
+
+abbrev pub values : List Value → resolved.Values
+values [] = no_values
+values (a ∷ others) = and_value (value a) (values others)
+
+abbrev mutual
+  pub command : Command → resolved.Command
+  command (c.Sequence' shape all) = Sequence (row_commands all)
+  command (c.Evaluate a) = Evaluate (value a)
+  command (c.Return a) = Return (option_map value a)
+
+  pub row_commands : {n : _} → Row_of-Command n → resolved.Commands
+  row_commands end_of-Command = no_commands
+  row_commands (more_of-Command a row) = and_command (command a) (row_commands row)
+
+abbrev pub commands : List Command → resolved.Commands
+commands [] = no_commands
+commands (a ∷ others) = and_command (command a) (commands others)
+
+-- the body of main
+abbrev pub body_of : checked.Checked → resolved.Commands
+body_of program = commands program.body.items

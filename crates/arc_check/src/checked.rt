@@ -1,0 +1,41 @@
+//! A program whose names are resolved, whose kinds are known and whose conversions are written.
+
+use arc_ast::tree::{BinaryOperator, Kind};
+
+/// What a format prints in turn.
+#[derive(Debug, Drop)]
+pub enum Piece {
+    /// These bytes, as they are.
+    Bytes(Vec<u8>),
+    /// The next value, as a decimal number.
+    Decimal,
+    /// The low 8 bits of the next value, as a byte.
+    Character,
+}
+
+/// An expression, which gives a number; an operator has the kind in which it computes.
+#[derive(Debug, Drop)]
+pub enum Value {
+    Number(i64),
+    /// A call of `getchar`.
+    ReadByte,
+    /// A call of `printf`, with its format and the values behind it.
+    Print(Vec<Piece>, Vec<Value>),
+    Negated(Kind, Box<Value>),
+    Combined(BinaryOperator, Kind, Box<Value>, Box<Value>),
+    Converted(Kind, Box<Value>),
+}
+
+/// A statement.
+#[derive(Debug, Drop)]
+pub enum Command {
+    Sequence(Vec<Command>),
+    Evaluate(Value),
+    Return(Option<Value>),
+}
+
+/// A checked program: the body of its `main`.
+#[derive(Debug, Drop)]
+pub struct Checked {
+    pub body: Vec<Command>,
+}

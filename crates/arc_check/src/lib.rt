@@ -1,0 +1,4 @@
+//! Finds what each name means and each expression's kind.
+#![tactic(auto)]
+
+pub mod checked;

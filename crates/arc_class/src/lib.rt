@@ -1,0 +1,4 @@
+//! Tables of what a source declares.
+#![tactic(auto)]
+
+pub mod table;

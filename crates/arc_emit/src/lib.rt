@@ -1,0 +1,2 @@
+//! Writes actions as instructions.
+#![tactic(auto)]

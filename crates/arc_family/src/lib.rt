@@ -1,0 +1,4 @@
+//! Checks the rules of ownership.
+#![tactic(auto)]
+
+pub mod owned;

@@ -1,0 +1,38 @@
+//! Actions, which take numbers from a stack and put numbers on it.
+
+use arc_ast::tree::{BinaryOperator, Kind};
+
+/// One action. A depth counts the numbers above the one that is meant.
+#[derive(Debug, Drop)]
+pub enum Action {
+    /// Puts a number on the stack.
+    Num(i64),
+    /// Takes the right operand and the left one, and puts what the operator gives of them.
+    Bin(BinaryOperator, Kind),
+    /// Puts the negation of the top number in its place.
+    Un(Kind),
+    /// Puts the top number, as one of this kind, in its place.
+    Narrow(Kind),
+    /// Takes the top number.
+    Pop,
+    /// Puts a copy of the number at this depth on the stack.
+    Get(usize),
+    /// Takes the top number, and puts it in the place of the one at this depth of the rest.
+    Set(usize),
+    /// Prints bytes, and adds their number to the count on top.
+    PrintText(Vec<u8>),
+    /// Takes a number, prints it in decimal, and adds the number of bytes to the count below it.
+    PrintNum,
+    /// Takes a number, prints its low 8 bits as a byte, and adds 1 to the count below it.
+    PrintByte,
+    /// Reads a byte, and puts it on the stack, or -1 at the end of the input.
+    GetChar,
+    /// Takes a number, with which the program ends.
+    Return,
+}
+
+/// The actions of a program, from its first one on.
+#[derive(Debug, Drop)]
+pub struct Ir {
+    pub actions: Vec<Action>,
+}

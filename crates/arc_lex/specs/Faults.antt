@@ -1,0 +1,53 @@
+-- What an answer of the lexer that is no list of tokens says.
+use Rattle.std.specs.Prelude.{ℕ, ◌≤◌, ◌<◌, List, length, codes}
+use Rattle.arc_lex.specs.declared.fault.LexFault.{LexFault}
+use Rattle.arc_lex.specs.declared.fault.LexFault.TheVariants as f
+use Rattle.arc_lex.specs.declared.piece.Rule.{Rule}
+use Rattle.arc_lex.specs.declared.piece.Rule.TheVariants as rules
+use Rattle.arc_lex.specs.Source.{FaultAt, most_bytes}
+
+-- the number of a fault, under which the compiler's users know it
+abbrev pub fault_number : LexFault → ℕ
+fault_number (f.BadByte at) = 1
+fault_number (f.OpenLiteral at) = 3
+fault_number (f.Literal at) = 4
+fault_number (f.Directive at) = 5
+fault_number f.TooLong = 6
+fault_number f.Memory = 7
+
+abbrev pub fault_name : LexFault → List ℕ
+fault_name (f.BadByte at) = codes "BadByte"
+fault_name (f.OpenLiteral at) = codes "OpenLiteral"
+fault_name (f.Literal at) = codes "Literal"
+fault_name (f.Directive at) = codes "Directive"
+fault_name f.TooLong = codes "TooLong"
+fault_name f.Memory = codes "Memory"
+
+-- the byte that a fault names, counted from 0
+abbrev pub fault_at : LexFault → ℕ
+fault_at (f.BadByte at) = at
+fault_at (f.OpenLiteral at) = at
+fault_at (f.Literal at) = at
+fault_at (f.Directive at) = at
+fault_at f.TooLong = most_bytes
+fault_at f.Memory = 0
+
+-- the fault of a broken rule at a place
+abbrev pub fault_of : Rule → ℕ → LexFault
+fault_of rules.BadByte at = f.BadByte at
+fault_of rules.OpenLiteral at = f.OpenLiteral at
+fault_of rules.Literal at = f.Literal at
+fault_of rules.Directive at = f.Directive at
+
+-- the source is not too long, and this is the first place where a rule is broken, and the rule
+abbrev pub IsFirst : List ℕ → ℕ → Rule → Type 0
+IsFirst source at rule = (length source ≤ most_bytes) × FaultAt 0 source at rule
+
+-- when each fault is answered. Want of memory may come at any source
+abbrev pub IsLexFault : List ℕ → LexFault → Type 0
+IsLexFault source (f.BadByte at) = IsFirst source at rules.BadByte
+IsLexFault source (f.OpenLiteral at) = IsFirst source at rules.OpenLiteral
+IsLexFault source (f.Literal at) = IsFirst source at rules.Literal
+IsLexFault source (f.Directive at) = IsFirst source at rules.Directive
+IsLexFault source f.TooLong = most_bytes < length source
+IsLexFault source f.Memory = Unit {0}

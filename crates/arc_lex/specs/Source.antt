@@ -1,0 +1,125 @@
+-- What the tokens of a source are, and where a source has none.
+use Rattle.std.specs.Prelude.{◌≡◌, ◌≤◌, ◌<◌, ◌⊎◌, ℕ, ◌+◌, pos, List, [], ◌∷◌, ◌++◌, length, Bool, true, false, Option, Some, None}
+use Rattle.arc_lex.specs.declared.token.Mark.{Mark}
+use Rattle.arc_lex.specs.declared.token.Word.{Word}
+use Rattle.arc_lex.specs.declared.token.AtWord.{AtWord}
+use Rattle.arc_lex.specs.declared.bytes.Class.TheVariants as c
+use Rattle.arc_lex.specs.declared.piece.Rule.{Rule}
+use Rattle.arc_lex.specs.declared.piece.Rule.TheVariants as rules
+use Rattle.arc_lex.specs.Bytes.{has, all_in, begins, is_blank}
+use Rattle.arc_lex.specs.Spellings.{mark_bytes, word_bytes, at_bytes}
+use Rattle.arc_lex.specs.Texts.{Part, parts_bytes, parts_value, all_go_on, number, largest, leads_with_zero, is_suffix}
+use Rattle.arc_lex.specs.Tokens.{Sort, Name, Integer, Text, Key, At, Sign, Tok}
+
+-- a letter or `_`, and letters, `_` and digits behind it (C99, section 6.4.2.1)
+abbrev pub IsWordLike : List ℕ → Type 0
+IsWordLike xs = (b : ℕ) × (bs : List ℕ) × (xs ≡ b ∷ bs) × (has c.Letter b ≡ true) × (all_in c.InName bs ≡ true)
+
+-- some digits
+abbrev pub IsDigits : List ℕ → Type 0
+IsDigits xs = (0 < length xs) × (all_in c.Digit xs ≡ true)
+
+-- 0, or decimal digits of which the first is not 0, up to the largest integer (C99, section 6.4.4.1; the range is this project's choice)
+abbrev pub IsInteger : List ℕ → Type 0
+IsInteger xs = IsDigits xs × (leads_with_zero xs ≡ false) × (number xs ≤ largest)
+
+-- bytes that are a token of this sort (C99, section 6.4)
+abbrev pub IsToken : List ℕ → Sort → Type 0
+IsToken xs (Name bytes) = (xs ≡ bytes) × IsWordLike xs × ((word : Word) → xs ≡ word_bytes word → ⊥)
+IsToken xs (Integer value) = IsInteger xs × (value ≡ pos (number xs))
+IsToken xs (Text bytes) = (parts : List Part) × (xs ≡ 34 ∷ (parts_bytes parts ++ 34 ∷ [])) × (parts_value parts ≡ Some bytes)
+IsToken xs (Key word) = xs ≡ word_bytes word
+IsToken xs (At word) = xs ≡ at_bytes word
+IsToken xs (Sign mark) = xs ≡ mark_bytes mark
+
+-- the longest token at the front: no other front of the bytes that is a token is longer (C99, section 6.4, paragraph 4)
+pub record Longest (xs : List ℕ) (s : Sort) (rest : List ℕ) : Type 0 where
+  pub token : IsToken xs s
+  pub longest : (ys r : List ℕ) (o : Sort) → xs ++ rest ≡ ys ++ r → IsToken ys o → length ys ≤ length xs
+
+-- Neither a blank nor a token begins with the byte that stands there.
+pub record NothingBegins (bytes : List ℕ) : Type 0 where
+  pub first : ℕ
+  pub others : List ℕ
+  pub splits : bytes ≡ first ∷ others
+  pub no_blank : is_blank first ≡ false
+  pub no_token : (ys : List ℕ) (o : Sort) → IsToken (first ∷ ys) o → ⊥
+
+-- `//` or `/*` stands there.
+abbrev pub IsComment : List ℕ → Type 0
+IsComment bytes = (b : ℕ) × (rest : List ℕ) × (bytes ≡ 47 ∷ b ∷ rest) × ((b ≡ 47) ⊎ (b ≡ 42))
+
+-- `0x` or `0X` stands there.
+abbrev pub IsHexadecimal : List ℕ → Type 0
+IsHexadecimal bytes = (b : ℕ) × (rest : List ℕ) × (bytes ≡ 48 ∷ b ∷ rest) × ((b ≡ 120) ⊎ (b ≡ 88))
+
+-- A right integer stands there, with a right suffix and no letter, `_` or digit behind it.
+pub record IsSuffixed (bytes : List ℕ) : Type 0 where
+  pub digits : List ℕ
+  pub suffix : List ℕ
+  pub rest : List ℕ
+  pub splits : bytes ≡ digits ++ (suffix ++ rest)
+  pub integer : IsInteger digits
+  pub right : is_suffix suffix ≡ true
+  pub ends : begins c.InName rest ≡ false
+
+-- what C and Objective-C have and this compiler has not yet: comments, hexadecimal integers and suffixes
+abbrev pub ComesLater : List ℕ → Type 0
+ComesLater bytes = IsComment bytes ⊎ (IsHexadecimal bytes ⊎ IsSuffixed bytes)
+
+-- A text begins there that is not closed on its line.
+abbrev pub IsOpenText : List ℕ → Type 0
+IsOpenText bytes = (rest : List ℕ) × (bytes ≡ 34 ∷ rest)
+    × ((parts : List Part) (after : List ℕ) → rest ≡ parts_bytes parts ++ 34 ∷ after → all_go_on parts ≡ true → ⊥)
+
+-- A text stands there that is closed on its line, and one of its parts is an unknown escape or a byte that no text has.
+abbrev pub IsWrongText : List ℕ → Type 0
+IsWrongText bytes = (parts : List Part) × (after : List ℕ) × (bytes ≡ 34 ∷ (parts_bytes parts ++ 34 ∷ after)) × (all_go_on parts ≡ true)
+    × (parts_value parts ≡ None)
+
+-- All the digits that stand there are above the largest integer, or are a 0 and more, or have a letter or `_` right behind them.
+pub record IsWrongInteger (bytes : List ℕ) : Type 0 where
+  pub digits : List ℕ
+  pub rest : List ℕ
+  pub splits : bytes ≡ digits ++ rest
+  pub some : IsDigits digits
+  pub ends : begins c.Digit rest ≡ false
+  pub wrong : (largest < number digits) ⊎ ((leads_with_zero digits ≡ true) ⊎ (begins c.Letter rest ≡ true))
+
+-- An `@` stands there, and none of the words behind `@`.
+abbrev pub IsOtherDirective : List ℕ → Type 0
+IsOtherDirective bytes = (rest : List ℕ) × (bytes ≡ 64 ∷ rest) × ((word : AtWord) (r : List ℕ) → bytes ≡ at_bytes word ++ r → ⊥)
+
+-- the rule is broken where these bytes stand. An integer that comes later is not a wrong one
+abbrev pub Breaks : Rule → List ℕ → Type 0
+Breaks rules.BadByte bytes = NothingBegins bytes ⊎ ComesLater bytes
+Breaks rules.OpenLiteral bytes = IsOpenText bytes
+Breaks rules.Literal bytes = IsWrongText bytes ⊎ (IsWrongInteger bytes × (ComesLater bytes → ⊥))
+Breaks rules.Directive bytes = IsOtherDirective bytes
+
+-- no rule is broken where these bytes stand
+abbrev pub Faultless : List ℕ → Type 0
+Faultless bytes = (rule : Rule) → Breaks rule bytes → ⊥
+
+-- From this place on the bytes are cut into these tokens: at each place stands a blank or the longest token, no rule is broken there, and
+-- the next place is right behind it.
+pub data Cuts : ℕ → List ℕ → List Tok → Type 0 where
+  done : (at : ℕ) → Cuts at [] []
+  blank : (at b : ℕ) (rest : List ℕ) (ts : List Tok) → is_blank b ≡ true → Faultless (b ∷ rest) → Cuts (at + 1) rest ts → Cuts at (b ∷ rest) ts
+  token : (at : ℕ) (xs : List ℕ) (s : Sort) (rest : List ℕ) (ts : List Tok) → Longest xs s rest → Faultless (xs ++ rest) → Cuts (at + length xs) rest ts
+      → Cuts at (xs ++ rest) (record { sort = s; from = at; to = at + length xs } ∷ ts)
+
+-- From a place on, p is the first place where a rule is broken, and this is the rule.
+pub data FaultAt : ℕ → List ℕ → ℕ → Rule → Type 0 where
+  here : (at : ℕ) (bytes : List ℕ) (rule : Rule) → Breaks rule bytes → FaultAt at bytes at rule
+  behind_blank : (at b : ℕ) (rest : List ℕ) (p : ℕ) (rule : Rule) → is_blank b ≡ true → Faultless (b ∷ rest) → FaultAt (at + 1) rest p rule → FaultAt at (b ∷ rest) p rule
+  behind_token : (at : ℕ) (xs : List ℕ) (s : Sort) (rest : List ℕ) (p : ℕ) (rule : Rule) → Longest xs s rest → Faultless (xs ++ rest) → FaultAt (at + length xs) rest p rule
+      → FaultAt at (xs ++ rest) p rule
+
+-- the most bytes that a source has (the choice of this project)
+abbrev pub most_bytes : ℕ
+most_bytes = 1048576
+
+-- the tokens of a source
+abbrev pub Tokens : List ℕ → List Tok → Type 0
+Tokens source ts = (length source ≤ most_bytes) × Cuts 0 source ts

@@ -1,0 +1,84 @@
+-- Texts and integers: which bytes they are written with, and what they stand for.
+use Rattle.std.specs.Prelude.{ℕ, ◌+◌, ◌-◌, ◌*◌, List, [], ◌∷◌, ◌++◌, Bool, true, false, not, ◌&&◌, ◌||◌, nat_le, nat_eq, if◌then◌else◌, Option, Some, None}
+
+-- What stands between the quotes of a text is a row of parts: a byte for itself, or a backslash and the byte behind it.
+pub data Part : Type 0 where
+  Plain : ℕ → Part
+  Escape : ℕ → Part
+
+abbrev pub part_bytes : Part → List ℕ
+part_bytes (Plain b) = b ∷ []
+part_bytes (Escape b) = 92 ∷ b ∷ []
+
+abbrev pub parts_bytes : List Part → List ℕ
+parts_bytes [] = []
+parts_bytes (p ∷ ps) = part_bytes p ++ parts_bytes ps
+
+-- the part ends neither the text nor its line: it is no quote, no lone backslash and no newline
+abbrev pub goes_on : Part → Bool
+goes_on (Plain b) = not (nat_eq b 34) && (not (nat_eq b 92) && not (nat_eq b 10))
+goes_on (Escape b) = not (nat_eq b 10)
+
+abbrev pub all_go_on : List Part → Bool
+all_go_on [] = true
+all_go_on (p ∷ ps) = goes_on p && all_go_on ps
+
+-- a byte that stands for itself in a text: a tab, a printed ASCII byte but `"` and the backslash, or a byte above ASCII (the choice of
+-- this project)
+abbrev pub is_plain : ℕ → Bool
+is_plain b = nat_eq b 9 || (((nat_le 32 b && nat_le b 126) && (not (nat_eq b 34) && not (nat_eq b 92))) || nat_le 128 b)
+
+-- the byte that a backslash and this byte stand for: newline, tab, carriage return, 0, backslash, `'` and `"` (C99, section 6.4.4.4, of
+-- whose escapes this project has these)
+abbrev pub escape_value : ℕ → Option ℕ
+escape_value b =
+    if nat_eq b 110 then Some 10
+    else if nat_eq b 116 then Some 9
+    else if nat_eq b 114 then Some 13
+    else if nat_eq b 48 then Some 0
+    else if nat_eq b 92 then Some 92
+    else if nat_eq b 39 then Some 39
+    else if nat_eq b 34 then Some 34
+    else None
+
+-- the byte that a part stands for, if it is a right one
+abbrev pub part_value : Part → Option ℕ
+part_value (Plain b) = if is_plain b then Some b else None
+part_value (Escape b) = escape_value b
+
+-- a byte in front of bytes, if both are there
+abbrev pub put_front : Option ℕ → Option (List ℕ) → Option (List ℕ)
+put_front None bytes = None
+put_front (Some b) None = None
+put_front (Some b) (Some bs) = Some (b ∷ bs)
+
+-- the bytes that the parts stand for, if each is a right one (C99, section 6.4.5)
+abbrev pub parts_value : List Part → Option (List ℕ)
+parts_value [] = Some []
+parts_value (p ∷ ps) = put_front (part_value p) (parts_value ps)
+
+-- the number that is n, followed by these decimal digits
+abbrev pub number_after : ℕ → List ℕ → ℕ
+number_after n [] = n
+number_after n (d ∷ ds) = number_after (n * 10 + (d - 48)) ds
+
+-- the number that decimal digits are (C99, section 6.4.4.1)
+abbrev pub number : List ℕ → ℕ
+number ds = number_after 0 ds
+
+-- the largest integer
+abbrev pub largest : ℕ
+largest = 9223372036854775807
+
+-- a 0 with more behind it
+abbrev pub leads_with_zero : List ℕ → Bool
+leads_with_zero [] = false
+leads_with_zero (d ∷ []) = false
+leads_with_zero (d ∷ e ∷ ds) = nat_eq d 48
+
+-- the suffixes of C's long and long long integers: l, L, ll and LL (C99, section 6.4.4.1)
+abbrev pub is_suffix : List ℕ → Bool
+is_suffix [] = false
+is_suffix (b ∷ []) = nat_eq b 108 || nat_eq b 76
+is_suffix (b ∷ c ∷ []) = (nat_eq b 108 && nat_eq c 108) || (nat_eq b 76 && nat_eq c 76)
+is_suffix (b ∷ c ∷ d ∷ bs) = false

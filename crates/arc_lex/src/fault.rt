@@ -1,0 +1,73 @@
+//! Why a source has no tokens.
+ghost use Rattle.std.specs.Prelude.{◌≡◌};
+ghost use Rattle.arc_lex.specs.Faults.{fault_number, fault_name, fault_at};
+
+use thiserror::Error;
+
+/// Why a source has no tokens. A fault names the first byte that the rule speaks of, counted from 0.
+#[derive(Clone, Copy, Debug, Drop, PartialEq, Eq, Error)]
+pub enum LexFault {
+    /// No token begins with this byte, or with it begins what this compiler does not have yet: a comment, a hexadecimal integer or a
+    /// suffix.
+    #[error("no token begins with the byte at {0}")]
+    BadByte(usize),
+    /// A text is not closed on its line.
+    #[error("the text at {0} is not closed on its line")]
+    OpenLiteral(usize),
+    /// An integer or a text is wrong.
+    #[error("the integer or text at {0} is wrong")]
+    Literal(usize),
+    /// No known word stands behind an `@`.
+    #[error("no known word stands behind the @ at {0}")]
+    Directive(usize),
+    /// The source has over 1,048,576 bytes.
+    #[error("the source has over 1048576 bytes")]
+    TooLong,
+    /// There was no memory for the tokens.
+    #[error("no memory")]
+    Memory,
+}
+
+impl LexFault {
+    /// The fault's number.
+    pub fn number(&self) -> u8
+        ensures { result ≡ fault_number self.now }
+    {
+        match self {
+            LexFault::BadByte(_) => 1,
+            LexFault::OpenLiteral(_) => 3,
+            LexFault::Literal(_) => 4,
+            LexFault::Directive(_) => 5,
+            LexFault::TooLong => 6,
+            LexFault::Memory => 7,
+        }
+    }
+
+    /// The fault's name.
+    pub fn name(&self) -> &'static str
+        ensures { result.now ≡ fault_name self.now }
+    {
+        match self {
+            LexFault::BadByte(_) => "BadByte",
+            LexFault::OpenLiteral(_) => "OpenLiteral",
+            LexFault::Literal(_) => "Literal",
+            LexFault::Directive(_) => "Directive",
+            LexFault::TooLong => "TooLong",
+            LexFault::Memory => "Memory",
+        }
+    }
+
+    /// The byte that the fault names, counted from 0: 1048576 for a source that is too long, and 0 for want of memory.
+    pub fn at(&self) -> usize
+        ensures { result ≡ fault_at self.now }
+    {
+        match self {
+            LexFault::BadByte(at) => *at,
+            LexFault::OpenLiteral(at) => *at,
+            LexFault::Literal(at) => *at,
+            LexFault::Directive(at) => *at,
+            LexFault::TooLong => 1048576,
+            LexFault::Memory => 0,
+        }
+    }
+}

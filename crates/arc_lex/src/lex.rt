@@ -1,0 +1,60 @@
+//! Cuts a source into tokens.
+ghost use Rattle.std.specs.Prelude.{◌≡◌, ◌<◌, ◌≤◌, length, IfOk, IfErr};
+ghost use Rattle.arc_lex.specs.Faults.{fault_of, IsLexFault};
+ghost use Rattle.arc_lex.specs.Source.{Tokens};
+ghost use Rattle.arc_lex.specs.Tokens.{toks};
+
+use crate::fault::LexFault;
+use crate::piece::{Piece, Rule, lawful_piece};
+use crate::token::{Span, Token};
+use std::alloc::Global;
+
+/// The most bytes that a source has.
+const MOST_BYTES: usize = 1048576;
+
+/// The fault of a broken rule at a place.
+fn fault_of(rule: Rule, at: usize) -> LexFault
+    ensures { result ≡ fault_of rule at }
+{
+    match rule {
+        Rule::BadByte => LexFault::BadByte(at),
+        Rule::OpenLiteral => LexFault::OpenLiteral(at),
+        Rule::Literal => LexFault::Literal(at),
+        Rule::Directive => LexFault::Directive(at),
+    }
+}
+
+/// The tokens of a source, in order, each with its span.
+///
+/// Fails with `TooLong` at a source of over 1,048,576 bytes, and otherwise with the first place, in reading order, where a rule about
+/// tokens is broken. `Memory` comes where there is no memory for the tokens.
+pub fn lex(alloc: Global, source: &[u8]) -> Result<Vec<Token>, LexFault>
+    ensures tokens { IfOk result (λ ts. Tokens source.now (toks ts.items)) }
+    ensures fault { IfErr result (λ f. IsLexFault source.now f) }
+{
+    if source.len() > MOST_BYTES {
+        return Err(LexFault::TooLong);
+    }
+    let mut tokens = Vec::new(alloc);
+    let mut at = 0;
+    let mut rest = source;
+    'pieces: while at < source.len() {
+        match lawful_piece(alloc, rest).map_err(|_| LexFault::Memory)? {
+            Piece::Blank => {
+                at += 1;
+                rest = rest.split_at(1).1;
+            }
+            Piece::Whole(kind, n) => {
+                let span = Span {
+                    from: at,
+                    to: at + n,
+                };
+                tokens.push(Token { kind, span }).map_err(|_| LexFault::Memory)?;
+                at += n;
+                rest = rest.split_at(n).1;
+            }
+            Piece::Broken(rule) => return Err(fault_of(rule, at)),
+        }
+    }
+    Ok(tokens)
+}

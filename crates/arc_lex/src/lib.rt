@@ -1,0 +1,11 @@
+//! Cuts a source into tokens.
+#![tactic(auto)]
+
+mod bytes;
+pub mod fault;
+pub mod lex;
+mod number;
+mod piece;
+mod spelling;
+mod text;
+pub mod token;

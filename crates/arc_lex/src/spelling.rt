@@ -1,0 +1,313 @@
+//! How marks and reserved words are written, and which of them stands at the front of bytes.
+ghost use Rattle.std.specs.Prelude.{◌≡◌, length, ◌≤◌};
+ghost use Rattle.arc_lex.specs.Pieces.{first_front, first_equal};
+ghost use Rattle.arc_lex.specs.Spellings.{mark_bytes, word_bytes, at_bytes};
+
+use crate::token::{AtWord, Mark, Word};
+
+/// The marks, the longest first.
+const MARKS: [Mark; 45] = [
+    Mark::ShiftLeftAssign,
+    Mark::ShiftRightAssign,
+    Mark::Arrow,
+    Mark::LessEqual,
+    Mark::GreaterEqual,
+    Mark::Equal,
+    Mark::NotEqual,
+    Mark::And,
+    Mark::Increment,
+    Mark::Decrement,
+    Mark::ShiftLeft,
+    Mark::ShiftRight,
+    Mark::PlusAssign,
+    Mark::MinusAssign,
+    Mark::StarAssign,
+    Mark::SlashAssign,
+    Mark::PercentAssign,
+    Mark::AmpersandAssign,
+    Mark::CaretAssign,
+    Mark::Or,
+    Mark::BarAssign,
+    Mark::OpenBrace,
+    Mark::CloseBrace,
+    Mark::OpenParen,
+    Mark::CloseParen,
+    Mark::OpenSquare,
+    Mark::CloseSquare,
+    Mark::Semicolon,
+    Mark::Comma,
+    Mark::Colon,
+    Mark::Dot,
+    Mark::Question,
+    Mark::Less,
+    Mark::Greater,
+    Mark::Assign,
+    Mark::Plus,
+    Mark::Minus,
+    Mark::Star,
+    Mark::Slash,
+    Mark::Percent,
+    Mark::Ampersand,
+    Mark::Caret,
+    Mark::Tilde,
+    Mark::Not,
+    Mark::Bar,
+];
+
+/// The reserved words.
+const WORDS: [Word; 48] = [
+    Word::Bool,
+    Word::No,
+    Word::NsInteger,
+    Word::Null,
+    Word::Yes,
+    Word::Auto,
+    Word::Break,
+    Word::Case,
+    Word::Char,
+    Word::Const,
+    Word::Continue,
+    Word::Default,
+    Word::Do,
+    Word::Double,
+    Word::Else,
+    Word::Enum,
+    Word::Extern,
+    Word::Float,
+    Word::For,
+    Word::Goto,
+    Word::Id,
+    Word::If,
+    Word::Inline,
+    Word::InstanceType,
+    Word::Int,
+    Word::Long,
+    Word::Nil,
+    Word::Register,
+    Word::Restrict,
+    Word::Return,
+    Word::SelfWord,
+    Word::Short,
+    Word::Signed,
+    Word::Sizeof,
+    Word::Static,
+    Word::Struct,
+    Word::Super,
+    Word::Switch,
+    Word::Typedef,
+    Word::Union,
+    Word::Unsigned,
+    Word::Void,
+    Word::Volatile,
+    Word::While,
+    Word::Strong,
+    Word::Weak,
+    Word::Autoreleasing,
+    Word::UnsafeUnretained,
+];
+
+/// The words behind `@`, the longest first.
+const AT_WORDS: [AtWord; 14] = [
+    AtWord::AutoreleasePool,
+    AtWord::Implementation,
+    AtWord::Synthesize,
+    AtWord::Interface,
+    AtWord::Protected,
+    AtWord::Protocol,
+    AtWord::Property,
+    AtWord::Required,
+    AtWord::Optional,
+    AtWord::Selector,
+    AtWord::Private,
+    AtWord::Public,
+    AtWord::Class,
+    AtWord::End,
+];
+
+/// The text of a mark.
+pub fn mark_text(mark: Mark) -> &'static str
+    ensures { result.now ≡ mark_bytes mark }
+{
+    match mark {
+        Mark::OpenBrace => "{",
+        Mark::CloseBrace => "}",
+        Mark::OpenParen => "(",
+        Mark::CloseParen => ")",
+        Mark::OpenSquare => "[",
+        Mark::CloseSquare => "]",
+        Mark::Semicolon => ";",
+        Mark::Comma => ",",
+        Mark::Colon => ":",
+        Mark::Dot => ".",
+        Mark::Arrow => "->",
+        Mark::Question => "?",
+        Mark::Less => "<",
+        Mark::Greater => ">",
+        Mark::LessEqual => "<=",
+        Mark::GreaterEqual => ">=",
+        Mark::Equal => "==",
+        Mark::NotEqual => "!=",
+        Mark::Assign => "=",
+        Mark::Plus => "+",
+        Mark::Minus => "-",
+        Mark::Star => "*",
+        Mark::Slash => "/",
+        Mark::Percent => "%",
+        Mark::Ampersand => "&",
+        Mark::Caret => "^",
+        Mark::Tilde => "~",
+        Mark::Not => "!",
+        Mark::And => "&&",
+        Mark::Increment => "++",
+        Mark::Decrement => "--",
+        Mark::ShiftLeft => "<<",
+        Mark::ShiftRight => ">>",
+        Mark::PlusAssign => "+=",
+        Mark::MinusAssign => "-=",
+        Mark::StarAssign => "*=",
+        Mark::SlashAssign => "/=",
+        Mark::PercentAssign => "%=",
+        Mark::AmpersandAssign => "&=",
+        Mark::CaretAssign => "^=",
+        Mark::ShiftLeftAssign => "<<=",
+        Mark::ShiftRightAssign => ">>=",
+        Mark::Bar => "|",
+        Mark::Or => "||",
+        Mark::BarAssign => "|=",
+    }
+}
+
+/// The text of a reserved word.
+fn word_text(word: Word) -> &'static str
+    ensures { result.now ≡ word_bytes word }
+{
+    match word {
+        Word::Bool => "BOOL",
+        Word::No => "NO",
+        Word::NsInteger => "NSInteger",
+        Word::Null => "NULL",
+        Word::Yes => "YES",
+        Word::Auto => "auto",
+        Word::Break => "break",
+        Word::Case => "case",
+        Word::Char => "char",
+        Word::Const => "const",
+        Word::Continue => "continue",
+        Word::Default => "default",
+        Word::Do => "do",
+        Word::Double => "double",
+        Word::Else => "else",
+        Word::Enum => "enum",
+        Word::Extern => "extern",
+        Word::Float => "float",
+        Word::For => "for",
+        Word::Goto => "goto",
+        Word::Id => "id",
+        Word::If => "if",
+        Word::Inline => "inline",
+        Word::InstanceType => "instancetype",
+        Word::Int => "int",
+        Word::Long => "long",
+        Word::Nil => "nil",
+        Word::Register => "register",
+        Word::Restrict => "restrict",
+        Word::Return => "return",
+        Word::SelfWord => "self",
+        Word::Short => "short",
+        Word::Signed => "signed",
+        Word::Sizeof => "sizeof",
+        Word::Static => "static",
+        Word::Struct => "struct",
+        Word::Super => "super",
+        Word::Switch => "switch",
+        Word::Typedef => "typedef",
+        Word::Union => "union",
+        Word::Unsigned => "unsigned",
+        Word::Void => "void",
+        Word::Volatile => "volatile",
+        Word::While => "while",
+        Word::Strong => "__strong",
+        Word::Weak => "__weak",
+        Word::Autoreleasing => "__autoreleasing",
+        Word::UnsafeUnretained => "__unsafe_unretained",
+    }
+}
+
+/// The text of a word behind `@`, with the `@`.
+pub fn at_text(word: AtWord) -> &'static str
+    ensures { result.now ≡ at_bytes word }
+{
+    match word {
+        AtWord::Class => "@class",
+        AtWord::Protocol => "@protocol",
+        AtWord::Interface => "@interface",
+        AtWord::Implementation => "@implementation",
+        AtWord::End => "@end",
+        AtWord::Property => "@property",
+        AtWord::Synthesize => "@synthesize",
+        AtWord::Public => "@public",
+        AtWord::Protected => "@protected",
+        AtWord::Private => "@private",
+        AtWord::Required => "@required",
+        AtWord::Optional => "@optional",
+        AtWord::Selector => "@selector",
+        AtWord::AutoreleasePool => "@autoreleasepool",
+    }
+}
+
+/// The first of the marks with which the bytes begin.
+fn first_mark(marks: &[Mark], bytes: &[u8]) -> Option<Mark>
+    ensures { result ≡ first_front mark_bytes marks.now bytes.now }
+{
+    for mark in marks {
+        if bytes.starts_with(mark_text(*mark).as_bytes()) {
+            return Some(*mark);
+        }
+    }
+    None
+}
+
+/// The first of the words behind `@` with which the bytes begin.
+fn first_at_word(words: &[AtWord], bytes: &[u8]) -> Option<AtWord>
+    ensures { result ≡ first_front at_bytes words.now bytes.now }
+{
+    for word in words {
+        if bytes.starts_with(at_text(*word).as_bytes()) {
+            return Some(*word);
+        }
+    }
+    None
+}
+
+/// The first of the words that is written so.
+fn first_word(words: &[Word], name: &[u8]) -> Option<Word>
+    ensures { result ≡ first_equal word_bytes words.now name.now }
+{
+    for word in words {
+        if word_text(*word).as_bytes() == name {
+            return Some(*word);
+        }
+    }
+    None
+}
+
+/// The longest mark with which the bytes begin.
+pub fn mark_at(bytes: &[u8]) -> Option<Mark>
+    ensures { result ≡ first_front mark_bytes MARKS bytes.now }
+{
+    first_mark(&MARKS, bytes)
+}
+
+/// The longest word behind `@` with which the bytes begin.
+pub fn at_word_at(bytes: &[u8]) -> Option<AtWord>
+    ensures { result ≡ first_front at_bytes AT_WORDS bytes.now }
+{
+    first_at_word(&AT_WORDS, bytes)
+}
+
+/// The reserved word that is written so.
+pub fn word_of(name: &[u8]) -> Option<Word>
+    ensures { result ≡ first_equal word_bytes WORDS name.now }
+{
+    first_word(&WORDS, name)
+}

@@ -1,0 +1,75 @@
+//! What stands between the quotes of a text.
+ghost use Rattle.std.specs.Prelude.{◌≡◌, ◌<◌, length, IfOk, IfSome, false, [], Option, List};
+ghost use Rattle.arc_lex.specs.Texts.{is_plain, escape_value};
+ghost use Rattle.arc_lex.specs.Scans.{seen, seen_parts};
+ghost use Rattle.arc_lex.specs.Pieces.{scan};
+
+use std::alloc::{AllocError, Global};
+
+/// A text that is closed on its line.
+#[derive(Drop)]
+pub struct Scan {
+    /// How many bytes stand in front of the closing quote.
+    pub len: usize,
+    /// The bytes that they stand for, if each is a right one.
+    pub value: Option<Vec<u8>>,
+}
+
+/// Whether the byte stands for itself in a text.
+fn is_plain(b: u8) -> bool
+    ensures { result ≡ is_plain b }
+{
+    b == b'\t' || b >= 32 && b <= 126 && b != b'"' && b != b'\\' || b >= 128
+}
+
+/// The byte that a backslash and this byte stand for.
+fn escape_value(b: u8) -> Option<u8>
+    ensures { result ≡ escape_value b }
+{
+    match b {
+        b'n' => Some(b'\n'),
+        b't' => Some(b'\t'),
+        b'r' => Some(b'\r'),
+        b'0' => Some(0),
+        b'\\' => Some(b'\\'),
+        b'\'' => Some(b'\''),
+        b'"' => Some(b'"'),
+        _ => None,
+    }
+}
+
+/// Reads a text behind its opening quote. `None`: it is not closed on its line.
+pub fn read_text(alloc: Global, bytes: &[u8]) -> Result<Option<Scan>, AllocError>
+    ensures value { IfOk result (λ found. seen found ≡ seen_parts (scan false [] bytes.now)) }
+    ensures within { IfOk result (λ found. IfSome found (λ s. s.len < length bytes.now)) }
+{
+    let mut value = Vec::new(alloc);
+    let mut right = true;
+    let mut escaped = false;
+    let mut len = 0;
+    for b in bytes {
+        if *b == b'\n' {
+            return Ok(None);
+        }
+        if escaped {
+            escaped = false;
+            match escape_value(*b) {
+                Some(byte) => value.push(byte)?,
+                None => right = false,
+            }
+        } else if *b == b'"' {
+            return Ok(Some(Scan {
+                len,
+                value: if right { Some(value) } else { None },
+            }));
+        } else if *b == b'\\' {
+            escaped = true;
+        } else if is_plain(*b) {
+            value.push(*b)?;
+        } else {
+            right = false;
+        }
+        len += 1;
+    }
+    Ok(None)
+}

@@ -1,0 +1,148 @@
+//! The tokens of a source.
+
+/// The bytes that a token takes: from the first one up to the one behind the last, counted from 0.
+#[derive(Clone, Copy, Debug, PartialEq, Eq)]
+pub struct Span {
+    pub from: usize,
+    pub to: usize,
+}
+
+/// A punctuator of C99, section 6.4.6, or one that Objective-C uses as C does.
+#[derive(Clone, Copy, Debug, PartialEq, Eq)]
+pub enum Mark {
+    OpenBrace,
+    CloseBrace,
+    OpenParen,
+    CloseParen,
+    OpenSquare,
+    CloseSquare,
+    Semicolon,
+    Comma,
+    Colon,
+    Dot,
+    Arrow,
+    Question,
+    Less,
+    Greater,
+    LessEqual,
+    GreaterEqual,
+    Equal,
+    NotEqual,
+    Assign,
+    Plus,
+    Minus,
+    Star,
+    Slash,
+    Percent,
+    Ampersand,
+    Caret,
+    Tilde,
+    Not,
+    And,
+    Increment,
+    Decrement,
+    ShiftLeft,
+    ShiftRight,
+    PlusAssign,
+    MinusAssign,
+    StarAssign,
+    SlashAssign,
+    PercentAssign,
+    AmpersandAssign,
+    CaretAssign,
+    ShiftLeftAssign,
+    ShiftRightAssign,
+    Bar,
+    Or,
+    BarAssign,
+}
+
+/// A reserved word: it is never a name.
+#[derive(Clone, Copy, Debug, PartialEq, Eq)]
+pub enum Word {
+    Bool,
+    No,
+    NsInteger,
+    Null,
+    Yes,
+    Auto,
+    Break,
+    Case,
+    Char,
+    Const,
+    Continue,
+    Default,
+    Do,
+    Double,
+    Else,
+    Enum,
+    Extern,
+    Float,
+    For,
+    Goto,
+    Id,
+    If,
+    Inline,
+    InstanceType,
+    Int,
+    Long,
+    Nil,
+    Register,
+    Restrict,
+    Return,
+    SelfWord,
+    Short,
+    Signed,
+    Sizeof,
+    Static,
+    Struct,
+    Super,
+    Switch,
+    Typedef,
+    Union,
+    Unsigned,
+    Void,
+    Volatile,
+    While,
+    Strong,
+    Weak,
+    Autoreleasing,
+    UnsafeUnretained,
+}
+
+/// A word behind `@`.
+#[derive(Clone, Copy, Debug, PartialEq, Eq)]
+pub enum AtWord {
+    Class,
+    Protocol,
+    Interface,
+    Implementation,
+    End,
+    Property,
+    Synthesize,
+    Public,
+    Protected,
+    Private,
+    Required,
+    Optional,
+    Selector,
+    AutoreleasePool,
+}
+
+/// What a token is. A name holds its bytes, an integer its value, and a text the bytes that it stands for.
+#[derive(Debug, Drop)]
+pub enum TokenKind {
+    Name(Vec<u8>),
+    Integer(i64),
+    Text(Vec<u8>),
+    Word(Word),
+    At(AtWord),
+    Mark(Mark),
+}
+
+/// A token, and where it stands.
+#[derive(Debug, Drop)]
+pub struct Token {
+    pub kind: TokenKind,
+    pub span: Span,
+}

@@ -1,0 +1,2 @@
+//! Writes a checked program as actions.
+#![tactic(auto)]

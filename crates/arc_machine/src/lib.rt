@@ -1,0 +1,2 @@
+//! Runs code, an instruction a step.
+#![tactic(auto)]

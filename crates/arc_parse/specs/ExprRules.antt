@@ -1,0 +1,131 @@
+-- The rules of expressions as readers. Each gets what reads the rules that it asks for.
+use Rattle.std.specs.Prelude.{ℕ, zero, suc, ◌-◌, List, Bool, true, false, nat_eq, Option, Some, None, if◌then◌else◌}
+use Rattle.arc_lex.specs.declared.token.Mark.{Mark}
+use Rattle.arc_lex.specs.declared.token.Mark.TheVariants as m
+use Rattle.arc_lex.specs.Tokens.{Tok, Sort, Sign}
+use Rattle.arc_lex.specs.Tokens as tokens
+use Rattle.arc_ast.specs.declared.tree.BinaryOperator.{BinaryOperator}
+use Rattle.arc_ast.specs.declared.tree.BinaryOperator.TheVariants.{Add, Subtract, Multiply, Divide}
+use Rattle.arc_ast.specs.Tree.{ExprTree, ExprTrees, Integer, Text, Paren, Call, Negate, Binary, no_exprs, and_expr, place}
+use Rattle.arc_parse.specs.Knot.{tied}
+use Rattle.arc_parse.specs.Reader.{Reader, ◌>>=◌, ret, token, expect, name, if_first, if_mark, if_name}
+
+-- What is read by recursion: an expression, a unary one, the operators of a level behind a left operand with their right
+-- operands, and the arguments of a call, one or more.
+pub data Rule : Type 0 where
+  expr : Rule
+  unary : Rule
+  more : ℕ → ExprTree → Rule
+  arguments : Rule
+
+abbrev pub Node : Rule → Type 0
+Node expr = ExprTree
+Node unary = ExprTree
+Node (more l left) = ExprTree
+Node arguments = ExprTrees
+
+abbrev pub Rules : Type 0
+Rules = (rule : Rule) → Reader (Node rule)
+
+-- an integer or a text
+abbrev pub literal_of : ℕ → Sort → Option ExprTree
+literal_of at (tokens.Integer value) = Some (Integer at value)
+literal_of at (tokens.Text bytes) = Some (Text at bytes)
+literal_of at _ = None
+
+abbrev pub literal : Reader ExprTree
+literal = token (λ t. literal_of t.from t.sort)
+
+-- the operator that a mark is, and how loosely it binds
+abbrev pub mark_operator : Mark → Option (ℕ × BinaryOperator)
+mark_operator m.Plus = Some (2, Add)
+mark_operator m.Minus = Some (2, Subtract)
+mark_operator m.Star = Some (1, Multiply)
+mark_operator m.Slash = Some (1, Divide)
+mark_operator _ = None
+
+abbrev pub at_level : ℕ → Option (ℕ × BinaryOperator) → Option BinaryOperator
+at_level l None = None
+at_level l (Some o) = if nat_eq o.0 l then Some o.1 else None
+
+abbrev pub is_there : Option BinaryOperator → Bool
+is_there None = false
+is_there (Some o) = true
+
+-- the operator of a level that a token is
+abbrev pub operator_of : ℕ → Sort → Option BinaryOperator
+operator_of l (Sign mark) = at_level l (mark_operator mark)
+operator_of l _ = None
+
+abbrev pub is_operator : ℕ → Tok → Bool
+is_operator l t = is_there (operator_of l t.sort)
+
+abbrev pub operator : ℕ → Reader BinaryOperator
+operator l = token (λ t. operator_of l t.sort)
+
+unfoldable pub parenthesized_by : Rules → Reader ExprTree
+parenthesized_by of = do
+  at ← expect m.OpenParen
+  inside ← of expr
+  end ← expect m.CloseParen
+  ret (Paren at inside)
+
+-- what is behind a name and `(`
+unfoldable pub given_by : Rules → Reader ExprTrees
+given_by of = if_mark m.CloseParen (ret no_exprs) (of arguments)
+
+unfoldable pub call_by : Rules → Reader ExprTree
+call_by of = do
+  called ← name
+  start ← expect m.OpenParen
+  all ← given_by of
+  end ← expect m.CloseParen
+  ret (Call called.0 called.1 all)
+
+unfoldable pub primary_by : Rules → Reader ExprTree
+primary_by of = if_name (call_by of) (if_mark m.OpenParen (parenthesized_by of) literal)
+
+unfoldable pub negate_by : Rules → Reader ExprTree
+negate_by of = do
+  at ← expect m.Minus
+  operand ← of unary
+  ret (Negate at operand)
+
+unfoldable pub unary_by : Rules → Reader ExprTree
+unary_by of = if_mark m.Minus (negate_by of) (primary_by of)
+
+-- the operators that bind as loosely as this, or tighter; with 0 there are none
+unfoldable pub binary_by : Rules → ℕ → Reader ExprTree
+binary_by of zero = unary_by of
+binary_by of (suc l) = do
+  left ← binary_by of l
+  of (more (suc l) left)
+
+unfoldable pub more_by : Rules → ℕ → ExprTree → Reader ExprTree
+more_by of l left = if_first (is_operator l) (do
+    between ← operator l
+    right ← binary_by of (l - 1)
+    of (more l (Binary (place left) between left right)))
+  (ret left)
+
+unfoldable pub expr_by : Rules → Reader ExprTree
+expr_by of = binary_by of 2
+
+unfoldable pub arguments_by : Rules → Reader ExprTrees
+arguments_by of = do
+  one ← expr_by of
+  if_mark m.Comma (do
+      comma ← expect m.Comma
+      others ← of arguments
+      ret (and_expr one others))
+    (ret (and_expr one no_exprs))
+
+abbrev pub body : Rules → Rules
+body of expr = expr_by of
+body of unary = unary_by of
+body of (more l left) = more_by of l left
+body of arguments = arguments_by of
+
+-- the rules, each with all of them
+abbrev pub read : Rules
+read = tied body

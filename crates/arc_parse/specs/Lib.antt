@@ -1,0 +1,10 @@
+pub mod Language
+pub mod Reader
+pub mod Limits
+pub mod Knot
+pub mod Grammar
+pub mod ExprRules
+pub mod UnitRules
+pub mod TooDeep
+pub mod Refusal
+pub mod Views

@@ -1,0 +1,134 @@
+-- Readers of tokens: each goes from left to right and stops at the first token that it refuses.
+use Rattle.std.specs.Prelude.{◌≡◌, ℕ, List, [], ◌∷◌, Result, Ok, Err, Bool, true, false, Option, Some, None, bytes_eq, if◌then◌else◌}
+use Rattle.arc_lex.specs.declared.token.Mark.{Mark}
+use Rattle.arc_lex.specs.declared.token.Word.{Word}
+use Rattle.arc_lex.specs.Tokens.{Tok, Sort, Name, Key, Sign, toks, same_mark, same_word}
+use Rattle.arc_parse.specs.declared.fail.Fail.{Fail}
+use Rattle.arc_parse.specs.declared.fail.Fail.TheVariants.{Memory, Unexpected, TooDeep}
+
+-- why a token is refused: it does not fit, or it passes a limit
+pub data Fault : Type 0 where
+  misfit : Fault
+  too_deep : Fault
+
+-- a value and the tokens behind it, or why a token is refused and the tokens from it on
+abbrev pub Read : Type 0 → Type 0
+Read A = Result (A × List Tok) (Fault × List Tok)
+
+abbrev pub Reader : Type 0 → Type 0
+Reader A = List Tok → Read A
+
+abbrev pub bind : {A B : Type 0} → Read A → (A → Reader B) → Read B
+bind (Ok x) f = f x.0 x.1
+bind (Err e) f = Err e
+
+-- one reader, and behind it another that is told what the first one gave
+infixl 10 ◌>>=◌
+abbrev pub ◌>>=◌ : {A B : Type 0} → Reader A → (A → Reader B) → Reader B
+f >>= g = λ ts. bind (f ts) g
+
+-- nothing is taken
+abbrev pub ret : {A : Type 0} → A → Reader A
+ret a = λ ts. Ok (a, ts)
+
+abbrev pub unexpected : {A : Type 0} → Reader A
+unexpected = λ ts. Err (misfit, ts)
+
+abbrev pub too_deep_here : {A : Type 0} → Reader A
+too_deep_here = λ ts. Err (too_deep, ts)
+
+-- Reading gave this failure of a function, or memory ran out.
+abbrev pub Fails : {A : Type 0} → Fail → Read A → Type 0
+Fails Memory read = Unit {0}
+Fails (Unexpected rest) read = read ≡ Err (misfit, toks rest.now)
+Fails (TooDeep rest) read = read ≡ Err (too_deep, toks rest.now)
+
+-- Reading gave what a function returned, seen through view, or memory ran out.
+abbrev pub Gives : {X A : Type 0} → (X → A × List Tok) → Result X Fail → Read A → Type 0
+Gives view (Ok x) read = read ≡ Ok (view x)
+Gives view (Err e) read = Fails e read
+
+-- the first token, if there is one
+abbrev pub first : List Tok → Option Tok
+first [] = None
+first (t ∷ ts) = Some t
+
+-- whether there is a first token and it passes the test
+abbrev pub begins : (Tok → Bool) → List Tok → Bool
+begins test [] = false
+begins test (t ∷ ts) = test t
+
+abbrev pub any : Tok → Bool
+any t = true
+
+abbrev pub if_first : {A : Type 0} → (Tok → Bool) → Reader A → Reader A → Reader A
+if_first test f g = λ ts. if begins test ts then f ts else g ts
+
+abbrev pub taken : {A : Type 0} → Tok → List Tok → Option A → Read A
+taken t ts (Some a) = Ok (a, ts)
+taken t ts None = Err (misfit, t ∷ ts)
+
+-- one token, which f accepts
+abbrev pub token : {A : Type 0} → (Tok → Option A) → Reader A
+token f [] = Err (misfit, [])
+token f (t ∷ ts) = taken t ts (f t)
+
+-- ---- tokens of one kind
+
+abbrev pub is_mark : Mark → Sort → Bool
+is_mark mark (Sign found) = same_mark found mark
+is_mark mark _ = false
+
+abbrev pub is_word : Word → Sort → Bool
+is_word word (Key found) = same_word found word
+is_word word _ = false
+
+abbrev pub is_name : Sort → Bool
+is_name (Name bytes) = true
+is_name _ = false
+
+abbrev pub sees_mark : Mark → List Tok → Bool
+sees_mark mark = begins (λ t. is_mark mark t.sort)
+
+abbrev pub sees_word : Word → List Tok → Bool
+sees_word word = begins (λ t. is_word word t.sort)
+
+abbrev pub sees_name : List Tok → Bool
+sees_name = begins (λ t. is_name t.sort)
+
+abbrev pub if_mark : {A : Type 0} → Mark → Reader A → Reader A → Reader A
+if_mark mark = if_first (λ t. is_mark mark t.sort)
+
+abbrev pub if_word : {A : Type 0} → Word → Reader A → Reader A → Reader A
+if_word word = if_first (λ t. is_word word t.sort)
+
+abbrev pub if_name : {A : Type 0} → Reader A → Reader A → Reader A
+if_name = if_first (λ t. is_name t.sort)
+
+-- the place of a token that passes
+abbrev pub place_if : (Sort → Bool) → Tok → Option ℕ
+place_if test t = if test t.sort then Some t.from else None
+
+-- this mark, which gives its place
+abbrev pub expect : Mark → Reader ℕ
+expect mark = token (place_if (is_mark mark))
+
+-- this word, which gives its place
+abbrev pub keyword : Word → Reader ℕ
+keyword word = token (place_if (is_word word))
+
+abbrev pub name_of : ℕ → Sort → Option (ℕ × List ℕ)
+name_of at (Name bytes) = Some (at, bytes)
+name_of at _ = None
+
+-- a name, which gives its place and its bytes
+abbrev pub name : Reader (ℕ × List ℕ)
+name = token (λ t. name_of t.from t.sort)
+
+abbrev pub is_named : List ℕ → Sort → Bool
+is_named called (Name bytes) = bytes_eq bytes called
+is_named called _ = false
+
+-- this name, which gives its place
+abbrev pub the_name : List ℕ → Reader ℕ
+the_name called = token (place_if (is_named called))

@@ -1,0 +1,155 @@
+//! Reads expressions.
+ghost use Rattle.std.specs.Prelude.{◌≡◌, ◌<◌, ◌≤◌, length, IfOk};
+ghost use Rattle.arc_lex.specs.Tokens.{toks};
+ghost use Rattle.arc_ast.specs.Tree.{expr_tree, expr_trees, place};
+ghost use Rattle.arc_parse.specs.Reader.{Gives};
+ghost use Rattle.arc_parse.specs.Views.{AppendsArguments};
+ghost use Rattle.arc_parse.specs.ExprRules as rules;
+ghost use Rattle.arc_parse.specs.ExprRules.{read};
+
+use crate::fail::{Fail, Read};
+use crate::step::{expect, literal, name, operator, sees_mark, sees_name, sees_operator};
+use arc_ast::tree::Expr;
+use arc_lex::token::{Mark, Token};
+use std::alloc::Global;
+
+/// The place of the first byte.
+fn place_of(expr: &Expr) -> usize
+    ensures { result ≡ place (expr_tree expr.now) }
+{
+    match expr {
+        Expr::Integer(at, _)
+        | Expr::Text(at, _)
+        | Expr::Paren(at, _)
+        | Expr::Call(at, _, _)
+        | Expr::Negate(at, _)
+        | Expr::Binary(at, _, _, _) => *at,
+    }
+}
+
+/// An expression.
+#[cycle(exprs)]
+#[tactic(auto, using(crate::proofs::ExprFix::read_expr, crate::proofs::ExprFix::expr_is))]
+pub fn expr<'a>(alloc: Global, tokens: &'a [Token]) -> Read<'a, Expr>
+    ensures gives { Gives (λ x. (expr_tree x.0, toks x.1.now)) result (read rules.expr (toks tokens.now)) }
+    ensures shorter { IfOk result (λ x. length x.1.now < length tokens.now) }
+{
+    binary(alloc, 2, tokens)
+}
+
+/// An expression whose operators bind as loosely as this, or tighter.
+#[cycle(exprs)]
+#[tactic(auto, using(crate::proofs::ExprFix::binary_zero, crate::proofs::ExprFix::binary_more))]
+fn binary<'a>(alloc: Global, level: usize, tokens: &'a [Token]) -> Read<'a, Expr>
+    ensures gives { Gives (λ x. (expr_tree x.0, toks x.1.now)) result (rules.binary_by read level (toks tokens.now)) }
+    ensures shorter { IfOk result (λ x. length x.1.now < length tokens.now) }
+{
+    if level == 0 {
+        return unary(alloc, tokens);
+    }
+    let (left, rest) = binary(alloc, level - 1, tokens)?;
+    more(alloc, level, left, rest)
+}
+
+/// The operators of a level behind a left operand, with their right operands.
+#[cycle(exprs)]
+#[tactic(auto, using(crate::proofs::ExprFix::read_more), unfolding(crate::specs::ExprRules::more_by))]
+fn more<'a>(alloc: Global, level: usize, left: Expr, tokens: &'a [Token]) -> Read<'a, Expr>
+    requires { 1 ≤ level }
+    ensures gives { Gives (λ x. (expr_tree x.0, toks x.1.now)) result (read (rules.more level (expr_tree left)) (toks tokens.now)) }
+    ensures shorter { IfOk result (λ x. length x.1.now ≤ length tokens.now) }
+{
+    if !sees_operator(level, tokens) {
+        return Ok((left, tokens));
+    }
+    let (operator, rest) = operator(level, tokens)?;
+    let (right, rest) = binary(alloc, level - 1, rest)?;
+    let at = place_of(&left);
+    let (left, right) = (Box::new(alloc, left)?, Box::new(alloc, right)?);
+    more(alloc, level, Expr::Binary(at, operator, left, right), rest)
+}
+
+#[cycle(exprs)]
+#[tactic(auto, using(crate::proofs::ExprFix::read_unary), unfolding(crate::specs::ExprRules::unary_by, crate::specs::ExprRules::negate_by))]
+fn unary<'a>(alloc: Global, tokens: &'a [Token]) -> Read<'a, Expr>
+    ensures gives { Gives (λ x. (expr_tree x.0, toks x.1.now)) result (rules.unary_by read (toks tokens.now)) }
+    ensures shorter { IfOk result (λ x. length x.1.now < length tokens.now) }
+{
+    if !sees_mark(Mark::Minus, tokens) {
+        return primary(alloc, tokens);
+    }
+    let (at, rest) = expect(Mark::Minus, tokens)?;
+    let (operand, rest) = unary(alloc, rest)?;
+    Ok((Expr::Negate(at, Box::new(alloc, operand)?), rest))
+}
+
+#[cycle(exprs)]
+#[tactic(auto, unfolding(crate::specs::ExprRules::primary_by))]
+fn primary<'a>(alloc: Global, tokens: &'a [Token]) -> Read<'a, Expr>
+    ensures gives { Gives (λ x. (expr_tree x.0, toks x.1.now)) result (rules.primary_by read (toks tokens.now)) }
+    ensures shorter { IfOk result (λ x. length x.1.now < length tokens.now) }
+{
+    if sees_name(tokens) {
+        call(alloc, tokens)
+    } else if sees_mark(Mark::OpenParen, tokens) {
+        parenthesized(alloc, tokens)
+    } else {
+        literal(alloc, tokens)
+    }
+}
+
+#[cycle(exprs)]
+#[tactic(auto, unfolding(crate::specs::ExprRules::call_by))]
+fn call<'a>(alloc: Global, tokens: &'a [Token]) -> Read<'a, Expr>
+    ensures gives { Gives (λ x. (expr_tree x.0, toks x.1.now)) result (rules.call_by read (toks tokens.now)) }
+    ensures shorter { IfOk result (λ x. length x.1.now < length tokens.now) }
+{
+    let ((at, called), rest) = name(tokens)?;
+    let (_, rest) = expect(Mark::OpenParen, rest)?;
+    let (all, rest) = given(alloc, rest)?;
+    let (_, rest) = expect(Mark::CloseParen, rest)?;
+    Ok((Expr::Call(at, Vec::from_slice(alloc, called)?, all), rest))
+}
+
+/// The arguments of a call, of which there may be none.
+#[cycle(exprs)]
+#[tactic(auto, unfolding(crate::specs::ExprRules::given_by))]
+fn given<'a>(alloc: Global, tokens: &'a [Token]) -> Read<'a, Vec<Expr>>
+    ensures gives { Gives (λ x. (expr_trees x.0.items, toks x.1.now)) result (rules.given_by read (toks tokens.now)) }
+    ensures shorter { IfOk result (λ x. length x.1.now ≤ length tokens.now) }
+{
+    let mut all = Vec::new(alloc);
+    if sees_mark(Mark::CloseParen, tokens) {
+        return Ok((all, tokens));
+    }
+    let rest = arguments(alloc, &mut all, tokens)?;
+    Ok((all, rest))
+}
+
+/// Reads arguments to the end of `all`.
+#[cycle(exprs)]
+#[tactic(auto, using(crate::proofs::ExprFix::read_arguments, crate::proofs::ExprFix::read_expr), unfolding(crate::specs::ExprRules::arguments_by))]
+fn arguments<'a>(alloc: Global, all: &mut Vec<Expr>, tokens: &'a [Token]) -> Result<&'a [Token], Fail<'a>>
+    ensures gives { AppendsArguments all.old.items all.new.items result (read rules.arguments (toks tokens.now)) }
+    ensures shorter { IfOk result (λ rest. length rest.now < length tokens.now) }
+{
+    let (one, rest) = expr(alloc, tokens)?;
+    all.push(one)?;
+    if !sees_mark(Mark::Comma, rest) {
+        return Ok(rest);
+    }
+    let (_, rest) = expect(Mark::Comma, rest)?;
+    arguments(alloc, all, rest)
+}
+
+#[cycle(exprs)]
+#[tactic(auto, unfolding(crate::specs::ExprRules::parenthesized_by))]
+fn parenthesized<'a>(alloc: Global, tokens: &'a [Token]) -> Read<'a, Expr>
+    ensures gives { Gives (λ x. (expr_tree x.0, toks x.1.now)) result (rules.parenthesized_by read (toks tokens.now)) }
+    ensures shorter { IfOk result (λ x. length x.1.now < length tokens.now) }
+{
+    let (at, rest) = expect(Mark::OpenParen, tokens)?;
+    let (inside, rest) = expr(alloc, rest)?;
+    let (_, rest) = expect(Mark::CloseParen, rest)?;
+    Ok((Expr::Paren(at, Box::new(alloc, inside)?), rest))
+}

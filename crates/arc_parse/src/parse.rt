@@ -1,0 +1,56 @@
+//! The tree that tokens spell.
+ghost use Rattle.std.specs.Prelude.{◌≡◌, List, IfOk, IfErr, Err};
+ghost use Rattle.arc_lex.specs.Tokens.{toks};
+ghost use Rattle.arc_ast.specs.Tree.{FunctionTree, unit_tree};
+ghost use Rattle.arc_parse.specs.Grammar.{SpellsUnit};
+ghost use Rattle.arc_parse.specs.Limits.{unlimited, these};
+ghost use Rattle.arc_parse.specs.Refusal.{IsRefused, place_of, end_of};
+ghost use Rattle.arc_parse.specs.declared.fault.ParseFault.TheVariants.{Memory};
+
+use crate::fail::Fail;
+use crate::fault::ParseFault;
+use crate::function::functions;
+use arc_ast::tree::TranslationUnit;
+use arc_lex::token::Token;
+use std::alloc::Global;
+
+/// The byte behind the last token, or 0.
+fn end_of(all: &[Token]) -> usize
+    ensures { result ≡ end_of (toks all.now) }
+{
+    let mut end = 0;
+    for token in all {
+        end = token.span.to;
+    }
+    end
+}
+
+/// The first byte of the rest, or behind the end of all tokens where there is no rest.
+fn place_of(all: &[Token], rest: &[Token]) -> usize
+    ensures { result ≡ place_of (toks all.now) (toks rest.now) }
+{
+    match rest.split_first() {
+        Some((token, _)) => token.span.from,
+        None => end_of(all),
+    }
+}
+
+/// The tree that the tokens spell.
+///
+/// `Unexpected` comes at the first byte of a token with which no unit can go on behind the tokens before it, or behind the
+/// last token where a unit is not whole; `TooDeep` at a statement that is nested more than 200 deep, or at the token behind
+/// the first 1,000 of an expression; `Memory` where the tree does not fit.
+pub fn parse(alloc: Global, tokens: &[Token]) -> Result<TranslationUnit, ParseFault>
+    ensures spelled { IfOk result (λ u. SpellsUnit unlimited (unit_tree u) (toks tokens.now)) }
+    ensures within { IfOk result (λ u. SpellsUnit these (unit_tree u) (toks tokens.now)) }
+    ensures alone { IfOk result (λ u. (other : List FunctionTree) → SpellsUnit unlimited other (toks tokens.now) → other ≡ unit_tree u) }
+    ensures refused { IfErr result (λ f. IsRefused (toks tokens.now) f) }
+    ensures accepted { IfErr result (λ f. (u : List FunctionTree) → SpellsUnit these u (toks tokens.now) → f ≡ Memory) }
+{
+    match functions(alloc, tokens) {
+        Ok((functions, _rest)) => Ok(TranslationUnit { functions }),
+        Err(Fail::Memory) => Err(ParseFault::Memory),
+        Err(Fail::Unexpected(rest)) => Err(ParseFault::Unexpected(place_of(tokens, rest))),
+        Err(Fail::TooDeep(rest)) => Err(ParseFault::TooDeep(place_of(tokens, rest))),
+    }
+}

@@ -1,0 +1,183 @@
+//! The steps that every rule is made of. These alone look into a token.
+ghost use Rattle.std.specs.Prelude.{◌≡◌, ◌<◌, length, IfOk, bytes_eq};
+ghost use Rattle.arc_lex.specs.Tokens.{toks, same_mark, same_word};
+ghost use Rattle.arc_ast.specs.Tree.{expr_tree};
+ghost use Rattle.arc_parse.specs.Reader.{Gives, begins, any, expect, keyword, name, the_name, sees_mark, sees_word, sees_name};
+ghost use Rattle.arc_parse.specs.Grammar.{main_bytes};
+ghost use Rattle.arc_parse.specs.ExprRules.{literal, operator, is_operator, mark_operator};
+ghost use Rattle.arc_parse.specs.UnitRules.{begins_expr, begins_stmt};
+
+use crate::fail::{Fail, Read};
+use arc_ast::tree::{BinaryOperator, Expr};
+use arc_lex::token::{Mark, Token, TokenKind, Word};
+use std::alloc::Global;
+
+fn same_mark(found: Mark, mark: Mark) -> bool
+    ensures { result ≡ same_mark found mark }
+{
+    found == mark
+}
+
+fn same_word(found: Word, word: Word) -> bool
+    ensures { result ≡ same_word found word }
+{
+    found == word
+}
+
+/// Whether there is a token.
+pub fn is_more(tokens: &[Token]) -> bool
+    ensures { result ≡ begins any (toks tokens.now) }
+{
+    tokens.first().is_some()
+}
+
+pub fn sees_mark(mark: Mark, tokens: &[Token]) -> bool
+    ensures { result ≡ sees_mark mark (toks tokens.now) }
+{
+    match tokens.first() {
+        Some(Token { kind: TokenKind::Mark(found), .. }) => same_mark(*found, mark),
+        _ => false,
+    }
+}
+
+pub fn sees_word(word: Word, tokens: &[Token]) -> bool
+    ensures { result ≡ sees_word word (toks tokens.now) }
+{
+    match tokens.first() {
+        Some(Token { kind: TokenKind::Word(found), .. }) => same_word(*found, word),
+        _ => false,
+    }
+}
+
+pub fn sees_name(tokens: &[Token]) -> bool
+    ensures { result ≡ sees_name (toks tokens.now) }
+{
+    matches!(tokens.first(), Some(Token { kind: TokenKind::Name(_), .. }))
+}
+
+/// The place of the first token, which is this mark.
+pub fn expect(mark: Mark, tokens: &[Token]) -> Read<'_, usize>
+    ensures gives { Gives (λ x. (x.0, toks x.1.now)) result (expect mark (toks tokens.now)) }
+    ensures shorter { IfOk result (λ x. length x.1.now < length tokens.now) }
+{
+    match tokens.split_first() {
+        Some((Token { kind: TokenKind::Mark(found), span }, rest)) if same_mark(*found, mark) => Ok((span.from, rest)),
+        _ => Err(Fail::Unexpected(tokens)),
+    }
+}
+
+/// The place of the first token, which is this word.
+pub fn keyword(word: Word, tokens: &[Token]) -> Read<'_, usize>
+    ensures gives { Gives (λ x. (x.0, toks x.1.now)) result (keyword word (toks tokens.now)) }
+    ensures shorter { IfOk result (λ x. length x.1.now < length tokens.now) }
+{
+    match tokens.split_first() {
+        Some((Token { kind: TokenKind::Word(found), span }, rest)) if same_word(*found, word) => Ok((span.from, rest)),
+        _ => Err(Fail::Unexpected(tokens)),
+    }
+}
+
+/// The place and the bytes of the first token, which is a name.
+pub fn name<'a>(tokens: &'a [Token]) -> Read<'a, (usize, &'a [u8])>
+    ensures gives { Gives (λ x. ((x.0.0, x.0.1.now), toks x.1.now)) result (name (toks tokens.now)) }
+    ensures shorter { IfOk result (λ x. length x.1.now < length tokens.now) }
+{
+    match tokens.split_first() {
+        Some((Token { kind: TokenKind::Name(bytes), span }, rest)) => Ok(((span.from, bytes.as_slice()), rest)),
+        _ => Err(Fail::Unexpected(tokens)),
+    }
+}
+
+fn is_main(bytes: &[u8]) -> bool
+    ensures { result ≡ bytes_eq bytes.now main_bytes }
+{
+    bytes == b"main"
+}
+
+/// The place of the first token, which is the name `main`.
+pub fn main_name(tokens: &[Token]) -> Read<'_, usize>
+    ensures gives { Gives (λ x. (x.0, toks x.1.now)) result (the_name main_bytes (toks tokens.now)) }
+    ensures shorter { IfOk result (λ x. length x.1.now < length tokens.now) }
+{
+    match tokens.split_first() {
+        Some((Token { kind: TokenKind::Name(bytes), span }, rest)) if is_main(bytes) => Ok((span.from, rest)),
+        _ => Err(Fail::Unexpected(tokens)),
+    }
+}
+
+/// The first token, which is an integer or a text.
+pub fn literal(alloc: Global, tokens: &[Token]) -> Read<'_, Expr>
+    ensures gives { Gives (λ x. (expr_tree x.0, toks x.1.now)) result (literal (toks tokens.now)) }
+    ensures shorter { IfOk result (λ x. length x.1.now < length tokens.now) }
+{
+    match tokens.split_first() {
+        Some((Token { kind: TokenKind::Integer(value), span }, rest)) => Ok((Expr::Integer(span.from, *value), rest)),
+        Some((Token { kind: TokenKind::Text(bytes), span }, rest)) => {
+            Ok((Expr::Text(span.from, Vec::from_slice(alloc, bytes)?), rest))
+        }
+        _ => Err(Fail::Unexpected(tokens)),
+    }
+}
+
+/// The operator that a mark is, and how loosely it binds.
+fn mark_operator(mark: Mark) -> Option<(usize, BinaryOperator)>
+    ensures { result ≡ mark_operator mark }
+{
+    match mark {
+        Mark::Plus => Some((2, BinaryOperator::Add)),
+        Mark::Minus => Some((2, BinaryOperator::Subtract)),
+        Mark::Star => Some((1, BinaryOperator::Multiply)),
+        Mark::Slash => Some((1, BinaryOperator::Divide)),
+        _ => None,
+    }
+}
+
+/// Whether the first token is an operator that binds as loosely as this.
+pub fn sees_operator(level: usize, tokens: &[Token]) -> bool
+    ensures { result ≡ begins (is_operator level) (toks tokens.now) }
+{
+    match tokens.first() {
+        Some(Token { kind: TokenKind::Mark(found), .. }) => match mark_operator(*found) {
+            Some((binds, _)) => binds == level,
+            None => false,
+        },
+        _ => false,
+    }
+}
+
+/// The first token, which is an operator that binds as loosely as this.
+pub fn operator(level: usize, tokens: &[Token]) -> Read<'_, BinaryOperator>
+    ensures gives { Gives (λ x. (x.0, toks x.1.now)) result (operator level (toks tokens.now)) }
+    ensures shorter { IfOk result (λ x. length x.1.now < length tokens.now) }
+{
+    match tokens.split_first() {
+        Some((Token { kind: TokenKind::Mark(found), .. }, rest)) => match mark_operator(*found) {
+            Some((binds, operator)) if binds == level => Ok((operator, rest)),
+            _ => Err(Fail::Unexpected(tokens)),
+        },
+        _ => Err(Fail::Unexpected(tokens)),
+    }
+}
+
+/// Whether an expression can begin with the first token.
+fn begins_expr(tokens: &[Token]) -> bool
+    ensures { result ≡ begins (λ t. begins_expr t.sort) (toks tokens.now) }
+{
+    match tokens.first() {
+        Some(Token { kind: TokenKind::Name(_) | TokenKind::Integer(_) | TokenKind::Text(_), .. }) => true,
+        Some(Token { kind: TokenKind::Mark(found), .. }) => {
+            same_mark(*found, Mark::OpenParen) || same_mark(*found, Mark::Minus)
+        }
+        _ => false,
+    }
+}
+
+/// Whether a statement can begin with the first token.
+pub fn begins_stmt(tokens: &[Token]) -> bool
+    ensures { result ≡ begins begins_stmt (toks tokens.now) }
+{
+    sees_mark(Mark::OpenBrace, tokens)
+        || sees_mark(Mark::Semicolon, tokens)
+        || sees_word(Word::Return, tokens)
+        || begins_expr(tokens)
+}

@@ -1,0 +1,127 @@
+//! Reads statements.
+ghost use Rattle.std.specs.Prelude.{◌≡◌, ◌<◌, ◌≤◌, length, IfOk, option_map};
+ghost use Rattle.arc_lex.specs.Tokens.{toks};
+ghost use Rattle.arc_ast.specs.Tree.{expr_tree, stmt_tree, no_stmts};
+ghost use Rattle.arc_parse.specs.Reader.{Gives};
+ghost use Rattle.arc_parse.specs.Views.{stmts_before};
+ghost use Rattle.arc_parse.specs.Limits.{these};
+ghost use Rattle.arc_parse.specs.UnitRules as rules;
+
+use crate::fail::{Fail, Read};
+use crate::limit::full;
+use crate::step::{begins_stmt, expect, keyword, sees_mark, sees_word};
+use arc_ast::tree::{Expr, Stmt};
+use arc_lex::token::{Mark, Token, Word};
+use std::alloc::Global;
+
+/// The deepest that statements nest.
+const DEEPEST: usize = 200;
+
+/// The statements up to the end of a block.
+#[cycle(stmts)]
+pub fn items<'a>(alloc: Global, depth: usize, tokens: &'a [Token]) -> Read<'a, Vec<Stmt>>
+    ensures gives { Gives (λ x. (stmts_before x.0.items no_stmts, toks x.1.now)) result (rules.read these (rules.items depth) (toks tokens.now)) }
+    ensures shorter { IfOk result (λ x. length x.1.now ≤ length tokens.now) }
+{
+    let mut all = Vec::new(alloc);
+    let mut rest = tokens;
+    'items: while !sees_mark(Mark::CloseBrace, rest) {
+        let (item, after) = item(alloc, depth, rest)?;
+        all.push(item)?;
+        rest = after;
+    }
+    Ok((all, rest))
+}
+
+/// A statement of a block.
+#[cycle(stmts)]
+#[tactic(auto, unfolding(crate::specs::UnitRules::item_by, crate::specs::Limits::nested))]
+fn item<'a>(alloc: Global, depth: usize, tokens: &'a [Token]) -> Read<'a, Stmt>
+    ensures gives { Gives (λ x. (stmt_tree x.0, toks x.1.now)) result (rules.item_by these (rules.read these) depth (toks tokens.now)) }
+    ensures shorter { IfOk result (λ x. length x.1.now < length tokens.now) }
+{
+    if depth <= DEEPEST {
+        stmt(alloc, depth, tokens)
+    } else if begins_stmt(tokens) {
+        Err(Fail::TooDeep(tokens))
+    } else {
+        Err(Fail::Unexpected(tokens))
+    }
+}
+
+#[cycle(stmts)]
+#[tactic(auto, unfolding(crate::specs::UnitRules::stmt_by))]
+fn stmt<'a>(alloc: Global, depth: usize, tokens: &'a [Token]) -> Read<'a, Stmt>
+    requires { depth ≤ 200 }
+    ensures gives { Gives (λ x. (stmt_tree x.0, toks x.1.now)) result (rules.stmt_by these (rules.read these) depth (toks tokens.now)) }
+    ensures shorter { IfOk result (λ x. length x.1.now < length tokens.now) }
+{
+    if sees_mark(Mark::OpenBrace, tokens) {
+        block(alloc, depth, tokens)
+    } else if sees_mark(Mark::Semicolon, tokens) {
+        empty(tokens)
+    } else if sees_word(Word::Return, tokens) {
+        returned(alloc, tokens)
+    } else {
+        simple(alloc, tokens)
+    }
+}
+
+#[cycle(stmts)]
+#[tactic(auto, unfolding(crate::specs::UnitRules::block_by))]
+fn block<'a>(alloc: Global, depth: usize, tokens: &'a [Token]) -> Read<'a, Stmt>
+    requires { depth ≤ 200 }
+    ensures gives { Gives (λ x. (stmt_tree x.0, toks x.1.now)) result (rules.block_by (rules.read these) depth (toks tokens.now)) }
+    ensures shorter { IfOk result (λ x. length x.1.now < length tokens.now) }
+{
+    let (at, rest) = expect(Mark::OpenBrace, tokens)?;
+    let (all, rest) = items(alloc, depth + 1, rest)?;
+    let (_, rest) = expect(Mark::CloseBrace, rest)?;
+    Ok((Stmt::Block(at, all), rest))
+}
+
+/// `;` alone
+#[tactic(auto, unfolding(crate::specs::UnitRules::empty))]
+fn empty(tokens: &[Token]) -> Read<'_, Stmt>
+    ensures gives { Gives (λ x. (stmt_tree x.0, toks x.1.now)) result (rules.empty (toks tokens.now)) }
+    ensures shorter { IfOk result (λ x. length x.1.now < length tokens.now) }
+{
+    let (at, rest) = expect(Mark::Semicolon, tokens)?;
+    Ok((Stmt::Empty(at), rest))
+}
+
+/// An expression and `;`
+#[tactic(auto, unfolding(crate::specs::UnitRules::simple_by))]
+fn simple<'a>(alloc: Global, tokens: &'a [Token]) -> Read<'a, Stmt>
+    ensures gives { Gives (λ x. (stmt_tree x.0, toks x.1.now)) result (rules.simple_by these (toks tokens.now)) }
+    ensures shorter { IfOk result (λ x. length x.1.now < length tokens.now) }
+{
+    let (value, rest) = full(alloc, tokens)?;
+    let (_, rest) = expect(Mark::Semicolon, rest)?;
+    Ok((Stmt::Expr(value), rest))
+}
+
+/// `return` with a value or without
+#[tactic(auto, unfolding(crate::specs::UnitRules::return_by))]
+fn returned<'a>(alloc: Global, tokens: &'a [Token]) -> Read<'a, Stmt>
+    ensures gives { Gives (λ x. (stmt_tree x.0, toks x.1.now)) result (rules.return_by these (toks tokens.now)) }
+    ensures shorter { IfOk result (λ x. length x.1.now < length tokens.now) }
+{
+    let (at, rest) = keyword(Word::Return, tokens)?;
+    let (value, rest) = value(alloc, rest)?;
+    let (_, rest) = expect(Mark::Semicolon, rest)?;
+    Ok((Stmt::Return(at, value), rest))
+}
+
+/// What `return` gives, if it gives something.
+#[tactic(auto, unfolding(crate::specs::UnitRules::value_by))]
+fn value<'a>(alloc: Global, tokens: &'a [Token]) -> Read<'a, Option<Expr>>
+    ensures gives { Gives (λ x. (option_map expr_tree x.0, toks x.1.now)) result (rules.value_by these (toks tokens.now)) }
+    ensures shorter { IfOk result (λ x. length x.1.now ≤ length tokens.now) }
+{
+    if sees_mark(Mark::Semicolon, tokens) {
+        return Ok((None, tokens));
+    }
+    let (value, rest) = full(alloc, tokens)?;
+    Ok((Some(value), rest))
+}

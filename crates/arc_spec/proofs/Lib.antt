@@ -1,0 +1,2 @@
+pub mod Steadiness
+pub mod Composition

@@ -1,0 +1,6 @@
+pub mod Number
+pub mod Resolved
+pub mod World
+pub mod Meaning
+pub mod Stepping
+pub mod Correct

@@ -1,0 +1,34 @@
+-- A program whose names are resolved, whose kinds are known and whose conversions are written.
+use Rattle.std.specs.Prelude.{ℕ, ℤ, List, Option}
+use Rattle.arc_ast.specs.declared.tree.Kind.{Kind}
+use Rattle.arc_ast.specs.declared.tree.BinaryOperator.{BinaryOperator}
+
+-- what a format prints in turn (C99, section 7.19.6.1): bytes as they are, the next value as a decimal number, or its low 8 bits as a byte
+pub data Piece : Type 0 where
+  Bytes : List ℕ → Piece
+  Decimal : Piece
+  Character : Piece
+
+mutual
+  -- an expression, which gives a number; an operator has the kind in which it computes
+  pub data Value : Type 0 where
+    Number : ℤ → Value
+    ReadByte : Value
+    Print : List Piece → Values → Value
+    Negated : Kind → Value → Value
+    Combined : BinaryOperator → Kind → Value → Value → Value
+    Converted : Kind → Value → Value
+
+  pub data Values : Type 0 where
+    no_values : Values
+    and_value : Value → Values → Values
+
+mutual
+  pub data Command : Type 0 where
+    Sequence : Commands → Command
+    Evaluate : Value → Command
+    Return : Option Value → Command
+
+  pub data Commands : Type 0 where
+    no_commands : Commands
+    and_command : Command → Commands → Commands

@@ -1,0 +1,5 @@
+//! What several crates speak of: numbers, events, faults, and in `specs/` what a program means.
+#![tactic(auto)]
+
+pub mod event;
+pub mod number;
