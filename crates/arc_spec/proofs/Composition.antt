@@ -1,5 +1,5 @@
 -- What refines runs that do what is meant does it too.
-use Rattle.std.proofs.Common.{◌≡◌, ◌⊎◌, ℕ, zero, suc, ◌+◌, ◌≤◌, ◌<◌, ℤ, List, [], ◌∷◌, ◌++◌, Option, Some, None, refl, sym, ap, subst, ◌∙◌, arith, inl, inr, ⊎_elim}
+use Rattle.std.proofs.Common.{◌≡◌, ℕ, ◌+◌, ◌≤◌, List, Some, None, sym, ap, subst, ◌∙◌, arith, ⊎_elim}
 use Rattle.arc_spec.specs.Correct.{IsPrefix, Sight, Stop, Behaves, Steady, Amid, Refines}
 use Rattle.arc_spec.proofs.Steadiness.{prefix_trans}
 

@@ -1,9 +1,9 @@
 -- More steps show more.
-use Rattle.std.proofs.Common.{◌≡◌, ◌⊎◌, ℕ, zero, suc, ◌+◌, ◌-◌, ◌≤◌, ◌<◌, ℤ, List, [], ◌∷◌, ◌++◌, Option, Some, None, refl, sym, ap, subst, ◌∙◌, append_assoc, arith, inl, inr}
+use Rattle.std.proofs.Common.{◌≡◌, ℕ, zero, suc, ◌+◌, ◌-◌, ◌≤◌, List, [], ◌∷◌, ◌++◌, Option, Some, refl, sym, ap, subst, ◌∙◌, append_assoc, arith}
 use Rattle.std.proofs.lemmas.List.{append-nil}
 use Rattle.arc_spec.specs.declared.event.Event.{Event}
 use Rattle.arc_spec.specs.Stepping.{Next, Goes, Asks, Ends, Faults, Stuck, Reached, Running, Ended, Faulted, Wedged, fed, follow, further, after_steps}
-use Rattle.arc_spec.specs.Correct.{IsPrefix, Sight, Stop, run_seen, Steady}
+use Rattle.arc_spec.specs.Correct.{IsPrefix, Stop, run_seen, Steady}
 
 pub prefix_refl : (a : List Event) → IsPrefix a a
 prefix_refl a = ([], sym (append-nil a))

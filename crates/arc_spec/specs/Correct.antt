@@ -2,7 +2,7 @@
 use Rattle.std.specs.Prelude.{◌≡◌, ◌⊎◌, ℕ, ◌+◌, ◌≤◌, ◌<◌, ℤ, List, ◌++◌, Option, Some, None}
 use Rattle.arc_spec.specs.declared.event.Event.{Event}
 use Rattle.arc_spec.specs.declared.event.Fault as faults
-use Rattle.arc_spec.specs.World.{World, Outcome, Done, Faulted, Cut}
+use Rattle.arc_spec.specs.World.{Outcome, Done, Faulted, Cut}
 use Rattle.arc_spec.specs.Stepping as stepping
 use Rattle.arc_spec.specs.Stepping.{Reached, Running}
 

@@ -4,3 +4,4 @@ pub mod World
 pub mod Meaning
 pub mod Stepping
 pub mod Correct
+pub mod Rows

@@ -5,7 +5,7 @@ use Rattle.arc_ast.specs.declared.tree.Kind.TheVariants as k
 use Rattle.arc_spec.specs.declared.event.Fault.TheVariants.{Arithmetic}
 use Rattle.arc_spec.specs.Number.{converted, negated, combined, low_byte}
 use Rattle.arc_spec.specs.Resolved.{Piece, Bytes, Decimal, Character, Value, Number, ReadByte, Print, Negated, Combined, Converted, Values, no_values, and_value, Command, Sequence, Evaluate, Return, Commands, no_commands, and_command}
-use Rattle.arc_spec.specs.World.{World, Outcome, Done, Faulted, Cut, then_do, prints, first_world, next_number, has_read}
+use Rattle.arc_spec.specs.World.{World, Outcome, Done, Faulted, then_do, prints, first_world, next_number, has_read}
 
 -- what a format writes of these values, of which each number takes the next (C99, section 7.19.6.1)
 abbrev pub formatted : List Piece → List ℤ → List ℕ

@@ -1,0 +1,15 @@
+use Rattle.std.proofs.Common.{refl}
+use Rattle.std.specs.Fmt.{digits}
+use Rattle.arc_spec.proofs.law.known_programs.Goals as goal
+
+pub returns-clause-division_fault : goal.returns-clause-division_fault
+unfolding digits
+returns-clause-division_fault c = refl
+
+pub returns-clause-one_byte : goal.returns-clause-one_byte
+unfolding digits
+returns-clause-one_byte c = refl
+
+pub returns-clause-wrapped_sum : goal.returns-clause-wrapped_sum
+unfolding digits
+returns-clause-wrapped_sum c = refl

@@ -1,0 +1,19 @@
+//! What the definitions say of known programs, and what follows from them. Nothing here is run.
+ghost use Rattle.std.specs.Prelude.{◌≡◌, ℕ, ℤ, pos, negsuc, List, [], ◌∷◌, ◌++◌, codes};
+ghost use Rattle.arc_spec.specs.Rows.{Prints, forty_two, division_fault, one_byte, wrapped_sum, least_long};
+ghost use Rattle.arc_spec.specs.Correct.{Sight, Behaves, Steady, Refines, Ends, Faults};
+ghost use Rattle.arc_spec.specs.declared.event.Fault.TheVariants.{Arithmetic};
+
+/// Programs mean what the language's rules say of them.
+pub fn known_programs()
+    ensures forty_two { Prints forty_two [] (codes "42") (Ends (pos 7)) }
+    ensures division_fault { Prints division_fault [] (codes "14-3") (Faults Arithmetic) }
+    ensures one_byte { Prints one_byte (65 ∷ []) (codes "A-1after") (Ends (pos 0)) }
+    ensures wrapped_sum { Prints wrapped_sum [] (codes "-2147483648") (Ends (pos 11)) }
+    ensures least_long { Prints least_long [] [] (Faults Arithmetic) }
+{}
+
+/// Runs that refine runs of a meaning do what is meant.
+pub fn refinements_compose()
+    ensures { (meant a b : List ℕ → ℕ → Sight) → Behaves meant a → Steady a → Refines a b → Behaves meant b }
+{}
