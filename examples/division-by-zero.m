@@ -1,0 +1,4 @@
+int main(void) {
+    printf("before\n");
+    return 1 / 0;
+}
