@@ -1,0 +1,8 @@
+use Rattle.std.proofs.Common.{take}
+use Rattle.arc_ast.specs.Tree.{function_trees}
+use Rattle.arc_class.specs.Look.{Sums}
+use Rattle.arc_class.proofs.look.look.Given as goal
+
+-- so much is known of the functions so far
+abbrev pub invariant-loop-index : goal.invariant-loop-index
+invariant-loop-index l = Sums (function_trees (take l.index l.functions)) l.seen

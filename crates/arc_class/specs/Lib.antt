@@ -1,0 +1,5 @@
+pub mod Broken
+pub mod Functions
+pub mod Table
+pub mod Fault
+pub mod Look
