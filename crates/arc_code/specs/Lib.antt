@@ -1,1 +1,5 @@
 pub mod Running
+pub mod Counting
+pub mod Faulty
+pub mod Written
+pub mod Listing

@@ -2,3 +2,6 @@
 #![tactic(auto)]
 
 pub mod code;
+pub mod counted;
+pub mod fault;
+pub mod lines;

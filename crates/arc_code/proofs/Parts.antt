@@ -1,0 +1,48 @@
+-- Bytes that are written in several calls.
+use Rattle.std.proofs.Common.{◌≡◌, ℕ, ◌+◌, List, [], ◌∷◌, ◌++◌, Option, Result, Ok, Err, refl, sym, ap, ◌∙◌, append_assoc, append-nil}
+use Rattle.std.specs.Io.KnownBytes.{Appends}
+use Rattle.std.proofs.KnownBytes.{Appends-nil, Appends-trans}
+use Rattle.arc_code.specs.declared.code.IoFault.{IoFault}
+use Rattle.arc_code.specs.Counting.{AppendsPart}
+use Rattle.arc_code.specs.Written.{Written}
+
+-- a part of a list is one of a longer list
+pub part_wider : (h0 h1 : Option (List ℕ)) (xs ys : List ℕ) → AppendsPart h0 h1 xs → AppendsPart h0 h1 (xs ++ ys)
+part_wider h0 h1 xs ys (part, rest, split, wrote) = (part, rest ++ ys, ap (λ l. l ++ ys) split ∙ append_assoc part rest ys, wrote)
+
+-- a list and then a part
+pub part_after : (h0 h1 h2 : Option (List ℕ)) (xs ys : List ℕ) → Appends h0 h1 xs → AppendsPart h1 h2 ys → AppendsPart h0 h2 (xs ++ ys)
+part_after h0 h1 h2 xs ys first (part, rest, split, wrote) =
+    (xs ++ part, rest, ap (λ l. xs ++ l) split ∙ sym (append_assoc xs part rest), Appends-trans h0 h1 h2 xs part first wrote)
+
+-- where the first bytes were not all written, the later ones don't matter
+pub wider : (e : IoFault) (h0 h1 : Option (List ℕ)) (f0 f1 : ℕ) (xs ys : List ℕ) → Written (Err e) xs h0 h1 f0 f1 → Written (Err e) (xs ++ ys) h0 h1 f0 f1
+wider e h0 h1 f0 f1 xs ys (write, part, rose) = (write, part_wider h0 h1 xs ys part, rose)
+
+-- bytes after bytes that were written
+pub then_written : (r : Result (Unit {0}) IoFault) (h0 h1 h2 : Option (List ℕ)) (f0 f1 f2 : ℕ) (xs ys : List ℕ) → Written (Ok tt) xs h0 h1 f0 f1 → Written r ys h1 h2 f1 f2
+    → Written r (xs ++ ys) h0 h2 f0 f2
+then_written (Ok u) h0 h1 h2 f0 f1 f2 xs ys (first, same) (more, same') = (Appends-trans h0 h1 h2 xs ys first more, same' ∙ same)
+then_written (Err e) h0 h1 h2 f0 f1 f2 xs ys (first, same) (write, part, rose) = (write, part_after h0 h1 h2 xs ys first part, rose ∙ ap (λ f. f + 1) same)
+
+pub then_ok : (h0 h1 h2 : Option (List ℕ)) (f0 f1 f2 : ℕ) (xs ys : List ℕ) → Written (Ok tt) xs h0 h1 f0 f1 → Written (Ok tt) ys h1 h2 f1 f2 → Written (Ok tt) (xs ++ ys) h0 h2 f0 f2
+then_ok h0 h1 h2 f0 f1 f2 xs ys first more = then_written (Ok tt) h0 h1 h2 f0 f1 f2 xs ys first more
+
+pub then_failed : (e : IoFault) (h0 h1 h2 : Option (List ℕ)) (f0 f1 f2 : ℕ) (xs ys : List ℕ) → Written (Ok tt) xs h0 h1 f0 f1 → Written (Err e) ys h1 h2 f1 f2 → Written (Err e) (xs ++ ys) h0 h2 f0 f2
+then_failed e h0 h1 h2 f0 f1 f2 xs ys first more = then_written (Err e) h0 h1 h2 f0 f1 f2 xs ys first more
+
+-- no byte yet
+pub none_written : (h : Option (List ℕ)) (f : ℕ) → Written (Ok tt) [] h h f f
+none_written h f = (Appends-nil h, refl)
+
+-- ---- bytes in four parts, of which the first ones were written
+
+module _ (e : IoFault) (h0 h1 : Option (List ℕ)) (f0 f1 : ℕ) (a b c z : List ℕ) where
+  pub third_failed : Written (Err e) ((a ++ b) ++ c) h0 h1 f0 f1 → Written (Err e) (((a ++ b) ++ c) ++ z) h0 h1 f0 f1
+  third_failed w = wider e h0 h1 f0 f1 ((a ++ b) ++ c) z w
+
+  pub second_failed : Written (Err e) (a ++ b) h0 h1 f0 f1 → Written (Err e) (((a ++ b) ++ c) ++ z) h0 h1 f0 f1
+  second_failed w = third_failed (wider e h0 h1 f0 f1 (a ++ b) c w)
+
+  pub first_failed : Written (Err e) a h0 h1 f0 f1 → Written (Err e) (((a ++ b) ++ c) ++ z) h0 h1 f0 f1
+  first_failed w = second_failed (wider e h0 h1 f0 f1 a b w)

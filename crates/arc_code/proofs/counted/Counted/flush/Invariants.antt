@@ -1,0 +1,7 @@
+use Rattle.std.proofs.Common.{◌≡◌}
+use Rattle.std.specs.Io.KnownBytes.{Keeps}
+use Rattle.arc_code.proofs.counted.Counted.flush.Given as goal
+
+abbrev pub invariant-loop : goal.invariant-loop
+invariant-loop g l =
+    (l.self.failures ≡ l.fn.self.failures) × Keeps (g.W.Write.contents l.fn.self.inner) (g.W.Write.contents l.self.inner)

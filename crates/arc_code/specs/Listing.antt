@@ -1,0 +1,61 @@
+-- How code is listed, which is this project's own choice: a line for each instruction.
+use Rattle.std.specs.Prelude.{ℕ, zero, suc, List, [], ◌∷◌, ◌++◌, codes, decimal}
+use Rattle.std.specs.Fmt.{signed_decimal}
+use Rattle.arc_ast.specs.declared.tree.Kind.{Kind}
+use Rattle.arc_ast.specs.declared.tree.Kind.TheVariants as k
+use Rattle.arc_ast.specs.declared.tree.BinaryOperator.{BinaryOperator}
+use Rattle.arc_ast.specs.declared.tree.BinaryOperator.TheVariants as o
+use Rattle.arc_code.specs.declared.code.Op.{Op}
+use Rattle.arc_code.specs.declared.code.Op.TheVariants.{Num, Bin, Un, Narrow, Pop, Get, Set, PrintText, PrintNum, PrintByte, GetChar, Return}
+
+abbrev pub operator_number : BinaryOperator → ℕ
+operator_number o.Add = 0
+operator_number o.Subtract = 1
+operator_number o.Multiply = 2
+operator_number o.Divide = 3
+
+abbrev pub kind_number : Kind → ℕ
+kind_number k.Void = 0
+kind_number k.Bool = 1
+kind_number k.Int = 2
+kind_number k.Long = 3
+kind_number k.Object = 4
+
+abbrev pub name : Op → List ℕ
+name (Num n) = codes "Num"
+name (Bin operator kind) = codes "Bin"
+name (Un kind) = codes "Un"
+name (Narrow kind) = codes "Narrow"
+name Pop = codes "Pop"
+name (Get depth) = codes "Get"
+name (Set depth) = codes "Set"
+name (PrintText from len) = codes "PrintText"
+name PrintNum = codes "PrintNum"
+name PrintByte = codes "PrintByte"
+name GetChar = codes "GetChar"
+name Return = codes "Return"
+
+-- a space, and a number
+abbrev pub operand : ℕ → List ℕ
+operand n = codes " " ++ decimal n
+
+abbrev pub operands : Op → List ℕ
+operands (Num n) = codes " " ++ signed_decimal n
+operands (Bin operator kind) = operand (operator_number operator) ++ operand (kind_number kind)
+operands (Un kind) = operand (kind_number kind)
+operands (Narrow kind) = operand (kind_number kind)
+operands (Get depth) = operand depth
+operands (Set depth) = operand depth
+operands (PrintText from len) = operand from ++ operand len
+operands _ = []
+
+-- the instruction with this number
+abbrev pub line : ℕ → Op → List ℕ
+line number op = decimal number ++ (codes " " ++ name op) ++ operands op ++ codes "\n"
+
+abbrev pub lines_from : ℕ → List Op → List ℕ
+lines_from number [] = []
+lines_from number (op ∷ others) = line number op ++ lines_from (suc number) others
+
+abbrev pub listing : List Op → List ℕ
+listing ops = lines_from 0 ops

@@ -1,0 +1,173 @@
+//! Lists code, an instruction a line.
+ghost use Rattle.std.specs.Prelude.{◌≡◌, ◌+◌, ◌-◌, ◌^◌, ◌<◌, ◌++◌, codes, decimal};
+ghost use Rattle.std.specs.Fmt.{signed_decimal};
+ghost use Rattle.arc_code.specs.Counting.{failures_of, held_by};
+ghost use Rattle.arc_code.specs.Written.{Written};
+ghost use Rattle.arc_code.specs.Listing.{operator_number, kind_number, name, operand, operands, line, listing};
+
+use crate::code::{Code, IoFault, Op};
+use crate::counted::Counted;
+use arc_ast::tree::{BinaryOperator, Kind};
+use itoa::Buffer;
+use std::io::Write;
+
+/// Writes a line for each instruction: its number, counted from 0, its name, and its operands in
+/// decimal, with single spaces between them. An operator and a kind are written as their number in
+/// their order, counted from 0. The error is `IoFault::Write`, where the writer failed; then some
+/// of the first bytes are written.
+pub fn list<W: Write>(code: &Code, writer: &mut Counted<W>) -> Result<(), IoFault>
+    requires { failures_of writer.old < 2 ^ 64 - 1 }
+    ensures { Written result (listing code.now.ops.items)
+        (held_by W.contents writer.old) (held_by W.contents writer.new)
+        (failures_of writer.old) (failures_of writer.new) }
+{
+    for (number, op) in code.ops.iter().enumerate() {
+        put_line(number, *op, writer)?;
+    }
+    Ok(())
+}
+
+fn put_line<W: Write>(number: usize, op: Op, writer: &mut Counted<W>) -> Result<(), IoFault>
+    requires { failures_of writer.old < 2 ^ 64 - 1 }
+    ensures { Written result (line number op)
+        (held_by W.contents writer.old) (held_by W.contents writer.new)
+        (failures_of writer.old) (failures_of writer.new) }
+{
+    put_number(number as u64, writer)?;
+    put_name(op, writer)?;
+    put_operands(op, writer)?;
+    put(b"\n", writer)
+}
+
+fn put_operands<W: Write>(op: Op, writer: &mut Counted<W>) -> Result<(), IoFault>
+    requires { failures_of writer.old < 2 ^ 64 - 1 }
+    ensures { Written result (operands op)
+        (held_by W.contents writer.old) (held_by W.contents writer.new)
+        (failures_of writer.old) (failures_of writer.new) }
+{
+    match op {
+        Op::Num(number) => put_signed(number, writer),
+        Op::Bin(operator, kind) => put_pair(
+            number_of_operator(operator),
+            number_of_kind(kind),
+            writer,
+        ),
+        Op::Un(kind) => put_operand(number_of_kind(kind), writer),
+        Op::Narrow(kind) => put_operand(number_of_kind(kind), writer),
+        Op::Get(depth) => put_operand(depth as u64, writer),
+        Op::Set(depth) => put_operand(depth as u64, writer),
+        Op::PrintText(from, len) => put_pair(u64::from(from), u64::from(len), writer),
+        Op::Pop | Op::PrintNum | Op::PrintByte | Op::GetChar | Op::Return => put(b"", writer),
+    }
+}
+
+fn put_pair<W: Write>(first: u64, second: u64, writer: &mut Counted<W>) -> Result<(), IoFault>
+    requires { failures_of writer.old < 2 ^ 64 - 1 }
+    ensures { Written result (operand first ++ operand second)
+        (held_by W.contents writer.old) (held_by W.contents writer.new)
+        (failures_of writer.old) (failures_of writer.new) }
+{
+    put_operand(first, writer)?;
+    put_operand(second, writer)
+}
+
+fn put_operand<W: Write>(number: u64, writer: &mut Counted<W>) -> Result<(), IoFault>
+    requires { failures_of writer.old < 2 ^ 64 - 1 }
+    ensures { Written result (operand number)
+        (held_by W.contents writer.old) (held_by W.contents writer.new)
+        (failures_of writer.old) (failures_of writer.new) }
+{
+    put_word(Buffer::new().format(number).as_bytes(), writer)
+}
+
+fn put_signed<W: Write>(number: i64, writer: &mut Counted<W>) -> Result<(), IoFault>
+    requires { failures_of writer.old < 2 ^ 64 - 1 }
+    ensures { Written result (codes " " ++ signed_decimal number)
+        (held_by W.contents writer.old) (held_by W.contents writer.new)
+        (failures_of writer.old) (failures_of writer.new) }
+{
+    put_word(Buffer::new().format(number).as_bytes(), writer)
+}
+
+fn put_number<W: Write>(number: u64, writer: &mut Counted<W>) -> Result<(), IoFault>
+    requires { failures_of writer.old < 2 ^ 64 - 1 }
+    ensures { Written result (decimal number)
+        (held_by W.contents writer.old) (held_by W.contents writer.new)
+        (failures_of writer.old) (failures_of writer.new) }
+{
+    put(Buffer::new().format(number).as_bytes(), writer)
+}
+
+fn put_name<W: Write>(op: Op, writer: &mut Counted<W>) -> Result<(), IoFault>
+    requires { failures_of writer.old < 2 ^ 64 - 1 }
+    ensures { Written result (codes " " ++ name op)
+        (held_by W.contents writer.old) (held_by W.contents writer.new)
+        (failures_of writer.old) (failures_of writer.new) }
+{
+    put_word(name_of(op).as_bytes(), writer)
+}
+
+/// Writes a space and the word.
+fn put_word<W: Write>(word: &[u8], writer: &mut Counted<W>) -> Result<(), IoFault>
+    requires { failures_of writer.old < 2 ^ 64 - 1 }
+    ensures { Written result (codes " " ++ word.now)
+        (held_by W.contents writer.old) (held_by W.contents writer.new)
+        (failures_of writer.old) (failures_of writer.new) }
+{
+    put(b" ", writer)?;
+    put(word, writer)
+}
+
+fn put<W: Write>(bytes: &[u8], writer: &mut Counted<W>) -> Result<(), IoFault>
+    requires { failures_of writer.old < 2 ^ 64 - 1 }
+    ensures { Written result bytes.now
+        (held_by W.contents writer.old) (held_by W.contents writer.new)
+        (failures_of writer.old) (failures_of writer.new) }
+{
+    match writer.put_all(bytes) {
+        Ok(()) => Ok(()),
+        Err(_) => Err(IoFault::Write),
+    }
+}
+
+fn name_of(op: Op) -> &'static str
+    ensures { result.now ≡ name op }
+{
+    match op {
+        Op::Num(_) => "Num",
+        Op::Bin(_, _) => "Bin",
+        Op::Un(_) => "Un",
+        Op::Narrow(_) => "Narrow",
+        Op::Pop => "Pop",
+        Op::Get(_) => "Get",
+        Op::Set(_) => "Set",
+        Op::PrintText(_, _) => "PrintText",
+        Op::PrintNum => "PrintNum",
+        Op::PrintByte => "PrintByte",
+        Op::GetChar => "GetChar",
+        Op::Return => "Return",
+    }
+}
+
+fn number_of_operator(operator: BinaryOperator) -> u64
+    ensures { result ≡ operator_number operator }
+{
+    match operator {
+        BinaryOperator::Add => 0,
+        BinaryOperator::Subtract => 1,
+        BinaryOperator::Multiply => 2,
+        BinaryOperator::Divide => 3,
+    }
+}
+
+fn number_of_kind(kind: Kind) -> u64
+    ensures { result ≡ kind_number kind }
+{
+    match kind {
+        Kind::Void => 0,
+        Kind::Bool => 1,
+        Kind::Int => 2,
+        Kind::Long => 3,
+        Kind::Object => 4,
+    }
+}
