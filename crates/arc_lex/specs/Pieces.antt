@@ -10,7 +10,6 @@ use Rattle.arc_lex.specs.declared.piece.Rule.{Rule}
 use Rattle.arc_lex.specs.declared.piece.Rule.TheVariants as rules
 use Rattle.arc_lex.specs.declared.piece.Piece as lex
 use Rattle.arc_lex.specs.declared.piece.Piece.TheVariants as pieces
-use Rattle.arc_lex.specs.declared.text.Scan as text
 use Rattle.arc_lex.specs.declared.spelling.TheConstants.{MARKS, WORDS, AT_WORDS}
 use Rattle.arc_lex.specs.Bytes.{has, run, begins, is_blank}
 use Rattle.arc_lex.specs.Spellings.{mark_bytes, word_bytes, at_bytes}
@@ -105,16 +104,24 @@ is_comment [] = false
 is_comment (b ∷ []) = false
 is_comment (b ∷ d ∷ bs) = nat_eq b 47 && (nat_eq d 47 || nat_eq d 42)
 
+abbrev pub not_blank : ℕ → List ℕ → Piece
+not_blank b bs = if is_comment (b ∷ bs) then Broken rules.BadByte else mark_piece (b ∷ bs)
+
+abbrev pub not_at : ℕ → List ℕ → Piece
+not_at b bs = if is_blank b then Blank else not_blank b bs
+
+abbrev pub not_text : ℕ → List ℕ → Piece
+not_text b bs = if nat_eq b 64 then at_piece (b ∷ bs) else not_at b bs
+
+abbrev pub not_number : ℕ → List ℕ → Piece
+not_number b bs = if nat_eq b 34 then text_piece (b ∷ bs) else not_text b bs
+
+abbrev pub not_name : ℕ → List ℕ → Piece
+not_name b bs = if has c.Digit b then number_piece (b ∷ bs) else not_number b bs
+
 unfoldable pub piece : List ℕ → Piece
 piece [] = Broken rules.BadByte
-piece (b ∷ bs) =
-    if has c.Letter b then name_piece (b ∷ bs)
-    else if has c.Digit b then number_piece (b ∷ bs)
-    else if nat_eq b 34 then text_piece (b ∷ bs)
-    else if nat_eq b 64 then at_piece (b ∷ bs)
-    else if is_blank b then Blank
-    else if is_comment (b ∷ bs) then Broken rules.BadByte
-    else mark_piece (b ∷ bs)
+piece (b ∷ bs) = if has c.Letter b then name_piece (b ∷ bs) else not_name b bs
 
 abbrev pub seen : lex.Piece → Piece
 seen pieces.Blank = Blank
@@ -123,8 +130,8 @@ seen (pieces.Broken rule) = Broken rule
 
 -- what a piece is by the definition
 abbrev pub Law : List ℕ → Piece → Type 0
-Law bytes Blank = (b : ℕ) × (rest : List ℕ) × (bytes ≡ b ∷ rest) × (is_blank b ≡ true) × Faultless bytes
-Law bytes (Whole s n) = (xs : List ℕ) × (rest : List ℕ) × (bytes ≡ xs ++ rest) × (length xs ≡ n) × (0 < n) × Longest xs s rest × Faultless bytes
+Law bytes Blank = (b : ℕ) × (rest : List ℕ) × (bytes ≡ b ∷ rest) × (is_blank b ≡ true) × Faultless (b ∷ rest)
+Law bytes (Whole s n) = (xs : List ℕ) × (rest : List ℕ) × (bytes ≡ xs ++ rest) × (length xs ≡ n) × (0 < n) × Longest xs s rest × Faultless (xs ++ rest)
 Law bytes (Broken rule) = Breaks rule bytes
 
 -- a piece is no longer than the bytes

@@ -1,5 +1,5 @@
 -- What was read of a text.
-use Rattle.std.specs.Prelude.{ℕ, List, Vec, length, Bool, true, false, Option, Some, None}
+use Rattle.std.specs.Prelude.{ℕ, List, Vec, length, Option, Some, None}
 use Rattle.arc_lex.specs.declared.text.Scan.{Scan}
 use Rattle.arc_lex.specs.Texts.{Part, parts_bytes, parts_value}
 

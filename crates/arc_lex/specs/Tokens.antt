@@ -5,7 +5,6 @@ use Rattle.arc_lex.specs.declared.token.Mark.TheVariants as m
 use Rattle.arc_lex.specs.declared.token.Word.{Word}
 use Rattle.arc_lex.specs.declared.token.Word.TheVariants as w
 use Rattle.arc_lex.specs.declared.token.AtWord.{AtWord}
-use Rattle.arc_lex.specs.declared.token.AtWord.TheVariants as ats
 use Rattle.arc_lex.specs.declared.token.TokenKind.{TokenKind}
 use Rattle.arc_lex.specs.declared.token.TokenKind.TheVariants as kinds
 use Rattle.arc_lex.specs.declared.token.Token.{Token}

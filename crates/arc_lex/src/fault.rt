@@ -2,6 +2,7 @@
 ghost use Rattle.std.specs.Prelude.{◌≡◌};
 ghost use Rattle.arc_lex.specs.Faults.{fault_number, fault_name, fault_at};
 
+use std::alloc::{AllocError, AllocFailed};
 use thiserror::Error;
 
 /// Why a source has no tokens. A fault names the first byte that the rule speaks of, counted from 0.
@@ -69,5 +70,25 @@ impl LexFault {
             LexFault::TooLong => 1048576,
             LexFault::Memory => 0,
         }
+    }
+}
+
+impl From<AllocError> for LexFault {
+    ghost use Rattle.arc_lex.specs.declared.fault.LexFault.TheVariants as faults;
+
+    ghost from_gives = { λ _ e. e ≡ faults.Memory };
+
+    fn from(_e: AllocError) -> LexFault {
+        LexFault::Memory
+    }
+}
+
+impl<T: Drop> From<AllocFailed<T>> for LexFault {
+    ghost use Rattle.arc_lex.specs.declared.fault.LexFault.TheVariants as faults;
+
+    ghost from_gives = { λ _ e. e ≡ faults.Memory };
+
+    fn from(_e: AllocFailed<T>) -> LexFault {
+        LexFault::Memory
     }
 }

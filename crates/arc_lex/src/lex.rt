@@ -39,7 +39,7 @@ pub fn lex(alloc: Global, source: &[u8]) -> Result<Vec<Token>, LexFault>
     let mut at = 0;
     let mut rest = source;
     'pieces: while at < source.len() {
-        match lawful_piece(alloc, rest).map_err(|_| LexFault::Memory)? {
+        match lawful_piece(alloc, rest)? {
             Piece::Blank => {
                 at += 1;
                 rest = rest.split_at(1).1;
@@ -49,7 +49,7 @@ pub fn lex(alloc: Global, source: &[u8]) -> Result<Vec<Token>, LexFault>
                     from: at,
                     to: at + n,
                 };
-                tokens.push(Token { kind, span }).map_err(|_| LexFault::Memory)?;
+                tokens.push(Token { kind, span })?;
                 at += n;
                 rest = rest.split_at(n).1;
             }

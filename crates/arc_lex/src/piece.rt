@@ -5,7 +5,7 @@ ghost use Rattle.arc_lex.specs.Pieces as spec;
 use crate::bytes::{Class, begins, has, is_blank, run};
 use crate::number::{is_suffix, leads_with_zero, value};
 use crate::spelling::{at_text, at_word_at, mark_at, mark_text, word_of};
-use crate::text::read_text;
+use crate::text::{Scan, read_text};
 use crate::token::TokenKind;
 use std::alloc::{AllocError, Global};
 
@@ -91,10 +91,13 @@ fn text_piece(alloc: Global, bytes: &[u8]) -> Result<Piece, AllocError>
 {
     match read_text(alloc, bytes)? {
         None => Ok(Piece::Broken(Rule::OpenLiteral)),
-        Some(found) => match found.value {
-            None => Ok(Piece::Broken(Rule::Literal)),
-            Some(text) => Ok(Piece::Whole(TokenKind::Text(text), found.len + 2)),
-        },
+        Some(Scan { value: None, .. }) => Ok(Piece::Broken(Rule::Literal)),
+        Some(
+            Scan {
+                len,
+                value: Some(text),
+            },
+        ) => Ok(Piece::Whole(TokenKind::Text(text), len + 2)),
     }
 }
 

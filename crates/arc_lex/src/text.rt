@@ -46,8 +46,7 @@ pub fn read_text(alloc: Global, bytes: &[u8]) -> Result<Option<Scan>, AllocError
     let mut value = Vec::new(alloc);
     let mut right = true;
     let mut escaped = false;
-    let mut len = 0;
-    for b in bytes {
+    for (len, b) in bytes.iter().enumerate() {
         if *b == b'\n' {
             return Ok(None);
         }
@@ -58,10 +57,8 @@ pub fn read_text(alloc: Global, bytes: &[u8]) -> Result<Option<Scan>, AllocError
                 None => right = false,
             }
         } else if *b == b'"' {
-            return Ok(Some(Scan {
-                len,
-                value: if right { Some(value) } else { None },
-            }));
+            let value = right.then_some(value);
+            return Ok(Some(Scan { len, value }));
         } else if *b == b'\\' {
             escaped = true;
         } else if is_plain(*b) {
@@ -69,7 +66,6 @@ pub fn read_text(alloc: Global, bytes: &[u8]) -> Result<Option<Scan>, AllocError
         } else {
             right = false;
         }
-        len += 1;
     }
     Ok(None)
 }

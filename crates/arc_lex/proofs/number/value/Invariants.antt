@@ -1,4 +1,4 @@
-use Rattle.std.proofs.Common.{◌≡◌, ◌≤◌, drop}
+use Rattle.std.proofs.Common.{◌≡◌, drop}
 use Rattle.arc_lex.specs.Texts.{number, number_after}
 use Rattle.arc_lex.proofs.number.value.Given as goal
 

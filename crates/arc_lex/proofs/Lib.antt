@@ -1,0 +1,13 @@
+pub mod Faultless
+pub mod Firsts
+pub mod Law
+pub mod MarkLaw
+pub mod Marks
+pub mod NameLaw
+pub mod NumberLaw
+pub mod Numbers
+pub mod ReadTexts
+pub mod Runs
+pub mod Tables
+pub mod TextLaw
+pub mod Walks

@@ -1,0 +1,90 @@
+-- Looking bytes up in a table.
+use Rattle.std.proofs.Common.{◌≡◌, ◌≤◌, ℕ, zero, suc, List, [], ◌∷◌, ◌++◌, length, take, drop, Bool, true, false, cond, ◌&&◌, leb, nat_eq, Option, Some, None, refl, sym, ap, subst, ◌∙◌, arith}
+use Rattle.std.specs.Cmp.Lexicographic.{pointwise}
+use Rattle.std.specs.List.{starts_with}
+use Rattle.std.proofs.lemmas.Bool.{and_parts, leb-true, true≢false}
+use Rattle.std.proofs.lemmas.List.{take-append-drop, take_at}
+use Rattle.std.proofs.lemmas.Slice.Eq.{bytes_eq-Decides}
+use Rattle.arc_lex.specs.Pieces.{first_front, first_equal}
+
+-- the entry at a place
+abbrev pub nth : {A : Type 0} → ℕ → List A → Option A
+nth n [] = None
+nth zero (a ∷ rest) = Some a
+nth (suc n) (a ∷ rest) = nth n rest
+
+-- whether each entry passes a test
+abbrev pub all_pass : {A : Type 0} → (A → Bool) → List A → Bool
+all_pass test [] = true
+all_pass test (a ∷ rest) = test a && all_pass test rest
+
+pub passes : {A : Type 0} (test : A → Bool) (those : List A) (n : ℕ) (a : A) → all_pass test those ≡ true → nth n those ≡ Some a → test a ≡ true
+passes test [] n a h e = cc
+passes test (b ∷ rest) zero a h e = let k : b ≡ a = cc in subst (λ x. test x ≡ true) k (and_parts (test b) (all_pass test rest) h).0
+passes test (b ∷ rest) (suc n) a h e = passes test rest n a (and_parts (test b) (all_pass test rest) h).1 e
+
+starts_sound : (xs p : List ℕ) → starts_with nat_eq xs p ≡ true → xs ≡ p ++ drop (length p) xs
+starts_sound xs p h =
+    let e : p ≡ take (length p) xs = (bytes_eq-Decides p (take (length p) xs)).0 h in
+    sym (ap (λ us. us ++ drop (length p) xs) e ∙ take-append-drop (length p) xs)
+
+starts_complete : (xs p r : List ℕ) → xs ≡ p ++ r → starts_with nat_eq xs p ≡ true
+starts_complete xs p r c = (bytes_eq-Decides p (take (length p) xs)).1 (sym (ap (take (length p)) c ∙ take_at p r (length p) refl))
+
+module _ {A : Type 0} (bytes_of : A → List ℕ) where
+  pub front_sound : (those : List A) (xs : List ℕ) (a : A) → first_front bytes_of those xs ≡ Some a → (rest : List ℕ) × (xs ≡ bytes_of a ++ rest)
+  front_sound [] xs a e = cc
+  front_sound (b ∷ those) xs a e = go (starts_with nat_eq xs (bytes_of b)) refl (front_sound those xs a) e
+    where
+      go : (t : Bool) → starts_with nat_eq xs (bytes_of b) ≡ t → (first_front bytes_of those xs ≡ Some a → (rest : List ℕ) × (xs ≡ bytes_of a ++ rest))
+          → cond t (Some b) (first_front bytes_of those xs) ≡ Some a → (rest : List ℕ) × (xs ≡ bytes_of a ++ rest)
+      go true h later k = let same : b ≡ a = cc in subst (λ x. (rest : List ℕ) × (xs ≡ bytes_of x ++ rest)) same (drop (length (bytes_of b)) xs, starts_sound xs (bytes_of b) h)
+      go false h later k = later k
+
+  -- no entry is longer than one in front of it
+  abbrev pub no_longer : A → A → Bool
+  no_longer a b = leb (length (bytes_of b)) (length (bytes_of a))
+
+  abbrev pub descending : List A → Bool
+  descending [] = true
+  descending (a ∷ rest) = all_pass (no_longer a) rest && descending rest
+
+  -- the first entry that stands at the front is the longest
+  pub front_longest : (those : List A) (n : ℕ) (xs r : List ℕ) (o : A) → descending those ≡ true → nth n those ≡ Some o → xs ≡ bytes_of o ++ r
+      → (a : A) × (first_front bytes_of those xs ≡ Some a) × (length (bytes_of o) ≤ length (bytes_of a))
+  front_longest [] n xs r o d e c = cc
+  front_longest (b ∷ those) n xs r o d e c =
+      let parts = and_parts (all_pass (no_longer b) those) (descending those) d in
+      go (starts_with nat_eq xs (bytes_of b)) refl n parts.0 (λ j k. front_longest those j xs r o parts.1 k c) e
+    where
+      go : (t : Bool) → starts_with nat_eq xs (bytes_of b) ≡ t → (k : ℕ) → all_pass (no_longer b) those ≡ true
+          → ((j : ℕ) → nth j those ≡ Some o → (a : A) × (first_front bytes_of those xs ≡ Some a) × (length (bytes_of o) ≤ length (bytes_of a)))
+          → nth k (b ∷ those) ≡ Some o → (a : A) × (cond t (Some b) (first_front bytes_of those xs) ≡ Some a) × (length (bytes_of o) ≤ length (bytes_of a))
+      go true h zero shorter later k = let same : b ≡ o = cc in (b, refl, subst (λ x. length (bytes_of x) ≤ length (bytes_of b)) same (omega arith))
+      go true h (suc j) shorter later k = (b, refl, leb-true (length (bytes_of o)) (length (bytes_of b)) (passes (no_longer b) those j o shorter k))
+      go false h zero shorter later k =
+          let same : b ≡ o = cc in
+          absurd (true≢false (sym (starts_complete xs (bytes_of b) r (subst (λ x. xs ≡ bytes_of x ++ r) (sym same) c)) ∙ h))
+      go false h (suc j) shorter later k = later j k
+
+  pub equal_sound : (those : List A) (xs : List ℕ) (a : A) → first_equal bytes_of those xs ≡ Some a → bytes_of a ≡ xs
+  equal_sound [] xs a e = cc
+  equal_sound (b ∷ those) xs a e = go (pointwise nat_eq (bytes_of b) xs) refl (equal_sound those xs a) e
+    where
+      go : (t : Bool) → pointwise nat_eq (bytes_of b) xs ≡ t → (first_equal bytes_of those xs ≡ Some a → bytes_of a ≡ xs)
+          → cond t (Some b) (first_equal bytes_of those xs) ≡ Some a → bytes_of a ≡ xs
+      go true h later k = let same : b ≡ a = cc in subst (λ x. bytes_of x ≡ xs) same ((bytes_eq-Decides (bytes_of b) xs).0 h)
+      go false h later k = later k
+
+  -- an entry that is there is found
+  pub equal_found : (those : List A) (n : ℕ) (xs : List ℕ) (o : A) → nth n those ≡ Some o → xs ≡ bytes_of o → first_equal bytes_of those xs ≡ None → ⊥
+  equal_found [] n xs o e c none = cc
+  equal_found (b ∷ those) n xs o e c none = go (pointwise nat_eq (bytes_of b) xs) refl n (λ j k. equal_found those j xs o k c) e none
+    where
+      go : (t : Bool) → pointwise nat_eq (bytes_of b) xs ≡ t → (k : ℕ) → ((j : ℕ) → nth j those ≡ Some o → first_equal bytes_of those xs ≡ None → ⊥)
+          → nth k (b ∷ those) ≡ Some o → cond t (Some b) (first_equal bytes_of those xs) ≡ None → ⊥
+      go true h k later here nothing = cc
+      go false h zero later here nothing =
+          let same : b ≡ o = cc in
+          true≢false (sym ((bytes_eq-Decides (bytes_of b) xs).1 (subst (λ x. bytes_of x ≡ xs) (sym same) (sym c))) ∙ h)
+      go false h (suc j) later here nothing = later j here nothing

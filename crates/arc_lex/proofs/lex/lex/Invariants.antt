@@ -1,0 +1,17 @@
+use Rattle.std.proofs.Common.{◌≡◌, ◌≤◌, ◌+◌, ◌++◌, ℕ, List, length}
+use Rattle.arc_lex.specs.Source.{Cuts, FaultAt, most_bytes}
+use Rattle.arc_lex.specs.Tokens.{Tok, toks}
+use Rattle.arc_lex.specs.declared.piece.Rule.{Rule}
+use Rattle.arc_lex.proofs.lex.lex.Given as goal
+
+-- what completes the rest completes the whole
+abbrev pub invariant-pieces : goal.invariant-pieces
+invariant-pieces l = record {
+  short : length l.source ≤ most_bytes;
+  count : l.at + length l.rest ≡ length l.source;
+  cut : (ts : List Tok) → Cuts l.at l.rest ts → Cuts 0 l.source (toks l.tokens.items ++ ts);
+  fault : (p : ℕ) (rule : Rule) → FaultAt l.at l.rest p rule → FaultAt 0 l.source p rule;
+}
+
+abbrev pub decreases-pieces : goal.decreases-pieces
+decreases-pieces l = length l.rest
