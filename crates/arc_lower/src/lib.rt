@@ -1,2 +1,6 @@
 //! Writes a checked program as actions.
 #![tactic(auto)]
+
+mod expression;
+pub mod lower;
+mod print;

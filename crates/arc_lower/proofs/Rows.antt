@@ -1,0 +1,48 @@
+-- What a tree holds in a row, as a list.
+use Rattle.std.proofs.Common.{◌≡◌, ℕ, zero, suc, ◌+◌, List, [], ◌∷◌, ◌++◌, length, Vec, Global, refl, sym, ap, ◌∙◌, add-one}
+use mathlib.Core.Former.{Count}
+use Rattle.arc_check.specs.declared.checked.Piece.{Piece}
+use Rattle.arc_check.specs.declared.checked.Value.{Value, Print, Print', Row_of-Value, end_of-Value, more_of-Value, items-the_row-Value, items_hidden-the_row-Value-0}
+use Rattle.arc_check.specs.declared.checked.Command.{Command, Sequence, Sequence', Row_of-Command, end_of-Command, more_of-Command, items-the_row-Command, items_hidden-the_row-Command-0}
+use Rattle.arc_check.specs.Checked.{pieces, value, values, row_values, command, commands, row_commands}
+use Rattle.arc_spec.specs.Resolved as resolved
+use Rattle.arc_spec.specs.Resolved.{Values, no_values, and_value, Commands, no_commands, and_command}
+use Rattle.arc_lower.specs.Order.{Order, Pop}
+use Rattle.arc_lower.specs.Lowered.{pop_orders, value_count}
+
+abbrev arguments_of : Value → (n : Count) × Row_of-Value n
+arguments_of (Print' all _ row) = (_, row)
+arguments_of _ = (_, end_of-Value)
+
+row_values_are : (n : _) (row : Row_of-Value n) → row_values row ≡ values (items-the_row-Value n row)
+row_values_are n end_of-Value = refl
+row_values_are n (more_of-Value a row) = ap (and_value (value a)) (row_values_are _ row)
+
+pub print_value : (all : Vec Piece Global) (arguments : Vec Value Global) → value (Print all arguments) ≡ resolved.Print (pieces all.items) (values arguments.items)
+print_value all arguments =
+    let row = arguments_of (Print all arguments) in
+    ap (resolved.Print (pieces all.items)) (row_values_are row.0 row.1 ∙ ap values (items_hidden-the_row-Value-0 arguments))
+
+abbrev statements_of : Command → (n : Count) × Row_of-Command n
+statements_of (Sequence' _ row) = (_, row)
+statements_of _ = (_, end_of-Command)
+
+row_commands_are : (n : _) (row : Row_of-Command n) → row_commands row ≡ commands (items-the_row-Command n row)
+row_commands_are n end_of-Command = refl
+row_commands_are n (more_of-Command a row) = ap (and_command (command a)) (row_commands_are _ row)
+
+pub sequence_command : (all : Vec Command Global) → command (Sequence all) ≡ resolved.Sequence (commands all.items)
+sequence_command all =
+    let row = statements_of (Sequence all) in
+    ap resolved.Sequence (row_commands_are row.0 row.1 ∙ ap commands (items_hidden-the_row-Command-0 all))
+
+pub values_counted : (all : List Value) → value_count (values all) ≡ length all
+values_counted [] = refl
+values_counted (a ∷ others) = ap suc (values_counted others)
+
+pops_snoc : (n : ℕ) → pop_orders (suc n) ≡ pop_orders n ++ Pop ∷ []
+pops_snoc zero = refl
+pops_snoc (suc n) = ap (λ l. Pop ∷ l) (pops_snoc n)
+
+pub pops_more : (n : ℕ) → pop_orders (n + 1) ≡ pop_orders n ++ Pop ∷ []
+pops_more n = rw add-one (pops_snoc n)

@@ -1,0 +1,38 @@
+-- Actions without where their bytes lie in memory.
+use Rattle.std.specs.Prelude.{ℕ, ℤ, List, map}
+use Rattle.arc_ast.specs.declared.tree.Kind.{Kind}
+use Rattle.arc_ast.specs.declared.tree.BinaryOperator.{BinaryOperator}
+use Rattle.arc_ir.specs.declared.action.Action.{Action}
+use Rattle.arc_ir.specs.declared.action.Action.TheVariants as a
+
+-- an action, of whose text only the bytes are kept
+pub data Order : Type 0 where
+  Num : ℤ → Order
+  Bin : BinaryOperator → Kind → Order
+  Un : Kind → Order
+  Narrow : Kind → Order
+  Pop : Order
+  Get : ℕ → Order
+  Set : ℕ → Order
+  PrintText : List ℕ → Order
+  PrintNum : Order
+  PrintByte : Order
+  GetChar : Order
+  Return : Order
+
+abbrev pub order : Action → Order
+order (a.Num n) = Num n
+order (a.Bin operator kind) = Bin operator kind
+order (a.Un kind) = Un kind
+order (a.Narrow kind) = Narrow kind
+order a.Pop = Pop
+order (a.Get depth) = Get depth
+order (a.Set depth) = Set depth
+order (a.PrintText bytes) = PrintText bytes.items
+order a.PrintNum = PrintNum
+order a.PrintByte = PrintByte
+order a.GetChar = GetChar
+order a.Return = Return
+
+abbrev pub orders : List Action → List Order
+orders actions = map order actions

@@ -1,0 +1,104 @@
+//! From a call of `printf`, whose values lie on the stack, to actions.
+ghost use Rattle.std.specs.Prelude.{◌≡◌, ◌++◌, pred, OnOk, IfOk};
+ghost use Rattle.arc_check.specs.Checked as checked;
+ghost use Rattle.arc_lower.specs.Order.{order, orders};
+ghost use Rattle.arc_lower.specs.Lowered.{conversion_orders, piece_orders, left_behind, format_orders, pop_orders, keep_orders, print_orders};
+
+use crate::expression::append;
+use arc_ast::tree::Kind;
+use arc_check::checked::Piece;
+use arc_ir::action::Action;
+use arc_spec::event::NoMemory;
+use std::alloc::Global;
+
+/// Appends the actions that print a format behind its values, of which there are `count`, and
+/// leave the number of bytes in their place.
+pub(crate) fn append_print(
+    alloc: Global,
+    actions: &mut Vec<Action>,
+    pieces: &[Piece],
+    count: usize,
+) -> Result<(), NoMemory>
+    ensures { OnOk result (orders actions.new.items ≡ orders actions.old.items ++ print_orders (checked.pieces pieces.now) count) }
+{
+    append(actions, Action::Num(0))?;
+    append_pieces(alloc, actions, pieces, count)?;
+    append(actions, Action::Narrow(Kind::Int))?;
+    append_keep(actions, count)
+}
+
+/// Appends the actions that print the pieces of a format.
+fn append_pieces(
+    alloc: Global,
+    actions: &mut Vec<Action>,
+    pieces: &[Piece],
+    count: usize,
+) -> Result<(), NoMemory>
+    ensures { OnOk result (orders actions.new.items ≡ orders actions.old.items ++ format_orders (checked.pieces pieces.now) count) }
+{
+    let mut left = count;
+    for piece in pieces {
+        left = append_piece(alloc, actions, piece, left)?;
+    }
+    Ok(())
+}
+
+/// Appends the actions that print one piece, where `left` values aren't printed yet. Gives how many
+/// are left then.
+fn append_piece(
+    alloc: Global,
+    actions: &mut Vec<Action>,
+    piece: &Piece,
+    left: usize,
+) -> Result<usize, NoMemory>
+    ensures appended { OnOk result (orders actions.new.items ≡ orders actions.old.items ++ piece_orders (checked.piece piece.now) left) }
+    ensures behind { IfOk result (λ now. now ≡ left_behind (checked.piece piece.now) left) }
+{
+    match piece {
+        Piece::Bytes(bytes) => {
+            append(actions, Action::PrintText(bytes.clone()?))?;
+            Ok(left)
+        }
+        Piece::Decimal => append_conversion(actions, Action::PrintNum, left),
+        Piece::Character => append_conversion(actions, Action::PrintByte, left),
+    }
+}
+
+/// Appends the actions that print the first of `left` values, where there is one.
+fn append_conversion(
+    actions: &mut Vec<Action>,
+    print: Action,
+    left: usize,
+) -> Result<usize, NoMemory>
+    ensures appended { OnOk result (orders actions.new.items ≡ orders actions.old.items ++ conversion_orders (order print) left) }
+    ensures behind { IfOk result (λ now. now ≡ pred left) }
+{
+    if left == 0 {
+        return Ok(0);
+    }
+    append(actions, Action::Get(left))?;
+    append(actions, print)?;
+    Ok(left - 1)
+}
+
+/// Appends the actions that put the top number in the place of the last of `count` numbers below
+/// it, and take the others.
+fn append_keep(actions: &mut Vec<Action>, count: usize) -> Result<(), NoMemory>
+    ensures { OnOk result (orders actions.new.items ≡ orders actions.old.items ++ keep_orders count) }
+{
+    if count == 0 {
+        return Ok(());
+    }
+    append(actions, Action::Set(count - 1))?;
+    append_pops(actions, count - 1)
+}
+
+/// Appends actions that take `count` numbers.
+fn append_pops(actions: &mut Vec<Action>, count: usize) -> Result<(), NoMemory>
+    ensures { OnOk result (orders actions.new.items ≡ orders actions.old.items ++ pop_orders count) }
+{
+    for _number in 0..count {
+        append(actions, Action::Pop)?;
+    }
+    Ok(())
+}
