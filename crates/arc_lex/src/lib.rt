@@ -7,5 +7,7 @@ pub mod lex;
 mod number;
 mod piece;
 mod spelling;
+#[cfg(test)]
+mod tests;
 mod text;
 pub mod token;
