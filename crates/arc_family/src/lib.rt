@@ -2,3 +2,5 @@
 #![tactic(auto)]
 
 pub mod owned;
+#[cfg(test)]
+mod tests;

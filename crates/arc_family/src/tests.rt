@@ -1,0 +1,26 @@
+//! A program by hand, and its ownership.
+use crate::owned::{OwnFault, own};
+use arc_check::checked::{Checked, Command};
+
+#[test]
+fn owns(rt: HostRuntime) {
+    let alloc = rt.alloc();
+    let body = vec![in alloc; Command::Return(None)].expect(&rt, "no memory");
+    let program = Checked { body };
+    match own(alloc, &program) {
+        Ok(owned) => {
+            let shown = format!(in alloc; "{:?}", owned.program.body).expect(&rt, "no memory");
+            assert_eq!(rt; shown.as_str(), "[Return(None)]");
+        }
+        Err(fault) => panic!(rt; "refused: {fault}"),
+    }
+}
+
+#[test]
+fn tells(rt: HostRuntime) {
+    let fault = OwnFault::Memory;
+    assert_eq!(rt;
+        (fault.number(), fault.name(), fault.at()),
+        (69, "Memory", 0)
+    );
+}
