@@ -52,3 +52,9 @@ viable_expect mark = viable_token (place_if (is_mark mark)) (sound_expect mark) 
 
 pub viable_name : Viable name (λ n. One (tokens.Name n.1) n.0)
 viable_name = viable_token (λ t. name_of t.from t.sort) sound_name (0, []) (a_token (tokens.Name []) ∷ []) (a_token (tokens.Name []), refl, refl, refl)
+
+pub viable_keyword : (word : Word) → Viable (keyword word) (One (Key word))
+viable_keyword word = viable_token (place_if (is_word word)) (sound_keyword word) 0 (a_token (Key word) ∷ []) (a_token (Key word), refl, refl, refl)
+
+pub viable_the_name : (called : List ℕ) → Viable (the_name called) (One (tokens.Name called))
+viable_the_name called = viable_token (place_if (is_named called)) (sound_the_name called) 0 (a_token (tokens.Name called) ∷ []) (a_token (tokens.Name called), refl, refl, refl)

@@ -13,6 +13,8 @@ pub mod ExprSound
 pub mod ExprComplete
 pub mod Front
 pub mod UnitLocal
+pub mod HeadFirst
+pub mod UnitFirst
 pub mod UnitSound
 pub mod UnitBegin
 pub mod UnitBelow

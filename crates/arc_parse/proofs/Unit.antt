@@ -1,16 +1,18 @@
 -- What is read of all tokens is what they spell, and what is refused is spelled by nothing.
 use Rattle.std.proofs.Common.{◌≡◌, suc, List, ◌++◌, length, append-nil, Ok, Err, refl, sym, ap, subst, ◌∙◌, arith}
+use Rattle.std.proofs.lemmas.List.{append_cancel_right}
 use Rattle.arc_lex.specs.Tokens.{Tok}
 use Rattle.arc_ast.specs.Tree.{FunctionTree}
 use Rattle.arc_parse.specs.Reader.{Read, Fault, misfit, first}
 use Rattle.arc_parse.specs.Limits.{Limits, unlimited}
 use Rattle.arc_parse.specs.Grammar.{SpellsUnit}
 use Rattle.arc_parse.specs.UnitRules.{functions, unit}
-use Rattle.arc_parse.specs.Refusal.{FitsNone, place_of}
+use Rattle.arc_parse.specs.Refusal.{BeginsUnit, FitsNone, place_of}
 use Rattle.arc_parse.proofs.Local.{StopsAt, rest_of, fault_of}
 use Rattle.arc_parse.proofs.Sound.{ok_is}
 use Rattle.arc_parse.proofs.UnitLocal.{read_local}
 use Rattle.arc_parse.proofs.UnitSound.{read_sound}
+use Rattle.arc_parse.proofs.UnitFirst.{unit_fails}
 use Rattle.arc_parse.proofs.UnitComplete.{complete_unit}
 
 ok_not_err : {x : List FunctionTree × List Tok} {e : Fault × List Tok} {y : Read (List FunctionTree)} → y ≡ Ok x → y ≡ Err e → ⊥
@@ -32,6 +34,11 @@ unit_accepted limits ts u e r h = ok_not_err (complete_unit limits u ts h) r
 pub unit_refuses : (ts rest : List Tok) → unit unlimited ts ≡ Err (misfit, rest) → FitsNone ts (place_of ts rest)
 unit_refuses ts rest e = go (unit unlimited ts) e ((read_local unlimited (suc (length ts)) functions).each ts (omega arith))
   where
+    begun : (before : List Tok) → ts ≡ before ++ rest → BeginsUnit before
+    begun before cut =
+        let p = unit_fails ts misfit rest e in
+        (p.1, p.2, subst (λ b. SpellsUnit unlimited p.2 (b ++ p.1)) (append_cancel_right p.0 before rest (sym p.3 ∙ cut)) p.4)
+
     go : (x : Read (List FunctionTree)) → x ≡ Err (misfit, rest) → StopsAt 0 x (unit unlimited) ts → FitsNone ts (place_of ts rest)
     go (Ok x) e s = cc
     go (Err r) e s =
@@ -41,6 +48,7 @@ unit_refuses ts rest e = go (unit unlimited ts) e ((read_local unlimited (suc (l
           rest,
           s.cut ∙ ap (λ u. s.before ++ u) same,
           refl,
+          begun s.before (s.cut ∙ ap (λ u. s.before ++ u) same),
           λ others u f h.
               let no : unit unlimited (s.before ++ others) ≡ Err (misfit, others) = s.same others (f ∙ ap first (sym same)) ∙ ap (λ y. Err (y, others)) why in
               ok_not_err (complete_unit unlimited u (s.before ++ others) h) no,

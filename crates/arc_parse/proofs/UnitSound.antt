@@ -1,23 +1,22 @@
 -- The rules of statements, functions and units give what the tokens spell.
-use Rattle.std.proofs.Common.{◌≡◌, inl, inr, ℕ, suc, zero, List, [], ◌∷◌, ◌++◌, append-nil, Ok, Err, Bool, true, false, cond, Option, Some, None, refl, sym, subst, ◌∙◌}
+use Rattle.std.proofs.Common.{◌≡◌, ℕ, suc, zero, List, [], ◌∷◌, ◌++◌, append-nil, Ok, Err, Bool, true, false, cond, Option, Some, None, refl, sym, subst, ◌∙◌}
 use Rattle.std.proofs.lemmas.Bool.{ltb-false}
 use Rattle.arc_lex.specs.declared.token.Mark.TheVariants as m
-use Rattle.arc_lex.specs.declared.token.Word.TheVariants as w
 use Rattle.arc_lex.specs.Tokens.{Tok, Sign}
-use Rattle.arc_ast.specs.declared.tree.Parameters.TheVariants as parameter
 use Rattle.arc_ast.specs.Tree.{Block, Empty, Simple, Return, no_stmts, and_stmt}
-use Rattle.arc_parse.specs.Language.{Language, ◌∣◌, One, The, TheWord, SomeName, Nothing}
+use Rattle.arc_parse.specs.Language.{Language, One, The}
 use Rattle.arc_parse.specs.Reader.{Read, Reader, any, begins, unexpected, too_deep_here, if_first}
 use Rattle.arc_parse.specs.Limits.{Limits, AtMost, Nested, is_above, nested, plainly, plain}
 use Rattle.arc_parse.specs.Knot.{deep, tied}
-use Rattle.arc_parse.specs.Grammar.{Full, SpellsValue, SpellsStmt, SpellsStmts, TextsName, SpellsParameters, SpellsHead, SpellsBody, SpellsFunction, SpellsUnit}
+use Rattle.arc_parse.specs.Grammar.{Full, SpellsValue, SpellsStmt, SpellsStmts, SpellsBody, SpellsFunction, SpellsUnit}
 use Rattle.arc_parse.specs.ExprRules.{expr}
-use Rattle.arc_parse.specs.UnitRules.{Rule, Node, Rules, items, functions, full, simple_by, empty, value_by, return_by, block_by, stmt_by, item_by, items_by, texts_name, perhaps_const, count_and_texts, parameters, head, body_by, function_by, functions_by, body, read}
-use Rattle.arc_parse.proofs.Leaves.{sound_expect, sound_keyword, sound_name, sound_the_name}
+use Rattle.arc_parse.specs.UnitRules.{Rule, Node, Rules, items, functions, full, simple_by, empty, value_by, return_by, block_by, stmt_by, item_by, items_by, body_by, function_by, functions_by, body, read}
+use Rattle.arc_parse.proofs.Leaves.{sound_expect, sound_keyword}
 use Rattle.arc_parse.proofs.Sound.{Sound, sound_then, sound_ret, sound_if}
 use Rattle.arc_parse.proofs.SoundTo.{SoundTo, to_then, to_ret, to_unexpected, to_if, to_of, to_as}
 use Rattle.arc_parse.proofs.Limited.{up_to_sound}
 use Rattle.arc_parse.proofs.ExprSound as exprs
+use Rattle.arc_parse.proofs.HeadFirst.{head_viable}
 
 sound_plain : {A : Type 0} {f : Reader A} {L : A → Language} → Sound f L → Sound (plain f) L
 unfolding plain
@@ -39,78 +38,6 @@ to_nested {A = A} {f = f} {L = L} (Some n) d test s = go (is_above (Some n) d) r
 -- the last part of a rule
 last : (L : Language) (xs : List Tok) → L xs → L (xs ++ [])
 last L xs x = subst L (sym (append-nil xs)) x
-
--- ---- the head of a function
-
-texts_name_sound : Sound texts_name (λ _. TextsName)
-unfolding texts_name
-texts_name_sound = sound_if _
-    (sound_then (sound_expect _) (λ star. sound_then sound_name (λ n. sound_ret tt
-    (λ ys y xs x. inr (xs, ys ++ [], refl, (star, x), last SomeName ys (n.0, n.1, y))))))
-    (sound_then sound_name (λ n. sound_then (sound_expect _) (λ start. sound_then (sound_expect _) (λ end. sound_ret tt
-    (λ zs z ys y xs x. inl (xs, ys ++ (zs ++ []), refl, (n.0, n.1, x), (ys, zs ++ [], refl, (start, y), last (The m.CloseSquare) zs (end, z))))))))
-
-perhaps_const_sound : Sound perhaps_const (λ _. Nothing ∣ TheWord w.Const)
-unfolding perhaps_const
-perhaps_const_sound = sound_if _ (sound_then (sound_keyword _) (λ const. sound_ret tt (λ xs x. inr (last (TheWord w.Const) xs (const, x))))) (sound_ret tt (inl refl))
-
-count_and_texts_sound : Sound count_and_texts SpellsParameters
-unfolding count_and_texts
-count_and_texts_sound = sound_then (sound_keyword _) (λ int. sound_then sound_name (λ n. sound_then (sound_expect _) (λ comma. sound_then perhaps_const_sound (λ const.
-    sound_then (sound_keyword _) (λ char. sound_then (sound_expect _) (λ star. sound_then texts_name_sound (λ texts. sound_ret parameter.CountAndTexts
-    (λ gs g fs f es e ds d cs c bs b as' a. (
-      as',
-      bs ++ (cs ++ (ds ++ (es ++ (fs ++ (gs ++ []))))),
-      refl,
-      (int, a),
-      (
-        bs,
-        cs ++ (ds ++ (es ++ (fs ++ (gs ++ [])))),
-        refl,
-        (n.0, n.1, b),
-        (
-          cs,
-          ds ++ (es ++ (fs ++ (gs ++ []))),
-          refl,
-          (comma, c),
-          (
-            ds,
-            es ++ (fs ++ (gs ++ [])),
-            refl,
-            d,
-            (
-              es,
-              fs ++ (gs ++ []),
-              refl,
-              (char, e),
-              (fs, gs ++ [], refl, (star, f), last TextsName gs g),
-            ),
-          ),
-        ),
-      ),
-    )))))))))
-
-parameters_sound : Sound parameters SpellsParameters
-unfolding parameters
-parameters_sound = sound_if _ (sound_ret parameter.Nothing (inl refl))
-    (sound_if _ (sound_then (sound_keyword _) (λ void. sound_ret parameter.Nothing (λ xs x. inr (last (TheWord w.Void) xs (void, x))))) count_and_texts_sound)
-
-pub head_sound : Sound head (λ h. SpellsHead h.0 h.1)
-unfolding head
-head_sound = sound_then (sound_keyword _) (λ int. sound_then (sound_the_name _) (λ at. sound_then (sound_expect _) (λ start. sound_then parameters_sound (λ ps. sound_then (sound_expect _) (λ end. sound_ret (at, ps)
-    (λ es e ds d cs c bs b as' a. (
-      as',
-      bs ++ (cs ++ (ds ++ (es ++ []))),
-      refl,
-      (int, a),
-      (
-        bs,
-        cs ++ (ds ++ (es ++ [])),
-        refl,
-        b,
-        (cs, ds ++ (es ++ []), refl, (start, c), (ds, es ++ [], refl, d, last (The m.CloseParen) es (end, e))),
-      ),
-    )))))))
 
 -- what each rule gives is spelled by what it takes, and the functions go up to the end
 abbrev pub Given : Limits → (rule : Rule) → Node rule → List Tok → Language
@@ -177,7 +104,7 @@ module _ (limits : Limits) where
 
     pub function_sound : SoundTo (function_by g) (λ f r. SpellsFunction limits f)
     unfolding function_by
-    function_sound = to_then (to_of head_sound) (λ h. to_then body_by_sound (λ b. to_ret (record { at = h.0; parameters = h.1; body = b })
+    function_sound = to_then (to_of head_viable.sound) (λ h. to_then body_by_sound (λ b. to_ret (record { at = h.0; parameters = h.1; body = b })
         (λ r ys y xs x. (xs, ys ++ [], refl, x, last (SpellsBody limits b) ys y))))
 
     functions_sound : SoundTo (functions_by g) (Given limits functions)

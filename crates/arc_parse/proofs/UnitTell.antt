@@ -17,7 +17,8 @@ use Rattle.arc_parse.proofs.SoundTo.{to_of}
 use Rattle.arc_parse.proofs.Tells.{Never, never_then, never_ret, never_token, never_if, Tells, tells_never, tells_then, tells_if, tells_as, tells_nested, differ}
 use Rattle.arc_parse.proofs.FullTell.{full_tells}
 use Rattle.arc_parse.proofs.Local.{fault_of}
-use Rattle.arc_parse.proofs.UnitSound.{AreSound, head_sound, full_sound, value_sound, item_sound, body_by_sound, function_sound, deep_sound}
+use Rattle.arc_parse.proofs.HeadFirst.{head_viable}
+use Rattle.arc_parse.proofs.UnitSound.{AreSound, full_sound, value_sound, item_sound, body_by_sound, function_sound, deep_sound}
 
 -- ---- the head of a function never is
 
@@ -122,7 +123,7 @@ module _ (limits : Limits) where
 
     function_tells : Tells (function_by g) (Told limits functions)
     unfolding function_by
-    function_tells = tells_then (to_of head_sound) (tells_never head_never) (λ h. tells_then (body_by_sound limits g sound) (body_by_tells h.0 h.1) (λ b. tells_never (never_ret _)))
+    function_tells = tells_then (to_of head_viable.sound) (tells_never head_never) (λ h. tells_then (body_by_sound limits g sound) (body_by_tells h.0 h.1) (λ b. tells_never (never_ret _)))
 
     functions_tells : Tells (functions_by g) (Told limits functions)
     unfolding functions_by
