@@ -1,3 +1,5 @@
 pub mod Piles
 pub mod Stepped
 pub mod Farther
+pub mod Sample
+pub mod Shown

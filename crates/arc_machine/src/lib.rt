@@ -6,3 +6,5 @@ pub mod fault;
 pub mod machine;
 pub mod stack;
 pub mod stop;
+#[cfg(test)]
+mod tests;
