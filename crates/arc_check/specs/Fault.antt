@@ -1,6 +1,6 @@
 -- What an answer that is no checked program says.
-use Rattle.std.specs.Prelude.{◌≡◌, ℕ, List, Some, codes}
-use Rattle.arc_class.specs.Broken.{Broken, first}
+use Rattle.std.specs.Prelude.{ℕ, List, codes}
+use Rattle.arc_class.specs.Broken.{Broken, IsFirst}
 use Rattle.arc_check.specs.declared.fault.CheckFault.{CheckFault}
 use Rattle.arc_check.specs.declared.fault.CheckFault.TheVariants as f
 
@@ -34,7 +34,7 @@ told f = record { at = fault_at f; number = fault_number f }
 -- when each fault is answered: it tells the first of all broken rules. Want of memory may come at any source
 abbrev pub Refuses : List Broken → CheckFault → Type 0
 Refuses all f.Memory = Unit {0}
-Refuses all (f.UnknownName at) = first all ≡ Some (told (f.UnknownName at))
-Refuses all (f.KindMismatch at) = first all ≡ Some (told (f.KindMismatch at))
-Refuses all (f.ArgumentCount at) = first all ≡ Some (told (f.ArgumentCount at))
-Refuses all (f.Format at) = first all ≡ Some (told (f.Format at))
+Refuses all (f.UnknownName at) = IsFirst all (told (f.UnknownName at))
+Refuses all (f.KindMismatch at) = IsFirst all (told (f.KindMismatch at))
+Refuses all (f.ArgumentCount at) = IsFirst all (told (f.ArgumentCount at))
+Refuses all (f.Format at) = IsFirst all (told (f.Format at))

@@ -10,11 +10,11 @@ use Rattle.arc_class.specs.Fault.{told, Refuses}
 use Rattle.arc_class.specs.Functions.{has_body, duplicates, no_main, broken}
 use Rattle.arc_class.specs.Look.{Sums, IsBody}
 use Rattle.arc_class.specs.Table.{body_at}
-use Rattle.arc_class.proofs.Firsts.{first-append, earlier_of-none, none_broken}
+use Rattle.arc_class.proofs.Firsts.{first-append, earlier_of-none, first_is_first, none_broken}
 
 pub refuses : (all : List Broken) (fault : ClassFault) → first all ≡ Some (told fault) → Refuses all fault
-refuses all (f.Duplicate at) h = h
-refuses all f.NoMain h = h
+refuses all (f.Duplicate at) h = first_is_first all (told (f.Duplicate at)) h
+refuses all f.NoMain h = first_is_first all (told f.NoMain) h
 refuses all f.Memory h = tt
 
 first_known : (fs : List FunctionTree) (seen : Seen) → Sums fs seen → first (broken fs) ≡ earlier_of (option_map told seen.fault) (first (no_main fs))

@@ -1,8 +1,8 @@
 -- What an answer that is no table says.
-use Rattle.std.specs.Prelude.{◌≡◌, ℕ, List, Some, codes}
+use Rattle.std.specs.Prelude.{ℕ, List, codes}
 use Rattle.arc_class.specs.declared.fault.ClassFault.{ClassFault}
 use Rattle.arc_class.specs.declared.fault.ClassFault.TheVariants as f
-use Rattle.arc_class.specs.Broken.{Broken, first}
+use Rattle.arc_class.specs.Broken.{Broken, IsFirst}
 
 -- the number of a fault, under which the compiler's users know it
 abbrev pub fault_number : ClassFault → ℕ
@@ -28,5 +28,5 @@ told f = record { at = fault_at f; number = fault_number f }
 -- when each fault is answered: it tells the first of all broken rules. Want of memory may come at any source
 abbrev pub Refuses : List Broken → ClassFault → Type 0
 Refuses all f.Memory = Unit {0}
-Refuses all f.NoMain = first all ≡ Some (told f.NoMain)
-Refuses all (f.Duplicate at) = first all ≡ Some (told (f.Duplicate at))
+Refuses all f.NoMain = IsFirst all (told f.NoMain)
+Refuses all (f.Duplicate at) = IsFirst all (told (f.Duplicate at))
