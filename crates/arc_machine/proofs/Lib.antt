@@ -3,3 +3,4 @@ pub mod Stepped
 pub mod Farther
 pub mod Sample
 pub mod Shown
+pub mod Chained
