@@ -32,7 +32,7 @@ take_twice zero ts = refl
 take_twice (suc n) [] = refl
 take_twice (suc n) (t ∷ ts) = ap (λ v. t ∷ v) (take_twice n ts)
 
-drop_front : (b r : List Tok) → drop (length b) (b ++ r) ≡ r
+pub drop_front : (b r : List Tok) → drop (length b) (b ++ r) ≡ r
 drop_front [] r = refl
 drop_front (t ∷ b) r = drop_front b r
 

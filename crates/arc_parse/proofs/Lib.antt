@@ -25,3 +25,5 @@ pub mod UnitTell
 pub mod Unit
 pub mod UnitFix
 pub mod UnitRows
+pub mod ExprEnds
+pub mod UnitDeep

@@ -37,7 +37,7 @@ parameters_read parameter.CountAndTexts ts rest (as', us, c, (i, (t, ca, sa, pa)
     let constant = const_reads ds (x ∷ y ∷ (gs ++ rest)) const (ap (is_word w.Const) se) in
     rw (line, sa, sb, sc, constant, se, sf, texts_reads gs rest texts) refl
 
-head_reads : (at : ℕ) (ps : Parameters) (ts rest : List Tok) → SpellsHead at ps ts → head (ts ++ rest) ≡ Ok ((at, ps), rest)
+pub head_reads : (at : ℕ) (ps : Parameters) (ts rest : List Tok) → SpellsHead at ps ts → head (ts ++ rest) ≡ Ok ((at, ps), rest)
 unfolding head
 head_reads at ps ts rest (as', us, c, (i, (t, ca, sa, pa)), (bs, vs, d, (u, cb, sb, pb), (cs, ws, f, (o, (v, cc', sc, pc)), (ds, es, g, p, (e, (x, ce, se, pe)))))) =
     let line : ts ++ rest ≡ t ∷ u ∷ v ∷ (ds ++ (x ∷ rest)) = rw (c, ca, d, cb, f, cc', g, ce) (ap (λ z. t ∷ u ∷ v ∷ z) (append_assoc ds (x ∷ []) rest)) in
@@ -49,7 +49,7 @@ cut_fits : {A : Type 0} (most : Option ℕ) (ts rest : List Tok) (a : A) → AtM
 cut_fits None ts rest a p = refl
 cut_fits (Some n) ts rest a p = rw (le-ltb (length rest + n) (length (ts ++ rest)) (omega (arith, length-append ts rest))) refl
 
-nested_fits : {A : Type 0} (most : Option ℕ) (d : ℕ) (test : Tok → Bool) (f : Reader A) (ts : List Tok) → AtMost most d → nested most d test f ts ≡ f ts
+pub nested_fits : {A : Type 0} (most : Option ℕ) (d : ℕ) (test : Tok → Bool) (f : Reader A) (ts : List Tok) → AtMost most d → nested most d test f ts ≡ f ts
 unfolding nested
 nested_fits None d test f ts p = refl
 nested_fits (Some n) d test f ts p = rw (le-ltb n d p) refl
@@ -122,7 +122,7 @@ module _ (limits : Limits) where
       rw (c, append_assoc xs ys rest) (read_is limits (items d) (xs ++ (ys ++ rest)) ∙ rw (one.1, item, j ys rest y e) refl)
 
   mutual
-    complete_stmt : (s : StmtTree) (d : ℕ) → Reads d s
+    pub complete_stmt : (s : StmtTree) (d : ℕ) → Reads d s
     complete_stmt (Block at all) d = block_reads d at all (complete_stmts all (suc d))
     complete_stmt (Empty at) d = empty_reads d at
     complete_stmt (Simple e) d = simple_reads d e
@@ -141,12 +141,12 @@ module _ (limits : Limits) where
       let line : ts ++ rest ≡ t ∷ (ys ++ (u ∷ rest)) = rw (p, ct, q, cu) (ap (λ v. t ∷ v) (append_assoc ys (u ∷ []) rest)) in
       rw (line, st, complete_stmts all 2 ys (u ∷ rest) y (ap (is_mark m.CloseBrace) su), su) refl
 
-  function_reads : (f : FunctionTree) (ts rest : List Tok) → SpellsFunction limits f ts → function_by (read limits) (ts ++ rest) ≡ Ok (f, rest)
+  pub function_reads : (f : FunctionTree) (ts rest : List Tok) → SpellsFunction limits f ts → function_by (read limits) (ts ++ rest) ≡ Ok (f, rest)
   unfolding function_by
   function_reads f ts rest (hs, bs, c, h, b) = rw (c, append_assoc hs bs rest, head_reads f.at f.parameters hs (bs ++ rest) h, body_reads f.body bs rest b) refl
 
   -- a function begins with a token
-  head_more : (at : ℕ) (ps : Parameters) (ts rest : List Tok) → SpellsHead at ps ts → begins any (ts ++ rest) ≡ true
+  pub head_more : (at : ℕ) (ps : Parameters) (ts rest : List Tok) → SpellsHead at ps ts → begins any (ts ++ rest) ≡ true
   head_more at ps ts rest (as', us, c, (i, (t, ca, sa, pa)), h) = rw (c, ca) refl
 
   pub complete_unit : (fs : List FunctionTree) (ts : List Tok) → SpellsUnit limits fs ts → read limits functions ts ≡ Ok (fs, [])

@@ -27,10 +27,11 @@ abbrev pub BeginsUnit : List Tok → Type 0
 BeginsUnit before = (others : List Tok) × (u : List FunctionTree) × SpellsUnit unlimited u (before ++ others)
 
 -- The token at this place is the first one such that no list that a unit spells begins with the tokens up to and including it;
--- or the place is the end, a unit begins with the tokens, and none spells them.
+-- or the place is the end, a unit begins with the tokens, and none spells them. No limit is passed there.
 abbrev pub FitsNone : List Tok → ℕ → Type 0
 FitsNone all at = (before rest : List Tok) × (all ≡ before ++ rest) × (at ≡ place_of all rest) × BeginsUnit before
     × ((others : List Tok) (u : List FunctionTree) → first others ≡ first rest → SpellsUnit unlimited u (before ++ others) → ⊥)
+    × (TooDeep these before rest → ⊥)
 
 -- The token at this place passes a limit.
 abbrev pub PassesLimit : List Tok → ℕ → Type 0
