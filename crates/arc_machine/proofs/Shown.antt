@@ -1,9 +1,8 @@
 -- What a run from the start shows, where the input is known.
-use Rattle.std.proofs.Common.{◌≡◌, ℕ, List, [], ◌++◌, Option, Some, None, refl, ap, ◌∙◌}
+use Rattle.std.proofs.Common.{◌≡◌, ℕ, List, Option, Some, None, refl, ap, ◌∙◌}
 use Rattle.arc_spec.specs.declared.event.Event.{Event}
-use Rattle.arc_spec.specs.Correct.{Sight, run_seen}
-use Rattle.arc_spec.specs.Stepping.{Running, after_steps}
-use Rattle.arc_code.specs.Running.{Program, State, step, seen}
+use Rattle.arc_spec.specs.Correct.{run_seen}
+use Rattle.arc_code.specs.Running.{Program, State, seen}
 use Rattle.arc_machine.specs.declared.stop.Answer.{Answer}
 use Rattle.arc_machine.specs.declared.stop.Answer.TheVariants as answer
 use Rattle.arc_machine.specs.Views.{Seen, fresh}
