@@ -173,52 +173,70 @@ fn body_fault(
 #[test]
 fn limits(rt: HostRuntime) -> Result<(), Fail> {
     let alloc = rt.alloc();
-    // 499 pairs of parentheses around `1`, 999 tokens; and around `-1`, 1,000; around `1+1`, 1,001
+    // 999 tokens that are whole, 1,000 and 1,001
+    assert_eq!(rt; body_fault(alloc, b"1+", 499, b"", b"1", b";}")?, None);
+    assert_eq!(rt; body_fault(alloc, b"1+", 499, b"", b"-1", b";}")?, None);
+    assert_eq!(rt;
+        body_fault(alloc, b"1+", 499, b"", b"1+1", b";}")?,
+        Some(ParseFault::TooDeep(1011))
+    );
+    // 1,000 tokens that are whole, and what does not go on with them, or does
+    assert_eq!(rt;
+        body_fault(alloc, b"1+", 499, b"", b"-1", b"]")?,
+        Some(ParseFault::Unexpected(1011))
+    );
+    assert_eq!(rt;
+        body_fault(alloc, b"1+", 499, b"", b"-1", b"")?,
+        Some(ParseFault::Unexpected(1011))
+    );
+    assert_eq!(rt;
+        body_fault(alloc, b"1+", 499, b"", b"-1", b"*")?,
+        Some(ParseFault::TooDeep(1011))
+    );
+    // 1,000 tokens that are not whole, and one more, or none
+    assert_eq!(rt;
+        body_fault(alloc, b"1+", 500, b"", b"", b"]")?,
+        Some(ParseFault::TooDeep(1011))
+    );
+    assert_eq!(rt;
+        body_fault(alloc, b"1+", 500, b"", b"", b"")?,
+        Some(ParseFault::Unexpected(1011))
+    );
+    // 198 blocks in the body, which is one itself, 199 and 200
+    assert_eq!(rt; body_fault(alloc, b"{", 198, b"}", b"", b"}")?, None);
+    assert_eq!(rt; body_fault(alloc, b"{", 199, b"}", b"", b"}")?, None);
+    assert_eq!(rt;
+        body_fault(alloc, b"{", 200, b"}", b"", b"}")?,
+        Some(ParseFault::TooDeep(210))
+    );
+    // what begins a statement there is too deep, and what does not is unexpected
+    assert_eq!(rt;
+        body_fault(alloc, b"{", 199, b"}", b"r1;", b"}")?,
+        Some(ParseFault::TooDeep(210))
+    );
+    assert_eq!(rt;
+        body_fault(alloc, b"{", 199, b"}", b"+", b"}")?,
+        Some(ParseFault::Unexpected(210))
+    );
+    Ok(())
+}
+
+/// What takes the most stack, and the most statements of a source of 1 MiB; for the built tests alone.
+#[test]
+fn deepest(rt: HostRuntime) -> Result<(), Fail> {
+    let alloc = rt.alloc();
     assert_eq!(rt; body_fault(alloc, b"(", 499, b")", b"1", b";}")?, None);
     assert_eq!(rt; body_fault(alloc, b"(", 499, b")", b"-1", b";}")?, None);
     assert_eq!(rt;
         body_fault(alloc, b"(", 499, b")", b"1+1", b";}")?,
         Some(ParseFault::TooDeep(1011))
     );
-    // 1,000 tokens that are whole, and what does not go on with them
     assert_eq!(rt;
-        body_fault(alloc, b"(", 499, b")", b"-1", b"]")?,
-        Some(ParseFault::Unexpected(1011))
-    );
-    assert_eq!(rt;
-        body_fault(alloc, b"(", 499, b")", b"-1", b"")?,
-        Some(ParseFault::Unexpected(1011))
-    );
-    assert_eq!(rt;
-        body_fault(alloc, b"(", 499, b")", b"-1", b"+")?,
+        body_fault(alloc, b"(", 1000, b"", b"", b"(")?,
         Some(ParseFault::TooDeep(1011))
     );
-    // 1,000 tokens that are not whole, and one more, or none
-    assert_eq!(rt;
-        body_fault(alloc, b"(", 1000, b"", b"", b"]")?,
-        Some(ParseFault::TooDeep(1011))
-    );
-    assert_eq!(rt;
-        body_fault(alloc, b"(", 1000, b"", b"", b"")?,
-        Some(ParseFault::Unexpected(1011))
-    );
-    // the deepest operands and the most operators
     assert_eq!(rt; body_fault(alloc, b"-", 999, b"", b"1", b";}")?, None);
-    assert_eq!(rt; body_fault(alloc, b"1*", 499, b"", b"1", b";}")?, None);
-    // 199 blocks in the body, which is one itself; 200
-    assert_eq!(rt; body_fault(alloc, b"{", 199, b"}", b"", b"}")?, None);
-    assert_eq!(rt;
-        body_fault(alloc, b"{", 200, b"}", b"", b"}")?,
-        Some(ParseFault::TooDeep(210))
-    );
-    assert_eq!(rt;
-        body_fault(alloc, b"{", 199, b"}", b"r1;", b"}")?,
-        Some(ParseFault::TooDeep(210))
-    );
-    // a token with which no statement begins is not too deep
-    assert_eq!(rt;
-        body_fault(alloc, b"{", 199, b"}", b"+", b"}")?,
-        Some(ParseFault::Unexpected(210))
-    );
+    assert_eq!(rt; body_fault(alloc, b"f(", 333, b")", b"1", b";}")?, None);
+    assert_eq!(rt; body_fault(alloc, b";", 1000000, b"", b"", b"}")?, None);
     Ok(())
 }
