@@ -72,7 +72,7 @@ impl From<AllocError> for CheckFault {
     ghost from_gives = { λ _ fault. fault ≡ Memory };
 
     fn from(_error: AllocError) -> CheckFault {
-        CheckFault::Memory
+        Self::Memory
     }
 }
 
