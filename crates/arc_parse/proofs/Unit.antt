@@ -9,7 +9,7 @@ use Rattle.arc_parse.specs.Grammar.{SpellsUnit}
 use Rattle.arc_parse.specs.UnitRules.{functions, unit}
 use Rattle.arc_parse.specs.TooDeep.{TooDeep}
 use Rattle.arc_parse.specs.Refusal.{BeginsUnit, FitsNone, place_of}
-use Rattle.arc_parse.proofs.Local.{StopsAt, rest_of, fault_of}
+use Rattle.arc_parse.proofs.Local.{StopsAlike, rest_of, fault_of}
 use Rattle.arc_parse.proofs.Sound.{ok_is}
 use Rattle.arc_parse.proofs.UnitLocal.{read_local}
 use Rattle.arc_parse.proofs.UnitSound.{read_sound}
@@ -54,7 +54,7 @@ unit_refuses ts rest limited = go (unit unlimited ts) e ((read_local unlimited (
     not_deep : (before : List Tok) → ts ≡ before ++ rest → TooDeep these before rest → ⊥
     not_deep before cut h = differ (ap fault_of (sym limited ∙ ap (unit these) cut ∙ deep_refused h some_room))
 
-    go : (x : Read (List FunctionTree)) → x ≡ Err (misfit, rest) → StopsAt 0 x (unit unlimited) ts → FitsNone ts (place_of ts rest)
+    go : (x : Read (List FunctionTree)) → x ≡ Err (misfit, rest) → StopsAlike 0 x (unit unlimited) ts → FitsNone ts (place_of ts rest)
     go (Ok x) e s = cc
     go (Err r) e s =
         let same : r.1 ≡ rest = ap rest_of e in

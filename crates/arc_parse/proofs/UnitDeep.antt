@@ -13,7 +13,7 @@ use Rattle.arc_parse.specs.Grammar.{SpellsStmts, SpellsHead, SpellsUnit}
 use Rattle.arc_parse.specs.ExprRules.{expr}
 use Rattle.arc_parse.specs.UnitRules.{items, functions, begins_expr, begins_stmt, full, simple_by, value_by, return_by, block_by, stmt_by, item_by, items_by, body_by, function_by, functions_by, read, unit}
 use Rattle.arc_parse.specs.TooDeep.{BeginsItem, in_body, in_block, BeginsFull, of_simple, of_return, AllLonger, Starts, TooDeep, statement, expression}
-use Rattle.arc_parse.proofs.Local.{StopsAt, rest_of, put}
+use Rattle.arc_parse.proofs.Local.{StopsAlike, rest_of, leaving}
 use Rattle.arc_parse.proofs.Front.{whole, plain_whole, plain_is, drop_front}
 use Rattle.arc_parse.proofs.ExprLocal as exprs_local
 use Rattle.arc_parse.proofs.ExprSound as exprs_sound
@@ -63,7 +63,7 @@ module _ (xs : List Tok) (t : Tok) (rest : List Tok) (starts : Starts xs) (longe
       stops x h o s
     where
       stops : (x : Fault × List Tok) → whole (xs ++ (t ∷ rest)) ≡ Err x → goes_over (length xs) (xs ++ (t ∷ rest)) (plainly {A = ExprTree} (Err x)) ≡ false
-          → StopsAt 1 (whole (xs ++ (t ∷ rest))) whole (xs ++ (t ∷ rest)) → ⊥
+          → StopsAlike 1 (whole (xs ++ (t ∷ rest))) whole (xs ++ (t ∷ rest)) → ⊥
       stops x h o s =
           let left : rest_of (whole (xs ++ (t ∷ rest))) ≡ x.1 = ap rest_of h in
           let cut : xs ++ (t ∷ rest) ≡ s.before ++ x.1 = s.cut ∙ ap (λ v. s.before ++ v) left in
@@ -74,11 +74,11 @@ module _ (xs : List Tok) (t : Tok) (rest : List Tok) (starts : Starts xs) (longe
           let good = starts_read xs starts in
           let line : xs ++ good.1 ≡ s.before ++ ((q.0 ∷ q.1) ++ good.1) = ap (λ v. v ++ good.1) q.2 ∙ append_assoc s.before (q.0 ∷ q.1) good.1 in
           let bad : whole (s.before ++ ((q.0 ∷ q.1) ++ good.1)) ≡ Err (x.0, (q.0 ∷ q.1) ++ good.1) =
-          s.same ((q.0 ∷ q.1) ++ good.1) (sym (ap first left ∙ q.3)) ∙ put_err h ((q.0 ∷ q.1) ++ good.1) in
+          s.same ((q.0 ∷ q.1) ++ good.1) (sym (ap first left ∙ q.3)) ∙ leaving_err h ((q.0 ∷ q.1) ++ good.1) in
           ok_not_err good.2 (ap whole line ∙ bad)
         where
-          put_err : {y : Read ExprTree} → y ≡ Err x → (us : List Tok) → put y us ≡ Err (x.0, us)
-          put_err e us = ap (λ z. put z us) e
+          leaving_err : {y : Read ExprTree} → y ≡ Err x → (us : List Tok) → leaving y us ≡ Err (x.0, us)
+          leaving_err e us = ap (λ z. leaving z us) e
 
   over : goes_over (length xs) all (plain_whole all) ≡ true
   over = go (goes_over (length xs) all (plain_whole all)) refl
