@@ -1,5 +1,5 @@
 -- The stages one after another.
-use Rattle.std.proofs.Common.{◌≡◌, ℕ, List, [], codes, refl, sym, ap, subst, ◌∙◌}
+use Rattle.std.proofs.Common.{◌≡◌, ℕ, List, [], refl, sym, ap, subst, ◌∙◌}
 use Rattle.arc_lex.specs.declared.token.Token.{Token}
 use Rattle.arc_lex.specs.Tokens.{toks}
 use Rattle.arc_lex.specs.Source.{Tokens}
@@ -14,8 +14,7 @@ use Rattle.arc_check.specs.declared.checked.Checked.{Checked}
 use Rattle.arc_check.specs.Checked.{body_of}
 use Rattle.arc_check.specs.Rules.{broken_stmts, main_body}
 use Rattle.arc_check.specs.Resolving.{resolved_stmts}
-use Rattle.arc_spec.specs.Meaning.{mean}
-use Rattle.arc_spec.specs.Correct.{Behaves, Refines, Steady, meaning_seen}
+use Rattle.arc_spec.specs.Correct.{Refines, Steady}
 use Rattle.arc_spec.proofs.Composition.{composed}
 use Rattle.arc_ir.specs.declared.action.Action.{Action}
 use Rattle.arc_ir.specs.Acting as acting

@@ -1,15 +1,13 @@
 -- What a run of compiled code shows, and that it is what the source means.
-use Rattle.std.proofs.Common.{◌≡◌, ℕ, suc, ◌⊎◌, ◌+◌, ◌-◌, ◌^◌, ◌<◌, ◌≤◌, List, [], ◌∷◌, ◌++◌, Option, Some, None, Result, Ok, Err, refl, sym, ap, ◌∙◌, subst, append_assoc, ⊎_elim, arith}
+use Rattle.std.proofs.Common.{◌≡◌, ℕ, suc, ◌⊎◌, ◌+◌, ◌-◌, ◌^◌, ◌<◌, ◌≤◌, List, [], ◌∷◌, ◌++◌, Option, Some, Result, Ok, Err, refl, sym, ap, ◌∙◌, subst, append_assoc, ⊎_elim, arith}
 use Rattle.std.proofs.lemmas.List.{append-nil}
 use Rattle.std.specs.Io.KnownBytes.{Appends, Consumes, Keeps}
 use Rattle.std.proofs.KnownBytes.{Appends-kept}
 use Rattle.arc_spec.specs.declared.event.Event.{Event}
 use Rattle.arc_spec.specs.declared.event.Event.TheVariants.{Byte}
-use Rattle.arc_spec.specs.Stepping as stepping
-use Rattle.arc_spec.specs.Stepping.{Next, Goes, Asks, Ends, Faults, Stuck, Reached, Running, follow, fed, further, after_steps}
+use Rattle.arc_spec.specs.Stepping.{Next, Goes, Asks, Ends, Faults, Stuck, Running, follow, further, after_steps}
 use Rattle.arc_spec.specs.Correct as correct
 use Rattle.arc_spec.specs.Correct.{IsPrefix, Sight, Behaves, Steady, run_seen}
-use Rattle.arc_spec.proofs.Steadiness.{prefix_trans}
 use Rattle.arc_code.specs.declared.code.IoFault.TheVariants.{Read, Write}
 use Rattle.arc_code.specs.Running.{Program, State, start, step, seen}
 use Rattle.arc_machine.specs.declared.stop.Stop.{Stop}
@@ -20,7 +18,6 @@ use Rattle.arc_machine.specs.Views.{Seen, fresh, said}
 use Rattle.arc_machine.specs.Runs.{Leaves, Writes, Runs, reached, next_bytes}
 use Rattle.arc_machine.specs.Steps.{bytes_of}
 use Rattle.arc_tool.specs.declared.run.ToolFault.{ToolFault}
-use Rattle.arc_tool.specs.declared.run.ToolFault.TheVariants.{Io}
 use Rattle.arc_tool.specs.Accepted.{Compiles, meant}
 use Rattle.arc_tool.specs.declared.refusal.Refusal.{Refusal}
 use Rattle.arc_tool.specs.Refused.{IsRefusal}

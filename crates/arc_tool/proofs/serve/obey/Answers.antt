@@ -1,8 +1,5 @@
-use Rattle.std.proofs.Common.{◌≡◌, Err, sym, ap, subst, ◌∙◌}
 use Rattle.std.proofs.lemmas.Result.{err_from_is_err_and}
 use Rattle.arc_code.specs.Counting.{left_in, held_by}
-use Rattle.arc_tool.specs.declared.request.Command.{Command}
-use Rattle.arc_tool.specs.Served.{Obeyed}
 use Rattle.arc_tool.proofs.Serving.{run_refused}
 use Rattle.arc_tool.proofs.serve.obey.Goals as goal
 
