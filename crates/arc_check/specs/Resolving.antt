@@ -35,8 +35,8 @@ behind_first (and_value a others) = others
 -- a call, from its arguments and their values
 abbrev pub called : Callee → ExprTrees → Values → Value
 called Printf arguments values = Print (printed (parts Nothing (format arguments))) (behind_first values)
-called GetChar arguments values = ReadByte
-called Unknown arguments values = ReadByte
+called GetChar arguments given = ReadByte
+called Unknown arguments given = ReadByte
 
 -- an expression; a text is resolved with its call, and what stands here for one alone is never asked for
 abbrev mutual
