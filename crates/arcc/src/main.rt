@@ -5,6 +5,7 @@ mod source;
 
 use crate::source::read_source;
 use arc_code::counted::Counted;
+use arc_tool::report::{Trouble, status, tell};
 use arc_tool::request::{Words, WordsFault};
 use arc_tool::serve::{FileFault, serve};
 use arc_tool::words::words;
@@ -26,26 +27,24 @@ fn called_with(rt: &HostRuntime) -> Result<Words, WordsFault> {
     }
 }
 
-/// The status where not even the buffers of the standard streams have memory.
-const NO_MEMORY: u8 = 102;
-
 fn main(rt: HostRuntime) -> ExitCode {
     let alloc = rt.alloc();
+    let mut errors = Counted::new(rt.stderr());
     let (Ok(input), Ok(output)) = (
         BufReader::new(alloc, rt.stdin()),
         BufWriter::new(alloc, rt.stdout()),
     ) else {
-        return ExitCode::from(NO_MEMORY);
+        let _ = tell(&Trouble::Memory, &mut errors);
+        return ExitCode::from(status(&Trouble::Memory));
     };
     let mut input = Counted::new(input);
     let mut output = Counted::new(output);
-    let mut errors = Counted::new(rt.stderr());
     let words = called_with(&rt);
     let bytes = match &words {
         Ok(words) => read_source(&rt, words.file.as_str()),
         Err(_) => Err(FileFault::Failed),
     };
-    let status = match &bytes {
+    let done = match &bytes {
         Ok(bytes) => serve(
             alloc,
             words,
@@ -63,5 +62,5 @@ fn main(rt: HostRuntime) -> ExitCode {
             &mut errors,
         ),
     };
-    ExitCode::from(status)
+    ExitCode::from(done)
 }
