@@ -5,6 +5,7 @@ use arc_code::counted::Counted;
 use arc_machine::stop::Stop;
 use arc_plain::interpret::PlainStop;
 use arc_spec::event::Fault;
+use std::alloc::Global;
 use std::test::Fail;
 
 #[test]
@@ -80,6 +81,33 @@ fn a_writer_that_fails(rt: HostRuntime) -> Result<(), Fail> {
     assert!(rt; answer == Err(ToolFault::Io(IoFault::Write)));
     assert_eq!(rt; writer.get_ref().taken.as_slice(), b"ab".as_slice());
     assert_eq!(rt; writer.failures(), 1);
+    Ok(())
+}
+
+/// Whether a writer that has no room for the whole text, wherever it ends, holds what it had room for and is
+/// told as the fault.
+fn breaks_anywhere(alloc: Global, source: &[u8], text: &[u8]) -> bool {
+    for room in 0..text.len() {
+        let mut reader = Counted::new(b"".as_slice());
+        let mut writer = with_room(alloc, room);
+        let answer = run_text(alloc, source, 1_048_576, 1000, &mut reader, &mut writer);
+        if answer != Err(ToolFault::Io(IoFault::Write)) {
+            return false;
+        }
+        if writer.get_ref().taken.as_slice() != &text[..room] {
+            return false;
+        }
+    }
+    true
+}
+
+#[test]
+fn a_writer_that_fails_at_each_byte(rt: HostRuntime) -> Result<(), Fail> {
+    let alloc = rt.alloc();
+    let quotients = b"int main(void) { printf(\"%d%d\", 2 + 3 * 4, -7 / 2); return 1 / 0; }";
+    assert!(rt; breaks_anywhere(alloc, quotients, b"14-3"));
+    let letters = b"int main(void) { printf(\"abcdef\"); }";
+    assert!(rt; breaks_anywhere(alloc, letters, b"abcdef"));
     Ok(())
 }
 
