@@ -1,2 +1,7 @@
 //! Writes actions as instructions.
 #![tactic(auto)]
+
+pub mod emit;
+pub mod fault;
+mod pieces;
+mod room;

@@ -6,6 +6,9 @@ pub mod Marks
 pub mod NameLaw
 pub mod NumberLaw
 pub mod Numbers
+pub mod OneAnswer
+pub mod OneRule
+pub mod OneSort
 pub mod ReadTexts
 pub mod Runs
 pub mod Tables

@@ -11,7 +11,7 @@ use Rattle.arc_lex.specs.declared.spelling.TheConstants.{MARKS, WORDS, AT_WORDS}
 use Rattle.arc_lex.specs.Bytes.{all_in, begins, is_letter, is_digit, is_blank}
 use Rattle.arc_lex.specs.Spellings.{mark_bytes, word_bytes, at_bytes}
 use Rattle.arc_lex.specs.Pieces.{first_equal}
-use Rattle.arc_lex.proofs.Tables.{nth, passes, descending, equal_sound}
+use Rattle.arc_lex.proofs.Tables.{nth, passes, descending, equal_sound, one_entry}
 
 pub mark_stands : (it : Mark) → (n : ℕ) × (nth n MARKS ≡ Some it)
 mark_stands m.OpenBrace = (21, refl)
@@ -165,3 +165,12 @@ first_alone mark b ys e =
     let some = passes (λ k. is_some (first_equal mark_bytes MARKS (take 1 (mark_bytes k)))) MARKS at.0 mark refl at.1 in
     let one = one_of (first_equal mark_bytes MARKS (take 1 (mark_bytes mark))) some in
     (one.0, equal_sound mark_bytes MARKS (take 1 (mark_bytes mark)) one.0 one.1 ∙ sym (ap (take 1) e))
+
+pub one_mark : (a b : Mark) → mark_bytes a ≡ mark_bytes b → a ≡ b
+one_mark a b e = one_entry mark_bytes MARKS (mark_stands a).0 (mark_stands b).0 a b refl (mark_stands a).1 (mark_stands b).1 e
+
+pub one_word : (a b : Word) → word_bytes a ≡ word_bytes b → a ≡ b
+one_word a b e = one_entry word_bytes WORDS (word_stands a).0 (word_stands b).0 a b refl (word_stands a).1 (word_stands b).1 e
+
+pub one_at_word : (a b : AtWord) → at_bytes a ≡ at_bytes b → a ≡ b
+one_at_word a b e = one_entry at_bytes AT_WORDS (at_stands a).0 (at_stands b).0 a b refl (at_stands a).1 (at_stands b).1 e

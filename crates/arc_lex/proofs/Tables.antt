@@ -1,8 +1,8 @@
 -- Looking bytes up in a table.
-use Rattle.std.proofs.Common.{◌≡◌, ◌≤◌, ℕ, zero, suc, List, [], ◌∷◌, ◌++◌, length, take, drop, Bool, true, false, cond, ◌&&◌, leb, nat_eq, Option, Some, None, refl, sym, ap, subst, ◌∙◌, arith}
+use Rattle.std.proofs.Common.{◌≡◌, ◌≤◌, ℕ, zero, suc, List, [], ◌∷◌, ◌++◌, length, take, drop, Bool, true, false, cond, ◌&&◌, leb, nat_eq, Option, Some, None, refl, sym, ap, subst, ◌∙◌, arith, not}
 use Rattle.std.specs.Cmp.Lexicographic.{pointwise}
 use Rattle.std.specs.List.{starts_with}
-use Rattle.std.proofs.lemmas.Bool.{and_parts, leb-true, true≢false}
+use Rattle.std.proofs.lemmas.Bool.{and_parts, leb-true, true≢false, not-true}
 use Rattle.std.proofs.lemmas.List.{take-append-drop, take_at}
 use Rattle.std.proofs.lemmas.Slice.Eq.{bytes_eq-Decides}
 use Rattle.arc_lex.specs.Pieces.{first_front, first_equal}
@@ -88,3 +88,27 @@ module _ {A : Type 0} (bytes_of : A → List ℕ) where
           let same : b ≡ o = cc in
           true≢false (sym ((bytes_eq-Decides (bytes_of b) xs).1 (subst (λ x. bytes_of x ≡ xs) (sym same) (sym c))) ∙ h)
       go false h (suc j) later here nothing = later j here nothing
+
+  -- no two entries have the same bytes
+  abbrev pub apart : A → A → Bool
+  apart a b = not (pointwise nat_eq (bytes_of a) (bytes_of b))
+
+  abbrev pub distinct : List A → Bool
+  distinct [] = true
+  distinct (a ∷ rest) = all_pass (apart a) rest && distinct rest
+
+  not_apart : (a b : A) → bytes_of a ≡ bytes_of b → apart a b ≡ true → ⊥
+  not_apart a b e h = true≢false (sym ((bytes_eq-Decides (bytes_of a) (bytes_of b)).1 e) ∙ not-true (pointwise nat_eq (bytes_of a) (bytes_of b)) h)
+
+  pub one_entry : (those : List A) (n m : ℕ) (a b : A) → distinct those ≡ true → nth n those ≡ Some a → nth m those ≡ Some b → bytes_of a ≡ bytes_of b → a ≡ b
+  one_entry [] n m a b d e f same = cc
+  one_entry (x ∷ those) zero zero a b d e f same = cc
+  one_entry (x ∷ those) zero (suc m) a b d e f same =
+      let k : x ≡ a = cc in
+      let parts = and_parts (all_pass (apart x) those) (distinct those) d in
+      absurd (not_apart x b (ap bytes_of k ∙ same) (passes (apart x) those m b parts.0 f))
+  one_entry (x ∷ those) (suc n) zero a b d e f same =
+      let k : x ≡ b = cc in
+      let parts = and_parts (all_pass (apart x) those) (distinct those) d in
+      absurd (not_apart x a (ap bytes_of k ∙ sym same) (passes (apart x) those n a parts.0 e))
+  one_entry (x ∷ those) (suc n) (suc m) a b d e f same = one_entry those n m a b (and_parts (all_pass (apart x) those) (distinct those) d).1 e f same

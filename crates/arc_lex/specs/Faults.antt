@@ -1,10 +1,11 @@
 -- What an answer of the lexer that is no list of tokens says.
-use Rattle.std.specs.Prelude.{ℕ, ◌≤◌, ◌<◌, List, length, codes}
+use Rattle.std.specs.Prelude.{◌≡◌, ◌⊎◌, ℕ, ◌≤◌, ◌<◌, List, length, codes}
 use Rattle.arc_lex.specs.declared.fault.LexFault.{LexFault}
 use Rattle.arc_lex.specs.declared.fault.LexFault.TheVariants as f
 use Rattle.arc_lex.specs.declared.piece.Rule.{Rule}
 use Rattle.arc_lex.specs.declared.piece.Rule.TheVariants as rules
-use Rattle.arc_lex.specs.Source.{FaultAt, most_bytes}
+use Rattle.arc_lex.specs.Source.{FaultAt, Tokens, most_bytes}
+use Rattle.arc_lex.specs.Tokens.{Tok}
 
 -- the number of a fault, under which the compiler's users know it
 abbrev pub fault_number : LexFault → ℕ
@@ -51,3 +52,12 @@ IsLexFault source (f.Literal at) = IsFirst source at rules.Literal
 IsLexFault source (f.Directive at) = IsFirst source at rules.Directive
 IsLexFault source f.TooLong = most_bytes < length source
 IsLexFault source f.Memory = Unit {0}
+
+-- But for want of memory the source has these tokens alone, and no fault.
+abbrev pub OnlyTokens : List ℕ → List Tok → Type 0
+OnlyTokens source ts = ((others : List Tok) → Tokens source others → others ≡ ts) × ((other : LexFault) → IsLexFault source other → other ≡ f.Memory)
+
+-- But for want of memory the source has this fault alone, and no tokens.
+abbrev pub OnlyFault : List ℕ → LexFault → Type 0
+OnlyFault source fault = ((ts : List Tok) → Tokens source ts → fault ≡ f.Memory)
+    × ((other : LexFault) → IsLexFault source other → (other ≡ fault) ⊎ ((other ≡ f.Memory) ⊎ (fault ≡ f.Memory)))

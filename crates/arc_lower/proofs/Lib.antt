@@ -1,1 +1,11 @@
 mod Rows
+mod Leading
+mod Behaving
+mod Doing
+mod Segments
+mod Stacking
+mod Printing
+mod Evaluating
+mod Executing
+mod Safety
+mod Whole

@@ -4,6 +4,7 @@ ghost use Rattle.arc_spec.specs.Resolved.{Return};
 ghost use Rattle.arc_check.specs.Checked.{value as value_of, command, commands, body_of};
 ghost use Rattle.arc_lower.specs.Order.{orders};
 ghost use Rattle.arc_lower.specs.Lowered.{command_orders, all_command_orders, lowered};
+ghost use Rattle.arc_lower.specs.Promise.{Performs};
 
 use crate::expression::{append, append_value};
 use arc_check::checked::{Command, Value};
@@ -12,15 +13,26 @@ use arc_ir::action::{Action, Ir};
 use arc_spec::event::NoMemory;
 use std::alloc::Global;
 
-/// The actions of a program, which do what it means. NoMemory: memory was refused.
+/// The actions of a program, which do what the program means. NoMemory: memory was refused.
 pub fn lower(alloc: Global, program: &Owned) -> Result<Ir, NoMemory>
-    ensures { IfOk result (λ ir. orders ir.actions.items ≡ lowered (body_of program.now.program.now)) }
+    ensures { IfOk result (λ ir. Performs (body_of program.now.program.now) ir.actions.items) }
 {
     let mut actions = Vec::new(alloc);
-    append_commands(alloc, &mut actions, &program.program.body)?;
-    append(&mut actions, Action::Num(0))?;
-    append(&mut actions, Action::Return)?;
+    append_program(alloc, &mut actions, &program.program.body)?;
     Ok(Ir { actions })
+}
+
+/// Appends the actions of a program with this body.
+fn append_program(
+    alloc: Global,
+    actions: &mut Vec<Action>,
+    body: &[Command],
+) -> Result<(), NoMemory>
+    ensures { OnOk result (orders actions.new.items ≡ orders actions.old.items ++ lowered (commands body.now)) }
+{
+    append_commands(alloc, actions, body)?;
+    append(actions, Action::Num(0))?;
+    append(actions, Action::Return)
 }
 
 /// Appends the actions of a statement.

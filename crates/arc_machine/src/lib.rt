@@ -1,2 +1,8 @@
 //! Runs code, an instruction a step.
 #![tactic(auto)]
+
+pub mod engine;
+pub mod fault;
+pub mod machine;
+pub mod stack;
+pub mod stop;

@@ -1,5 +1,5 @@
 -- The rules of expressions as readers. Each gets what reads the rules that it asks for.
-use Rattle.std.specs.Prelude.{ℕ, zero, suc, ◌-◌, List, Bool, true, false, nat_eq, Option, Some, None, if◌then◌else◌}
+use Rattle.std.specs.Prelude.{ℕ, zero, suc, ◌-◌, Bool, true, false, nat_eq, Option, Some, None, if◌then◌else◌}
 use Rattle.arc_lex.specs.declared.token.Mark.{Mark}
 use Rattle.arc_lex.specs.declared.token.Mark.TheVariants as m
 use Rattle.arc_lex.specs.Tokens.{Tok, Sort, Sign}
@@ -103,10 +103,10 @@ binary_by of (suc l) = do
 
 unfoldable pub more_by : Rules → ℕ → ExprTree → Reader ExprTree
 more_by of l left = if_first (is_operator l) (do
-    between ← operator l
-    right ← binary_by of (l - 1)
-    of (more l (Binary (place left) between left right)))
-  (ret left)
+  between ← operator l
+  right ← binary_by of (l - 1)
+  of (more l (Binary (place left) between left right)))
+    (ret left)
 
 unfoldable pub expr_by : Rules → Reader ExprTree
 expr_by of = binary_by of 2
@@ -115,10 +115,10 @@ unfoldable pub arguments_by : Rules → Reader ExprTrees
 arguments_by of = do
   one ← expr_by of
   if_mark m.Comma (do
-      comma ← expect m.Comma
-      others ← of arguments
-      ret (and_expr one others))
-    (ret (and_expr one no_exprs))
+    comma ← expect m.Comma
+    others ← of arguments
+    ret (and_expr one others))
+      (ret (and_expr one no_exprs))
 
 abbrev pub body : Rules → Rules
 body of expr = expr_by of

@@ -1,6 +1,5 @@
 -- Rules that read one another. A rule gets readers for all of them, and asks for one only behind a token that it took.
-use Rattle.std.specs.Prelude.{ℕ, zero, suc, List, length}
-use Rattle.arc_lex.specs.Tokens.{Tok}
+use Rattle.std.specs.Prelude.{ℕ, zero, suc, length}
 use Rattle.arc_parse.specs.Reader.{Reader, unexpected}
 
 -- the rules, where at most so many are under way at once

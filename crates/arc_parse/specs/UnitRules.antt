@@ -1,5 +1,5 @@
 -- The rules of statements, functions and units as readers, with limits.
-use Rattle.std.specs.Prelude.{ℕ, suc, ◌||◌, List, [], ◌∷◌, Bool, true, false, Option, Some, None, if◌then◌else◌}
+use Rattle.std.specs.Prelude.{ℕ, suc, ◌||◌, List, [], ◌∷◌, Bool, true, false, Option, Some, None}
 use Rattle.arc_lex.specs.declared.token.Mark.TheVariants as m
 use Rattle.arc_lex.specs.declared.token.Word.TheVariants as w
 use Rattle.arc_lex.specs.Tokens.{Tok, Sort}
@@ -92,20 +92,20 @@ items_by limits of d = if_mark m.CloseBrace (ret no_stmts) (do
 -- `name[]` or `*name`
 unfoldable pub texts_name : Reader (Unit {0})
 texts_name = if_mark m.Star (do
-    star ← expect m.Star
-    texts ← name
-    ret tt)
-  (do
-    texts ← name
-    open' ← expect m.OpenSquare
-    close ← expect m.CloseSquare
-    ret tt)
+  star ← expect m.Star
+  texts ← name
+  ret tt)
+    (do
+      texts ← name
+      open' ← expect m.OpenSquare
+      close ← expect m.CloseSquare
+      ret tt)
 
 unfoldable pub perhaps_const : Reader (Unit {0})
 perhaps_const = if_word w.Const (do
-    const ← keyword w.Const
-    ret tt)
-  (ret tt)
+  const ← keyword w.Const
+  ret tt)
+    (ret tt)
 
 unfoldable pub count_and_texts : Reader Parameters
 count_and_texts = do
@@ -120,9 +120,9 @@ count_and_texts = do
 
 unfoldable pub parameters : Reader Parameters
 parameters = if_mark m.CloseParen (ret Nothing) (if_word w.Void (do
-    void ← keyword w.Void
-    ret Nothing)
-  count_and_texts)
+  void ← keyword w.Void
+  ret Nothing)
+    count_and_texts)
 
 -- `int main(`, the parameters and `)`
 unfoldable pub head : Reader (ℕ × Parameters)
@@ -136,13 +136,13 @@ head = do
 
 unfoldable pub body_by : Rules → Reader (Option StmtTrees)
 body_by of = if_mark m.Semicolon (do
-    end ← expect m.Semicolon
-    ret None)
-  (do
-    start ← expect m.OpenBrace
-    all ← of (items 2)
-    end ← expect m.CloseBrace
-    ret (Some all))
+  end ← expect m.Semicolon
+  ret None)
+    (do
+      start ← expect m.OpenBrace
+      all ← of (items 2)
+      end ← expect m.CloseBrace
+      ret (Some all))
 
 unfoldable pub function_by : Rules → Reader FunctionTree
 function_by of = do
@@ -152,10 +152,10 @@ function_by of = do
 
 unfoldable pub functions_by : Rules → Reader (List FunctionTree)
 functions_by of = if_first any (do
-    f ← function_by of
-    others ← of functions
-    ret (f ∷ others))
-  (ret [])
+  f ← function_by of
+  others ← of functions
+  ret (f ∷ others))
+    (ret [])
 
 abbrev pub body : Limits → Rules → Rules
 body limits of (items d) = items_by limits of d

@@ -129,7 +129,11 @@ fn given<'a>(alloc: Global, tokens: &'a [Token]) -> Read<'a, Vec<Expr>>
 /// Reads arguments to the end of `all`.
 #[cycle(exprs)]
 #[tactic(auto, using(crate::proofs::ExprFix::read_arguments, crate::proofs::ExprFix::read_expr), unfolding(crate::specs::ExprRules::arguments_by))]
-fn arguments<'a>(alloc: Global, all: &mut Vec<Expr>, tokens: &'a [Token]) -> Result<&'a [Token], Fail<'a>>
+fn arguments<'a>(
+    alloc: Global,
+    all: &mut Vec<Expr>,
+    tokens: &'a [Token],
+) -> Result<&'a [Token], Fail<'a>>
     ensures gives { AppendsArguments all.old.items all.new.items result (read rules.arguments (toks tokens.now)) }
     ensures shorter { IfOk result (λ rest. length rest.now < length tokens.now) }
 {

@@ -1,9 +1,8 @@
 //! Reads functions.
-ghost use Rattle.std.specs.Prelude.{◌≡◌, ◌<◌, ◌≤◌, length, [], IfOk, option_map};
+ghost use Rattle.std.specs.Prelude.{◌≡◌, ◌<◌, ◌≤◌, length, IfOk, option_map};
 ghost use Rattle.arc_lex.specs.Tokens.{toks};
-ghost use Rattle.arc_ast.specs.Tree.{stmt_trees, function_tree};
+ghost use Rattle.arc_ast.specs.Tree.{stmt_trees, function_tree, function_trees};
 ghost use Rattle.arc_parse.specs.Reader.{Gives};
-ghost use Rattle.arc_parse.specs.Views.{functions_before};
 ghost use Rattle.arc_parse.specs.Limits.{these};
 ghost use Rattle.arc_parse.specs.UnitRules as rules;
 
@@ -16,7 +15,7 @@ use std::alloc::Global;
 
 /// The functions up to the end of the tokens.
 pub fn functions<'a>(alloc: Global, tokens: &'a [Token]) -> Read<'a, Vec<Function>>
-    ensures { Gives (λ x. (functions_before x.0.items [], toks x.1.now)) result (rules.read these rules.functions (toks tokens.now)) }
+    ensures { Gives (λ x. (function_trees x.0.items, toks x.1.now)) result (rules.read these rules.functions (toks tokens.now)) }
 {
     let mut all = Vec::new(alloc);
     let mut rest = tokens;
@@ -35,7 +34,14 @@ fn function<'a>(alloc: Global, tokens: &'a [Token]) -> Read<'a, Function>
 {
     let ((at, parameters), rest) = head(tokens)?;
     let (body, rest) = body(alloc, rest)?;
-    Ok((Function { at, parameters, body }, rest))
+    Ok((
+        Function {
+            at,
+            parameters,
+            body,
+        },
+        rest,
+    ))
 }
 
 /// `int main(`, the parameters and `)`

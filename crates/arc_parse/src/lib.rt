@@ -9,6 +9,3 @@ mod limit;
 pub mod parse;
 mod step;
 mod stmt;
-
-#[cfg(test)]
-mod tests;

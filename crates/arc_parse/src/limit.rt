@@ -21,7 +21,11 @@ fn front(tokens: &[Token], most: usize) -> &[Token]
     ensures first { result.now ≡ take most tokens.now }
     ensures fits { length result.now ≤ length tokens.now }
 {
-    if tokens.len() > most { tokens.split_at(most).0 } else { tokens }
+    if tokens.len() > most {
+        tokens.split_at(most).0
+    } else {
+        tokens
+    }
 }
 
 /// The tokens behind so many.

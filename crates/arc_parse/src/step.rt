@@ -35,7 +35,12 @@ pub fn sees_mark(mark: Mark, tokens: &[Token]) -> bool
     ensures { result ≡ sees_mark mark (toks tokens.now) }
 {
     match tokens.first() {
-        Some(Token { kind: TokenKind::Mark(found), .. }) => same_mark(*found, mark),
+        Some(
+            Token {
+                kind: TokenKind::Mark(found),
+                ..
+            },
+        ) => same_mark(*found, mark),
         _ => false,
     }
 }
@@ -44,7 +49,12 @@ pub fn sees_word(word: Word, tokens: &[Token]) -> bool
     ensures { result ≡ sees_word word (toks tokens.now) }
 {
     match tokens.first() {
-        Some(Token { kind: TokenKind::Word(found), .. }) => same_word(*found, word),
+        Some(
+            Token {
+                kind: TokenKind::Word(found),
+                ..
+            },
+        ) => same_word(*found, word),
         _ => false,
     }
 }
@@ -52,7 +62,13 @@ pub fn sees_word(word: Word, tokens: &[Token]) -> bool
 pub fn sees_name(tokens: &[Token]) -> bool
     ensures { result ≡ sees_name (toks tokens.now) }
 {
-    matches!(tokens.first(), Some(Token { kind: TokenKind::Name(_), .. }))
+    matches!(
+        tokens.first(),
+        Some(Token {
+            kind: TokenKind::Name(_),
+            ..
+        })
+    )
 }
 
 /// The place of the first token, which is this mark.
@@ -61,7 +77,15 @@ pub fn expect(mark: Mark, tokens: &[Token]) -> Read<'_, usize>
     ensures shorter { IfOk result (λ x. length x.1.now < length tokens.now) }
 {
     match tokens.split_first() {
-        Some((Token { kind: TokenKind::Mark(found), span }, rest)) if same_mark(*found, mark) => Ok((span.from, rest)),
+        Some(
+            (
+                Token {
+                    kind: TokenKind::Mark(found),
+                    span,
+                },
+                rest,
+            ),
+        ) if same_mark(*found, mark) => Ok((span.from, rest)),
         _ => Err(Fail::Unexpected(tokens)),
     }
 }
@@ -72,7 +96,15 @@ pub fn keyword(word: Word, tokens: &[Token]) -> Read<'_, usize>
     ensures shorter { IfOk result (λ x. length x.1.now < length tokens.now) }
 {
     match tokens.split_first() {
-        Some((Token { kind: TokenKind::Word(found), span }, rest)) if same_word(*found, word) => Ok((span.from, rest)),
+        Some(
+            (
+                Token {
+                    kind: TokenKind::Word(found),
+                    span,
+                },
+                rest,
+            ),
+        ) if same_word(*found, word) => Ok((span.from, rest)),
         _ => Err(Fail::Unexpected(tokens)),
     }
 }
@@ -83,7 +115,15 @@ pub fn name<'a>(tokens: &'a [Token]) -> Read<'a, (usize, &'a [u8])>
     ensures shorter { IfOk result (λ x. length x.1.now < length tokens.now) }
 {
     match tokens.split_first() {
-        Some((Token { kind: TokenKind::Name(bytes), span }, rest)) => Ok(((span.from, bytes.as_slice()), rest)),
+        Some(
+            (
+                Token {
+                    kind: TokenKind::Name(bytes),
+                    span,
+                },
+                rest,
+            ),
+        ) => Ok(((span.from, bytes.as_slice()), rest)),
         _ => Err(Fail::Unexpected(tokens)),
     }
 }
@@ -91,7 +131,7 @@ pub fn name<'a>(tokens: &'a [Token]) -> Read<'a, (usize, &'a [u8])>
 fn is_main(bytes: &[u8]) -> bool
     ensures { result ≡ bytes_eq bytes.now main_bytes }
 {
-    bytes == b"main"
+    bytes == b"main".as_slice()
 }
 
 /// The place of the first token, which is the name `main`.
@@ -100,7 +140,15 @@ pub fn main_name(tokens: &[Token]) -> Read<'_, usize>
     ensures shorter { IfOk result (λ x. length x.1.now < length tokens.now) }
 {
     match tokens.split_first() {
-        Some((Token { kind: TokenKind::Name(bytes), span }, rest)) if is_main(bytes) => Ok((span.from, rest)),
+        Some(
+            (
+                Token {
+                    kind: TokenKind::Name(bytes),
+                    span,
+                },
+                rest,
+            ),
+        ) if is_main(bytes) => Ok((span.from, rest)),
         _ => Err(Fail::Unexpected(tokens)),
     }
 }
@@ -111,10 +159,24 @@ pub fn literal(alloc: Global, tokens: &[Token]) -> Read<'_, Expr>
     ensures shorter { IfOk result (λ x. length x.1.now < length tokens.now) }
 {
     match tokens.split_first() {
-        Some((Token { kind: TokenKind::Integer(value), span }, rest)) => Ok((Expr::Integer(span.from, *value), rest)),
-        Some((Token { kind: TokenKind::Text(bytes), span }, rest)) => {
-            Ok((Expr::Text(span.from, Vec::from_slice(alloc, bytes)?), rest))
-        }
+        Some(
+            (
+                Token {
+                    kind: TokenKind::Integer(value),
+                    span,
+                },
+                rest,
+            ),
+        ) => Ok((Expr::Integer(span.from, *value), rest)),
+        Some(
+            (
+                Token {
+                    kind: TokenKind::Text(bytes),
+                    span,
+                },
+                rest,
+            ),
+        ) => { Ok((Expr::Text(span.from, Vec::from_slice(alloc, bytes)?), rest)) }
         _ => Err(Fail::Unexpected(tokens)),
     }
 }
@@ -137,7 +199,12 @@ pub fn sees_operator(level: usize, tokens: &[Token]) -> bool
     ensures { result ≡ begins (is_operator level) (toks tokens.now) }
 {
     match tokens.first() {
-        Some(Token { kind: TokenKind::Mark(found), .. }) => match mark_operator(*found) {
+        Some(
+            Token {
+                kind: TokenKind::Mark(found),
+                ..
+            },
+        ) => match mark_operator(*found) {
             Some((binds, _)) => binds == level,
             None => false,
         },
@@ -151,7 +218,15 @@ pub fn operator(level: usize, tokens: &[Token]) -> Read<'_, BinaryOperator>
     ensures shorter { IfOk result (λ x. length x.1.now < length tokens.now) }
 {
     match tokens.split_first() {
-        Some((Token { kind: TokenKind::Mark(found), .. }, rest)) => match mark_operator(*found) {
+        Some(
+            (
+                Token {
+                    kind: TokenKind::Mark(found),
+                    ..
+                },
+                rest,
+            ),
+        ) => match mark_operator(*found) {
             Some((binds, operator)) if binds == level => Ok((operator, rest)),
             _ => Err(Fail::Unexpected(tokens)),
         },
@@ -164,10 +239,18 @@ fn begins_expr(tokens: &[Token]) -> bool
     ensures { result ≡ begins (λ t. begins_expr t.sort) (toks tokens.now) }
 {
     match tokens.first() {
-        Some(Token { kind: TokenKind::Name(_) | TokenKind::Integer(_) | TokenKind::Text(_), .. }) => true,
-        Some(Token { kind: TokenKind::Mark(found), .. }) => {
-            same_mark(*found, Mark::OpenParen) || same_mark(*found, Mark::Minus)
-        }
+        Some(
+            Token {
+                kind: TokenKind::Name(_) | TokenKind::Integer(_) | TokenKind::Text(_),
+                ..
+            },
+        ) => true,
+        Some(
+            Token {
+                kind: TokenKind::Mark(found),
+                ..
+            },
+        ) => { same_mark(*found, Mark::OpenParen) || same_mark(*found, Mark::Minus) }
         _ => false,
     }
 }

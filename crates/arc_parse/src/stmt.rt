@@ -1,9 +1,8 @@
 //! Reads statements.
 ghost use Rattle.std.specs.Prelude.{◌≡◌, ◌<◌, ◌≤◌, length, IfOk, option_map};
 ghost use Rattle.arc_lex.specs.Tokens.{toks};
-ghost use Rattle.arc_ast.specs.Tree.{expr_tree, stmt_tree, no_stmts};
+ghost use Rattle.arc_ast.specs.Tree.{expr_tree, stmt_tree, stmt_trees};
 ghost use Rattle.arc_parse.specs.Reader.{Gives};
-ghost use Rattle.arc_parse.specs.Views.{stmts_before};
 ghost use Rattle.arc_parse.specs.Limits.{these};
 ghost use Rattle.arc_parse.specs.UnitRules as rules;
 
@@ -20,7 +19,7 @@ const DEEPEST: usize = 200;
 /// The statements up to the end of a block.
 #[cycle(stmts)]
 pub fn items<'a>(alloc: Global, depth: usize, tokens: &'a [Token]) -> Read<'a, Vec<Stmt>>
-    ensures gives { Gives (λ x. (stmts_before x.0.items no_stmts, toks x.1.now)) result (rules.read these (rules.items depth) (toks tokens.now)) }
+    ensures gives { Gives (λ x. (stmt_trees x.0.items, toks x.1.now)) result (rules.read these (rules.items depth) (toks tokens.now)) }
     ensures shorter { IfOk result (λ x. length x.1.now ≤ length tokens.now) }
 {
     let mut all = Vec::new(alloc);

@@ -8,6 +8,7 @@ use Rattle.arc_lex.specs.declared.piece.Rule.{Rule}
 use Rattle.arc_lex.specs.declared.piece.Rule.TheVariants as rules
 use Rattle.arc_lex.specs.declared.token.Span.{Span}
 use Rattle.arc_lex.specs.declared.token.Token.{Token}
+use Rattle.arc_lex.proofs.OneAnswer.{only_tokens, only_fault}
 use Rattle.arc_lex.proofs.Walks.{blank_cuts, token_cuts, blank_fault, token_fault, toks_push}
 use Rattle.arc_lex.proofs.lex.lex.Goals as goal
 
@@ -65,3 +66,9 @@ returns-clause-tokens c =
       subst (Cuts 0 c.args.source.now) (append-nil (toks c.pieces.tokens.items))
           (c.pieces.invariant.cut [] (subst (λ us. Cuts c.pieces.at us []) (sym none) (done c.pieces.at))),
     )
+
+pub returns-in-Broken-clause-only_fault : goal.returns-in-Broken-clause-only_fault
+returns-in-Broken-clause-only_fault c = only_fault c.args.source.now c.fault_of.result (returns-in-Broken-clause-fault c)
+
+pub returns-clause-only_tokens : goal.returns-clause-only_tokens
+returns-clause-only_tokens c = only_tokens c.args.source.now (toks c.pieces.tokens.items) (returns-clause-tokens c)

@@ -1,0 +1,61 @@
+-- Values that lie on a stack, the first one deepest.
+use Rattle.std.proofs.Common.{◌≡◌, ℕ, zero, suc, ◌+◌, ◌%◌, ◌^◌, ◌*◌, ℤ, pos, List, [], ◌∷◌, ◌++◌, length, map, Option, Some, None, refl, sym, ap, ◌∙◌, subst, arith, append_assoc, length-append, slice_get, slice_set}
+use Rattle.std.proofs.lemmas.List.{append-nil, map-append}
+use Rattle.std.proofs.Math.Nat.{mod-add-mod, mod-mod, mod-add-div'}
+use Rattle.std.specs.Int.{w32, cast_signed}
+use Rattle.arc_ast.specs.declared.tree.Kind.TheVariants as k
+use Rattle.arc_spec.specs.declared.event.Event.TheVariants.{Byte}
+use Rattle.arc_spec.specs.Number.{converted, counted}
+use Rattle.arc_spec.specs.Meaning.{byte_count}
+use Rattle.arc_spec.specs.World.{World, prints}
+
+abbrev pub onto : List ℤ → List ℤ → List ℤ
+onto [] stack = stack
+onto (v ∷ values) stack = onto values (v ∷ stack)
+
+get_deep : (values stack : List ℤ) (n m : ℕ) → n ≡ length values + m → slice_get (onto values stack) n ≡ slice_get stack m
+get_deep [] stack n m e = let h : n ≡ m = omega arith in ap (slice_get stack) h
+get_deep (v ∷ values) stack n m e = get_deep values (v ∷ stack) n (suc m) (omega arith)
+
+-- the value below all others
+pub get_onto : (values stack : List ℤ) (v : ℤ) → slice_get (onto values (v ∷ stack)) (length values) ≡ Some v
+get_onto values stack v = get_deep values (v ∷ stack) (length values) 0 (omega arith)
+
+set_deep : (values stack : List ℤ) (n m : ℕ) (u : ℤ) → n ≡ length values + m → slice_set (onto values stack) n u ≡ onto values (slice_set stack m u)
+set_deep [] stack n m u e = let h : n ≡ m = omega arith in ap (λ q. slice_set stack q u) h
+set_deep (v ∷ values) stack n m u e = set_deep values (v ∷ stack) n (suc m) u (omega arith)
+
+pub set_onto : (values stack : List ℤ) (v u : ℤ) → slice_set (onto values (v ∷ stack)) (length values) u ≡ onto values (u ∷ stack)
+set_onto values stack v u = set_deep values (v ∷ stack) (length values) 0 u (omega arith)
+
+-- the stack without so many numbers
+abbrev pub Peels : ℕ → List ℤ → List ℤ → Type 0
+Peels zero stack rest = stack ≡ rest
+Peels (suc n) [] rest = ⊥
+Peels (suc n) (v ∷ stack) rest = Peels n stack rest
+
+peels_more : (n : ℕ) (stack : List ℤ) (v : ℤ) (rest : List ℤ) → Peels n stack (v ∷ rest) → Peels (suc n) stack rest
+peels_more zero [] v rest h = cc
+peels_more zero (u ∷ stack) v rest h = cc
+peels_more (suc n) [] v rest h = h
+peels_more (suc n) (u ∷ stack) v rest h = peels_more n stack v rest h
+
+pub peels_onto : (values stack : List ℤ) → Peels (length values) (onto values stack) stack
+peels_onto [] stack = refl
+peels_onto (v ∷ values) stack = peels_more (length values) (onto values (v ∷ stack)) v stack (peels_onto values (v ∷ stack))
+
+-- the count of n bytes, as it is kept while a format is printed
+abbrev pub kept : ℕ → ℤ
+kept n = pos (n % 2 ^ 32)
+
+pub kept_counted : (n : ℕ) (bytes : List ℕ) → counted (kept n) bytes ≡ kept (n + length bytes)
+kept_counted n bytes = ap pos (ap (λ x. (x + length bytes) % 2 ^ 32) (mod-mod n (2 ^ 32)) ∙ mod-add-mod n (2 ^ 32) (length bytes))
+
+pub kept_count : (bytes : List ℕ) → converted k.Int (kept (length bytes)) ≡ byte_count bytes
+kept_count bytes = ap (cast_signed w32) (mod-mod (length bytes) (2 ^ 32))
+
+pub prints_none : (w : World) → w ≡ prints [] w
+prints_none w = ap (λ t. record { input = w.input; trace = t }) (sym (append-nil w.trace))
+
+pub prints_both : (a b : List ℕ) (w : World) → prints b (prints a w) ≡ prints (a ++ b) w
+prints_both a b w = ap (λ t. record { input = w.input; trace = t }) (append_assoc w.trace (map Byte a) (map Byte b) ∙ ap (λ l. w.trace ++ l) (sym (map-append Byte a b)))

@@ -1,0 +1,5 @@
+pub mod Words
+pub mod Views
+pub mod Steps
+pub mod Runs
+pub mod Told

@@ -1,0 +1,78 @@
+-- The rules of expressions are local.
+use Rattle.std.proofs.Common.{◌≡◌, ℕ, zero, suc, ◌-◌, List}
+use Rattle.arc_lex.specs.Tokens.{Tok}
+use Rattle.arc_ast.specs.Tree.{ExprTree}
+use Rattle.arc_parse.specs.ExprRules.{Rule, Node, Rules, expr, unary, more, arguments, parenthesized_by, given_by, call_by, primary_by, negate_by, unary_by, binary_by, more_by, expr_by, arguments_by, body, read}
+use Rattle.arc_parse.proofs.Local.{Local, then, after, fewer, weaker, local_ret, local_token, local_if}
+use Rattle.arc_parse.proofs.Knot as knot
+
+-- the fewest tokens of each
+abbrev pub need : Rule → ℕ
+need (more l left) = 0
+need _ = 1
+
+abbrev pub Alike : ℕ → Rules → Rules → Type 0
+Alike k g h = (rule : Rule) → Local (need rule) k (g rule) (h rule)
+
+module _ {k : ℕ} (g h : Rules) (rec : Alike k g h) where
+  parenthesized_local : Local 1 (suc k) (parenthesized_by g) (parenthesized_by h)
+  unfolding parenthesized_by
+  parenthesized_local = after (local_token _) (λ at. then (weaker (rec expr)) (λ inside. then (weaker (local_token _)) (λ end. local_ret _)))
+
+  given_local : Local 0 k (given_by g) (given_by h)
+  unfolding given_by
+  given_local = local_if _ (local_ret _) (weaker (rec arguments))
+
+  call_local : Local 1 (suc k) (call_by g) (call_by h)
+  unfolding call_by
+  call_local = after (local_token _) (λ called. then (weaker (local_token _)) (λ start. then given_local (λ all. then (weaker (local_token _)) (λ end. local_ret _))))
+
+  primary_local : Local 1 (suc k) (primary_by g) (primary_by h)
+  unfolding primary_by
+  primary_local = local_if _ call_local (local_if _ parenthesized_local (local_token _))
+
+  negate_local : Local 1 (suc k) (negate_by g) (negate_by h)
+  unfolding negate_by
+  negate_local = after (local_token _) (λ at. then (weaker (rec unary)) (λ operand. local_ret _))
+
+  unary_local : Local 1 (suc k) (unary_by g) (unary_by h)
+  unfolding unary_by
+  unary_local = local_if _ negate_local primary_local
+
+  binary_local : (l : ℕ) → Local 1 (suc k) (binary_by g l) (binary_by h l)
+  unfolding binary_by
+  binary_local zero = unary_local
+  binary_local (suc l) = after (binary_local l) (λ left. rec (more (suc l) left))
+
+  more_local : (l : ℕ) (left : ExprTree) → Local 0 (suc k) (more_by g l left) (more_by h l left)
+  unfolding more_by
+  more_local l left = local_if _
+      (weaker (after (local_token _) (λ between. then (weaker (fewer (binary_local (l - 1)))) (λ right. rec (more l _)))))
+      (local_ret _)
+
+  expr_local : Local 1 (suc k) (expr_by g) (expr_by h)
+  unfolding expr_by
+  expr_local = binary_local 2
+
+  arguments_local : Local 1 (suc k) (arguments_by g) (arguments_by h)
+  unfolding arguments_by
+  arguments_local = after expr_local (λ one. local_if _
+      (weaker (then (local_token _) (λ comma. then (weaker (rec arguments)) (λ others. local_ret _))))
+      (local_ret _))
+
+  body_local : Alike (suc k) (body g) (body h)
+  body_local expr = expr_local
+  body_local unary = unary_local
+  body_local (more l left) = more_local l left
+  body_local arguments = arguments_local
+
+law : knot.IsLocal Rule Node body need
+law = record { step = λ k g h rec. body_local g h rec }
+
+-- a rule is local
+pub read_local : (k : ℕ) (rule : Rule) → Local (need rule) k (read rule) (read rule)
+read_local k rule = knot.tied_local Rule Node body need law k rule
+
+-- a rule is its body
+pub read_is : (rule : Rule) (ts : List Tok) → read rule ts ≡ body read rule ts
+read_is rule ts = knot.tied_is Rule Node body need law rule ts

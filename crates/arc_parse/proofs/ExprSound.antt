@@ -1,0 +1,209 @@
+-- The rules of expressions give what the tokens spell; and where one stops, an expression begins with what it took.
+use Rattle.std.proofs.Common.{◌≡◌, ℕ, zero, suc, ◌≤◌, ◌+◌, ◌-◌, List, [], ◌∷◌, ◌++◌, append_assoc, append-nil, Bool, true, false, cond, nat_eq, Option, Some, None, Err, refl, sym, ap, subst, ◌∙◌, arith}
+use Rattle.std.proofs.lemmas.Bool.{eqb-true}
+use Rattle.arc_lex.specs.declared.token.Mark.{Mark}
+use Rattle.arc_lex.specs.declared.token.Mark.TheVariants as m
+use Rattle.arc_lex.specs.Tokens.{Tok, Sort, Sign, Key}
+use Rattle.arc_lex.specs.Tokens as tokens
+use Rattle.arc_ast.specs.declared.tree.BinaryOperator.{BinaryOperator}
+use Rattle.arc_ast.specs.declared.tree.BinaryOperator.TheVariants.{Add, Subtract, Multiply, Divide}
+use Rattle.arc_ast.specs.Tree.{ExprTree, ExprTrees, Integer, Text, Paren, Call, Negate, Binary, no_exprs, and_expr, place}
+use Rattle.arc_parse.specs.Language.{Language, ◌⨾◌, The}
+use Rattle.arc_parse.specs.Grammar.{Spells, SpellsArguments, SpellsMore, mark_of, binds, widest}
+use Rattle.arc_parse.specs.Reader.{Fault}
+use Rattle.arc_parse.specs.Knot.{deep, tied}
+use Rattle.arc_parse.specs.ExprRules.{Rule, Node, Rules, expr, unary, more, arguments, literal, literal_of, operator, operator_of, is_operator, is_there, at_level, mark_operator, parenthesized_by, given_by, call_by, primary_by, negate_by, unary_by, binary_by, more_by, expr_by, arguments_by, body, read}
+use Rattle.arc_parse.proofs.Leaves.{a_token, some_is, viable_expect, viable_name}
+use Rattle.arc_parse.proofs.Sound.{Sound, sound_token, sound_as}
+use Rattle.arc_parse.proofs.Viable.{Viable, Front, viable_then, viable_ret, viable_if, viable_as, viable_token, viable_guarded, viable_unexpected}
+
+-- ---- leaves
+
+sound_literal : Sound literal (Spells 0)
+sound_literal = sound_as (sound_token (λ t. literal_of t.from t.sort)) (λ e xs h. go e xs h.0 h.0.sort refl h.1 h.2)
+  where
+    go : (e : ExprTree) (xs : List Tok) (t : Tok) (s : Sort) → t.sort ≡ s → xs ≡ t ∷ [] → literal_of t.from s ≡ Some e → Spells 0 e xs
+    go e xs t (tokens.Integer value) is cut h = subst (λ a. Spells 0 a xs) (some_is (Integer t.from value) e h) (t, cut, is, refl)
+    go e xs t (tokens.Text bytes) is cut h = subst (λ a. Spells 0 a xs) (some_is (Text t.from bytes) e h) (t, cut, is, refl)
+    go e xs t (tokens.Name bytes) is cut h = cc
+    go e xs t (Key word) is cut h = cc
+    go e xs t (tokens.At word) is cut h = cc
+    go e xs t (Sign mark) is cut h = cc
+
+a_text : (l : ℕ) → Spells l (Text 0 []) (a_token (tokens.Text []) ∷ [])
+a_text l = (a_token (tokens.Text []), refl, refl, refl)
+
+viable_literal : Viable literal (Spells 0)
+viable_literal = viable_token (λ t. literal_of t.from t.sort) sound_literal (Text 0 []) (a_token (tokens.Text []) ∷ []) (a_text 0)
+
+-- an operator and the mark of it
+abbrev pub AnOperator : ℕ → BinaryOperator → Language
+AnOperator l o = λ xs. (binds o ≡ l) × The (mark_of o) xs
+
+mark_is_of : (l : ℕ) (mark : Mark) (o : BinaryOperator) → at_level l (mark_operator mark) ≡ Some o → (binds o ≡ l) × (mark ≡ mark_of o)
+mark_is_of l mark o e = of mark (mark_operator mark) refl e
+  where
+    level : (n : ℕ) (p : BinaryOperator) (b : Bool) → nat_eq n l ≡ b → cond b (Some p) None ≡ Some o → (n ≡ l) × (p ≡ o)
+    level n p true q e = (eqb-true n l q, some_is p o e)
+    level n p false q e = cc
+
+    as_binds : (p : BinaryOperator) (k : Mark) → k ≡ mark_of p → (binds p ≡ l) × (p ≡ o) → (binds o ≡ l) × (k ≡ mark_of o)
+    as_binds p k is q = (ap binds (sym q.1) ∙ q.0, is ∙ ap mark_of q.1)
+
+    of : (mark : Mark) (x : Option (ℕ × BinaryOperator)) → mark_operator mark ≡ x → at_level l x ≡ Some o → (binds o ≡ l) × (mark ≡ mark_of o)
+    of m.Plus x is e = as_binds Add m.Plus refl (level 2 Add (nat_eq 2 l) refl (ap (at_level l) is ∙ e))
+    of m.Minus x is e = as_binds Subtract m.Minus refl (level 2 Subtract (nat_eq 2 l) refl (ap (at_level l) is ∙ e))
+    of m.Star x is e = as_binds Multiply m.Star refl (level 1 Multiply (nat_eq 1 l) refl (ap (at_level l) is ∙ e))
+    of m.Slash x is e = as_binds Divide m.Slash refl (level 1 Divide (nat_eq 1 l) refl (ap (at_level l) is ∙ e))
+    of _ x is e = absurd (none x is e)
+      where
+        none : (x : Option (ℕ × BinaryOperator)) → None ≡ x → at_level l x ≡ Some o → ⊥
+        none None is e = cc
+        none (Some p) is e = cc
+
+sound_operator : (l : ℕ) → Sound (operator l) (AnOperator l)
+sound_operator l = sound_as (sound_token (λ t. operator_of l t.sort)) (λ o xs h. go o xs h.0 h.0.sort refl h.1 h.2)
+  where
+    go : (o : BinaryOperator) (xs : List Tok) (t : Tok) (s : Sort) → t.sort ≡ s → xs ≡ t ∷ [] → operator_of l s ≡ Some o → AnOperator l o xs
+    go o xs t (Sign mark) is cut h = let p = mark_is_of l mark o h in (p.0, (t.from, (t, cut, is ∙ ap Sign p.1, refl)))
+    go o xs t (tokens.Name bytes) is cut h = cc
+    go o xs t (tokens.Integer value) is cut h = cc
+    go o xs t (tokens.Text bytes) is cut h = cc
+    go o xs t (Key word) is cut h = cc
+    go o xs t (tokens.At word) is cut h = cc
+
+operator_passes : (l : ℕ) (t : Tok) → is_operator l t ≡ true → (o : BinaryOperator) × (operator_of l t.sort ≡ Some o)
+operator_passes l t e = go (operator_of l t.sort) refl e
+  where
+    go : (x : Option BinaryOperator) → operator_of l t.sort ≡ x → is_there x ≡ true → (o : BinaryOperator) × (operator_of l t.sort ≡ Some o)
+    go None is e = cc
+    go (Some o) is e = (o, is)
+
+-- ---- levels
+
+-- a tree of a level stands wherever a looser one may
+pub looser : (t : ExprTree) (l j : ℕ) (xs : List Tok) → l ≤ j → Spells l t xs → Spells j t xs
+looser (Integer at value) l j xs p h = h
+looser (Text at bytes) l j xs p h = h
+looser (Paren at a) l j xs p h = h
+looser (Call at called args) l j xs p h = h
+looser (Negate at a) l j xs p h = (omega (arith, h.0), h.1)
+looser (Binary at o a b) l j xs p h = (omega (arith, h.0), h.1, h.2)
+
+-- ---- the rules
+
+-- one argument or more
+abbrev pub Filled : ExprTrees → Language
+Filled no_exprs = λ ys. ⊥
+Filled (and_expr a others) = Spells widest a ⨾ SpellsMore others
+
+-- what each rule gives is spelled by what was read before it and by what it takes
+abbrev pub Given : (rule : Rule) → Node rule → Language
+Given expr t = Spells widest t
+Given unary t = Spells 1 t
+Given (more l left) t = λ ys. 1 ≤ l → (xs : List Tok) → Spells (1 + l) left xs → Spells (1 + l) t (xs ++ ys)
+Given arguments all = Filled all
+
+abbrev AreViable : Rules → Type 0
+AreViable g = (rule : Rule) → Viable (g rule) (Given rule)
+
+-- the last part of a rule
+last : (L : Language) (xs : List Tok) → L xs → L (xs ++ [])
+last L xs x = subst L (sym (append-nil xs)) x
+
+module _ (g : Rules) (rec : AreViable g) where
+  parenthesized_viable : Viable (parenthesized_by g) (Spells 0)
+  unfolding parenthesized_by
+  parenthesized_viable = viable_then (viable_expect _) (λ at. viable_then (rec expr) (λ inside. viable_then (viable_expect _) (λ end. viable_ret (Paren at inside)
+      (λ zs z ys y xs x. (xs, ys ++ (zs ++ []), refl, x, (ys, zs ++ [], refl, y, last (The m.CloseParen) zs (end, z)))))))
+
+  given_viable : Viable (given_by g) SpellsArguments
+  unfolding given_by
+  given_viable = viable_if _ (viable_ret no_exprs refl) (viable_as (rec arguments) filled)
+    where
+      filled : (all : ExprTrees) (ys : List Tok) → Filled all ys → SpellsArguments all ys
+      filled no_exprs ys h = absurd h
+      filled (and_expr a others) ys h = h
+
+  call_viable : Viable (call_by g) (Spells 0)
+  unfolding call_by
+  call_viable = viable_then viable_name (λ called. viable_then (viable_expect _) (λ start. viable_then given_viable (λ all. viable_then (viable_expect _) (λ end. viable_ret (Call called.0 called.1 all)
+      (λ zs z ys y xs x ns n. (ns, xs ++ (ys ++ (zs ++ [])), refl, n, (xs, ys ++ (zs ++ []), refl, (start, x), (ys, zs ++ [], refl, y, last (The m.CloseParen) zs (end, z)))))))))
+
+  primary_viable : Viable (primary_by g) (Spells 0)
+  unfolding primary_by
+  primary_viable = viable_if _ call_viable (viable_if _ parenthesized_viable viable_literal)
+
+  negate_viable : Viable (negate_by g) (Spells 1)
+  unfolding negate_by
+  negate_viable = viable_then (viable_expect _) (λ at. viable_then (rec unary) (λ operand. viable_ret (Negate at operand)
+      (λ ys y xs x. (omega arith, (xs, ys ++ [], refl, x, last (Spells 1 operand) ys y)))))
+
+  unary_viable : Viable (unary_by g) (Spells 1)
+  unfolding unary_by
+  unary_viable = viable_if _ negate_viable (viable_as primary_viable (λ t xs x. looser t 0 1 xs (omega arith) x))
+
+  binary_viable : (l : ℕ) → Viable (binary_by g l) (Spells (1 + l))
+  unfolding binary_by
+  binary_viable zero = unary_viable
+  binary_viable (suc l) = viable_then (binary_viable l) (λ left. viable_as (rec (more (suc l) left)) (λ t ys k xs x.
+      k (omega arith) xs (looser left (1 + l) (1 + suc l) xs (omega arith) x)))
+
+  more_viable : (l : ℕ) (left : ExprTree) → Viable (more_by g l left) (Given (more l left))
+  unfolding more_by
+  more_viable l left = viable_guarded _ _ (sound_operator l) (operator_passes l) (λ o. viable_then (binary_viable (l - 1)) (λ right. viable_as (rec (more l (Binary (place left) o left right)))
+      (λ t zs k ys y xs x some ls h. subst (Spells (1 + l) t) (regroup ls xs ys zs) (k some (ls ++ (xs ++ ys)) (made l some o right xs ys ls x y h)))))
+      (viable_ret _ (λ some ls h. last (Spells (1 + l) left) ls h))
+    where
+      regroup : (a b c d : List Tok) → (a ++ (b ++ c)) ++ d ≡ a ++ (b ++ (c ++ d))
+      regroup a b c d = simp append_assoc
+
+      made : (l : ℕ) → 1 ≤ l → (o : BinaryOperator) (right : ExprTree) (xs ys ls : List Tok) → AnOperator l o xs → Spells (1 + (l - 1)) right ys → Spells (1 + l) left ls
+          → Spells (1 + l) (Binary (place left) o left right) (ls ++ (xs ++ ys))
+      made l some o right xs ys ls x y h =
+          let e = x.0 in
+          let lower : 1 + (l - 1) ≡ binds o = omega arith in
+          let here : 1 + l ≡ 1 + binds o = omega arith in
+          (omega arith, refl, (ls, xs ++ ys, refl, subst (λ j. Spells j left ls) here h, (xs, ys, refl, x.1, subst (λ j. Spells j right ys) lower y)))
+
+  expr_viable : Viable (expr_by g) (Spells widest)
+  unfolding expr_by
+  expr_viable = binary_viable 2
+
+  arguments_viable : Viable (arguments_by g) Filled
+  unfolding arguments_by
+  arguments_viable = viable_then expr_viable (λ one. viable_if _
+      (viable_then (viable_expect _) (λ comma. viable_then (rec arguments) (λ others. viable_ret (and_expr one others)
+      (λ zs z ys y xs x. (xs, ys ++ (zs ++ []), refl, x, following others ys (zs ++ []) (comma, y) (last (Filled others) zs z))))))
+      (viable_ret (and_expr one no_exprs) (λ xs x. (xs, [], refl, x, refl))))
+    where
+      following : (others : ExprTrees) (ys zs : List Tok) → The m.Comma ys → Filled others zs → SpellsMore others (ys ++ zs)
+      following no_exprs ys zs y z = absurd z
+      following (and_expr a others) ys zs y z = (ys, zs, refl, y, z)
+
+  body_viable : AreViable (body g)
+  body_viable expr = expr_viable
+  body_viable unary = unary_viable
+  body_viable (more l left) = more_viable l left
+  body_viable arguments = arguments_viable
+
+-- each rule gives something
+an_example : (rule : Rule) → (a : Node rule) × (xs : List Tok) × Given rule a xs
+an_example expr = (Text 0 [], a_token (tokens.Text []) ∷ [], a_text widest)
+an_example unary = (Text 0 [], a_token (tokens.Text []) ∷ [], a_text 1)
+an_example (more l left) = (left, [], λ some xs h. last (Spells (1 + l) left) xs h)
+an_example arguments = (and_expr (Text 0 []) no_exprs, a_token (tokens.Text []) ∷ [], (a_token (tokens.Text []) ∷ [], [], refl, a_text widest, refl))
+
+deep_viable : (n : ℕ) → AreViable (deep body n)
+unfolding deep
+deep_viable zero rule = let e = an_example rule in viable_unexpected e.0 e.1 e.2
+deep_viable (suc n) rule = body_viable (deep body n) (deep_viable n) rule
+
+pub read_sound : (rule : Rule) → Sound (read rule) (Given rule)
+unfolding tied
+read_sound rule = record { each = λ ts t r e. (deep_viable _ rule).sound.each ts t r e }
+
+-- where a rule stops, something begins with what it took
+pub read_fails : (rule : Rule) (ts : List Tok) (y : Fault) (r : List Tok) → read rule ts ≡ Err (y, r) → Front (Given rule) ts r
+unfolding tied
+read_fails rule ts y r e = (deep_viable _ rule).fails ts y r e

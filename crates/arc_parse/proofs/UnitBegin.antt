@@ -1,0 +1,82 @@
+-- What an expression, and so a statement, begins with.
+use Rattle.std.proofs.Common.{◌≡◌, ◌⊎◌, inl, inr, ◌||◌, List, [], ◌∷◌, Ok, Err, Bool, true, false, refl, sym, ap, ◌∙◌}
+use Rattle.arc_lex.specs.declared.token.Mark.{Mark}
+use Rattle.arc_lex.specs.declared.token.Mark.TheVariants as m
+use Rattle.arc_lex.specs.declared.token.Word.TheVariants as w
+use Rattle.arc_lex.specs.Tokens.{Tok, Sort, Name, Integer, Text, Key, At, Sign}
+use Rattle.arc_ast.specs.Tree.{ExprTree}
+use Rattle.arc_parse.specs.Reader.{Read, misfit, begins, is_mark, is_word}
+use Rattle.arc_parse.specs.ExprRules.{expr, primary_by, unary_by, binary_by, expr_by, body, read}
+use Rattle.arc_parse.specs.UnitRules.{begins_expr}
+use Rattle.arc_parse.proofs.ExprLocal.{read_is}
+use Rattle.arc_parse.proofs.Tests.{sign_is}
+
+pub no : true ≡ false → ⊥
+no e = cc
+
+pub neither : (a b : Bool) → (a || b) ≡ false → (a ≡ false) × (b ≡ false)
+neither true b e = cc
+neither false b e = (refl, e)
+
+either : (a b : Bool) → (a || b) ≡ true → (a ≡ true) ⊎ (b ≡ true)
+either true b e = inl refl
+either false b e = inr e
+
+-- where no expression begins none is read
+pub no_expr : (t : Tok) (us : List Tok) → begins_expr t.sort ≡ false → read expr (t ∷ us) ≡ Err (misfit, t ∷ us)
+unfolding expr_by binary_by unary_by primary_by
+no_expr t us n = read_is expr (t ∷ us) ∙ go t.sort refl
+  where
+    bad : (s : Sort) → t.sort ≡ s → begins_expr s ≡ true → {A : Type 0} → A
+    bad s e h = absurd (no (sym h ∙ sym (ap begins_expr e) ∙ n))
+
+    go : (s : Sort) → t.sort ≡ s → body read expr (t ∷ us) ≡ Err (misfit, t ∷ us)
+    go (Name b) e = bad (Name b) e refl
+    go (Integer v) e = bad (Integer v) e refl
+    go (Text b) e = bad (Text b) e refl
+    go (Key k) e = rw e refl
+    go (At k) e = rw e refl
+    go (Sign mark) e =
+        let p = neither (is_mark m.OpenParen (Sign mark)) (is_mark m.Minus (Sign mark)) (sym (ap begins_expr e) ∙ n) in
+        rw (e, p.0, p.1) refl
+
+pub none_left : read expr [] ≡ Err (misfit, [])
+unfolding expr_by binary_by unary_by primary_by
+none_left = read_is expr []
+
+ok_not_err : {x : ExprTree × List Tok} {y : Read ExprTree} {r : List Tok} → y ≡ Ok x → y ≡ Err (misfit, r) → ⊥
+ok_not_err p q = cc
+
+-- so what is read begins so
+pub begun : (e : ExprTree) (ts rest : List Tok) → read expr ts ≡ Ok (e, rest) → begins (λ t. begins_expr t.sort) ts ≡ true
+begun e [] rest h = absurd (ok_not_err h none_left)
+begun e (t ∷ ts) rest h = go (begins_expr t.sort) refl
+  where
+    go : (b : Bool) → begins_expr t.sort ≡ b → b ≡ true
+    go true q = refl
+    go false q = absurd (ok_not_err h (no_expr t ts q))
+
+-- a mark or a word that begins no expression is not there
+pub not_there : (test : Sort → Bool) (ts : List Tok) → ((s : Sort) → begins_expr s ≡ true → test s ≡ false) → begins (λ t. begins_expr t.sort) ts ≡ true → begins (λ t. test t.sort) ts ≡ false
+not_there test [] none h = refl
+not_there test (t ∷ ts) none h = none t.sort h
+
+pub mark_not_there : (mark : Mark) → is_mark mark (Sign m.OpenParen) ≡ false → is_mark mark (Sign m.Minus) ≡ false → (s : Sort) → begins_expr s ≡ true → is_mark mark s ≡ false
+mark_not_there mark p q (Name b) h = refl
+mark_not_there mark p q (Integer v) h = refl
+mark_not_there mark p q (Text b) h = refl
+mark_not_there mark p q (Key k) h = refl
+mark_not_there mark p q (At k) h = refl
+mark_not_there mark p q (Sign found) h = go (either (is_mark m.OpenParen (Sign found)) (is_mark m.Minus (Sign found)) h)
+  where
+    go : (is_mark m.OpenParen (Sign found) ≡ true) ⊎ (is_mark m.Minus (Sign found) ≡ true) → is_mark mark (Sign found) ≡ false
+    go (inl e) = ap (is_mark mark) (sign_is m.OpenParen (Sign found) e) ∙ p
+    go (inr e) = ap (is_mark mark) (sign_is m.Minus (Sign found) e) ∙ q
+
+pub return_not_there : (s : Sort) → begins_expr s ≡ true → is_word w.Return s ≡ false
+return_not_there (Name b) h = refl
+return_not_there (Integer v) h = refl
+return_not_there (Text b) h = refl
+return_not_there (Key k) h = cc
+return_not_there (At k) h = refl
+return_not_there (Sign found) h = refl

@@ -1,0 +1,29 @@
+use Rattle.std.proofs.Common.{◌+◌, ◌*◌, length}
+use Rattle.arc_parse.proofs.expr.+exprs.Given as goal
+
+abbrev pub decreases-given : goal.decreases-given
+decreases-given l = 16 * length l.tokens.now + 15
+
+abbrev pub decreases-arguments : goal.decreases-arguments
+decreases-arguments l = 16 * length l.tokens.now + 14
+
+abbrev pub decreases-expr : goal.decreases-expr
+decreases-expr l = 16 * length l.tokens.now + 13
+
+abbrev pub decreases-binary : goal.decreases-binary
+decreases-binary l = 16 * length l.tokens.now + 8 + l.level
+
+abbrev pub decreases-more : goal.decreases-more
+decreases-more l = 16 * length l.tokens.now + 8 + l.level
+
+abbrev pub decreases-unary : goal.decreases-unary
+decreases-unary l = 16 * length l.tokens.now + 7
+
+abbrev pub decreases-primary : goal.decreases-primary
+decreases-primary l = 16 * length l.tokens.now + 4
+
+abbrev pub decreases-call : goal.decreases-call
+decreases-call l = 16 * length l.tokens.now + 3
+
+abbrev pub decreases-parenthesized : goal.decreases-parenthesized
+decreases-parenthesized l = 16 * length l.tokens.now + 3

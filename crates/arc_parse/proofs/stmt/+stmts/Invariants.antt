@@ -1,0 +1,28 @@
+use Rattle.std.proofs.Common.{◌≡◌, ◌+◌, ◌*◌, ◌≤◌, length}
+use Rattle.arc_lex.specs.Tokens.{toks}
+use Rattle.arc_parse.specs.Limits.{these}
+use Rattle.arc_parse.specs.UnitRules as rules
+use Rattle.arc_parse.proofs.UnitRows.{with_stmts}
+use Rattle.arc_parse.proofs.stmt.+stmts.Given as goal
+
+abbrev pub decreases-items : goal.decreases-items
+decreases-items l = 4 * length l.tokens.now + 3
+
+abbrev pub decreases-item : goal.decreases-item
+decreases-item l = 4 * length l.tokens.now + 2
+
+abbrev pub decreases-stmt : goal.decreases-stmt
+decreases-stmt l = 4 * length l.tokens.now + 1
+
+abbrev pub decreases-block : goal.decreases-block
+decreases-block l = 4 * length l.tokens.now
+
+-- the statements so far and those to come are all
+abbrev pub invariant-items-items : goal.invariant-items-items
+invariant-items-items l = record {
+  rest : length l.rest ≤ length l.tokens;
+  all : rules.read these (rules.items l.depth) (toks l.tokens) ≡ with_stmts l.all.items (rules.read these (rules.items l.depth) (toks l.rest));
+}
+
+abbrev pub decreases-items-items : goal.decreases-items-items
+decreases-items-items l = length l.rest
