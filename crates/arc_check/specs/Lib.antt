@@ -1,1 +1,9 @@
 pub mod Checked
+pub mod Fault
+pub mod Kinds
+pub mod Formats
+pub mod Rules
+pub mod Resolving
+pub mod Runs
+pub mod Judging
+pub mod Building

@@ -2,7 +2,7 @@
 use Rattle.std.proofs.Common.{◌≡◌, ◌⊎◌, ℕ, zero, suc, ◌+◌, ◌≤◌, ◌<◌, List, [], ◌∷◌, ◌++◌, Option, Some, None, refl, sym, ap, subst, ◌∙◌, append_assoc, arith, inl, inr}
 use Rattle.arc_spec.specs.declared.event.Event.{Event}
 use Rattle.arc_spec.specs.Stepping.{Next, Goes, Asks, Ends, Faults, Stuck, Reached, Running, Ended, Faulted, Wedged, fed, follow, further, after_steps, Along, Safe, Sound}
-use Rattle.arc_spec.specs.Correct.{IsPrefix, Sight, Stop, run_seen, Refines}
+use Rattle.arc_spec.specs.Correct.{IsPrefix, Sight, Stop, run_seen, Amid, Refines}
 use Rattle.arc_spec.proofs.Steadiness.{prefix_refl}
 
 -- a step from t with these events leads to t', by so many steps that fit in between, and one more
@@ -145,18 +145,12 @@ module _ {S T : Type 0} (ahead : S → Next S) (step : T → Next T) (Fits : T �
     reach zero = (0, (t0, refl, related))
     reach (suc j) = let l = reach j in reach_next l.0 (first j) l.1
 
-    amid : (k j : ℕ) → Level (first j) (second k) ⊎ ((j < k) × Within (first j) (second k)) → (run_seen (second k) ≡ run_seen (first j)) ⊎ ((j < k) × Part (run_seen (first j)) (run_seen (first (j + 1))) (run_seen (second k)))
+    amid : (k j : ℕ) → Level (first j) (second k) ⊎ ((j < k) × Within (first j) (second k)) → Amid (λ i n. run_seen (after_steps ahead n (Running s0 i []))) input j k (run_seen (second k))
     amid k j (inl l) = inl (level_seen (first j) (second k) l)
     amid k j (inr (lt, w)) =
         let e : suc j ≡ j + 1 = omega arith in
-        inr (lt, subst (λ n. Part (run_seen (first j)) (run_seen (first n)) (run_seen (second k))) e (within_seen (first j) (second k) w))
-
-    follows_at : (k : ℕ) → (j : ℕ) × (j ≤ k) × ((run_seen (second k) ≡ run_seen (first j)) ⊎ ((j < k) × ((run_seen (second k)).stop ≡ None) × IsPrefix (run_seen (first j)).trace (run_seen (second k)).trace × IsPrefix (run_seen (second k)).trace (run_seen (first (j + 1))).trace))
-    follows_at k = let w = where_at k in (w.0, w.1, flat w.0 (amid k w.0 w.2))
-      where
-        flat : (j : ℕ) → (run_seen (second k) ≡ run_seen (first j)) ⊎ ((j < k) × Part (run_seen (first j)) (run_seen (first (j + 1))) (run_seen (second k))) → (run_seen (second k) ≡ run_seen (first j)) ⊎ ((j < k) × ((run_seen (second k)).stop ≡ None) × IsPrefix (run_seen (first j)).trace (run_seen (second k)).trace × IsPrefix (run_seen (second k)).trace (run_seen (first (j + 1))).trace)
-        flat j (inl e) = inl e
-        flat j (inr (lt, p)) = inr (lt, p.0, p.1, p.2)
+        let part = subst (λ n. Part (run_seen (first j)) (run_seen (first n)) (run_seen (second k))) e (within_seen (first j) (second k) w) in
+        inr (lt, part.0, part.1, part.2)
 
     comes_at : (j : ℕ) → (k : ℕ) × IsPrefix (run_seen (first j)).trace (run_seen (second k)).trace × ((s : Stop) → (run_seen (first j)).stop ≡ Some s → run_seen (second k) ≡ run_seen (first j))
     comes_at j =
@@ -165,7 +159,7 @@ module _ {S T : Type 0} (ahead : S → Next S) (step : T → Next T) (Fits : T �
         (l.0, subst (λ (x : Sight). IsPrefix (run_seen (first j)).trace x.trace) (sym same) (prefix_refl (run_seen (first j)).trace), λ s over. same)
 
   pub refines : (s0 : S) (t0 : T) → R s0 t0 → Refines (λ input n. run_seen (after_steps ahead n (Running s0 input []))) (λ input n. run_seen (after_steps step n (Running t0 input [])))
-  refines s0 t0 related = record { follows = λ input k. follows_at s0 t0 related input k; comes = λ input j. comes_at s0 t0 related input j }
+  refines s0 t0 related = record { follows = λ input k. let w = where_at s0 t0 related input k in (w.0, w.1, amid s0 t0 related input k w.0 w.2); comes = λ input j. comes_at s0 t0 related input j }
 
   module _ (FitsAhead : S → Type 0) where
     -- a state of a sound run, or amid one of its steps

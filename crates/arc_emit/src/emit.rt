@@ -18,6 +18,7 @@ use std::alloc::Global;
 /// where it would have over 16,777,216 instructions, or its texts over 4,294,967,295 bytes; Memory where memory is refused.
 pub fn emit(alloc: Global, ir: &Ir, _table: &ClassTable) -> Result<Code, EmitFault>
     requires { acting.IsSound ir.now.actions.items }
+    ensures code { IfOk result (λ code. program_of code ≡ code_of ir.now.actions.items) }
     ensures sound { IfOk result (λ code. running.IsSound (program_of code)) }
     ensures refines { IfOk result (λ code. Refines (acting.seen ir.now.actions.items) (running.seen (program_of code))) }
     ensures steady { IfOk result (λ code. Steady (running.seen (program_of code))) }

@@ -5,3 +5,5 @@ pub mod emit;
 pub mod fault;
 mod pieces;
 mod room;
+#[cfg(test)]
+mod tests;

@@ -11,6 +11,7 @@ pub mod OneRule
 pub mod OneSort
 pub mod ReadTexts
 pub mod Runs
+pub mod Spans
 pub mod Tables
 pub mod TextLaw
 pub mod Walks

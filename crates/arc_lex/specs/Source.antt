@@ -1,5 +1,5 @@
 -- What the tokens of a source are, and where a source has none.
-use Rattle.std.specs.Prelude.{◌≡◌, ◌≤◌, ◌<◌, ◌⊎◌, ℕ, ◌+◌, pos, List, [], ◌∷◌, ◌++◌, length, true, false, Some, None}
+use Rattle.std.specs.Prelude.{◌≡◌, ◌≤◌, ◌<◌, ◌⊎◌, ℕ, ◌+◌, pos, List, [], ◌∷◌, ◌++◌, length, slice_range, true, false, Some, None}
 use Rattle.arc_lex.specs.declared.token.Word.{Word}
 use Rattle.arc_lex.specs.declared.token.AtWord.{AtWord}
 use Rattle.arc_lex.specs.declared.bytes.Class.TheVariants as c
@@ -122,3 +122,8 @@ most_bytes = 1048576
 -- the tokens of a source
 abbrev pub Tokens : List ℕ → List Tok → Type 0
 Tokens source ts = (length source ≤ most_bytes) × Cuts 0 source ts
+
+-- the bytes of each token's span are that token
+abbrev pub SpansSpell : List ℕ → List Tok → Type 0
+SpansSpell source [] = Unit {0}
+SpansSpell source (t ∷ ts) = IsToken (slice_range source t.from t.to) t.sort × SpansSpell source ts

@@ -1,7 +1,7 @@
 //! Cuts a source into tokens.
 ghost use Rattle.std.specs.Prelude.{◌≡◌, ◌<◌, ◌≤◌, length, IfOk, IfErr};
 ghost use Rattle.arc_lex.specs.Faults.{fault_of, IsLexFault, OnlyTokens, OnlyFault};
-ghost use Rattle.arc_lex.specs.Source.{Tokens};
+ghost use Rattle.arc_lex.specs.Source.{Tokens, SpansSpell};
 ghost use Rattle.arc_lex.specs.Tokens.{toks};
 
 use crate::fault::LexFault;
@@ -31,6 +31,7 @@ fn fault_of(rule: Rule, at: usize) -> LexFault
 pub fn lex(alloc: Global, source: &[u8]) -> Result<Vec<Token>, LexFault>
     ensures tokens { IfOk result (λ ts. Tokens source.now (toks ts.items)) }
     ensures only_tokens { IfOk result (λ ts. OnlyTokens source.now (toks ts.items)) }
+    ensures spans { IfOk result (λ ts. SpansSpell source.now (toks ts.items)) }
     ensures fault { IfErr result (λ f. IsLexFault source.now f) }
     ensures only_fault { IfErr result (λ f. OnlyFault source.now f) }
 {

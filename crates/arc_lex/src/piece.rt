@@ -10,7 +10,7 @@ use crate::token::TokenKind;
 use std::alloc::{AllocError, Global};
 
 /// A rule about tokens that bytes break.
-#[derive(Clone, Copy, Debug, PartialEq, Eq)]
+#[derive(Clone, Copy)]
 pub enum Rule {
     BadByte,
     OpenLiteral,

@@ -1,18 +1,18 @@
 -- A run evaluates expressions, and leaves their values on the stack.
-use Rattle.std.proofs.Common.{◌≡◌, ℕ, suc, ◌+◌, ℤ, pos, List, [], ◌∷◌, ◌++◌, length, Option, Some, None, refl, ap, subst}
+use Rattle.std.proofs.Common.{◌≡◌, ℕ, suc, ◌+◌, ℤ, List, [], ◌∷◌, ◌++◌, length, Option, Some, None, refl, ap, subst}
 use Rattle.arc_spec.specs.declared.event.Event.{Event}
 use Rattle.arc_spec.specs.Number.{converted, negated, combined, byte_or_end}
-use Rattle.arc_spec.specs.Resolved.{Piece, Value, Number, ReadByte, Print, Negated, Combined, Converted, Values, no_values, and_value}
+use Rattle.arc_spec.specs.Resolved.{Value, Number, ReadByte, Print, Negated, Combined, Converted, Values, no_values, and_value}
 use Rattle.arc_spec.specs.Meaning.{formatted, byte_count, or_fault, evaluated, all_evaluated}
 use Rattle.arc_spec.specs.World.{World, Outcome, Done, Faulted, Cut, then_do, prints, next_number, after_next, has_read}
-use Rattle.arc_spec.specs.Stepping.{Reached, follow, fed}
+use Rattle.arc_spec.specs.Stepping.{follow, fed}
 use Rattle.arc_ir.specs.declared.action.Action.{Action}
 use Rattle.arc_ir.specs.Acting.{State, onward, step}
 use Rattle.arc_ir.specs.Acting as acting
-use Rattle.arc_lower.specs.Order.{Order, Num, Bin, Un, Narrow, GetChar}
+use Rattle.arc_lower.specs.Order.{Num, Bin, Un, Narrow, GetChar}
 use Rattle.arc_lower.specs.Lowered.{value_count, print_orders, value_orders, all_value_orders}
 use Rattle.arc_lower.proofs.Leading.{leads_same, Runs, then_runs}
-use Rattle.arc_lower.proofs.Doing.{does, at, HasAt}
+use Rattle.arc_lower.proofs.Doing.{at}
 use Rattle.arc_lower.proofs.Segments.{running, leaves, Segment, then_segment, one_segment, no_segment, quiet}
 use Rattle.arc_lower.proofs.Stacking.{onto}
 use Rattle.arc_lower.proofs.Printing.{print_passes}

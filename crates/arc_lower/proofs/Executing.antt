@@ -1,15 +1,15 @@
 -- A run executes statements, and then the program is over.
-use Rattle.std.proofs.Common.{◌≡◌, ℕ, ◌+◌, ℤ, pos, List, [], ◌∷◌, ◌++◌, length, Option, Some, None, refl, ap, subst}
+use Rattle.std.proofs.Common.{ℕ, ◌+◌, ℤ, pos, List, [], ◌∷◌, length, Some, None, refl}
 use Rattle.arc_ast.specs.declared.tree.Kind.TheVariants as k
 use Rattle.arc_spec.specs.Number.{converted}
 use Rattle.arc_spec.specs.Resolved.{Command, Sequence, Evaluate, Commands, no_commands, and_command}
 use Rattle.arc_spec.specs.Resolved as resolved
 use Rattle.arc_spec.specs.Meaning.{evaluated, Flow, Normal, Returned, if_normal, executed, all_executed, given, mean}
-use Rattle.arc_spec.specs.World.{World, Outcome, Done, then_do, first_world}
-use Rattle.arc_spec.specs.Stepping.{Reached, Running, Ended}
+use Rattle.arc_spec.specs.World.{World, Outcome, Done, first_world}
+use Rattle.arc_spec.specs.Stepping.{Reached, Ended}
 use Rattle.arc_ir.specs.declared.action.Action.{Action}
 use Rattle.arc_ir.specs.Acting.{State, step}
-use Rattle.arc_lower.specs.Order.{Order, Num, Pop, Return}
+use Rattle.arc_lower.specs.Order.{Num, Pop, Return}
 use Rattle.arc_lower.specs.Lowered.{value_orders, command_orders, all_command_orders, lowered}
 use Rattle.arc_lower.proofs.Leading.{leads_same, Runs}
 use Rattle.arc_lower.proofs.Doing.{HasAt}

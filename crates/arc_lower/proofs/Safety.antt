@@ -1,13 +1,13 @@
 -- No action lacks the numbers that it takes, whatever is read.
-use Rattle.std.proofs.Common.{◌≡◌, ℕ, zero, suc, ◌+◌, ℤ, pos, List, [], ◌∷◌, ◌++◌, length, Option, Some, None, refl, sym, ap, ◌∙◌, subst, arith, length-append, slice_get, slice_set}
+use Rattle.std.proofs.Common.{◌≡◌, ℕ, zero, suc, ◌+◌, ℤ, pos, List, [], ◌∷◌, ◌++◌, length, Option, Some, None, refl, sym, ap, subst, arith, length-append, slice_set}
 use Rattle.std.specs.Fmt.{signed_decimal}
 use Rattle.arc_ast.specs.declared.tree.Kind.TheVariants as k
 use Rattle.arc_spec.specs.Number.{converted, negated, combined, counted, low_byte, byte_or_end}
 use Rattle.arc_spec.specs.Resolved.{Piece, Bytes, Decimal, Character, Value, Number, ReadByte, Print, Negated, Combined, Converted, Values, no_values, and_value, Command, Sequence, Evaluate, Commands, no_commands, and_command}
 use Rattle.arc_spec.specs.Resolved as resolved
-use Rattle.arc_spec.specs.Stepping.{Next, Along, Safe, on_found}
+use Rattle.arc_spec.specs.Stepping.{Along, Safe, on_found}
 use Rattle.arc_ir.specs.declared.action.Action.{Action}
-use Rattle.arc_ir.specs.Acting.{State, goes, or_fault, step, start, IsSound}
+use Rattle.arc_ir.specs.Acting.{State, goes, or_fault, step, IsSound}
 use Rattle.arc_lower.specs.Order.{Order, Num, Bin, Un, Narrow, Pop, Get, Set, PrintText, PrintNum, PrintByte, GetChar, Return}
 use Rattle.arc_lower.specs.Lowered.{value_count, conversion_orders, format_orders, pop_orders, keep_orders, print_orders, value_orders, all_value_orders, command_orders, all_command_orders, lowered}
 use Rattle.arc_lower.proofs.Doing.{does, at, HasAt, has_front, has_back}

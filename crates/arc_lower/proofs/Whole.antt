@@ -1,10 +1,9 @@
 -- The actions of a checked program perform it.
-use Rattle.std.proofs.Common.{◌≡◌, ℕ, ◌+◌, ◌≤◌, ℤ, List, [], length, Option, Some, None, refl, ap, ◌∙◌, subst}
+use Rattle.std.proofs.Common.{◌≡◌, ℕ, ◌+◌, ℤ, List, [], length, ap, subst}
 use Rattle.arc_spec.specs.Resolved.{Commands}
 use Rattle.arc_spec.specs.World.{Outcome, Done, Faulted, Cut, first_world}
 use Rattle.arc_spec.specs.Meaning.{mean}
-use Rattle.arc_spec.specs.Stepping.{Running}
-use Rattle.arc_spec.specs.Correct.{Steady, meaning_seen, run_seen}
+use Rattle.arc_spec.specs.Correct.{meaning_seen, run_seen}
 use Rattle.arc_spec.proofs.Steadiness.{steady}
 use Rattle.arc_ir.specs.declared.action.Action.{Action}
 use Rattle.arc_ir.specs.Acting.{step, start, seen}

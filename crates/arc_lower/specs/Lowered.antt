@@ -1,5 +1,5 @@
--- Which actions a checked program becomes. An expression leaves one number more on the stack, and a statement leaves the stack as it was.
-use Rattle.std.specs.Prelude.{ℕ, zero, suc, pred, pos, List, [], ◌∷◌, ◌++◌, Option, Some, None}
+-- Which actions a checked program becomes, which is this project's own choice. An expression leaves one number more on the stack, and a statement leaves the stack as it was.
+use Rattle.std.specs.Prelude.{ℕ, zero, suc, pred, pos, List, [], ◌∷◌, ◌++◌, Some, None}
 use Rattle.arc_ast.specs.declared.tree.Kind.TheVariants as k
 use Rattle.arc_spec.specs.Resolved.{Piece, Bytes, Decimal, Character, Value, Number, ReadByte, Print, Negated, Combined, Converted, Values, no_values, and_value, Command, Sequence, Evaluate, Commands, no_commands, and_command}
 use Rattle.arc_spec.specs.Resolved as resolved
@@ -57,7 +57,7 @@ abbrev mutual
   all_value_orders no_values = []
   all_value_orders (and_value a others) = value_orders a ++ all_value_orders others
 
--- a return without a value gives 0
+-- a return without a value gives 0, which is this project's own choice
 abbrev mutual
   pub command_orders : Command → List Order
   command_orders (Sequence all) = all_command_orders all
@@ -69,6 +69,6 @@ abbrev mutual
   all_command_orders no_commands = []
   all_command_orders (and_command c others) = command_orders c ++ all_command_orders others
 
--- the program that ends behind its body gives 0
+-- a program that reaches the end of its body gives 0 (C99, section 5.1.2.2.3, for main)
 abbrev pub lowered : Commands → List Order
 lowered body = all_command_orders body ++ (Num (pos 0) ∷ Return ∷ [])

@@ -4,3 +4,5 @@
 mod expression;
 pub mod lower;
 mod print;
+#[cfg(test)]
+mod tests;

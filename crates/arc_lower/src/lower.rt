@@ -22,7 +22,7 @@ pub fn lower(alloc: Global, program: &Owned) -> Result<Ir, NoMemory>
     Ok(Ir { actions })
 }
 
-/// Appends the actions of a program with this body.
+/// Appends the actions of a program with this body, behind which it returns 0.
 fn append_program(
     alloc: Global,
     actions: &mut Vec<Action>,
@@ -31,8 +31,7 @@ fn append_program(
     ensures { OnOk result (orders actions.new.items ≡ orders actions.old.items ++ lowered (commands body.now)) }
 {
     append_commands(alloc, actions, body)?;
-    append(actions, Action::Num(0))?;
-    append(actions, Action::Return)
+    append_return(alloc, actions, &None)
 }
 
 /// Appends the actions of a statement.

@@ -10,7 +10,7 @@ use Rattle.arc_ast.specs.Tree.{ExprTree, ExprTrees, Integer, Text, Paren, Call, 
 use Rattle.arc_parse.specs.Grammar.{Spells, SpellsArguments, mark_of, binds, widest}
 use Rattle.arc_parse.specs.Reader.{Read, misfit, bind, begins, is_mark, sees_mark}
 use Rattle.arc_parse.specs.ExprRules.{expr, unary, more, arguments, operator_of, is_operator, mark_operator, parenthesized_by, given_by, call_by, primary_by, negate_by, unary_by, binary_by, more_by, expr_by, arguments_by, read}
-use Rattle.arc_parse.proofs.Tests.{sign_is}
+use Rattle.arc_parse.proofs.Sorts.{sign_is}
 use Rattle.arc_parse.proofs.ExprLocal.{read_is}
 use Rattle.arc_parse.proofs.ExprSound.{Filled}
 

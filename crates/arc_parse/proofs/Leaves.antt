@@ -6,7 +6,7 @@ use Rattle.arc_lex.specs.Tokens.{Tok, Sort, Sign, Key}
 use Rattle.arc_lex.specs.Tokens as tokens
 use Rattle.arc_parse.specs.Language.{One}
 use Rattle.arc_parse.specs.Reader.{token, place_if, expect, keyword, name, name_of, the_name, is_mark, is_word, is_named}
-use Rattle.arc_parse.proofs.Tests.{sign_is, key_is, named_is}
+use Rattle.arc_parse.proofs.Sorts.{sign_is, key_is, named_is}
 use Rattle.arc_parse.proofs.Sound.{Sound, sound_token, sound_as}
 use Rattle.arc_parse.proofs.Viable.{Viable, viable_token}
 

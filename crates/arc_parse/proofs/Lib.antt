@@ -7,7 +7,7 @@ pub mod Limited
 pub mod ExprLocal
 pub mod ExprFix
 pub mod Rows
-pub mod Tests
+pub mod Sorts
 pub mod Leaves
 pub mod ExprSound
 pub mod ExprComplete

@@ -9,7 +9,7 @@ use Rattle.arc_parse.specs.Reader.{Read, misfit, begins, is_mark, is_word}
 use Rattle.arc_parse.specs.ExprRules.{expr, primary_by, unary_by, binary_by, expr_by, body, read}
 use Rattle.arc_parse.specs.UnitRules.{begins_expr}
 use Rattle.arc_parse.proofs.ExprLocal.{read_is}
-use Rattle.arc_parse.proofs.Tests.{sign_is}
+use Rattle.arc_parse.proofs.Sorts.{sign_is}
 
 pub no : true ≡ false → ⊥
 no e = cc

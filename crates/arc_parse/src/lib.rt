@@ -9,3 +9,5 @@ mod limit;
 pub mod parse;
 mod step;
 mod stmt;
+#[cfg(test)]
+mod tests;

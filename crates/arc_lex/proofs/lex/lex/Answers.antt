@@ -9,6 +9,7 @@ use Rattle.arc_lex.specs.declared.piece.Rule.TheVariants as rules
 use Rattle.arc_lex.specs.declared.token.Span.{Span}
 use Rattle.arc_lex.specs.declared.token.Token.{Token}
 use Rattle.arc_lex.proofs.OneAnswer.{only_tokens, only_fault}
+use Rattle.arc_lex.proofs.Spans.{spans_spell}
 use Rattle.arc_lex.proofs.Walks.{blank_cuts, token_cuts, blank_fault, token_fault, toks_push}
 use Rattle.arc_lex.proofs.lex.lex.Goals as goal
 
@@ -72,3 +73,6 @@ returns-in-Broken-clause-only_fault c = only_fault c.args.source.now c.fault_of.
 
 pub returns-clause-only_tokens : goal.returns-clause-only_tokens
 returns-clause-only_tokens c = only_tokens c.args.source.now (toks c.pieces.tokens.items) (returns-clause-tokens c)
+
+pub returns-clause-spans : goal.returns-clause-spans
+returns-clause-spans c = spans_spell c.args.source.now (toks c.pieces.tokens.items) (returns-clause-tokens c)
