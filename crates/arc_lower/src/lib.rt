@@ -1,8 +1,8 @@
 //! Writes a checked program as actions.
 #![tactic(auto)]
 
+mod call;
 mod expression;
 pub mod lower;
 mod print;
-#[cfg(test)]
-mod tests;
+mod statement;
