@@ -6,3 +6,4 @@ mod expression;
 pub mod lower;
 mod print;
 mod statement;
+mod variable;
