@@ -3,6 +3,7 @@ use crate::emit::emit;
 use crate::fault::EmitFault;
 use crate::layout::Layout;
 use crate::pieces::emit_action;
+use arc_ast::tree::{Function, Kind, Parameters, TranslationUnit};
 use arc_class::table::ClassTable;
 use arc_code::code::Op;
 use arc_ir::action::{Action, Ir};
@@ -10,6 +11,16 @@ use std::test::Fail;
 
 #[test]
 fn writes_code(rt: HostRuntime) -> Result<(), Fail> {
+    let function = Function {
+        at: 4,
+        name: b"main".as_slice().to_vec(rt.alloc())?,
+        result: Kind::Int,
+        parameters: Parameters::Ints(Vec::new(rt.alloc())),
+        body: Some(Vec::new(rt.alloc())),
+    };
+    let functions = vec![in rt.alloc(); function]?;
+    let unit = TranslationUnit { functions };
+    let table = ClassTable::build(rt.alloc(), &unit)?;
     let letters = b"0123456789abcdefghijklmnopqrstuvwxyzABCD";
     let text = letters.as_slice().to_vec(rt.alloc())?;
     let actions = vec![in rt.alloc();
@@ -23,16 +34,12 @@ fn writes_code(rt: HostRuntime) -> Result<(), Fail> {
         Action::Return,
     ]?;
     let entries = vec![in rt.alloc(); 4]?;
-    let room = 2;
-    let code = emit(
-        rt.alloc(),
-        &Ir {
-            actions,
-            entries,
-            room,
-        },
-        &ClassTable { main: 0 },
-    )?;
+    let ir = Ir {
+        actions,
+        entries,
+        room: 2,
+    };
+    let code = emit(rt.alloc(), &ir, &table)?;
     let want = [
         Op::Num(0),
         Op::PrintText(0, 16),
