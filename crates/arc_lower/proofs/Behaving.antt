@@ -1,5 +1,5 @@
 -- When steps that show what is meant behave as it is meant.
-use Rattle.std.proofs.Common.{◌≡◌, ℕ, suc, ◌≤◌, ◌<◌, List, Option, Some, None, refl, sym, ap, ◌∙◌, subst, arith, ⊎_elim}
+use Rattle.std.proofs.Common.{◌≡◌, ℕ, ◌≤◌, ◌<◌, List, Option, Some, None, refl, sym, ap, ◌∙◌, subst, arith, ⊎_elim}
 use Rattle.std.proofs.lemmas.Bool.{cases_lt}
 use Rattle.arc_spec.specs.Correct.{IsPrefix, Stop, Sight, Behaves, Steady}
 use Rattle.arc_spec.proofs.Steadiness.{prefix_refl}

@@ -1,16 +1,16 @@
 -- A run calls functions, to the most levels.
-use Rattle.std.proofs.Common.{◌≡◌, ℕ, zero, suc, ◌+◌, ◌<◌, ◌≤◌, ℤ, Bool, true, false, nat_lt, List, [], ◌∷◌, length, Option, Some, None, refl, sym, ap, ◌∙◌, subst, arith, slice_get}
+use Rattle.std.proofs.Common.{◌≡◌, ℕ, zero, suc, ◌+◌, ℤ, Bool, true, false, nat_lt, List, [], ◌∷◌, length, refl, ap, ◌∙◌, arith}
 use Rattle.std.proofs.lemmas.Bool.{lt-ltb, le-ltb}
 use Rattle.arc_spec.specs.declared.event.Fault.TheVariants.{Depth}
 use Rattle.arc_spec.specs.Resolved as resolved
-use Rattle.arc_spec.specs.Meaning.{Flow, given, function_at, all_executed, level, most_levels}
-use Rattle.arc_spec.specs.World.{World, Done, Faulted, with_locals, first_locals}
-use Rattle.arc_spec.specs.Stepping.{Next, Goes, Faults, on_found, follow}
-use Rattle.arc_ir.specs.Acting.{Program, State, enters, step}
-use Rattle.arc_lower.specs.Order.{Order, Call}
+use Rattle.arc_spec.specs.Meaning.{given, function_at, all_executed, level, most_levels}
+use Rattle.arc_spec.specs.World.{Done, with_locals, first_locals}
+use Rattle.arc_spec.specs.Stepping.{Goes, Faults, on_found, follow}
+use Rattle.arc_ir.specs.Acting.{Program, enters, step}
+use Rattle.arc_lower.specs.Order.{Call}
 use Rattle.arc_lower.specs.Lowered.{number_of, slots_of}
-use Rattle.arc_lower.proofs.Leading.{leads_same, leads_step, Runs, leads_runs, then_runs}
-use Rattle.arc_lower.proofs.Doing.{does, at, HasAt}
+use Rattle.arc_lower.proofs.Leading.{leads_same, leads_step, leads_runs, then_runs}
+use Rattle.arc_lower.proofs.Doing.{at, HasAt}
 use Rattle.arc_lower.proofs.Segments.{running, quiet}
 use Rattle.arc_lower.proofs.Stacking.{onto}
 use Rattle.arc_lower.proofs.Fitting.{first_length}

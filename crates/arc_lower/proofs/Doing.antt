@@ -1,7 +1,6 @@
 -- What orders do, and where they stand among actions.
-use Rattle.std.proofs.Common.{◌≡◌, ℕ, ◌+◌, ℤ, List, [], ◌∷◌, ◌++◌, length, Option, Some, None, refl, sym, ap, ◌∙◌, subst, arith, append_assoc, length-append, nat_lt, slice_get, slice_set}
+use Rattle.std.proofs.Common.{◌≡◌, ℕ, ◌+◌, ℤ, List, [], ◌∷◌, ◌++◌, length, Some, refl, sym, ap, ◌∙◌, subst, arith, append_assoc, length-append, nat_lt, slice_get, slice_set}
 use Rattle.std.specs.Fmt.{signed_decimal}
-use Rattle.arc_ast.specs.declared.tree.Kind.TheVariants as k
 use Rattle.arc_spec.specs.Number.{converted, negated, combined, is_zero, low_byte, counted, byte_or_end}
 use Rattle.arc_spec.specs.Meaning.{chosen, most_levels}
 use Rattle.arc_spec.specs.Stepping.{Next, Goes, Asks, on_top, on_two, on_found}

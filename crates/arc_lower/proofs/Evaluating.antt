@@ -1,5 +1,5 @@
 -- A run evaluates expressions, and leaves their values on the stack.
-use Rattle.std.proofs.Common.{◌≡◌, ℕ, suc, ◌+◌, ◌-◌, ◌<◌, ◌≤◌, ℤ, pos, Bool, true, false, nat_lt, if◌then◌else◌, List, [], ◌∷◌, ◌++◌, length, Option, Some, None, refl, sym, ap, ◌∙◌, subst, arith, length-append, slice_get, slice_set}
+use Rattle.std.proofs.Common.{◌≡◌, ℕ, suc, ◌+◌, ◌-◌, ◌<◌, ℤ, pos, Bool, true, false, nat_lt, if◌then◌else◌, List, [], ◌∷◌, ◌++◌, length, Option, Some, None, refl, sym, ap, ◌∙◌, subst, arith, length-append, slice_get, slice_set}
 use Rattle.std.proofs.lemmas.Bool.{ltb-true, ltb-false}
 use Rattle.std.proofs.lemmas.List.{length-set, get_or_past, set_past}
 use Rattle.arc_spec.specs.declared.event.Event.{Event}
@@ -7,15 +7,15 @@ use Rattle.arc_spec.specs.Number.{converted, negated, combined, byte_or_end}
 use Rattle.arc_spec.specs.Resolved.{Piece, Value, Number, ReadByte, Print, Negated, Combined, Converted, Local, Assigned, Invoked, Values, no_values, and_value}
 use Rattle.arc_spec.specs.Resolved as resolved
 use Rattle.arc_spec.specs.Meaning.{Deeper, formatted, byte_count, or_fault, evaluated, all_evaluated}
-use Rattle.arc_spec.specs.World.{World, Outcome, Done, Faulted, Cut, then_do, prints, next_number, after_next, has_read, with_locals, local_at, first_locals}
+use Rattle.arc_spec.specs.World.{World, Done, then_do, prints, next_number, after_next, has_read, with_locals, local_at, first_locals}
 use Rattle.arc_spec.specs.Stepping.{Reached, follow, fed, on_found}
 use Rattle.arc_ir.specs.Acting.{Program, State, onward, goes, step}
 use Rattle.arc_ir.specs.Acting as acting
-use Rattle.arc_lower.specs.Order.{Order, Num, Bin, Un, Narrow, Get, Set, GetChar, Call}
+use Rattle.arc_lower.specs.Order.{Num, Bin, Un, Narrow, Get, Set, GetChar, Call}
 use Rattle.arc_lower.specs.Lowered.{value_count, print_orders, get_orders, set_orders, fit_orders, number_of, slots_of, call_orders, value_orders, all_value_orders}
 use Rattle.arc_lower.proofs.Leading.{Leads, leads_same, Runs, leads_runs, then_runs, better_runs}
-use Rattle.arc_lower.proofs.Doing.{does, at, HasAt, has_front, has_back}
-use Rattle.arc_lower.proofs.Segments.{running, leaves, Segment, then_segment, one_segment, then_at, quiet, Passes, then_passes, one_passes, no_passes}
+use Rattle.arc_lower.proofs.Doing.{at, HasAt, has_front, has_back}
+use Rattle.arc_lower.proofs.Segments.{running, leaves, Segment, then_segment, one_segment, quiet, Passes, then_passes, one_passes, no_passes}
 use Rattle.arc_lower.proofs.Stacking.{onto, get_local, set_local, get_below, set_below}
 use Rattle.arc_lower.proofs.Printing.{print_passes}
 use Rattle.arc_lower.proofs.Fitting.{fit_passes}

@@ -1,16 +1,16 @@
 -- A run executes statements, and leaves its function.
-use Rattle.std.proofs.Common.{◌≡◌, ℕ, zero, suc, ◌+◌, ◌≤◌, ℤ, pos, Bool, true, false, List, [], ◌∷◌, ◌++◌, length, Option, Some, None, refl, sym, ap, ◌∙◌, subst, arith, length-append}
+use Rattle.std.proofs.Common.{◌≡◌, ℕ, zero, suc, ◌+◌, ◌≤◌, ℤ, pos, Bool, true, false, List, [], ◌∷◌, ◌++◌, length, Some, None, refl, ap, subst, arith, length-append}
 use Rattle.arc_spec.specs.Number.{is_zero}
 use Rattle.arc_spec.specs.Resolved.{Value, Command, Sequence, Evaluate, Choose, Repeat, Commands, no_commands, and_command}
 use Rattle.arc_spec.specs.Resolved as resolved
 use Rattle.arc_spec.specs.Meaning.{Deeper, evaluated, Flow, Normal, Returned, if_normal, chosen, turns, executed, all_executed, given}
 use Rattle.arc_spec.specs.World.{World, Outcome, Done, Faulted, Cut, then_do}
 use Rattle.arc_spec.specs.Stepping.{Reached, Goes, follow}
-use Rattle.arc_ir.specs.Acting.{Program, State, moved, goes, step}
+use Rattle.arc_ir.specs.Acting.{Program, State, step}
 use Rattle.arc_lower.specs.Order.{Order, Num, Pop, Jump, JumpZero, Return}
-use Rattle.arc_lower.specs.Lowered.{keep_orders, value_orders, leave_orders, choose_orders, repeat_orders, command_orders, all_command_orders, function_orders}
+use Rattle.arc_lower.specs.Lowered.{keep_orders, value_orders, leave_orders, command_orders, all_command_orders, function_orders}
 use Rattle.arc_lower.proofs.Leading.{Leads, leads_same, leads_trans, leads_step, Runs, leads_runs, later_runs, fewer_runs, then_runs}
-use Rattle.arc_lower.proofs.Doing.{does, at, HasAt, has_front, has_back}
+use Rattle.arc_lower.proofs.Doing.{at, HasAt, has_front, has_back}
 use Rattle.arc_lower.proofs.Segments.{running, then_at, one_segment, quiet, one_passes}
 use Rattle.arc_lower.proofs.Stacking.{onto}
 use Rattle.arc_lower.proofs.Printing.{keep_passes}

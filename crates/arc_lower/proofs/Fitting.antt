@@ -1,8 +1,8 @@
 -- A run makes what is given to a function its variables.
-use Rattle.std.proofs.Common.{◌≡◌, ℕ, zero, suc, ◌+◌, ◌-◌, ℤ, pos, List, [], ◌∷◌, ◌++◌, length, refl, sym, subst, arith}
+use Rattle.std.proofs.Common.{◌≡◌, ℕ, zero, suc, ◌+◌, ◌-◌, ℤ, pos, List, [], ◌∷◌, ◌++◌, length, refl, subst, arith}
 use Rattle.arc_spec.specs.World.{World, first_locals}
 use Rattle.arc_ir.specs.Acting.{Program}
-use Rattle.arc_lower.specs.Order.{Order, Num}
+use Rattle.arc_lower.specs.Order.{Num}
 use Rattle.arc_lower.specs.Lowered.{pop_orders, zero_orders, fit_orders}
 use Rattle.arc_lower.proofs.Segments.{quiet, Passes, then_passes, one_passes, no_passes}
 use Rattle.arc_lower.proofs.Stacking.{onto, peels_onto}

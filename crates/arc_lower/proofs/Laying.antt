@@ -1,5 +1,5 @@
 -- Functions are laid one behind the other.
-use Rattle.std.proofs.Common.{◌≡◌, ℕ, ◌+◌, max, List, [], ◌∷◌, ◌++◌, length, refl, sym, ap, ◌∙◌, arith, append_assoc, length-append}
+use Rattle.std.proofs.Common.{◌≡◌, ℕ, ◌+◌, max, List, [], ◌∷◌, ◌++◌, length, ap, ◌∙◌, append_assoc, length-append}
 use Rattle.arc_spec.specs.Resolved.{Function, Program}
 use Rattle.arc_lower.specs.Order.{Order}
 use Rattle.arc_lower.specs.Lowered.{function_orders, functions_orders, entries_from, longest_from}

@@ -1,5 +1,5 @@
 -- Where steps lead, and what a run does of which a meaning is known.
-use Rattle.std.proofs.Common.{◌≡◌, ℕ, zero, suc, ◌+◌, ◌≤◌, List, refl, sym, ap, ◌∙◌, arith}
+use Rattle.std.proofs.Common.{◌≡◌, ℕ, zero, suc, ◌+◌, ◌≤◌, List, ap, ◌∙◌, arith}
 use Rattle.arc_spec.specs.declared.event.Event.{Event}
 use Rattle.arc_spec.specs.World.{World, Outcome, Done, Faulted, Cut, then_do}
 use Rattle.arc_spec.specs.Stepping.{Next, Reached, Running, follow, further, after_steps}

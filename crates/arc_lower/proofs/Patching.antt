@@ -1,6 +1,5 @@
 -- Jumps are written once it is known where they lead.
 use Rattle.std.proofs.Common.{◌≡◌, ℕ, zero, suc, ◌+◌, List, [], ◌∷◌, ◌++◌, length, refl, sym, ap, ◌∙◌, arith, append_assoc, length-append, slice_set}
-use Rattle.std.proofs.lemmas.List.{length-map}
 use Rattle.std.proofs.Math.Seq.{set-append_seam}
 use Rattle.arc_ir.specs.declared.action.Action.{Action}
 use Rattle.arc_lower.specs.Order.{Order, Jump, JumpZero, order, orders}

@@ -1,17 +1,17 @@
 -- A run prints a format, and leaves the count of its bytes.
-use Rattle.std.proofs.Common.{◌≡◌, ℕ, zero, suc, ◌+◌, ℤ, pos, List, [], ◌∷◌, ◌++◌, length, Option, Some, None, refl, sym, ap, ◌∙◌, subst, arith, length-append, slice_get, slice_set}
+use Rattle.std.proofs.Common.{◌≡◌, ℕ, zero, suc, ◌+◌, ℤ, pos, List, [], ◌∷◌, ◌++◌, length, refl, sym, ap, subst, arith, length-append, slice_set}
 use Rattle.std.specs.Fmt.{signed_decimal}
 use Rattle.arc_ast.specs.declared.tree.Kind.TheVariants as k
 use Rattle.arc_spec.specs.Number.{converted, counted, low_byte}
 use Rattle.arc_spec.specs.Resolved.{Piece, Bytes, Decimal, Character}
 use Rattle.arc_spec.specs.Meaning.{formatted, byte_count}
 use Rattle.arc_spec.specs.World.{World, prints}
-use Rattle.arc_spec.specs.Stepping.{Reached, follow, on_found}
-use Rattle.arc_ir.specs.Acting.{Program, State, goes, step}
+use Rattle.arc_spec.specs.Stepping.{follow, on_found}
+use Rattle.arc_ir.specs.Acting.{Program, goes, step}
 use Rattle.arc_lower.specs.Order.{Order, Num, Narrow, Pop, Get, Set, PrintText, PrintNum, PrintByte}
-use Rattle.arc_lower.specs.Lowered.{conversion_orders, piece_orders, left_behind, format_orders, pop_orders, keep_orders, print_orders}
+use Rattle.arc_lower.specs.Lowered.{conversion_orders, format_orders, pop_orders, keep_orders, print_orders}
 use Rattle.arc_lower.proofs.Leading.{Leads, leads_same}
-use Rattle.arc_lower.proofs.Doing.{does, at, HasAt}
+use Rattle.arc_lower.proofs.Doing.{at}
 use Rattle.arc_lower.proofs.Segments.{running, quiet, Passes, then_passes, one_passes, no_passes}
 use Rattle.arc_lower.proofs.Stacking.{onto, get_onto, set_onto, Peels, peels_onto, kept, kept_counted, kept_count, prints_none, prints_both}
 

@@ -1,5 +1,5 @@
 -- What a tree holds in a row, as a list.
-use Rattle.std.proofs.Common.{◌≡◌, ℕ, zero, suc, ◌+◌, pos, List, [], ◌∷◌, ◌++◌, length, Vec, Global, refl, sym, ap, ◌∙◌, add-one}
+use Rattle.std.proofs.Common.{◌≡◌, ℕ, zero, suc, ◌+◌, pos, List, [], ◌∷◌, ◌++◌, length, Vec, Global, refl, ap, ◌∙◌, add-one}
 use mathlib.Core.Former.{Count}
 use Rattle.arc_check.specs.declared.checked.Piece.{Piece}
 use Rattle.arc_check.specs.declared.checked.Value.{Value, Print, Print', Invoked, Invoked', Row_of-Value, end_of-Value, more_of-Value, items-the_row-Value, items_hidden-the_row-Value-0}
@@ -8,7 +8,7 @@ use Rattle.arc_check.specs.Checked.{pieces, value, values, row_values, command, 
 use Rattle.arc_check.specs.declared.checked.CheckedFunction.{CheckedFunction}
 use Rattle.arc_spec.specs.Resolved as resolved
 use Rattle.arc_spec.specs.Resolved.{Values, no_values, and_value, Commands, no_commands, and_command}
-use Rattle.arc_lower.specs.Order.{Order, Num, Pop}
+use Rattle.arc_lower.specs.Order.{Num, Pop}
 use Rattle.arc_lower.specs.Lowered.{pop_orders, zero_orders, value_count}
 
 abbrev arguments_of : Value → (n : Count) × Row_of-Value n

@@ -10,7 +10,7 @@ use Rattle.arc_spec.specs.Resolved as resolved
 use Rattle.arc_spec.specs.Stepping.{Next, Along, Safe, on_top, on_found}
 use Rattle.arc_ir.specs.Acting.{Program, State, or_fault, step, Fits}
 use Rattle.arc_lower.specs.Order.{Order, Num, Bin, Un, Narrow, Pop, Get, Set, PrintText, PrintNum, PrintByte, GetChar, Call}
-use Rattle.arc_lower.specs.Lowered.{value_count, conversion_orders, format_orders, pop_orders, keep_orders, print_orders, get_orders, set_orders, zero_orders, fit_orders, number_of, slots_of, call_orders, value_orders, all_value_orders}
+use Rattle.arc_lower.specs.Lowered.{value_count, format_orders, pop_orders, keep_orders, print_orders, set_orders, zero_orders, fit_orders, number_of, slots_of, call_orders, value_orders, all_value_orders}
 use Rattle.arc_lower.proofs.Doing.{does, at, HasAt, has_front, has_back}
 use Rattle.arc_lower.proofs.Rising.{lift, rise, rise_append}
 

@@ -1,8 +1,8 @@
 -- What a run does at orders that stand one behind the other.
-use Rattle.std.proofs.Common.{◌≡◌, ℕ, ◌+◌, ℤ, List, [], ◌∷◌, ◌++◌, length, refl, sym, ap, ◌∙◌, subst, arith, length-append}
+use Rattle.std.proofs.Common.{◌≡◌, ℕ, ◌+◌, ℤ, List, [], ◌∷◌, ◌++◌, length, ap, ◌∙◌, subst, arith, length-append}
 use Rattle.std.proofs.lemmas.List.{append-nil}
-use Rattle.arc_spec.specs.World.{World, Outcome, Done, then_do}
-use Rattle.arc_spec.specs.Stepping.{Next, Goes, Reached, Running, follow}
+use Rattle.arc_spec.specs.World.{World, Outcome, then_do}
+use Rattle.arc_spec.specs.Stepping.{Goes, Reached, Running, follow}
 use Rattle.arc_ir.specs.Acting.{Program, State, step}
 use Rattle.arc_lower.specs.Order.{Order}
 use Rattle.arc_lower.proofs.Leading.{Leads, leads_same, leads_trans, leads_step, Runs, leads_runs, then_runs}

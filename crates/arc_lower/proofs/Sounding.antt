@@ -1,15 +1,15 @@
 -- The actions of a program are never without what they need.
-use Rattle.std.proofs.Common.{◌≡◌, ℕ, zero, suc, ◌+◌, ◌*◌, ◌<◌, ◌≤◌, Bool, true, false, nat_lt, List, [], ◌∷◌, ◌++◌, length, refl, sym, ap, ◌∙◌, subst, arith, length-append}
+use Rattle.std.proofs.Common.{◌≡◌, ℕ, zero, suc, ◌+◌, ◌*◌, ◌≤◌, true, false, List, [], ◌∷◌, length, refl, sym, subst, arith, length-append}
 use Rattle.std.proofs.lemmas.Bool.{lt-ltb, le-ltb}
 use Rattle.arc_spec.specs.Resolved as resolved
 use Rattle.arc_spec.specs.Meaning.{function_at, most_levels}
-use Rattle.arc_spec.specs.Stepping.{Next, Along}
-use Rattle.arc_ir.specs.Acting.{Program, State, enters, step, start, IsSound}
-use Rattle.arc_lower.specs.Order.{Order, Call, Return}
-use Rattle.arc_lower.specs.Lowered.{number_of, slots_of, zero_orders, start_orders, function_orders}
-use Rattle.arc_lower.proofs.Doing.{at, HasAt, has_front, has_back}
-use Rattle.arc_lower.proofs.Rising.{rise, rise_small}
-use Rattle.arc_lower.proofs.Safety.{Going, SafeAt, Until, CallsSafe, top_along, zeros_keep}
+use Rattle.arc_spec.specs.Stepping.{Along}
+use Rattle.arc_ir.specs.Acting.{Program, IsSound}
+use Rattle.arc_lower.specs.Order.{Call, Return}
+use Rattle.arc_lower.specs.Lowered.{number_of, slots_of, zero_orders, start_orders}
+use Rattle.arc_lower.proofs.Doing.{HasAt, has_front, has_back}
+use Rattle.arc_lower.proofs.Rising.{rise_small}
+use Rattle.arc_lower.proofs.Safety.{Going, SafeAt, Until, top_along, zeros_keep}
 use Rattle.arc_lower.proofs.Staying.{function_safe}
 use Rattle.arc_lower.proofs.Linking.{longest, Begins}
 use Rattle.arc_lower.proofs.Calling.{call_steps}

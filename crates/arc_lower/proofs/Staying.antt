@@ -1,11 +1,11 @@
 -- Statements keep the stack to a limit.
-use Rattle.std.proofs.Common.{◌≡◌, ℕ, zero, suc, ◌+◌, ◌<◌, ◌≤◌, ℤ, pos, Bool, true, false, List, [], ◌∷◌, ◌++◌, length, Option, Some, None, refl, sym, ap, ◌∙◌, subst, arith, length-append}
+use Rattle.std.proofs.Common.{◌≡◌, ℕ, zero, suc, ◌+◌, ◌<◌, ◌≤◌, pos, Bool, true, false, List, [], ◌∷◌, ◌++◌, length, Some, None, refl, sym, subst, arith, length-append}
 use Rattle.arc_spec.specs.Number.{is_zero}
 use Rattle.arc_spec.specs.Resolved.{Value, Command, Sequence, Evaluate, Choose, Repeat, Commands, no_commands, and_command}
 use Rattle.arc_spec.specs.Resolved as resolved
 use Rattle.arc_spec.specs.Meaning.{chosen}
-use Rattle.arc_spec.specs.Stepping.{Next, Goes, Along, on_top}
-use Rattle.arc_ir.specs.Acting.{Program, State, step}
+use Rattle.arc_spec.specs.Stepping.{Next, Goes, Along}
+use Rattle.arc_ir.specs.Acting.{Program, State}
 use Rattle.arc_lower.specs.Order.{Order, Num, Pop, Jump, JumpZero, Return}
 use Rattle.arc_lower.specs.Lowered.{keep_orders, value_orders, leave_orders, command_orders, all_command_orders, function_orders}
 use Rattle.arc_lower.proofs.Doing.{at, HasAt, has_front, has_back}

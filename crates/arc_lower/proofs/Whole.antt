@@ -1,25 +1,25 @@
 -- The actions of a checked program perform it.
-use Rattle.std.proofs.Common.{◌≡◌, ℕ, ◌+◌, ◌*◌, ◌≤◌, ℤ, List, [], ◌∷◌, ◌++◌, length, Option, Some, None, refl, sym, ap, ◌∙◌, subst, arith, length-append}
+use Rattle.std.proofs.Common.{◌≡◌, ℕ, ◌+◌, ℤ, List, [], ◌∷◌, length, ap, arith}
 use Rattle.arc_ast.specs.declared.tree.Kind.TheVariants as k
 use Rattle.arc_spec.specs.Number.{converted}
 use Rattle.arc_spec.specs.Resolved as resolved
 use Rattle.arc_spec.specs.World.{World, Outcome, Done, Faulted, Cut, first_world, first_locals}
 use Rattle.arc_spec.specs.Meaning.{level, most_levels, mean}
-use Rattle.arc_spec.specs.Stepping.{Reached, Running, Ended}
-use Rattle.arc_spec.specs.Correct.{Steady, meaning_seen, run_seen}
+use Rattle.arc_spec.specs.Stepping.{Ended}
+use Rattle.arc_spec.specs.Correct.{meaning_seen, run_seen}
 use Rattle.arc_spec.proofs.Steadiness.{steady}
-use Rattle.arc_ir.specs.Acting.{Program, State, step, start, seen}
-use Rattle.arc_lower.specs.Order.{Order, Call, Return, orders}
+use Rattle.arc_ir.specs.Acting.{Program, step, start, seen}
+use Rattle.arc_lower.specs.Order.{Call, Return, orders}
 use Rattle.arc_lower.specs.Lowered.{all_functions, number_of, slots_of, zero_orders, start_orders, lowered, entries_of, room_of}
 use Rattle.arc_lower.specs.Promise.{Performs}
-use Rattle.arc_lower.proofs.Leading.{leads_same, leads_step, Runs, leads_runs, then_runs}
+use Rattle.arc_lower.proofs.Leading.{leads_step, Runs, leads_runs, then_runs}
 use Rattle.arc_lower.proofs.Behaving.{Shows, behaves}
-use Rattle.arc_lower.proofs.Doing.{at, HasAt, has_front, has_back}
+use Rattle.arc_lower.proofs.Doing.{at, has_front, has_back}
 use Rattle.arc_lower.proofs.Segments.{running}
 use Rattle.arc_lower.proofs.Stacking.{onto}
 use Rattle.arc_lower.proofs.Fitting.{zeros_pass}
 use Rattle.arc_lower.proofs.Evaluating.{Back}
-use Rattle.arc_lower.proofs.Linking.{has_start, begins, longest, no_less}
+use Rattle.arc_lower.proofs.Linking.{has_start, begins, no_less}
 use Rattle.arc_lower.proofs.Calling.{calls_run}
 use Rattle.arc_lower.proofs.Sounding.{sound}
 

@@ -1,5 +1,4 @@
 -- What is promised of a program's actions.
-use Rattle.std.specs.Prelude.{List}
 use Rattle.arc_spec.specs.Resolved as resolved
 use Rattle.arc_spec.specs.Meaning.{mean}
 use Rattle.arc_spec.specs.Correct.{Behaves, Steady, meaning_seen}

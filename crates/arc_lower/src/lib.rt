@@ -6,4 +6,6 @@ mod expression;
 pub mod lower;
 mod print;
 mod statement;
+#[cfg(test)]
+mod tests;
 mod variable;

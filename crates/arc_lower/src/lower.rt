@@ -1,10 +1,10 @@
 //! From a program to its actions.
-ghost use Rattle.std.specs.Prelude.{◌≡◌, ◌++◌, ◌*◌, [], ◌∷◌, length, max, IfOk, OnOk};
+ghost use Rattle.std.specs.Prelude.{◌≡◌, ◌++◌, ◌*◌, length, IfOk, OnOk};
 ghost use Rattle.arc_spec.specs.Meaning.{most_levels};
 ghost use Rattle.arc_ir.specs.Acting as acting;
 ghost use Rattle.arc_check.specs.Checked.{commands, program_of};
 ghost use Rattle.arc_lower.specs.Order.{orders};
-ghost use Rattle.arc_lower.specs.Lowered.{all_command_orders, function_orders, functions_orders, entries_from, longest_from, start_orders, all_functions};
+ghost use Rattle.arc_lower.specs.Lowered.{function_orders, functions_orders, entries_from, longest_from, start_orders, all_functions};
 ghost use Rattle.arc_lower.specs.Promise.{Performs};
 
 use crate::call::{append_leave, number_of, slots_of};
@@ -34,12 +34,15 @@ pub fn lower(alloc: Global, program: &Owned) -> Result<Ir, NoMemory>
     })
 }
 
+/// How many calls may run within one another.
+const MOST_LEVELS: usize = 2000;
+
 /// The room of a stack for all calls that may run within one another, of which each adds at most
 /// so many numbers.
 fn room_for(longest: usize) -> Result<usize, NoMemory>
     ensures { IfOk result (λ room. room ≡ most_levels * longest) }
 {
-    match longest.checked_mul(2000) {
+    match longest.checked_mul(MOST_LEVELS) {
         Some(room) => Ok(room),
         None => Err(NoMemory),
     }
