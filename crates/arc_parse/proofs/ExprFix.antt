@@ -9,10 +9,6 @@ use Rattle.arc_parse.proofs.ExprLocal.{read_is}
 pub read_expr : (ts : List Tok) → read expr ts ≡ expr_by read ts
 read_expr ts = read_is expr ts
 
-pub expr_is : (ts : List Tok) → expr_by read ts ≡ binary_by read 2 ts
-unfolding expr_by
-expr_is ts = refl
-
 pub read_unary : (ts : List Tok) → read unary ts ≡ unary_by read ts
 read_unary ts = read_is unary ts
 

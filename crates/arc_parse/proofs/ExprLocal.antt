@@ -1,8 +1,9 @@
 -- The rules of expressions are local.
-use Rattle.std.proofs.Common.{◌≡◌, ℕ, zero, suc, ◌-◌, List}
+use Rattle.std.proofs.Common.{◌≡◌, ℕ, zero, suc, ◌-◌, List, Bool, true, false, cond}
 use Rattle.arc_lex.specs.Tokens.{Tok}
 use Rattle.arc_ast.specs.Tree.{ExprTree}
-use Rattle.arc_parse.specs.ExprRules.{Rule, Node, Rules, expr, unary, more, arguments, parenthesized_by, given_by, call_by, primary_by, negate_by, unary_by, binary_by, more_by, expr_by, arguments_by, body, read}
+use Rattle.arc_parse.specs.Reader.{ret}
+use Rattle.arc_parse.specs.ExprRules.{Rule, Node, Rules, expr, unary, more, arguments, parenthesized_by, given_by, call_by, named_by, primary_by, negate_by, unary_by, binary_by, more_by, is_unary, assign_by, expr_by, arguments_by, body, read}
 use Rattle.arc_parse.proofs.Local.{Local, then, after, fewer, weaker, local_ret, local_token, local_if}
 use Rattle.arc_parse.proofs.Knot as knot
 
@@ -23,13 +24,17 @@ module _ {k : ℕ} (g h : Rules) (rec : Alike k g h) where
   unfolding given_by
   given_local = local_if _ (local_ret _) (weaker (rec arguments))
 
-  call_local : Local 1 (suc k) (call_by g) (call_by h)
+  call_local : (called : ℕ × List ℕ) → Local 0 k (call_by g called) (call_by h called)
   unfolding call_by
-  call_local = after (local_token _) (λ called. then (weaker (local_token _)) (λ start. then given_local (λ all. then (weaker (local_token _)) (λ end. local_ret _))))
+  call_local called = weaker (then (local_token _) (λ start. then given_local (λ all. then (weaker (local_token _)) (λ end. local_ret _))))
+
+  named_local : Local 1 (suc k) (named_by g) (named_by h)
+  unfolding named_by
+  named_local = after (local_token _) (λ called. local_if _ (call_local called) (local_ret _))
 
   primary_local : Local 1 (suc k) (primary_by g) (primary_by h)
   unfolding primary_by
-  primary_local = local_if _ call_local (local_if _ parenthesized_local (local_token _))
+  primary_local = local_if _ named_local (local_if _ parenthesized_local (local_token _))
 
   negate_local : Local 1 (suc k) (negate_by g) (negate_by h)
   unfolding negate_by
@@ -50,9 +55,17 @@ module _ {k : ℕ} (g h : Rules) (rec : Alike k g h) where
       (weaker (after (local_token _) (λ between. then (weaker (fewer (binary_local (l - 1)))) (λ right. rec (more l _)))))
       (local_ret _)
 
+  assign_local : (left : ExprTree) → Local 0 k (assign_by g left) (assign_by h left)
+  unfolding assign_by
+  assign_local left = local_if _ (weaker (then (local_token _) (λ sign. then (weaker (rec expr)) (λ right. local_ret _)))) (local_ret _)
+
   expr_local : Local 1 (suc k) (expr_by g) (expr_by h)
   unfolding expr_by
-  expr_local = binary_local 2
+  expr_local = after (binary_local 3) (λ left. go left (is_unary left))
+    where
+      go : (left : ExprTree) (b : Bool) → Local 0 k (cond b (assign_by g left) (ret left)) (cond b (assign_by h left) (ret left))
+      go left true = assign_local left
+      go left false = local_ret left
 
   arguments_local : Local 1 (suc k) (arguments_by g) (arguments_by h)
   unfolding arguments_by

@@ -23,3 +23,4 @@ pub mod UnitTell
 pub mod Unit
 pub mod UnitFix
 pub mod UnitRows
+pub mod CommaRows

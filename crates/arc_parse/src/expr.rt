@@ -5,7 +5,7 @@ ghost use Rattle.arc_ast.specs.Tree.{expr_tree, expr_trees, place};
 ghost use Rattle.arc_parse.specs.Reader.{Gives};
 ghost use Rattle.arc_parse.specs.Views.{AppendsArguments};
 ghost use Rattle.arc_parse.specs.ExprRules as rules;
-ghost use Rattle.arc_parse.specs.ExprRules.{read};
+ghost use Rattle.arc_parse.specs.ExprRules.{read, is_unary};
 
 use crate::fail::{Fail, Read};
 use crate::step::{expect, literal, name, operator, sees_mark, sees_name, sees_operator};
@@ -23,18 +23,43 @@ fn place_of(expr: &Expr) -> usize
         | Expr::Paren(at, _)
         | Expr::Call(at, _, _)
         | Expr::Negate(at, _)
-        | Expr::Binary(at, _, _, _) => *at,
+        | Expr::Binary(at, _, _, _)
+        | Expr::Name(at, _)
+        | Expr::Assign(at, _, _, _) => *at,
+    }
+}
+
+/// Whether it may be the left side of an assignment.
+fn is_unary(expr: &Expr) -> bool
+    ensures { result ≡ is_unary (expr_tree expr.now) }
+{
+    match expr {
+        Expr::Binary(_, _, _, _) | Expr::Assign(_, _, _, _) => false,
+        Expr::Integer(_, _)
+        | Expr::Text(_, _)
+        | Expr::Paren(_, _)
+        | Expr::Call(_, _, _)
+        | Expr::Negate(_, _)
+        | Expr::Name(_, _) => true,
     }
 }
 
 /// An expression.
 #[cycle(exprs)]
-#[tactic(auto, using(crate::proofs::ExprFix::read_expr, crate::proofs::ExprFix::expr_is))]
+#[tactic(auto, using(crate::proofs::ExprFix::read_expr), unfolding(crate::specs::ExprRules::expr_by, crate::specs::ExprRules::assign_by))]
 pub fn expr<'a>(alloc: Global, tokens: &'a [Token]) -> Read<'a, Expr>
     ensures gives { Gives (λ x. (expr_tree x.0, toks x.1.now)) result (read rules.expr (toks tokens.now)) }
     ensures shorter { IfOk result (λ x. length x.1.now < length tokens.now) }
 {
-    binary(alloc, 2, tokens)
+    let (left, rest) = binary(alloc, 3, tokens)?;
+    if !is_unary(&left) || !sees_mark(Mark::Assign, rest) {
+        return Ok((left, rest));
+    }
+    let at = place_of(&left);
+    let (sign, rest) = expect(Mark::Assign, rest)?;
+    let (right, rest) = expr(alloc, rest)?;
+    let (left, right) = (Box::new(alloc, left)?, Box::new(alloc, right)?);
+    Ok((Expr::Assign(at, sign, left, right), rest))
 }
 
 /// An expression whose operators bind as loosely as this, or tighter.
@@ -90,7 +115,7 @@ fn primary<'a>(alloc: Global, tokens: &'a [Token]) -> Read<'a, Expr>
     ensures shorter { IfOk result (λ x. length x.1.now < length tokens.now) }
 {
     if sees_name(tokens) {
-        call(alloc, tokens)
+        named(alloc, tokens)
     } else if sees_mark(Mark::OpenParen, tokens) {
         parenthesized(alloc, tokens)
     } else {
@@ -98,14 +123,28 @@ fn primary<'a>(alloc: Global, tokens: &'a [Token]) -> Read<'a, Expr>
     }
 }
 
+/// A variable's name, or a call.
 #[cycle(exprs)]
-#[tactic(auto, unfolding(crate::specs::ExprRules::call_by))]
-fn call<'a>(alloc: Global, tokens: &'a [Token]) -> Read<'a, Expr>
-    ensures gives { Gives (λ x. (expr_tree x.0, toks x.1.now)) result (rules.call_by read (toks tokens.now)) }
+#[tactic(auto, unfolding(crate::specs::ExprRules::named_by))]
+fn named<'a>(alloc: Global, tokens: &'a [Token]) -> Read<'a, Expr>
+    ensures gives { Gives (λ x. (expr_tree x.0, toks x.1.now)) result (rules.named_by read (toks tokens.now)) }
     ensures shorter { IfOk result (λ x. length x.1.now < length tokens.now) }
 {
     let ((at, called), rest) = name(tokens)?;
-    let (_, rest) = expect(Mark::OpenParen, rest)?;
+    if sees_mark(Mark::OpenParen, rest) {
+        return call(alloc, at, called, rest);
+    }
+    Ok((Expr::Name(at, Vec::from_slice(alloc, called)?), rest))
+}
+
+/// The arguments of a call of this name, which is at this place.
+#[cycle(exprs)]
+#[tactic(auto, unfolding(crate::specs::ExprRules::call_by))]
+fn call<'a>(alloc: Global, at: usize, called: &[u8], tokens: &'a [Token]) -> Read<'a, Expr>
+    ensures gives { Gives (λ x. (expr_tree x.0, toks x.1.now)) result (rules.call_by read (at, called.now) (toks tokens.now)) }
+    ensures shorter { IfOk result (λ x. length x.1.now < length tokens.now) }
+{
+    let (_, rest) = expect(Mark::OpenParen, tokens)?;
     let (all, rest) = given(alloc, rest)?;
     let (_, rest) = expect(Mark::CloseParen, rest)?;
     Ok((Expr::Call(at, Vec::from_slice(alloc, called)?, all), rest))

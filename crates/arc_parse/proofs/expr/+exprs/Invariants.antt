@@ -27,3 +27,6 @@ decreases-call l = 16 * length l.tokens.now + 3
 
 abbrev pub decreases-parenthesized : goal.decreases-parenthesized
 decreases-parenthesized l = 16 * length l.tokens.now + 3
+
+abbrev pub decreases-named : goal.decreases-named
+decreases-named l = 16 * length l.tokens.now + 3
