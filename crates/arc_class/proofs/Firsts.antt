@@ -40,3 +40,12 @@ some_first a (Some b) e = cc
 pub none_broken : (xs : List Broken) → first xs ≡ None → xs ≡ []
 none_broken [] e = refl
 none_broken (x ∷ xs) e = absurd (some_first x (first xs) e)
+
+-- one part more is told
+pub first_turn : (a rest : List Broken) (so_far one now whole : Option Broken) → one ≡ first a → now ≡ earlier_of so_far one → whole ≡ earlier_of so_far (first (a ++ rest)) → whole ≡ earlier_of now (first rest)
+first_turn a rest so_far one now whole o n w =
+    w ∙ ap (earlier_of so_far) (first-append a rest) ∙ sym (earlier_of-assoc so_far (first a) (first rest)) ∙ ap (λ f. earlier_of (earlier_of so_far f) (first rest)) (sym o) ∙ ap (λ f. earlier_of f (first rest)) (sym n)
+
+-- two parts are told
+pub first_both : (a b : List Broken) (one other both : Option Broken) → one ≡ first a → other ≡ first b → both ≡ earlier_of one other → both ≡ first (a ++ b)
+first_both a b one other both o h e = e ∙ rw (o, h) (sym (first-append a b))

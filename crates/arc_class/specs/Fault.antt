@@ -8,17 +8,20 @@ use Rattle.arc_class.specs.Broken.{Broken, first}
 abbrev pub fault_number : ClassFault → ℕ
 fault_number (f.Duplicate at) = 21
 fault_number f.NoMain = 29
+fault_number (f.UndefinedFunction at) = 30
 fault_number f.Memory = 31
 
 abbrev pub fault_name : ClassFault → List ℕ
 fault_name (f.Duplicate at) = codes "Duplicate"
 fault_name f.NoMain = codes "NoMain"
+fault_name (f.UndefinedFunction at) = codes "UndefinedFunction"
 fault_name f.Memory = codes "Memory"
 
 -- the byte that a fault names, counted from 0
 abbrev pub fault_at : ClassFault → ℕ
 fault_at (f.Duplicate at) = at
 fault_at f.NoMain = 0
+fault_at (f.UndefinedFunction at) = at
 fault_at f.Memory = 0
 
 -- the broken rule that a fault tells
@@ -30,3 +33,4 @@ abbrev pub Refuses : List Broken → ClassFault → Type 0
 Refuses all f.Memory = Unit {0}
 Refuses all f.NoMain = first all ≡ Some (told f.NoMain)
 Refuses all (f.Duplicate at) = first all ≡ Some (told (f.Duplicate at))
+Refuses all (f.UndefinedFunction at) = first all ≡ Some (told (f.UndefinedFunction at))
