@@ -1,5 +1,5 @@
 -- From what is known of all functions of a source to an answer.
-use Rattle.std.proofs.Common.{◌≡◌, ℕ, Bool, List, [], ◌∷◌, ◌++◌, Option, Some, None, option_map, is_some, if◌then◌else◌, refl, sym, ap, ◌∙◌}
+use Rattle.std.proofs.Common.{◌≡◌, List, [], ◌++◌, Option, Some, None, option_map, sym, ap, ◌∙◌}
 use Rattle.std.proofs.Math.Path.{fun_ext}
 use Rattle.arc_ast.specs.Tree.{FunctionTree}
 use Rattle.arc_class.specs.declared.fault.ClassFault.{ClassFault}
@@ -10,7 +10,6 @@ use Rattle.arc_class.specs.Bodies.{lacks_body}
 use Rattle.arc_class.specs.Fault.{told, Refuses}
 use Rattle.arc_class.specs.Functions.{duplicates, missing_main, no_main, broken_functions, lacks_body_in, broken}
 use Rattle.arc_class.specs.Look.{Sums}
-use Rattle.arc_class.specs.Names.{number_of, is_main}
 use Rattle.arc_class.specs.Walk.{lacks}
 use Rattle.arc_class.proofs.Firsts.{first_both, none_broken}
 

@@ -1,6 +1,5 @@
 -- What is known of some functions, and one more.
 use Rattle.std.proofs.Common.{◌≡◌, ℕ, suc, Bool, true, false, ◌&&◌, ◌||◌, List, [], ◌∷◌, ◌++◌, length, cond, Option, Some, None, option_map, take, get_or, length-take-le, ◌+◌, ◌<◌, ◌≤◌, if◌then◌else◌, append_assoc, refl, sym, ap, ◌∙◌, arith}
-use Rattle.std.specs.Map.{update}
 use Rattle.std.specs.Str.{bytes_eq}
 use Rattle.std.proofs.lemmas.Bool.{false_from_ne_true}
 use Rattle.std.proofs.lemmas.List.{append-nil, take_more}

@@ -1,5 +1,5 @@
 -- What a walk through bodies knows of names.
-use Rattle.std.specs.Prelude.{ℕ, Bool, List, Option, is_some}
+use Rattle.std.specs.Prelude.{ℕ, Bool, List, is_some}
 use Rattle.std.specs.BTreeMap.{BTreeMap}
 use Rattle.std.specs.Borrow.{Bor}
 use Rattle.arc_class.specs.declared.table.Declared.{Declared}

@@ -1,5 +1,5 @@
-use Rattle.std.proofs.Common.{◌≡◌, sym, ap, ◌∙◌, option_map}
-use Rattle.arc_ast.specs.Tree.{expr_tree, expr_trees}
+use Rattle.std.proofs.Common.{◌≡◌, ◌∙◌, option_map}
+use Rattle.arc_ast.specs.Tree.{expr_tree}
 use Rattle.arc_class.specs.Broken.{first}
 use Rattle.arc_class.specs.Bodies.{broken_expr}
 use Rattle.arc_class.specs.Fault.{told}

@@ -1,7 +1,7 @@
-use Rattle.std.proofs.Common.{◌≡◌, sym, ap, ◌∙◌, option_map, refl, subst, Option, IfOk}
-use Rattle.arc_ast.specs.Tree.{stmt_tree, stmt_trees, expr_tree}
+use Rattle.std.proofs.Common.{◌≡◌, option_map, subst, Option, IfOk}
+use Rattle.arc_ast.specs.Tree.{stmt_tree, expr_tree}
 use Rattle.arc_class.specs.Broken.{Broken, first}
-use Rattle.arc_class.specs.Bodies.{broken_expr, broken_stmt, broken_stmts, no_name}
+use Rattle.arc_class.specs.Bodies.{broken_expr, broken_stmt, no_name}
 use Rattle.arc_class.specs.Fault.{told}
 use Rattle.arc_class.specs.Walk.{lacks, holds}
 use Rattle.arc_class.proofs.Firsts.{first_both}

@@ -1,5 +1,4 @@
-use Rattle.std.proofs.Common.{option_map, sym, ap, ◌∙◌}
-use Rattle.arc_ast.specs.Tree.{parameter_trees}
+use Rattle.std.proofs.Common.{option_map, sym}
 use Rattle.arc_class.specs.Fault.{told}
 use Rattle.arc_class.specs.Walk.{lacks, holds}
 use Rattle.arc_class.proofs.Scopes.{holds-none}

@@ -1,4 +1,4 @@
-use Rattle.std.proofs.Common.{◌≡◌, ap, sym, ◌∙◌, option_map}
+use Rattle.std.proofs.Common.{◌≡◌, ap, ◌∙◌, option_map}
 use Rattle.arc_class.specs.Broken.{first}
 use Rattle.arc_class.specs.Bodies.{broken_if, and_name}
 use Rattle.arc_class.specs.Fault.{told}

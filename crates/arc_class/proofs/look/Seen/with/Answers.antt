@@ -1,10 +1,8 @@
-use Rattle.std.proofs.Common.{◌≡◌, ℕ, suc, Some, is_some, if◌then◌else◌, Option, option_map, ap, ◌∙◌, refl, sym, arith}
-use Rattle.std.proofs.lemmas.Grind.{common_steps}
+use Rattle.std.proofs.Common.{◌≡◌, Some, ap, ◌∙◌}
 use Rattle.std.specs.Map.{update}
 use Rattle.std.specs.Str.{bytes_eq}
 use Rattle.arc_ast.specs.Tree.{function_tree}
 use Rattle.arc_class.specs.Look.{joined, fault_with}
-use Rattle.arc_class.specs.Names.{has_body}
 use Rattle.arc_class.specs.Table.{at_name}
 use Rattle.arc_class.proofs.Scopes.{at_name-update}
 use Rattle.arc_class.proofs.look.Seen.with.Goals as goal

@@ -1,4 +1,4 @@
-use Rattle.std.proofs.Common.{◌≡◌, None, sym, ap, ◌∙◌, option_map}
+use Rattle.std.proofs.Common.{◌≡◌, sym, ap, ◌∙◌, option_map}
 use Rattle.arc_ast.specs.Tree.{unit_tree}
 use Rattle.arc_class.specs.Broken.{first}
 use Rattle.arc_class.specs.Fault.{told}
