@@ -1,5 +1,5 @@
 -- What the interpreter's values stand for. The interpreter is this project's own.
-use Rattle.std.specs.Prelude.{◌≡◌, ℕ, ℤ, List, [], ◌∷◌, ◌++◌, map, Option, Some, None, Result, Ok, Err}
+use Rattle.std.specs.Prelude.{◌≡◌, ℕ, ℤ, List, ◌∷◌, ◌++◌, map, Some, Result, Ok, Err}
 use Rattle.arc_spec.specs.declared.event.Event.TheVariants.{Byte}
 use Rattle.arc_spec.specs.Resolved.{Piece}
 use Rattle.arc_spec.specs.World.{World, Outcome, Done, Faulted, prints}

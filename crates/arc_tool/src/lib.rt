@@ -1,7 +1,12 @@
 //! The whole way from a source to what it prints, and the program's words.
 #![tactic(auto)]
 
+pub mod compile;
+pub mod refusal;
+pub mod report;
 pub mod request;
+pub mod run;
+pub mod serve;
 #[cfg(test)]
 mod tests;
 pub mod words;

@@ -1,1 +1,7 @@
+//! Worked rows on the public calls.
+
+mod devices;
+mod hostile;
+mod rows;
+mod served;
 mod words;

@@ -1,7 +1,7 @@
 use Rattle.std.proofs.lemmas.Result.{err_from_is_err_and}
 use Rattle.arc_plain.specs.Views.{world}
 use Rattle.arc_plain.proofs.Turns.{print_failed, print_done}
-use Rattle.std.proofs.Common.{◌≡◌, Err, subst, sym, ap, ◌∙◌}
+use Rattle.std.proofs.Common.{Err, ap, ◌∙◌}
 use Rattle.arc_plain.proofs.evaluate.+evaluation.Goals as goal
 
 pub evaluate-returns-in_err-values-in-Print : goal.evaluate-returns-in_err-values-in-Print

@@ -1,0 +1,56 @@
+-- The stages one after another.
+use Rattle.std.proofs.Common.{◌≡◌, ℕ, List, [], refl, sym, ap, subst, ◌∙◌}
+use Rattle.arc_lex.specs.declared.token.Token.{Token}
+use Rattle.arc_lex.specs.Tokens.{toks}
+use Rattle.arc_lex.specs.Source.{Tokens}
+use Rattle.arc_ast.specs.declared.tree.TranslationUnit.{TranslationUnit}
+use Rattle.arc_ast.specs.Tree.{unit_tree}
+use Rattle.arc_parse.specs.Grammar.{SpellsUnit}
+use Rattle.arc_parse.specs.Limits.{these}
+use Rattle.arc_class.specs.declared.table.ClassTable.{ClassTable}
+use Rattle.arc_class.specs.Functions.{broken}
+use Rattle.arc_class.specs.Table.{IsTableOf}
+use Rattle.arc_check.specs.declared.checked.Checked.{Checked}
+use Rattle.arc_check.specs.Checked.{body_of}
+use Rattle.arc_check.specs.Rules.{broken_stmts, main_body}
+use Rattle.arc_check.specs.Resolving.{resolved_stmts}
+use Rattle.arc_spec.specs.Correct.{Refines, Steady}
+use Rattle.arc_spec.proofs.Composition.{composed}
+use Rattle.arc_ir.specs.declared.action.Action.{Action}
+use Rattle.arc_ir.specs.Acting as acting
+use Rattle.arc_lower.specs.Promise.{Performs}
+use Rattle.arc_emit.specs.declared.fault.EmitFault.{EmitFault}
+use Rattle.arc_emit.specs.declared.fault.EmitFault.TheVariants as f
+use Rattle.arc_emit.specs.Faults as emitting
+use Rattle.arc_emit.specs.Emitted.{IsLarge}
+use Rattle.arc_code.specs.Running.{Program, seen, IsSound}
+use Rattle.arc_tool.specs.declared.refusal.Refusal.{Refusal}
+use Rattle.arc_tool.specs.Accepted.{Accepted, main_of, meant, Compiles}
+use Rattle.arc_tool.specs.Refused.{IsRefusal, too_large, no_memory}
+use Rattle.arc_tool.specs.Told.{Tells}
+
+-- the tokens of the source, as they were passed on
+pub passed : (source : List ℕ) (items these_tokens : List Token) → these_tokens ≡ items → Tokens source (toks items) → Tokens source (toks these_tokens)
+passed source items these_tokens same h = subst (λ ts. Tokens source (toks ts)) (sym same) h
+
+module _ (source : List ℕ) (tokens : List Token) (unit : TranslationUnit) (table : ClassTable) (program owned : Checked) (actions : List Action)
+    (cut : Tokens source (toks tokens)) (spelled : SpellsUnit these (unit_tree unit) (toks tokens)) (declared : broken (unit_tree unit) ≡ []) (has_main : IsTableOf (unit_tree unit) table)
+    (checked : broken_stmts (main_body (unit_tree unit) table) ≡ []) (resolved : body_of program ≡ resolved_stmts (main_body (unit_tree unit) table))
+    (same : owned ≡ program) (performs : Performs (body_of owned) actions) where
+  abbrev pub accepted : Accepted source
+  accepted = record { tokens = toks tokens; tree = unit_tree unit; table = table; cut = cut; spelled = spelled; declared = declared; has_main = has_main; checked = checked }
+
+  pub performed : Performs (main_of accepted) actions
+  performed = subst (λ body. Performs body actions) (ap body_of same ∙ resolved) performs
+
+  pub compiled : (code : Program) → IsSound code → Refines (acting.seen actions) (seen code) → Steady (seen code) → Compiles source code
+  compiled code sound refines steady = record {
+    program = accepted;
+    behaves = composed (meant accepted) (acting.seen actions) (seen code) performed.behaves performed.steady refines;
+    steady = steady;
+    sound = sound;
+  }
+
+  pub not_emitted : (e : EmitFault) (r : Refusal) → (e ≡ f.TooLarge → IsLarge actions) → Tells (emitting.fault_number e) (emitting.fault_name e) 0 r → IsRefusal source r
+  not_emitted f.TooLarge r large tells = too_large accepted actions performed (large refl) tells
+  not_emitted f.Memory r large tells = no_memory tells.name_is

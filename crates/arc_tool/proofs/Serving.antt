@@ -1,0 +1,37 @@
+-- What the program answers where a stage before the end refuses, or a device fails.
+use Rattle.std.proofs.Common.{ℕ, List, [], Option, Ok, Err, refl, sym, subst, ⊎_elim}
+use Rattle.std.proofs.lemmas.List.{append-nil}
+use Rattle.std.specs.Io.KnownBytes.{Keeps}
+use Rattle.std.proofs.KnownBytes.{Appends-kept}
+use Rattle.arc_code.specs.Written.{Written}
+use Rattle.arc_tool.specs.declared.refusal.Refusal.{Refusal}
+use Rattle.arc_tool.specs.declared.report.Trouble.{Trouble}
+use Rattle.arc_tool.specs.declared.run.ToolFault.{ToolFault}
+use Rattle.arc_tool.specs.declared.run.ToolFault.TheVariants.{Refused, Memory, Io}
+use Rattle.arc_tool.specs.Refused.{IsRefusal}
+use Rattle.arc_tool.specs.Ran.{Answered}
+use Rattle.arc_tool.specs.Status.{BecomesTrouble, trouble_of, status_of, line_of}
+use Rattle.arc_tool.specs.Served.{Checks, Lists, RunsSource, Reported}
+
+pub check_refused : (source : List ℕ) (o : Option (List ℕ)) (r : Refusal) (t : Trouble) → IsRefusal source r → BecomesTrouble r t → Checks source (Err t) o o
+check_refused source o r t is becomes = ⊎_elim
+    (λ memory. subst (λ x. Checks source (Err x) o o) (sym memory.1) refl)
+    (λ other. subst (λ x. Checks source (Err x) o o) (sym other.1) (is, refl))
+    becomes
+
+pub list_refused : (source : List ℕ) (o : Option (List ℕ)) (r : Refusal) (t : Trouble) → IsRefusal source r → BecomesTrouble r t → Lists source (Err t) o o
+list_refused source o r t is becomes = ⊎_elim
+    (λ memory. subst (λ x. Lists source (Err x) o o) (sym memory.1) refl)
+    (λ other. subst (λ x. Lists source (Err x) o o) (sym other.1) (is, refl))
+    becomes
+
+pub run_refused : (source : List ℕ) (steps : ℕ) (i0 i1 o0 o1 : Option (List ℕ)) (f : ToolFault) → Answered source steps (Err f) i0 i1 o0 o1 → RunsSource source steps (Err (trouble_of f)) i0 i1 o0 o1
+run_refused source steps i0 i1 o0 o1 (Refused r) h = h.0
+run_refused source steps i0 i1 o0 o1 Memory h = tt
+run_refused source steps i0 i1 o0 o1 (Io f) h = h
+
+-- a line that was written, and a flush behind it
+pub told_whole : (t : Trouble) (e0 e1 e2 : Option (List ℕ)) (f0 f1 f2 : ℕ) → Written (Ok tt) (line_of t) e0 e1 f0 f1 → Keeps e1 e2 → Reported (Err t) (status_of t) e0 e2 f0 f2
+told_whole t e0 e1 e2 f0 f1 f2 wrote kept =
+    let all = Appends-kept e0 e1 e2 (line_of t) wrote.0 kept in
+    (refl, (line_of t, [], sym (append-nil (line_of t)), all), λ _. all)

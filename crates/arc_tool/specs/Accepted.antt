@@ -1,0 +1,42 @@
+-- When a source is a program, what it means, and when code does that.
+use Rattle.std.specs.Prelude.{◌≡◌, ℕ, List, []}
+use Rattle.arc_lex.specs.Tokens.{Tok}
+use Rattle.arc_lex.specs.Source.{Tokens}
+use Rattle.arc_ast.specs.Tree.{FunctionTree}
+use Rattle.arc_parse.specs.Grammar.{SpellsUnit}
+use Rattle.arc_parse.specs.Limits.{these}
+use Rattle.arc_class.specs.declared.table.ClassTable.{ClassTable}
+use Rattle.arc_class.specs.Functions.{broken}
+use Rattle.arc_class.specs.Table.{IsTableOf}
+use Rattle.arc_check.specs.Rules.{broken_stmts, main_body}
+use Rattle.arc_check.specs.Resolving.{resolved_stmts}
+use Rattle.arc_spec.specs.Resolved.{Commands}
+use Rattle.arc_spec.specs.Meaning.{mean}
+use Rattle.arc_spec.specs.Correct.{Behaves, Steady, Sight, meaning_seen}
+use Rattle.arc_code.specs.Running.{Program, seen, IsSound}
+
+-- The source has these tokens, which spell this tree within the limits; the tree has a main, and breaks no rule.
+pub record Accepted (source : List ℕ) : Type 0 where
+  pub tokens : List Tok
+  pub tree : List FunctionTree
+  pub table : ClassTable
+  pub cut : Tokens source tokens
+  pub spelled : SpellsUnit these tree tokens
+  pub declared : broken tree ≡ []
+  pub has_main : IsTableOf tree table
+  pub checked : broken_stmts (main_body tree table) ≡ []
+
+-- the body of its main, with its names resolved
+abbrev pub main_of : {source : List ℕ} → Accepted source → Commands
+main_of p = resolved_stmts (main_body p.tree p.table)
+
+-- what is seen of its meaning on an input, with a bound on the turns of each loop
+abbrev pub meant : {source : List ℕ} → Accepted source → List ℕ → (bound : ℕ) → Sight
+meant p input bound = meaning_seen (mean (main_of p) input bound)
+
+-- The source is a program, and the code does what it means, on each input, and is never without what it needs.
+pub record Compiles (source : List ℕ) (code : Program) : Type 0 where
+  pub program : Accepted source
+  pub behaves : Behaves (meant program) (seen code)
+  pub steady : Steady (seen code)
+  pub sound : IsSound code

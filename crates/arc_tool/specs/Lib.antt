@@ -1,0 +1,6 @@
+pub mod Told
+pub mod Accepted
+pub mod Refused
+pub mod Ran
+pub mod Status
+pub mod Served

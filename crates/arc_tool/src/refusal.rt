@@ -1,0 +1,120 @@
+//! Why a source is refused.
+ghost use Rattle.std.specs.Prelude.{◌≡◌, ◌↔◌, IsTrue, codes};
+ghost use Rattle.arc_lex.specs.Faults as lexing;
+ghost use Rattle.arc_parse.specs.Refusal as parsing;
+ghost use Rattle.arc_class.specs.Fault as building;
+ghost use Rattle.arc_check.specs.Fault as checking;
+ghost use Rattle.arc_family.specs.Fault as owning;
+ghost use Rattle.arc_emit.specs.Faults as emitting;
+ghost use Rattle.arc_tool.specs.Told.{Tells, Names};
+
+use arc_check::fault::CheckFault;
+use arc_class::fault::ClassFault;
+use arc_emit::fault::EmitFault;
+use arc_family::owned::OwnFault;
+use arc_lex::fault::LexFault;
+use arc_parse::fault::ParseFault;
+use arc_spec::event::NoMemory;
+use thiserror::Error;
+
+/// Why a source is refused: the number and the name of the broken rule, and the byte of the source where it is broken, counted from 0.
+#[derive(Clone, Copy, Debug, PartialEq, Eq, Error)]
+#[error("refused {number} {name} at {at}")]
+pub struct Refusal {
+    pub number: u8,
+    pub name: &'static str,
+    pub at: usize,
+}
+
+impl Refusal {
+    /// Whether memory was asked for and refused, so that nothing is said of the source.
+    pub fn is_memory(&self) -> bool
+        ensures { IsTrue result ↔ Names (codes "Memory") self.now }
+    {
+        self.name == "Memory"
+    }
+}
+
+impl From<LexFault> for Refusal {
+    ghost from_gives = { λ f r. Tells (lexing.fault_number f) (lexing.fault_name f) (lexing.fault_at f) r };
+
+    fn from(fault: LexFault) -> Refusal {
+        Refusal {
+            number: fault.number(),
+            name: fault.name(),
+            at: fault.at(),
+        }
+    }
+}
+
+impl From<ParseFault> for Refusal {
+    ghost from_gives = { λ f r. Tells (parsing.number_of f) (parsing.name_of f) (parsing.byte_of f) r };
+
+    fn from(fault: ParseFault) -> Refusal {
+        Refusal {
+            number: fault.number(),
+            name: fault.name(),
+            at: fault.at(),
+        }
+    }
+}
+
+impl From<ClassFault> for Refusal {
+    ghost from_gives = { λ f r. Tells (building.fault_number f) (building.fault_name f) (building.fault_at f) r };
+
+    fn from(fault: ClassFault) -> Refusal {
+        Refusal {
+            number: fault.number(),
+            name: fault.name(),
+            at: fault.at(),
+        }
+    }
+}
+
+impl From<CheckFault> for Refusal {
+    ghost from_gives = { λ f r. Tells (checking.fault_number f) (checking.fault_name f) (checking.fault_at f) r };
+
+    fn from(fault: CheckFault) -> Refusal {
+        Refusal {
+            number: fault.number(),
+            name: fault.name(),
+            at: fault.at(),
+        }
+    }
+}
+
+impl From<OwnFault> for Refusal {
+    ghost from_gives = { λ f r. Tells (owning.fault_number f) (owning.fault_name f) (owning.fault_at f) r };
+
+    fn from(fault: OwnFault) -> Refusal {
+        Refusal {
+            number: fault.number(),
+            name: fault.name(),
+            at: fault.at(),
+        }
+    }
+}
+
+impl From<NoMemory> for Refusal {
+    ghost from_gives = { λ _ r. Tells 72 (codes "Memory") 0 r };
+
+    fn from(_fault: NoMemory) -> Refusal {
+        Refusal {
+            number: 72,
+            name: "Memory",
+            at: 0,
+        }
+    }
+}
+
+impl From<EmitFault> for Refusal {
+    ghost from_gives = { λ f r. Tells (emitting.fault_number f) (emitting.fault_name f) 0 r };
+
+    fn from(fault: EmitFault) -> Refusal {
+        Refusal {
+            number: fault.number(),
+            name: fault.name(),
+            at: 0,
+        }
+    }
+}

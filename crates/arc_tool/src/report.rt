@@ -1,0 +1,168 @@
+//! What is told on standard error, and the status with which the program ends.
+ghost use Rattle.std.specs.Prelude.{◌≡◌, ◌-◌, ◌^◌, ◌<◌, ◌++◌, codes, decimal};
+ghost use Rattle.arc_code.specs.Counting.{failures_of, held_by};
+ghost use Rattle.arc_code.specs.Written.{Written};
+ghost use Rattle.arc_tool.specs.Status.{status_of, line_of, message_of, named};
+
+use crate::refusal::Refusal;
+use crate::run::ToolFault;
+use arc_code::code::IoFault;
+use arc_code::counted::Counted;
+use arc_machine::fault::{fault_name, fault_number};
+use arc_spec::event::Fault;
+use itoa::Buffer;
+use std::io::Write;
+
+/// Why the program did not do what its words ask for.
+#[derive(Clone, Copy, Debug, PartialEq, Eq)]
+pub enum Trouble {
+    /// The words ask for nothing that can be done.
+    Usage,
+    /// The source is refused.
+    Refused(Refusal),
+    /// Memory was asked for and refused.
+    Memory,
+    /// The source's program was stopped.
+    Fault(Fault),
+    /// All steps were made, and the source's program goes on.
+    StepsUsed,
+    /// Standard input or output failed.
+    Io(IoFault),
+    /// The source can't be read.
+    File,
+}
+
+impl From<Refusal> for Trouble {
+    ghost use Rattle.arc_tool.specs.Status.{BecomesTrouble};
+
+    ghost from_gives = { λ r t. BecomesTrouble r t };
+
+    fn from(refusal: Refusal) -> Trouble {
+        if refusal.is_memory() {
+            Trouble::Memory
+        } else {
+            Trouble::Refused(refusal)
+        }
+    }
+}
+
+impl From<ToolFault> for Trouble {
+    ghost use Rattle.std.specs.Prelude.{◌≡◌};
+    ghost use Rattle.arc_tool.specs.Status.{trouble_of};
+
+    ghost from_gives = { λ f t. t ≡ trouble_of f };
+
+    fn from(fault: ToolFault) -> Trouble {
+        match fault {
+            ToolFault::Refused(refusal) => Trouble::Refused(refusal),
+            ToolFault::Memory => Trouble::Memory,
+            ToolFault::Io(fault) => Trouble::Io(fault),
+        }
+    }
+}
+
+impl From<IoFault> for Trouble {
+    ghost use Rattle.std.specs.Prelude.{◌≡◌};
+    ghost use Rattle.arc_tool.specs.declared.report.Trouble.TheVariants.{Io};
+
+    ghost from_gives = { λ f t. t ≡ Io f };
+
+    fn from(fault: IoFault) -> Trouble {
+        Trouble::Io(fault)
+    }
+}
+
+/// The status with which the program ends.
+pub fn status(trouble: &Trouble) -> u8
+    ensures { result ≡ status_of trouble.now }
+{
+    match trouble {
+        Trouble::Usage => 101,
+        Trouble::Refused(_) | Trouble::Memory => 102,
+        Trouble::Fault(_) => 103,
+        Trouble::StepsUsed => 105,
+        Trouble::Io(_) | Trouble::File => 106,
+    }
+}
+
+/// Tells the trouble in one line. The error is a failure of the writer; then some of the first bytes are written.
+pub fn tell<E: Write>(trouble: &Trouble, errors: &mut Counted<E>) -> Result<(), IoFault>
+    requires { failures_of errors.old < 2 ^ 64 - 1 }
+    ensures { Written result (line_of trouble.now)
+        (held_by E.contents errors.old) (held_by E.contents errors.new)
+        (failures_of errors.old) (failures_of errors.new) }
+{
+    put(b"arcc: ", errors)?;
+    put_message(trouble, errors)?;
+    put(b"\n", errors)
+}
+
+fn put_message<E: Write>(trouble: &Trouble, errors: &mut Counted<E>) -> Result<(), IoFault>
+    requires { failures_of errors.old < 2 ^ 64 - 1 }
+    ensures { Written result (message_of trouble.now)
+        (held_by E.contents errors.old) (held_by E.contents errors.new)
+        (failures_of errors.old) (failures_of errors.new) }
+{
+    match trouble {
+        Trouble::Usage => put(b"usage: check, run, trace or code, and FILE", errors),
+        Trouble::Refused(refusal) => put_refusal(refusal, errors),
+        Trouble::Memory => put(b"no memory", errors),
+        Trouble::Fault(fault) => {
+            put_named(b"fault ", fault_number(*fault), fault_name(*fault), errors)
+        }
+        Trouble::StepsUsed => put(b"steps used", errors),
+        Trouble::Io(fault) => put_named(b"io ", fault.number(), fault.name(), errors),
+        Trouble::File => put_named(b"io ", 93, "File", errors),
+    }
+}
+
+fn put_refusal<E: Write>(refusal: &Refusal, errors: &mut Counted<E>) -> Result<(), IoFault>
+    requires { failures_of errors.old < 2 ^ 64 - 1 }
+    ensures { Written result (named (codes "refused ") refusal.now.number refusal.now.name.now ++ codes " at " ++ decimal refusal.now.at)
+        (held_by E.contents errors.old) (held_by E.contents errors.new)
+        (failures_of errors.old) (failures_of errors.new) }
+{
+    put_named(b"refused ", refusal.number, refusal.name, errors)?;
+    put(b" at ", errors)?;
+    put_number(refusal.at as u64, errors)
+}
+
+/// Writes what kind of trouble it is, and its number and name.
+fn put_named<E: Write>(
+    kind: &[u8],
+    number: u8,
+    name: &str,
+    errors: &mut Counted<E>,
+) -> Result<(), IoFault>
+    requires { failures_of errors.old < 2 ^ 64 - 1 }
+    ensures { Written result (named kind.now number name.now)
+        (held_by E.contents errors.old) (held_by E.contents errors.new)
+        (failures_of errors.old) (failures_of errors.new) }
+{
+    put(kind, errors)?;
+    put_number(number as u64, errors)?;
+    put(b" ", errors)?;
+    put(name.as_bytes(), errors)
+}
+
+fn put_number<E: Write>(number: u64, errors: &mut Counted<E>) -> Result<(), IoFault>
+    requires { failures_of errors.old < 2 ^ 64 - 1 }
+    ensures { Written result (decimal number)
+        (held_by E.contents errors.old) (held_by E.contents errors.new)
+        (failures_of errors.old) (failures_of errors.new) }
+{
+    put(Buffer::new().format(number).as_bytes(), errors)
+}
+
+/// Writes the bytes.
+pub fn put<E: Write>(bytes: &[u8], writer: &mut Counted<E>) -> Result<(), IoFault>
+    requires { failures_of writer.old < 2 ^ 64 - 1 }
+    ensures { Written result bytes.now
+        (held_by E.contents writer.old) (held_by E.contents writer.new)
+        (failures_of writer.old) (failures_of writer.new) }
+{
+    match writer.put_all(bytes) {
+        Ok(()) => Ok(()),
+        Err(_) => Err(IoFault::Write),
+    }
+}

@@ -1,0 +1,187 @@
+//! The whole program, but for reading its file.
+ghost use Rattle.std.specs.Prelude.{◌≡◌, ◌-◌, ◌^◌, ◌<◌, ℕ, Result, Err};
+ghost use Rattle.std.specs.Io.KnownBytes.{Keeps};
+ghost use Rattle.arc_code.specs.Counting.{failures_of, left_in, held_by};
+ghost use Rattle.arc_tool.specs.declared.report.Trouble.{Trouble};
+ghost use Rattle.arc_tool.specs.Served.{Attempted, Obeyed, Reported, Printed, Checks, Lists, source_or, ended_with};
+
+use crate::compile::compile;
+use crate::report::{Trouble, put, status, tell};
+use crate::request::{Command, Words, WordsFault};
+use crate::run::run_text;
+use arc_code::code::IoFault;
+use arc_code::counted::Counted;
+use arc_code::lines::list;
+use arc_machine::stop::Stop;
+use arc_spec::number::low_byte;
+use std::alloc::Global;
+use std::io::{Read, Write};
+
+/// Why a source can't be read.
+#[derive(Clone, Copy, Debug, PartialEq, Eq)]
+pub enum FileFault {
+    Failed,
+    NoMemory,
+}
+
+/// Does what the words ask for with the bytes of their file, which aren't looked at where the words were refused, and gives the status
+/// with which the program ends. Trouble is told in one line on `errors`, whose failures are ignored.
+pub fn serve<R: Read, W: Write, E: Write>(
+    alloc: Global,
+    words: Result<Words, WordsFault>,
+    file: Result<&[u8], FileFault>,
+    input: &mut Counted<R>,
+    output: &mut Counted<W>,
+    errors: &mut Counted<E>,
+) -> u8
+    requires reads { failures_of input.old < 2 ^ 64 - 1 }
+    requires writes { failures_of output.old < 2 ^ 64 - 1 }
+    requires tells { failures_of errors.old < 2 ^ 64 - 1 }
+    ensures { (answer : Result ℕ Trouble) × Attempted words file.entry answer
+        (left_in R.remaining input.old) (left_in R.remaining input.new)
+        (held_by W.contents output.old) (held_by W.contents output.new)
+        × Reported answer result (held_by E.contents errors.old) (held_by E.contents errors.new)
+        (failures_of errors.old) (failures_of errors.new) }
+{
+    match attempt(alloc, words, file, input, output) {
+        Ok(status) => status,
+        Err(trouble) => report(&trouble, errors),
+    }
+}
+
+/// Tells the trouble, and gives its status.
+fn report<E: Write>(trouble: &Trouble, errors: &mut Counted<E>) -> u8
+    requires { failures_of errors.old < 2 ^ 64 - 1 }
+    ensures { Reported (Err trouble.now) result (held_by E.contents errors.old) (held_by E.contents errors.new)
+        (failures_of errors.old) (failures_of errors.new) }
+{
+    match tell(trouble, errors) {
+        Ok(()) => {
+            let _ = errors.flush();
+            status(trouble)
+        }
+        Err(_) => status(trouble),
+    }
+}
+
+/// The status where there is no trouble.
+fn attempt<R: Read, W: Write>(
+    alloc: Global,
+    words: Result<Words, WordsFault>,
+    file: Result<&[u8], FileFault>,
+    input: &mut Counted<R>,
+    output: &mut Counted<W>,
+) -> Result<u8, Trouble>
+    requires reads { failures_of input.old < 2 ^ 64 - 1 }
+    requires writes { failures_of output.old < 2 ^ 64 - 1 }
+    ensures { Attempted words file.entry result
+        (left_in R.remaining input.old) (left_in R.remaining input.new)
+        (held_by W.contents output.old) (held_by W.contents output.new) }
+{
+    match words {
+        Ok(words) => {
+            let source = source_of(file)?;
+            obey(alloc, &words, source, input, output)
+        }
+        Err(WordsFault::Help(text)) => {
+            print(text.as_bytes(), output)?;
+            Ok(0)
+        }
+        Err(WordsFault::Usage) => Err(Trouble::Usage),
+        Err(WordsFault::Memory) => Err(Trouble::Memory),
+    }
+}
+
+/// The bytes of the file.
+fn source_of<'a>(file: Result<&'a [u8], FileFault>) -> Result<&'a [u8], Trouble>
+    ensures { result ≡ source_or file.entry }
+{
+    match file {
+        Ok(source) => Ok(source),
+        Err(FileFault::Failed) => Err(Trouble::File),
+        Err(FileFault::NoMemory) => Err(Trouble::Memory),
+    }
+}
+
+/// Does what accepted words ask for.
+fn obey<R: Read, W: Write>(
+    alloc: Global,
+    words: &Words,
+    source: &[u8],
+    input: &mut Counted<R>,
+    output: &mut Counted<W>,
+) -> Result<u8, Trouble>
+    requires reads { failures_of input.old < 2 ^ 64 - 1 }
+    requires writes { failures_of output.old < 2 ^ 64 - 1 }
+    ensures { Obeyed words.now.command source.now words.now.steps result
+        (left_in R.remaining input.old) (left_in R.remaining input.new)
+        (held_by W.contents output.old) (held_by W.contents output.new) }
+{
+    match words.command {
+        Command::Check => check_source(alloc, source, output),
+        Command::Run => {
+            let stop = run_text(alloc, source, words.heap, words.steps, input, output)?;
+            ended(stop)
+        }
+        Command::Code => list_source(alloc, source, output),
+    }
+}
+
+/// Says whether the source is a program.
+fn check_source<W: Write>(
+    alloc: Global,
+    source: &[u8],
+    output: &mut Counted<W>,
+) -> Result<u8, Trouble>
+    requires { failures_of output.old < 2 ^ 64 - 1 }
+    ensures { Checks source.now result (held_by W.contents output.old) (held_by W.contents output.new) }
+{
+    let _code = compile(alloc, source)?;
+    print(b"ok\n", output)?;
+    Ok(0)
+}
+
+/// Lists the code of the source.
+fn list_source<W: Write>(
+    alloc: Global,
+    source: &[u8],
+    output: &mut Counted<W>,
+) -> Result<u8, Trouble>
+    requires { failures_of output.old < 2 ^ 64 - 1 }
+    ensures { Lists source.now result (held_by W.contents output.old) (held_by W.contents output.new) }
+{
+    let code = compile(alloc, source)?;
+    list(&code, output)?;
+    flush(output)?;
+    Ok(0)
+}
+
+/// The status of a program that ended.
+fn ended(stop: Stop) -> Result<u8, Trouble>
+    ensures { result ≡ ended_with stop }
+{
+    match stop {
+        Stop::Ended(number) => Ok(low_byte(i64::from(number))),
+        Stop::Fault(fault) => Err(Trouble::Fault(fault)),
+        Stop::StepsUsed => Err(Trouble::StepsUsed),
+    }
+}
+
+/// Writes the text, and has it passed on.
+fn print<W: Write>(text: &[u8], output: &mut Counted<W>) -> Result<(), IoFault>
+    requires { failures_of output.old < 2 ^ 64 - 1 }
+    ensures { Printed text.now result (held_by W.contents output.old) (held_by W.contents output.new) }
+{
+    put(text, output)?;
+    flush(output)
+}
+
+fn flush<W: Write>(output: &mut Counted<W>) -> Result<(), IoFault>
+    requires { failures_of output.old < 2 ^ 64 - 1 }
+    ensures { Keeps (held_by W.contents output.old) (held_by W.contents output.new) }
+{
+    match output.flush() {
+        Ok(()) => Ok(()),
+        Err(_) => Err(IoFault::Write),
+    }
+}

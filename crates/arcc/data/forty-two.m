@@ -1,0 +1,1 @@
+int main(void) { printf("42"); return 7; }

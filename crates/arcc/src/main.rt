@@ -1,0 +1,67 @@
+//! The program `arcc`: reads its words and its file, does what they ask for, and ends with the status.
+#![tactic(auto)]
+
+mod source;
+
+use crate::source::read_source;
+use arc_code::counted::Counted;
+use arc_tool::request::{Words, WordsFault};
+use arc_tool::serve::{FileFault, serve};
+use arc_tool::words::words;
+use std::alloc::Global;
+use std::env;
+use std::io::{BufReader, BufWriter, ErrorKind};
+use std::process::ExitCode;
+
+/// What the program was called with.
+fn called_with(rt: &HostRuntime) -> Result<Words, WordsFault> {
+    let alloc: Global = rt.alloc();
+    match env::args(rt) {
+        Ok(all) => match all.collect::<Vec<String>>(alloc) {
+            Ok(all) => words(alloc, &all),
+            Err(_) => Err(WordsFault::Memory),
+        },
+        Err(error) if error.kind() == ErrorKind::OutOfMemory => Err(WordsFault::Memory),
+        Err(_) => Err(WordsFault::Usage),
+    }
+}
+
+/// The status where not even the buffers of the standard streams have memory.
+const NO_MEMORY: u8 = 102;
+
+fn main(rt: HostRuntime) -> ExitCode {
+    let alloc = rt.alloc();
+    let (Ok(input), Ok(output)) = (
+        BufReader::new(alloc, rt.stdin()),
+        BufWriter::new(alloc, rt.stdout()),
+    ) else {
+        return ExitCode::from(NO_MEMORY);
+    };
+    let mut input = Counted::new(input);
+    let mut output = Counted::new(output);
+    let mut errors = Counted::new(rt.stderr());
+    let words = called_with(&rt);
+    let bytes = match &words {
+        Ok(words) => read_source(&rt, words.file.as_str()),
+        Err(_) => Err(FileFault::Failed),
+    };
+    let status = match &bytes {
+        Ok(bytes) => serve(
+            alloc,
+            words,
+            Ok(bytes),
+            &mut input,
+            &mut output,
+            &mut errors,
+        ),
+        Err(fault) => serve(
+            alloc,
+            words,
+            Err(*fault),
+            &mut input,
+            &mut output,
+            &mut errors,
+        ),
+    };
+    ExitCode::from(status)
+}
