@@ -29,3 +29,7 @@ binary_more (suc l) ts p = ap (λ j. (binary_by read j >>= (λ left. read (more 
   where
     less : (l : ℕ) → l ≡ suc l - 1
     less l = omega arith
+
+pub binary_three : (ts : List Tok) → binary_by read 3 ts ≡ (((unary_by read >>= (λ left. read (more 1 left))) >>= (λ left. read (more 2 left))) >>= (λ left. read (more 3 left))) ts
+unfolding binary_by
+binary_three ts = refl

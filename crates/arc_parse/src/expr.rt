@@ -46,20 +46,46 @@ fn is_unary(expr: &Expr) -> bool
 
 /// An expression.
 #[cycle(exprs)]
-#[tactic(auto, using(crate::proofs::ExprFix::read_expr), unfolding(crate::specs::ExprRules::expr_by, crate::specs::ExprRules::assign_by))]
+#[tactic(auto, using(crate::proofs::ExprFix::read_expr), unfolding(crate::specs::ExprRules::expr_by))]
 pub fn expr<'a>(alloc: Global, tokens: &'a [Token]) -> Read<'a, Expr>
     ensures gives { Gives (λ x. (expr_tree x.0, toks x.1.now)) result (read rules.expr (toks tokens.now)) }
     ensures shorter { IfOk result (λ x. length x.1.now < length tokens.now) }
 {
-    let (left, rest) = binary(alloc, 3, tokens)?;
-    if !is_unary(&left) || !sees_mark(Mark::Assign, rest) {
-        return Ok((left, rest));
+    let (left, rest) = operation(alloc, tokens)?;
+    if is_unary(&left) {
+        return assignment(alloc, left, rest);
+    }
+    Ok((left, rest))
+}
+
+/// What is behind a left side: `=` and an expression, if they are there.
+#[cycle(exprs)]
+#[tactic(auto, unfolding(crate::specs::ExprRules::assign_by))]
+fn assignment<'a>(alloc: Global, left: Expr, tokens: &'a [Token]) -> Read<'a, Expr>
+    ensures gives { Gives (λ x. (expr_tree x.0, toks x.1.now)) result (rules.assign_by read (expr_tree left) (toks tokens.now)) }
+    ensures shorter { IfOk result (λ x. length x.1.now ≤ length tokens.now) }
+{
+    if !sees_mark(Mark::Assign, tokens) {
+        return Ok((left, tokens));
     }
     let at = place_of(&left);
-    let (sign, rest) = expect(Mark::Assign, rest)?;
+    let (sign, rest) = expect(Mark::Assign, tokens)?;
     let (right, rest) = expr(alloc, rest)?;
     let (left, right) = (Box::new(alloc, left)?, Box::new(alloc, right)?);
     Ok((Expr::Assign(at, sign, left, right), rest))
+}
+
+/// An expression without an assignment. It calls no function for each level in turn, so that deep parentheses take less stack.
+#[cycle(exprs)]
+#[tactic(auto, using(crate::proofs::ExprFix::binary_three))]
+fn operation<'a>(alloc: Global, tokens: &'a [Token]) -> Read<'a, Expr>
+    ensures gives { Gives (λ x. (expr_tree x.0, toks x.1.now)) result (rules.binary_by read 3 (toks tokens.now)) }
+    ensures shorter { IfOk result (λ x. length x.1.now < length tokens.now) }
+{
+    let (left, rest) = unary(alloc, tokens)?;
+    let (left, rest) = more(alloc, 1, left, rest)?;
+    let (left, rest) = more(alloc, 2, left, rest)?;
+    more(alloc, 3, left, rest)
 }
 
 /// An expression whose operators bind as loosely as this, or tighter.
@@ -95,14 +121,23 @@ fn more<'a>(alloc: Global, level: usize, left: Expr, tokens: &'a [Token]) -> Rea
 }
 
 #[cycle(exprs)]
-#[tactic(auto, using(crate::proofs::ExprFix::read_unary), unfolding(crate::specs::ExprRules::unary_by, crate::specs::ExprRules::negate_by))]
+#[tactic(auto, unfolding(crate::specs::ExprRules::unary_by))]
 fn unary<'a>(alloc: Global, tokens: &'a [Token]) -> Read<'a, Expr>
     ensures gives { Gives (λ x. (expr_tree x.0, toks x.1.now)) result (rules.unary_by read (toks tokens.now)) }
     ensures shorter { IfOk result (λ x. length x.1.now < length tokens.now) }
 {
-    if !sees_mark(Mark::Minus, tokens) {
-        return primary(alloc, tokens);
+    if sees_mark(Mark::Minus, tokens) {
+        return negated(alloc, tokens);
     }
+    primary(alloc, tokens)
+}
+
+#[cycle(exprs)]
+#[tactic(auto, using(crate::proofs::ExprFix::read_unary), unfolding(crate::specs::ExprRules::negate_by))]
+fn negated<'a>(alloc: Global, tokens: &'a [Token]) -> Read<'a, Expr>
+    ensures gives { Gives (λ x. (expr_tree x.0, toks x.1.now)) result (rules.negate_by read (toks tokens.now)) }
+    ensures shorter { IfOk result (λ x. length x.1.now < length tokens.now) }
+{
     let (at, rest) = expect(Mark::Minus, tokens)?;
     let (operand, rest) = unary(alloc, rest)?;
     Ok((Expr::Negate(at, Box::new(alloc, operand)?), rest))
