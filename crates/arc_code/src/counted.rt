@@ -99,6 +99,7 @@ impl<W: Write> Counted<W> {
         ensures within { IfOk result (λ n. (0 < n) × (n ≤ length bytes.now)) }
         ensures ok { IfOk result (λ n.
             Appends (held_by W.contents self.old) (held_by W.contents self.new) (take n bytes.now)) }
+        ensures end { has_ended self.new ≡ has_ended self.old }
         ensures fine { OnOk result (failures_of self.new ≡ failures_of self.old) }
         ensures err { OnErr result (Keeps (held_by W.contents self.old) (held_by W.contents self.new)) }
         ensures cause { OnErr result (failures_of self.new ≡ failures_of self.old + 1) }
@@ -122,6 +123,7 @@ impl<W: Write> Counted<W> {
         requires { failures_of self.old < 2 ^ 64 - 1 }
         ensures ok { OnOk result
             (Appends (held_by W.contents self.old) (held_by W.contents self.new) bytes.now) }
+        ensures end { has_ended self.new ≡ has_ended self.old }
         ensures fine { OnOk result (failures_of self.new ≡ failures_of self.old) }
         ensures err { OnErr result
             (AppendsPart (held_by W.contents self.old) (held_by W.contents self.new) bytes.now) }
@@ -139,6 +141,7 @@ impl<W: Write> Counted<W> {
     pub fn flush(&mut self) -> Result<(), Failed>
         requires { failures_of self.old < 2 ^ 64 - 1 }
         ensures kept { Keeps (held_by W.contents self.old) (held_by W.contents self.new) }
+        ensures end { has_ended self.new ≡ has_ended self.old }
         ensures fine { OnOk result (failures_of self.new ≡ failures_of self.old) }
         ensures cause { OnErr result (failures_of self.new ≡ failures_of self.old + 1) }
     {

@@ -3,3 +3,4 @@ pub mod Views
 pub mod Steps
 pub mod Runs
 pub mod Told
+pub mod Sample

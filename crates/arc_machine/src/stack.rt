@@ -6,6 +6,7 @@ use arc_spec::event::NoMemory;
 use std::alloc::Global;
 use std::marker::Model;
 
+/// Numbers, of which the last one is on top. It never takes more memory than it was made with.
 #[derive(Drop)]
 pub struct Stack {
     numbers: Vec<i64>,
@@ -21,7 +22,7 @@ impl Model for Stack {
 }
 
 impl Stack {
-    /// An empty stack for so many numbers.
+    /// An empty stack for so many numbers. The error is a refusal of their memory.
     pub fn with_room(alloc: Global, room: usize) -> Result<Stack, NoMemory>
         ensures { IfOk result (λ s. s ≡ empty room) }
     {
@@ -30,6 +31,7 @@ impl Stack {
         })
     }
 
+    /// Puts a number on top.
     #[inline(always)]
     pub fn push(&mut self, number: i64)
         requires { length self.old.items < self.old.room }
@@ -40,6 +42,7 @@ impl Stack {
         self.numbers.push_reserved(number);
     }
 
+    /// Takes the number on top.
     #[inline(always)]
     pub fn pop(&mut self) -> i64
         requires { 0 < length self.old.items }
@@ -53,6 +56,7 @@ impl Stack {
         }
     }
 
+    /// The number on top.
     #[inline(always)]
     pub fn top(&self) -> i64
         requires { 0 < length self.now.items }

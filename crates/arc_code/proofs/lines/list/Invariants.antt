@@ -1,4 +1,4 @@
-use Rattle.std.proofs.Common.{◌≡◌, take, Ok}
+use Rattle.std.proofs.Common.{take, Ok}
 use Rattle.arc_code.specs.Counting.{failures_of, held_by}
 use Rattle.arc_code.specs.Written.{Written}
 use Rattle.arc_code.specs.Listing.{listing}

@@ -10,7 +10,7 @@ moves_front all done rest n e =
 
 pub loop-rest-preserved : goal.loop-rest-preserved
 loop-rest-preserved g c =
-    let (done, split, appended) = c.loop-rest.invariant.1 in
+    let (done, split, appended) = c.loop-rest.invariant.2 in
     let rest = c.loop-rest.rest.now in
     let n = c.in_ok-n.n in
-    (search rules, (done ++ take n rest, moves_front _ done rest n split, Appends-trans _ _ _ _ _ appended c.in_ok-n.ensures.ok))
+    (search rules, search rules, (done ++ take n rest, moves_front _ done rest n split, Appends-trans _ _ _ _ _ appended c.in_ok-n.ensures.ok))

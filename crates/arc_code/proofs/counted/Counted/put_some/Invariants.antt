@@ -4,4 +4,4 @@ use Rattle.arc_code.proofs.counted.Counted.put_some.Given as goal
 
 abbrev pub invariant-loop : goal.invariant-loop
 invariant-loop g l =
-    (l.self.failures ≡ l.fn.self.failures) × Keeps (g.W.Write.contents l.fn.self.inner) (g.W.Write.contents l.self.inner)
+    (l.self.failures ≡ l.fn.self.failures) × (l.self.at_end ≡ l.fn.self.at_end) × Keeps (g.W.Write.contents l.fn.self.inner) (g.W.Write.contents l.self.inner)

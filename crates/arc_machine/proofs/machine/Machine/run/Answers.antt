@@ -1,4 +1,4 @@
-use Rattle.std.proofs.Common.{◌≡◌, ◌+◌, arith, rules, ap, ◌∙◌, sym, add-one}
+use Rattle.std.proofs.Common.{◌≡◌, arith, rules, ap, ◌∙◌, sym, add-one}
 use Rattle.arc_machine.specs.declared.stop.Answer.TheVariants as answer
 use Rattle.arc_machine.specs.Views.{Seen}
 use Rattle.arc_machine.proofs.Farther.{turned_start, turned}
