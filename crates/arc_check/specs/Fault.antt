@@ -8,23 +8,29 @@ use Rattle.arc_check.specs.declared.fault.CheckFault.TheVariants as f
 abbrev pub fault_number : CheckFault → ℕ
 fault_number (f.UnknownName at) = 41
 fault_number (f.KindMismatch at) = 43
+fault_number (f.NotAssignable at) = 44
 fault_number (f.ArgumentCount at) = 45
 fault_number (f.Format at) = 46
+fault_number (f.TooManyLocals at) = 50
 fault_number f.Memory = 51
 
 abbrev pub fault_name : CheckFault → List ℕ
 fault_name (f.UnknownName at) = codes "UnknownName"
 fault_name (f.KindMismatch at) = codes "KindMismatch"
+fault_name (f.NotAssignable at) = codes "NotAssignable"
 fault_name (f.ArgumentCount at) = codes "ArgumentCount"
 fault_name (f.Format at) = codes "Format"
+fault_name (f.TooManyLocals at) = codes "TooManyLocals"
 fault_name f.Memory = codes "Memory"
 
 -- the byte that a fault names, counted from 0
 abbrev pub fault_at : CheckFault → ℕ
 fault_at (f.UnknownName at) = at
 fault_at (f.KindMismatch at) = at
+fault_at (f.NotAssignable at) = at
 fault_at (f.ArgumentCount at) = at
 fault_at (f.Format at) = at
+fault_at (f.TooManyLocals at) = at
 fault_at f.Memory = 0
 
 -- the broken rule that a fault tells
@@ -38,3 +44,5 @@ Refuses all (f.UnknownName at) = first all ≡ Some (told (f.UnknownName at))
 Refuses all (f.KindMismatch at) = first all ≡ Some (told (f.KindMismatch at))
 Refuses all (f.ArgumentCount at) = first all ≡ Some (told (f.ArgumentCount at))
 Refuses all (f.Format at) = first all ≡ Some (told (f.Format at))
+Refuses all (f.NotAssignable at) = first all ≡ Some (told (f.NotAssignable at))
+Refuses all (f.TooManyLocals at) = first all ≡ Some (told (f.TooManyLocals at))
