@@ -145,10 +145,14 @@ fn descent(alloc: Global, number: i64) -> Result<Checked, AllocError> {
 }
 
 #[test]
-fn calls(rt: HostRuntime) -> Result<(), Fail> {
+fn deep_calls(rt: HostRuntime) -> Result<(), Fail> {
     let alloc = rt.alloc();
-    let program = descent(alloc, 3)?;
-    let answer = interpret(alloc, &program, b"", 0)?;
+    // main and f(1998), .., f(0) are 2,000 calls
+    let deepest = descent(alloc, 1_998)?;
+    let answer = interpret(alloc, &deepest, b"", 0)?;
     assert_eq!(rt; answer.stop, PlainStop::Ended(7));
+    let deeper = descent(alloc, 1_999)?;
+    let stopped = interpret(alloc, &deeper, b"", 0)?;
+    assert_eq!(rt; stopped.stop, PlainStop::Fault(Fault::Depth));
     Ok(())
 }
