@@ -1,4 +1,6 @@
 pub mod Lists
 pub mod Trees
+pub mod Scoping
 pub mod Readings
 pub mod Printing
+pub mod Judgements

@@ -53,10 +53,10 @@ behind_first (and_value a others) = others
 
 -- a call, from its arguments and their values
 abbrev pub called : Callee → ExprTrees → Values → Value
-called Printf arguments values = Print (printed (parts Nothing (format arguments))) (behind_first values)
-called GetChar arguments values = ReadByte
-called (Defined result count body) arguments values = Invoked (number body) values
-called Unknown arguments values = ReadByte
+called Printf arguments all = Print (printed (parts Nothing (format arguments))) (behind_first all)
+called GetChar arguments all = ReadByte
+called (Defined result count body) arguments all = Invoked (number body) all
+called Unknown arguments all = ReadByte
 
 -- the number of the variable that an assignment's left side names
 abbrev pub variable : Scope → ExprTree → ℕ
