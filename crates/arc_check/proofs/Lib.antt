@@ -4,3 +4,4 @@ pub mod Scoping
 pub mod Readings
 pub mod Printing
 pub mod Judgements
+pub mod Buildings

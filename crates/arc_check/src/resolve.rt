@@ -107,7 +107,10 @@ pub fn expression<'a>(
             value: Value::Number(0),
         }),
         Expr::Paren(_, inside) => expression(alloc, table, visible, inside),
-        Expr::Call(_, name, arguments) => call(alloc, table, visible, name, arguments),
+        Expr::Call(_, name, arguments) => {
+            let typed = call(alloc, table, visible, name, arguments)?;
+            Ok(typed)
+        }
         Expr::Negate(_, operand) => {
             let operand = expression(alloc, table, visible, operand)?;
             let kind = operand.kind;
@@ -170,7 +173,8 @@ fn call<'a>(
                 values(alloc, table, visible, false, arguments)?,
             )
         }
-        Callee::GetChar | Callee::Unknown => Value::ReadByte,
+        Callee::GetChar => Value::ReadByte,
+        Callee::Unknown => Value::ReadByte,
     };
     Ok(Typed {
         kind: result_kind(callee),
