@@ -5,3 +5,4 @@ pub mod Readings
 pub mod Printing
 pub mod Judgements
 pub mod Buildings
+pub mod Walks
