@@ -1,5 +1,5 @@
 -- Visible variables, and one more.
-use Rattle.std.proofs.Common.{◌≡◌, ℕ, suc, ◌+◌, ◌<◌, Bool, true, false, nat_lt, List, [], ◌∷◌, ◌++◌, length, get_or, drop, Option, Some, None, cond, rules, refl, sym, ap, ◌∙◌}
+use Rattle.std.proofs.Common.{◌≡◌, ℕ, suc, ◌+◌, ◌<◌, Bool, true, false, nat_lt, List, [], ◌∷◌, ◌++◌, length, get_or, take, drop, Option, Some, None, cond, rules, refl, sym, ap, ◌∙◌}
 use Rattle.std.proofs.Math.Path.{fun_ext}
 use Rattle.std.specs.Str.{bytes_eq}
 use Rattle.arc_ast.specs.declared.tree.Parameter.{Parameter}
@@ -50,3 +50,14 @@ number_turn xs i x name so_far now whole l e n w =
 pub parameters_turn : (xs : List Parameter) (i : ℕ) (x : Parameter) (old new whole : Scope) → i < length xs → x ≡ get_or xs i x → new ≡ declare x.name.items old → whole ≡ with_parameters old (parameter_trees (drop i xs))
     → whole ≡ with_parameters new (parameter_trees (drop (i + 1) xs))
 parameters_turn xs i x old new whole l e n w = w ∙ ap (λ us. with_parameters old (parameter_trees us)) (drop_turn xs i x l e) ∙ ap (λ s. with_parameters s (parameter_trees (drop (i + 1) xs))) (sym n)
+
+-- what stood in front stands there still
+pub keeps_turn : {A : Type 0} (old mid new : List A) → take (length old) mid ≡ old → take (length mid) new ≡ mid → take (length old) new ≡ old
+keeps_turn [] mid new p q = refl
+keeps_turn (a ∷ old) [] new p q = absurd (cc)
+keeps_turn (a ∷ old) (b ∷ mid) [] p q = absurd (cc)
+keeps_turn (a ∷ old) (b ∷ mid) (d ∷ new) p q =
+    let h : take (length old) mid ≡ old = cc in
+    let g : take (length mid) new ≡ mid = cc in
+    let r : take (length old) new ≡ old = keeps_turn old mid new h g in
+    cc
