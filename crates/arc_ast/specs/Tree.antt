@@ -1,16 +1,20 @@
 -- Trees without where they lie in memory.
 use Rattle.std.specs.Prelude.{ℕ, ℤ, List, [], ◌∷◌, Option, option_map}
+use Rattle.arc_ast.specs.declared.tree.Kind.{Kind}
 use Rattle.arc_ast.specs.declared.tree.BinaryOperator.{BinaryOperator}
-use Rattle.arc_ast.specs.declared.tree.Parameters.{Parameters}
 use Rattle.arc_ast.specs.declared.tree.Expr.{Expr, Row_of-Expr, end_of-Expr, more_of-Expr}
 use Rattle.arc_ast.specs.declared.tree.Expr.TheVariants as e
+use Rattle.arc_ast.specs.declared.tree.Variable.{Variable}
 use Rattle.arc_ast.specs.declared.tree.Stmt.{Stmt, Row_of-Stmt, end_of-Stmt, more_of-Stmt}
 use Rattle.arc_ast.specs.declared.tree.Stmt.TheVariants as s
+use Rattle.arc_ast.specs.declared.tree.Parameter.{Parameter}
+use Rattle.arc_ast.specs.declared.tree.Parameters.{Parameters}
+use Rattle.arc_ast.specs.declared.tree.Parameters.TheVariants as p
 use Rattle.arc_ast.specs.declared.tree.Function.{Function}
 use Rattle.arc_ast.specs.declared.tree.TranslationUnit.{TranslationUnit}
 
 mutual
-  -- an expression, with the place of its first byte (C99, section 6.5)
+  -- an expression, with the place of its first byte (C99, section 6.5); an assignment has that of its `=` too
   pub data ExprTree : Type 0 where
     Integer : ℕ → ℤ → ExprTree
     Text : ℕ → List ℕ → ExprTree
@@ -18,10 +22,18 @@ mutual
     Call : ℕ → List ℕ → ExprTrees → ExprTree
     Negate : ℕ → ExprTree → ExprTree
     Binary : ℕ → BinaryOperator → ExprTree → ExprTree → ExprTree
+    Name : ℕ → List ℕ → ExprTree
+    Assign : ℕ → ℕ → ExprTree → ExprTree → ExprTree
 
   pub data ExprTrees : Type 0 where
     no_exprs : ExprTrees
     and_expr : ExprTree → ExprTrees → ExprTrees
+
+-- a variable of a declaration, with the place of its name (C99, section 6.7)
+pub record VariableTree : Type 0 where
+  pub at : ℕ
+  pub name : List ℕ
+  pub initial : Option ExprTree
 
 mutual
   -- a statement, with the place of its first byte (C99, section 6.8)
@@ -30,18 +42,33 @@ mutual
     Empty : ℕ → StmtTree
     Simple : ExprTree → StmtTree
     Return : ℕ → Option ExprTree → StmtTree
+    Variables : ℕ → List VariableTree → StmtTree
+    If : ℕ → ExprTree → StmtTree → StmtTree
+    IfElse : ℕ → ExprTree → StmtTree → StmtTree → StmtTree
+    While : ℕ → ExprTree → StmtTree → StmtTree
 
   pub data StmtTrees : Type 0 where
     no_stmts : StmtTrees
     and_stmt : StmtTree → StmtTrees → StmtTrees
 
+-- an int that a function takes, with the place of its name
+pub record ParameterTree : Type 0 where
+  pub at : ℕ
+  pub name : List ℕ
+
+pub data ParametersTree : Type 0 where
+  Ints : List ParameterTree → ParametersTree
+  CountAndTexts : ParametersTree
+
 -- a function, with the place of its name (C99, section 6.9.1)
 pub record FunctionTree : Type 0 where
   pub at : ℕ
-  pub parameters : Parameters
+  pub name : List ℕ
+  pub result : Kind
+  pub parameters : ParametersTree
   pub body : Option StmtTrees
 
--- the place of an expression
+-- the place of an expression's first byte
 abbrev pub place : ExprTree → ℕ
 place (Integer at _) = at
 place (Text at _) = at
@@ -49,6 +76,8 @@ place (Paren at _) = at
 place (Call at _ _) = at
 place (Negate at _) = at
 place (Binary at _ _ _) = at
+place (Name at _) = at
+place (Assign at _ _ _) = at
 
 abbrev mutual
   pub expr_tree : Expr → ExprTree
@@ -58,6 +87,8 @@ abbrev mutual
   expr_tree (e.Call' at name shape args) = Call at name.items (row_exprs args)
   expr_tree (e.Negate' at q a) = Negate at (expr_tree a)
   expr_tree (e.Binary' at operator q a r b) = Binary at operator (expr_tree a) (expr_tree b)
+  expr_tree (e.Name at name) = Name at name.items
+  expr_tree (e.Assign' at sign q a r b) = Assign at sign (expr_tree a) (expr_tree b)
 
   pub row_exprs : {n : _} → Row_of-Expr n → ExprTrees
   row_exprs end_of-Expr = no_exprs
@@ -67,12 +98,23 @@ abbrev pub expr_trees : List Expr → ExprTrees
 expr_trees [] = no_exprs
 expr_trees (a ∷ others) = and_expr (expr_tree a) (expr_trees others)
 
+abbrev pub variable_tree : Variable → VariableTree
+variable_tree v = record { at = v.at; name = v.name.items; initial = option_map expr_tree v.initial }
+
+abbrev pub variable_trees : List Variable → List VariableTree
+variable_trees [] = []
+variable_trees (v ∷ others) = variable_tree v ∷ variable_trees others
+
 abbrev mutual
   pub stmt_tree : Stmt → StmtTree
   stmt_tree (s.Block' at shape all) = Block at (row_stmts all)
   stmt_tree (s.Empty at) = Empty at
   stmt_tree (s.Expr a) = Simple (expr_tree a)
   stmt_tree (s.Return at a) = Return at (option_map expr_tree a)
+  stmt_tree (s.Variables at all) = Variables at (variable_trees all.items)
+  stmt_tree (s.If' at c q a) = If at (expr_tree c) (stmt_tree a)
+  stmt_tree (s.IfElse' at c q a r b) = IfElse at (expr_tree c) (stmt_tree a) (stmt_tree b)
+  stmt_tree (s.While' at c q a) = While at (expr_tree c) (stmt_tree a)
 
   pub row_stmts : {n : _} → Row_of-Stmt n → StmtTrees
   row_stmts end_of-Stmt = no_stmts
@@ -82,8 +124,17 @@ abbrev pub stmt_trees : List Stmt → StmtTrees
 stmt_trees [] = no_stmts
 stmt_trees (a ∷ others) = and_stmt (stmt_tree a) (stmt_trees others)
 
+abbrev pub parameter_trees : List Parameter → List ParameterTree
+parameter_trees [] = []
+parameter_trees (a ∷ others) = record { at = a.at; name = a.name.items } ∷ parameter_trees others
+
+abbrev pub parameters_tree : Parameters → ParametersTree
+parameters_tree (p.Ints all) = Ints (parameter_trees all.items)
+parameters_tree p.CountAndTexts = CountAndTexts
+
 abbrev pub function_tree : Function → FunctionTree
-function_tree f = record { at = f.at; parameters = f.parameters; body = option_map (λ b. stmt_trees b.items) f.body }
+function_tree f =
+    record { at = f.at; name = f.name.items; result = f.result; parameters = parameters_tree f.parameters; body = option_map (λ b. stmt_trees b.items) f.body }
 
 abbrev pub function_trees : List Function → List FunctionTree
 function_trees [] = []

@@ -16,6 +16,7 @@ pub enum BinaryOperator {
     Subtract,
     Multiply,
     Divide,
+    NotEqual,
 }
 
 /// An expression, with the place of its first byte; a call has that of its function's name.
@@ -29,9 +30,21 @@ pub enum Expr {
     Call(usize, Vec<u8>, Vec<Expr>),
     Negate(usize, Box<Expr>),
     Binary(usize, BinaryOperator, Box<Expr>, Box<Expr>),
+    /// A variable's name.
+    Name(usize, Vec<u8>),
+    /// An assignment: the place of its first byte and that of its `=`, the left side and the right one.
+    Assign(usize, usize, Box<Expr>, Box<Expr>),
 }
 
-/// A statement, with the place of its first byte.
+/// A variable that a declaration makes, with the place of its name.
+#[derive(Debug, Drop)]
+pub struct Variable {
+    pub at: usize,
+    pub name: Vec<u8>,
+    pub initial: Option<Expr>,
+}
+
+/// A statement, or a declaration of variables among those of a block, with the place of its first byte.
 #[derive(Debug, Drop)]
 pub enum Stmt {
     Block(usize, Vec<Stmt>),
@@ -39,19 +52,33 @@ pub enum Stmt {
     Empty(usize),
     Expr(Expr),
     Return(usize, Option<Expr>),
+    Variables(usize, Vec<Variable>),
+    If(usize, Expr, Box<Stmt>),
+    IfElse(usize, Expr, Box<Stmt>, Box<Stmt>),
+    While(usize, Expr, Box<Stmt>),
 }
 
-/// The parameters that `main` may have: none, or a count and the arguments' texts.
-#[derive(Clone, Copy, Debug, PartialEq, Eq)]
+/// An `int` that a function takes, with the place of its name.
+#[derive(Debug, Drop)]
+pub struct Parameter {
+    pub at: usize,
+    pub name: Vec<u8>,
+}
+
+/// What a function takes: some numbers or, as `main` may, a count and the arguments' texts.
+#[derive(Debug, Drop)]
 pub enum Parameters {
-    Nothing,
+    Ints(Vec<Parameter>),
     CountAndTexts,
 }
 
-/// A declaration or, with a body, a definition of a function; the place is that of its name.
+/// A declaration or, with a body, a definition of a function; the place is that of its name. The result
+/// is Int or Void.
 #[derive(Debug, Drop)]
 pub struct Function {
     pub at: usize,
+    pub name: Vec<u8>,
+    pub result: Kind,
     pub parameters: Parameters,
     pub body: Option<Vec<Stmt>>,
 }

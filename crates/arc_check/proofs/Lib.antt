@@ -1,8 +1,8 @@
 pub mod Lists
 pub mod Trees
-pub mod Bodies
+pub mod Scoping
 pub mod Readings
 pub mod Printing
 pub mod Judgements
 pub mod Buildings
-pub mod Refusals
+pub mod Walks

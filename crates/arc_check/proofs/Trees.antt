@@ -6,7 +6,7 @@ use Rattle.arc_ast.specs.declared.tree.Stmt.{Stmt, Block, Block', Row_of-Stmt, e
 use Rattle.arc_ast.specs.Tree.{and_expr, expr_tree, expr_trees, row_exprs, and_stmt, stmt_tree, stmt_trees, row_stmts}
 use Rattle.arc_ast.specs.Tree as tree
 use Rattle.arc_check.specs.declared.checked.Piece.{Piece}
-use Rattle.arc_check.specs.declared.checked.Value.{Value, Print, Print', Row_of-Value, end_of-Value, more_of-Value, items-the_row-Value, items_hidden-the_row-Value-0}
+use Rattle.arc_check.specs.declared.checked.Value.{Value, Print, Print', Invoked, Invoked', Row_of-Value, end_of-Value, more_of-Value, items-the_row-Value, items_hidden-the_row-Value-0}
 use Rattle.arc_check.specs.declared.checked.Command.{Command, Sequence, Sequence', Row_of-Command, end_of-Command, more_of-Command, items-the_row-Command, items_hidden-the_row-Command-0}
 use Rattle.arc_check.specs.Checked.{pieces, value, values, row_values, command, commands, row_commands}
 use Rattle.arc_spec.specs.Resolved as resolved
@@ -49,6 +49,15 @@ pub print_value : (all : Vec Piece Global) (arguments : Vec Value Global) → va
 print_value all arguments =
     let row = values_of (Print all arguments) in
     ap (resolved.Print (pieces all.items)) (row_values_is row.0 row.1 ∙ ap values (items_hidden-the_row-Value-0 arguments))
+
+abbrev given_of : Value → (n : Count) × Row_of-Value n
+given_of (Invoked' f _ row) = (_, row)
+given_of _ = (_, end_of-Value)
+
+pub invoked_value : (f : ℕ) (arguments : Vec Value Global) → value (Invoked f arguments) ≡ resolved.Invoked f (values arguments.items)
+invoked_value f arguments =
+    let row = given_of (Invoked f arguments) in
+    ap (resolved.Invoked f) (row_values_is row.0 row.1 ∙ ap values (items_hidden-the_row-Value-0 arguments))
 
 abbrev commands_of : Command → (n : Count) × Row_of-Command n
 commands_of (Sequence' _ row) = (_, row)

@@ -6,9 +6,10 @@ use Rattle.arc_check.specs.declared.checked.Value.{Value, Row_of-Value, end_of-V
 use Rattle.arc_check.specs.declared.checked.Value.TheVariants as v
 use Rattle.arc_check.specs.declared.checked.Command.{Command, Row_of-Command, end_of-Command, more_of-Command}
 use Rattle.arc_check.specs.declared.checked.Command.TheVariants as c
-use Rattle.arc_check.specs.declared.checked.Checked as checked
+use Rattle.arc_check.specs.declared.checked.CheckedFunction.{CheckedFunction}
+use Rattle.arc_check.specs.declared.checked.Checked.{Checked}
 use Rattle.arc_spec.specs.Resolved as resolved
-use Rattle.arc_spec.specs.Resolved.{Number, ReadByte, Print, Negated, Combined, Converted, no_values, and_value, Sequence, Evaluate, Return, no_commands, and_command, Bytes, Decimal, Character}
+use Rattle.arc_spec.specs.Resolved.{Number, ReadByte, Print, Negated, Combined, Converted, Local, Assigned, Invoked, no_values, and_value, Sequence, Evaluate, Return, Choose, Repeat, no_commands, and_command, Bytes, Decimal, Character}
 
 abbrev pub piece : Piece → resolved.Piece
 piece (p.Bytes bytes) = Bytes bytes.items
@@ -27,6 +28,9 @@ abbrev mutual
   value (v.Negated' kind q a) = Negated kind (value a)
   value (v.Combined' operator kind q a r b) = Combined operator kind (value a) (value b)
   value (v.Converted' kind q a) = Converted kind (value a)
+  value (v.Local i) = Local i
+  value (v.Assigned' i q a) = Assigned i (value a)
+  value (v.Invoked' f shape arguments) = Invoked f (row_values arguments)
 
   pub row_values : {n : _} → Row_of-Value n → resolved.Values
   row_values end_of-Value = no_values
@@ -41,6 +45,8 @@ abbrev mutual
   command (c.Sequence' shape all) = Sequence (row_commands all)
   command (c.Evaluate a) = Evaluate (value a)
   command (c.Return a) = Return (option_map value a)
+  command (c.Choose' test q a r b) = Choose (value test) (command a) (command b)
+  command (c.Repeat' test q a) = Repeat (value test) (command a)
 
   pub row_commands : {n : _} → Row_of-Command n → resolved.Commands
   row_commands end_of-Command = no_commands
@@ -50,6 +56,9 @@ abbrev pub commands : List Command → resolved.Commands
 commands [] = no_commands
 commands (a ∷ others) = and_command (command a) (commands others)
 
--- the body of main
-abbrev pub body_of : checked.Checked → resolved.Commands
-body_of program = commands program.body.items
+abbrev pub functions : List CheckedFunction → List resolved.Function
+functions [] = []
+functions (f ∷ others) = record { slots = f.slots; body = commands f.body.items } ∷ functions others
+
+abbrev pub program_of : Checked → resolved.Program
+program_of c = record { functions = functions c.functions.items; main = c.main }

@@ -1,6 +1,6 @@
 -- What an answer that is no checked program says.
-use Rattle.std.specs.Prelude.{ℕ, List, codes}
-use Rattle.arc_class.specs.Broken.{Broken, IsFirst}
+use Rattle.std.specs.Prelude.{◌≡◌, ℕ, List, Some, codes}
+use Rattle.arc_class.specs.Broken.{Broken, first}
 use Rattle.arc_check.specs.declared.fault.CheckFault.{CheckFault}
 use Rattle.arc_check.specs.declared.fault.CheckFault.TheVariants as f
 
@@ -8,23 +8,29 @@ use Rattle.arc_check.specs.declared.fault.CheckFault.TheVariants as f
 abbrev pub fault_number : CheckFault → ℕ
 fault_number (f.UnknownName at) = 41
 fault_number (f.KindMismatch at) = 43
+fault_number (f.NotAssignable at) = 44
 fault_number (f.ArgumentCount at) = 45
 fault_number (f.Format at) = 46
+fault_number (f.TooManyLocals at) = 50
 fault_number f.Memory = 51
 
 abbrev pub fault_name : CheckFault → List ℕ
 fault_name (f.UnknownName at) = codes "UnknownName"
 fault_name (f.KindMismatch at) = codes "KindMismatch"
+fault_name (f.NotAssignable at) = codes "NotAssignable"
 fault_name (f.ArgumentCount at) = codes "ArgumentCount"
 fault_name (f.Format at) = codes "Format"
+fault_name (f.TooManyLocals at) = codes "TooManyLocals"
 fault_name f.Memory = codes "Memory"
 
 -- the byte that a fault names, counted from 0
 abbrev pub fault_at : CheckFault → ℕ
 fault_at (f.UnknownName at) = at
 fault_at (f.KindMismatch at) = at
+fault_at (f.NotAssignable at) = at
 fault_at (f.ArgumentCount at) = at
 fault_at (f.Format at) = at
+fault_at (f.TooManyLocals at) = at
 fault_at f.Memory = 0
 
 -- the broken rule that a fault tells
@@ -34,7 +40,9 @@ told f = record { at = fault_at f; number = fault_number f }
 -- when each fault is answered: it tells the first of all broken rules. Want of memory may come at any source
 abbrev pub Refuses : List Broken → CheckFault → Type 0
 Refuses all f.Memory = Unit {0}
-Refuses all (f.UnknownName at) = IsFirst all (told (f.UnknownName at))
-Refuses all (f.KindMismatch at) = IsFirst all (told (f.KindMismatch at))
-Refuses all (f.ArgumentCount at) = IsFirst all (told (f.ArgumentCount at))
-Refuses all (f.Format at) = IsFirst all (told (f.Format at))
+Refuses all (f.UnknownName at) = first all ≡ Some (told (f.UnknownName at))
+Refuses all (f.KindMismatch at) = first all ≡ Some (told (f.KindMismatch at))
+Refuses all (f.ArgumentCount at) = first all ≡ Some (told (f.ArgumentCount at))
+Refuses all (f.Format at) = first all ≡ Some (told (f.Format at))
+Refuses all (f.NotAssignable at) = first all ≡ Some (told (f.NotAssignable at))
+Refuses all (f.TooManyLocals at) = first all ≡ Some (told (f.TooManyLocals at))

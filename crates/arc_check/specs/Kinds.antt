@@ -1,8 +1,9 @@
--- The kinds of expressions that break no rule.
+-- Kinds of numbers.
 use Rattle.std.specs.Prelude.{ℤ, pos, int_le, if◌then◌else◌}
 use Rattle.arc_ast.specs.declared.tree.Kind.{Kind}
 use Rattle.arc_ast.specs.declared.tree.Kind.TheVariants as k
-use Rattle.arc_ast.specs.Tree.{ExprTree, Integer, Text, Paren, Call, Negate, Binary}
+use Rattle.arc_ast.specs.declared.tree.BinaryOperator.{BinaryOperator}
+use Rattle.arc_ast.specs.declared.tree.BinaryOperator.TheVariants as o
 
 -- a decimal integer is an int, where an int can hold it, and else a long (C99, section 6.4.4.1)
 abbrev pub literal_kind : ℤ → Kind
@@ -14,11 +15,10 @@ wider k.Long _ = k.Long
 wider _ k.Long = k.Long
 wider _ _ = k.Int
 
--- the kind of an expression's value; a text has none, and its kind here is never asked for
-abbrev pub kind : ExprTree → Kind
-kind (Integer at n) = literal_kind n
-kind (Text at bytes) = k.Int
-kind (Paren at a) = kind a
-kind (Call at name arguments) = k.Int
-kind (Negate at a) = kind a
-kind (Binary at operator a b) = wider (kind a) (kind b)
+-- the kind of what an operator gives that computes in a kind: `!=` gives an int (C99, section 6.5.9)
+abbrev pub given_kind : BinaryOperator → Kind → Kind
+given_kind o.NotEqual kind = k.Int
+given_kind o.Add kind = kind
+given_kind o.Subtract kind = kind
+given_kind o.Multiply kind = kind
+given_kind o.Divide kind = kind

@@ -1,24 +1,23 @@
--- The rules for a body: names, counts of arguments, formats, and texts.
-use Rattle.std.specs.Prelude.{ℕ, Bool, true, false, ◌&&◌, List, [], ◌∷◌, ◌++◌, Option, Some, None, is_none, codes, if◌then◌else◌}
-use Rattle.std.specs.Str.{bytes_eq}
+-- The rules for functions: names, kinds, counts of arguments, formats, and the number of variables.
+use Rattle.std.specs.Prelude.{ℕ, suc, Bool, true, false, ◌&&◌, not, List, [], ◌∷◌, ◌++◌, length, Option, Some, None, is_some, is_none, nat_lt, nat_eq, if◌then◌else◌}
 use Rattle.arc_ast.specs.declared.tree.Kind.{Kind}
-use Rattle.arc_ast.specs.Tree.{ExprTree, ExprTrees, Integer, Text, Paren, Call, Negate, Binary, no_exprs, and_expr, StmtTree, StmtTrees, Block, Empty, Simple, Return, no_stmts, and_stmt, FunctionTree}
-use Rattle.arc_class.specs.declared.table.ClassTable.{ClassTable}
+use Rattle.arc_ast.specs.declared.tree.Kind.TheVariants as k
+use Rattle.arc_ast.specs.declared.tree.BinaryOperator.{BinaryOperator}
+use Rattle.arc_ast.specs.declared.tree.BinaryOperator.TheVariants as o
+use Rattle.arc_ast.specs.Tree.{ExprTree, ExprTrees, Integer, Text, Paren, Call, Negate, Binary, Name, Assign, no_exprs, and_expr, place, VariableTree, StmtTree, StmtTrees, Block, Empty, Simple, Return, Variables, If, IfElse, While, no_stmts, and_stmt, ParameterTree, FunctionTree}
+use Rattle.arc_class.specs.declared.table.Declared.{Declared}
+use Rattle.arc_class.specs.Bodies.{broken_if, named_parameters}
 use Rattle.arc_class.specs.Broken.{Broken}
-use Rattle.arc_class.specs.Table.{body_at}
+use Rattle.arc_class.specs.Names.{known}
 use Rattle.arc_check.specs.declared.callee.Callee.{Callee}
-use Rattle.arc_check.specs.declared.callee.Callee.TheVariants.{Printf, GetChar, Unknown}
-use Rattle.arc_check.specs.Kinds.{kind}
+use Rattle.arc_check.specs.declared.callee.Callee.TheVariants.{Printf, GetChar, Defined, Unknown}
 use Rattle.arc_check.specs.Formats.{wanted, fits}
+use Rattle.arc_check.specs.Kinds.{literal_kind, wider}
+use Rattle.arc_check.specs.Scopes.{Scope, is_full, declare, with_parameters, leave, behind, outermost, callee, result_kind, is_printf}
 
--- the function that a name calls: the two of the library, and no other so far. No program calls `main` (this project's own choice)
-abbrev pub callee : List ℕ → Callee
-callee name = if bytes_eq name (codes "printf") then Printf else if bytes_eq name (codes "getchar") then GetChar else Unknown
-
-abbrev pub is_printf : Callee → Bool
-is_printf Printf = true
-is_printf GetChar = false
-is_printf Unknown = false
+abbrev pub count : ExprTrees → ℕ
+count no_exprs = 0
+count (and_expr a others) = suc (count others)
 
 abbrev pub is_text : ExprTree → Bool
 is_text (Text at bytes) = true
@@ -29,34 +28,73 @@ abbrev pub prints : ExprTrees → List (Option Kind) → Bool
 prints (and_expr (Text at format) others) (_ ∷ kinds) = fits (wanted format) kinds
 prints _ _ = false
 
--- the number of the rule that a call breaks at its function's name, if it breaks one: 46 Format for printf (C99, section 7.19.6.1), 45 ArgumentCount
--- for getchar, which takes none (section 7.19.7.6), and 41 UnknownName for any other name
+abbrev pub unless_so : Bool → ℕ → Option ℕ
+unless_so true number = None
+unless_so false number = Some number
+
+-- the number of the rule that a call with so many arguments breaks, but for printf: 45 ArgumentCount for another number than the function takes (C99, section
+-- 6.5.2.2), and 41 UnknownName for a name that is no function's
+abbrev pub other_rule : Callee → (arguments : ℕ) → Option ℕ
+other_rule Printf arguments = unless_so (nat_eq arguments 0) 45
+other_rule GetChar arguments = unless_so (nat_eq arguments 0) 45
+other_rule (Defined result wanted body) arguments = unless_so (nat_eq arguments wanted) 45
+other_rule Unknown arguments = Some 41
+
+-- the number of the rule that a call breaks at its function's name, if it breaks one: for printf 46 Format (section 7.19.6.1)
 abbrev pub call_rule : Callee → ExprTrees → List (Option Kind) → Option ℕ
-call_rule Printf arguments kinds = if prints arguments kinds then None else Some 46
-call_rule GetChar no_exprs kinds = None
-call_rule GetChar (and_expr a others) kinds = Some 45
+call_rule Printf arguments kinds = unless_so (prints arguments kinds) 46
+call_rule GetChar arguments kinds = other_rule GetChar (count arguments)
+call_rule (Defined result wanted body) arguments kinds = other_rule (Defined result wanted body) (count arguments)
 call_rule Unknown arguments kinds = Some 41
+
+-- whether an assignment's left side is a variable's name, parentheses aside
+abbrev pub is_variable : ExprTree → Bool
+is_variable (Paren at a) = is_variable a
+is_variable (Name at name) = true
+is_variable _ = false
 
 abbrev pub kind_if : Bool → Kind → Option Kind
 kind_if true kind = Some kind
 kind_if false kind = None
 
--- whether an expression has a kind: it breaks no rule itself, and those have one on whose kinds its own rests
+-- the kind of an operand with which an operator computes: none, where it is no number
+abbrev pub number_kind : Option Kind → Option Kind
+number_kind (Some k.Int) = Some k.Int
+number_kind (Some k.Long) = Some k.Long
+number_kind _ = None
+
+-- the kind of a sum, from those of its operands: none, where one has none
+abbrev pub both_kinds : Option Kind → Option Kind → Option Kind
+both_kinds (Some a) (Some b) = Some (wider a b)
+both_kinds (Some a) None = None
+both_kinds None b = None
+
+-- `!=` gives an int, whatever its operands are (C99, section 6.5.9)
+abbrev pub binary_kind : BinaryOperator → Option Kind → Option Kind → Option Kind
+binary_kind o.NotEqual a b = Some k.Int
+binary_kind _ a b = both_kinds (number_kind a) (number_kind b)
+
+-- The kind of an expression, where it has one: it breaks no rule itself, and those have one on whose kinds its own rests. A variable is an int, and an
+-- assignment has its left side's kind (C99, section 6.5.16).
 abbrev mutual
-  pub has_kind : ExprTree → Bool
-  has_kind (Integer at n) = true
-  has_kind (Text at bytes) = false
-  has_kind (Paren at a) = has_kind a
-  has_kind (Call at name arguments) = is_none (call_rule (callee name) arguments (kinds arguments))
-  has_kind (Negate at a) = has_kind a
-  has_kind (Binary at operator a b) = has_kind a && has_kind b
+  pub kind_of : Scope → ExprTree → Option Kind
+  kind_of s (Integer at n) = Some (literal_kind n)
+  kind_of s (Text at bytes) = None
+  kind_of s (Paren at a) = kind_of s a
+  kind_of s (Call at name arguments) = kind_if (is_none (call_rule (callee s.functions name) arguments (kinds s arguments))) (result_kind (callee s.functions name))
+  kind_of s (Negate at a) = number_kind (kind_of s a)
+  kind_of s (Binary at operator a b) = binary_kind operator (kind_of s a) (kind_of s b)
+  kind_of s (Name at name) = kind_if (is_some (s.variables name)) k.Int
+  kind_of s (Assign at sign a b) = if is_variable a then kind_of s a else None
 
-  pub kinds : ExprTrees → List (Option Kind)
-  kinds no_exprs = []
-  kinds (and_expr a others) = kind_if (has_kind a) (kind a) ∷ kinds others
+  pub kinds : Scope → ExprTrees → List (Option Kind)
+  kinds s no_exprs = []
+  kinds s (and_expr a others) = kind_of s a ∷ kinds s others
 
-abbrev pub kind_of : ExprTree → Option Kind
-kind_of a = kind_if (has_kind a) (kind a)
+-- 43 KindMismatch, at an expression's place: it gives no value where one is needed
+abbrev pub no_value : Option Kind → ℕ → List Broken
+no_value (Some k.Void) at = record { at = at; number = 43 } ∷ []
+no_value _ at = []
 
 abbrev pub broken_at : ℕ → Option ℕ → List Broken
 broken_at at None = []
@@ -66,38 +104,89 @@ abbrev pub unless : Bool → List Broken → List Broken
 unless true all = []
 unless false all = all
 
--- All that is wrong with an expression. 43 KindMismatch: a text stands anywhere but as the first argument of printf.
+-- All that is wrong with an expression. 41 UnknownName: a variable that isn't in scope (C99, section 6.5.1). 43 KindMismatch: a text stands anywhere but as the
+-- first argument of printf. 44 NotAssignable, at the `=`: the left side is no variable (section 6.5.16).
 abbrev mutual
-  pub broken : ExprTree → List Broken
-  broken (Integer at n) = []
-  broken (Text at bytes) = record { at = at; number = 43 } ∷ []
-  broken (Paren at a) = broken a
-  broken (Call at name arguments) = broken_at at (call_rule (callee name) arguments (kinds arguments)) ++ broken_arguments (is_printf (callee name)) arguments
-  broken (Negate at a) = broken a
-  broken (Binary at operator a b) = broken a ++ broken b
+  pub broken : Scope → ExprTree → List Broken
+  broken s (Integer at n) = []
+  broken s (Text at bytes) = record { at = at; number = 43 } ∷ []
+  broken s (Paren at a) = broken s a
+  broken s (Call at name arguments) =
+      broken_at at (call_rule (callee s.functions name) arguments (kinds s arguments)) ++ broken_arguments s (is_printf (callee s.functions name)) (is_printf (callee s.functions name)) arguments
+  broken s (Negate at a) = broken s a ++ no_value (kind_of s a) (place a)
+  broken s (Binary at operator a b) = (broken s a ++ no_value (kind_of s a) (place a)) ++ (broken s b ++ no_value (kind_of s b) (place b))
+  broken s (Name at name) = broken_if (is_none (s.variables name)) at 41
+  broken s (Assign at sign a b) = (broken s a ++ broken_if (not (is_variable a)) sign 44) ++ (broken s b ++ no_value (kind_of s b) (place b))
 
-  pub broken_arguments : (text_may_begin : Bool) → ExprTrees → List Broken
-  broken_arguments text_may_begin no_exprs = []
-  broken_arguments text_may_begin (and_expr a others) = unless (text_may_begin && is_text a) (broken a) ++ broken_arguments false others
+  -- what printf prints may be of any kind here, since a wrong one breaks the rule of formats
+  pub broken_arguments : Scope → (printed text_may_begin : Bool) → ExprTrees → List Broken
+  broken_arguments s printed text_may_begin no_exprs = []
+  broken_arguments s printed text_may_begin (and_expr a others) =
+      (unless (text_may_begin && is_text a) (broken s a) ++ unless printed (no_value (kind_of s a) (place a))) ++ broken_arguments s printed false others
+
+-- all that is wrong with an expression whose value is needed
+abbrev pub broken_value : Scope → ExprTree → List Broken
+broken_value s a = broken s a ++ no_value (kind_of s a) (place a)
+
+abbrev pub broken_initial : Scope → Option ExprTree → List Broken
+broken_initial s None = []
+broken_initial s (Some a) = broken_value s a
+
+-- 50 TooManyLocals: a variable past the 200th, at its name; a variable is in scope in its own initializer (C99, section 6.2.1)
+abbrev pub broken_variables : Scope → List VariableTree → List Broken
+broken_variables s [] = []
+broken_variables s (v ∷ others) = broken_if (is_full s) v.at 50 ++ (broken_initial (declare v.name s) v.initial ++ broken_variables (declare v.name s) others)
+
+-- the same of parameters
+abbrev pub broken_parameters : Scope → List ParameterTree → List Broken
+broken_parameters s [] = []
+broken_parameters s (p ∷ others) = broken_if (is_full s) p.at 50 ++ broken_parameters (declare p.name s) others
+
+-- 43 KindMismatch too: a value that a function without a result returns, at the value (C99, section 6.8.6.4)
+abbrev pub broken_result : (gives_nothing : Bool) → Scope → Option ExprTree → List Broken
+broken_result gives_nothing s None = []
+broken_result true s (Some a) = broken s a ++ record { at = place a; number = 43 } ∷ []
+broken_result false s (Some a) = broken_value s a
 
 -- all that is wrong with a statement
 abbrev mutual
-  pub broken_stmt : StmtTree → List Broken
-  broken_stmt (Block at all) = broken_stmts all
-  broken_stmt (Empty at) = []
-  broken_stmt (Simple a) = broken a
-  broken_stmt (Return at None) = []
-  broken_stmt (Return at (Some a)) = broken a
+  pub broken_stmt : (gives_nothing : Bool) → Scope → StmtTree → List Broken
+  broken_stmt gives_nothing s (Block at all) = broken_stmts gives_nothing s all
+  broken_stmt gives_nothing s (Empty at) = []
+  broken_stmt gives_nothing s (Simple a) = broken s a
+  broken_stmt gives_nothing s (Return at a) = broken_result gives_nothing s a
+  broken_stmt gives_nothing s (Variables at all) = broken_variables s all
+  broken_stmt gives_nothing s (If at c a) = broken_value s c ++ broken_stmt gives_nothing s a
+  broken_stmt gives_nothing s (IfElse at c a b) = broken_value s c ++ (broken_stmt gives_nothing s a ++ broken_stmt gives_nothing (leave s (behind s a)) b)
+  broken_stmt gives_nothing s (While at c a) = broken_value s c ++ broken_stmt gives_nothing s a
 
-  pub broken_stmts : StmtTrees → List Broken
-  broken_stmts no_stmts = []
-  broken_stmts (and_stmt a others) = broken_stmt a ++ broken_stmts others
+  pub broken_stmts : (gives_nothing : Bool) → Scope → StmtTrees → List Broken
+  broken_stmts gives_nothing s no_stmts = []
+  broken_stmts gives_nothing s (and_stmt a others) = broken_stmt gives_nothing s a ++ broken_stmts gives_nothing (behind s a) others
 
--- the statements of a body, if there is one
-abbrev pub statements : Option StmtTrees → StmtTrees
-statements None = no_stmts
-statements (Some all) = all
+abbrev pub is_void : Kind → Bool
+is_void k.Void = true
+is_void _ = false
 
--- the statements of `main`
-abbrev pub main_body : List FunctionTree → ClassTable → StmtTrees
-main_body functions table = statements (body_at functions table.main)
+-- the parameters of a mere declaration are counted alone
+abbrev pub broken_body : (gives_nothing : Bool) → (List ℕ → Option Declared) → List ParameterTree → Option StmtTrees → List Broken
+broken_body gives_nothing functions parameters None = []
+broken_body gives_nothing functions parameters (Some body) =
+    broken_parameters (outermost functions) parameters ++ broken_stmts gives_nothing (with_parameters (outermost functions) parameters) body
+
+-- how many parameters a function has at most (this project's own choice)
+abbrev pub most_parameters : ℕ
+most_parameters = 16
+
+-- 45 ArgumentCount too: a function with more parameters, at its name
+abbrev pub broken_function : (List ℕ → Option Declared) → FunctionTree → List Broken
+broken_function functions f =
+    broken_if (nat_lt most_parameters (length (named_parameters f.parameters))) f.at 45 ++ broken_body (is_void f.result) functions (named_parameters f.parameters) f.body
+
+abbrev pub broken_functions : (List ℕ → Option Declared) → List FunctionTree → List Broken
+broken_functions functions [] = []
+broken_functions functions (f ∷ others) = broken_function functions f ++ broken_functions functions others
+
+-- all that is wrong in the functions of a source
+abbrev pub broken_unit : List FunctionTree → List Broken
+broken_unit all = broken_functions (known all) all

@@ -24,6 +24,11 @@ pub enum Value {
     Negated(Kind, Box<Value>),
     Combined(BinaryOperator, Kind, Box<Value>, Box<Value>),
     Converted(Kind, Box<Value>),
+    /// The variable of the running function with this number.
+    Local(usize),
+    Assigned(usize, Box<Value>),
+    /// A call of the function with this number.
+    Invoked(usize, Vec<Value>),
 }
 
 /// A statement.
@@ -32,10 +37,22 @@ pub enum Command {
     Sequence(Vec<Command>),
     Evaluate(Value),
     Return(Option<Value>),
+    /// The first where the value isn't 0, else the second.
+    Choose(Value, Box<Command>, Box<Command>),
+    /// Again and again, while the value isn't 0.
+    Repeat(Value, Box<Command>),
 }
 
-/// A checked program: the body of its `main`.
+/// A function with how many variables it has, of which the first are its parameters.
+#[derive(Debug, Drop)]
+pub struct CheckedFunction {
+    pub slots: usize,
+    pub body: Vec<Command>,
+}
+
+/// A checked program: its functions with a body, in their order, and which of them is `main`.
 #[derive(Debug, Drop)]
 pub struct Checked {
-    pub body: Vec<Command>,
+    pub functions: Vec<CheckedFunction>,
+    pub main: usize,
 }

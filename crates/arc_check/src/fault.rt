@@ -7,21 +7,27 @@ ghost use Rattle.arc_check.specs.Fault.{fault_number, fault_name, fault_at, told
 use std::alloc::AllocError;
 use thiserror::Error;
 
-/// Why a source is refused: the first rule that the body of its `main` breaks, or no memory.
+/// Why a source is refused: the first rule that its functions break, or no memory.
 #[derive(Clone, Copy, Debug, Drop, PartialEq, Eq, Error)]
 pub enum CheckFault {
-    /// A call of a function that is not known, or of `main`; the place is that of its name.
+    /// A variable that is not in scope, or a call of a function that is not known or of `main`; the place is that of the name.
     #[error("the name at {0} is not known")]
     UnknownName(usize),
-    /// A text that is no format of a printf; the place is that of the text.
-    #[error("the text at {0} is no format of a printf")]
+    /// A text that is no format of a printf, no value where one is needed, or a value where none is; the place is that of the expression.
+    #[error("the expression at {0} is of the wrong kind")]
     KindMismatch(usize),
-    /// A call of `getchar` with arguments; the place is that of its name.
-    #[error("the call at {0} has another number of arguments than its function takes")]
+    /// The left side of an assignment is no variable; the place is that of its `=`.
+    #[error("the left side of the assignment at {0} is no variable")]
+    NotAssignable(usize),
+    /// A call with another number of arguments than its function takes, or a function with more than 16 parameters; the place is that of the name.
+    #[error("the function at {0} takes another number of arguments")]
     ArgumentCount(usize),
     /// A call of `printf` without a format, with an unknown conversion, or with values that do not fit; the place is that of its name.
     #[error("the format and the values of the printf at {0} do not fit")]
     Format(usize),
+    /// The 201st parameter or variable of a body, or a later one; the place is that of its name.
+    #[error("the variable at {0} is one too many")]
+    TooManyLocals(usize),
     /// There was no memory for the checked program.
     #[error("no memory")]
     Memory,
@@ -35,8 +41,10 @@ impl CheckFault {
         match self {
             CheckFault::UnknownName(_) => 41,
             CheckFault::KindMismatch(_) => 43,
+            CheckFault::NotAssignable(_) => 44,
             CheckFault::ArgumentCount(_) => 45,
             CheckFault::Format(_) => 46,
+            CheckFault::TooManyLocals(_) => 50,
             CheckFault::Memory => 51,
         }
     }
@@ -48,8 +56,10 @@ impl CheckFault {
         match self {
             CheckFault::UnknownName(_) => "UnknownName",
             CheckFault::KindMismatch(_) => "KindMismatch",
+            CheckFault::NotAssignable(_) => "NotAssignable",
             CheckFault::ArgumentCount(_) => "ArgumentCount",
             CheckFault::Format(_) => "Format",
+            CheckFault::TooManyLocals(_) => "TooManyLocals",
             CheckFault::Memory => "Memory",
         }
     }
@@ -61,8 +71,10 @@ impl CheckFault {
         match self {
             CheckFault::UnknownName(at) => *at,
             CheckFault::KindMismatch(at) => *at,
+            CheckFault::NotAssignable(at) => *at,
             CheckFault::ArgumentCount(at) => *at,
             CheckFault::Format(at) => *at,
+            CheckFault::TooManyLocals(at) => *at,
             CheckFault::Memory => 0,
         }
     }
@@ -72,7 +84,7 @@ impl From<AllocError> for CheckFault {
     ghost from_gives = { λ _ fault. fault ≡ Memory };
 
     fn from(_error: AllocError) -> CheckFault {
-        Self::Memory
+        CheckFault::Memory
     }
 }
 

@@ -1,17 +1,25 @@
-//! Finds the first rule that a body breaks.
-ghost use Rattle.std.specs.Prelude.{◌≡◌, is_none, option_map};
-ghost use Rattle.arc_ast.specs.Tree.{expr_tree, expr_trees, stmt_tree, stmt_trees};
+//! Finds the first rule that is broken in an expression.
+ghost use Rattle.std.specs.Prelude.{◌≡◌, not, None, is_none, is_some, option_map, if◌then◌else◌};
+ghost use Rattle.arc_ast.specs.Tree as tree;
+ghost use Rattle.arc_ast.specs.Tree.{expr_tree, expr_trees};
+ghost use Rattle.arc_class.specs.Bodies.{broken_if};
 ghost use Rattle.arc_class.specs.Broken.{earlier_of, first};
+ghost use Rattle.arc_class.specs.Table.{function_in};
 ghost use Rattle.arc_check.specs.Fault.{told};
 ghost use Rattle.arc_check.specs.Formats.{wanted};
-ghost use Rattle.arc_check.specs.Judging.{Judges, JudgesAll, JudgesCall, wider_of};
+ghost use Rattle.arc_check.specs.Judging.{Judges, JudgesValue, JudgesAll, JudgesCall};
 ghost use Rattle.arc_check.specs.Kinds as kinds;
-ghost use Rattle.arc_check.specs.Rules.{broken_stmt, broken_stmts, callee, kind_if};
+ghost use Rattle.arc_check.specs.Rules as rules;
+ghost use Rattle.arc_check.specs.Rules.{broken_at, kind_if, no_value, number_kind, other_rule, unless};
+ghost use Rattle.arc_check.specs.Scopes as scopes;
+ghost use Rattle.arc_check.specs.Views.{number_in, seen};
 
-use crate::callee::{Callee, callee_of};
+use crate::callee::{Callee, callee_of, result_kind};
 use crate::fault::{CheckFault, earlier};
 use crate::format::{next_conversion, take_conversion};
-use arc_ast::tree::{Expr, Kind, Stmt};
+use crate::scope::Visible;
+use arc_ast::tree::{BinaryOperator, Expr, Kind};
+use arc_class::table::ClassTable;
 
 /// What is told of an expression: its kind, where it has one, and the first rule that is broken in it.
 #[derive(Clone, Copy, Debug, PartialEq, Eq)]
@@ -51,37 +59,150 @@ pub fn wider(a: Kind, b: Kind) -> Kind
     }
 }
 
-/// What is told of an operator's expression, from its operands.
-fn combined(a: Judged, b: Judged) -> Judged
-    ensures kind { result.kind ≡ wider_of a.kind b.kind }
-    ensures fault { option_map told result.fault ≡ earlier_of (option_map told a.fault) (option_map told b.fault) }
+/// The place of an expression's first byte.
+pub fn place(expr: &Expr) -> usize
+    ensures { result ≡ tree.place (expr_tree expr.now) }
 {
-    let kind = match (a.kind, b.kind) {
-        (Some(a), Some(b)) => Some(wider(a, b)),
-        _ => None,
-    };
-    Judged {
-        kind,
-        fault: earlier(a.fault, b.fault),
+    match expr {
+        Expr::Integer(at, _)
+        | Expr::Text(at, _)
+        | Expr::Paren(at, _)
+        | Expr::Call(at, _, _)
+        | Expr::Negate(at, _)
+        | Expr::Binary(at, _, _, _)
+        | Expr::Name(at, _)
+        | Expr::Assign(at, _, _, _) => *at,
     }
 }
 
-/// What is told of a call, from the rule that it breaks at its name, if it breaks one, and what is broken in its arguments.
-fn called(own: Option<CheckFault>, inside: Option<CheckFault>) -> Judged
-    ensures kind { result.kind ≡ kind_if (is_none own) Kind.Int }
+/// Whether an assignment's left side is a variable's name, parentheses aside.
+fn is_variable(expr: &Expr) -> bool
+    ensures { result ≡ rules.is_variable (expr_tree expr.now) }
+{
+    match expr {
+        Expr::Paren(_, inside) => is_variable(inside),
+        Expr::Name(_, _) => true,
+        _ => false,
+    }
+}
+
+/// The kind of an operand with which an operator computes.
+fn number_kind(kind: Option<Kind>) -> Option<Kind>
+    ensures { result ≡ number_kind kind }
+{
+    match kind {
+        Some(Kind::Int) => Some(Kind::Int),
+        Some(Kind::Long) => Some(Kind::Long),
+        _ => None,
+    }
+}
+
+/// The kind of a sum, from those of its operands.
+fn both_kinds(a: Option<Kind>, b: Option<Kind>) -> Option<Kind>
+    ensures { result ≡ rules.both_kinds a b }
+{
+    match (a, b) {
+        (Some(a), Some(b)) => Some(wider(a, b)),
+        _ => None,
+    }
+}
+
+/// The kind of an operator's expression, from those of its operands.
+fn binary_kind(operator: BinaryOperator, a: Option<Kind>, b: Option<Kind>) -> Option<Kind>
+    ensures { result ≡ rules.binary_kind operator a b }
+{
+    match operator {
+        BinaryOperator::NotEqual => Some(Kind::Int),
+        BinaryOperator::Add
+        | BinaryOperator::Subtract
+        | BinaryOperator::Multiply
+        | BinaryOperator::Divide => both_kinds(number_kind(a), number_kind(b)),
+    }
+}
+
+/// The rule that an expression of the kind breaks where a value is needed, and else the other fault.
+fn needed(judged: Judged, at: usize) -> Judged
+    ensures kind { result.kind ≡ judged.kind }
+    ensures fault { option_map told result.fault ≡ earlier_of (option_map told judged.fault) (first (no_value judged.kind at)) }
+{
+    match judged.kind {
+        Some(Kind::Void) => Judged {
+            fault: earlier(judged.fault, Some(CheckFault::KindMismatch(at))),
+            ..judged
+        },
+        _ => judged,
+    }
+}
+
+/// The rule that a call of a function other than printf breaks at its name.
+fn call_fault(callee: Callee, at: usize, count: usize) -> Option<CheckFault>
+    ensures { option_map told result ≡ first (broken_at at (other_rule callee count)) }
+{
+    let wanted = match callee {
+        Callee::Unknown => return Some(CheckFault::UnknownName(at)),
+        Callee::Defined(_, wanted, _) => wanted,
+        Callee::Printf | Callee::GetChar => 0,
+    };
+    if count == wanted {
+        None
+    } else {
+        Some(CheckFault::ArgumentCount(at))
+    }
+}
+
+/// What is told of a call, from its function's kind, the rule that it breaks at its name, if it breaks one, and what is broken in its arguments.
+fn called(kind: Kind, own: Option<CheckFault>, inside: Option<CheckFault>) -> Judged
+    ensures kind { result.kind ≡ kind_if (is_none own) kind }
     ensures fault { option_map told result.fault ≡ earlier_of (option_map told own) (option_map told inside) }
 {
-    let kind = if own.is_none() { Some(Kind::Int) } else { None };
+    let kind = if own.is_none() { Some(kind) } else { None };
     Judged {
         kind,
         fault: earlier(own, inside),
     }
 }
 
+/// What is told of a variable's name.
+fn judge_name(visible: &Visible, at: usize, name: &[u8]) -> Judged
+    ensures kind { result.kind ≡ kind_if (is_some (number_in visible.now.bound.items name.now)) Kind.Int }
+    ensures fault { option_map told result.fault ≡ first (broken_if (is_none (number_in visible.now.bound.items name.now)) at 41) }
+{
+    match visible.number(name) {
+        Some(_) => Judged {
+            kind: Some(Kind::Int),
+            fault: None,
+        },
+        None => Judged {
+            kind: None,
+            fault: Some(CheckFault::UnknownName(at)),
+        },
+    }
+}
+
+/// What is told of an assignment, from its sides.
+fn assigned(is_variable: bool, sign: usize, left: Judged, right: Judged) -> Judged
+    ensures kind { result.kind ≡ (if is_variable then left.kind else None) }
+    ensures fault { option_map told result.fault
+        ≡ earlier_of (earlier_of (option_map told left.fault) (first (broken_if (not is_variable) sign 44))) (option_map told right.fault) }
+{
+    if is_variable {
+        Judged {
+            kind: left.kind,
+            fault: earlier(left.fault, right.fault),
+        }
+    } else {
+        let own = earlier(left.fault, Some(CheckFault::NotAssignable(sign)));
+        Judged {
+            kind: None,
+            fault: earlier(own, right.fault),
+        }
+    }
+}
+
 /// What is told of an expression.
 #[cycle(judge)]
-fn judge(expr: &Expr) -> Judged
-    ensures { Judges (expr_tree expr.now) result }
+pub fn judge<'a>(table: &ClassTable<'a>, visible: &Visible<'a>, expr: &'a Expr) -> Judged
+    ensures { Judges (seen table.now visible.now) (expr_tree expr.now) result }
 {
     match expr {
         Expr::Integer(_, number) => Judged {
@@ -92,64 +213,118 @@ fn judge(expr: &Expr) -> Judged
             kind: None,
             fault: Some(CheckFault::KindMismatch(*at)),
         },
-        Expr::Paren(_, inside) => judge(inside),
-        Expr::Call(at, name, arguments) => judge_call(*at, name, arguments),
-        Expr::Negate(_, operand) => judge(operand),
-        Expr::Binary(_, _, left, right) => {
-            let left = judge(left);
-            let right = judge(right);
-            combined(left, right)
+        Expr::Paren(_, inside) => judge(table, visible, inside),
+        Expr::Call(at, name, arguments) => judge_call(table, visible, *at, name, arguments),
+        Expr::Negate(_, operand) => {
+            let operand = judge_value(table, visible, operand);
+            Judged {
+                kind: number_kind(operand.kind),
+                fault: operand.fault,
+            }
+        }
+        Expr::Binary(_, operator, left, right) => {
+            let left = judge_value(table, visible, left);
+            let right = judge_value(table, visible, right);
+            Judged {
+                kind: binary_kind(*operator, left.kind, right.kind),
+                fault: earlier(left.fault, right.fault),
+            }
+        }
+        Expr::Name(at, name) => judge_name(visible, *at, name),
+        Expr::Assign(_, sign, left, right) => {
+            let value = judge_value(table, visible, right);
+            assigned(is_variable(left), *sign, judge(table, visible, left), value)
         }
     }
 }
 
+/// What is told of an expression whose value is needed.
+#[cycle(judge)]
+pub fn judge_value<'a>(table: &ClassTable<'a>, visible: &Visible<'a>, expr: &'a Expr) -> Judged
+    ensures { JudgesValue (seen table.now visible.now) (expr_tree expr.now) result }
+{
+    needed(judge(table, visible, expr), place(expr))
+}
+
 /// What is told of a call.
 #[cycle(judge)]
-fn judge_call(at: usize, name: &[u8], arguments: &[Expr]) -> Judged
-    ensures { JudgesCall at (callee name.now) (expr_trees arguments.now) result }
+fn judge_call<'a>(
+    table: &ClassTable<'a>,
+    visible: &Visible<'a>,
+    at: usize,
+    name: &'a [u8],
+    arguments: &'a [Expr],
+) -> Judged
+    ensures { JudgesCall (seen table.now visible.now) at (scopes.callee (function_in table.now) name.now) (expr_trees arguments.now) result }
 {
-    match callee_of(name) {
-        Callee::Printf => judge_print(at, arguments),
-        Callee::GetChar => {
-            let inside = judge_arguments(b"", arguments);
-            if arguments.is_empty() {
-                return called(None, inside.fault);
-            }
-            called(Some(CheckFault::ArgumentCount(at)), inside.fault)
-        }
-        Callee::Unknown => {
-            let inside = judge_arguments(b"", arguments);
-            called(Some(CheckFault::UnknownName(at)), inside.fault)
+    let callee = callee_of(table, name);
+    match callee {
+        Callee::Printf => judge_print(table, visible, at, arguments),
+        _ => {
+            let inside = judge_arguments(table, visible, false, b"", arguments);
+            let own = call_fault(callee, at, arguments.len());
+            called(result_kind(callee), own, inside.fault)
         }
     }
 }
 
 /// What is told of a call of printf.
 #[cycle(judge)]
-fn judge_print(at: usize, arguments: &[Expr]) -> Judged
-    ensures { JudgesCall at Callee.Printf (expr_trees arguments.now) result }
+fn judge_print<'a>(
+    table: &ClassTable<'a>,
+    visible: &Visible<'a>,
+    at: usize,
+    arguments: &'a [Expr],
+) -> Judged
+    ensures { JudgesCall (seen table.now visible.now) at Callee.Printf (expr_trees arguments.now) result }
 {
     match arguments.split_first() {
         Some((Expr::Text(_, format), values)) => {
-            let inside = judge_arguments(format, values);
+            let inside = judge_arguments(table, visible, true, format, values);
             let own = if inside.fit {
                 None
             } else {
                 Some(CheckFault::Format(at))
             };
-            called(own, inside.fault)
+            called(Kind::Int, own, inside.fault)
         }
         _ => {
-            let inside = judge_arguments(b"", arguments);
-            called(Some(CheckFault::Format(at)), inside.fault)
+            let inside = judge_arguments(table, visible, true, b"", arguments);
+            called(Kind::Int, Some(CheckFault::Format(at)), inside.fault)
         }
+    }
+}
+
+/// What is told of an argument: printf's may be of any kind here.
+#[cycle(judge)]
+fn judge_argument<'a>(
+    table: &ClassTable<'a>,
+    visible: &Visible<'a>,
+    printed: bool,
+    argument: &'a Expr,
+) -> Judged
+    ensures kind { result.kind ≡ rules.kind_of (seen table.now visible.now) (expr_tree argument.now) }
+    ensures fault { option_map told result.fault
+        ≡ earlier_of (first (rules.broken (seen table.now visible.now) (expr_tree argument.now))) (first (unless printed (no_value (rules.kind_of (seen table.now visible.now) (expr_tree argument.now)) (tree.place (expr_tree argument.now))))) }
+{
+    let judged = judge(table, visible, argument);
+    if printed {
+        judged
+    } else {
+        needed(judged, place(argument))
     }
 }
 
 /// What is told of arguments behind a format.
 #[cycle(judge)]
-fn judge_arguments(format: &[u8], arguments: &[Expr]) -> Arguments
-    ensures { JudgesAll (wanted format.now) (expr_trees arguments.now) result }
+fn judge_arguments<'a>(
+    table: &ClassTable<'a>,
+    visible: &Visible<'a>,
+    printed: bool,
+    format: &[u8],
+    arguments: &'a [Expr],
+) -> Arguments
+    ensures { JudgesAll (seen table.now visible.now) printed (wanted format.now) (expr_trees arguments.now) result }
 {
     let mut rest = format;
     let mut told = Arguments {
@@ -157,7 +332,7 @@ fn judge_arguments(format: &[u8], arguments: &[Expr]) -> Arguments
         fault: None,
     };
     for argument in arguments {
-        let judged = judge(argument);
+        let judged = judge_argument(table, visible, printed, argument);
         let (fit, behind) = take_conversion(rest, judged.kind);
         rest = behind;
         told = Arguments {
@@ -169,30 +344,4 @@ fn judge_arguments(format: &[u8], arguments: &[Expr]) -> Arguments
         fit: told.fit && next_conversion(rest).is_none(),
         ..told
     }
-}
-
-/// The first rule that is broken in a statement.
-#[cycle(statements)]
-fn judge_statement(statement: &Stmt) -> Option<CheckFault>
-    ensures { option_map told result ≡ first (broken_stmt (stmt_tree statement.now)) }
-{
-    match statement {
-        Stmt::Block(_, all) => judge_statements(all),
-        Stmt::Empty(_) => None,
-        Stmt::Expr(expr) => judge(expr).fault,
-        Stmt::Return(_, None) => None,
-        Stmt::Return(_, Some(expr)) => judge(expr).fault,
-    }
-}
-
-/// The first rule that is broken in some statements.
-#[cycle(statements)]
-pub fn judge_statements(statements: &[Stmt]) -> Option<CheckFault>
-    ensures { option_map told result ≡ first (broken_stmts (stmt_trees statements.now)) }
-{
-    let mut fault = None;
-    for statement in statements {
-        fault = earlier(fault, judge_statement(statement));
-    }
-    fault
 }

@@ -1,12 +1,13 @@
 //! Finds what each name means and each expression's kind.
 #![tactic(auto)]
 
+mod body;
 mod callee;
 pub mod check;
 pub mod checked;
 pub mod fault;
 mod format;
 mod judge;
+mod program;
 mod resolve;
-#[cfg(test)]
-mod tests;
+mod scope;

@@ -1,24 +1,27 @@
 -- What an answer that is no table says.
-use Rattle.std.specs.Prelude.{ℕ, List, codes}
+use Rattle.std.specs.Prelude.{◌≡◌, ℕ, List, Some, codes}
 use Rattle.arc_class.specs.declared.fault.ClassFault.{ClassFault}
 use Rattle.arc_class.specs.declared.fault.ClassFault.TheVariants as f
-use Rattle.arc_class.specs.Broken.{Broken, IsFirst}
+use Rattle.arc_class.specs.Broken.{Broken, first}
 
 -- the number of a fault, under which the compiler's users know it
 abbrev pub fault_number : ClassFault → ℕ
 fault_number (f.Duplicate at) = 21
 fault_number f.NoMain = 29
+fault_number (f.UndefinedFunction at) = 30
 fault_number f.Memory = 31
 
 abbrev pub fault_name : ClassFault → List ℕ
 fault_name (f.Duplicate at) = codes "Duplicate"
 fault_name f.NoMain = codes "NoMain"
+fault_name (f.UndefinedFunction at) = codes "UndefinedFunction"
 fault_name f.Memory = codes "Memory"
 
 -- the byte that a fault names, counted from 0
 abbrev pub fault_at : ClassFault → ℕ
 fault_at (f.Duplicate at) = at
 fault_at f.NoMain = 0
+fault_at (f.UndefinedFunction at) = at
 fault_at f.Memory = 0
 
 -- the broken rule that a fault tells
@@ -28,5 +31,6 @@ told f = record { at = fault_at f; number = fault_number f }
 -- when each fault is answered: it tells the first of all broken rules. Want of memory may come at any source
 abbrev pub Refuses : List Broken → ClassFault → Type 0
 Refuses all f.Memory = Unit {0}
-Refuses all f.NoMain = IsFirst all (told f.NoMain)
-Refuses all (f.Duplicate at) = IsFirst all (told (f.Duplicate at))
+Refuses all f.NoMain = first all ≡ Some (told f.NoMain)
+Refuses all (f.Duplicate at) = first all ≡ Some (told (f.Duplicate at))
+Refuses all (f.UndefinedFunction at) = first all ≡ Some (told (f.UndefinedFunction at))

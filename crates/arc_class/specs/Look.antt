@@ -1,53 +1,51 @@
 -- What one look at the functions of a source keeps.
-use Rattle.std.specs.Prelude.{◌≡◌, ℕ, Bool, false, ◌&&◌, ◌||◌, not, true, if◌then◌else◌, List, [], Option, Some, None, IsSome, is_some, option_map}
-use Rattle.std.specs.List.{list_any}
-use Rattle.arc_ast.specs.declared.tree.Parameters.{Parameters}
-use Rattle.arc_ast.specs.declared.tree.Parameters.TheVariants as p
+use Rattle.std.specs.Prelude.{◌≡◌, ℕ, suc, Bool, ◌&&◌, ◌||◌, if◌then◌else◌, List, [], ◌∷◌, Option, Some, None, option_map}
+use Rattle.std.specs.Map.{update}
+use Rattle.std.specs.Str.{bytes_eq}
 use Rattle.arc_ast.specs.Tree.{FunctionTree}
+use Rattle.arc_class.specs.declared.fault.ClassFault.{ClassFault}
 use Rattle.arc_class.specs.declared.look.Seen.{Seen}
+use Rattle.arc_class.specs.declared.table.Declared.{Declared}
 use Rattle.arc_class.specs.Broken.{Broken, first, earlier_of}
-use Rattle.arc_class.specs.Functions.{has_body, clash, duplicates}
 use Rattle.arc_class.specs.Fault.{told}
-use Rattle.arc_class.specs.Table.{body_at}
+use Rattle.arc_class.specs.Functions.{is_library, clashes, duplicates}
+use Rattle.arc_class.specs.Names.{has_body, signature, known, number_of, is_main}
+use Rattle.arc_class.specs.Table.{at_name}
 
--- whether some seen function has other parameters than these
-abbrev pub some_differ : Seen → Parameters → Bool
-some_differ seen p.Nothing = seen.some_take_texts
-some_differ seen p.CountAndTexts = seen.some_take_nothing
-
--- whether a function clashes with a seen one
-abbrev pub clashes_with : Seen → FunctionTree → Bool
-clashes_with seen f = (is_some seen.main && has_body f) || some_differ seen f.parameters
-
--- an index is that of a function with a body, and with none no function has one
-abbrev pub IsBody : List FunctionTree → Option ℕ → Type 0
-IsBody functions None = list_any has_body functions ≡ false
-IsBody functions (Some index) = IsSome (body_at functions index)
+-- how many functions have a body
+abbrev pub bodies : List FunctionTree → ℕ
+bodies [] = 0
+bodies (f ∷ others) = if has_body f then suc (bodies others) else bodies others
 
 -- what is known is so of these functions
 pub record Sums (functions : List FunctionTree) (seen : Seen) : Type 0 where
-  pub main : IsBody functions seen.main
-  pub clashes : (f : FunctionTree) → list_any (λ e. clash e f) functions ≡ clashes_with seen f
+  pub knows : (name : List ℕ) → at_name seen.known name ≡ known functions name
+  pub counts : seen.bodies ≡ bodies functions
+  pub main : seen.main ≡ number_of is_main functions
   pub fault : option_map told seen.fault ≡ first (duplicates [] functions)
 
+-- a number that was found, or else that of a function which passes
+abbrev pub or_number : Option ℕ → Bool → ℕ → Option ℕ
+or_number (Some found) passes number = Some found
+or_number None passes number = if passes then Some number else None
+
+-- what is known of a name, once one more function of the name is seen
+abbrev pub joined : Option Declared → ℕ → FunctionTree → Declared
+joined None number f = record { signature = signature f; body = or_number None (has_body f) number }
+joined (Some d) number f = record { signature = d.signature; body = or_number d.body (has_body f) number }
+
 -- the fault that is told, once a function is seen too
-abbrev pub fault_with : Seen → FunctionTree → Option Broken
-fault_with seen f =
-    let found = option_map told seen.fault in
-    if clashes_with seen f then earlier_of found (Some (record { at = f.at; number = 21 })) else found
+abbrev pub fault_with : Option ClassFault → Option Declared → FunctionTree → Option Broken
+fault_with fault earlier f =
+    if is_library f.name || clashes earlier f then earlier_of (option_map told fault) (Some (record { at = f.at; number = 21 })) else option_map told fault
 
--- the index of the first body, once the function at an index is seen too
+-- which function a program begins with, once a function is seen too
 abbrev pub main_with : Option ℕ → ℕ → FunctionTree → Option ℕ
-main_with (Some main) index f = Some main
-main_with None index f = if has_body f then Some index else None
+main_with main number f = or_number main (is_main f && has_body f) number
 
-abbrev pub is_nothing : Parameters → Bool
-is_nothing p.Nothing = true
-is_nothing p.CountAndTexts = false
-
--- what is known, once the function at an index is seen too
-pub record IsMore (old : Seen) (index : ℕ) (f : FunctionTree) (new : Seen) : Type 0 where
-  pub main : new.main ≡ main_with old.main index f
-  pub some_take_nothing : new.some_take_nothing ≡ (old.some_take_nothing || is_nothing f.parameters)
-  pub some_take_texts : new.some_take_texts ≡ (old.some_take_texts || not (is_nothing f.parameters))
-  pub fault : option_map told new.fault ≡ fault_with old f
+-- what is known, once a function is seen too
+pub record IsMore (old : Seen) (f : FunctionTree) (new : Seen) : Type 0 where
+  pub knows : (name : List ℕ) → at_name new.known name ≡ update bytes_eq (at_name old.known) f.name (Some (joined (at_name old.known f.name) old.bodies f)) name
+  pub bodies : new.bodies ≡ (if has_body f then suc old.bodies else old.bodies)
+  pub main : new.main ≡ main_with old.main old.bodies f
+  pub fault : option_map told new.fault ≡ fault_with old.fault (at_name old.known f.name) f

@@ -1,14 +1,23 @@
 -- What a table of a source is.
-use Rattle.std.specs.Prelude.{ℕ, zero, suc, List, [], ◌∷◌, Option, None, IsSome}
-use Rattle.arc_ast.specs.Tree.{FunctionTree, StmtTrees}
+use Rattle.std.specs.Prelude.{◌≡◌, ℕ, List, Option, Some}
+use Rattle.std.specs.BTreeMap.{BTreeMap, get_by}
+use Rattle.std.specs.Cmp.Lexicographic.{slice_cmp}
+use Rattle.std.specs.Ordering.{nat_cmp}
+use Rattle.std.specs.Borrow.{Bor}
+use Rattle.arc_ast.specs.Tree.{FunctionTree}
+use Rattle.arc_class.specs.declared.table.Declared.{Declared}
 use Rattle.arc_class.specs.declared.table.ClassTable.{ClassTable}
+use Rattle.arc_class.specs.Names.{known, number_of, is_main}
 
--- the body of the function at an index, where it has one
-abbrev pub body_at : List FunctionTree → ℕ → Option StmtTrees
-body_at [] index = None
-body_at (f ∷ others) zero = f.body
-body_at (f ∷ others) (suc index) = body_at others index
+-- what a map from names has at a name
+abbrev pub at_name : {X : Type 0} → BTreeMap (Bor (List ℕ)) X → List ℕ → Option X
+at_name map name = get_by (λ key. slice_cmp nat_cmp name key.now) map
 
--- the table is one of a source with these functions: its `main` is one of them, and has a body
-abbrev pub IsTableOf : List FunctionTree → ClassTable → Type 0
-IsTableOf functions table = IsSome (body_at functions table.main)
+-- what a table knows of a name
+abbrev pub function_in : ClassTable → List ℕ → Option Declared
+function_in table = at_name table.functions
+
+-- the table is one of a source with these functions: it knows what is known of each name, and which function is `main`
+pub record IsTableOf (functions : List FunctionTree) (table : ClassTable) : Type 0 where
+  pub knows : (name : List ℕ) → function_in table name ≡ known functions name
+  pub main : number_of is_main functions ≡ Some table.main

@@ -1,18 +1,25 @@
 //! Why a source has no table.
-ghost use Rattle.std.specs.Prelude.{◌≡◌};
-ghost use Rattle.arc_class.specs.Fault.{fault_number, fault_name, fault_at};
+ghost use Rattle.std.specs.Prelude.{◌≡◌, option_map};
+ghost use Rattle.arc_class.specs.Broken.{earlier_of};
+ghost use Rattle.arc_class.specs.declared.fault.ClassFault.TheVariants.{Memory};
+ghost use Rattle.arc_class.specs.Fault.{fault_number, fault_name, fault_at, told};
 
+use std::alloc::AllocError;
 use thiserror::Error;
 
 /// Why a source has no table: the first rule that its declarations break, or no memory.
 #[derive(Clone, Copy, Debug, Drop, PartialEq, Eq, Error)]
 pub enum ClassFault {
-    /// A second body of a function, or a declaration that differs from an earlier one; the place is that of its name.
-    #[error("the function at {0} is declared in another way already")]
+    /// A second body of a function, a declaration that differs from an earlier one, a function of the library's name, or a second variable of a
+    /// name in a scope; the place is that of the name.
+    #[error("the name at {0} is declared in another way already")]
     Duplicate(usize),
     /// No `main` has a body.
     #[error("no main has a body")]
     NoMain,
+    /// A call of a function that is declared and has no body; the place is that of its name.
+    #[error("the function that is called at {0} has no body")]
+    UndefinedFunction(usize),
     /// There was no memory for the table.
     #[error("no memory")]
     Memory,
@@ -26,6 +33,7 @@ impl ClassFault {
         match self {
             ClassFault::Duplicate(_) => 21,
             ClassFault::NoMain => 29,
+            ClassFault::UndefinedFunction(_) => 30,
             ClassFault::Memory => 31,
         }
     }
@@ -37,6 +45,7 @@ impl ClassFault {
         match self {
             ClassFault::Duplicate(_) => "Duplicate",
             ClassFault::NoMain => "NoMain",
+            ClassFault::UndefinedFunction(_) => "UndefinedFunction",
             ClassFault::Memory => "Memory",
         }
     }
@@ -48,7 +57,30 @@ impl ClassFault {
         match self {
             ClassFault::Duplicate(at) => *at,
             ClassFault::NoMain => 0,
+            ClassFault::UndefinedFunction(at) => *at,
             ClassFault::Memory => 0,
+        }
+    }
+}
+
+impl From<AllocError> for ClassFault {
+    ghost from_gives = { λ _ fault. fault ≡ Memory };
+
+    fn from(_error: AllocError) -> ClassFault {
+        ClassFault::Memory
+    }
+}
+
+/// The fault that is told of two.
+pub(crate) fn earlier(a: Option<ClassFault>, b: Option<ClassFault>) -> Option<ClassFault>
+    ensures { option_map told result ≡ earlier_of (option_map told a) (option_map told b) }
+{
+    match (a, b) {
+        (None, b) => b,
+        (a, None) => a,
+        (Some(a), Some(b)) => {
+            let is_before = b.at() < a.at() || b.at() == a.at() && b.number() < a.number();
+            if is_before { Some(b) } else { Some(a) }
         }
     }
 }

@@ -6,3 +6,4 @@ mod look;
 pub mod table;
 #[cfg(test)]
 mod tests;
+mod walk;

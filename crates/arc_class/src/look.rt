@@ -1,108 +1,202 @@
-//! One look at the functions of a source.
-ghost use Rattle.std.specs.Prelude.{◌≡◌, Some, option_map};
-ghost use Rattle.arc_ast.specs.Tree.{function_tree, function_trees};
-ghost use Rattle.arc_class.specs.Broken.{earlier_of};
+//! One look at the functions of a source, before their bodies.
+ghost use Rattle.std.specs.Prelude.{◌≡◌, ◌<◌, suc, option_map, if◌then◌else◌, IfOk};
+ghost use Rattle.arc_ast.specs.declared.tree.Kind.{Kind};
+ghost use Rattle.arc_ast.specs.Tree.{function_tree, function_trees, parameters_tree};
 ghost use Rattle.arc_class.specs.Fault.{told};
-ghost use Rattle.arc_class.specs.Look.{Sums, IsMore, clashes_with, fault_with, main_with};
+ghost use Rattle.arc_class.specs.Functions as rules;
+ghost use Rattle.arc_class.specs.Look.{Sums, IsMore, joined, fault_with, main_with};
+ghost use Rattle.arc_class.specs.Names as names;
 
-use crate::fault::ClassFault;
-use arc_ast::tree::{Function, Parameters};
+use crate::fault::{ClassFault, earlier};
+use crate::table::{Declared, Known, Signature, at_name};
+use arc_ast::tree::{Function, Kind, Parameter, Parameters};
+use std::alloc::{AllocError, Global};
 
 /// What is known of some functions.
-#[derive(Clone, Copy, Debug, PartialEq, Eq)]
-pub struct Seen {
-    /// The index of the first one with a body.
+#[derive(Debug, Drop)]
+pub struct Seen<'a> {
+    pub known: Known<'a>,
+    /// How many have a body.
+    pub bodies: usize,
+    /// Which of those is the first that a program can begin with.
     pub main: Option<usize>,
-    /// Some have no parameters.
-    pub some_take_nothing: bool,
-    /// Some have a count and texts.
-    pub some_take_texts: bool,
-    /// The first rule that they break, but for that of a missing body.
+    /// The first rule that they break, but for those of their bodies and that of a missing `main`.
     pub fault: Option<ClassFault>,
 }
 
-/// The fault that is told of those found so far and one more.
-pub fn earlier(found: Option<ClassFault>, fault: ClassFault) -> ClassFault
-    ensures { Some (told result) ≡ earlier_of (option_map told found) (Some (told fault)) }
+fn same_kind(a: Kind, b: Kind) -> bool
+    ensures { result ≡ rules.same_kind a b }
 {
-    match found {
-        None => fault,
-        Some(found) => {
-            let (place, other) = (found.at(), fault.at());
-            let is_before = other < place || other == place && fault.number() < found.number();
-            if is_before { fault } else { found }
+    matches!(
+        (a, b),
+        (Kind::Void, Kind::Void)
+            | (Kind::Bool, Kind::Bool)
+            | (Kind::Int, Kind::Int)
+            | (Kind::Long, Kind::Long)
+            | (Kind::Object, Kind::Object)
+    )
+}
+
+fn same_number(a: Option<usize>, b: Option<usize>) -> bool
+    ensures { result ≡ rules.same_number a b }
+{
+    match (a, b) {
+        (None, None) => true,
+        (Some(a), Some(b)) => a == b,
+        _ => false,
+    }
+}
+
+fn same_signature(a: Signature, b: Signature) -> bool
+    ensures { result ≡ rules.same_signature a b }
+{
+    same_kind(a.result, b.result) && same_number(a.takes, b.takes)
+}
+
+fn is_library(name: &[u8]) -> bool
+    ensures { result ≡ rules.is_library name.now }
+{
+    name == b"printf".as_slice() || name == b"getchar".as_slice()
+}
+
+/// How many numbers a function with the parameters takes.
+fn takes(parameters: &Parameters) -> Option<usize>
+    ensures { result ≡ names.takes (parameters_tree parameters.now) }
+{
+    match parameters {
+        Parameters::Ints(all) => {
+            let all: &[Parameter] = all;
+            Some(all.len())
+        }
+        Parameters::CountAndTexts => None,
+    }
+}
+
+fn signature_of(function: &Function) -> Signature
+    ensures { result ≡ names.signature (function_tree function.now) }
+{
+    Signature {
+        result: function.result,
+        takes: takes(&function.parameters),
+    }
+}
+
+/// Whether a program can begin with the function.
+fn is_main(function: &Function) -> bool
+    ensures { result ≡ names.is_main (function_tree function.now) }
+{
+    let can_begin = matches!(takes(&function.parameters), None | Some(0));
+    let name: &[u8] = &function.name;
+    b"main".as_slice() == name && matches!(function.result, Kind::Int) && can_begin
+}
+
+/// Whether the function clashes with those of its name.
+fn clashes(earlier: Option<Declared>, function: &Function) -> bool
+    ensures { result ≡ rules.clashes earlier (function_tree function.now) }
+{
+    match earlier {
+        None => false,
+        Some(earlier) => {
+            earlier.body.is_some() && function.body.is_some()
+                || !same_signature(earlier.signature, signature_of(function))
         }
     }
 }
 
-impl Seen {
-    /// Whether the function clashes with one of these.
-    fn clashes_with(&self, function: &Function) -> bool
-        ensures { result ≡ clashes_with self.now (function_tree function.now) }
-    {
-        let bodies = self.main.is_some() && function.body.is_some();
-        bodies
-            || match function.parameters {
-                Parameters::Nothing => self.some_take_texts,
-                Parameters::CountAndTexts => self.some_take_nothing,
-            }
+/// What is known of a name, once one more function of the name is seen, which has this number if it has a body.
+fn joined(earlier: Option<Declared>, number: usize, function: &Function) -> Declared
+    ensures { result ≡ joined earlier number (function_tree function.now) }
+{
+    let body = if function.body.is_some() {
+        Some(number)
+    } else {
+        None
+    };
+    match earlier {
+        None => Declared {
+            signature: signature_of(function),
+            body,
+        },
+        Some(
+            Declared {
+                signature,
+                body: None,
+            },
+        ) => Declared { signature, body },
+        Some(earlier) => earlier,
     }
+}
 
+/// How many functions have a body, once the function is counted too.
+fn bodies_with(bodies: usize, function: &Function) -> usize
+    requires { bodies < usize.MAX }
+    ensures { result ≡ (if names.has_body (function_tree function.now) then suc bodies else bodies) }
+{
+    match &function.body {
+        Some(_) => bodies + 1,
+        None => bodies,
+    }
+}
+
+impl<'a> Seen<'a> {
     /// The fault, once the function is seen too.
-    fn fault_with(&self, function: &Function) -> Option<ClassFault>
-        ensures { option_map told result ≡ fault_with self.now (function_tree function.now) }
+    fn fault_with(&self, known: Option<Declared>, function: &Function) -> Option<ClassFault>
+        ensures { option_map told result ≡ fault_with self.now.fault known (function_tree function.now) }
     {
-        if !self.clashes_with(function) {
-            return self.fault;
+        if is_library(&function.name) || clashes(known, function) {
+            earlier(self.fault, Some(ClassFault::Duplicate(function.at)))
+        } else {
+            self.fault
         }
-        Some(earlier(self.fault, ClassFault::Duplicate(function.at)))
     }
 
-    /// The index of the first body, once the function at the index is seen too.
-    fn main_with(&self, index: usize, function: &Function) -> Option<usize>
-        ensures { result ≡ main_with self.now.main index (function_tree function.now) }
+    /// Which function a program begins with, once the function is seen too.
+    fn main_with(&self, function: &Function) -> Option<usize>
+        ensures { result ≡ main_with self.now.main self.now.bodies (function_tree function.now) }
     {
         match self.main {
             Some(main) => Some(main),
-            None => function.body.is_some().then_some(index),
+            None if is_main(function) && function.body.is_some() => Some(self.bodies),
+            None => None,
         }
     }
 
-    /// What is known, once the function at the index is seen too.
-    fn with(self, index: usize, function: &Function) -> Seen
-        ensures { IsMore self index (function_tree function.now) result }
+    /// What is known, once the function is seen too.
+    fn with(self, function: &'a Function) -> Result<Seen<'a>, AllocError>
+        requires { self.bodies < usize.MAX }
+        ensures { IfOk result (λ new. IsMore self.entry (function_tree function.now) new) }
     {
-        let main = self.main_with(index, function);
-        let fault = self.fault_with(function);
-        match function.parameters {
-            Parameters::Nothing => Seen {
-                main,
-                fault,
-                some_take_nothing: true,
-                ..self
-            },
-            Parameters::CountAndTexts => Seen {
-                main,
-                fault,
-                some_take_texts: true,
-                ..self
-            },
-        }
+        let earlier = at_name(&self.known, &function.name);
+        let fault = self.fault_with(earlier, function);
+        let main = self.main_with(function);
+        let declared = joined(earlier, self.bodies, function);
+        let Seen {
+            mut known,
+            bodies,
+            ..
+        } = self;
+        known.insert(&function.name, declared)?;
+        Ok(Seen {
+            known,
+            bodies: bodies_with(bodies, function),
+            main,
+            fault,
+        })
     }
 }
 
 /// What is known of the functions.
-pub fn look(functions: &[Function]) -> Seen
-    ensures { Sums (function_trees functions.now) result }
+pub fn look<'a>(alloc: Global, functions: &'a [Function]) -> Result<Seen<'a>, AllocError>
+    ensures { IfOk result (λ seen. Sums (function_trees functions.now) seen) }
 {
     let mut seen = Seen {
+        known: Known::new(alloc),
+        bodies: 0,
         main: None,
-        some_take_nothing: false,
-        some_take_texts: false,
         fault: None,
     };
-    for (index, function) in functions.iter().enumerate() {
-        seen = seen.with(index, function);
+    for function in functions {
+        seen = seen.with(function)?;
     }
-    seen
+    Ok(seen)
 }

@@ -6,13 +6,14 @@ use Rattle.arc_ast.specs.declared.tree.Kind.TheVariants as k
 use Rattle.arc_ast.specs.declared.tree.BinaryOperator.{BinaryOperator}
 use Rattle.arc_ast.specs.declared.tree.BinaryOperator.TheVariants as o
 use Rattle.arc_code.specs.declared.code.Op.{Op}
-use Rattle.arc_code.specs.declared.code.Op.TheVariants.{Num, Bin, Un, Narrow, Pop, Get, Set, PrintText, PrintNum, PrintByte, GetChar, Return}
+use Rattle.arc_code.specs.declared.code.Op.TheVariants.{Num, Bin, Un, Narrow, Pop, Get, Set, PrintText, PrintNum, PrintByte, GetChar, Jump, JumpZero, Call, Return}
 
 abbrev pub operator_number : BinaryOperator → ℕ
 operator_number o.Add = 0
 operator_number o.Subtract = 1
 operator_number o.Multiply = 2
 operator_number o.Divide = 3
+operator_number o.NotEqual = 4
 
 abbrev pub kind_number : Kind → ℕ
 kind_number k.Void = 0
@@ -33,6 +34,9 @@ name (PrintText from len) = codes "PrintText"
 name PrintNum = codes "PrintNum"
 name PrintByte = codes "PrintByte"
 name GetChar = codes "GetChar"
+name (Jump to) = codes "Jump"
+name (JumpZero to) = codes "JumpZero"
+name (Call to) = codes "Call"
 name Return = codes "Return"
 
 -- a space, and a number
@@ -47,6 +51,9 @@ operands (Narrow kind) = operand (kind_number kind)
 operands (Get depth) = operand depth
 operands (Set depth) = operand depth
 operands (PrintText from len) = operand from ++ operand len
+operands (Jump to) = operand to
+operands (JumpZero to) = operand to
+operands (Call to) = operand to
 operands _ = []
 
 -- the instruction with this number

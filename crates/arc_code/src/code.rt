@@ -29,7 +29,15 @@ pub enum Op {
     PrintByte,
     /// Reads a byte, and puts it on the stack, or -1 at the end of the input.
     GetChar,
-    /// Takes a number, with which the program ends.
+    /// Goes on at the instruction with this number.
+    Jump(usize),
+    /// Takes a number, and goes on at the instruction with this number where it is 0.
+    JumpZero(usize),
+    /// Calls the function that begins at the instruction with this number, and whose variables stand on
+    /// the stack.
+    Call(usize),
+    /// Goes back behind the last call; with no call it takes the top number, with which the program
+    /// ends.
     Return,
 }
 
@@ -38,7 +46,7 @@ pub enum Op {
 pub struct Code {
     pub ops: Vec<Op>,
     pub texts: Vec<u8>,
-    pub room: u32,
+    pub room: usize,
 }
 
 /// A reader or a writer failed.

@@ -57,6 +57,9 @@ fn put_operands<W: Write>(op: Op, writer: &mut Counted<W>) -> Result<(), IoFault
         Op::Get(depth) => put_operand(depth as u64, writer),
         Op::Set(depth) => put_operand(depth as u64, writer),
         Op::PrintText(from, len) => put_pair(u64::from(from), u64::from(len), writer),
+        Op::Jump(to) => put_operand(to as u64, writer),
+        Op::JumpZero(to) => put_operand(to as u64, writer),
+        Op::Call(to) => put_operand(to as u64, writer),
         Op::Pop | Op::PrintNum | Op::PrintByte | Op::GetChar | Op::Return => put(b"", writer),
     }
 }
@@ -145,6 +148,9 @@ fn name_of(op: Op) -> &'static str
         Op::PrintNum => "PrintNum",
         Op::PrintByte => "PrintByte",
         Op::GetChar => "GetChar",
+        Op::Jump(_) => "Jump",
+        Op::JumpZero(_) => "JumpZero",
+        Op::Call(_) => "Call",
         Op::Return => "Return",
     }
 }
@@ -157,6 +163,7 @@ fn number_of_operator(operator: BinaryOperator) -> u64
         BinaryOperator::Subtract => 1,
         BinaryOperator::Multiply => 2,
         BinaryOperator::Divide => 3,
+        BinaryOperator::NotEqual => 4,
     }
 }
 

@@ -110,6 +110,9 @@ fn some_code(alloc: Global) -> Result<Code, AllocError> {
         Op::Bin(BinaryOperator::Divide, Kind::Int),
         Op::Get(2),
         Op::PrintText(10, 6),
+        Op::JumpZero(7),
+        Op::Call(0),
+        Op::Jump(12),
         Op::Return,
     ]?;
     Ok(Code {
@@ -124,7 +127,8 @@ fn code_is_listed(rt: HostRuntime) -> Result<(), Fail> {
     let code = some_code(rt.alloc())?;
     let mut writer = Counted::new(Vec::new(rt.alloc()));
     assert_eq!(rt; list(&code, &mut writer), Ok(()));
-    let text = b"0 Num -42\n1 Bin 3 2\n2 Get 2\n3 PrintText 10 6\n4 Return\n";
+    let text = b"0 Num -42\n1 Bin 3 2\n2 Get 2\n3 PrintText 10 6\n\
+        4 JumpZero 7\n5 Call 0\n6 Jump 12\n7 Return\n";
     assert_eq!(rt; writer.get_ref().as_slice(), text.as_slice());
     let mut narrow = Counted::new(Narrow {
         taken: Vec::new(rt.alloc()),

@@ -1,3 +1,4 @@
 pub mod Simulation
 pub mod Printing
+pub mod Sizes
 pub mod Matching

@@ -1,8 +1,10 @@
--- The code of actions does what the actions do.
-use Rattle.std.proofs.Common.{◌≡◌, ℕ, suc, ◌+◌, ◌-◌, ◌*◌, ◌/◌, ◌≤◌, ℤ, List, [], ◌∷◌, ◌++◌, length, drop, Option, Some, None, slice_get, slice_set, refl, sym, ap, subst, ◌∙◌, arith, length-set}
+-- The code of actions does what the actions do, where they are sound.
+use Rattle.std.proofs.Common.{◌≡◌, ℕ, suc, ◌+◌, ◌-◌, ◌*◌, ◌/◌, ◌≤◌, ℤ, Bool, true, false, nat_lt, List, [], ◌∷◌, ◌++◌, length, map, drop, Option, Some, None, slice_get, slice_set, refl, sym, ap, subst, ◌∙◌, arith}
+use Rattle.std.proofs.lemmas.List.{length-map}
 use Rattle.std.specs.Fmt.{signed_decimal}
-use Rattle.arc_spec.specs.Number.{converted, negated, combined, low_byte, counted, byte_or_end}
-use Rattle.arc_spec.specs.Stepping.{Next, Goes, Asks, Ends, Faults, Stuck, on_top, on_two, on_found}
+use Rattle.arc_spec.specs.Number.{converted, negated, combined, is_zero, low_byte, counted, byte_or_end}
+use Rattle.arc_spec.specs.Meaning.{chosen, most_levels}
+use Rattle.arc_spec.specs.Stepping.{Next, Goes, Asks, Ends, Faults, Stuck, Along, Sound, on_top, on_two, on_found}
 use Rattle.arc_spec.specs.Correct.{Refines}
 use Rattle.arc_ir.specs.declared.action.Action.{Action}
 use Rattle.arc_ir.specs.declared.action.Action.TheVariants as action
@@ -10,150 +12,196 @@ use Rattle.arc_ir.specs.Acting as acting
 use Rattle.arc_code.specs.declared.code.Op.{Op}
 use Rattle.arc_code.specs.declared.code.Op.TheVariants as op
 use Rattle.arc_code.specs.Running as running
-use Rattle.arc_code.specs.Running.{Program}
-use Rattle.arc_emit.specs.Emitted.{text_of, text_ops, action_ops, ops_of, texts_of, depth_after, room_from, code_of}
-use Rattle.arc_emit.proofs.Simulation.{Does, refines, stays_sound}
-use Rattle.arc_emit.proofs.Printing.{get_first, get_none, drop_past, drop_next, length_from, prints_text, prints_nothing}
+use Rattle.arc_emit.specs.Emitted.{text_of, texts_of, size_of, place, place_of_entry, entry, places_of, text_ops, action_ops, ops_of, code_of}
+use Rattle.arc_emit.proofs.Simulation.{Chain, Does, refines, sound_next, stays_sound}
+use Rattle.arc_emit.proofs.Printing.{get_first, get_none, prints_text}
+use Rattle.arc_emit.proofs.Sizes.{place_next, ops_at, text_before, texts_at, texts_within}
 
--- the code stands at the first instruction of the action at which the actions stand, with the same stack
-pub record Matches (actions : List Action) (p : Program) (s : acting.State) (t : running.State) : Type 0 where
-  pub place : ℕ
-  pub ops : drop t.at p.ops ≡ ops_of place (drop s.at actions)
-  pub texts : drop place p.texts ≡ texts_of (drop s.at actions)
-  pub within : place ≤ length p.texts
-  pub stack : t.stack ≡ s.stack
-  pub room : room_from (length s.stack) (drop s.at actions) ≤ p.room
+module _ (p : acting.Program) where
+  abbrev code : running.Program
+  code = code_of p
 
-pub room_least : (depth : ℕ) (actions : List Action) → depth ≤ room_from depth actions
-room_least depth [] = omega arith
-room_least depth (a ∷ rest) = omega arith
+  -- where the instructions of an action begin
+  abbrev begin : ℕ → ℕ
+  begin j = place (places_of p.actions) j
 
-module _ (actions : List Action) (p : Program) where
-  matches_fits : (s : acting.State) (t : running.State) → Matches actions p s t → running.Fits p t
-  matches_fits s t m = let e : length t.stack ≡ length s.stack = ap length m.stack in omega (arith, room_least (length s.stack) (drop s.at actions), m.room, e)
+  -- the code stands where the action begins at which the actions stand, with the same stack, and goes back to where theirs go back to
+  record Alike (s : acting.State) (t : running.State) : Type 0 where
+    pub at : t.at ≡ begin s.at
+    pub stack : t.stack ≡ s.stack
+    pub calls : t.calls ≡ map begin s.calls
 
-  -- one step of each does the same
-  abbrev Alike : Next acting.State → Next running.State → Type 0
-  Alike (Goes s es) y = (t : running.State) × (y ≡ Goes t es) × Matches actions p s t
-  Alike (Asks k) y = (k' : Option ℕ → running.State) × (y ≡ Asks k') × ((a : Option ℕ) → Matches actions p (k a) (k' a))
-  Alike (Ends n) y = y ≡ Ends n
-  Alike (Faults f) y = y ≡ Faults f
-  Alike Stuck y = y ≡ Stuck
+  -- one step of each does the same; where the actions are stuck nothing is asked
+  abbrev Same : Next acting.State → Next running.State → Type 0
+  Same (Goes s es) y = (t : running.State) × (y ≡ Goes t es) × Alike s t
+  Same (Asks k) y = (k' : Option ℕ → running.State) × (y ≡ Asks k') × ((a : Option ℕ) → Alike (k a) (k' a))
+  Same (Ends n) y = y ≡ Ends n
+  Same (Faults f) y = y ≡ Faults f
+  Same Stuck y = Unit {0}
 
+  -- some steps of the code do the same as one of the actions
   abbrev Done : Next acting.State → running.State → Type 0
-  Done x t = Does (running.step p) (running.Fits p) (Matches actions p) x t
+  Done (Goes s es) t = (n : ℕ) × (t' : running.State) × Chain (running.step code) (running.Fits code) n t es t' × Alike s t'
+  Done (Asks k) t = (k' : Option ℕ → running.State) × (running.step code t ≡ Asks k') × ((a : Option ℕ) → Alike (k a) (k' a))
+  Done (Ends n) t = running.step code t ≡ Ends n
+  Done (Faults f) t = running.step code t ≡ Faults f
+  Done Stuck t = Unit {0}
 
-  done_alike : (x : Next acting.State) (t : running.State) → Alike x (running.step p t) → Done x t
-  done_alike (Goes s es) t (end, e, m) = (0, end, e, m)
-  done_alike (Asks k) t h = h
-  done_alike (Ends n) t e = e
-  done_alike (Faults f) t e = e
-  done_alike Stuck t e = e
+  done_by_one : (x : Next acting.State) (t : running.State) → Same x (running.step code t) → Done x t
+  done_by_one (Goes s es) t (end, e, m) = (0, end, e, m)
+  done_by_one (Asks k) t h = h
+  done_by_one (Ends n) t e = e
+  done_by_one (Faults f) t e = e
+  done_by_one Stuck t e = tt
 
-  alike_top : (stack : List ℤ) (f : ℤ → List ℤ → Next acting.State) (g : ℤ → List ℤ → Next running.State) → ((v : ℤ) (rest : List ℤ) → suc (length rest) ≡ length stack → Alike (f v rest) (g v rest)) → Alike (on_top stack f) (on_top stack g)
-  alike_top [] f g h = refl
-  alike_top (v ∷ rest) f g h = h v rest refl
+  same_top : (stack : List ℤ) (f : ℤ → List ℤ → Next acting.State) (g : ℤ → List ℤ → Next running.State) → ((v : ℤ) (rest : List ℤ) → Same (f v rest) (g v rest)) → Same (on_top stack f) (on_top stack g)
+  same_top [] f g h = tt
+  same_top (v ∷ rest) f g h = h v rest
 
-  alike_two : (stack : List ℤ) (f : ℤ → ℤ → List ℤ → Next acting.State) (g : ℤ → ℤ → List ℤ → Next running.State) → ((v u : ℤ) (rest : List ℤ) → suc (suc (length rest)) ≡ length stack → Alike (f v u rest) (g v u rest)) → Alike (on_two stack f) (on_two stack g)
-  alike_two [] f g h = refl
-  alike_two (v ∷ []) f g h = refl
-  alike_two (v ∷ u ∷ rest) f g h = h v u rest refl
+  same_two : (stack : List ℤ) (f : ℤ → ℤ → List ℤ → Next acting.State) (g : ℤ → ℤ → List ℤ → Next running.State) → ((v u : ℤ) (rest : List ℤ) → Same (f v u rest) (g v u rest)) → Same (on_two stack f) (on_two stack g)
+  same_two [] f g h = tt
+  same_two (v ∷ []) f g h = tt
+  same_two (v ∷ u ∷ rest) f g h = h v u rest
 
-  alike_found : (found : Option ℤ) (f : ℤ → Next acting.State) (g : ℤ → Next running.State) → ((v : ℤ) → Alike (f v) (g v)) → Alike (on_found found f) (on_found found g)
-  alike_found None f g h = refl
-  alike_found (Some v) f g h = h v
+  same_found : (found : Option ℤ) (f : ℤ → Next acting.State) (g : ℤ → Next running.State) → ((v : ℤ) → Same (f v) (g v)) → Same (on_found found f) (on_found found g)
+  same_found None f g h = tt
+  same_found (Some v) f g h = h v
 
-  module _ (i j : ℕ) (stack : List ℤ) where
+  same_chosen : (b : Bool) (x1 x2 : Next acting.State) (y1 y2 : Next running.State) → Same x1 y1 → Same x2 y2 → Same (chosen b x1 x2) (chosen b y1 y2)
+  same_chosen true x1 x2 y1 y2 h1 h2 = h2
+  same_chosen false x1 x2 y1 y2 h1 h2 = h1
+
+  module _ (i : ℕ) (stack : List ℤ) (calls : List ℕ) where
     abbrev here : acting.State
-    here = record { at = i; stack = stack }
+    here = record { at = i; stack = stack; calls = calls }
 
     abbrev there : running.State
-    there = record { at = j; stack = stack }
+    there = record { at = begin i; stack = stack; calls = map begin calls }
 
-    -- what an action that is one instruction must lead to, for the stacks that it may leave
-    abbrev Behind : (depth : ℕ) → Type 0
-    Behind depth = (left : List ℤ) → length left ≡ depth → Matches actions p (acting.onward here left) (running.onward there left)
+    -- where the next action begins behind one instruction
+    abbrev Next_one : Type 0
+    Next_one = begin (i + 1) ≡ begin i + 1
 
-    alike_fault : (answer : Option ℤ) (rest : List ℤ) (depth : ℕ) → suc (length rest) ≡ depth → Behind depth → Alike (acting.or_fault answer here rest) (running.or_fault answer there rest)
-    alike_fault None rest depth e behind = refl
-    alike_fault (Some v) rest depth e behind = (running.onward there (v ∷ rest), refl, behind (v ∷ rest) e)
+    onward : (left : List ℤ) → Next_one → Alike (acting.onward here left) (running.onward there left)
+    onward left e = record { at = sym e; stack = refl; calls = refl }
 
-    goes : (depth : ℕ) (left : List ℤ) → length left ≡ depth → Behind depth → Alike (acting.goes here left) (running.goes there left)
-    goes depth left e behind = (running.onward there left, refl, behind left e)
+    goes : (left : List ℤ) → Next_one → Same (acting.goes here left) (running.goes there left)
+    goes left e = (running.onward there left, refl, onward left e)
 
-    prints : (depth : ℕ) (left : List ℤ) (bytes : List ℕ) → length left ≡ depth → Behind depth → Alike (acting.prints here left bytes) (running.prints there left bytes)
-    prints depth left bytes e behind = (running.onward there left, refl, behind left e)
+    prints : (left : List ℤ) (bytes : List ℕ) → Next_one → Same (acting.prints here left bytes) (running.prints there left bytes)
+    prints left bytes e = (running.onward there left, refl, onward left e)
 
-    -- the facts at an action: its instructions stand at j, and behind them the code matches again
-    module _ (a : Action) (place : ℕ) (rest : List Action) (behind : (k : ℕ) → drop k p.ops ≡ ops_of (place + length (text_of a)) rest → (left : List ℤ) → length left ≡ depth_after (length stack) a → Matches actions p (acting.onward here left) (record { at = k; stack = left })) where
-      by_one : (o : Op) → drop j p.ops ≡ o ∷ ops_of (place + length (text_of a)) rest → (Behind (depth_after (length stack) a) → Alike (acting.acts (Some a) here) (running.executes p (Some o) there)) → Done (acting.acts (Some a) here) there
-      by_one o ops h =
-          let more = ops_of (place + length (text_of a)) rest in
-          let x = acting.acts (Some a) here in
-          done_alike x there (subst (λ y. Alike x (running.executes p y there)) (sym (get_first p.ops j o more ops)) (h (λ left e. behind (j + 1) (drop_next p.ops j o more ops) left e)))
+    or_fault : (answer : Option ℤ) (rest : List ℤ) → Next_one → Same (acting.or_fault answer here rest) (running.or_fault answer there rest)
+    or_fault None rest e = refl
+    or_fault (Some v) rest e = goes (v ∷ rest) e
 
-    -- the pieces of a text, which stands at `place`
-    does_text : (bytes : List ℕ) (place full : ℕ) (past : List ℕ) (more : List Op) (given : List ℤ) → stack ≡ given → drop j p.ops ≡ text_ops place (length bytes) full ++ more → drop place p.texts ≡ bytes ++ past → place ≤ length p.texts → 16 * full ≤ length bytes → length bytes ≤ 16 * full + 16 → length stack ≤ p.room → ((k : ℕ) → drop k p.ops ≡ more → (left : List ℤ) → length left ≡ length stack → Matches actions p (acting.onward here left) (record { at = k; stack = left })) → Done (on_top given (λ count rest. acting.prints here (counted count bytes ∷ rest) bytes)) (record { at = j; stack = given })
-    does_text bytes place full past more [] e ops texts within low high room behind = prints_nothing p full j place (length bytes) more ops
-    does_text bytes place full past more (count ∷ rest) e ops texts within low high room behind =
-        let size = ap length e in
-        let printed = prints_text p full j place bytes past count rest more ops texts within low high (omega arith) in
-        (full, record { at = printed.0; stack = counted count bytes ∷ rest }, printed.2, behind printed.0 printed.1 (counted count bytes ∷ rest) (omega arith))
+    moves : (to : ℕ) (left : List ℤ) → Same (Goes (acting.moved here to left) []) (Goes (running.moved there (begin to) left) [])
+    moves to left = (running.moved there (begin to) left, refl, record { at = refl; stack = refl; calls = refl })
 
-    does_action : (a : Action) (place : ℕ) (rest : List Action) (past : List ℕ) → drop j p.ops ≡ action_ops place a ++ ops_of (place + length (text_of a)) rest → drop place p.texts ≡ text_of a ++ past → place ≤ length p.texts → length stack ≤ p.room → ((k : ℕ) → drop k p.ops ≡ ops_of (place + length (text_of a)) rest → (left : List ℤ) → length left ≡ depth_after (length stack) a → Matches actions p (acting.onward here left) (record { at = k; stack = left })) → Done (acting.acts (Some a) here) there
-    does_action (action.Num n) place rest past ops texts within room behind = by_one (action.Num n) place rest behind (op.Num n) ops (goes _ (n ∷ stack) (omega arith))
-    does_action (action.Bin operator kind) place rest past ops texts within room behind =
-        by_one (action.Bin operator kind) place rest behind (op.Bin operator kind) ops (λ h. alike_two stack _ _ (λ y x left e. alike_fault (combined operator kind x y) left _ (omega arith) h))
-    does_action (action.Un kind) place rest past ops texts within room behind =
-        by_one (action.Un kind) place rest behind (op.Un kind) ops (λ h. alike_top stack _ _ (λ x left e. goes _ (negated kind x ∷ left) e h))
-    does_action (action.Narrow kind) place rest past ops texts within room behind =
-        by_one (action.Narrow kind) place rest behind (op.Narrow kind) ops (λ h. alike_top stack _ _ (λ x left e. goes _ (converted kind x ∷ left) e h))
-    does_action action.Pop place rest past ops texts within room behind = by_one action.Pop place rest behind op.Pop ops (λ h. alike_top stack _ _ (λ x left e. goes _ left (omega arith) h))
-    does_action (action.Get depth) place rest past ops texts within room behind =
-        by_one (action.Get depth) place rest behind (op.Get depth) ops (λ h. alike_found (slice_get stack depth) _ _ (λ v. goes _ (v ∷ stack) (omega arith) h))
-    does_action (action.Set depth) place rest past ops texts within room behind =
-        by_one (action.Set depth) place rest behind (op.Set depth) ops (λ h. alike_top stack _ _ (λ v left e. alike_found (slice_get left depth) _ _ (λ _. goes _ (slice_set left depth v) (omega (arith, length-set left depth v)) h)))
-    does_action (action.PrintText bytes) place rest past ops texts within room behind =
+    enters : (to : ℕ) (few : Bool) → Next_one → Same (acting.enters here to few) (running.enters there (begin to) few)
+    enters to true e = (record { at = begin to; stack = stack; calls = (begin i + 1) ∷ map begin calls }, refl, record { at = refl; stack = refl; calls = ap (λ n. n ∷ map begin calls) (sym e) })
+    enters to false e = refl
+
+    calls_function : (f : ℕ) (found : Option ℕ) → slice_get p.entries f ≡ found → Next_one → Same (on_found found (λ to. acting.enters here to (nat_lt (length calls) most_levels))) (running.enters there (entry (places_of p.actions) p.entries f) (nat_lt (length (map begin calls)) most_levels))
+    calls_function f None is e = tt
+    calls_function f (Some to) is e =
+        let few = nat_lt (length calls) most_levels in
+        subst (λ n. Same (acting.enters here to few) (running.enters there (entry (places_of p.actions) p.entries f) (nat_lt n most_levels))) (sym (length-map calls begin))
+        (subst (λ o. Same (acting.enters here to few) (running.enters there (place_of_entry (places_of p.actions) o) few)) (sym is) (enters to few e))
+
+    leaves : (others : List ℕ) (v : ℤ) → Same (acting.leaves others here v) (running.leaves (map begin others) there v)
+    leaves [] v = refl
+    leaves (back ∷ others) v = (record { at = begin back; stack = stack; calls = map begin others }, refl, record { at = refl; stack = refl; calls = refl })
+
+    -- what an action does whose one instruction is this
+    by_one : (a : Action) (o : Op) (more : List Op) → drop (begin i) code.ops ≡ o ∷ more → Same (acting.acts p (Some a) here) (running.executes code (Some o) there) → Done (acting.acts p (Some a) here) there
+    by_one a o more ops h =
+        let x = acting.acts p (Some a) here in
+        done_by_one x there (subst (λ y. Same x (running.executes code y there)) (sym (get_first code.ops (begin i) o more ops)) h)
+
+    -- what a text does that stands at `from`
+    does_text : (bytes : List ℕ) (from full : ℕ) (past : List ℕ) (more : List Op) (given : List ℤ) → drop (begin i) code.ops ≡ text_ops from (length bytes) full ++ more → drop from code.texts ≡ bytes ++ past → from ≤ length code.texts → 16 * full ≤ length bytes → length bytes ≤ 16 * full + 16 → length given ≤ p.room → begin (i + 1) ≡ begin i + (full + 1) → Done (on_top given (λ count rest. acting.prints here (counted count bytes ∷ rest) bytes)) (record { at = begin i; stack = given; calls = map begin calls })
+    does_text bytes from full past more [] ops texts within low high room e = tt
+    does_text bytes from full past more (count ∷ rest) ops texts within low high room e = (
+      full,
+      record { at = begin i + (full + 1); stack = counted count bytes ∷ rest; calls = map begin calls },
+      prints_text code full (begin i) from bytes past count rest (map begin calls) more ops texts within low high room,
+      record { at = sym e; stack = refl; calls = refl },
+    )
+
+    does_action : (a : Action) (from : ℕ) (past : List ℕ) (more : List Op) → drop (begin i) code.ops ≡ action_ops (places_of p.actions) p.entries from a ++ more → drop from code.texts ≡ text_of a ++ past → from ≤ length code.texts → length stack ≤ p.room → begin (i + 1) ≡ begin i + size_of a → Done (acting.acts p (Some a) here) there
+    does_action (action.Num n) from past more ops texts within room e = by_one (action.Num n) (op.Num n) more ops (goes (n ∷ stack) e)
+    does_action (action.Bin operator kind) from past more ops texts within room e =
+        by_one (action.Bin operator kind) (op.Bin operator kind) more ops (same_two stack _ _ (λ y x left. or_fault (combined operator kind x y) left e))
+    does_action (action.Un kind) from past more ops texts within room e = by_one (action.Un kind) (op.Un kind) more ops (same_top stack _ _ (λ x left. goes (negated kind x ∷ left) e))
+    does_action (action.Narrow kind) from past more ops texts within room e = by_one (action.Narrow kind) (op.Narrow kind) more ops (same_top stack _ _ (λ x left. goes (converted kind x ∷ left) e))
+    does_action action.Pop from past more ops texts within room e = by_one action.Pop op.Pop more ops (same_top stack _ _ (λ x left. goes left e))
+    does_action (action.Get depth) from past more ops texts within room e = by_one (action.Get depth) (op.Get depth) more ops (same_found (slice_get stack depth) _ _ (λ v. goes (v ∷ stack) e))
+    does_action (action.Set depth) from past more ops texts within room e =
+        by_one (action.Set depth) (op.Set depth) more ops (same_top stack _ _ (λ v left. same_found (slice_get left depth) _ _ (λ _. goes (slice_set left depth v) e)))
+    does_action (action.PrintText bytes) from past more ops texts within room e =
         let n = length bytes.items in
-        does_text bytes.items place ((n - 1) / 16) past (ops_of (place + n) rest) stack refl ops texts within (omega arith) (omega arith) room behind
-    does_action action.PrintNum place rest past ops texts within room behind =
-        by_one action.PrintNum place rest behind op.PrintNum ops (λ h. alike_two stack _ _ (λ v count left e. prints _ (counted count (signed_decimal v) ∷ left) (signed_decimal v) (omega arith) h))
-    does_action action.PrintByte place rest past ops texts within room behind =
-        by_one action.PrintByte place rest behind op.PrintByte ops (λ h. alike_two stack _ _ (λ v count left e. prints _ (counted count (low_byte v ∷ []) ∷ left) (low_byte v ∷ []) (omega arith) h))
-    does_action action.GetChar place rest past ops texts within room behind =
-        by_one action.GetChar place rest behind op.GetChar ops (λ h. (λ answer. running.onward there (byte_or_end answer ∷ stack), refl, λ answer. h (byte_or_end answer ∷ stack) (omega arith)))
-    does_action action.Return place rest past ops texts within room behind = by_one action.Return place rest behind op.Return ops (λ h. alike_top stack _ _ (λ v left e. refl))
+        does_text bytes.items from ((n - 1) / 16) past more stack ops texts within (omega arith) (omega arith) room e
+    does_action action.PrintNum from past more ops texts within room e =
+        by_one action.PrintNum op.PrintNum more ops (same_two stack _ _ (λ v count left. prints (counted count (signed_decimal v) ∷ left) (signed_decimal v) e))
+    does_action action.PrintByte from past more ops texts within room e =
+        by_one action.PrintByte op.PrintByte more ops (same_two stack _ _ (λ v count left. prints (counted count (low_byte v ∷ []) ∷ left) (low_byte v ∷ []) e))
+    does_action action.GetChar from past more ops texts within room e =
+        by_one action.GetChar op.GetChar more ops (λ answer. running.onward there (byte_or_end answer ∷ stack), refl, λ answer. onward (byte_or_end answer ∷ stack) e)
+    does_action (action.Jump to) from past more ops texts within room e = by_one (action.Jump to) (op.Jump (begin to)) more ops (moves to stack)
+    does_action (action.JumpZero to) from past more ops texts within room e =
+        by_one (action.JumpZero to) (op.JumpZero (begin to)) more ops (same_top stack _ _ (λ v left. same_chosen (is_zero v) _ _ _ _ (goes left e) (moves to left)))
+    does_action (action.Call f) from past more ops texts within room e =
+        by_one (action.Call f) (op.Call (entry (places_of p.actions) p.entries f)) more ops (calls_function f (slice_get p.entries f) refl e)
+    does_action action.Return from past more ops texts within room e = by_one action.Return op.Return more ops (same_top stack _ _ (λ v left. leaves calls v))
 
-    does_from : (left : List Action) (place : ℕ) → drop i actions ≡ left → drop j p.ops ≡ ops_of place left → drop place p.texts ≡ texts_of left → place ≤ length p.texts → room_from (length stack) left ≤ p.room → Done (acting.acts (slice_get actions i) here) there
-    does_from [] place at ops texts within room = subst (λ x. Done (acting.acts x here) there) (sym (get_none actions i at)) (ap (λ x. running.executes p x there) (get_none p.ops j ops))
-    does_from (a ∷ rest) place at ops texts within room =
-        let next = drop_next actions i a rest at in
-        let past = place + length (text_of a) in
-        let there_texts = drop_past p.texts place (text_of a) (texts_of rest) texts in
-        subst (λ x. Done (acting.acts x here) there) (sym (get_first actions i a rest at))
-        (does_action a place rest (texts_of rest) ops texts within (omega arith) (λ k ops_k left size. record {
-          place = past;
-          ops = ops_k ∙ ap (ops_of past) (sym next);
-          texts = there_texts ∙ ap texts_of (sym next);
-          within = length_from p.texts place (text_of a) (texts_of rest) texts within;
-          stack = refl;
-          room = subst (λ l. room_from (length left) l ≤ p.room) (sym next) (subst (λ n. room_from n rest ≤ p.room) (sym size) (omega arith));
-        }))
+    does_here : (left : List Action) → drop i p.actions ≡ left → length stack ≤ p.room → Done (acting.acts p (slice_get p.actions i) here) there
+    does_here [] at room = subst (λ x. Done (acting.acts p x here) there) (sym (get_none p.actions i at)) tt
+    does_here (a ∷ rest) at room =
+        let from = text_before p.actions i in
+        let ops = ops_at p.entries p.actions i ∙ ap (ops_of (places_of p.actions) p.entries from) at in
+        let texts = texts_at p.actions i ∙ ap texts_of at in
+        subst (λ x. Done (acting.acts p x here) there) (sym (get_first p.actions i a rest at))
+        (does_action a from (texts_of rest) (ops_of (places_of p.actions) p.entries (from + length (text_of a)) rest) ops texts (texts_within p.actions i) room (place_next p.actions i a rest at))
 
-  matches_does : (s : acting.State) (t : running.State) → Matches actions p s t → Done (acting.step actions s) t
-  matches_does s t m = subst (λ stack. Done (acting.step actions s) (record { at = t.at; stack = stack })) (sym m.stack) (does_from s.at t.at s.stack (drop s.at actions) m.place refl m.ops m.texts m.within m.room)
+  -- alike, and no run of the actions from here on is stuck or leaves the room
+  abbrev Matches : acting.State → running.State → Type 0
+  Matches s t = Alike s t × Sound (acting.step p) (acting.Fits p) s
 
-matches_start : (actions : List Action) → Matches actions (code_of actions) acting.start running.start
-matches_start actions = record { place = 0; ops = refl; texts = refl; within = omega arith; stack = refl; room = omega arith }
+  does_sound : (x : Next acting.State) (t : running.State) → Along (Sound (acting.step p) (acting.Fits p)) x → Done x t → Does (running.step code) (running.Fits code) Matches x t
+  does_sound (Goes s es) t sound (n, end, chain, m) = (n, end, chain, (m, sound))
+  does_sound (Asks k) t sound (k', e, h) = (k', e, λ a. (h a, sound a))
+  does_sound (Ends n) t sound e = e
+  does_sound (Faults f) t sound e = e
+  does_sound Stuck t sound e = absurd sound
 
--- the code's runs do what runs of the actions do
-pub code_refines : (actions : List Action) → Refines (acting.seen actions) (running.seen (code_of actions))
-code_refines actions =
-    let p = code_of actions in
-    refines (acting.step actions) (running.step p) (running.Fits p) (Matches actions p) (matches_fits actions p) (matches_does actions p) acting.start running.start (matches_start actions)
+  fits_now : (s : acting.State) → Sound (acting.step p) (acting.Fits p) s → length s.stack ≤ p.room
+  fits_now s sound = sound.safe 0
 
--- the code of sound actions is sound
-pub code_sound : (actions : List Action) → acting.IsSound actions → running.IsSound (code_of actions)
-code_sound actions sound =
-    let p = code_of actions in
-    stays_sound (acting.step actions) (running.step p) (running.Fits p) (Matches actions p) (matches_fits actions p) (matches_does actions p) (λ _. Unit {0}) acting.start running.start (matches_start actions) sound
+  matches_fits : (s : acting.State) (t : running.State) → Matches s t → running.Fits code t
+  matches_fits s t (m, sound) = subst (λ (l : List ℤ). length l ≤ p.room) (sym m.stack) (fits_now s sound)
+
+  matches_does : (s : acting.State) (t : running.State) → Matches s t → Does (running.step code) (running.Fits code) Matches (acting.step p s) t
+  matches_does s t (m, sound) =
+      let x = acting.step p s in
+      let done = does_here s.at s.stack s.calls (drop s.at p.actions) refl (fits_now s sound) in
+      let moved = subst (λ at. Done x (record { at = at; stack = s.stack; calls = map begin s.calls })) (sym m.at) done in
+      let stacked = subst (λ stack. Done x (record { at = t.at; stack = stack; calls = map begin s.calls })) (sym m.stack) moved in
+      let called = subst (λ calls. Done x (record { at = t.at; stack = t.stack; calls = calls })) (sym m.calls) stacked in
+      does_sound x t (sound_next (acting.step p) (acting.Fits p) x (λ n. sound.safe (suc n))) called
+
+  begins_at_zero : (actions : List Action) → 0 ≡ place (places_of actions) 0
+  begins_at_zero [] = refl
+  begins_at_zero (a ∷ rest) = refl
+
+  module _ (sound : acting.IsSound p) where
+    matches_start : Matches acting.start running.start
+    matches_start = (record { at = begins_at_zero p.actions; stack = refl; calls = refl }, sound)
+
+    -- the code's runs do what runs of the actions do
+    pub code_refines : Refines (acting.seen p) (running.seen code)
+    code_refines = refines (acting.step p) (running.step code) (running.Fits code) Matches matches_fits matches_does acting.start running.start matches_start
+
+    -- the code of sound actions is sound
+    pub code_sound : running.IsSound code
+    code_sound = stays_sound (acting.step p) (running.step code) (running.Fits code) Matches matches_fits matches_does (acting.Fits p) acting.start running.start matches_start sound

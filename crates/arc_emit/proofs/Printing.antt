@@ -1,5 +1,5 @@
 -- Lists from a place on, and texts that are printed in pieces.
-use Rattle.std.proofs.Common.{◌≡◌, ℕ, zero, suc, ◌+◌, ◌-◌, ◌*◌, ◌%◌, ◌/◌, ◌^◌, ◌≤◌, ◌<◌, ℤ, pos, Bool, true, false, nat_le, List, [], ◌∷◌, ◌++◌, length, map, take, drop, get_or, Some, None, slice_get, refl, sym, ap, subst, ◌∙◌, arith, length-append, length-drop, add_assoc, append_assoc, drop-cons}
+use Rattle.std.proofs.Common.{◌≡◌, ℕ, zero, suc, ◌+◌, ◌-◌, ◌*◌, ◌%◌, ◌/◌, ◌^◌, ◌≤◌, ◌<◌, ℤ, pos, true, nat_le, List, [], ◌∷◌, ◌++◌, length, map, take, drop, get_or, Some, None, slice_get, refl, sym, ap, subst, ◌∙◌, arith, length-append, length-drop, add_assoc, append_assoc, drop-cons}
 use Rattle.std.specs.Int.{w64, cast_unsigned}
 use Rattle.std.proofs.Math.Nat.{mod-mod, mod-add-mod}
 use Rattle.std.proofs.Math.Seq.{take-append_seam, drop-append_seam}
@@ -7,7 +7,7 @@ use Rattle.std.proofs.lemmas.List.{take-append-drop, length-take-le, map-append}
 use Rattle.std.proofs.lemmas.Bool.Decides.{nat_tests}
 use Rattle.arc_spec.specs.declared.event.Event.TheVariants.{Byte}
 use Rattle.arc_spec.specs.Number.{counted}
-use Rattle.arc_spec.specs.Stepping.{Next, Goes, Stuck, only_if}
+use Rattle.arc_spec.specs.Stepping.{Next, Goes, only_if}
 use Rattle.arc_code.specs.declared.code.Op.{Op}
 use Rattle.arc_code.specs.declared.code.Op.TheVariants as op
 use Rattle.arc_code.specs.Running.{Program, State, step, executes, Fits, text_at, prints}
@@ -64,9 +64,9 @@ text_is p from bytes past e =
     ap (λ k. take k (drop from p.texts)) n ∙ ap (take (length bytes)) e ∙ take-append_seam bytes past
 
 -- one instruction prints a text of at most 16 bytes
-pub prints_piece : (p : Program) (at from : ℕ) (bytes past : List ℕ) (count : ℤ) (rest : List ℤ) → slice_get p.ops at ≡ Some (op.PrintText from (length bytes)) → drop from p.texts ≡ bytes ++ past → from ≤ length p.texts → length bytes ≤ 16 → step p (record { at = at; stack = count ∷ rest }) ≡ Goes (record { at = at + 1; stack = counted count bytes ∷ rest }) (map Byte bytes)
-prints_piece p at from bytes past count rest found texts within short =
-    let t : State = record { at = at; stack = count ∷ rest } in
+pub prints_piece : (p : Program) (at from : ℕ) (bytes past : List ℕ) (count : ℤ) (rest : List ℤ) (calls : List ℕ) → slice_get p.ops at ≡ Some (op.PrintText from (length bytes)) → drop from p.texts ≡ bytes ++ past → from ≤ length p.texts → length bytes ≤ 16 → step p (record { at = at; stack = count ∷ rest; calls = calls }) ≡ Goes (record { at = at + 1; stack = counted count bytes ∷ rest; calls = calls }) (map Byte bytes)
+prints_piece p at from bytes past count rest calls found texts within short =
+    let t : State = record { at = at; stack = count ∷ rest; calls = calls } in
     let here : List ℕ → Next State = λ l. prints t (counted count l ∷ rest) l in
     let long = le_true (from + length bytes) (length p.texts) (length_from p.texts from bytes past texts within) in
     ap (λ o. executes p o t) found
@@ -74,18 +74,10 @@ prints_piece p at from bytes past count rest found texts within short =
     ∙ ap (λ b. only_if b (here (text_at p from (length bytes)))) long
     ∙ ap here (text_is p from bytes past texts)
 
--- where the pieces of a text lead
-abbrev pub Printed : Program → (full at : ℕ) → (bytes : List ℕ) → ℤ → List ℤ → List Op → Type 0
-Printed p full at bytes count rest more =
-    (behind : ℕ) × (drop behind p.ops ≡ more) × Chain (step p) (Fits p) full (record { at = at; stack = count ∷ rest }) (map Byte bytes) (record { at = behind; stack = counted count bytes ∷ rest })
-
-pub prints_text : (p : Program) (full at from : ℕ) (bytes past : List ℕ) (count : ℤ) (rest : List ℤ) (more : List Op) → drop at p.ops ≡ text_ops from (length bytes) full ++ more → drop from p.texts ≡ bytes ++ past → from ≤ length p.texts → 16 * full ≤ length bytes → length bytes ≤ 16 * full + 16 → suc (length rest) ≤ p.room → Printed p full at bytes count rest more
-prints_text p zero at from bytes past count rest more ops texts within low high room = (
-  at + 1,
-  drop_next p.ops at (op.PrintText from (length bytes)) more ops,
-  prints_piece p at from bytes past count rest (get_first p.ops at (op.PrintText from (length bytes)) more ops) texts within (omega arith),
-)
-prints_text p (suc full) at from bytes past count rest more ops texts within low high room =
+-- the pieces of a text lead behind them
+pub prints_text : (p : Program) (full at from : ℕ) (bytes past : List ℕ) (count : ℤ) (rest : List ℤ) (calls : List ℕ) (more : List Op) → drop at p.ops ≡ text_ops from (length bytes) full ++ more → drop from p.texts ≡ bytes ++ past → from ≤ length p.texts → 16 * full ≤ length bytes → length bytes ≤ 16 * full + 16 → suc (length rest) ≤ p.room → Chain (step p) (Fits p) full (record { at = at; stack = count ∷ rest; calls = calls }) (map Byte bytes) (record { at = at + (full + 1); stack = counted count bytes ∷ rest; calls = calls })
+prints_text p zero at from bytes past count rest calls more ops texts within low high room = prints_piece p at from bytes past count rest calls (get_first p.ops at (op.PrintText from (length bytes)) more ops) texts within (omega arith)
+prints_text p (suc full) at from bytes past count rest calls more ops texts within low high room =
     let a = take 16 bytes in
     let b = drop 16 bytes in
     let split : a ++ b ≡ bytes = take-append-drop 16 bytes in
@@ -97,32 +89,14 @@ prints_text p (suc full) at from bytes past count rest more ops texts within low
     let next : drop (at + 1) p.ops ≡ text_ops (from + 16) (length b) full ++ more =
     drop_next p.ops at (op.PrintText from 16) (text_ops (from + 16) (length bytes - 16) full ++ more) ops ∙ ap (λ n. text_ops (from + 16) n full ++ more) (sym left) in
     let there : drop (from + 16) p.texts ≡ b ++ past = subst (λ n. drop (from + n) p.texts ≡ b ++ past) size (drop_past p.texts from a (b ++ past) here) in
-    let rests = prints_text p full (at + 1) (from + 16) b past (counted count a) rest more next there (omega (arith, length_from p.texts from a (b ++ past) here within)) (omega arith) (omega arith) room in
-    let whole : counted (counted count a) b ≡ counted count bytes = counted_twice count a b ∙ ap (counted count) split in (
-      rests.0,
-      rests.1,
-      (
-        record { at = at + 1; stack = counted count a ∷ rest },
-        map Byte a,
-        map Byte b,
-        prints_piece p at from a (b ++ past) count rest first here within (omega arith),
-        ap (map Byte) (sym split) ∙ map-append Byte a b,
-        room,
-        subst (λ c. Chain (step p) (Fits p) full (record { at = at + 1; stack = counted count a ∷ rest }) (map Byte b) (record { at = rests.0; stack = c ∷ rest })) whole rests.2,
-      ),
+    let rests = prints_text p full (at + 1) (from + 16) b past (counted count a) rest calls more next there (omega (arith, length_from p.texts from a (b ++ past) here within)) (omega arith) (omega arith) room in
+    let whole : counted (counted count a) b ≡ counted count bytes = counted_twice count a b ∙ ap (counted count) split in
+    let behind : at + 1 + (full + 1) ≡ at + (suc full + 1) = omega arith in (
+      record { at = at + 1; stack = counted count a ∷ rest; calls = calls },
+      map Byte a,
+      map Byte b,
+      prints_piece p at from a (b ++ past) count rest calls first here within (omega arith),
+      ap (map Byte) (sym split) ∙ map-append Byte a b,
+      room,
+      subst (λ k. Chain (step p) (Fits p) full (record { at = at + 1; stack = counted count a ∷ rest; calls = calls }) (map Byte b) (record { at = k; stack = counted count bytes ∷ rest; calls = calls })) behind (subst (λ c. Chain (step p) (Fits p) full (record { at = at + 1; stack = counted count a ∷ rest; calls = calls }) (map Byte b) (record { at = at + 1 + (full + 1); stack = c ∷ rest; calls = calls })) whole rests),
     )
-
--- without a count no piece is printed
-pub prints_nothing : (p : Program) (full at from len : ℕ) (more : List Op) → drop at p.ops ≡ text_ops from len full ++ more → step p (record { at = at; stack = [] }) ≡ Stuck
-prints_nothing p zero at from len more ops = ap (λ o. executes p o (record { at = at; stack = [] })) (get_first p.ops at (op.PrintText from len) more ops) ∙ never (nat_le len 16) (nat_le (from + len) (length p.texts))
-  where
-    never : (a b : Bool) → only_if {S = State} a (only_if b Stuck) ≡ Stuck
-    never true true = refl
-    never true false = refl
-    never false b = refl
-prints_nothing p (suc full) at from len more ops =
-    ap (λ o. executes p o (record { at = at; stack = [] })) (get_first p.ops at (op.PrintText from 16) (text_ops (from + 16) (len - 16) full ++ more) ops) ∙ never (nat_le (from + 16) (length p.texts))
-  where
-    never : (b : Bool) → only_if {S = State} b Stuck ≡ Stuck
-    never true = refl
-    never false = refl

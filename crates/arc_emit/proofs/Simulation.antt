@@ -26,7 +26,7 @@ along_by P Q f (Ends n) h = tt
 along_by P Q f (Faults e) h = tt
 along_by P Q f Stuck h = absurd h
 
-sound_next : {S : Type 0} → (step : S → Next S) (Fits : S → Type 0) (x : Next S) → ((n : ℕ) → Along (Safe step Fits n) x) → Along (Sound step Fits) x
+pub sound_next : {S : Type 0} → (step : S → Next S) (Fits : S → Type 0) (x : Next S) → ((n : ℕ) → Along (Safe step Fits n) x) → Along (Sound step Fits) x
 sound_next step Fits (Goes s es) h = record { safe = λ n. h n }
 sound_next step Fits (Asks k) h = λ a. record { safe = λ n. h n a }
 sound_next step Fits (Ends v) h = tt

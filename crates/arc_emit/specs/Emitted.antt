@@ -1,15 +1,59 @@
--- What is written for actions: instructions, their texts, and the room on the stack. All of it is this project's own choice.
-use Rattle.std.specs.Prelude.{ℕ, zero, suc, ◌+◌, ◌-◌, ◌/◌, ◌<◌, max, List, [], ◌∷◌, ◌++◌, length}
+-- What is written for actions: instructions and their texts. All of it is this project's own choice.
+use Rattle.std.specs.Prelude.{ℕ, zero, suc, ◌+◌, ◌-◌, ◌/◌, ◌<◌, List, [], ◌∷◌, ◌++◌, length, get_or, Option, Some, None, slice_get}
 use Rattle.arc_ir.specs.declared.action.Action.{Action}
 use Rattle.arc_ir.specs.declared.action.Action.TheVariants as action
+use Rattle.arc_ir.specs.Acting as acting
 use Rattle.arc_code.specs.declared.code.Op.{Op}
 use Rattle.arc_code.specs.declared.code.Op.TheVariants as op
-use Rattle.arc_code.specs.Running.{Program}
+use Rattle.arc_code.specs.Running as running
+use Rattle.arc_emit.specs.declared.layout.Layout.{Layout}
 
 -- the bytes that an action prints as they are
 abbrev pub text_of : Action → List ℕ
 text_of (action.PrintText bytes) = bytes.items
 text_of _ = []
+
+abbrev pub texts_of : List Action → List ℕ
+texts_of [] = []
+texts_of (a ∷ rest) = text_of a ++ texts_of rest
+
+-- how many instructions an action is: one, but a text one for each 16 bytes of it, and an empty text one
+abbrev pub size_of : Action → ℕ
+size_of (action.PrintText bytes) = (length bytes.items - 1) / 16 + 1
+size_of _ = 1
+
+abbrev pub size_of_all : List Action → ℕ
+size_of_all [] = 0
+size_of_all (a ∷ rest) = size_of a + size_of_all rest
+
+-- where each action begins, and where all of them end: numbers of instructions
+pub record Places : Type 0 where
+  pub begins : List ℕ
+  pub end : ℕ
+
+abbrev pub places_in : Layout → Places
+places_in l = record { begins = l.places.items; end = l.end }
+
+-- where actions begin, of which the first begins at `at`
+abbrev pub begins_from : (at : ℕ) → List Action → List ℕ
+begins_from at [] = []
+begins_from at (a ∷ rest) = at ∷ begins_from (at + size_of a) rest
+
+abbrev pub places_of : List Action → Places
+places_of actions = record { begins = begins_from 0 actions; end = size_of_all actions }
+
+-- where the action with this number begins; one that there isn't begins behind all others
+abbrev pub place : Places → ℕ → ℕ
+place p number = get_or p.begins number p.end
+
+-- where a function begins whose first action has this number
+abbrev pub place_of_entry : Places → Option ℕ → ℕ
+place_of_entry p (Some number) = place p number
+place_of_entry p None = p.end
+
+-- where the function with this number begins, by the first action of each; one that there isn't begins behind all actions
+abbrev pub entry : Places → (entries : List ℕ) → ℕ → ℕ
+entry p entries f = place_of_entry p (slice_get entries f)
 
 -- what prints a text of `len` bytes that stands at `from`: so many instructions of 16 bytes each, and one for the rest
 abbrev pub text_ops : (from len full : ℕ) → List Op
@@ -17,57 +61,36 @@ text_ops from len zero = op.PrintText from len ∷ []
 text_ops from len (suc full) = op.PrintText from 16 ∷ text_ops (from + 16) (len - 16) full
 
 -- the instructions of an action whose text stands at `from`; the last one of a text prints 1 to 16 bytes, or none of an empty text
-abbrev pub action_ops : (from : ℕ) → Action → List Op
-action_ops from (action.Num n) = op.Num n ∷ []
-action_ops from (action.Bin operator kind) = op.Bin operator kind ∷ []
-action_ops from (action.Un kind) = op.Un kind ∷ []
-action_ops from (action.Narrow kind) = op.Narrow kind ∷ []
-action_ops from action.Pop = op.Pop ∷ []
-action_ops from (action.Get depth) = op.Get depth ∷ []
-action_ops from (action.Set depth) = op.Set depth ∷ []
-action_ops from (action.PrintText bytes) = text_ops from (length bytes.items) ((length bytes.items - 1) / 16)
-action_ops from action.PrintNum = op.PrintNum ∷ []
-action_ops from action.PrintByte = op.PrintByte ∷ []
-action_ops from action.GetChar = op.GetChar ∷ []
-action_ops from action.Return = op.Return ∷ []
+abbrev pub action_ops : Places → (entries : List ℕ) → (from : ℕ) → Action → List Op
+action_ops p entries from (action.Num n) = op.Num n ∷ []
+action_ops p entries from (action.Bin operator kind) = op.Bin operator kind ∷ []
+action_ops p entries from (action.Un kind) = op.Un kind ∷ []
+action_ops p entries from (action.Narrow kind) = op.Narrow kind ∷ []
+action_ops p entries from action.Pop = op.Pop ∷ []
+action_ops p entries from (action.Get depth) = op.Get depth ∷ []
+action_ops p entries from (action.Set depth) = op.Set depth ∷ []
+action_ops p entries from (action.PrintText bytes) = text_ops from (length bytes.items) ((length bytes.items - 1) / 16)
+action_ops p entries from action.PrintNum = op.PrintNum ∷ []
+action_ops p entries from action.PrintByte = op.PrintByte ∷ []
+action_ops p entries from action.GetChar = op.GetChar ∷ []
+action_ops p entries from (action.Jump to) = op.Jump (place p to) ∷ []
+action_ops p entries from (action.JumpZero to) = op.JumpZero (place p to) ∷ []
+action_ops p entries from (action.Call f) = op.Call (entry p entries f) ∷ []
+action_ops p entries from action.Return = op.Return ∷ []
 
 -- the instructions of actions whose texts stand at `from`, one after another
-abbrev pub ops_of : (from : ℕ) → List Action → List Op
-ops_of from [] = []
-ops_of from (a ∷ rest) = action_ops from a ++ ops_of (from + length (text_of a)) rest
+abbrev pub ops_of : Places → (entries : List ℕ) → (from : ℕ) → List Action → List Op
+ops_of p entries from [] = []
+ops_of p entries from (a ∷ rest) = action_ops p entries from a ++ ops_of p entries (from + length (text_of a)) rest
 
-abbrev pub texts_of : List Action → List ℕ
-texts_of [] = []
-texts_of (a ∷ rest) = text_of a ++ texts_of rest
-
--- how many numbers are on the stack behind an action
-abbrev pub depth_after : (depth : ℕ) → Action → ℕ
-depth_after depth (action.Num n) = depth + 1
-depth_after depth (action.Bin operator kind) = depth - 1
-depth_after depth (action.Un kind) = depth
-depth_after depth (action.Narrow kind) = depth
-depth_after depth action.Pop = depth - 1
-depth_after depth (action.Get place) = depth + 1
-depth_after depth (action.Set place) = depth - 1
-depth_after depth (action.PrintText bytes) = depth
-depth_after depth action.PrintNum = depth - 1
-depth_after depth action.PrintByte = depth - 1
-depth_after depth action.GetChar = depth + 1
-depth_after depth action.Return = depth - 1
-
--- the most numbers that the stack comes to hold from here on
-abbrev pub room_from : (depth : ℕ) → List Action → ℕ
-room_from depth [] = depth
-room_from depth (a ∷ rest) = max depth (room_from (depth_after depth a) rest)
-
--- the code of actions
-abbrev pub code_of : List Action → Program
-code_of actions = record { ops = ops_of 0 actions; texts = texts_of actions; room = room_from 0 actions }
+-- the code of a program
+abbrev pub code_of : acting.Program → running.Program
+code_of p = record { ops = ops_of (places_of p.actions) p.entries 0 p.actions; texts = texts_of p.actions; room = p.room }
 
 -- the most instructions that code may have
 abbrev pub most_ops : ℕ
 most_ops = 16777216
 
 -- the actions and the bytes of their texts are together more than this, which they are wherever code would be too large
-abbrev pub IsLarge : List Action → Type 0
-IsLarge actions = 1048576 < length actions + length (texts_of actions)
+abbrev pub IsLarge : acting.Program → Type 0
+IsLarge p = 1048576 < length p.actions + length (texts_of p.actions)

@@ -7,41 +7,42 @@ ghost use Rattle.arc_code.specs.Running.{program_of};
 ghost use Rattle.arc_emit.specs.Emitted.{code_of, most_ops, IsLarge};
 
 use crate::fault::EmitFault;
-use crate::pieces::{MOST_OPS, emit_action};
-use crate::room::room_of;
+use crate::layout::Layout;
+use crate::pieces::emit_action;
 use arc_class::table::ClassTable;
 use arc_code::code::Code;
-use arc_ir::action::{Action, Ir};
+use arc_ir::action::Ir;
 use std::alloc::Global;
 
-/// The code of actions, in which a text is printed by one instruction for each 16 bytes of it, and any other action is one instruction. TooLarge
-/// where it would have over 16,777,216 instructions, or its texts over 4,294,967,295 bytes; Memory where memory is refused.
+/// The code of a program, in which a text is printed by one instruction for each 16 bytes of it, and any other action is one instruction.
+/// TooLarge where it would have over 16,777,216 instructions; Memory where memory is refused.
 pub fn emit(alloc: Global, ir: &Ir, _table: &ClassTable) -> Result<Code, EmitFault>
-    requires { acting.IsSound ir.now.actions.items }
-    ensures code { IfOk result (λ code. program_of code ≡ code_of ir.now.actions.items) }
+    requires { acting.IsSound (acting.program_of ir.now) }
+    ensures code { IfOk result (λ code. program_of code ≡ code_of (acting.program_of ir.now)) }
     ensures sound { IfOk result (λ code. running.IsSound (program_of code)) }
-    ensures refines { IfOk result (λ code. Refines (acting.seen ir.now.actions.items) (running.seen (program_of code))) }
+    ensures refines { IfOk result (λ code. Refines (acting.seen (acting.program_of ir.now)) (running.seen (program_of code))) }
     ensures steady { IfOk result (λ code. Steady (running.seen (program_of code))) }
     ensures few_ops { IfOk result (λ code. length code.ops.items ≤ most_ops) }
-    ensures large { IsErrOf result EmitFault.TooLarge → IsLarge ir.now.actions.items }
+    ensures large { IsErrOf result EmitFault.TooLarge → IsLarge (acting.program_of ir.now) }
 {
-    write_code(alloc, &ir.actions)
+    write_code(alloc, ir)
 }
 
-/// The code of actions, whether they are sound or not.
-fn write_code(alloc: Global, actions: &[Action]) -> Result<Code, EmitFault>
-    ensures code { IfOk result (λ code. program_of code ≡ code_of actions.now) }
+/// The code of a program, whether it is sound or not.
+fn write_code(alloc: Global, ir: &Ir) -> Result<Code, EmitFault>
+    ensures code { IfOk result (λ code. program_of code ≡ code_of (acting.program_of ir.now)) }
     ensures few_ops { IfOk result (λ code. length code.ops.items ≤ most_ops) }
-    ensures large { IsErrOf result EmitFault.TooLarge → IsLarge actions.now }
+    ensures large { IsErrOf result EmitFault.TooLarge → IsLarge (acting.program_of ir.now) }
 {
-    if actions.len() > MOST_OPS {
-        return Err(EmitFault::TooLarge);
-    }
+    let layout = Layout::of(alloc, &ir.actions)?;
     let mut ops = Vec::new(alloc);
     let mut texts = Vec::new(alloc);
-    for action in actions {
-        emit_action(&mut ops, &mut texts, action)?;
+    for action in &ir.actions {
+        emit_action(&mut ops, &mut texts, action, &layout, &ir.entries)?;
     }
-    let room = room_of(actions);
-    Ok(Code { ops, texts, room })
+    Ok(Code {
+        ops,
+        texts,
+        room: ir.room,
+    })
 }

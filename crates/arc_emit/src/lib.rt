@@ -3,7 +3,7 @@
 
 pub mod emit;
 pub mod fault;
+mod layout;
 mod pieces;
-mod room;
 #[cfg(test)]
 mod tests;

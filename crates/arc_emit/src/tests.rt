@@ -1,9 +1,9 @@
 //! Code that was written by hand for a few actions.
 use crate::emit::emit;
 use crate::fault::EmitFault;
+use crate::layout::Layout;
 use crate::pieces::emit_action;
-use crate::room::room_of;
-use arc_ast::tree::{BinaryOperator, Kind};
+use arc_ast::tree::{Function, Kind, Parameters, TranslationUnit};
 use arc_class::table::ClassTable;
 use arc_code::code::Op;
 use arc_ir::action::{Action, Ir};
@@ -11,44 +11,64 @@ use std::test::Fail;
 
 #[test]
 fn writes_code(rt: HostRuntime) -> Result<(), Fail> {
+    let function = Function {
+        at: 4,
+        name: b"main".as_slice().to_vec(rt.alloc())?,
+        result: Kind::Int,
+        parameters: Parameters::Ints(Vec::new(rt.alloc())),
+        body: Some(Vec::new(rt.alloc())),
+    };
+    let functions = vec![in rt.alloc(); function]?;
+    let unit = TranslationUnit { functions };
+    let table = ClassTable::build(rt.alloc(), &unit)?;
     let letters = b"0123456789abcdefghijklmnopqrstuvwxyzABCD";
-    let mut actions = Vec::new(rt.alloc());
-    actions.push(Action::Num(0))?;
-    actions.push(Action::PrintText(letters.as_slice().to_vec(rt.alloc())?))?;
-    actions.push(Action::Return)?;
-    let code = emit(rt.alloc(), &Ir { actions }, &ClassTable { main: 0 })?;
+    let text = letters.as_slice().to_vec(rt.alloc())?;
+    let actions = vec![in rt.alloc();
+        Action::Num(0),
+        Action::PrintText(text),
+        Action::Call(0),
+        Action::Return,
+        Action::Num(0),
+        Action::JumpZero(7),
+        Action::Jump(4),
+        Action::Return,
+    ]?;
+    let entries = vec![in rt.alloc(); 4]?;
+    let ir = Ir {
+        actions,
+        entries,
+        room: 2,
+    };
+    let code = emit(rt.alloc(), &ir, &table)?;
     let want = [
         Op::Num(0),
         Op::PrintText(0, 16),
         Op::PrintText(16, 16),
         Op::PrintText(32, 8),
+        Op::Call(6),
+        Op::Return,
+        Op::Num(0),
+        Op::JumpZero(9),
+        Op::Jump(6),
         Op::Return,
     ];
     assert_eq!(rt; code.ops.as_slice(), want.as_slice());
     assert_eq!(rt; code.texts.as_slice(), letters.as_slice());
-    assert_eq!(rt; code.room, 1);
+    assert_eq!(rt; code.room, 2);
     Ok(())
 }
 
 #[test]
 fn cuts_texts(rt: HostRuntime) -> Result<(), Fail> {
+    let layout = Layout::of(rt.alloc(), &[])?;
     let mut ops = Vec::new(rt.alloc());
     let mut texts = Vec::new(rt.alloc());
-    emit_action(
-        &mut ops,
-        &mut texts,
-        &Action::PrintText(Vec::new(rt.alloc())),
-    )?;
-    emit_action(
-        &mut ops,
-        &mut texts,
-        &Action::PrintText(b"0123456789abcdef".as_slice().to_vec(rt.alloc())?),
-    )?;
-    emit_action(
-        &mut ops,
-        &mut texts,
-        &Action::PrintText(b"0123456789abcdefg".as_slice().to_vec(rt.alloc())?),
-    )?;
+    let empty = Action::PrintText(Vec::new(rt.alloc()));
+    let full = Action::PrintText(b"0123456789abcdef".as_slice().to_vec(rt.alloc())?);
+    let more = Action::PrintText(b"0123456789abcdefg".as_slice().to_vec(rt.alloc())?);
+    emit_action(&mut ops, &mut texts, &empty, &layout, &[])?;
+    emit_action(&mut ops, &mut texts, &full, &layout, &[])?;
+    emit_action(&mut ops, &mut texts, &more, &layout, &[])?;
     let want = [
         Op::PrintText(0, 0),
         Op::PrintText(0, 16),
@@ -61,17 +81,17 @@ fn cuts_texts(rt: HostRuntime) -> Result<(), Fail> {
 }
 
 #[test]
-fn counts_room(rt: HostRuntime) {
-    let actions = [
-        Action::Num(1),
-        Action::Num(2),
-        Action::GetChar,
-        Action::Bin(BinaryOperator::Add, Kind::Int),
-        Action::Set(0),
-        Action::Num(3),
-        Action::Return,
-    ];
-    assert_eq!(rt; room_of(&actions), 3);
+fn lays_out(rt: HostRuntime) -> Result<(), Fail> {
+    let text = b"0123456789abcdefg".as_slice().to_vec(rt.alloc())?;
+    let actions = [Action::Num(0), Action::PrintText(text), Action::Return];
+    let layout = Layout::of(rt.alloc(), &actions)?;
+    assert_eq!(rt; layout.place(0), 0);
+    assert_eq!(rt; layout.place(1), 1);
+    assert_eq!(rt; layout.place(2), 3);
+    assert_eq!(rt; layout.place(3), 4);
+    assert_eq!(rt; layout.entry(&[0, 2], 1), 3);
+    assert_eq!(rt; layout.entry(&[0, 2], 2), 4);
+    Ok(())
 }
 
 #[test]

@@ -27,12 +27,22 @@ pub enum Action {
     PrintByte,
     /// Reads a byte, and puts it on the stack, or -1 at the end of the input.
     GetChar,
-    /// Takes a number, with which the program ends.
+    /// Goes on at the action with this number.
+    Jump(usize),
+    /// Takes a number, and goes on at the action with this number where it is 0.
+    JumpZero(usize),
+    /// Calls the function with this number, whose variables stand on the stack.
+    Call(usize),
+    /// Goes back behind the last call; with no call it takes the top number, with which the program
+    /// ends.
     Return,
 }
 
-/// The actions of a program, from its first one on.
+/// A program: all actions, of which the first is where it begins; where each function begins; and the
+/// most numbers that the stack comes to hold.
 #[derive(Debug, Drop)]
 pub struct Ir {
     pub actions: Vec<Action>,
+    pub entries: Vec<usize>,
+    pub room: usize,
 }

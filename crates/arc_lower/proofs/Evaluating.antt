@@ -1,72 +1,143 @@
 -- A run evaluates expressions, and leaves their values on the stack.
-use Rattle.std.proofs.Common.{◌≡◌, ℕ, suc, ◌+◌, ℤ, List, [], ◌∷◌, ◌++◌, length, Option, Some, None, refl, ap, subst}
+use Rattle.std.proofs.Common.{◌≡◌, ℕ, suc, ◌+◌, ◌-◌, ◌<◌, ℤ, pos, Bool, true, false, nat_lt, if◌then◌else◌, List, [], ◌∷◌, ◌++◌, length, Option, Some, None, refl, sym, ap, ◌∙◌, subst, arith, length-append, slice_get, slice_set}
+use Rattle.std.proofs.lemmas.Bool.{ltb-true, ltb-false}
+use Rattle.std.proofs.lemmas.List.{length-set, get_or_past, set_past}
 use Rattle.arc_spec.specs.declared.event.Event.{Event}
 use Rattle.arc_spec.specs.Number.{converted, negated, combined, byte_or_end}
-use Rattle.arc_spec.specs.Resolved.{Value, Number, ReadByte, Print, Negated, Combined, Converted, Values, no_values, and_value}
-use Rattle.arc_spec.specs.Meaning.{formatted, byte_count, or_fault, evaluated, all_evaluated}
-use Rattle.arc_spec.specs.World.{World, Outcome, Done, Faulted, Cut, then_do, prints, next_number, after_next, has_read}
-use Rattle.arc_spec.specs.Stepping.{follow, fed}
-use Rattle.arc_ir.specs.declared.action.Action.{Action}
-use Rattle.arc_ir.specs.Acting.{State, onward, step}
+use Rattle.arc_spec.specs.Resolved.{Piece, Value, Number, ReadByte, Print, Negated, Combined, Converted, Local, Assigned, Invoked, Values, no_values, and_value}
+use Rattle.arc_spec.specs.Resolved as resolved
+use Rattle.arc_spec.specs.Meaning.{Deeper, formatted, byte_count, or_fault, evaluated, all_evaluated}
+use Rattle.arc_spec.specs.World.{World, Done, then_do, prints, next_number, after_next, has_read, with_locals, local_at, first_locals}
+use Rattle.arc_spec.specs.Stepping.{Reached, follow, fed, on_found}
+use Rattle.arc_ir.specs.Acting.{Program, State, onward, goes, step}
 use Rattle.arc_ir.specs.Acting as acting
-use Rattle.arc_lower.specs.Order.{Num, Bin, Un, Narrow, GetChar}
-use Rattle.arc_lower.specs.Lowered.{value_count, print_orders, value_orders, all_value_orders}
-use Rattle.arc_lower.proofs.Leading.{leads_same, Runs, then_runs}
-use Rattle.arc_lower.proofs.Doing.{at}
-use Rattle.arc_lower.proofs.Segments.{running, leaves, Segment, then_segment, one_segment, no_segment, quiet}
-use Rattle.arc_lower.proofs.Stacking.{onto}
+use Rattle.arc_lower.specs.Order.{Num, Bin, Un, Narrow, Get, Set, GetChar, Call}
+use Rattle.arc_lower.specs.Lowered.{value_count, print_orders, get_orders, set_orders, fit_orders, number_of, slots_of, call_orders, value_orders, all_value_orders}
+use Rattle.arc_lower.proofs.Leading.{Leads, leads_same, Runs, leads_runs, then_runs, better_runs}
+use Rattle.arc_lower.proofs.Doing.{at, HasAt, has_front, has_back}
+use Rattle.arc_lower.proofs.Segments.{running, leaves, Segment, then_segment, one_segment, quiet, Passes, then_passes, one_passes, no_passes}
+use Rattle.arc_lower.proofs.Stacking.{onto, get_local, set_local, get_below, set_below}
 use Rattle.arc_lower.proofs.Printing.{print_passes}
+use Rattle.arc_lower.proofs.Fitting.{fit_passes}
 
--- so many values are given
-abbrev Gives : ℕ → Outcome (List ℤ) → Type 0
-Gives n (Done values w) = length values ≡ n
-Gives n (Faulted f w) = Unit {0}
-Gives n (Cut w) = Unit {0}
+read_next : (calls : List ℕ) (pc : ℕ) (stack : List ℤ) (i : List ℕ) (t : List Event) (locals : List ℤ) → fed (λ answer. onward (at calls pc stack) (byte_or_end answer ∷ stack)) i t ≡ running calls (pc + 1) (next_number i ∷ stack) (record { input = after_next i; trace = t; locals = locals })
+read_next calls pc stack [] t locals = refl
+read_next calls pc stack (b ∷ i) t locals = refl
 
-one_gives : (n : ℕ) (v : ℤ) (o : Outcome (List ℤ)) → Gives n o → Gives (suc n) (then_do o (λ values w. Done (v ∷ values) w))
-one_gives n v (Done values w) h = ap suc h
-one_gives n v (Faulted f w) h = tt
-one_gives n v (Cut w) h = tt
+-- the caller's variables are there again
+abbrev pub Back : World → ℤ → World → Type 0
+Back w v w1 = w1.locals ≡ w.locals
 
-then_gives : {A : Type 0} (n : ℕ) (o : Outcome A) (go : A → World → Outcome (List ℤ)) → ((a : A) (w : World) → Gives n (go a w)) → Gives n (then_do o go)
-then_gives n (Done a w) go h = h a w
-then_gives n (Faulted f w) go h = tt
-then_gives n (Cut w) go h = tt
+-- calls of functions do what is meant
+abbrev pub Deep : Program → (calls : List ℕ) → (bound : ℕ) → resolved.Program → Deeper → Type 0
+Deep p calls bound R D =
+    (f : ℕ) (given stack : List ℤ) (w : World) (pc : ℕ) → HasAt p pc (Call (number_of R f) ∷ []) → Runs (step p) (Back w) bound (running calls pc (onto (first_locals (slots_of R f) given) stack) w) (λ v w1. running calls (pc + 1) (v ∷ stack) w1) (D.call f given w)
 
-all_gives : (arguments : Values) (w : World) → Gives (value_count arguments) (all_evaluated arguments w)
-all_gives no_values w = refl
-all_gives (and_value a others) w = then_gives (suc (value_count others)) (evaluated a w) _ (λ v w1. one_gives (value_count others) v (all_evaluated others w1) (all_gives others w1))
+module _ (p : Program) (calls : List ℕ) (bound : ℕ) (R : resolved.Program) (slots : ℕ) (below : List ℤ) (D : Deeper) (deep : Deep p calls bound R D) where
+  -- operands above the variables
+  abbrev pub framed : List ℤ → World → List ℤ
+  framed operands w = operands ++ onto w.locals below
 
-read_next : (pc : ℕ) (stack : List ℤ) (i : List ℕ) (t : List Event) → fed (λ answer. onward (at pc stack) (byte_or_end answer ∷ stack)) i t ≡ running (pc + 1) (next_number i ∷ stack) (record { input = after_next i; trace = t })
-read_next pc stack [] t = refl
-read_next pc stack (b ∷ i) t = refl
+  abbrev pub Good : {A : Type 0} → A → World → Type 0
+  Good a w = length w.locals ≡ slots
 
-module _ (code : List Action) (bound : ℕ) where
-  or_fault_runs : (o : Option ℤ) (pc : ℕ) (below stack : List ℤ) (w : World) → Runs (step code) bound (follow (acting.or_fault o (at pc below) stack) w.input w.trace) (leaves (λ v. v ∷ stack) (pc + 1)) (or_fault o w)
-  or_fault_runs None pc below stack w = leads_same (step code) _ _ refl
-  or_fault_runs (Some v) pc below stack w = quiet code bound (pc + 1) (v ∷ stack) w
+  abbrev GoodAll : ℕ → List ℤ → World → Type 0
+  GoodAll n values w = (length values ≡ n) × (length w.locals ≡ slots)
+
+  abbrev pub above : List ℤ → ℕ → ℤ → World → Reached State
+  above operands = leaves calls (λ v w. v ∷ framed operands w)
+
+  abbrev all_above : List ℤ → ℕ → List ℤ → World → Reached State
+  all_above operands = leaves calls (λ values w. onto values (framed operands w))
+
+  or_fault_runs : (o : Option ℤ) (pc : ℕ) (all operands : List ℤ) (w : World) → length w.locals ≡ slots → Runs (step p) Good bound (follow (acting.or_fault o (at calls pc all) (framed operands w)) w.input w.trace) (above operands (pc + 1)) (or_fault o w)
+  or_fault_runs None pc all operands w g = leads_same (step p) _ _ refl
+  or_fault_runs (Some v) pc all operands w g = (g, quiet p calls bound (pc + 1) (v ∷ framed operands w) w)
+
+  get_passes : (operands : List ℤ) (i : ℕ) (w : World) → i < length w.locals → Passes p calls bound (Get (length operands + (length w.locals - suc i)) ∷ []) (framed operands w) w (local_at w.locals i ∷ framed operands w) w
+  get_passes operands i w lt =
+      let n = length w.locals - suc i in
+      let e : n + suc i ≡ length w.locals = omega (arith, lt) in
+      let found = get_below operands (onto w.locals below) n ∙ get_local w.locals below i n e in
+      one_passes p calls bound (Get (length operands + n)) (framed operands w) w (local_at w.locals i ∷ framed operands w) w (λ pc.
+      subst (λ o. Leads (step p) (follow (on_found o (λ u. goes (at calls pc (framed operands w)) (u ∷ framed operands w))) w.input w.trace) (running calls (pc + 1) (local_at w.locals i ∷ framed operands w) w)) (sym found) (quiet p calls bound (pc + 1) (local_at w.locals i ∷ framed operands w) w))
+
+  num_passes : (n : ℤ) (stack : List ℤ) (w : World) → Passes p calls bound (Num n ∷ []) stack w (n ∷ stack) w
+  num_passes n stack w = one_passes p calls bound (Num n) stack w (n ∷ stack) w (λ pc. quiet p calls bound (pc + 1) (n ∷ stack) w)
+
+  local_by : (operands : List ℤ) (i : ℕ) (w : World) (b : Bool) → nat_lt i (length w.locals) ≡ b → Passes p calls bound (if b then Get (length operands + (length w.locals - suc i)) ∷ [] else Num (pos 0) ∷ []) (framed operands w) w (local_at w.locals i ∷ framed operands w) w
+  local_by operands i w true e = get_passes operands i w (ltb-true i (length w.locals) e)
+  local_by operands i w false e =
+      let none : local_at w.locals i ≡ pos 0 = get_or_past w.locals i (pos 0) (ltb-false i (length w.locals) e) in
+      subst (λ v. Passes p calls bound (Num (pos 0) ∷ []) (framed operands w) w (v ∷ framed operands w) w) (sym none) (num_passes (pos 0) (framed operands w) w)
+
+  set_passes : (operands : List ℤ) (i : ℕ) (v : ℤ) (w : World) → i < length w.locals → Passes p calls bound (Set (suc (length operands) + (length w.locals - suc i)) ∷ []) (v ∷ v ∷ framed operands w) w (v ∷ framed operands (with_locals w (slice_set w.locals i v))) (with_locals w (slice_set w.locals i v))
+  set_passes operands i v w lt =
+      let n = length w.locals - suc i in
+      let e : n + suc i ≡ length w.locals = omega (arith, lt) in
+      let w' = with_locals w (slice_set w.locals i v) in
+      let rest = v ∷ framed operands w in
+      let depth = suc (length operands) + n in
+      let found : slice_get rest depth ≡ Some (local_at w.locals i) = get_below (v ∷ operands) (onto w.locals below) n ∙ get_local w.locals below i n e in
+      let now : slice_set rest depth v ≡ v ∷ framed operands w' = set_below (v ∷ operands) (onto w.locals below) n v ∙ ap (λ l. v ∷ operands ++ l) (set_local w.locals below i n v e) in
+      one_passes p calls bound (Set depth) (v ∷ rest) w (v ∷ framed operands w') w' (λ pc.
+      subst (λ o. Leads (step p) (follow (on_found o (λ _. goes (at calls pc (v ∷ rest)) (slice_set rest depth v))) w.input w.trace) (running calls (pc + 1) (v ∷ framed operands w') w')) (sym found)
+      (subst (λ s. Leads (step p) (follow (goes (at calls pc (v ∷ rest)) s) w.input w.trace) (running calls (pc + 1) (v ∷ framed operands w') w')) (sym now) (quiet p calls bound (pc + 1) (v ∷ framed operands w') w')))
+
+  top_passes : (v : ℤ) (stack : List ℤ) (w : World) → Passes p calls bound (Get 0 ∷ []) (v ∷ stack) w (v ∷ v ∷ stack) w
+  top_passes v stack w = one_passes p calls bound (Get 0) (v ∷ stack) w (v ∷ v ∷ stack) w (λ pc. quiet p calls bound (pc + 1) (v ∷ v ∷ stack) w)
+
+  set_by : (operands : List ℤ) (i : ℕ) (v : ℤ) (w : World) (b : Bool) → nat_lt i (length w.locals) ≡ b → Passes p calls bound (if b then Get 0 ∷ Set (suc (length operands) + (length w.locals - suc i)) ∷ [] else []) (v ∷ framed operands w) w (v ∷ framed operands (with_locals w (slice_set w.locals i v))) (with_locals w (slice_set w.locals i v))
+  set_by operands i v w true e =
+      let w' = with_locals w (slice_set w.locals i v) in
+      then_passes p calls bound (Get 0 ∷ []) (Set (suc (length operands) + (length w.locals - suc i)) ∷ []) (v ∷ framed operands w) w (v ∷ v ∷ framed operands w) w (v ∷ framed operands w') w' (top_passes v (framed operands w) w) (set_passes operands i v w (ltb-true i (length w.locals) e))
+  set_by operands i v w false e =
+      let w' = with_locals w (slice_set w.locals i v) in
+      let same : w.locals ≡ slice_set w.locals i v = sym (set_past w.locals i v (ltb-false i (length w.locals) e)) in
+      no_passes p calls bound (v ∷ framed operands w) w (v ∷ framed operands w') w' (ap (λ l. v ∷ operands ++ onto l below) same) (ap (λ l. with_locals w l) same)
+
+  invoked_runs : (f : ℕ) (given operands : List ℤ) (w : World) → length w.locals ≡ slots → Segment p calls bound Good (call_orders R f (length given)) (onto given (framed operands w)) w (above operands) (D.call f given w)
+  invoked_runs f given operands w g pc has =
+      let fits = fit_orders (length given) (slots_of R f) in
+      let call = Call (number_of R f) ∷ [] in
+      let s = framed operands w in
+      let q = pc + length fits in
+      let e : q + 1 ≡ pc + length (fits ++ call) = omega (arith, length-append fits call) in
+      let ready = fit_passes p calls bound (slots_of R f) given s w pc (has_front p pc fits call has) in
+      let called = deep f given s w q (has_back p pc fits call has) in
+      let shown = better_runs (step p) (Back w) Good bound (running calls q (onto (first_locals (slots_of R f) given) s) w) (λ v w1. running calls (q + 1) (v ∷ s) w1) (above operands (q + 1)) (D.call f given w) (λ v w1 h. (ap length h ∙ g, ap (λ l. running calls (q + 1) (v ∷ operands ++ onto l below) w1) (sym h))) called in
+      subst (λ n. Runs (step p) Good bound (running calls pc (onto given s) w) (above operands n) (D.call f given w)) e
+      (leads_runs (step p) Good bound (running calls pc (onto given s) w) (running calls q (onto (first_locals (slots_of R f) given) s) w) (above operands (q + 1)) (D.call f given w) ready shown)
 
   mutual
-    pub value_segment : (e : Value) (stack : List ℤ) (w : World) → Segment code bound (value_orders e) stack w (leaves (λ v. v ∷ stack)) (evaluated e w)
-    value_segment (Number n) stack w = one_segment code bound (Num n) stack w (leaves (λ v. v ∷ stack)) (Done n w) (λ pc. quiet code bound (pc + 1) (n ∷ stack) w)
-    value_segment ReadByte stack w = one_segment code bound GetChar stack w (leaves (λ v. v ∷ stack)) (Done (next_number w.input) (has_read w)) (λ pc. leads_same (step code) _ _ (read_next pc stack w.input w.trace))
-    value_segment (Print pieces arguments) stack w =
-        then_segment code bound (all_value_orders arguments) (print_orders pieces (value_count arguments)) stack w (leaves (λ values. onto values stack)) (leaves (λ v. v ∷ stack)) (all_evaluated arguments w) (λ values w1. let bytes = formatted pieces values in Done (byte_count bytes) (prints bytes w1)) (all_segment arguments stack w) (λ values w1 d.
-        let n : length values ≡ value_count arguments = subst (Gives (value_count arguments)) d (all_gives arguments w) in
-        subst (λ m. Segment code bound (print_orders pieces m) (onto values stack) w1 (leaves (λ v. v ∷ stack)) (Done (byte_count (formatted pieces values)) (prints (formatted pieces values) w1))) n (print_passes code bound pieces values stack w1))
-    value_segment (Negated kind a) stack w =
-        then_segment code bound (value_orders a) (Un kind ∷ []) stack w (leaves (λ x. x ∷ stack)) (leaves (λ v. v ∷ stack)) (evaluated a w) (λ x w1. Done (negated kind x) w1) (value_segment a stack w) (λ x w1 d.
-        one_segment code bound (Un kind) (x ∷ stack) w1 (leaves (λ v. v ∷ stack)) (Done (negated kind x) w1) (λ pc. quiet code bound (pc + 1) (negated kind x ∷ stack) w1))
-    value_segment (Combined operator kind a b) stack w =
-        then_segment code bound (value_orders a) (value_orders b ++ Bin operator kind ∷ []) stack w (leaves (λ x. x ∷ stack)) (leaves (λ v. v ∷ stack)) (evaluated a w) (λ x w1. then_do (evaluated b w1) (λ y w2. or_fault (combined operator kind x y) w2)) (value_segment a stack w) (λ x w1 d.
-        then_segment code bound (value_orders b) (Bin operator kind ∷ []) (x ∷ stack) w1 (leaves (λ y. y ∷ x ∷ stack)) (leaves (λ v. v ∷ stack)) (evaluated b w1) (λ y w2. or_fault (combined operator kind x y) w2) (value_segment b (x ∷ stack) w1) (λ y w2 d2.
-        one_segment code bound (Bin operator kind) (y ∷ x ∷ stack) w2 (leaves (λ v. v ∷ stack)) (or_fault (combined operator kind x y) w2) (λ pc. or_fault_runs (combined operator kind x y) pc (y ∷ x ∷ stack) stack w2)))
-    value_segment (Converted kind a) stack w =
-        then_segment code bound (value_orders a) (Narrow kind ∷ []) stack w (leaves (λ x. x ∷ stack)) (leaves (λ v. v ∷ stack)) (evaluated a w) (λ x w1. Done (converted kind x) w1) (value_segment a stack w) (λ x w1 d.
-        one_segment code bound (Narrow kind) (x ∷ stack) w1 (leaves (λ v. v ∷ stack)) (Done (converted kind x) w1) (λ pc. quiet code bound (pc + 1) (converted kind x ∷ stack) w1))
+    pub value_segment : (e : Value) (operands : List ℤ) (w : World) → length w.locals ≡ slots → Segment p calls bound Good (value_orders R slots (length operands) e) (framed operands w) w (above operands) (evaluated D e w)
+    value_segment (Number n) operands w g = λ pc has. (g, num_passes n (framed operands w) w pc has)
+    value_segment ReadByte operands w g = one_segment p calls bound Good GetChar (framed operands w) w (above operands) (Done (next_number w.input) (has_read w)) (λ pc. (g, leads_same (step p) _ _ (read_next calls pc (framed operands w) w.input w.trace w.locals)))
+    value_segment (Print pieces arguments) operands w g =
+        then_segment p calls bound (GoodAll (value_count arguments)) Good (all_value_orders R slots (length operands) arguments) (print_orders pieces (value_count arguments)) (framed operands w) w (all_above operands) (above operands) (all_evaluated D arguments w) (λ values w1. let bytes = formatted pieces values in Done (byte_count bytes) (prints bytes w1)) (all_segment arguments operands w g) (λ values w1 h.
+        subst (λ m. Segment p calls bound Good (print_orders pieces m) (onto values (framed operands w1)) w1 (above operands) (Done (byte_count (formatted pieces values)) (prints (formatted pieces values) w1))) h.0 (λ q has. (h.1, print_passes p calls bound pieces values (framed operands w1) w1 q has)))
+    value_segment (Negated kind a) operands w g =
+        then_segment p calls bound Good Good (value_orders R slots (length operands) a) (Un kind ∷ []) (framed operands w) w (above operands) (above operands) (evaluated D a w) (λ x w1. Done (negated kind x) w1) (value_segment a operands w g) (λ x w1 h.
+        one_segment p calls bound Good (Un kind) (x ∷ framed operands w1) w1 (above operands) (Done (negated kind x) w1) (λ pc. (h, quiet p calls bound (pc + 1) (negated kind x ∷ framed operands w1) w1)))
+    value_segment (Combined operator kind a b) operands w g =
+        then_segment p calls bound Good Good (value_orders R slots (length operands) a) (value_orders R slots (suc (length operands)) b ++ Bin operator kind ∷ []) (framed operands w) w (above operands) (above operands) (evaluated D a w) (λ x w1. then_do (evaluated D b w1) (λ y w2. or_fault (combined operator kind x y) w2)) (value_segment a operands w g) (λ x w1 h.
+        then_segment p calls bound Good Good (value_orders R slots (suc (length operands)) b) (Bin operator kind ∷ []) (x ∷ framed operands w1) w1 (above (x ∷ operands)) (above operands) (evaluated D b w1) (λ y w2. or_fault (combined operator kind x y) w2) (value_segment b (x ∷ operands) w1 h) (λ y w2 h2.
+        one_segment p calls bound Good (Bin operator kind) (y ∷ x ∷ framed operands w2) w2 (above operands) (or_fault (combined operator kind x y) w2) (λ pc. or_fault_runs (combined operator kind x y) pc (y ∷ x ∷ framed operands w2) operands w2 h2)))
+    value_segment (Converted kind a) operands w g =
+        then_segment p calls bound Good Good (value_orders R slots (length operands) a) (Narrow kind ∷ []) (framed operands w) w (above operands) (above operands) (evaluated D a w) (λ x w1. Done (converted kind x) w1) (value_segment a operands w g) (λ x w1 h.
+        one_segment p calls bound Good (Narrow kind) (x ∷ framed operands w1) w1 (above operands) (Done (converted kind x) w1) (λ pc. (h, quiet p calls bound (pc + 1) (converted kind x ∷ framed operands w1) w1)))
+    value_segment (Local i) operands w g = λ pc has.
+        (g, subst (λ n. Passes p calls bound (get_orders n (length operands) i) (framed operands w) w (local_at w.locals i ∷ framed operands w) w) g (local_by operands i w (nat_lt i (length w.locals)) refl) pc has)
+    value_segment (Assigned i a) operands w g =
+        then_segment p calls bound Good Good (value_orders R slots (length operands) a) (set_orders slots (length operands) i) (framed operands w) w (above operands) (above operands) (evaluated D a w) (λ x w1. Done x (with_locals w1 (slice_set w1.locals i x))) (value_segment a operands w g) (λ x w1 h q has.
+        (length-set w1.locals i x ∙ h, subst (λ n. Passes p calls bound (set_orders n (length operands) i) (x ∷ framed operands w1) w1 (x ∷ framed operands (with_locals w1 (slice_set w1.locals i x))) (with_locals w1 (slice_set w1.locals i x))) h (set_by operands i x w1 (nat_lt i (length w1.locals)) refl) q has))
+    value_segment (Invoked f arguments) operands w g =
+        then_segment p calls bound (GoodAll (value_count arguments)) Good (all_value_orders R slots (length operands) arguments) (call_orders R f (value_count arguments)) (framed operands w) w (all_above operands) (above operands) (all_evaluated D arguments w) (λ given w1. D.call f given w1) (all_segment arguments operands w g) (λ given w1 h.
+        subst (λ m. Segment p calls bound Good (call_orders R f m) (onto given (framed operands w1)) w1 (above operands) (D.call f given w1)) h.0 (invoked_runs f given operands w1 h.1))
 
-    all_segment : (arguments : Values) (stack : List ℤ) (w : World) → Segment code bound (all_value_orders arguments) stack w (leaves (λ values. onto values stack)) (all_evaluated arguments w)
-    all_segment no_values stack w = no_segment code bound stack w (leaves (λ values. onto values stack)) [] (λ pc. refl)
-    all_segment (and_value a others) stack w =
-        then_segment code bound (value_orders a) (all_value_orders others) stack w (leaves (λ x. x ∷ stack)) (leaves (λ values. onto values stack)) (evaluated a w) (λ x w1. then_do (all_evaluated others w1) (λ xs w2. Done (x ∷ xs) w2)) (value_segment a stack w) (λ x w1 d q has.
-        then_runs (step code) bound (running q (x ∷ stack) w1) (leaves (λ values. onto values (x ∷ stack)) (q + length (all_value_orders others))) (leaves (λ values. onto values stack) (q + length (all_value_orders others))) (all_evaluated others w1) (λ xs w2. Done (x ∷ xs) w2) (all_segment others (x ∷ stack) w1 q has) (λ xs w2 d2. leads_same (step code) _ _ refl))
+    all_segment : (arguments : Values) (operands : List ℤ) (w : World) → length w.locals ≡ slots → Segment p calls bound (GoodAll (value_count arguments)) (all_value_orders R slots (length operands) arguments) (framed operands w) w (all_above operands) (all_evaluated D arguments w)
+    all_segment no_values operands w g = λ pc has. let e : pc ≡ pc + 0 = omega arith in ((refl, g), leads_same (step p) _ _ (ap (λ q. running calls q (framed operands w) w) e))
+    all_segment (and_value a others) operands w g =
+        then_segment p calls bound Good (GoodAll (suc (value_count others))) (value_orders R slots (length operands) a) (all_value_orders R slots (suc (length operands)) others) (framed operands w) w (above operands) (all_above operands) (evaluated D a w) (λ x w1. then_do (all_evaluated D others w1) (λ xs w2. Done (x ∷ xs) w2)) (value_segment a operands w g) (λ x w1 h q has.
+        let m = q + length (all_value_orders R slots (suc (length operands)) others) in
+        then_runs (step p) (GoodAll (value_count others)) (GoodAll (suc (value_count others))) bound (running calls q (x ∷ framed operands w1) w1) (all_above (x ∷ operands) m) (all_above operands m) (all_evaluated D others w1) (λ xs w2. Done (x ∷ xs) w2) (all_segment others (x ∷ operands) w1 h q has) (λ xs w2 h2. ((ap suc h2.0, h2.1), leads_same (step p) _ _ refl)))

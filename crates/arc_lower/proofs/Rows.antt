@@ -1,17 +1,19 @@
 -- What a tree holds in a row, as a list.
-use Rattle.std.proofs.Common.{◌≡◌, ℕ, zero, suc, ◌+◌, List, [], ◌∷◌, ◌++◌, length, Vec, Global, refl, ap, ◌∙◌, add-one}
+use Rattle.std.proofs.Common.{◌≡◌, ℕ, zero, suc, ◌+◌, pos, List, [], ◌∷◌, ◌++◌, length, Vec, Global, refl, ap, ◌∙◌, add-one}
 use mathlib.Core.Former.{Count}
 use Rattle.arc_check.specs.declared.checked.Piece.{Piece}
-use Rattle.arc_check.specs.declared.checked.Value.{Value, Print, Print', Row_of-Value, end_of-Value, more_of-Value, items-the_row-Value, items_hidden-the_row-Value-0}
+use Rattle.arc_check.specs.declared.checked.Value.{Value, Print, Print', Invoked, Invoked', Row_of-Value, end_of-Value, more_of-Value, items-the_row-Value, items_hidden-the_row-Value-0}
 use Rattle.arc_check.specs.declared.checked.Command.{Command, Sequence, Sequence', Row_of-Command, end_of-Command, more_of-Command, items-the_row-Command, items_hidden-the_row-Command-0}
-use Rattle.arc_check.specs.Checked.{pieces, value, values, row_values, command, commands, row_commands}
+use Rattle.arc_check.specs.Checked.{pieces, value, values, row_values, command, commands, row_commands, functions}
+use Rattle.arc_check.specs.declared.checked.CheckedFunction.{CheckedFunction}
 use Rattle.arc_spec.specs.Resolved as resolved
 use Rattle.arc_spec.specs.Resolved.{Values, no_values, and_value, Commands, no_commands, and_command}
-use Rattle.arc_lower.specs.Order.{Pop}
-use Rattle.arc_lower.specs.Lowered.{pop_orders, value_count}
+use Rattle.arc_lower.specs.Order.{Num, Pop}
+use Rattle.arc_lower.specs.Lowered.{pop_orders, zero_orders, value_count}
 
 abbrev arguments_of : Value → (n : Count) × Row_of-Value n
 arguments_of (Print' all _ row) = (_, row)
+arguments_of (Invoked' f _ row) = (_, row)
 arguments_of _ = (_, end_of-Value)
 
 row_values_are : (n : _) (row : Row_of-Value n) → row_values row ≡ values (items-the_row-Value n row)
@@ -22,6 +24,11 @@ pub print_value : (all : Vec Piece Global) (arguments : Vec Value Global) → va
 print_value all arguments =
     let row = arguments_of (Print all arguments) in
     ap (resolved.Print (pieces all.items)) (row_values_are row.0 row.1 ∙ ap values (items_hidden-the_row-Value-0 arguments))
+
+pub invoked_value : (f : ℕ) (arguments : Vec Value Global) → value (Invoked f arguments) ≡ resolved.Invoked f (values arguments.items)
+invoked_value f arguments =
+    let row = arguments_of (Invoked f arguments) in
+    ap (resolved.Invoked f) (row_values_are row.0 row.1 ∙ ap values (items_hidden-the_row-Value-0 arguments))
 
 abbrev statements_of : Command → (n : Count) × Row_of-Command n
 statements_of (Sequence' _ row) = (_, row)
@@ -46,3 +53,14 @@ pops_snoc (suc n) = ap (λ l. Pop ∷ l) (pops_snoc n)
 
 pub pops_more : (n : ℕ) → pop_orders (n + 1) ≡ pop_orders n ++ Pop ∷ []
 pops_more n = rw add-one (pops_snoc n)
+
+zeros_snoc : (n : ℕ) → zero_orders (suc n) ≡ zero_orders n ++ Num (pos 0) ∷ []
+zeros_snoc zero = refl
+zeros_snoc (suc n) = ap (λ l. Num (pos 0) ∷ l) (zeros_snoc n)
+
+pub zeros_more : (n : ℕ) → zero_orders (n + 1) ≡ zero_orders n ++ Num (pos 0) ∷ []
+zeros_more n = rw add-one (zeros_snoc n)
+
+pub functions_length : (all : List CheckedFunction) → length (functions all) ≡ length all
+functions_length [] = refl
+functions_length (f ∷ others) = ap suc (functions_length others)

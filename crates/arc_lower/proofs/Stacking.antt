@@ -7,7 +7,7 @@ use Rattle.arc_ast.specs.declared.tree.Kind.TheVariants as k
 use Rattle.arc_spec.specs.declared.event.Event.TheVariants.{Byte}
 use Rattle.arc_spec.specs.Number.{converted, counted}
 use Rattle.arc_spec.specs.Meaning.{byte_count}
-use Rattle.arc_spec.specs.World.{World, prints}
+use Rattle.arc_spec.specs.World.{World, prints, local_at}
 
 abbrev pub onto : List ℤ → List ℤ → List ℤ
 onto [] stack = stack
@@ -27,6 +27,29 @@ set_deep (v ∷ values) stack n m u e = set_deep values (v ∷ stack) n (suc m) 
 
 pub set_onto : (values stack : List ℤ) (v u : ℤ) → slice_set (onto values (v ∷ stack)) (length values) u ≡ onto values (u ∷ stack)
 set_onto values stack v u = set_deep values (v ∷ stack) (length values) 0 u (omega arith)
+
+-- a variable below operands, of which the first one lies deepest
+pub get_local : (locals below : List ℤ) (i n : ℕ) → n + suc i ≡ length locals → slice_get (onto locals below) n ≡ Some (local_at locals i)
+get_local [] below i n e = let h : n + suc i ≡ 0 = e in absurd (omega (arith, h))
+get_local (v ∷ locals) below zero n e = get_deep locals (v ∷ below) n 0 (omega (arith, e))
+get_local (v ∷ locals) below (suc i) n e = get_local locals (v ∷ below) i n (omega (arith, e))
+
+pub set_local : (locals below : List ℤ) (i n : ℕ) (u : ℤ) → n + suc i ≡ length locals → slice_set (onto locals below) n u ≡ onto (slice_set locals i u) below
+set_local [] below i n u e = let h : n + suc i ≡ 0 = e in absurd (omega (arith, h))
+set_local (v ∷ locals) below zero n u e = set_deep locals (v ∷ below) n 0 u (omega (arith, e))
+set_local (v ∷ locals) below (suc i) n u e = set_local locals (v ∷ below) i n u (omega (arith, e))
+
+pub get_below : (operands stack : List ℤ) (n : ℕ) → slice_get (operands ++ stack) (length operands + n) ≡ slice_get stack n
+get_below [] stack n = let e : 0 + n ≡ n = omega arith in ap (slice_get stack) e
+get_below (v ∷ operands) stack n =
+    let e : length (v ∷ operands) + n ≡ suc (length operands + n) = omega arith in
+    ap (slice_get (v ∷ operands ++ stack)) e ∙ get_below operands stack n
+
+pub set_below : (operands stack : List ℤ) (n : ℕ) (u : ℤ) → slice_set (operands ++ stack) (length operands + n) u ≡ operands ++ slice_set stack n u
+set_below [] stack n u = let e : 0 + n ≡ n = omega arith in ap (λ m. slice_set stack m u) e
+set_below (v ∷ operands) stack n u =
+    let e : length (v ∷ operands) + n ≡ suc (length operands + n) = omega arith in
+    ap (λ m. slice_set (v ∷ operands ++ stack) m u) e ∙ ap (λ l. v ∷ l) (set_below operands stack n u)
 
 -- the stack without so many numbers
 abbrev pub Peels : ℕ → List ℤ → List ℤ → Type 0
@@ -55,7 +78,7 @@ pub kept_count : (bytes : List ℕ) → converted k.Int (kept (length bytes)) �
 kept_count bytes = ap (cast_signed w32) (mod-mod (length bytes) (2 ^ 32))
 
 pub prints_none : (w : World) → w ≡ prints [] w
-prints_none w = ap (λ t. record { input = w.input; trace = t }) (sym (append-nil w.trace))
+prints_none w = ap (λ t. record { input = w.input; trace = t; locals = w.locals }) (sym (append-nil w.trace))
 
 pub prints_both : (a b : List ℕ) (w : World) → prints b (prints a w) ≡ prints (a ++ b) w
-prints_both a b w = ap (λ t. record { input = w.input; trace = t }) (append_assoc w.trace (map Byte a) (map Byte b) ∙ ap (λ l. w.trace ++ l) (sym (map-append Byte a b)))
+prints_both a b w = ap (λ t. record { input = w.input; trace = t; locals = w.locals }) (append_assoc w.trace (map Byte a) (map Byte b) ∙ ap (λ l. w.trace ++ l) (sym (map-append Byte a b)))

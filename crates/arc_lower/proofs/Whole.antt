@@ -1,34 +1,59 @@
 -- The actions of a checked program perform it.
-use Rattle.std.proofs.Common.{◌≡◌, ℕ, ◌+◌, ℤ, List, [], length, ap, subst}
-use Rattle.arc_spec.specs.Resolved.{Commands}
-use Rattle.arc_spec.specs.World.{Outcome, Done, Faulted, Cut, first_world}
-use Rattle.arc_spec.specs.Meaning.{mean}
+use Rattle.std.proofs.Common.{◌≡◌, ℕ, ◌+◌, ℤ, List, [], ◌∷◌, length, ap, arith}
+use Rattle.arc_ast.specs.declared.tree.Kind.TheVariants as k
+use Rattle.arc_spec.specs.Number.{converted}
+use Rattle.arc_spec.specs.Resolved as resolved
+use Rattle.arc_spec.specs.World.{World, Outcome, Done, Faulted, Cut, first_world, first_locals}
+use Rattle.arc_spec.specs.Meaning.{level, most_levels, mean}
+use Rattle.arc_spec.specs.Stepping.{Ended}
 use Rattle.arc_spec.specs.Correct.{meaning_seen, run_seen}
 use Rattle.arc_spec.proofs.Steadiness.{steady}
-use Rattle.arc_ir.specs.declared.action.Action.{Action}
-use Rattle.arc_ir.specs.Acting.{step, start, seen}
-use Rattle.arc_lower.specs.Order.{orders}
-use Rattle.arc_lower.specs.Lowered.{lowered}
+use Rattle.arc_ir.specs.Acting.{Program, step, start, seen}
+use Rattle.arc_lower.specs.Order.{Call, Return, orders}
+use Rattle.arc_lower.specs.Lowered.{all_functions, number_of, slots_of, zero_orders, start_orders, lowered, entries_of, room_of}
 use Rattle.arc_lower.specs.Promise.{Performs}
-use Rattle.arc_lower.proofs.Leading.{Runs}
+use Rattle.arc_lower.proofs.Leading.{leads_step, Runs, leads_runs, then_runs}
 use Rattle.arc_lower.proofs.Behaving.{Shows, behaves}
-use Rattle.arc_lower.proofs.Doing.{HasAt, has_all}
+use Rattle.arc_lower.proofs.Doing.{at, has_front, has_back}
 use Rattle.arc_lower.proofs.Segments.{running}
-use Rattle.arc_lower.proofs.Executing.{ends, program_runs}
-use Rattle.arc_lower.proofs.Safety.{sound}
+use Rattle.arc_lower.proofs.Stacking.{onto}
+use Rattle.arc_lower.proofs.Fitting.{zeros_pass}
+use Rattle.arc_lower.proofs.Evaluating.{Back}
+use Rattle.arc_lower.proofs.Linking.{has_start, begins, no_less}
+use Rattle.arc_lower.proofs.Calling.{calls_run}
+use Rattle.arc_lower.proofs.Sounding.{sound}
 
 -- what is seen of a run that does what is meant
-shows : (code : List Action) (input : List ℕ) (bound q : ℕ) (o : Outcome ℤ) → Runs (step code) bound (running 0 [] (first_world input)) (ends q) o → Shows (seen code input) bound (meaning_seen o)
-shows code input bound q (Done v w) r = record { steps = r.steps; same = ap run_seen r.there; enough = λ e. cc }
-shows code input bound q (Faulted f w) r = record { steps = r.steps; same = ap run_seen r.there; enough = λ e. cc }
-shows code input bound q (Cut w) r = record { steps = r.0; same = ap run_seen r.3; enough = λ e. r.2 }
+shows : (p : Program) (good : ℤ → World → Type 0) (input : List ℕ) (bound : ℕ) (o : Outcome ℤ) → Runs (step p) good bound (running [] 0 [] (first_world input)) (λ v w. Ended v w.input w.trace) o → Shows (seen p input) bound (meaning_seen o)
+shows p good input bound (Done v w) r = record { steps = r.1.steps; same = ap run_seen r.1.there; enough = λ e. cc }
+shows p good input bound (Faulted f w) r = record { steps = r.steps; same = ap run_seen r.there; enough = λ e. cc }
+shows p good input bound (Cut w) r = record { steps = r.0; same = ap run_seen r.3; enough = λ e. r.2 }
 
-pub performs : (body : Commands) (code : List Action) → orders code ≡ lowered body → Performs body code
-performs body code e =
-    let has = subst (HasAt code 0) e (has_all code []) in
-    let calm = steady (step code) start in
-    record {
-      behaves = behaves (λ input bound. meaning_seen (mean body input bound)) (seen code) calm (λ input bound. shows code input bound (0 + length (lowered body)) (mean body input bound) (program_runs code bound body input has));
-      steady = calm;
-      sound = sound code body has;
-    }
+module _ (p : Program) (R : resolved.Program) (is : orders p.actions ≡ lowered R) (entries : p.entries ≡ entries_of R) where
+  program_runs : (input : List ℕ) (bound : ℕ) → Runs (step p) (λ v w. Unit {0}) bound (running [] 0 [] (first_world input)) (λ v w. Ended v w.input w.trace) (mean R input bound)
+  program_runs input bound =
+      let w = first_world input in
+      let zeros = zero_orders (slots_of R R.main) in
+      let call = Call (number_of R R.main) ∷ (Return ∷ []) in
+      let q = 0 + length zeros in
+      let has = has_start p R is entries in
+      let last = has_back p 0 zeros call has in
+      let s = onto (first_locals (slots_of R R.main) []) [] in
+      let o = (level R bound most_levels).call R.main [] w in
+      let ready = zeros_pass p [] bound (slots_of R R.main) [] w 0 (has_front p 0 zeros call has) in
+      let called = calls_run p R bound (begins p R is entries) most_levels [] none R.main [] [] w q (last.0, tt) in
+      then_runs (step p) (Back w) (λ v w1. Unit {0}) bound (running [] 0 [] w) (λ v w1. running [] (q + 1) (v ∷ []) w1) (λ v w1. Ended v w1.input w1.trace) o (λ v w1. Done (converted k.Int v) w1)
+      (leads_runs (step p) (Back w) bound (running [] 0 [] w) (running [] q s w) (λ v w1. running [] (q + 1) (v ∷ []) w1) o ready called)
+      (λ v w1 g. (tt, leads_step (step p) (at [] (q + 1) (v ∷ [])) w1.input w1.trace _ (last.1.0 [] (v ∷ []))))
+    where
+      none : 0 + most_levels ≡ most_levels
+      none = omega arith
+
+  pub performs : p.room ≡ room_of R → Performs R p
+  performs room =
+      let calm = steady (step p) start in
+      record {
+        behaves = behaves (λ input bound. meaning_seen (mean R input bound)) (seen p) calm (λ input bound. shows p (λ v w. Unit {0}) input bound (mean R input bound) (program_runs input bound));
+        steady = calm;
+        sound = sound p R (begins p R is entries) room (no_less R (all_functions R) (length (start_orders R)) (length (start_orders R))) (has_start p R is entries);
+      }

@@ -18,6 +18,9 @@ pub data Order : Type 0 where
   PrintNum : Order
   PrintByte : Order
   GetChar : Order
+  Jump : ℕ → Order
+  JumpZero : ℕ → Order
+  Call : ℕ → Order
   Return : Order
 
 abbrev pub order : Action → Order
@@ -32,6 +35,9 @@ order (a.PrintText bytes) = PrintText bytes.items
 order a.PrintNum = PrintNum
 order a.PrintByte = PrintByte
 order a.GetChar = GetChar
+order (a.Jump to) = Jump to
+order (a.JumpZero to) = JumpZero to
+order (a.Call f) = Call f
 order a.Return = Return
 
 abbrev pub orders : List Action → List Order

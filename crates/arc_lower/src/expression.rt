@@ -1,11 +1,13 @@
 //! From expressions to actions that leave a number on the stack.
 ghost use Rattle.std.specs.Prelude.{◌≡◌, ◌++◌, [], ◌∷◌, OnOk};
-ghost use Rattle.arc_check.specs.Checked.{value, values};
+ghost use Rattle.arc_check.specs.Checked.{value, values, program_of};
 ghost use Rattle.arc_lower.specs.Order.{order, orders};
 ghost use Rattle.arc_lower.specs.Lowered.{value_orders, all_value_orders};
 
+use crate::call::append_call;
 use crate::print::append_print;
-use arc_check::checked::Value;
+use crate::variable::{append_get, append_set, one_more};
+use arc_check::checked::{Checked, Value};
 use arc_ir::action::Action;
 use arc_spec::event::NoMemory;
 use std::alloc::Global;
@@ -18,45 +20,68 @@ pub(crate) fn append(actions: &mut Vec<Action>, action: Action) -> Result<(), No
     Ok(())
 }
 
-/// Appends the actions of an expression.
+/// Appends the actions of an expression in a function with `slots` variables, above which `depth`
+/// operands lie.
 #[cycle(expression)]
 pub(crate) fn append_value(
     alloc: Global,
     actions: &mut Vec<Action>,
+    program: &Checked,
+    slots: usize,
+    depth: usize,
     expression: &Value,
 ) -> Result<(), NoMemory>
-    ensures { OnOk result (orders actions.new.items ≡ orders actions.old.items ++ value_orders (value expression.now)) }
+    ensures { OnOk result (orders actions.new.items ≡ orders actions.old.items ++ value_orders (program_of program.now) slots depth (value expression.now)) }
 {
     match expression {
         Value::Number(number) => append(actions, Action::Num(*number)),
         Value::ReadByte => append(actions, Action::GetChar),
         Value::Print(pieces, arguments) => {
-            append_values(alloc, actions, arguments)?;
+            append_values(alloc, actions, program, slots, depth, arguments)?;
             append_print(alloc, actions, pieces, arguments.len())
         }
         Value::Negated(kind, operand) => {
-            append_value(alloc, actions, operand)?;
+            append_value(alloc, actions, program, slots, depth, operand)?;
             append(actions, Action::Un(*kind))
         }
         Value::Combined(operator, kind, left, right) => {
-            append_value(alloc, actions, left)?;
-            append_value(alloc, actions, right)?;
+            append_value(alloc, actions, program, slots, depth, left)?;
+            let above = one_more(depth)?;
+            append_value(alloc, actions, program, slots, above, right)?;
             append(actions, Action::Bin(*operator, *kind))
         }
         Value::Converted(kind, operand) => {
-            append_value(alloc, actions, operand)?;
+            append_value(alloc, actions, program, slots, depth, operand)?;
             append(actions, Action::Narrow(*kind))
+        }
+        Value::Local(index) => append_get(actions, slots, depth, *index),
+        Value::Assigned(index, operand) => {
+            append_value(alloc, actions, program, slots, depth, operand)?;
+            append_set(actions, slots, depth, *index)
+        }
+        Value::Invoked(function, arguments) => {
+            append_values(alloc, actions, program, slots, depth, arguments)?;
+            append_call(actions, program, *function, arguments.len())
         }
     }
 }
 
-/// Appends the actions of expressions, in their order.
+/// Appends the actions of expressions, in their order, each of which adds an operand.
 #[cycle(expression)]
-fn append_values(alloc: Global, actions: &mut Vec<Action>, all: &[Value]) -> Result<(), NoMemory>
-    ensures { OnOk result (orders actions.new.items ≡ orders actions.old.items ++ all_value_orders (values all.now)) }
+fn append_values(
+    alloc: Global,
+    actions: &mut Vec<Action>,
+    program: &Checked,
+    slots: usize,
+    depth: usize,
+    all: &[Value],
+) -> Result<(), NoMemory>
+    ensures { OnOk result (orders actions.new.items ≡ orders actions.old.items ++ all_value_orders (program_of program.now) slots depth (values all.now)) }
 {
+    let mut above = depth;
     for expression in all {
-        append_value(alloc, actions, expression)?;
+        append_value(alloc, actions, program, slots, above, expression)?;
+        above = one_more(above)?;
     }
     Ok(())
 }

@@ -1,84 +1,99 @@
-//! From statements to actions.
-ghost use Rattle.std.specs.Prelude.{◌≡◌, ◌++◌, IfOk, OnOk, option_map};
-ghost use Rattle.arc_spec.specs.Resolved.{Return};
-ghost use Rattle.arc_check.specs.Checked.{value as value_of, command, commands, body_of};
+//! From a program to its actions.
+ghost use Rattle.std.specs.Prelude.{◌≡◌, ◌++◌, ◌*◌, length, IfOk, OnOk};
+ghost use Rattle.arc_spec.specs.Meaning.{most_levels};
+ghost use Rattle.arc_ir.specs.Acting as acting;
+ghost use Rattle.arc_check.specs.Checked.{commands, program_of};
 ghost use Rattle.arc_lower.specs.Order.{orders};
-ghost use Rattle.arc_lower.specs.Lowered.{command_orders, all_command_orders, lowered};
+ghost use Rattle.arc_lower.specs.Lowered.{function_orders, functions_orders, entries_from, longest_from, start_orders, all_functions};
 ghost use Rattle.arc_lower.specs.Promise.{Performs};
 
-use crate::expression::{append, append_value};
-use arc_check::checked::{Command, Value};
+use crate::call::{append_leave, number_of, slots_of};
+use crate::expression::append;
+use crate::statement::append_commands;
+use crate::variable::append_zeros;
+use arc_check::checked::{Checked, Command};
 use arc_family::owned::Owned;
 use arc_ir::action::{Action, Ir};
 use arc_spec::event::NoMemory;
 use std::alloc::Global;
 
-/// The actions of a program, which do what the program means. NoMemory: memory was refused.
+/// The actions of a program, which do what the program means. NoMemory: memory was refused, or a
+/// stack that has room for all calls has more places than can be numbered.
 pub fn lower(alloc: Global, program: &Owned) -> Result<Ir, NoMemory>
-    ensures { IfOk result (λ ir. Performs (body_of program.now.program.now) ir.actions.items) }
+    ensures { IfOk result (λ ir. Performs (program_of program.now.program.now) (acting.program_of ir)) }
 {
     let mut actions = Vec::new(alloc);
-    append_program(alloc, &mut actions, &program.program.body)?;
-    Ok(Ir { actions })
+    let mut entries = Vec::new(alloc);
+    append_start(&mut actions, program.program)?;
+    let longest = append_functions(alloc, &mut actions, &mut entries, program.program)?;
+    let room = room_for(longest)?;
+    Ok(Ir {
+        actions,
+        entries,
+        room,
+    })
 }
 
-/// Appends the actions of a program with this body, behind which it returns 0.
-fn append_program(
-    alloc: Global,
-    actions: &mut Vec<Action>,
-    body: &[Command],
-) -> Result<(), NoMemory>
-    ensures { OnOk result (orders actions.new.items ≡ orders actions.old.items ++ lowered (commands body.now)) }
-{
-    append_commands(alloc, actions, body)?;
-    append_return(alloc, actions, &None)
-}
+/// How many calls may run within one another.
+const MOST_LEVELS: usize = 2000;
 
-/// Appends the actions of a statement.
-#[cycle(statement)]
-fn append_command(
-    alloc: Global,
-    actions: &mut Vec<Action>,
-    statement: &Command,
-) -> Result<(), NoMemory>
-    ensures { OnOk result (orders actions.new.items ≡ orders actions.old.items ++ command_orders (command statement.now)) }
+/// The room of a stack for all calls that may run within one another, of which each adds at most
+/// so many numbers.
+fn room_for(longest: usize) -> Result<usize, NoMemory>
+    ensures { IfOk result (λ room. room ≡ most_levels * longest) }
 {
-    match statement {
-        Command::Sequence(all) => append_commands(alloc, actions, all),
-        Command::Evaluate(value) => {
-            append_value(alloc, actions, value)?;
-            append(actions, Action::Pop)
-        }
-        Command::Return(value) => append_return(alloc, actions, value),
+    match longest.checked_mul(MOST_LEVELS) {
+        Some(room) => Ok(room),
+        None => Err(NoMemory),
     }
 }
 
-/// Appends the actions of statements, in their order.
-#[cycle(statement)]
-fn append_commands(
-    alloc: Global,
-    actions: &mut Vec<Action>,
-    all: &[Command],
-) -> Result<(), NoMemory>
-    ensures { OnOk result (orders actions.new.items ≡ orders actions.old.items ++ all_command_orders (commands all.now)) }
+/// Appends the actions that call `main`.
+fn append_start(actions: &mut Vec<Action>, program: &Checked) -> Result<(), NoMemory>
+    ensures { OnOk result (orders actions.new.items ≡ orders actions.old.items ++ start_orders (program_of program.now)) }
 {
-    for statement in all {
-        append_command(alloc, actions, statement)?;
-    }
-    Ok(())
-}
-
-/// Appends the actions of a return, which gives 0 where it has no value.
-fn append_return(
-    alloc: Global,
-    actions: &mut Vec<Action>,
-    value: &Option<Value>,
-) -> Result<(), NoMemory>
-    ensures { OnOk result (orders actions.new.items ≡ orders actions.old.items ++ command_orders (Return (option_map value_of value.now))) }
-{
-    match value {
-        None => append(actions, Action::Num(0))?,
-        Some(value) => append_value(alloc, actions, value)?,
-    }
+    append_zeros(actions, slots_of(program, program.main))?;
+    append(actions, Action::Call(number_of(program, program.main)))?;
     append(actions, Action::Return)
+}
+
+/// Appends the actions of all functions, and where each one begins. Gives the number of actions of
+/// the longest, or of the actions before them, where those are more.
+fn append_functions(
+    alloc: Global,
+    actions: &mut Vec<Action>,
+    entries: &mut Vec<usize>,
+    program: &Checked,
+) -> Result<usize, NoMemory>
+    ensures actions { OnOk result (orders actions.new.items ≡ orders actions.old.items ++ functions_orders (program_of program.now) (length (orders actions.old.items)) (all_functions (program_of program.now))) }
+    ensures entries { OnOk result (entries.new.items ≡ entries.old.items ++ entries_from (program_of program.now) (length (orders actions.old.items)) (all_functions (program_of program.now))) }
+    ensures longest { IfOk result (λ longest. longest ≡ longest_from (program_of program.now) (length (orders actions.old.items)) (all_functions (program_of program.now)) (length (orders actions.old.items))) }
+{
+    let mut longest = actions.len();
+    for function in &program.functions {
+        entries.push(actions.len())?;
+        let size = append_function(alloc, actions, program, function.slots, &function.body)?;
+        longest = longest.max(size);
+    }
+    entries.push(actions.len())?;
+    let size = append_function(alloc, actions, program, 0, &[])?;
+    Ok(longest.max(size))
+}
+
+/// Appends the actions of a function, and gives their number.
+fn append_function(
+    alloc: Global,
+    actions: &mut Vec<Action>,
+    program: &Checked,
+    slots: usize,
+    body: &[Command],
+) -> Result<usize, NoMemory>
+    ensures actions { OnOk result (orders actions.new.items ≡ orders actions.old.items ++ function_orders (program_of program.now) (length (orders actions.old.items)) (record { slots = slots; body = commands body.now })) }
+    ensures size { IfOk result (λ size. size ≡ length (function_orders (program_of program.now) (length (orders actions.old.items)) (record { slots = slots; body = commands body.now }))) }
+{
+    let begin = actions.len();
+    append_commands(alloc, actions, program, slots, body)?;
+    append(actions, Action::Num(0))?;
+    append_leave(actions, slots)?;
+    Ok(actions.len() - begin)
 }

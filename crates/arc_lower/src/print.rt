@@ -83,7 +83,7 @@ fn append_conversion(
 
 /// Appends the actions that put the top number in the place of the last of `count` numbers below
 /// it, and take the others.
-fn append_keep(actions: &mut Vec<Action>, count: usize) -> Result<(), NoMemory>
+pub(crate) fn append_keep(actions: &mut Vec<Action>, count: usize) -> Result<(), NoMemory>
     ensures { OnOk result (orders actions.new.items ≡ orders actions.old.items ++ keep_orders count) }
 {
     if count == 0 {
@@ -94,7 +94,7 @@ fn append_keep(actions: &mut Vec<Action>, count: usize) -> Result<(), NoMemory>
 }
 
 /// Appends actions that take `count` numbers.
-fn append_pops(actions: &mut Vec<Action>, count: usize) -> Result<(), NoMemory>
+pub(crate) fn append_pops(actions: &mut Vec<Action>, count: usize) -> Result<(), NoMemory>
     ensures { OnOk result (orders actions.new.items ≡ orders actions.old.items ++ pop_orders count) }
 {
     for _number in 0..count {

@@ -1,69 +1,84 @@
 //! Actions of a few programs, written by hand.
 use crate::lower::lower;
 use arc_ast::tree::{BinaryOperator, Kind};
-use arc_check::checked::{Checked, Command, Piece, Value};
+use arc_check::checked::{Checked, CheckedFunction, Command, Piece, Value};
 use arc_family::owned::Owned;
 use std::alloc::{AllocError, Global};
 use std::test::Fail;
 
-/// The actions of a body, as they are printed for debugging.
-fn actions_of(alloc: Global, body: Vec<Command>) -> Result<String, AllocError> {
-    let program = Checked { body };
-    match lower(alloc, &Owned { program: &program }) {
-        Ok(ir) => format!(in alloc; "{:?}", ir.actions),
+/// What a program becomes, as it is printed for debugging.
+fn lowered(alloc: Global, program: &Checked) -> Result<String, AllocError> {
+    match lower(alloc, &Owned { program }) {
+        Ok(ir) => format!(in alloc; "{:?}", ir),
         Err(_) => Err(AllocError),
     }
 }
 
-/// `printf("a%dbc%c%d", 65, getchar())`
+/// `printf("a%d%c", -1 + (long)2)`
 fn greeting(alloc: Global) -> Result<Value, AllocError> {
     let pieces = vec![in alloc;
         Piece::Bytes(vec![in alloc; 97]?),
         Piece::Decimal,
-        Piece::Bytes(vec![in alloc; 98, 99]?),
         Piece::Character,
-        Piece::Decimal,
     ]?;
-    let arguments = vec![in alloc; Value::Number(65), Value::ReadByte]?;
-    Ok(Value::Print(pieces, arguments))
-}
-
-/// `-1 + (long)2`
-fn sum(alloc: Global) -> Result<Value, AllocError> {
     let left = Value::Negated(Kind::Int, Box::new(alloc, Value::Number(1))?);
     let right = Value::Converted(Kind::Long, Box::new(alloc, Value::Number(2))?);
-    Ok(Value::Combined(
+    let sum = Value::Combined(
         BinaryOperator::Add,
         Kind::Long,
         Box::new(alloc, left)?,
         Box::new(alloc, right)?,
-    ))
+    );
+    Ok(Value::Print(pieces, vec![in alloc; sum]?))
 }
 
-#[test]
-fn returns(rt: HostRuntime) -> Result<(), Fail> {
-    let alloc = rt.alloc();
-    let seven = vec![in alloc; Command::Return(Some(Value::Number(7)))]?;
-    assert_eq!(rt;
-        actions_of(alloc, seven)?.as_str(),
-        "[Num(7), Return, Num(0), Return]"
+/// `int copy(int a) { int b; while (b) b = a; return a; }`
+fn copy(alloc: Global) -> Result<CheckedFunction, AllocError> {
+    let assign = Value::Assigned(1, Box::new(alloc, Value::Local(0))?);
+    let turn = Box::new(alloc, Command::Evaluate(assign))?;
+    let body = vec![in alloc;
+        Command::Repeat(Value::Local(1), turn),
+        Command::Return(Some(Value::Local(0))),
+    ]?;
+    Ok(CheckedFunction { slots: 2, body })
+}
+
+/// `int main() { if (getchar()) return copy(7); else missing(1, 2); }`
+fn caller(alloc: Global) -> Result<CheckedFunction, AllocError> {
+    let seven = vec![in alloc; Value::Number(7)]?;
+    let two = vec![in alloc; Value::Number(1), Value::Number(2)]?;
+    let first = Command::Return(Some(Value::Invoked(0, seven)));
+    let second = Command::Evaluate(Value::Invoked(5, two));
+    let choice = Command::Choose(
+        Value::ReadByte,
+        Box::new(alloc, first)?,
+        Box::new(alloc, second)?,
     );
-    let inner = vec![in alloc; Command::Evaluate(sum(alloc)?), Command::Return(None)]?;
-    let nested = vec![in alloc; Command::Sequence(inner)]?;
-    assert_eq!(rt;
-        actions_of(alloc, nested)?.as_str(),
-        "[Num(1), Un(Int), Num(2), Narrow(Long), Bin(Add, Long), Pop, Num(0), Return, Num(0), Return]"
-    );
-    Ok(())
+    let body = vec![in alloc; choice]?;
+    Ok(CheckedFunction { slots: 0, body })
 }
 
 #[test]
 fn prints(rt: HostRuntime) -> Result<(), Fail> {
     let alloc = rt.alloc();
     let body = vec![in alloc; Command::Evaluate(greeting(alloc)?)]?;
+    let functions = vec![in alloc; CheckedFunction { slots: 0, body }]?;
+    let program = Checked { functions, main: 0 };
     assert_eq!(rt;
-        actions_of(alloc, body)?.as_str(),
-        "[Num(65), GetChar, Num(0), PrintText([97]), Get(2), PrintNum, PrintText([98, 99]), Get(1), PrintByte, Narrow(Int), Set(1), Pop, Pop, Num(0), Return]"
+        lowered(alloc, &program)?.as_str(),
+        "Ir { actions: [Call(0), Return, Num(1), Un(Int), Num(2), Narrow(Long), Bin(Add, Long), Num(0), PrintText([97]), Get(1), PrintNum, Narrow(Int), Set(0), Pop, Num(0), Return, Num(0), Return], entries: [2, 16], room: 28000 }"
+    );
+    Ok(())
+}
+
+#[test]
+fn calls(rt: HostRuntime) -> Result<(), Fail> {
+    let alloc = rt.alloc();
+    let functions = vec![in alloc; copy(alloc)?, caller(alloc)?]?;
+    let program = Checked { functions, main: 1 };
+    assert_eq!(rt;
+        lowered(alloc, &program)?.as_str(),
+        "Ir { actions: [Call(1), Return, Get(0), JumpZero(9), Get(1), Get(0), Set(1), Pop, Jump(2), Get(1), Set(1), Pop, Return, Num(0), Set(1), Pop, Return, GetChar, JumpZero(24), Num(7), Num(0), Call(0), Return, Jump(30), Num(1), Num(2), Pop, Pop, Call(2), Pop, Num(0), Return, Num(0), Return], entries: [2, 17, 32], room: 30000 }"
     );
     Ok(())
 }

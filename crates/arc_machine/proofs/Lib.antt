@@ -4,3 +4,4 @@ pub mod Farther
 pub mod Sample
 pub mod Shown
 pub mod Chained
+pub mod Calling

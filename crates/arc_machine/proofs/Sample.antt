@@ -5,11 +5,11 @@ use Rattle.arc_ast.specs.declared.tree.BinaryOperator.TheVariants as o
 use Rattle.arc_spec.specs.Number.{combined}
 use Rattle.arc_spec.specs.Stepping.{Along, Safe}
 use Rattle.arc_code.specs.declared.code.Op.{Op}
-use Rattle.arc_code.specs.Running.{State, or_fault, step, Fits, IsSound}
+use Rattle.arc_code.specs.Running.{Program, State, or_fault, step, Fits, IsSound}
 use Rattle.arc_machine.specs.Sample.{sample}
 
 abbrev there : ℕ → List ℤ → State
-there at stack = record { at = at; stack = stack }
+there at stack = record { at = at; stack = stack; calls = [] }
 
 abbrev IsSafe : ℕ → State → Type 0
 IsSafe n s = Safe (step sample) (Fits sample) n s
@@ -73,5 +73,7 @@ at0 (suc n) = at1 _ n
 pub sample_sound : IsSound sample
 sample_sound = record { safe = at0 }
 
-pub sample_at : (ops : List Op) (texts : List ℕ) → ops ≡ sample.ops → texts ≡ sample.texts → IsSound (record { ops = ops; texts = texts; room = 4 })
-sample_at ops texts e f = subst (λ (l : List Op). IsSound (record { ops = l; texts = texts; room = 4 })) (sym e) (subst (λ (l : List ℕ). IsSound (record { ops = sample.ops; texts = l; room = 4 })) (sym f) sample_sound)
+-- the same of code that has the program's instructions, texts and room
+pub at_code : (p : Program) (ops : List Op) (texts : List ℕ) → IsSound p → ops ≡ p.ops → texts ≡ p.texts → IsSound (record { ops = ops; texts = texts; room = p.room })
+at_code p ops texts h e f =
+    subst (λ (l : List Op). IsSound (record { ops = l; texts = texts; room = p.room })) (sym e) (subst (λ (l : List ℕ). IsSound (record { ops = p.ops; texts = l; room = p.room })) (sym f) h)

@@ -1,6 +1,7 @@
 //! Runs code, an instruction a step.
 #![tactic(auto)]
 
+pub mod calls;
 pub mod engine;
 pub mod fault;
 pub mod machine;

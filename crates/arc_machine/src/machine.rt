@@ -31,8 +31,8 @@ impl Model for Machine {
 }
 
 impl Machine {
-    /// A machine at the start of the code. All of its stack is reserved here, and no step takes
-    /// memory. The error is a refusal of the stack's memory.
+    /// A machine at the start of the code. All of its stack and the room of 2,000 calls are reserved
+    /// here, and no step takes memory. The error is a refusal of that memory.
     pub fn new(alloc: Global, code: Code) -> Result<Machine, NoMemory>
         requires { IsSound (program_of code) }
         ensures { IfOk result (λ m. m ≡ fresh (program_of code)) }

@@ -1,4 +1,4 @@
-//! A small program, on devices that work and on ones that fail.
+//! Small programs, on devices that work and on ones that fail.
 ghost use Rattle.std.specs.Prelude.{◌≡◌, IfOk};
 ghost use Rattle.arc_machine.specs.Views.{fresh};
 ghost use Rattle.arc_machine.specs.Sample.{sample};
@@ -40,6 +40,44 @@ fn sample(alloc: Global) -> Result<Machine, Fail>
         ops,
         texts,
         room: 4,
+    };
+    Ok(Machine::new(alloc, code)?)
+}
+
+/// Prints `x` in each of a loop's three turns; its end is 42.
+fn countdown(alloc: Global) -> Result<Machine, Fail> {
+    let ops = vec![in alloc;
+        Op::Num(3),
+        Op::Call(7),
+        Op::Get(0),
+        Op::JumpZero(5),
+        Op::Jump(1),
+        Op::Num(42),
+        Op::Return,
+        Op::Num(0),
+        Op::PrintText(0, 1),
+        Op::Pop,
+        Op::Num(1),
+        Op::Bin(BinaryOperator::Subtract, Kind::Int),
+        Op::Return,
+    ]?;
+    let texts = Vec::from_slice(alloc, b"x")?;
+    let code = Code {
+        ops,
+        texts,
+        room: 2,
+    };
+    Ok(Machine::new(alloc, code)?)
+}
+
+/// Calls itself again and again.
+fn endless(alloc: Global) -> Result<Machine, Fail> {
+    let ops = vec![in alloc; Op::Call(0)]?;
+    let texts = Vec::from_slice(alloc, b"")?;
+    let code = Code {
+        ops,
+        texts,
+        room: 0,
     };
     Ok(Machine::new(alloc, code)?)
 }
@@ -199,5 +237,30 @@ fn a_failing_reader_breaks_a_step(rt: HostRuntime) -> Result<(), Fail> {
     );
     assert_eq!(rt; (reader.failures(), writer.failures()), (1, 0));
     assert_eq!(rt; machine.steps_done(), 5);
+    Ok(())
+}
+
+#[test]
+fn it_turns_and_calls(rt: HostRuntime) -> Result<(), Fail> {
+    let mut machine = countdown(rt.alloc())?;
+    let mut reader = Counted::new(b"".as_slice());
+    let mut writer = Counted::new(Vec::new(rt.alloc()));
+    let stop = machine.run(1_000, &mut reader, &mut writer);
+    assert_eq!(rt; stop, Ok(Stop::Ended(42)));
+    assert_eq!(rt; machine.steps_done(), 32);
+    assert_eq!(rt; writer.get_ref().as_slice(), b"xxx".as_slice());
+    Ok(())
+}
+
+#[test]
+fn one_call_more_than_the_most_stops_it(rt: HostRuntime) -> Result<(), Fail> {
+    let mut machine = endless(rt.alloc())?;
+    let mut reader = Counted::new(b"".as_slice());
+    let mut writer = Counted::new(Vec::new(rt.alloc()));
+    let stop = machine.run(10_000, &mut reader, &mut writer);
+    assert_eq!(rt; stop, Ok(Stop::Fault(Fault::Depth)));
+    assert_eq!(rt; machine.steps_done(), 2_001);
+    assert_eq!(rt; fault_number(Fault::Depth), 85);
+    assert_eq!(rt; fault_name(Fault::Depth), "Depth");
     Ok(())
 }

@@ -1,25 +1,32 @@
 -- The rules of expressions read what is spelled.
-use Rattle.std.proofs.Common.{◌≡◌, ◌≢◌, ℕ, zero, suc, ◌≤◌, ◌+◌, ◌-◌, ℤ, List, [], ◌∷◌, ◌++◌, append_assoc, append-nil, Ok, Err, Bool, true, false, nat_eq, Some, None, refl, sym, ap, subst, ◌∙◌, arith}
+use Rattle.std.proofs.Common.{◌≡◌, ◌≢◌, ℕ, zero, suc, ◌≤◌, ◌+◌, ◌-◌, ℤ, List, [], ◌∷◌, ◌++◌, append_assoc, append-nil, Ok, Err, Bool, true, false, cond, nat_eq, Some, None, refl, sym, ap, subst, ◌∙◌, arith}
 use Rattle.std.proofs.lemmas.Bool.{eqb-true, eq-eqb}
 use Rattle.arc_lex.specs.declared.token.Mark.{Mark}
 use Rattle.arc_lex.specs.declared.token.Mark.TheVariants as m
 use Rattle.arc_lex.specs.Tokens.{Tok, Sign}
 use Rattle.arc_ast.specs.declared.tree.BinaryOperator.{BinaryOperator}
-use Rattle.arc_ast.specs.declared.tree.BinaryOperator.TheVariants.{Add, Subtract, Multiply, Divide}
-use Rattle.arc_ast.specs.Tree.{ExprTree, ExprTrees, Integer, Text, Paren, Call, Negate, Binary, no_exprs, and_expr}
+use Rattle.arc_ast.specs.declared.tree.BinaryOperator.TheVariants.{Add, Subtract, Multiply, Divide, NotEqual}
+use Rattle.arc_ast.specs.Tree.{ExprTree, ExprTrees, Integer, Text, Paren, Call, Negate, Binary, Name, Assign, no_exprs, and_expr, place}
 use Rattle.arc_parse.specs.Grammar.{Spells, SpellsArguments, mark_of, binds, widest}
-use Rattle.arc_parse.specs.Reader.{Read, misfit, bind, begins, is_mark, sees_mark}
-use Rattle.arc_parse.specs.ExprRules.{expr, unary, more, arguments, operator_of, is_operator, mark_operator, parenthesized_by, given_by, call_by, primary_by, negate_by, unary_by, binary_by, more_by, expr_by, arguments_by, read}
+use Rattle.arc_parse.specs.Reader.{Read, misfit, bind, ret, begins, is_mark, sees_mark}
+use Rattle.arc_parse.specs.ExprRules.{expr, unary, more, arguments, operator_of, is_operator, mark_operator, parenthesized_by, given_by, call_by, named_by, primary_by, negate_by, unary_by, binary_by, more_by, is_unary, assign_by, expr_by, arguments_by, read}
+use Rattle.arc_parse.specs.TooDeep.{ends_with_name, ends_with_place}
 use Rattle.arc_parse.proofs.Sorts.{sign_is}
 use Rattle.arc_parse.proofs.ExprLocal.{read_is}
-use Rattle.arc_parse.proofs.ExprSound.{Filled}
+use Rattle.arc_parse.proofs.ExprSound.{Filled, looser}
 
--- no operator at the front goes on with an expression of the level
-pub record Ends (l : ℕ) (rest : List Tok) : Type 0 where
+-- nothing at the front goes on with this expression of the level
+pub record Ends (e : ExprTree) (l : ℕ) (rest : List Tok) : Type 0 where
   pub operators : (j : ℕ) → 1 ≤ j → 1 + j ≤ l → begins (is_operator j) rest ≡ false
+  pub call : ends_with_name e ≡ true → sees_mark m.OpenParen rest ≡ false
+  pub assign : 5 ≤ l → ends_with_place e ≡ true → sees_mark m.Assign rest ≡ false
 
-ends_lower : (l j : ℕ) (rest : List Tok) → j ≤ l → Ends l rest → Ends j rest
-ends_lower l j rest p e = record { operators = λ i q r. e.operators i q (omega arith) }
+ends_lower : (e : ExprTree) (l j : ℕ) (rest : List Tok) → j ≤ l → Ends e l rest → Ends e j rest
+ends_lower e l j rest p h = record { operators = λ i q r. h.operators i q (omega arith); call = h.call; assign = λ q. h.assign (omega arith) }
+
+-- so with its last part, where no assignment ends
+ends_last : (e a : ExprTree) (l : ℕ) (rest : List Tok) → l ≤ 4 → (ends_with_name a ≡ true → ends_with_name e ≡ true) → Ends e l rest → Ends a l rest
+ends_last e a l rest p last h = record { operators = h.operators; call = λ q. h.call (last q); assign = λ q. absurd (omega arith) }
 
 other_number : (a b : ℕ) → a ≢ b → nat_eq a b ≡ false
 other_number a b d = go (nat_eq a b) refl
@@ -28,12 +35,13 @@ other_number a b d = go (nat_eq a b) refl
     go true e = absurd (d (eqb-true a b e))
     go false e = refl
 
--- a mark that is no operator ends every expression
-pub ends_mark : (l : ℕ) (mark : Mark) (t : Tok) (us : List Tok) → t.sort ≡ Sign mark → mark_operator mark ≡ None → Ends l (t ∷ us)
-ends_mark l mark t us e none = record { operators = λ j p q. rw (e, none) refl }
+-- a mark that goes on with nothing ends every expression
+pub ends_mark : (e : ExprTree) (l : ℕ) (mark : Mark) (t : Tok) (us : List Tok) → t.sort ≡ Sign mark → mark_operator mark ≡ None → is_mark m.OpenParen (Sign mark) ≡ false → is_mark m.Assign (Sign mark) ≡ false
+    → Ends e l (t ∷ us)
+ends_mark e l mark t us s none paren assign' = record { operators = λ j p q. rw (s, none) refl; call = λ p. ap (is_mark m.OpenParen) s ∙ paren; assign = λ p q. ap (is_mark m.Assign) s ∙ assign' }
 
-pub ends_nil : (l : ℕ) → Ends l []
-ends_nil l = record { operators = λ j p q. refl }
+pub ends_nil : (e : ExprTree) (l : ℕ) → Ends e l []
+ends_nil e l = record { operators = λ j p q. refl; call = λ p. refl; assign = λ p q. refl }
 
 -- the operators of a level, by their marks
 operator_is : (o : BinaryOperator) → (mark_operator (mark_of o) ≡ Some (binds o, o))
@@ -41,6 +49,7 @@ operator_is Add = refl
 operator_is Subtract = refl
 operator_is Multiply = refl
 operator_is Divide = refl
+operator_is NotEqual = refl
 
 level_is : (l : ℕ) (o : BinaryOperator) (t : Tok) → t.sort ≡ Sign (mark_of o) → binds o ≡ l → operator_of l t.sort ≡ Some o
 level_is l o t e p = rw (e, operator_is o, p, eq-eqb l l refl) refl
@@ -48,15 +57,31 @@ level_is l o t e p = rw (e, operator_is o, p, eq-eqb l l refl) refl
 other_level : (j : ℕ) (o : BinaryOperator) (t : Tok) → t.sort ≡ Sign (mark_of o) → binds o ≢ j → is_operator j t ≡ false
 other_level j o t e d = rw (e, operator_is o, other_number (binds o) j d) refl
 
--- an operator ends what binds tighter
-ends_operator : (o : BinaryOperator) (t : Tok) (us : List Tok) → t.sort ≡ Sign (mark_of o) → Ends (binds o) (t ∷ us)
-ends_operator o t us e = record { operators = λ j q r. other_level j o t e (λ z. absurd (omega arith)) }
-
-binds_some : (o : BinaryOperator) → (1 ≤ binds o) × (binds o ≤ 2)
+binds_some : (o : BinaryOperator) → (1 ≤ binds o) × (binds o ≤ 3)
 binds_some Add = (omega arith, omega arith)
 binds_some Subtract = (omega arith, omega arith)
 binds_some Multiply = (omega arith, omega arith)
 binds_some Divide = (omega arith, omega arith)
+binds_some NotEqual = (omega arith, omega arith)
+
+no_paren : (o : BinaryOperator) → is_mark m.OpenParen (Sign (mark_of o)) ≡ false
+no_paren Add = refl
+no_paren Subtract = refl
+no_paren Multiply = refl
+no_paren Divide = refl
+no_paren NotEqual = refl
+
+-- an operator ends what binds tighter
+ends_operator : (e : ExprTree) (o : BinaryOperator) (t : Tok) (us : List Tok) → t.sort ≡ Sign (mark_of o) → Ends e (binds o) (t ∷ us)
+ends_operator e o t us s = record {
+  operators = λ j q r. other_level j o t s (λ z. absurd (omega arith));
+  call = λ q. ap (is_mark m.OpenParen) s ∙ no_paren o;
+  assign = λ q. absurd (omega (arith, binds_some o));
+}
+
+-- `=` ends its left side
+ends_assign : (e : ExprTree) (t : Tok) (us : List Tok) → t.sort ≡ Sign m.Assign → Ends e 4 (t ∷ us)
+ends_assign e t us s = record { operators = λ j p q. rw s refl; call = λ p. ap (is_mark m.OpenParen) s; assign = λ q. absurd (omega arith) }
 
 more_ends : (l : ℕ) (t : ExprTree) (rest : List Tok) → begins (is_operator l) rest ≡ false → read (more l t) rest ≡ Ok (t, rest)
 unfolding more_by
@@ -65,71 +90,90 @@ more_ends l t rest p = rw (read_is, p) refl
 -- ---- a tree is read at its own level, and so at each looser one
 
 pub record Completes (t : ExprTree) : Type 0 where
-  pub un : (ts rest : List Tok) → Spells 1 t ts → unary_by read (ts ++ rest) ≡ Ok (t, rest)
-  pub bin : (l : ℕ) (ts rest : List Tok) → 1 ≤ l → l ≤ 2 → Spells (1 + l) t ts → Ends l rest → binary_by read l (ts ++ rest) ≡ read (more l t) rest
-  pub full : (ts rest : List Tok) → Spells widest t ts → Ends widest rest → read expr (ts ++ rest) ≡ Ok (t, rest)
+  pub un : (ts rest : List Tok) → Spells 1 t ts → Ends t 0 rest → unary_by read (ts ++ rest) ≡ Ok (t, rest)
+  pub bin : (l : ℕ) (ts rest : List Tok) → 1 ≤ l → l ≤ 3 → Spells (1 + l) t ts → Ends t l rest → binary_by read l (ts ++ rest) ≡ read (more l t) rest
+  pub full : (ts rest : List Tok) → Spells widest t ts → Ends t widest rest → read expr (ts ++ rest) ≡ Ok (t, rest)
 
 -- from a level of operators to the next ones
-bin_up : (t : ExprTree) (us rest : List Tok) (i d : ℕ) → 1 ≤ i → Ends (i + d) rest → binary_by read i us ≡ read (more i t) rest → binary_by read (i + d) us ≡ read (more (i + d) t) rest
+bin_up : (t : ExprTree) (us rest : List Tok) (i d : ℕ) → 1 ≤ i → Ends t (i + d) rest → binary_by read i us ≡ read (more i t) rest → binary_by read (i + d) us ≡ read (more (i + d) t) rest
 unfolding binary_by
 bin_up t us rest i zero p e h = subst (λ j. binary_by read j us ≡ read (more j t) rest) (plus i) h
   where
     plus : (i : ℕ) → i ≡ i + zero
     plus i = omega arith
 bin_up t us rest i (suc d) p e h = subst (λ j. binary_by read j us ≡ read (more j t) rest) (plus i d)
-    (ap (λ x. bind x (λ left. read (more (suc (i + d)) left))) (bin_up t us rest i d p (ends_lower _ _ rest (omega arith) e) h
+    (ap (λ x. bind x (λ left. read (more (suc (i + d)) left))) (bin_up t us rest i d p (ends_lower t _ _ rest (omega arith) e) h
     ∙ more_ends (i + d) t rest (e.operators (i + d) (omega arith) (omega arith))))
   where
     plus : (i d : ℕ) → suc (i + d) ≡ i + suc d
     plus i d = omega arith
 
-bin_from_un : (t : ExprTree) (us rest : List Tok) (l : ℕ) → 1 ≤ l → Ends l rest → unary_by read us ≡ Ok (t, rest) → binary_by read l us ≡ read (more l t) rest
+bin_from_un : (t : ExprTree) (us rest : List Tok) (l : ℕ) → 1 ≤ l → Ends t l rest → unary_by read us ≡ Ok (t, rest) → binary_by read l us ≡ read (more l t) rest
 unfolding binary_by
 bin_from_un t us rest zero p e h = absurd (omega arith)
 bin_from_un t us rest (suc l) p e h = subst (λ j. binary_by read j us ≡ read (more j t) rest) (plus l)
-    (bin_up t us rest 1 l (omega arith) (ends_lower _ _ rest (omega arith) e) (ap (λ x. bind x (λ left. read (more 1 left))) h))
+    (bin_up t us rest 1 l (omega arith) (ends_lower t _ _ rest (omega arith) e) (ap (λ x. bind x (λ left. read (more 1 left))) h))
   where
     plus : (l : ℕ) → 1 + l ≡ suc l
     plus l = omega arith
 
-full_from_bin : (t : ExprTree) (us rest : List Tok) → Ends widest rest → binary_by read 2 us ≡ read (more 2 t) rest → read expr us ≡ Ok (t, rest)
-unfolding expr_by
-full_from_bin t us rest e h = read_is expr us ∙ h ∙ more_ends 2 t rest (e.operators 2 (omega arith) (omega arith))
+unary_place : (t : ExprTree) → is_unary t ≡ true → ends_with_place t ≡ true
+unary_place (Assign at sign a b) e = cc
+unary_place (Binary at o a b) e = cc
+unary_place (Integer at value) e = refl
+unary_place (Text at bytes) e = refl
+unary_place (Paren at a) e = refl
+unary_place (Call at called args) e = refl
+unary_place (Negate at a) e = refl
+unary_place (Name at called) e = refl
+
+full_from_bin : (t : ExprTree) (us rest : List Tok) → Ends t widest rest → binary_by read 3 us ≡ read (more 3 t) rest → read expr us ≡ Ok (t, rest)
+unfolding expr_by assign_by
+full_from_bin t us rest e h = read_is expr us ∙ rw (h ∙ more_ends 3 t rest (e.operators 3 (omega arith) (omega arith))) (go (is_unary t) refl)
+  where
+    go : (b : Bool) → is_unary t ≡ b → cond b (assign_by read t) (ret t) rest ≡ Ok (t, rest)
+    go true u = rw (e.assign (omega arith) (unary_place t u)) refl
+    go false u = refl
 
 -- what is read as a unary expression, from there on
-from_unary : (t : ExprTree) → ((l : ℕ) (ts : List Tok) → Spells l t ts → Spells 1 t ts) → ((ts rest : List Tok) → Spells 1 t ts → unary_by read (ts ++ rest) ≡ Ok (t, rest)) → Completes t
+from_unary : (t : ExprTree) → ((l : ℕ) (ts : List Tok) → Spells l t ts → Spells 1 t ts) → ((ts rest : List Tok) → Spells 1 t ts → Ends t 0 rest → unary_by read (ts ++ rest) ≡ Ok (t, rest)) → Completes t
 from_unary t down un = record {
   un = un;
-  bin = λ l ts rest p q h e. bin_from_un t (ts ++ rest) rest l p e (un ts rest (down (1 + l) ts h));
-  full = λ ts rest h e. full_from_bin t (ts ++ rest) rest e (bin_from_un t (ts ++ rest) rest 2 (omega arith) (ends_lower _ _ rest (omega arith) e) (un ts rest (down widest ts h)));
+  bin = λ l ts rest p q h e. bin_from_un t (ts ++ rest) rest l p e (un ts rest (down (1 + l) ts h) (ends_lower t _ _ rest (omega arith) e));
+  full = λ ts rest h e. full_from_bin t (ts ++ rest) rest e
+      (bin_from_un t (ts ++ rest) rest 3 (omega arith) (ends_lower t _ _ rest (omega arith) e) (un ts rest (down widest ts h) (ends_lower t _ _ rest (omega arith) e)));
 }
 
 -- ---- each kind of tree
 
 integer_reads : (at : ℕ) (value : ℤ) → Completes (Integer at value)
 unfolding unary_by primary_by
-integer_reads at value = from_unary (Integer at value) (λ l ts h. h) (λ ts rest h. rw (h.1, h.2, h.3) refl)
+integer_reads at value = from_unary (Integer at value) (λ l ts h. h) (λ ts rest h e. rw (h.1, h.2, h.3) refl)
 
 text_reads : (at : ℕ) (bytes : List ℕ) → Completes (Text at bytes)
 unfolding unary_by primary_by
-text_reads at bytes = from_unary (Text at bytes) (λ l ts h. h) (λ ts rest h. rw (h.1, h.2, h.3) refl)
+text_reads at bytes = from_unary (Text at bytes) (λ l ts h. h) (λ ts rest h e. rw (h.1, h.2, h.3) refl)
+
+name_reads : (at : ℕ) (called : List ℕ) → Completes (Name at called)
+unfolding unary_by primary_by named_by
+name_reads at called = from_unary (Name at called) (λ l ts h. h) (λ ts rest h e. rw (h.1, h.2, e.call refl, h.3) refl)
 
 paren_reads : (at : ℕ) (a : ExprTree) → Completes a → Completes (Paren at a)
 unfolding unary_by primary_by parenthesized_by
 paren_reads at a k = from_unary (Paren at a) (λ l ts h. h) reads
   where
-    reads : (ts rest : List Tok) → Spells 1 (Paren at a) ts → unary_by read (ts ++ rest) ≡ Ok (Paren at a, rest)
-    reads ts rest (xs, us, c, (t, cx, sx, px), (ys, zs, d, y, (end, (u, cz, sz, pz)))) =
-        let inside : read expr (ys ++ (u ∷ rest)) ≡ Ok (a, u ∷ rest) = k.full ys (u ∷ rest) y (ends_mark widest m.CloseParen u rest sz refl) in
+    reads : (ts rest : List Tok) → Spells 1 (Paren at a) ts → Ends (Paren at a) 0 rest → unary_by read (ts ++ rest) ≡ Ok (Paren at a, rest)
+    reads ts rest (xs, us, c, (t, cx, sx, px), (ys, zs, d, y, (end, (u, cz, sz, pz)))) e =
+        let inside : read expr (ys ++ (u ∷ rest)) ≡ Ok (a, u ∷ rest) = k.full ys (u ∷ rest) y (ends_mark a widest m.CloseParen u rest sz refl refl refl) in
         rw (c, cx, sx, d, cz, append_assoc ys (u ∷ []) rest, inside, sz, px) refl
 
 negate_reads : (at : ℕ) (a : ExprTree) → Completes a → Completes (Negate at a)
 unfolding unary_by negate_by
 negate_reads at a k = from_unary (Negate at a) (λ l ts h. (omega arith, h.1)) reads
   where
-    reads : (ts rest : List Tok) → Spells 1 (Negate at a) ts → unary_by read (ts ++ rest) ≡ Ok (Negate at a, rest)
-    reads ts rest (l, (xs, ys, c, (t, cx, sx, px), y)) =
-        rw (c, cx, sx, read_is unary (ys ++ rest), k.un ys rest y, px) refl
+    reads : (ts rest : List Tok) → Spells 1 (Negate at a) ts → Ends (Negate at a) 0 rest → unary_by read (ts ++ rest) ≡ Ok (Negate at a, rest)
+    reads ts rest (l, (xs, ys, c, (t, cx, sx, px), y)) e =
+        rw (c, cx, sx, read_is unary (ys ++ rest), k.un ys rest y (ends_last (Negate at a) a 0 rest (omega arith) (λ q. q) e), px) refl
 
 -- ---- calls
 
@@ -150,69 +194,99 @@ not_close t (u ∷ us) rest h = go (is_mark m.CloseParen u.sort) refl
     go false e = refl
 
 abbrev ReadsArguments : ExprTrees → Type 0
-ReadsArguments all = (ts rest : List Tok) → Filled all ts → sees_mark m.Comma rest ≡ false → Ends widest rest
-    → (read arguments (ts ++ rest) ≡ Ok (all, rest)) × (sees_mark m.CloseParen (ts ++ rest) ≡ false)
+ReadsArguments all = (ts rest : List Tok) (u : Tok) → Filled all ts → u.sort ≡ Sign m.CloseParen
+    → (read arguments (ts ++ (u ∷ rest)) ≡ Ok (all, u ∷ rest)) × (sees_mark m.CloseParen (ts ++ (u ∷ rest)) ≡ false)
 
 given_reads : (all : ExprTrees) → ReadsArguments all → (ys rest : List Tok) (u : Tok) → SpellsArguments all ys → u.sort ≡ Sign m.CloseParen → given_by read (ys ++ (u ∷ rest)) ≡ Ok (all, u ∷ rest)
 unfolding given_by
 given_reads no_exprs k ys rest u y z = rw (y, z) refl
 given_reads (and_expr a others) k ys rest u y z =
-    let all = k ys (u ∷ rest) y (ap (is_mark m.Comma) z) (ends_mark widest m.CloseParen u rest z refl) in
+    let all = k ys rest u y z in
     rw (all.1, all.0) refl
 
 call_reads : (at : ℕ) (called : List ℕ) (all : ExprTrees) → ReadsArguments all → Completes (Call at called all)
-unfolding unary_by primary_by call_by
+unfolding unary_by primary_by named_by call_by
 call_reads at called all k = from_unary (Call at called all) (λ l ts h. h) reads
   where
-    reads : (ts rest : List Tok) → Spells 1 (Call at called all) ts → unary_by read (ts ++ rest) ≡ Ok (Call at called all, rest)
-    reads ts rest (ns, us, c, (n, cn, sn, pn), (xs, vs, d, (o, (t, cx, sx, px)), (ys, zs, f, y, (end, (u, cz, sz, pz))))) =
+    reads : (ts rest : List Tok) → Spells 1 (Call at called all) ts → Ends (Call at called all) 0 rest → unary_by read (ts ++ rest) ≡ Ok (Call at called all, rest)
+    reads ts rest (ns, us, c, (n, cn, sn, pn), (xs, vs, d, (o, (t, cx, sx, px)), (ys, zs, f, y, (end, (u, cz, sz, pz))))) e =
         rw (c, cn, sn, d, cx, sx, f, cz, append_assoc ys (u ∷ []) rest, given_reads all k ys rest u y sz, sz, pn) refl
 
 arguments_read : (a : ExprTree) (others : ExprTrees) → Completes a → ReadsArguments others → ReadsArguments (and_expr a others)
 unfolding arguments_by
-arguments_read a no_exprs k rest_reads ts rest (xs, us, c, x, y) e ends =
-    let one : read expr (xs ++ rest) ≡ Ok (a, rest) = k.full xs rest x ends in
+arguments_read a no_exprs k rest_reads ts rest u (xs, us, c, x, y) z =
+    let tail = u ∷ rest in
+    let one : read expr (xs ++ tail) ≡ Ok (a, tail) = k.full xs tail x (ends_mark a widest m.CloseParen u rest z refl refl refl) in
     let is : ts ≡ xs = c ∙ ap (λ us. xs ++ us) y ∙ append-nil xs in
-    (rw is (read_is arguments (xs ++ rest) ∙ rw (← read_is expr (xs ++ rest), one, e) refl), rw is (not_close a (xs ++ rest) rest one))
-arguments_read a (and_expr b others) k rest_reads ts rest (xs, us, c, x, (ys, zs, d, (comma, (t, cy, sy, py)), z)) e ends =
-    let one : read expr (xs ++ (t ∷ (zs ++ rest))) ≡ Ok (a, t ∷ (zs ++ rest)) = k.full xs (t ∷ (zs ++ rest)) x (ends_mark widest m.Comma t (zs ++ rest) sy refl) in
-    let is : ts ++ rest ≡ xs ++ (t ∷ (zs ++ rest)) = rw (c, d, cy) (append_assoc xs (t ∷ zs) rest) in
-    let tail = rest_reads zs rest z e ends in
-    (rw is (read_is arguments (xs ++ (t ∷ (zs ++ rest))) ∙ rw (← read_is expr (xs ++ (t ∷ (zs ++ rest))), one, sy, tail.0) refl), rw is (not_close a (xs ++ (t ∷ (zs ++ rest))) (t ∷ (zs ++ rest)) one))
+    (rw is (read_is arguments (xs ++ tail) ∙ rw (← read_is expr (xs ++ tail), one, z) refl), rw is (not_close a (xs ++ tail) tail one))
+arguments_read a (and_expr b others) k rest_reads ts rest u (xs, us, c, x, (ys, zs, d, (comma, (t, cy, sy, py)), z)) e =
+    let tail = zs ++ (u ∷ rest) in
+    let one : read expr (xs ++ (t ∷ tail)) ≡ Ok (a, t ∷ tail) = k.full xs (t ∷ tail) x (ends_mark a widest m.Comma t tail sy refl refl refl) in
+    let is : ts ++ (u ∷ rest) ≡ xs ++ (t ∷ tail) = rw (c, d, cy) (append_assoc xs (t ∷ zs) (u ∷ rest)) in
+    let others' = rest_reads zs rest u z e in
+    (rw is (read_is arguments (xs ++ (t ∷ tail)) ∙ rw (← read_is expr (xs ++ (t ∷ tail)), one, sy, others'.0) refl), rw is (not_close a (xs ++ (t ∷ tail)) (t ∷ tail) one))
 
 -- ---- binary operators
 
 -- an operand behind an operator
-operand_reads : (a : ExprTree) → Completes a → (l : ℕ) (ts rest : List Tok) → l ≤ 2 → Spells (1 + l) a ts → Ends (1 + l) rest → binary_by read l (ts ++ rest) ≡ Ok (a, rest)
+operand_reads : (a : ExprTree) → Completes a → (l : ℕ) (ts rest : List Tok) → l ≤ 3 → Spells (1 + l) a ts → Ends a (1 + l) rest → binary_by read l (ts ++ rest) ≡ Ok (a, rest)
 unfolding binary_by
-operand_reads a k zero ts rest q h e = k.un ts rest h
-operand_reads a k (suc l) ts rest q h e = k.bin (suc l) ts rest (omega arith) q h (ends_lower _ _ rest (omega arith) e) ∙ more_ends (suc l) a rest (e.operators (suc l) (omega arith) (omega arith))
+operand_reads a k zero ts rest q h e = k.un ts rest h (ends_lower a _ _ rest (omega arith) e)
+operand_reads a k (suc l) ts rest q h e = k.bin (suc l) ts rest (omega arith) q h (ends_lower a _ _ rest (omega arith) e) ∙ more_ends (suc l) a rest (e.operators (suc l) (omega arith) (omega arith))
 
-binary_goes : (at : ℕ) (o : BinaryOperator) (a b : ExprTree) → Completes a → Completes b → (l : ℕ) (ts rest : List Tok) → Spells l (Binary at o a b) ts → Ends (binds o) rest
+binary_goes : (at : ℕ) (o : BinaryOperator) (a b : ExprTree) → Completes a → Completes b → (l : ℕ) (ts rest : List Tok) → Spells l (Binary at o a b) ts → Ends (Binary at o a b) (binds o) rest
     → binary_by read (binds o) (ts ++ rest) ≡ read (more (binds o) (Binary at o a b)) rest
 unfolding more_by
 binary_goes at o a b k j l ts rest (n, p, (xs, us, c, x, (ys, zs, d, (q, (t, cy, sy, py)), z))) e =
     let some = binds_some o in
     let lower : binds o ≡ 1 + (binds o - 1) = omega (arith, some) in
-    let right : binary_by read (binds o - 1) (zs ++ rest) ≡ Ok (b, rest) = operand_reads b j (binds o - 1) zs rest (omega (arith, some)) (subst (λ i. Spells i b zs) lower z) (subst (λ i. Ends i rest) lower e) in
-    rw (c, d, cy, append_assoc xs (t ∷ zs) rest) (k.bin (binds o) xs (t ∷ (zs ++ rest)) some.0 some.1 x (ends_operator o t (zs ++ rest) sy)
+    let last : Ends b (binds o) rest = ends_last (Binary at o a b) b (binds o) rest (omega (arith, some)) (λ q. q) e in
+    let right : binary_by read (binds o - 1) (zs ++ rest) ≡ Ok (b, rest) = operand_reads b j (binds o - 1) zs rest (omega (arith, some)) (subst (λ i. Spells i b zs) lower z) (subst (λ i. Ends b i rest) lower last) in
+    rw (c, d, cy, append_assoc xs (t ∷ zs) rest) (k.bin (binds o) xs (t ∷ (zs ++ rest)) some.0 some.1 x (ends_operator a o t (zs ++ rest) sy)
     ∙ read_is (more (binds o) a) (t ∷ (zs ++ rest)) ∙ rw (level_is (binds o) o t sy refl, right, p) refl)
 
 binary_reads : (at : ℕ) (o : BinaryOperator) (a b : ExprTree) → Completes a → Completes b → Completes (Binary at o a b)
 binary_reads at o a b k j = record {
-  un = λ ts rest h. absurd (omega (arith, h.0, binds_some o));
+  un = λ ts rest h e. absurd (omega (arith, h.0, binds_some o));
   bin = λ l ts rest p q h e. up l ts rest h e;
-  full = λ ts rest h e. full_from_bin (Binary at o a b) (ts ++ rest) rest e (up 2 ts rest h (ends_lower _ _ rest (omega arith) e));
+  full = λ ts rest h e. full_from_bin (Binary at o a b) (ts ++ rest) rest e (up 3 ts rest (omega (arith, binds_some o), h.1, h.2) (ends_lower (Binary at o a b) _ _ rest (omega arith) e));
 }
   where
-    up : (l : ℕ) (ts rest : List Tok) → Spells (1 + l) (Binary at o a b) ts → Ends l rest → binary_by read l (ts ++ rest) ≡ read (more l (Binary at o a b)) rest
+    up : (l : ℕ) (ts rest : List Tok) → Spells (1 + l) (Binary at o a b) ts → Ends (Binary at o a b) l rest → binary_by read l (ts ++ rest) ≡ read (more l (Binary at o a b)) rest
     up l ts rest h e =
         let some = binds_some o in
         let n = h.0 in
         let sum : binds o + (l - binds o) ≡ l = omega arith in
         subst (λ i. binary_by read i (ts ++ rest) ≡ read (more i (Binary at o a b)) rest) sum
-        (bin_up (Binary at o a b) (ts ++ rest) rest (binds o) (l - binds o) some.0 (subst (λ i. Ends i rest) (sym sum) e)
-        (binary_goes at o a b k j (1 + l) ts rest h (ends_lower _ _ rest (omega arith) e)))
+        (bin_up (Binary at o a b) (ts ++ rest) rest (binds o) (l - binds o) some.0 (subst (λ i. Ends (Binary at o a b) i rest) (sym sum) e)
+        (binary_goes at o a b k j (1 + l) ts rest h (ends_lower (Binary at o a b) _ _ rest (omega arith) e)))
+
+-- ---- assignments
+
+unary_here : (t : ExprTree) (xs : List Tok) → Spells 1 t xs → is_unary t ≡ true
+unary_here (Integer at value) xs h = refl
+unary_here (Text at bytes) xs h = refl
+unary_here (Paren at a) xs h = refl
+unary_here (Call at called args) xs h = refl
+unary_here (Negate at a) xs h = refl
+unary_here (Binary at o a b) xs h = absurd (omega (arith, h.0, binds_some o))
+unary_here (Name at called) xs h = refl
+unary_here (Assign at sign a b) xs h = absurd (omega (arith, h.0))
+
+assign_reads : (at sign : ℕ) (a b : ExprTree) → Completes a → Completes b → Completes (Assign at sign a b)
+unfolding expr_by assign_by
+assign_reads at sign a b k j = record {
+  un = λ ts rest h e. absurd (omega (arith, h.0));
+  bin = λ l ts rest p q h e. absurd (omega (arith, h.0));
+  full = reads;
+}
+  where
+    reads : (ts rest : List Tok) → Spells widest (Assign at sign a b) ts → Ends (Assign at sign a b) widest rest → read expr (ts ++ rest) ≡ Ok (Assign at sign a b, rest)
+    reads ts rest (n, p, (xs, us, c, x, (ys, zs, d, (t, cy, sy, py), z))) e =
+        let tail = t ∷ (zs ++ rest) in
+        let left : binary_by read 3 (xs ++ tail) ≡ Ok (a, tail) = operand_reads a k 3 xs tail (omega arith) (looser a 1 4 xs (omega arith) x) (ends_assign a t (zs ++ rest) sy) in
+        let right : read expr (zs ++ rest) ≡ Ok (b, rest) = j.full zs rest z (record { operators = e.operators; call = e.call; assign = e.assign }) in
+        rw (c, d, cy, append_assoc xs (t ∷ zs) rest) (read_is expr (xs ++ tail) ∙ rw (left, unary_here a xs x, sy, right, py, p) refl)
 
 mutual
   pub complete : (t : ExprTree) → Completes t
@@ -222,7 +296,9 @@ mutual
   complete (Call at called all) = call_reads at called all (complete_arguments all)
   complete (Negate at a) = negate_reads at a (complete a)
   complete (Binary at o a b) = binary_reads at o a b (complete a) (complete b)
+  complete (Name at called) = name_reads at called
+  complete (Assign at sign a b) = assign_reads at sign a b (complete a) (complete b)
 
   complete_arguments : (all : ExprTrees) → ReadsArguments all
-  complete_arguments no_exprs = λ ts rest h e f. absurd h
+  complete_arguments no_exprs = λ ts rest u h e. absurd h
   complete_arguments (and_expr a others) = arguments_read a others (complete a) (complete_arguments others)

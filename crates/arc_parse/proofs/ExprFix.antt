@@ -9,10 +9,6 @@ use Rattle.arc_parse.proofs.ExprLocal.{read_is}
 pub read_expr : (ts : List Tok) → read expr ts ≡ expr_by read ts
 read_expr ts = read_is expr ts
 
-pub expr_is : (ts : List Tok) → expr_by read ts ≡ binary_by read 2 ts
-unfolding expr_by
-expr_is ts = refl
-
 pub read_unary : (ts : List Tok) → read unary ts ≡ unary_by read ts
 read_unary ts = read_is unary ts
 
@@ -33,3 +29,7 @@ binary_more (suc l) ts p = ap (λ j. (binary_by read j >>= (λ left. read (more 
   where
     less : (l : ℕ) → l ≡ suc l - 1
     less l = omega arith
+
+pub binary_three : (ts : List Tok) → binary_by read 3 ts ≡ (((unary_by read >>= (λ left. read (more 1 left))) >>= (λ left. read (more 2 left))) >>= (λ left. read (more 3 left))) ts
+unfolding binary_by
+binary_three ts = refl

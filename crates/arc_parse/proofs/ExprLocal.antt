@@ -1,9 +1,10 @@
 -- The rules of expressions are local.
-use Rattle.std.proofs.Common.{◌≡◌, ℕ, zero, suc, ◌-◌, List}
+use Rattle.std.proofs.Common.{◌≡◌, ℕ, zero, suc, ◌-◌, List, Bool, true, false, cond}
 use Rattle.arc_lex.specs.Tokens.{Tok}
 use Rattle.arc_ast.specs.Tree.{ExprTree}
-use Rattle.arc_parse.specs.ExprRules.{Rule, Node, Rules, expr, unary, more, arguments, parenthesized_by, given_by, call_by, primary_by, negate_by, unary_by, binary_by, more_by, expr_by, arguments_by, body, read}
-use Rattle.arc_parse.proofs.Local.{Local, in_turn, behind_token, of_fewer, at_least_none, local_ret, local_token, local_if}
+use Rattle.arc_parse.specs.Reader.{ret}
+use Rattle.arc_parse.specs.ExprRules.{Rule, Node, Rules, expr, unary, more, arguments, parenthesized_by, given_by, call_by, named_by, primary_by, negate_by, unary_by, binary_by, more_by, is_unary, assign_by, expr_by, arguments_by, body, read}
+use Rattle.arc_parse.proofs.Local.{Local, then, after, fewer, weaker, local_ret, local_token, local_if}
 use Rattle.arc_parse.proofs.Knot as knot
 
 -- the fewest tokens of each
@@ -17,23 +18,27 @@ Alike k g h = (rule : Rule) → Local (need rule) k (g rule) (h rule)
 module _ {k : ℕ} (g h : Rules) (rec : Alike k g h) where
   parenthesized_local : Local 1 (suc k) (parenthesized_by g) (parenthesized_by h)
   unfolding parenthesized_by
-  parenthesized_local = behind_token (local_token _) (λ at. in_turn (at_least_none (rec expr)) (λ inside. in_turn (at_least_none (local_token _)) (λ end. local_ret _)))
+  parenthesized_local = after (local_token _) (λ at. then (weaker (rec expr)) (λ inside. then (weaker (local_token _)) (λ end. local_ret _)))
 
   given_local : Local 0 k (given_by g) (given_by h)
   unfolding given_by
-  given_local = local_if _ (local_ret _) (at_least_none (rec arguments))
+  given_local = local_if _ (local_ret _) (weaker (rec arguments))
 
-  call_local : Local 1 (suc k) (call_by g) (call_by h)
+  call_local : (called : ℕ × List ℕ) → Local 0 k (call_by g called) (call_by h called)
   unfolding call_by
-  call_local = behind_token (local_token _) (λ called. in_turn (at_least_none (local_token _)) (λ start. in_turn given_local (λ all. in_turn (at_least_none (local_token _)) (λ end. local_ret _))))
+  call_local called = weaker (then (local_token _) (λ start. then given_local (λ all. then (weaker (local_token _)) (λ end. local_ret _))))
+
+  named_local : Local 1 (suc k) (named_by g) (named_by h)
+  unfolding named_by
+  named_local = after (local_token _) (λ called. local_if _ (call_local called) (local_ret _))
 
   primary_local : Local 1 (suc k) (primary_by g) (primary_by h)
   unfolding primary_by
-  primary_local = local_if _ call_local (local_if _ parenthesized_local (local_token _))
+  primary_local = local_if _ named_local (local_if _ parenthesized_local (local_token _))
 
   negate_local : Local 1 (suc k) (negate_by g) (negate_by h)
   unfolding negate_by
-  negate_local = behind_token (local_token _) (λ at. in_turn (at_least_none (rec unary)) (λ operand. local_ret _))
+  negate_local = after (local_token _) (λ at. then (weaker (rec unary)) (λ operand. local_ret _))
 
   unary_local : Local 1 (suc k) (unary_by g) (unary_by h)
   unfolding unary_by
@@ -42,22 +47,30 @@ module _ {k : ℕ} (g h : Rules) (rec : Alike k g h) where
   binary_local : (l : ℕ) → Local 1 (suc k) (binary_by g l) (binary_by h l)
   unfolding binary_by
   binary_local zero = unary_local
-  binary_local (suc l) = behind_token (binary_local l) (λ left. rec (more (suc l) left))
+  binary_local (suc l) = after (binary_local l) (λ left. rec (more (suc l) left))
 
   more_local : (l : ℕ) (left : ExprTree) → Local 0 (suc k) (more_by g l left) (more_by h l left)
   unfolding more_by
   more_local l left = local_if _
-      (at_least_none (behind_token (local_token _) (λ between. in_turn (at_least_none (of_fewer (binary_local (l - 1)))) (λ right. rec (more l _)))))
+      (weaker (after (local_token _) (λ between. then (weaker (fewer (binary_local (l - 1)))) (λ right. rec (more l _)))))
       (local_ret _)
+
+  assign_local : (left : ExprTree) → Local 0 k (assign_by g left) (assign_by h left)
+  unfolding assign_by
+  assign_local left = local_if _ (weaker (then (local_token _) (λ sign. then (weaker (rec expr)) (λ right. local_ret _)))) (local_ret _)
 
   expr_local : Local 1 (suc k) (expr_by g) (expr_by h)
   unfolding expr_by
-  expr_local = binary_local 2
+  expr_local = after (binary_local 3) (λ left. go left (is_unary left))
+    where
+      go : (left : ExprTree) (b : Bool) → Local 0 k (cond b (assign_by g left) (ret left)) (cond b (assign_by h left) (ret left))
+      go left true = assign_local left
+      go left false = local_ret left
 
   arguments_local : Local 1 (suc k) (arguments_by g) (arguments_by h)
   unfolding arguments_by
-  arguments_local = behind_token expr_local (λ one. local_if _
-      (at_least_none (in_turn (local_token _) (λ comma. in_turn (at_least_none (rec arguments)) (λ others. local_ret _))))
+  arguments_local = after expr_local (λ one. local_if _
+      (weaker (then (local_token _) (λ comma. then (weaker (rec arguments)) (λ others. local_ret _))))
       (local_ret _))
 
   body_local : Alike (suc k) (body g) (body h)

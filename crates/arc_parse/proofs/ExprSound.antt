@@ -6,15 +6,15 @@ use Rattle.arc_lex.specs.declared.token.Mark.TheVariants as m
 use Rattle.arc_lex.specs.Tokens.{Tok, Sort, Sign, Key}
 use Rattle.arc_lex.specs.Tokens as tokens
 use Rattle.arc_ast.specs.declared.tree.BinaryOperator.{BinaryOperator}
-use Rattle.arc_ast.specs.declared.tree.BinaryOperator.TheVariants.{Add, Subtract, Multiply, Divide}
-use Rattle.arc_ast.specs.Tree.{ExprTree, ExprTrees, Integer, Text, Paren, Call, Negate, Binary, no_exprs, and_expr, place}
-use Rattle.arc_parse.specs.Language.{Language, ◌⨾◌, The}
+use Rattle.arc_ast.specs.declared.tree.BinaryOperator.TheVariants.{Add, Subtract, Multiply, Divide, NotEqual}
+use Rattle.arc_ast.specs.Tree.{ExprTree, ExprTrees, Integer, Text, Paren, Call, Negate, Binary, Name, Assign, no_exprs, and_expr, place}
+use Rattle.arc_parse.specs.Language.{Language, ◌⨾◌, One, The}
 use Rattle.arc_parse.specs.Grammar.{Spells, SpellsArguments, SpellsMore, mark_of, binds, widest}
-use Rattle.arc_parse.specs.Reader.{Fault}
+use Rattle.arc_parse.specs.Reader.{Fault, ret}
 use Rattle.arc_parse.specs.Knot.{deep, tied}
-use Rattle.arc_parse.specs.ExprRules.{Rule, Node, Rules, expr, unary, more, arguments, literal, literal_of, operator, operator_of, is_operator, is_there, at_level, mark_operator, parenthesized_by, given_by, call_by, primary_by, negate_by, unary_by, binary_by, more_by, expr_by, arguments_by, body, read}
+use Rattle.arc_parse.specs.ExprRules.{Rule, Node, Rules, expr, unary, more, arguments, literal, literal_of, operator, operator_of, is_operator, is_there, at_level, mark_operator, parenthesized_by, given_by, call_by, named_by, primary_by, negate_by, unary_by, binary_by, more_by, is_unary, assign_by, expr_by, arguments_by, body, read}
 use Rattle.arc_parse.proofs.Leaves.{a_token, some_is, viable_expect, viable_name}
-use Rattle.arc_parse.proofs.Sound.{Sound, sound_token, sound_as}
+use Rattle.arc_parse.proofs.Sound.{Sound, Behind, sound_token, sound_as}
 use Rattle.arc_parse.proofs.Viable.{Viable, Front, viable_then, viable_ret, viable_if, viable_as, viable_token, viable_guarded, viable_unexpected}
 
 -- ---- leaves
@@ -51,6 +51,7 @@ mark_is_of l mark o e = of mark (mark_operator mark) refl e
     as_binds p k is q = (ap binds (sym q.1) ∙ q.0, is ∙ ap mark_of q.1)
 
     of : (mark : Mark) (x : Option (ℕ × BinaryOperator)) → mark_operator mark ≡ x → at_level l x ≡ Some o → (binds o ≡ l) × (mark ≡ mark_of o)
+    of m.NotEqual x is e = as_binds NotEqual m.NotEqual refl (level 3 NotEqual (nat_eq 3 l) refl (ap (at_level l) is ∙ e))
     of m.Plus x is e = as_binds Add m.Plus refl (level 2 Add (nat_eq 2 l) refl (ap (at_level l) is ∙ e))
     of m.Minus x is e = as_binds Subtract m.Minus refl (level 2 Subtract (nat_eq 2 l) refl (ap (at_level l) is ∙ e))
     of m.Star x is e = as_binds Multiply m.Star refl (level 1 Multiply (nat_eq 1 l) refl (ap (at_level l) is ∙ e))
@@ -89,6 +90,19 @@ looser (Paren at a) l j xs p h = h
 looser (Call at called args) l j xs p h = h
 looser (Negate at a) l j xs p h = (omega (arith, h.0), h.1)
 looser (Binary at o a b) l j xs p h = (omega (arith, h.0), h.1, h.2)
+looser (Name at called) l j xs p h = h
+looser (Assign at sign a b) l j xs p h = (omega (arith, h.0), h.1, h.2)
+
+-- a unary tree is of the unary level
+unary_level : (t : ExprTree) (l : ℕ) (xs : List Tok) → is_unary t ≡ true → Spells l t xs → Spells 1 t xs
+unary_level (Integer at value) l xs e h = h
+unary_level (Text at bytes) l xs e h = h
+unary_level (Paren at a) l xs e h = h
+unary_level (Call at called args) l xs e h = h
+unary_level (Negate at a) l xs e h = (omega arith, h.1)
+unary_level (Binary at o a b) l xs e h = cc
+unary_level (Name at called) l xs e h = h
+unary_level (Assign at sign a b) l xs e h = cc
 
 -- ---- the rules
 
@@ -125,14 +139,18 @@ module _ (g : Rules) (rec : AreViable g) where
       filled no_exprs ys h = absurd h
       filled (and_expr a others) ys h = h
 
-  call_viable : Viable (call_by g) (Spells 0)
+  call_viable : (called : ℕ × List ℕ) → Viable (call_by g called) (Behind (One (tokens.Name called.1) called.0) (Spells 0))
   unfolding call_by
-  call_viable = viable_then viable_name (λ called. viable_then (viable_expect _) (λ start. viable_then given_viable (λ all. viable_then (viable_expect _) (λ end. viable_ret (Call called.0 called.1 all)
-      (λ zs z ys y xs x ns n. (ns, xs ++ (ys ++ (zs ++ [])), refl, n, (xs, ys ++ (zs ++ []), refl, (start, x), (ys, zs ++ [], refl, y, last (The m.CloseParen) zs (end, z)))))))))
+  call_viable called = viable_then (viable_expect _) (λ start. viable_then given_viable (λ all. viable_then (viable_expect _) (λ end. viable_ret (Call called.0 called.1 all)
+      (λ zs z ys y xs x ns n. (ns, xs ++ (ys ++ (zs ++ [])), refl, n, (xs, ys ++ (zs ++ []), refl, (start, x), (ys, zs ++ [], refl, y, last (The m.CloseParen) zs (end, z))))))))
+
+  named_viable : Viable (named_by g) (Spells 0)
+  unfolding named_by
+  named_viable = viable_then viable_name (λ called. viable_if _ (call_viable called) (viable_ret (Name called.0 called.1) (λ ns n. last (Spells 0 (Name called.0 called.1)) ns n)))
 
   primary_viable : Viable (primary_by g) (Spells 0)
   unfolding primary_by
-  primary_viable = viable_if _ call_viable (viable_if _ parenthesized_viable viable_literal)
+  primary_viable = viable_if _ named_viable (viable_if _ parenthesized_viable viable_literal)
 
   negate_viable : Viable (negate_by g) (Spells 1)
   unfolding negate_by
@@ -166,9 +184,20 @@ module _ (g : Rules) (rec : AreViable g) where
           let here : 1 + l ≡ 1 + binds o = omega arith in
           (omega arith, refl, (ls, xs ++ ys, refl, subst (λ j. Spells j left ls) here h, (xs, ys, refl, x.1, subst (λ j. Spells j right ys) lower y)))
 
+  assign_viable : (left : ExprTree) → is_unary left ≡ true → Viable (assign_by g left) (Behind (Spells 4 left) (Spells widest))
+  unfolding assign_by
+  assign_viable left u = viable_if _
+      (viable_then (viable_expect _) (λ sign. viable_then (rec expr) (λ right. viable_ret (Assign (place left) sign left right)
+      (λ ys y xs x ls l. (omega arith, refl, (ls, xs ++ (ys ++ []), refl, unary_level left 4 ls u l, (xs, ys ++ [], refl, x, last (Spells widest right) ys y)))))))
+      (viable_ret left (λ ls l. last (Spells widest left) ls (looser left 4 widest ls (omega arith) l)))
+
   expr_viable : Viable (expr_by g) (Spells widest)
   unfolding expr_by
-  expr_viable = binary_viable 2
+  expr_viable = viable_then (binary_viable 3) (λ left. go left (is_unary left) refl)
+    where
+      go : (left : ExprTree) (b : Bool) → is_unary left ≡ b → Viable (cond b (assign_by g left) (ret left)) (Behind (Spells 4 left) (Spells widest))
+      go left true u = assign_viable left u
+      go left false u = viable_ret left (λ ls l. last (Spells widest left) ls (looser left 4 widest ls (omega arith) l))
 
   arguments_viable : Viable (arguments_by g) Filled
   unfolding arguments_by

@@ -9,7 +9,7 @@ use Rattle.arc_parse.specs.Limits.{these, goes_over, cut, up_to, plain, plainly}
 use Rattle.arc_parse.specs.ExprRules.{expr}
 use Rattle.arc_parse.specs.ExprRules as exprs
 use Rattle.arc_parse.specs.UnitRules.{full}
-use Rattle.arc_parse.proofs.Local.{rest_of, leaving, stops_short, local_plain}
+use Rattle.arc_parse.proofs.Local.{rest_of, put, stops_short, local_plain}
 use Rattle.arc_parse.proofs.Limited.{AlwaysLocal, alike, over_alike}
 use Rattle.arc_parse.proofs.ExprLocal as exprs_local
 
@@ -32,7 +32,7 @@ take_twice zero ts = refl
 take_twice (suc n) [] = refl
 take_twice (suc n) (t ∷ ts) = ap (λ v. t ∷ v) (take_twice n ts)
 
-pub drop_front : (b r : List Tok) → drop (length b) (b ++ r) ≡ r
+drop_front : (b r : List Tok) → drop (length b) (b ++ r) ≡ r
 drop_front [] r = refl
 drop_front (t ∷ b) r = drop_front b r
 
@@ -44,13 +44,13 @@ module _ (n : ℕ) (f : Reader ExprTree) (loc : AlwaysLocal f) where
   unfolding limited
   over_front ts us e o = rw (over_alike n f us ts loc (sym (ap (take (suc n)) e ∙ take_twice (suc n) ts)) o) refl
 
-  fits_front : (ts us : List Tok) → us ≡ take (suc n) ts → goes_over n us (f us) ≡ false → limited ts ≡ leaving (f us) (drop (length us - length (rest_of (f us))) ts)
+  fits_front : (ts us : List Tok) → us ≡ take (suc n) ts → goes_over n us (f us) ≡ false → limited ts ≡ put (f us) (drop (length us - length (rest_of (f us))) ts)
   unfolding limited
   fits_front ts us e o =
       let a = alike n f us ts loc (sym (ap (take (suc n)) e ∙ take_twice (suc n) ts)) o in
       let many : length us - length (rest_of (f us)) ≡ length a.before = omega (arith, ap length a.here, length-append a.before (rest_of (f us))) in
       let rest : drop (length us - length (rest_of (f us))) ts ≡ a.rest = ap (λ k. drop k ts) many ∙ ap (drop (length a.before)) a.cut ∙ drop_front a.before a.rest in
-      rw (a.within) (a.same ∙ ap (leaving (f us)) (sym rest))
+      rw (a.within) (a.same ∙ ap (put (f us)) (sym rest))
 
 abbrev pub whole : Reader ExprTree
 whole = exprs.read expr
@@ -80,7 +80,7 @@ module _ (ts us : List Tok) (front : us ≡ take 1001 ts) where
   fits_ok t r e p =
       let is = plain_is us _ e in
       full_is ts ∙ fits_front 1000 plain_whole whole_local ts us front (ap (goes_over 1000 us) is ∙ le-ltb (length r + 1000) (length us) (omega (arith, p)))
-      ∙ ap (λ x. leaving x (drop (length us - length (rest_of x)) ts)) is
+      ∙ ap (λ x. put x (drop (length us - length (rest_of x)) ts)) is
 
   pub over_err : (y : Fault) (r : List Tok) → whole us ≡ Err (y, r) → 1000 < length us → 1000 ≤ length us - length r → full these ts ≡ Err (too_deep, drop 1000 ts)
   over_err y r e q p = full_is ts ∙ over_front 1000 plain_whole whole_local ts us front (ap (goes_over 1000 us) (plain_is us _ e)
@@ -88,7 +88,7 @@ module _ (ts us : List Tok) (front : us ≡ take 1001 ts) where
 
   fits : (y : Fault) (r : List Tok) → whole us ≡ Err (y, r) → goes_over 1000 us (plainly (whole us)) ≡ false → full these ts ≡ Err (misfit, drop (length us - length r) ts)
   unfolding plain
-  fits y r e o = full_is ts ∙ fits_front 1000 plain_whole whole_local ts us front o ∙ ap (λ x. leaving x (drop (length us - length (rest_of x)) ts)) (plain_is us _ e)
+  fits y r e o = full_is ts ∙ fits_front 1000 plain_whole whole_local ts us front o ∙ ap (λ x. put x (drop (length us - length (rest_of x)) ts)) (plain_is us _ e)
 
   pub fits_short : (y : Fault) (r : List Tok) → whole us ≡ Err (y, r) → length us ≤ 1000 → full these ts ≡ Err (misfit, drop (length us - length r) ts)
   fits_short y r e p = fits y r e (ap (λ x. goes_over 1000 us (plainly x)) e ∙ ap (λ b. b && nat_lt (length r + 1000) (suc (length us))) (le-ltb 1000 (length us) p))

@@ -1,21 +1,22 @@
 -- A full-expression is refused as too deep only where it has too many tokens.
-use Rattle.std.proofs.Common.{◌≡◌, ◌<◌, ◌≤◌, ◌+◌, ℕ, zero, suc, List, [], ◌∷◌, ◌++◌, length, length-append, append_assoc, append-nil, take, drop, ◌&&◌, nat_lt, Ok, Err, Bool, true, false, Some, None, refl, sym, ap, subst, ◌∙◌, arith}
+use Rattle.std.proofs.Common.{◌≡◌, ◌<◌, ◌≤◌, ◌+◌, ℕ, zero, suc, List, [], ◌∷◌, ◌++◌, length, length-append, append_assoc, append-nil, take, drop, ◌&&◌, ◌||◌, nat_lt, Ok, Err, Bool, true, false, Some, None, refl, sym, ap, subst, ◌∙◌, arith}
 use Rattle.std.proofs.lemmas.Bool.{ltb-true}
 use Rattle.arc_lex.specs.declared.token.Mark.{Mark}
 use Rattle.arc_lex.specs.declared.token.Mark.TheVariants as m
 use Rattle.arc_lex.specs.Tokens.{Tok, Sort, Name, Integer, Text, Key, At, Sign}
 use Rattle.arc_ast.specs.Tree.{ExprTree}
-use Rattle.arc_parse.specs.Reader.{Read, too_deep, begins}
+use Rattle.arc_parse.specs.Reader.{Read, too_deep, begins, is_mark}
 use Rattle.arc_parse.specs.Limits.{Limits, plainly, goes_over}
 use Rattle.arc_parse.specs.Grammar.{widest, Spells}
 use Rattle.arc_parse.specs.ExprRules.{expr, is_operator, mark_operator}
 use Rattle.arc_parse.specs.UnitRules.{full}
-use Rattle.arc_parse.specs.TooDeep.{is_binary, goes_on, BeginsFull, AllLonger, Starts, TooDeep, expression}
+use Rattle.arc_parse.specs.TooDeep.{is_binary, ends_with_name, ends_with_place, goes_on, BeginsFull, AllLonger, Starts, TooDeep, expression}
 use Rattle.arc_parse.proofs.Local.{fault_of}
 use Rattle.arc_parse.proofs.Front.{whole, plain_whole, whole_local, plain_is}
 use Rattle.arc_parse.proofs.Limited.{over_alike, take_again, up_to_tells}
 use Rattle.arc_parse.proofs.ExprSound as exprs
 use Rattle.arc_parse.proofs.ExprComplete.{complete, Ends, ends_nil}
+use Rattle.arc_parse.proofs.UnitBegin.{neither}
 use Rattle.arc_parse.proofs.Tells.{Tells, differ}
 
 some_rest : (n : ℕ) (ts : List Tok) → n < length ts → (t : Tok) × (rest : List Tok) × (drop n ts ≡ t ∷ rest)
@@ -35,29 +36,46 @@ cut_here (suc n) (t ∷ ts) = ap (λ v. t ∷ v) (cut_here n ts)
 
 -- what does not go on with an expression ends it
 no_operator : (mark : Mark) → is_binary (Sign mark) ≡ false → mark_operator mark ≡ None
+no_operator m.NotEqual e = cc
 no_operator m.Plus e = cc
 no_operator m.Minus e = cc
 no_operator m.Star e = cc
 no_operator m.Slash e = cc
 no_operator _ e = refl
 
-ends_expr : (others : List Tok) → begins goes_on others ≡ false → Ends widest others
-ends_expr [] e = ends_nil widest
-ends_expr (t ∷ us) e = record { operators = λ j p q. go t.sort refl j }
+not_both : (a b : Bool) → (a && b) ≡ false → b ≡ true → a ≡ false
+not_both true b h e = sym e ∙ h
+not_both false b h e = refl
+
+no_binary : (t : Tok) → is_binary t.sort ≡ false → (j : ℕ) → is_operator j t ≡ false
+no_binary t e j = go t.sort refl
   where
-    go : (s : Sort) → t.sort ≡ s → (j : ℕ) → is_operator j t ≡ false
-    go (Name b) q j = rw q refl
-    go (Integer v) q j = rw q refl
-    go (Text b) q j = rw q refl
-    go (Key k) q j = rw q refl
-    go (At k) q j = rw q refl
-    go (Sign mark) q j = rw (q, no_operator mark (sym (ap is_binary q) ∙ e)) refl
+    go : (s : Sort) → t.sort ≡ s → is_operator j t ≡ false
+    go (Name b) q = rw q refl
+    go (Integer v) q = rw q refl
+    go (Text b) q = rw q refl
+    go (Key k) q = rw q refl
+    go (At k) q = rw q refl
+    go (Sign mark) q = rw (q, no_operator mark (sym (ap is_binary q) ∙ e)) refl
+
+ends_expr : (e : ExprTree) (others : List Tok) → begins (goes_on e) others ≡ false → Ends e widest others
+ends_expr e [] h = ends_nil e widest
+ends_expr e (t ∷ us) h =
+    let binary = is_binary t.sort in
+    let paren = is_mark m.OpenParen t.sort && ends_with_name e in
+    let p = neither (binary || paren) (is_mark m.Assign t.sort && ends_with_place e) h in
+    let q = neither binary paren p.0 in
+    record {
+      operators = λ j x y. no_binary t q.0 j;
+      call = not_both (is_mark m.OpenParen t.sort) (ends_with_name e) q.1;
+      assign = λ x. not_both (is_mark m.Assign t.sort) (ends_with_place e) p.1;
+    }
 
 all_longer : (n : ℕ) (ts : List Tok) → n < length ts → goes_over n ts (plain_whole ts) ≡ true → AllLonger n (take n ts) (drop n ts)
 all_longer n ts p over e ys others us spells ends eq same =
     let alike : take (suc n) (ys ++ others) ≡ take (suc n) ts = ap (take (suc n)) eq ∙ (take_again n ts us p same).0 in
     let too : goes_over n (ys ++ others) (plain_whole (ys ++ others)) ≡ true = over_alike n plain_whole ts (ys ++ others) whole_local alike over in
-    let reads : plain_whole (ys ++ others) ≡ Ok (e, others) = plain_is (ys ++ others) _ ((complete e).full ys others spells (ends_expr others ends)) in
+    let reads : plain_whole (ys ++ others) ≡ Ok (e, others) = plain_is (ys ++ others) _ ((complete e).full ys others spells (ends_expr e others ends)) in
     let long = ltb-true (length others + n) (length (ys ++ others)) (ap (goes_over n (ys ++ others)) (sym reads) ∙ too) in
     omega (arith, length-append ys others, long)
 

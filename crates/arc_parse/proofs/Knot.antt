@@ -3,7 +3,7 @@ use Rattle.std.proofs.Common.{◌≡◌, ℕ, zero, suc, ◌<◌, ◌≤◌, ◌
 use Rattle.arc_lex.specs.Tokens.{Tok}
 use Rattle.arc_parse.specs.Reader.{Reader}
 use Rattle.arc_parse.specs.Knot.{deep, tied}
-use Rattle.arc_parse.proofs.Local.{StopsAlike, Local, read_alike, stops_same}
+use Rattle.arc_parse.proofs.Local.{StopsAt, Local, agree, same_before}
 
 module _ (Rule : Type 0) (Node : Rule → Type 0) (body : ((rule : Rule) → Reader (Node rule)) → (rule : Rule) → Reader (Node rule)) (need : Rule → ℕ) where
   abbrev pub Alike : ℕ → ((rule : Rule) → Reader (Node rule)) → ((rule : Rule) → Reader (Node rule)) → Type 0
@@ -23,23 +23,23 @@ module _ (Rule : Type 0) (Node : Rule → Type 0) (body : ((rule : Rule) → Rea
 
     -- any depth is as good as another, if it is more than the tokens
     deep_same : (n m : ℕ) (rule : Rule) (ts : List Tok) → length ts < n → length ts < m → deep body n rule ts ≡ deep body m rule ts
-    deep_same n m rule ts p q = read_alike ((deep_local (suc (length ts)) m n (omega arith) (omega arith) rule).each ts (omega arith))
+    deep_same n m rule ts p q = agree ((deep_local (suc (length ts)) m n (omega arith) (omega arith) rule).each ts (omega arith))
 
-    deep_tied : (n : ℕ) (rule : Rule) (ts : List Tok) → length ts < n → StopsAlike (need rule) (deep body n rule ts) (tied body rule) ts
+    deep_tied : (n : ℕ) (rule : Rule) (ts : List Tok) → length ts < n → StopsAt (need rule) (deep body n rule ts) (tied body rule) ts
     unfolding tied
     deep_tied n rule ts p = record {
       before = s.before;
       cut = s.cut;
-      took = s.took;
+      moves = s.moves;
       same = λ us e.
           deep_same (suc (length (s.before ++ us))) (n + suc (length (s.before ++ us))) rule (s.before ++ us) (omega arith) (omega arith)
-          ∙ stops_same s (at (n + suc (length (s.before ++ us))) (omega arith)) us e;
+          ∙ same_before s (at (n + suc (length (s.before ++ us))) (omega arith)) us e;
     }
       where
-        at : (m : ℕ) → n ≤ m → StopsAlike (need rule) (deep body n rule ts) (deep body m rule) ts
+        at : (m : ℕ) → n ≤ m → StopsAt (need rule) (deep body n rule ts) (deep body m rule) ts
         at m q = (deep_local (suc (length ts)) n m (omega arith) (omega arith) rule).each ts (omega arith)
 
-        s : StopsAlike (need rule) (deep body n rule ts) (deep body n rule) ts
+        s : StopsAt (need rule) (deep body n rule ts) (deep body n rule) ts
         s = at n (omega arith)
 
     -- a rule is local
@@ -50,4 +50,4 @@ module _ (Rule : Type 0) (Node : Rule → Type 0) (body : ((rule : Rule) → Rea
     -- a rule is its body, over the rules
     pub tied_is : (rule : Rule) (ts : List Tok) → tied body rule ts ≡ body (tied body) rule ts
     unfolding tied deep
-    tied_is rule ts = sym (read_alike ((law.step (length ts) (deep body (length ts)) (tied body) (λ r. record { each = λ vs short. deep_tied (length ts) r vs short }) rule).each ts (omega arith)))
+    tied_is rule ts = sym (agree ((law.step (length ts) (deep body (length ts)) (tied body) (λ r. record { each = λ vs short. deep_tied (length ts) r vs short }) rule).each ts (omega arith)))

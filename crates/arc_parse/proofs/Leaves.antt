@@ -5,8 +5,8 @@ use Rattle.arc_lex.specs.declared.token.Word.{Word}
 use Rattle.arc_lex.specs.Tokens.{Tok, Sort, Sign, Key}
 use Rattle.arc_lex.specs.Tokens as tokens
 use Rattle.arc_parse.specs.Language.{One}
-use Rattle.arc_parse.specs.Reader.{token, place_if, expect, keyword, name, name_of, the_name, is_mark, is_word, is_named}
-use Rattle.arc_parse.proofs.Sorts.{sign_is, key_is, named_is}
+use Rattle.arc_parse.specs.Reader.{token, place_if, expect, keyword, name, name_of, is_mark, is_word}
+use Rattle.arc_parse.proofs.Sorts.{sign_is, key_is}
 use Rattle.arc_parse.proofs.Sound.{Sound, sound_token, sound_as}
 use Rattle.arc_parse.proofs.Viable.{Viable, viable_token}
 
@@ -31,9 +31,6 @@ sound_expect mark = sound_place (is_mark mark) (Sign mark) (λ s e. sign_is mark
 pub sound_keyword : (word : Word) → Sound (keyword word) (One (Key word))
 sound_keyword word = sound_place (is_word word) (Key word) (λ s e. key_is word s e)
 
-pub sound_the_name : (called : List ℕ) → Sound (the_name called) (One (tokens.Name called))
-sound_the_name called = sound_place (is_named called) (tokens.Name called) (λ s e. named_is called s e)
-
 pub sound_name : Sound name (λ n. One (tokens.Name n.1) n.0)
 sound_name = sound_as (sound_token (λ t. name_of t.from t.sort)) (λ n xs h. let p = go n h.0 h.0.sort refl h.2 in (h.0, h.1, p.0, p.1))
   where
@@ -52,9 +49,3 @@ viable_expect mark = viable_token (place_if (is_mark mark)) (sound_expect mark) 
 
 pub viable_name : Viable name (λ n. One (tokens.Name n.1) n.0)
 viable_name = viable_token (λ t. name_of t.from t.sort) sound_name (0, []) (a_token (tokens.Name []) ∷ []) (a_token (tokens.Name []), refl, refl, refl)
-
-pub viable_keyword : (word : Word) → Viable (keyword word) (One (Key word))
-viable_keyword word = viable_token (place_if (is_word word)) (sound_keyword word) 0 (a_token (Key word) ∷ []) (a_token (Key word), refl, refl, refl)
-
-pub viable_the_name : (called : List ℕ) → Viable (the_name called) (One (tokens.Name called))
-viable_the_name called = viable_token (place_if (is_named called)) (sound_the_name called) 0 (a_token (tokens.Name called) ∷ []) (a_token (tokens.Name called), refl, refl, refl)

@@ -13,8 +13,6 @@ pub mod ExprSound
 pub mod ExprComplete
 pub mod Front
 pub mod UnitLocal
-pub mod HeadFirst
-pub mod UnitFirst
 pub mod UnitSound
 pub mod UnitBegin
 pub mod UnitBelow
@@ -25,5 +23,4 @@ pub mod UnitTell
 pub mod Unit
 pub mod UnitFix
 pub mod UnitRows
-pub mod ExprEnds
-pub mod UnitDeep
+pub mod CommaRows

@@ -5,7 +5,7 @@ use Rattle.arc_lex.specs.Tokens.{Tok}
 use Rattle.arc_parse.specs.Language.{Language}
 use Rattle.arc_parse.specs.Reader.{Read, Reader, first, too_deep}
 use Rattle.arc_parse.specs.Limits.{AtMost, goes_over, cut, up_to}
-use Rattle.arc_parse.proofs.Local.{StopsAlike, Local, rest_of, leaving}
+use Rattle.arc_parse.proofs.Local.{StopsAt, Local, rest_of, put}
 use Rattle.arc_parse.proofs.Sound.{Sound, sound_as}
 
 -- lists that begin alike
@@ -34,7 +34,7 @@ is_not_longer : (a n l : ℕ) → nat_lt (a + n) l ≡ false → l ≤ a + n
 is_not_longer a n l e = ltb-false (a + n) l e
 
 -- what stops within the limit stops before the limit or at it
-stops_within : {A : Type 0} (n : ℕ) (x : Read A) (h : Reader A) (us : List Tok) (s : StopsAlike 1 x h us) → goes_over n us x ≡ false → length s.before ≤ n
+stops_within : {A : Type 0} (n : ℕ) (x : Read A) (h : Reader A) (us : List Tok) (s : StopsAt 1 x h us) → goes_over n us x ≡ false → length s.before ≤ n
 stops_within n (Ok x) h us s o =
     let far = is_not_longer (length x.1) n (length us) o in
     omega (arith, length-append s.before x.1, ap length s.cut, far)
@@ -48,18 +48,18 @@ stops_within n (Err e) h us s o = go (nat_lt n (length us)) refl o
         let few = ltb-false n (length us) p in
         omega (arith, length-append s.before e.1, ap length s.cut, few)
 
-no_first_token : (a b : List Tok) → first a ≡ first b → length b ≡ 0 → length a ≡ 0
-no_first_token [] b e z = refl
-no_first_token (t ∷ a) [] e z = cc
-no_first_token (t ∷ a) (u ∷ b) e z = absurd (omega arith)
+no_first : (a b : List Tok) → first a ≡ first b → length b ≡ 0 → length a ≡ 0
+no_first [] b e z = refl
+no_first (t ∷ a) [] e z = cc
+no_first (t ∷ a) (u ∷ b) e z = absurd (omega arith)
 
 -- nor does it with other tokens behind
-still_within : {A : Type 0} (n : ℕ) (x : Read A) (h : Reader A) (us r : List Tok) (s : StopsAlike 1 x h us) → goes_over n us x ≡ false → first r ≡ first (rest_of x)
-    → goes_over n (s.before ++ r) (leaving x r) ≡ false
-still_within n (Ok x) h us r s o f =
+within_too : {A : Type 0} (n : ℕ) (x : Read A) (h : Reader A) (us r : List Tok) (s : StopsAt 1 x h us) → goes_over n us x ≡ false → first r ≡ first (rest_of x)
+    → goes_over n (s.before ++ r) (put x r) ≡ false
+within_too n (Ok x) h us r s o f =
     let few = stops_within n (Ok x) h us s o in
     not_longer (length r) n (length (s.before ++ r)) (omega (arith, length-append s.before r, few))
-still_within n (Err e) h us r s o f = go (nat_lt n (length us)) refl o
+within_too n (Err e) h us r s o f = go (nat_lt n (length us)) refl o
   where
     all : List Tok
     all = s.before ++ r
@@ -80,7 +80,7 @@ still_within n (Err e) h us r s o f = go (nat_lt n (length us)) refl o
         at (length e.1) refl
       where
         at : (k : ℕ) → length e.1 ≡ k → (nat_lt n (length all) && nat_lt (length r + n) (suc (length all))) ≡ false
-        at zero z = few (omega (arith, length-append s.before e.1, ap length s.cut, length-append s.before r, ltb-false n (length us) p, no_first_token r e.1 f z))
+        at zero z = few (omega (arith, length-append s.before e.1, ap length s.cut, length-append s.before r, ltb-false n (length us) p, no_first r e.1 f z))
         at (suc k) z = end (nat_lt n (length all)) (not_longer (length r) n (suc (length all)) (omega (arith, length-append s.before e.1, ap length s.cut, length-append s.before r, ltb-false n (length us) p)))
 
 abbrev pub AlwaysLocal : {A : Type 0} → Reader A → Type 0
@@ -92,7 +92,7 @@ pub record Alike {A : Type 0} (n : ℕ) (f : Reader A) (us ts : List Tok) : Type
   pub rest : List Tok
   pub cut : ts ≡ before ++ rest
   pub here : us ≡ before ++ rest_of (f us)
-  pub same : f ts ≡ leaving (f us) rest
+  pub same : f ts ≡ put (f us) rest
   pub within : goes_over n ts (f ts) ≡ false
 
 pub alike : {A : Type 0} (n : ℕ) (f : Reader A) (us ts : List Tok) → AlwaysLocal f → take (suc n) ts ≡ take (suc n) us → goes_over n us (f us) ≡ false → Alike n f us ts
@@ -100,15 +100,15 @@ alike n f us ts loc e o =
     let s = (loc (suc (length us))).each us (omega arith) in
     let few = stops_within n (f us) f us s o in
     let r = split_alike (suc n) s.before (rest_of (f us)) ts (e ∙ ap (take (suc n)) s.cut) (omega arith) in
-    let same : f (s.before ++ r.0) ≡ leaving (f us) r.0 = s.same r.0 (r.2 (omega arith)) in
-    let is : f ts ≡ leaving (f us) r.0 = ap f r.1 ∙ same in
+    let same : f (s.before ++ r.0) ≡ put (f us) r.0 = s.same r.0 (r.2 (omega arith)) in
+    let is : f ts ≡ put (f us) r.0 = ap f r.1 ∙ same in
     record {
       before = s.before;
       rest = r.0;
       cut = r.1;
       here = s.cut;
       same = is;
-      within = subst (λ x. goes_over n ts x ≡ false) (sym is) (subst (λ v. goes_over n v (leaving (f us) r.0) ≡ false) (sym r.1) (still_within n (f us) f us r.0 s o (r.2 (omega arith))));
+      within = subst (λ x. goes_over n ts x ≡ false) (sym is) (subst (λ v. goes_over n v (put (f us) r.0) ≡ false) (sym r.1) (within_too n (f us) f us r.0 s o (r.2 (omega arith))));
     }
 
 -- so lists that are alike so far go over the limit both, or none
@@ -145,17 +145,17 @@ take_again (suc n) (t ∷ ts) more p e = let q = take_again n ts more (omega ari
 -- a reader with a limit is local
 pub up_to_local : {A : Type 0} {k : ℕ} {f : Reader A} (most : Option ℕ) → AlwaysLocal f → Local 1 k (up_to most f) (up_to most f)
 unfolding up_to
-up_to_local {A = A} {k = k} {f = f} None loc = record { each = λ ts short. let s = (loc k).each ts short in record { before = s.before; cut = s.cut; took = s.took; same = s.same } }
+up_to_local {A = A} {k = k} {f = f} None loc = record { each = λ ts short. let s = (loc k).each ts short in record { before = s.before; cut = s.cut; moves = s.moves; same = s.same } }
 up_to_local {A = A} {k = k} {f = f} (Some n) loc = record { each = λ ts short. go ts short (goes_over n ts (f ts)) refl }
   where
     limited : Reader A
     limited ts = cut (Some n) ts (f ts)
 
-    go : (ts : List Tok) → length ts < k → (b : Bool) → goes_over n ts (f ts) ≡ b → StopsAlike 1 (cond b (Err (too_deep, drop n ts)) (f ts)) limited ts
+    go : (ts : List Tok) → length ts < k → (b : Bool) → goes_over n ts (f ts) ≡ b → StopsAt 1 (cond b (Err (too_deep, drop n ts)) (f ts)) limited ts
     go ts short true o = record {
       before = take n ts;
       cut = take_cut n ts;
-      took = tt;
+      moves = tt;
       same = λ more e.
           let p = take_again n ts more (over_more n ts (f ts) o) e in
           let over = over_alike n f ts (take n ts ++ more) loc p.0 o in
@@ -166,10 +166,10 @@ up_to_local {A = A} {k = k} {f = f} (Some n) loc = record { each = λ ts short. 
         record {
           before = s.before;
           cut = s.cut;
-          took = s.took;
+          moves = s.moves;
           same = λ more e.
               let is = s.same more e in
-              let within = subst (λ x. goes_over n (s.before ++ more) x ≡ false) (sym is) (still_within n (f ts) f ts more s o e) in
+              let within = subst (λ x. goes_over n (s.before ++ more) x ≡ false) (sym is) (within_too n (f ts) f ts more s o e) in
               rw (within) is;
         }
 

@@ -5,92 +5,88 @@ use Rattle.arc_lex.specs.Tokens.{Tok}
 use Rattle.arc_parse.specs.Limits.{plainly, plain}
 use Rattle.arc_parse.specs.Reader.{Read, Reader, Fault, misfit, bind, ◌>>=◌, ret, unexpected, too_deep_here, first, begins, if_first, token, taken}
 
--- the tokens that reading left
 abbrev pub rest_of : {A : Type 0} → Read A → List Tok
 rest_of (Ok x) = x.1
 rest_of (Err e) = e.1
 
--- why reading failed
 abbrev pub fault_of : {A : Type 0} → Read A → Fault
 fault_of (Ok x) = misfit
 fault_of (Err e) = e.0
 
--- the same outcome, where other tokens are left
-abbrev pub leaving : {A : Type 0} → Read A → List Tok → Read A
-leaving (Ok x) r = Ok (x.0, r)
-leaving (Err e) r = Err (e.0, r)
+abbrev pub put : {A : Type 0} → Read A → List Tok → Read A
+put (Ok x) r = Ok (x.0, r)
+put (Err e) r = Err (e.0, r)
 
--- a value comes of so many tokens at least
-abbrev pub Takes : {A : Type 0} → ℕ → Read A → List Tok → Type 0
-Takes d (Ok x) before = d ≤ length before
-Takes d (Err r) before = Unit {0}
+abbrev pub Moves : {A : Type 0} → ℕ → Read A → List Tok → Type 0
+Moves d (Ok x) before = d ≤ length before
+Moves d (Err r) before = Unit {0}
 
 -- x is what is read of ts, and h reads the same wherever the tokens are the same up to where x stops
-pub record StopsAlike {A : Type 0} (d : ℕ) (x : Read A) (h : Reader A) (ts : List Tok) : Type 0 where
+pub record StopsAt {A : Type 0} (d : ℕ) (x : Read A) (h : Reader A) (ts : List Tok) : Type 0 where
   pub before : List Tok
   pub cut : ts ≡ before ++ rest_of x
-  pub took : Takes d x before
-  pub same : (more : List Tok) → first more ≡ first (rest_of x) → h (before ++ more) ≡ leaving x more
+  pub moves : Moves d x before
+  pub same : (more : List Tok) → first more ≡ first (rest_of x) → h (before ++ more) ≡ put x more
 
 -- f and h read alike, of fewer than k tokens, and at least d of them
 pub record Local {A : Type 0} (d k : ℕ) (f h : Reader A) : Type 0 where
-  pub each : (ts : List Tok) → length ts < k → StopsAlike d (f ts) h ts
+  pub each : (ts : List Tok) → length ts < k → StopsAt d (f ts) h ts
 
-leaving_rest : {A : Type 0} (x : Read A) → leaving x (rest_of x) ≡ x
-leaving_rest (Ok x) = refl
-leaving_rest (Err r) = refl
+put_rest : {A : Type 0} (x : Read A) → put x (rest_of x) ≡ x
+put_rest (Ok x) = refl
+put_rest (Err r) = refl
 
 -- the readers give the same
-pub read_alike : {A : Type 0} {d : ℕ} {x : Read A} {h : Reader A} {ts : List Tok} → StopsAlike d x h ts → h ts ≡ x
-read_alike {x = x} {h = h} s = ap h s.cut ∙ s.same (rest_of x) refl ∙ leaving_rest x
+pub agree : {A : Type 0} {d : ℕ} {x : Read A} {h : Reader A} {ts : List Tok} → StopsAt d x h ts → h ts ≡ x
+agree {x = x} {h = h} s = ap h s.cut ∙ s.same (rest_of x) refl ∙ put_rest x
 
 pub first_behind : (b m r : List Tok) → first m ≡ first r → first (b ++ m) ≡ first (b ++ r)
 first_behind [] m r e = e
 first_behind (t ∷ b) m r e = refl
 
-took_more : {B : Type 0} (d : ℕ) (y : Read B) (b c : List Tok) → d ≤ length b → Takes d y (b ++ c)
-took_more d (Ok y) b c m = omega (arith, length-append b c)
-took_more d (Err y) b c m = tt
+moves_more : {B : Type 0} (d : ℕ) (y : Read B) (b c : List Tok) → d ≤ length b → Moves d y (b ++ c)
+moves_more d (Ok y) b c m = omega (arith, length-append b c)
+moves_more d (Err y) b c m = tt
 
-pub stops_bind : {A B : Type 0} {d : ℕ} {ts : List Tok} (x : Read A) (h : Reader A) (g h' : A → Reader B) → StopsAlike d x h ts
-    → ((a : A) (r : List Tok) → d + length r ≤ length ts → StopsAlike 0 (g a r) (h' a) r) → StopsAlike d (bind x g) (h >>= h') ts
+pub stops_bind : {A B : Type 0} {d : ℕ} {ts : List Tok} (x : Read A) (h : Reader A) (g h' : A → Reader B) → StopsAt d x h ts
+    → ((a : A) (r : List Tok) → d + length r ≤ length ts → StopsAt 0 (g a r) (h' a) r) → StopsAt d (bind x g) (h >>= h') ts
 stops_bind {d = d} {ts = ts} (Ok x) h g h' s k =
     let y = g x.0 x.1 in
-    let of_fewer : d + length x.1 ≤ length ts = omega (arith, length-append s.before x.1, ap length s.cut, s.took) in
-    let t : StopsAlike 0 (g x.0 x.1) (h' x.0) x.1 = k x.0 x.1 of_fewer in
+    let fewer : d + length x.1 ≤ length ts = omega (arith, length-append s.before x.1, ap length s.cut, s.moves) in
+    let t : StopsAt 0 (g x.0 x.1) (h' x.0) x.1 = k x.0 x.1 fewer in
     record {
       before = s.before ++ t.before;
       cut = s.cut ∙ ap (λ r. s.before ++ r) t.cut ∙ sym (append_assoc s.before t.before (rest_of y));
-      took = took_more d y s.before t.before s.took;
+      moves = moves_more d y s.before t.before s.moves;
       same = λ more e.
           let inner : h (s.before ++ (t.before ++ more)) ≡ Ok (x.0, t.before ++ more) = s.same (t.before ++ more) (first_behind t.before more (rest_of y) e ∙ ap first (sym t.cut)) in
           ap (λ us. bind (h us) h') (append_assoc s.before t.before more) ∙ ap (λ z. bind z h') inner ∙ t.same more e;
     }
-stops_bind (Err r) h g h' s k = record { before = s.before; cut = s.cut; took = tt; same = λ more e. ap (λ z. bind z h') (s.same more e) }
+stops_bind (Err r) h g h' s k = record { before = s.before; cut = s.cut; moves = tt; same = λ more e. ap (λ z. bind z h') (s.same more e) }
 
-stops_weaker : {A : Type 0} {d : ℕ} {h : Reader A} {ts : List Tok} (x : Read A) → StopsAlike d x h ts → StopsAlike 0 x h ts
-stops_weaker (Ok x) s = record { before = s.before; cut = s.cut; took = omega arith; same = s.same }
-stops_weaker (Err x) s = record { before = s.before; cut = s.cut; took = tt; same = s.same }
+stops_weaker : {A : Type 0} {d : ℕ} {h : Reader A} {ts : List Tok} (x : Read A) → StopsAt d x h ts → StopsAt 0 x h ts
+stops_weaker (Ok x) s = record { before = s.before; cut = s.cut; moves = omega arith; same = s.same }
+stops_weaker (Err x) s = record { before = s.before; cut = s.cut; moves = tt; same = s.same }
 
-pub at_least_none : {A : Type 0} {d k : ℕ} {f h : Reader A} → Local d k f h → Local 0 k f h
-at_least_none {f = f} l = record { each = λ ts short. stops_weaker (f ts) (l.each ts short) }
+pub weaker : {A : Type 0} {d k : ℕ} {f h : Reader A} → Local d k f h → Local 0 k f h
+weaker {f = f} l = record { each = λ ts short. stops_weaker (f ts) (l.each ts short) }
 
-pub of_fewer : {A : Type 0} {d k : ℕ} {f h : Reader A} → Local d (suc k) f h → Local d k f h
-of_fewer l = record { each = λ ts short. l.each ts (omega arith) }
+pub fewer : {A : Type 0} {d k : ℕ} {f h : Reader A} → Local d (suc k) f h → Local d k f h
+fewer l = record { each = λ ts short. l.each ts (omega arith) }
 
 -- one reader after another
-pub in_turn : {A B : Type 0} {d k : ℕ} {f h : Reader A} {g g' : A → Reader B} → Local d k f h → ((a : A) → Local 0 k (g a) (g' a)) → Local d k (f >>= g) (h >>= g')
-in_turn {f = f} {h = h} {g = g} {g' = g'} l m = record { each = λ ts short. stops_bind (f ts) h g g' (l.each ts short) (λ a r le. (m a).each r (omega arith)) }
+pub then : {A B : Type 0} {d k : ℕ} {f h : Reader A} {g g' : A → Reader B} → Local d k f h → ((a : A) → Local 0 k (g a) (g' a)) → Local d k (f >>= g) (h >>= g')
+then {f = f} {h = h} {g = g} {g' = g'} l m = record { each = λ ts short. stops_bind (f ts) h g g' (l.each ts short) (λ a r le. (m a).each r (omega arith)) }
 
 -- behind a token there are fewer left
-pub behind_token : {A B : Type 0} {k : ℕ} {f h : Reader A} {g g' : A → Reader B} → Local 1 (suc k) f h → ((a : A) → Local 0 k (g a) (g' a)) → Local 1 (suc k) (f >>= g) (h >>= g')
-behind_token {f = f} {h = h} {g = g} {g' = g'} l m = record { each = λ ts short. stops_bind (f ts) h g g' (l.each ts short) (λ a r le. (m a).each r (omega arith)) }
+pub after : {A B : Type 0} {k : ℕ} {f h : Reader A} {g g' : A → Reader B} → Local 1 (suc k) f h → ((a : A) → Local 0 k (g a) (g' a)) → Local 1 (suc k) (f >>= g) (h >>= g')
+after {f = f} {h = h} {g = g} {g' = g'} l m = record { each = λ ts short. stops_bind (f ts) h g g' (l.each ts short) (λ a r le. (m a).each r (omega arith)) }
 
 pub local_ret : {A : Type 0} {k : ℕ} (a : A) → Local 0 k (ret a) (ret a)
-local_ret a = record { each = λ ts short. record { before = []; cut = refl; took = omega arith; same = λ more e. refl } }
+local_ret a = record { each = λ ts short. record { before = []; cut = refl; moves = omega arith; same = λ more e. refl } }
 
 pub local_unexpected : {A : Type 0} {d k : ℕ} → Local {A = A} d k unexpected unexpected
-local_unexpected = record { each = λ ts short. record { before = []; cut = refl; took = tt; same = λ more e. refl } }
+local_unexpected = record { each = λ ts short. record { before = []; cut = refl; moves = tt; same = λ more e. refl } }
 
 pub local_token : {A : Type 0} {k : ℕ} (f : Tok → Option A) → Local 1 k (token f) (token f)
 local_token {A} f = record { each = λ ts short. go ts }
@@ -101,16 +97,16 @@ local_token {A} f = record { each = λ ts short. go ts }
         let same : u ≡ t = cc in
         ap (taken u us) (ap f same ∙ n)
 
-    of : (t : Tok) (ts : List Tok) (o : Option A) → f t ≡ o → StopsAlike 1 (taken t ts o) (token f) (t ∷ ts)
-    of t ts (Some a) e = record { before = t ∷ []; cut = refl; took = omega arith; same = λ more h. ap (taken t more) e }
-    of t ts None e = record { before = []; cut = refl; took = tt; same = λ more h. here t ts more h e }
+    of : (t : Tok) (ts : List Tok) (o : Option A) → f t ≡ o → StopsAt 1 (taken t ts o) (token f) (t ∷ ts)
+    of t ts (Some a) e = record { before = t ∷ []; cut = refl; moves = omega arith; same = λ more h. ap (taken t more) e }
+    of t ts None e = record { before = []; cut = refl; moves = tt; same = λ more h. here t ts more h e }
 
     none : (more : List Tok) → first more ≡ None → token f more ≡ Err (misfit, more)
     none [] h = refl
     none (u ∷ us) h = cc
 
-    go : (ts : List Tok) → StopsAlike 1 (token f ts) (token f) ts
-    go [] = record { before = []; cut = refl; took = tt; same = none }
+    go : (ts : List Tok) → StopsAt 1 (token f ts) (token f) ts
+    go [] = record { before = []; cut = refl; moves = tt; same = none }
     go (t ∷ ts) = of t ts (f t) refl
 
 pub begins_alike : (test : Tok → Bool) (a b : List Tok) → first a ≡ first b → begins test a ≡ begins test b
@@ -120,18 +116,18 @@ begins_alike test (t ∷ ts) [] e = cc
 begins_alike test (t ∷ ts) (u ∷ us) e = let same : t ≡ u = cc in ap test same
 
 stops_if : {A : Type 0} {d : ℕ} (b : Bool) (test : Tok → Bool) (f f' g g' : Reader A) (ts : List Tok) → begins test ts ≡ b
-    → StopsAlike d (f ts) f' ts → StopsAlike d (g ts) g' ts → StopsAlike d (cond b (f ts) (g ts)) (if_first test f' g') ts
+    → StopsAt d (f ts) f' ts → StopsAt d (g ts) g' ts → StopsAt d (cond b (f ts) (g ts)) (if_first test f' g') ts
 stops_if true test f f' g g' ts e s t = record {
   before = s.before;
   cut = s.cut;
-  took = s.took;
+  moves = s.moves;
   same = λ more h.
       ap (λ b. cond b (f' (s.before ++ more)) (g' (s.before ++ more))) (begins_alike test (s.before ++ more) ts (first_behind s.before more _ h ∙ ap first (sym s.cut)) ∙ e) ∙ s.same more h;
 }
 stops_if false test f f' g g' ts e s t = record {
   before = t.before;
   cut = t.cut;
-  took = t.took;
+  moves = t.moves;
   same = λ more h.
       ap (λ b. cond b (f' (t.before ++ more)) (g' (t.before ++ more))) (begins_alike test (t.before ++ more) ts (first_behind t.before more _ h ∙ ap first (sym t.cut)) ∙ e) ∙ t.same more h;
 }
@@ -141,17 +137,17 @@ pub local_if : {A : Type 0} {d k : ℕ} {f f' g g' : Reader A} (test : Tok → B
 local_if {f = f} {f' = f'} {g = g} {g' = g'} test l m = record { each = λ ts short. stops_if (begins test ts) test f f' g g' ts refl (l.each ts short) (m.each ts short) }
 
 -- the rest is not longer
-pub stops_short : {A : Type 0} {d : ℕ} {x : Read A} {h : Reader A} {ts : List Tok} → StopsAlike d x h ts → length (rest_of x) ≤ length ts
+pub stops_short : {A : Type 0} {d : ℕ} {x : Read A} {h : Reader A} {ts : List Tok} → StopsAt d x h ts → length (rest_of x) ≤ length ts
 stops_short {x = x} s = omega (arith, length-append s.before (rest_of x), ap length s.cut)
 
 -- where two readers stop alike, the second reads the same behind the first one's tokens
-pub stops_same : {A : Type 0} {d : ℕ} {x : Read A} {h h' : Reader A} {ts : List Tok} (s : StopsAlike d x h ts) → StopsAlike d x h' ts
-    → (us : List Tok) → first us ≡ first (rest_of x) → h' (s.before ++ us) ≡ leaving x us
-stops_same {x = x} {h' = h'} s t us e =
+pub same_before : {A : Type 0} {d : ℕ} {x : Read A} {h h' : Reader A} {ts : List Tok} (s : StopsAt d x h ts) → StopsAt d x h' ts
+    → (us : List Tok) → first us ≡ first (rest_of x) → h' (s.before ++ us) ≡ put x us
+same_before {x = x} {h' = h'} s t us e =
     ap (λ b. h' (b ++ us)) (append_cancel_right s.before t.before (rest_of x) (sym s.cut ∙ t.cut)) ∙ t.same us e
 
 pub local_too_deep : {A : Type 0} {d k : ℕ} → Local {A = A} d k too_deep_here too_deep_here
-local_too_deep = record { each = λ ts short. record { before = []; cut = refl; took = tt; same = λ more e. refl } }
+local_too_deep = record { each = λ ts short. record { before = []; cut = refl; moves = tt; same = λ more e. refl } }
 
 pub local_plain : {A : Type 0} {d k : ℕ} {f h : Reader A} → Local d k f h → Local d k (plain f) (plain h)
 unfolding plain
@@ -160,6 +156,6 @@ local_plain {A = A} {d = d} {f = f} {h = h} l = record { each = λ ts short. go 
     plainer : Reader A
     plainer ts = plainly (h ts)
 
-    go : (ts : List Tok) (x : Read A) → StopsAlike d x h ts → StopsAlike d (plainly x) plainer ts
-    go ts (Ok x) s = record { before = s.before; cut = s.cut; took = s.took; same = λ more e. ap plainly (s.same more e) }
-    go ts (Err x) s = record { before = s.before; cut = s.cut; took = tt; same = λ more e. ap plainly (s.same more e) }
+    go : (ts : List Tok) (x : Read A) → StopsAt d x h ts → StopsAt d (plainly x) plainer ts
+    go ts (Ok x) s = record { before = s.before; cut = s.cut; moves = s.moves; same = λ more e. ap plainly (s.same more e) }
+    go ts (Err x) s = record { before = s.before; cut = s.cut; moves = tt; same = λ more e. ap plainly (s.same more e) }

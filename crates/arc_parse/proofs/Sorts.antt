@@ -1,13 +1,12 @@
 -- Which mark, word or name a test finds.
 use Rattle.std.proofs.Common.{◌≡◌, ℕ, List, [], ◌∷◌, true, get_or, refl, sym, ap, ◌∙◌}
 use Rattle.std.proofs.lemmas.Bool.{eqb-true}
-use Rattle.std.proofs.lemmas.Slice.Eq.{bytes_eq-Decides}
 use Rattle.arc_lex.specs.declared.token.Mark.{Mark}
 use Rattle.arc_lex.specs.declared.token.Mark.TheVariants as m
 use Rattle.arc_lex.specs.declared.token.Word.{Word}
 use Rattle.arc_lex.specs.declared.token.Word.TheVariants as w
 use Rattle.arc_lex.specs.Tokens.{Sort, Name, Integer, Text, Key, At, Sign, same_mark, number_of_mark, same_word, number_of_word}
-use Rattle.arc_parse.specs.Reader.{is_mark, is_word, is_name, is_named}
+use Rattle.arc_parse.specs.Reader.{is_mark, is_word, is_name}
 
 -- the marks in the order of their numbers
 abbrev marks : List Mark
@@ -135,14 +134,6 @@ key_is word (Integer value) e = cc
 key_is word (Text bytes) e = cc
 key_is word (Sign mark) e = cc
 key_is word (At found) e = cc
-
-pub named_is : (called : List ℕ) (s : Sort) → is_named called s ≡ true → s ≡ Name called
-named_is called (Name bytes) e = ap Name ((bytes_eq-Decides bytes called).0 e)
-named_is called (Integer value) e = cc
-named_is called (Text bytes) e = cc
-named_is called (Key word) e = cc
-named_is called (Sign mark) e = cc
-named_is called (At word) e = cc
 
 pub name_is : (s : Sort) → is_name s ≡ true → (bytes : List ℕ) × (s ≡ Name bytes)
 name_is (Name bytes) e = (bytes, refl)

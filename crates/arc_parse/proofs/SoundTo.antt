@@ -35,6 +35,15 @@ to_if {A = A} {f = f} {g = g} {N = N} test s t = record { each = λ ts b r e. go
     go ts b r true q e = s.each ts b r e
     go ts b r false q e = let p = t.each ts b r e in (p.0, p.1, p.2 (ap (begins test) (sym p.1) ∙ q))
 
+-- both branches know what the test gave
+pub to_tested : {A : Type 0} {f g : Reader A} {N : A → List Tok → Language} (test : Tok → Bool) → SoundTo f (λ a r ys. begins test (ys ++ r) ≡ true → N a r ys)
+    → SoundTo g (λ a r ys. begins test (ys ++ r) ≡ false → N a r ys) → SoundTo (if_first test f g) N
+to_tested {A = A} {f = f} {g = g} {N = N} test s t = record { each = λ ts b r e. go ts b r (begins test ts) refl e }
+  where
+    go : (ts : List Tok) (b : A) (r : List Tok) (c : Bool) → begins test ts ≡ c → cond c (f ts) (g ts) ≡ Ok (b, r) → (xs : List Tok) × (ts ≡ xs ++ r) × N b r xs
+    go ts b r true q e = let p = s.each ts b r e in (p.0, p.1, p.2 (ap (begins test) (sym p.1) ∙ q))
+    go ts b r false q e = let p = t.each ts b r e in (p.0, p.1, p.2 (ap (begins test) (sym p.1) ∙ q))
+
 pub to_of : {A : Type 0} {f : Reader A} {L : A → Language} → Sound f L → SoundTo f (λ a r. L a)
 to_of s = record { each = λ ts a r e. s.each ts a r e }
 

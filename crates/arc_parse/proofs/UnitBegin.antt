@@ -2,14 +2,15 @@
 use Rattle.std.proofs.Common.{◌≡◌, ◌⊎◌, inl, inr, ◌||◌, List, [], ◌∷◌, Ok, Err, Bool, true, false, refl, sym, ap, ◌∙◌}
 use Rattle.arc_lex.specs.declared.token.Mark.{Mark}
 use Rattle.arc_lex.specs.declared.token.Mark.TheVariants as m
+use Rattle.arc_lex.specs.declared.token.Word.{Word}
 use Rattle.arc_lex.specs.declared.token.Word.TheVariants as w
 use Rattle.arc_lex.specs.Tokens.{Tok, Sort, Name, Integer, Text, Key, At, Sign}
 use Rattle.arc_ast.specs.Tree.{ExprTree}
-use Rattle.arc_parse.specs.Reader.{Read, misfit, begins, is_mark, is_word}
+use Rattle.arc_parse.specs.Reader.{Read, misfit, begins, is_mark, is_word, sees_mark, sees_word}
 use Rattle.arc_parse.specs.ExprRules.{expr, primary_by, unary_by, binary_by, expr_by, body, read}
-use Rattle.arc_parse.specs.UnitRules.{begins_expr}
+use Rattle.arc_parse.specs.UnitRules.{begins_expr, begins_sort, begins_stmt}
 use Rattle.arc_parse.proofs.ExprLocal.{read_is}
-use Rattle.arc_parse.proofs.Sorts.{sign_is}
+use Rattle.arc_parse.proofs.Sorts.{sign_is, key_is}
 
 pub no : true ≡ false → ⊥
 no e = cc
@@ -18,7 +19,7 @@ pub neither : (a b : Bool) → (a || b) ≡ false → (a ≡ false) × (b ≡ fa
 neither true b e = cc
 neither false b e = (refl, e)
 
-pub either : (a b : Bool) → (a || b) ≡ true → (a ≡ true) ⊎ (b ≡ true)
+either : (a b : Bool) → (a || b) ≡ true → (a ≡ true) ⊎ (b ≡ true)
 either true b e = inl refl
 either false b e = inr e
 
@@ -73,10 +74,57 @@ mark_not_there mark p q (Sign found) h = go (either (is_mark m.OpenParen (Sign f
     go (inl e) = ap (is_mark mark) (sign_is m.OpenParen (Sign found) e) ∙ p
     go (inr e) = ap (is_mark mark) (sign_is m.Minus (Sign found) e) ∙ q
 
-pub return_not_there : (s : Sort) → begins_expr s ≡ true → is_word w.Return s ≡ false
-return_not_there (Name b) h = refl
-return_not_there (Integer v) h = refl
-return_not_there (Text b) h = refl
-return_not_there (Key k) h = cc
-return_not_there (At k) h = refl
-return_not_there (Sign found) h = refl
+pub word_not_there : (word : Word) (s : Sort) → begins_expr s ≡ true → is_word word s ≡ false
+word_not_there word (Name b) h = refl
+word_not_there word (Integer v) h = refl
+word_not_there word (Text b) h = refl
+word_not_there word (Key k) h = cc
+word_not_there word (At k) h = refl
+word_not_there word (Sign found) h = refl
+
+or_right : (a b : Bool) → b ≡ true → (a || b) ≡ true
+or_right true b h = refl
+or_right false b h = h
+
+-- an expression begins a statement
+pub stmt_begun : (ts : List Tok) → begins (λ t. begins_expr t.sort) ts ≡ true → begins begins_stmt ts ≡ true
+stmt_begun [] h = cc
+stmt_begun (t ∷ ts) h = or_right _ (begins_expr t.sort) h
+
+-- no statement begins with `}`, `else` or `int`
+not_close : (s : Sort) → begins_sort s ≡ true → is_mark m.CloseBrace s ≡ false
+not_close (Sign m.CloseBrace) h = sym h
+not_close _ h = refl
+
+not_else : (s : Sort) → begins_sort s ≡ true → is_word w.Else s ≡ false
+not_else (Key w.Else) h = sym h
+not_else _ h = refl
+
+not_int : (s : Sort) → begins_sort s ≡ true → is_word w.Int s ≡ false
+not_int (Key w.Int) h = sym h
+not_int _ h = refl
+
+pub stmt_not_close : (ts : List Tok) → begins begins_stmt ts ≡ true → sees_mark m.CloseBrace ts ≡ false
+stmt_not_close [] h = refl
+stmt_not_close (t ∷ ts) h = not_close t.sort h
+
+pub stmt_not_else : (ts : List Tok) → begins begins_stmt ts ≡ true → sees_word w.Else ts ≡ false
+stmt_not_else [] h = refl
+stmt_not_else (t ∷ ts) h = not_else t.sort h
+
+pub stmt_not_int : (ts : List Tok) → begins begins_stmt ts ≡ true → sees_word w.Int ts ≡ false
+stmt_not_int [] h = refl
+stmt_not_int (t ∷ ts) h = not_int t.sort h
+
+-- nor does a declaration, nor the end of a block, with `else`
+pub int_not_close : (ts : List Tok) → sees_word w.Int ts ≡ true → sees_mark m.CloseBrace ts ≡ false
+int_not_close [] h = refl
+int_not_close (t ∷ ts) h = ap (is_mark m.CloseBrace) (key_is w.Int t.sort h)
+
+pub int_not_else : (ts : List Tok) → sees_word w.Int ts ≡ true → sees_word w.Else ts ≡ false
+int_not_else [] h = refl
+int_not_else (t ∷ ts) h = ap (is_word w.Else) (key_is w.Int t.sort h)
+
+pub close_not_else : (ts : List Tok) → sees_mark m.CloseBrace ts ≡ true → sees_word w.Else ts ≡ false
+close_not_else [] h = refl
+close_not_else (t ∷ ts) h = ap (is_word w.Else) (sign_is m.CloseBrace t.sort h)

@@ -3,15 +3,15 @@ use Rattle.std.proofs.Common.{◌≡◌, ◌⊎◌, inl, inr, ◌||◌, ℕ, zer
 use Rattle.arc_lex.specs.declared.token.Mark.TheVariants as m
 use Rattle.arc_lex.specs.declared.token.Word.TheVariants as w
 use Rattle.arc_lex.specs.Tokens.{Tok}
-use Rattle.arc_ast.specs.Tree.{ExprTree, StmtTree, FunctionTree}
+use Rattle.arc_ast.specs.Tree.{ExprTree, StmtTree, ParameterTree, FunctionTree}
 use Rattle.arc_parse.specs.Limits.{Limits, unlimited, is_above, nested, up_to, cut, goes_over, plain}
-use Rattle.arc_parse.specs.Reader.{Read, Reader, misfit, too_deep, bind, ◌>>=◌, unexpected, too_deep_here, if_first, begins, is_mark, is_word}
+use Rattle.arc_parse.specs.Reader.{Read, Reader, misfit, too_deep, bind, ◌>>=◌, unexpected, too_deep_here, if_first, any, begins, expect, name, is_mark, is_word}
 use Rattle.arc_parse.specs.Knot.{deep, tied}
 use Rattle.arc_parse.specs.ExprRules.{expr}
 use Rattle.arc_parse.specs.ExprRules as exprs
-use Rattle.arc_parse.specs.UnitRules.{Rule, Rules, items, functions, begins_stmt, begins_expr, full, simple_by, value_by, return_by, block_by, stmt_by, item_by, items_by, body_by, function_by, functions_by, body, read, unit}
+use Rattle.arc_parse.specs.UnitRules.{Rule, Node, Rules, stmt, items, more_variables, more_parameters, functions, begins_expr, begins_sort, begins_stmt, full, simple_by, empty, value_by, return_by, block_by, test_by, else_by, if_by, while_by, worded_by, stmt_by, initial_by, variable_by, next_variable_by, more_variables_by, variables_by, declaration_by, perhaps_by, item_by, items_by, texts_name, perhaps_const, texts, parameter, next_parameter, more_parameters_by, begins_texts, with_others_by, second_by, some_by, parameters_by, result_kind, head_by, body_by, function_by, functions_by, body, read, unit}
 use Rattle.arc_parse.proofs.Local.{fault_of}
-use Rattle.arc_parse.proofs.UnitBegin.{neither, no_expr, none_left}
+use Rattle.arc_parse.proofs.UnitBegin.{no, neither, no_expr, none_left}
 
 abbrev pub IsDeep : {A : Type 0} → Read A → Type 0
 IsDeep x = (r : List Tok) × (x ≡ Err (too_deep, r))
@@ -42,16 +42,20 @@ below_if {A = A} {f = f} {f' = f'} {g = g} {g' = g'} test b c = record { each = 
 
 -- where no statement begins none is read
 none_here : (g : Rules) (d : ℕ) (ts : List Tok) → begins begins_stmt ts ≡ false → stmt_by unlimited g d ts ≡ Err (misfit, ts)
-unfolding stmt_by simple_by full up_to plain
+unfolding stmt_by worded_by simple_by full up_to plain
 none_here g d [] n = rw none_left refl
 none_here g d (t ∷ us) n =
     let brace = is_mark m.OpenBrace t.sort in
     let semicolon = is_mark m.Semicolon t.sort in
     let return = is_word w.Return t.sort in
-    let a = neither ((brace || semicolon) || return) (begins_expr t.sort) n in
-    let b = neither (brace || semicolon) return a.0 in
-    let c = neither brace semicolon b.0 in
-    rw (c.0, c.1, b.1, no_expr t us a.1) refl
+    let if' = is_word w.If t.sort in
+    let while' = is_word w.While t.sort in
+    let a = neither ((((brace || semicolon) || return) || if') || while') (begins_expr t.sort) n in
+    let b = neither (((brace || semicolon) || return) || if') while' a.0 in
+    let c = neither ((brace || semicolon) || return) if' b.0 in
+    let d = neither (brace || semicolon) return c.0 in
+    let e = neither brace semicolon d.0 in
+    rw (e.0, e.1, d.1, c.1, b.1, no_expr t us a.1) refl
 
 module _ (limits : Limits) where
   below_full : Below (full limits) (full unlimited)
@@ -69,6 +73,25 @@ module _ (limits : Limits) where
       go None ts = inr refl
       go (Some n) ts = of n ts (goes_over n ts (x ts))
 
+  below_nested : (test : Tok → Bool) (d : ℕ) (f : Reader StmtTree) (h : Rules) → ((ts : List Tok) → begins test ts ≡ false → begins begins_stmt ts ≡ false)
+      → Below f (stmt_by unlimited h d) → Below (nested limits.depth d test f) (nested unlimited.depth d test (stmt_by unlimited h d))
+  unfolding nested
+  below_nested test d f h fewer b = record { each = λ ts. go ts (is_above limits.depth d) }
+    where
+      free : Reader StmtTree
+      free ts = stmt_by unlimited h d ts
+
+      refuse : Reader StmtTree
+      refuse ts = if_first test too_deep_here unexpected ts
+
+      at : (ts : List Tok) (y : Bool) → begins test ts ≡ y → IsDeep (cond y (too_deep_here {A = StmtTree} ts) (unexpected ts)) ⊎ (cond y (too_deep_here ts) (unexpected ts) ≡ free ts)
+      at ts true e = inl (ts, refl)
+      at ts false e = inr (sym (none_here h d ts (fewer ts e)))
+
+      go : (ts : List Tok) (y : Bool) → IsDeep (cond y refuse f ts) ⊎ (cond y refuse f ts ≡ free ts)
+      go ts true = at ts (begins test ts) refl
+      go ts false = b.each ts
+
   below_simple : Below (simple_by limits) (simple_by unlimited)
   unfolding simple_by
   below_simple = below_then below_full (λ e. below_same)
@@ -81,35 +104,62 @@ module _ (limits : Limits) where
   unfolding return_by
   below_return = below_then below_same (λ at. below_then below_value (λ value. below_same))
 
+  below_test : Below (test_by limits) (test_by unlimited)
+  unfolding test_by
+  below_test = below_then below_same (λ start. below_then below_full (λ c. below_same))
+
+  below_initial : Below (initial_by limits) (initial_by unlimited)
+  unfolding initial_by
+  below_initial = below_if _ (below_then below_same (λ sign. below_then below_full (λ e. below_same))) below_same
+
+  below_variable : Below (variable_by limits) (variable_by unlimited)
+  unfolding variable_by
+  below_variable = below_then below_same (λ called. below_then below_initial (λ value. below_same))
+
+  below_next_variable : Below (next_variable_by limits) (next_variable_by unlimited)
+  unfolding next_variable_by
+  below_next_variable = below_then below_same (λ comma. below_variable)
+
   module _ (g h : Rules) (rec : (rule : Rule) → Below (g rule) (h rule)) where
+    below_more_variables : Below (more_variables_by limits g) (more_variables_by unlimited h)
+    unfolding more_variables_by
+    below_more_variables = below_if _ (below_then below_next_variable (λ v. below_then (rec more_variables) (λ others. below_same))) below_same
+
+    below_variables : Below (variables_by limits g) (variables_by unlimited h)
+    unfolding variables_by
+    below_variables = below_then below_variable (λ v. below_then (rec more_variables) (λ others. below_same))
+
+    below_declaration : Below (declaration_by limits g) (declaration_by unlimited h)
+    unfolding declaration_by
+    below_declaration = below_then below_same (λ at. below_then below_variables (λ all. below_same))
+
     below_block : (d : ℕ) → Below (block_by g d) (block_by h d)
     unfolding block_by
     below_block d = below_then below_same (λ at. below_then (rec (items (suc d))) (λ all. below_same))
 
+    below_else : (d at : ℕ) (c : ExprTree) (a : StmtTree) → Below (else_by g d at c a) (else_by h d at c a)
+    unfolding else_by
+    below_else d at c a = below_if _ (below_then below_same (λ other. below_then (rec (stmt (suc d))) (λ b. below_same))) below_same
+
+    below_if_by : (d : ℕ) → Below (if_by limits g d) (if_by unlimited h d)
+    unfolding if_by
+    below_if_by d = below_then below_same (λ at. below_then below_test (λ c. below_then (rec (stmt (suc d))) (λ a. below_else d at c a)))
+
+    below_while : (d : ℕ) → Below (while_by limits g d) (while_by unlimited h d)
+    unfolding while_by
+    below_while d = below_then below_same (λ at. below_then below_test (λ c. below_then (rec (stmt (suc d))) (λ a. below_same)))
+
+    below_worded : (d : ℕ) → Below (worded_by limits g d) (worded_by unlimited h d)
+    unfolding worded_by
+    below_worded d = below_if _ below_return (below_if _ (below_if_by d) (below_if _ (below_while d) below_simple))
+
     below_stmt : (d : ℕ) → Below (stmt_by limits g d) (stmt_by unlimited h d)
     unfolding stmt_by
-    below_stmt d = below_if _ (below_block d) (below_if _ below_same (below_if _ below_return below_simple))
+    below_stmt d = below_if _ (below_block d) (below_if _ below_same (below_worded d))
 
     below_item : (d : ℕ) → Below (item_by limits g d) (item_by unlimited h d)
-    unfolding item_by nested
-    below_item d = record { each = λ ts. go ts (is_above limits.depth d) }
-      where
-        here : Reader StmtTree
-        here ts = stmt_by limits g d ts
-
-        free : Reader StmtTree
-        free ts = stmt_by unlimited h d ts
-
-        refuse : Reader StmtTree
-        refuse ts = if_first begins_stmt too_deep_here unexpected ts
-
-        at : (ts : List Tok) (y : Bool) → begins begins_stmt ts ≡ y → IsDeep (cond y (too_deep_here {A = StmtTree} ts) (unexpected ts)) ⊎ (cond y (too_deep_here ts) (unexpected ts) ≡ free ts)
-        at ts true e = inl (ts, refl)
-        at ts false e = inr (sym (none_here h d ts e))
-
-        go : (ts : List Tok) (y : Bool) → IsDeep (cond y refuse here ts) ⊎ (cond y refuse here ts ≡ free ts)
-        go ts true = at ts (begins begins_stmt ts) refl
-        go ts false = (below_stmt d).each ts
+    unfolding item_by perhaps_by
+    below_item d = below_if _ below_declaration (below_nested begins_stmt d _ h (λ ts e. e) (below_stmt d))
 
     below_items : (d : ℕ) → Below (items_by limits g d) (items_by unlimited h d)
     unfolding items_by
@@ -119,16 +169,48 @@ module _ (limits : Limits) where
     unfolding body_by
     below_body_by = below_if _ below_same (below_then below_same (λ start. below_then (rec (items 2)) (λ all. below_same)))
 
+    below_more_parameters : Below (more_parameters_by g) (more_parameters_by h)
+    unfolding more_parameters_by
+    below_more_parameters = below_if _ (below_then below_same (λ p. below_then (rec more_parameters) (λ others. below_same))) below_same
+
+    below_with_others : (p : ParameterTree) → Below (with_others_by g p) (with_others_by h p)
+    unfolding with_others_by
+    below_with_others p = below_then below_same (λ q. below_then (rec more_parameters) (λ others. below_same))
+
+    below_second : (called : List ℕ) (p : ParameterTree) → Below (second_by g called p) (second_by h called p)
+    unfolding second_by
+    below_second called p = below_if _ below_same (below_then (below_with_others p) (λ all. below_same))
+
+    below_some : (called : List ℕ) → Below (some_by g called) (some_by h called)
+    unfolding some_by
+    below_some called = below_then {f = parameter} {h = parameter} below_same (λ p. below_if _ (below_then {f = expect m.Comma} {h = expect m.Comma} below_same (λ comma. below_second called p)) below_same)
+
+    below_parameters : (called : List ℕ) → Below (parameters_by g called) (parameters_by h called)
+    unfolding parameters_by
+    below_parameters called = below_if _ below_same (below_if _ below_same (below_some called))
+
+    below_head : Below (head_by g) (head_by h)
+    unfolding head_by
+    below_head = below_then {f = result_kind} {h = result_kind} below_same (λ kind. below_then {f = name} {h = name} below_same (λ (called : ℕ × List ℕ).
+        below_then {f = expect m.OpenParen} {h = expect m.OpenParen} below_same (λ start. below_then (below_parameters called.1) (λ ps. below_same))))
+
     below_function : Below (function_by g) (function_by h)
     unfolding function_by
-    below_function = below_then below_same (λ head. below_then below_body_by (λ b. below_same))
+    below_function = below_then below_head (λ f. below_then below_body_by (λ b. below_same))
 
     below_functions : Below (functions_by g) (functions_by h)
     unfolding functions_by
     below_functions = below_if _ (below_then below_function (λ f. below_then (rec functions) (λ others. below_same))) below_same
 
     below_body : (rule : Rule) → Below (body limits g rule) (body unlimited h rule)
+    below_body (stmt d) = below_nested any d _ h none_first (below_stmt d)
+      where
+        none_first : (ts : List Tok) → begins any ts ≡ false → begins begins_stmt ts ≡ false
+        none_first [] e = refl
+        none_first (t ∷ ts) e = absurd (no e)
     below_body (items d) = below_items d
+    below_body more_variables = below_more_variables
+    below_body more_parameters = below_more_parameters
     below_body functions = below_functions
 
   below_deep : (n : ℕ) (rule : Rule) → Below (deep (body limits) n rule) (deep (body unlimited) n rule)

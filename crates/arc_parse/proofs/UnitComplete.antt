@@ -1,19 +1,22 @@
 -- The rules of statements, functions and units read what is spelled within their limits.
-use Rattle.std.proofs.Common.{◌≡◌, inl, inr, ℕ, suc, ◌+◌, List, [], ◌∷◌, ◌++◌, length, length-append, append_assoc, Ok, Bool, true, false, Option, Some, None, refl, ap, ◌∙◌, arith}
+use Rattle.std.proofs.Common.{◌≡◌, inl, inr, ℕ, suc, ◌+◌, List, [], ◌∷◌, ◌++◌, length, length-append, append_assoc, append-nil, Ok, Bool, true, false, Option, Some, None, refl, sym, ap, ◌∙◌, ◌&&◌, bytes_eq, arith}
 use Rattle.std.proofs.lemmas.Bool.{le-ltb}
+use Rattle.std.proofs.lemmas.Slice.Eq.{bytes_eq-Decides}
+use Rattle.arc_lex.specs.declared.token.Mark.{Mark}
 use Rattle.arc_lex.specs.declared.token.Mark.TheVariants as m
 use Rattle.arc_lex.specs.declared.token.Word.TheVariants as w
 use Rattle.arc_lex.specs.Tokens.{Tok, Sign}
-use Rattle.arc_ast.specs.declared.tree.Parameters.{Parameters}
-use Rattle.arc_ast.specs.declared.tree.Parameters.TheVariants as parameter
-use Rattle.arc_ast.specs.Tree.{ExprTree, StmtTree, StmtTrees, FunctionTree, Block, Empty, Simple, Return, no_stmts, and_stmt}
-use Rattle.arc_parse.specs.Language.{◌∣◌, TheWord, Nothing}
+use Rattle.arc_ast.specs.declared.tree.Kind.{Kind}
+use Rattle.arc_ast.specs.declared.tree.Kind.TheVariants as kinds
+use Rattle.arc_ast.specs.Tree.{ExprTree, VariableTree, StmtTree, StmtTrees, ParameterTree, ParametersTree, FunctionTree, Block, Empty, Simple, Return, Variables, If, IfElse, While, no_stmts, and_stmt, Ints, CountAndTexts}
+use Rattle.arc_parse.specs.Language.{Language, ◌⨾◌, ◌∣◌, The, TheWord, Nothing}
 use Rattle.arc_parse.specs.Reader.{Reader, any, begins, is_mark, is_word, sees_mark, sees_word}
-use Rattle.arc_parse.specs.Limits.{Limits, AtMost, nested, cut, up_to, plain, plainly}
-use Rattle.arc_parse.specs.Grammar.{widest, Full, SpellsValue, SpellsStmt, SpellsStmts, TextsName, SpellsParameters, SpellsHead, SpellsBody, SpellsFunction, SpellsUnit}
-use Rattle.arc_parse.specs.UnitRules.{Rules, items, functions, begins_expr, begins_stmt, full, simple_by, empty, value_by, return_by, block_by, stmt_by, item_by, items_by, texts_name, perhaps_const, count_and_texts, parameters, head, body_by, function_by, functions_by, read}
+use Rattle.arc_parse.specs.ExprRules.{mark_operator}
+use Rattle.arc_parse.specs.Limits.{Limits, AtMost, Nested, nested, cut, up_to, plain, plainly}
+use Rattle.arc_parse.specs.Grammar.{widest, Full, SpellsValue, SpellsInitial, SpellsVariable, SpellsVariables, SpellsMoreVariables, SpellsDeclaration, SpellsTest, is_open, SpellsStmt, SpellsStmts, main_bytes, SpellsResult, SpellsParameter, SpellsMoreParameters, TextsName, SpellsParameters, SpellsHead, SpellsBody, SpellsFunction, SpellsUnit}
+use Rattle.arc_parse.specs.UnitRules.{Rules, stmt, items, more_variables, more_parameters, functions, begins_expr, begins_stmt, full, simple_by, empty, value_by, return_by, block_by, test_by, else_by, if_by, while_by, worded_by, stmt_by, initial_by, variable_by, more_variables_by, next_variable_by, variables_by, declaration_by, perhaps_by, item_by, items_by, texts_name, perhaps_const, texts, parameter, next_parameter, more_parameters_by, begins_texts, with_others_by, second_by, some_by, parameters_by, result_kind, head_by, body_by, function_by, functions_by, read}
 use Rattle.arc_parse.proofs.ExprComplete.{complete, ends_mark}
-use Rattle.arc_parse.proofs.UnitBegin.{begun, not_there, mark_not_there, return_not_there}
+use Rattle.arc_parse.proofs.UnitBegin.{begun, not_there, mark_not_there, word_not_there, stmt_begun, stmt_not_close, stmt_not_else, stmt_not_int, int_not_close, int_not_else, close_not_else}
 use Rattle.arc_parse.proofs.UnitLocal.{read_is}
 
 -- ---- the head of a function
@@ -28,20 +31,46 @@ unfolding perhaps_const
 const_reads ts rest (inl c) e = rw (c, e) refl
 const_reads ts rest (inr (at, (t, c, s, p))) e = rw (c, s) refl
 
-parameters_read : (ps : Parameters) (ts rest : List Tok) → SpellsParameters ps ts → sees_mark m.CloseParen rest ≡ true → parameters (ts ++ rest) ≡ Ok (ps, rest)
-unfolding parameters count_and_texts
-parameters_read parameter.Nothing ts rest (inl c) e = rw (c, e) refl
-parameters_read parameter.Nothing ts rest (inr (at, (t, c, s, p))) e = rw (c, s) refl
-parameters_read parameter.CountAndTexts ts rest (as', us, c, (i, (t, ca, sa, pa)), (bs, vs, d, (n, called, (u, cb, sb, pb)), (cs, ws, f, (comma, (v, cc', sc, pc)), (ds, xs, g, const, (es, ys, h, (char, (x, ce, se, pe)), (fs, gs, k, (star, (y, cf, sf, pf)), texts)))))) e =
-    let line : ts ++ rest ≡ t ∷ u ∷ v ∷ (ds ++ (x ∷ y ∷ (gs ++ rest))) = rw (c, ca, d, cb, f, cc', g, h, ce, k, cf) (ap (λ z. t ∷ u ∷ v ∷ z) (append_assoc ds (x ∷ y ∷ gs) rest)) in
-    let constant = const_reads ds (x ∷ y ∷ (gs ++ rest)) const (ap (is_word w.Const) se) in
-    rw (line, sa, sb, sc, constant, se, sf, texts_reads gs rest texts) refl
+-- the type of the texts
+abbrev Texts : Language
+Texts = (Nothing ∣ TheWord w.Const) ⨾ TheWord w.Char ⨾ The m.Star ⨾ TextsName
 
-pub head_reads : (at : ℕ) (ps : Parameters) (ts rest : List Tok) → SpellsHead at ps ts → head (ts ++ rest) ≡ Ok ((at, ps), rest)
-unfolding head
-head_reads at ps ts rest (as', us, c, (i, (t, ca, sa, pa)), (bs, vs, d, (u, cb, sb, pb), (cs, ws, f, (o, (v, cc', sc, pc)), (ds, es, g, p, (e, (x, ce, se, pe)))))) =
-    let line : ts ++ rest ≡ t ∷ u ∷ v ∷ (ds ++ (x ∷ rest)) = rw (c, ca, d, cb, f, cc', g, ce) (ap (λ z. t ∷ u ∷ v ∷ z) (append_assoc ds (x ∷ []) rest)) in
-    rw (line, sa, sb, sc, parameters_read ps ds (x ∷ rest) p (ap (is_mark m.CloseParen) se), se, pb) refl
+texts_read : (ts rest : List Tok) → Texts ts → texts (ts ++ rest) ≡ Ok (CountAndTexts, rest)
+unfolding texts
+texts_read ts rest (ds, xs, g, const, (es, ys, h, (char, (x, ce, se, pe)), (fs, gs, k, (star, (y, cf, sf, pf)), all))) =
+    let line : ts ++ rest ≡ ds ++ (x ∷ y ∷ (gs ++ rest)) = rw (g, h, ce, k, cf) (append_assoc ds (x ∷ y ∷ gs) rest) in
+    let constant = const_reads ds (x ∷ y ∷ (gs ++ rest)) const (ap (is_word w.Const) se) in
+    rw (line, constant, se, sf, texts_reads gs rest all) refl
+
+texts_seen : (called : List ℕ) (ts rest : List Tok) → called ≡ main_bytes → Texts ts → begins (begins_texts called) (ts ++ rest) ≡ true
+texts_seen called ts rest e (ds, xs, g, inl c, (es, ys, h, (char, (x, ce, se, pe)), z)) = rw (g, c, h, ce, se, (bytes_eq-Decides called main_bytes).1 e) refl
+texts_seen called ts rest e (ds, xs, g, inr (at, (t, c, s, p)), z) = rw (g, c, s, (bytes_eq-Decides called main_bytes).1 e) refl
+
+parameter_reads : (p : ParameterTree) (ts rest : List Tok) → SpellsParameter p ts → parameter (ts ++ rest) ≡ Ok (p, rest)
+unfolding parameter
+parameter_reads p ts rest (ks, ns, c, (i, (t, ck, sk, pk)), (u, cn, sn, pn)) = rw (c, ck, cn, sk, sn, sym pn) refl
+
+and_false : (b : Bool) → (b && false) ≡ false
+and_false true = refl
+and_false false = refl
+
+no_texts : (called : List ℕ) (p : ParameterTree) (ts rest : List Tok) → SpellsParameter p ts → begins (begins_texts called) (ts ++ rest) ≡ false
+no_texts called p ts rest (ks, ns, c, (i, (t, ck, sk, pk)), n) = rw (c, ck, sk) (and_false (bytes_eq called main_bytes))
+
+result_reads : (kind : Kind) (ts rest : List Tok) → SpellsResult kind ts → result_kind (ts ++ rest) ≡ Ok (kind, rest)
+unfolding result_kind
+result_reads kinds.Void ts rest (at, (t, c, s, p)) = rw (c, s) refl
+result_reads kinds.Int ts rest (at, (t, c, s, p)) = rw (c, s) refl
+result_reads kinds.Bool ts rest h = absurd h
+result_reads kinds.Long ts rest h = absurd h
+result_reads kinds.Object ts rest h = absurd h
+
+result_more : (kind : Kind) (ts rest : List Tok) → SpellsResult kind ts → begins any (ts ++ rest) ≡ true
+result_more kinds.Void ts rest (at, (t, c, s, p)) = rw c refl
+result_more kinds.Int ts rest (at, (t, c, s, p)) = rw c refl
+result_more kinds.Bool ts rest h = absurd h
+result_more kinds.Long ts rest h = absurd h
+result_more kinds.Object ts rest h = absurd h
 
 -- ---- limits
 
@@ -49,88 +78,244 @@ cut_fits : {A : Type 0} (most : Option ℕ) (ts rest : List Tok) (a : A) → AtM
 cut_fits None ts rest a p = refl
 cut_fits (Some n) ts rest a p = rw (le-ltb (length rest + n) (length (ts ++ rest)) (omega (arith, length-append ts rest))) refl
 
-pub nested_fits : {A : Type 0} (most : Option ℕ) (d : ℕ) (test : Tok → Bool) (f : Reader A) (ts : List Tok) → AtMost most d → nested most d test f ts ≡ f ts
+nested_fits : {A : Type 0} (most : Option ℕ) (d : ℕ) (test : Tok → Bool) (f : Reader A) (ts : List Tok) → AtMost most d → nested most d test f ts ≡ f ts
 unfolding nested
 nested_fits None d test f ts p = refl
 nested_fits (Some n) d test f ts p = rw (le-ltb n d p) refl
 
-module _ (limits : Limits) where
-  rd : Rules
-  rd = read limits
+-- a mark behind which no expression goes on
+abbrev Stops : Mark → Type 0
+Stops mark = (mark_operator mark ≡ None) × (is_mark m.OpenParen (Sign mark) ≡ false) × (is_mark m.Assign (Sign mark) ≡ false)
 
-  full_reads : (e : ExprTree) (ts rest : List Tok) (u : Tok) → Full limits e ts → u.sort ≡ Sign m.Semicolon → full limits (ts ++ (u ∷ rest)) ≡ Ok (e, u ∷ rest)
+module _ (limits : Limits) where
+  full_reads : (e : ExprTree) (ts rest : List Tok) (u : Tok) (mark : Mark) → Full limits e ts → u.sort ≡ Sign mark → Stops mark → full limits (ts ++ (u ∷ rest)) ≡ Ok (e, u ∷ rest)
   unfolding full up_to plain
-  full_reads e ts rest u (few, x) z =
-      ap (λ y. cut limits.tokens (ts ++ (u ∷ rest)) (plainly y)) ((complete e).full ts (u ∷ rest) x (ends_mark widest m.Semicolon u rest z refl))
+  full_reads e ts rest u mark (few, x) z stops =
+      ap (λ y. cut limits.tokens (ts ++ (u ∷ rest)) (plainly y)) ((complete e).full ts (u ∷ rest) x (ends_mark e widest mark u rest z stops.0 stops.1 stops.2))
       ∙ cut_fits limits.tokens ts (u ∷ rest) e few
 
   full_begun : (e : ExprTree) (ts rest : List Tok) (u : Tok) → Full limits e ts → u.sort ≡ Sign m.Semicolon → begins (λ t. begins_expr t.sort) (ts ++ (u ∷ rest)) ≡ true
-  full_begun e ts rest u (few, x) z = begun e (ts ++ (u ∷ rest)) (u ∷ rest) ((complete e).full ts (u ∷ rest) x (ends_mark widest m.Semicolon u rest z refl))
+  full_begun e ts rest u (few, x) z = begun e (ts ++ (u ∷ rest)) (u ∷ rest) ((complete e).full ts (u ∷ rest) x (ends_mark e widest m.Semicolon u rest z refl refl refl))
 
   -- ---- statements
 
+  -- a statement, where no `else` that would belong to it is behind it
   abbrev Reads : ℕ → StmtTree → Type 0
-  Reads d s = (ts rest : List Tok) → SpellsStmt limits d s ts → (stmt_by limits (read limits) d (ts ++ rest) ≡ Ok (s, rest)) × (sees_mark m.CloseBrace (ts ++ rest) ≡ false)
+  Reads d s = (ts rest : List Tok) → SpellsStmt limits d s ts → (is_open s ≡ true → sees_word w.Else rest ≡ false) → (stmt_by limits (read limits) d (ts ++ rest) ≡ Ok (s, rest)) × (begins begins_stmt (ts ++ rest) ≡ true)
 
   abbrev ReadsAll : ℕ → StmtTrees → Type 0
-  ReadsAll d all = (ts rest : List Tok) → SpellsStmts limits d all ts → sees_mark m.CloseBrace rest ≡ true → read limits (items d) (ts ++ rest) ≡ Ok (all, rest)
+  ReadsAll d all = (ts rest : List Tok) → SpellsStmts limits d all ts → sees_mark m.CloseBrace rest ≡ true → (read limits (items d) (ts ++ rest) ≡ Ok (all, rest)) × (sees_word w.Else (ts ++ rest) ≡ false)
 
   empty_reads : (d at : ℕ) → Reads d (Empty at)
   unfolding stmt_by empty
-  empty_reads d at ts rest (t, c, s, p) = (rw (c, s, p) refl, rw (c, s) refl)
+  empty_reads d at ts rest (t, c, s, p) _ = (rw (c, s, p) refl, rw (c, s) refl)
 
   simple_reads : (d : ℕ) (e : ExprTree) → Reads d (Simple e)
-  unfolding stmt_by simple_by
-  simple_reads d e ts rest (es, zs, q, x, (n, (u, cu, su, pu))) =
-      let line : ts ++ rest ≡ es ++ (u ∷ rest) = rw (q, cu) (append_assoc es (u ∷ []) rest) in
+  unfolding stmt_by worded_by simple_by
+  simple_reads d e ts rest (es, zs, q, x, (n, (u, cu, su, pu))) _ =
+      let us = es ++ (u ∷ rest) in
+      let line : ts ++ rest ≡ us = rw (q, cu) (append_assoc es (u ∷ []) rest) in
       let begin = full_begun e es rest u x su in
-      let brace : sees_mark m.OpenBrace (es ++ (u ∷ rest)) ≡ false = not_there (is_mark m.OpenBrace) (es ++ (u ∷ rest)) (mark_not_there m.OpenBrace refl refl) begin in
-      let semicolon : sees_mark m.Semicolon (es ++ (u ∷ rest)) ≡ false = not_there (is_mark m.Semicolon) (es ++ (u ∷ rest)) (mark_not_there m.Semicolon refl refl) begin in
-      let return : sees_word w.Return (es ++ (u ∷ rest)) ≡ false = not_there (is_word w.Return) (es ++ (u ∷ rest)) return_not_there begin in
-      let close : sees_mark m.CloseBrace (es ++ (u ∷ rest)) ≡ false = not_there (is_mark m.CloseBrace) (es ++ (u ∷ rest)) (mark_not_there m.CloseBrace refl refl) begin in
-      (rw (line, brace, semicolon, return, full_reads e es rest u x su, su) refl, rw line close)
+      let brace : sees_mark m.OpenBrace us ≡ false = not_there (is_mark m.OpenBrace) us (mark_not_there m.OpenBrace refl refl) begin in
+      let semicolon : sees_mark m.Semicolon us ≡ false = not_there (is_mark m.Semicolon) us (mark_not_there m.Semicolon refl refl) begin in
+      let return : sees_word w.Return us ≡ false = not_there (is_word w.Return) us (word_not_there w.Return) begin in
+      let no_if : sees_word w.If us ≡ false = not_there (is_word w.If) us (word_not_there w.If) begin in
+      let no_while : sees_word w.While us ≡ false = not_there (is_word w.While) us (word_not_there w.While) begin in
+      (rw (line, brace, semicolon, return, no_if, no_while, full_reads e es rest u m.Semicolon x su (refl, refl, refl), su) refl, rw line (stmt_begun us begin))
 
   value_reads : (value : Option ExprTree) (ts rest : List Tok) (u : Tok) → SpellsValue limits value ts → u.sort ≡ Sign m.Semicolon → value_by limits (ts ++ (u ∷ rest)) ≡ Ok (value, u ∷ rest)
   unfolding value_by
   value_reads None ts rest u c z = rw (c, z) refl
   value_reads (Some e) ts rest u x z =
       let semicolon : sees_mark m.Semicolon (ts ++ (u ∷ rest)) ≡ false = not_there (is_mark m.Semicolon) (ts ++ (u ∷ rest)) (mark_not_there m.Semicolon refl refl) (full_begun e ts rest u x z) in
-      rw (semicolon, full_reads e ts rest u x z) refl
+      rw (semicolon, full_reads e ts rest u m.Semicolon x z (refl, refl, refl)) refl
 
   return_reads : (d at : ℕ) (value : Option ExprTree) → Reads d (Return at value)
-  unfolding stmt_by return_by
-  return_reads d at value ts rest (ks, us, p, (t, ct, st, pt), (es, zs, q, x, (n, (u, cu, su, pu)))) =
+  unfolding stmt_by worded_by return_by
+  return_reads d at value ts rest (ks, us, p, (t, ct, st, pt), (es, zs, q, x, (n, (u, cu, su, pu)))) _ =
       let line : ts ++ rest ≡ t ∷ (es ++ (u ∷ rest)) = rw (p, ct, q, cu) (ap (λ v. t ∷ v) (append_assoc es (u ∷ []) rest)) in
       (rw (line, st, value_reads value es rest u x su, su, pt) refl, rw (line, st) refl)
 
   block_reads : (d at : ℕ) (all : StmtTrees) → ReadsAll (suc d) all → Reads d (Block at all)
   unfolding stmt_by block_by
-  block_reads d at all k ts rest (os, us, p, (t, ct, st, pt), (ys, zs, q, y, (n, (u, cu, su, pu)))) =
+  block_reads d at all k ts rest (os, us, p, (t, ct, st, pt), (ys, zs, q, y, (n, (u, cu, su, pu)))) _ =
       let line : ts ++ rest ≡ t ∷ (ys ++ (u ∷ rest)) = rw (p, ct, q, cu) (ap (λ v. t ∷ v) (append_assoc ys (u ∷ []) rest)) in
       let inner = k ys (u ∷ rest) y (ap (is_mark m.CloseBrace) su) in
-      (rw (line, st, inner, su, pt) refl, rw (line, st) refl)
+      (rw (line, st, inner.0, su, pt) refl, rw (line, st) refl)
+
+  test_reads : (c : ExprTree) (ts rest : List Tok) → SpellsTest limits c ts → test_by limits (ts ++ rest) ≡ Ok (c, rest)
+  unfolding test_by
+  test_reads c ts rest (os, us, p, (o, (t, ct, st, pt)), (es, zs, q, x, (n, (u, cu, su, pu)))) =
+      let line : ts ++ rest ≡ t ∷ (es ++ (u ∷ rest)) = rw (p, ct, q, cu) (ap (λ v. t ∷ v) (append_assoc es (u ∷ []) rest)) in
+      rw (line, st, full_reads c es rest u m.CloseParen x su (refl, refl, refl), su) refl
+
+  -- a branch
+  branch_reads : (d : ℕ) (s : StmtTree) → Reads d s → (ts rest : List Tok) → Nested limits d (SpellsStmt limits d s) ts → (is_open s ≡ true → sees_word w.Else rest ≡ false) → read limits (stmt d) (ts ++ rest) ≡ Ok (s, rest)
+  branch_reads d s k ts rest x no_else =
+      read_is limits (stmt d) (ts ++ rest) ∙ nested_fits limits.depth d any (stmt_by limits (read limits) d) (ts ++ rest) x.0 ∙ (k ts rest x.1 no_else).0
+
+  if_reads : (d at : ℕ) (c : ExprTree) (a : StmtTree) → Reads (suc d) a → Reads d (If at c a)
+  unfolding stmt_by worded_by if_by else_by
+  if_reads d at c a k ts rest (ks, us, p, (t, ct, st, pt), (xs, ys, q, x, y)) no_else =
+      let line : ts ++ rest ≡ t ∷ (xs ++ (ys ++ rest)) = rw (p, ct, q) (ap (λ v. t ∷ v) (append_assoc xs ys rest)) in
+      let inner : read limits (stmt (suc d)) (ys ++ rest) ≡ Ok (a, rest) = branch_reads (suc d) a k ys rest y (λ _. no_else refl) in
+      (rw (line, st, test_reads c xs (ys ++ rest) x, inner, no_else refl, pt) refl, rw (line, st) refl)
+
+  if_else_reads : (d at : ℕ) (c : ExprTree) (a b : StmtTree) → Reads (suc d) a → Reads (suc d) b → Reads d (IfElse at c a b)
+  unfolding stmt_by worded_by if_by else_by
+  if_else_reads d at c a b k j ts rest (closed, (ks, us, p, (t, ct, st, pt), (xs, vs, q, x, (as', ls, f, y, (es, bs, g, (n, (v, cv, sv, pv)), z))))) no_else =
+      let tail = v ∷ (bs ++ rest) in
+      let line : ts ++ rest ≡ t ∷ (xs ++ (as' ++ tail)) =
+      rw (p, ct, q, f, g, cv) (ap (λ u. t ∷ u) (append_assoc xs (as' ++ (v ∷ bs)) rest ∙ ap (λ u. xs ++ u) (append_assoc as' (v ∷ bs) rest))) in
+      let first : read limits (stmt (suc d)) (as' ++ tail) ≡ Ok (a, tail) = branch_reads (suc d) a k as' tail y (λ h. cc) in
+      let second : read limits (stmt (suc d)) (bs ++ rest) ≡ Ok (b, rest) = branch_reads (suc d) b j bs rest z no_else in
+      (rw (line, st, test_reads c xs (as' ++ tail) x, first, sv, second, pt) refl, rw (line, st) refl)
+
+  while_reads : (d at : ℕ) (c : ExprTree) (a : StmtTree) → Reads (suc d) a → Reads d (While at c a)
+  unfolding stmt_by worded_by while_by
+  while_reads d at c a k ts rest (ks, us, p, (t, ct, st, pt), (xs, ys, q, x, y)) no_else =
+      let line : ts ++ rest ≡ t ∷ (xs ++ (ys ++ rest)) = rw (p, ct, q) (ap (λ v. t ∷ v) (append_assoc xs ys rest)) in
+      let inner : read limits (stmt (suc d)) (ys ++ rest) ≡ Ok (a, rest) = branch_reads (suc d) a k ys rest y no_else in
+      (rw (line, st, test_reads c xs (ys ++ rest) x, inner, pt) refl, rw (line, st) refl)
+
+  -- ---- declarations
+
+  initial_reads : (value : Option ExprTree) (ts rest : List Tok) (u : Tok) (mark : Mark) → SpellsInitial limits value ts → u.sort ≡ Sign mark → Stops mark → initial_by limits (ts ++ (u ∷ rest)) ≡ Ok (value, u ∷ rest)
+  unfolding initial_by
+  initial_reads None ts rest u mark c z stops =
+      let none : sees_mark m.Assign (u ∷ rest) ≡ false = ap (is_mark m.Assign) z ∙ stops.2 in
+      rw (c, none) refl
+  initial_reads (Some e) ts rest u mark (as', es, c, (n, (t, ct, st, pt)), x) z stops = rw (c, ct, st, full_reads e es rest u mark x z stops) refl
+
+  variable_reads : (v : VariableTree) (ts rest : List Tok) (u : Tok) (mark : Mark) → SpellsVariable limits v ts → u.sort ≡ Sign mark → Stops mark → variable_by limits (ts ++ (u ∷ rest)) ≡ Ok (v, u ∷ rest)
+  unfolding variable_by
+  variable_reads v ts rest u mark (ns, is, c, (t, ct, st, pt), x) z stops = rw (c, ct, st, initial_reads v.initial is rest u mark x z stops, sym pt) refl
+
+  -- what is behind a variable
+  more_front : (all : List VariableTree) (ts rest : List Tok) (u : Tok) → SpellsMoreVariables limits all ts → u.sort ≡ Sign m.Semicolon
+      → (t : Tok) × (us : List Tok) × (mark : Mark) × (ts ++ (u ∷ rest) ≡ t ∷ us) × (t.sort ≡ Sign mark) × Stops mark
+  more_front [] ts rest u c z = (u, rest, m.Semicolon, ap (λ v. v ++ (u ∷ rest)) c, z, (refl, refl, refl))
+  more_front (v ∷ others) ts rest u (cs, xs, c, (n, (t, ct, st, pt)), x) z = (t, xs ++ (u ∷ rest), m.Comma, rw (c, ct) refl, st, (refl, refl, refl))
+
+  variable_before : (v : VariableTree) (all : List VariableTree) (xs ts rest : List Tok) (u : Tok) → SpellsVariable limits v xs → SpellsMoreVariables limits all ts → u.sort ≡ Sign m.Semicolon
+      → variable_by limits (xs ++ (ts ++ (u ∷ rest))) ≡ Ok (v, ts ++ (u ∷ rest))
+  variable_before v all xs ts rest u x y z = let f = more_front all ts rest u y z in rw f.3 (variable_reads v xs f.1 f.0 f.2 x f.4 f.5)
+
+  more_variables_read : (all : List VariableTree) (ts rest : List Tok) (u : Tok) → SpellsMoreVariables limits all ts → u.sort ≡ Sign m.Semicolon → read limits more_variables (ts ++ (u ∷ rest)) ≡ Ok (all, u ∷ rest)
+  unfolding more_variables_by next_variable_by
+  more_variables_read [] ts rest u c z = rw (c, read_is limits more_variables (u ∷ rest), z) refl
+  more_variables_read (v ∷ others) ts rest u (cs, us, c, (n, (t, ct, st, pt)), (xs, ys, d, x, y)) z =
+      let tail = ys ++ (u ∷ rest) in
+      let line : ts ++ (u ∷ rest) ≡ t ∷ (xs ++ tail) = rw (c, ct, d) (ap (λ v. t ∷ v) (append_assoc xs ys (u ∷ rest))) in
+      rw line (read_is limits more_variables (t ∷ (xs ++ tail)) ∙ rw (st, variable_before v others xs ys rest u x y z, more_variables_read others ys rest u y z) refl)
+
+  declaration_reads : (s : StmtTree) (ts rest : List Tok) → SpellsDeclaration limits s ts → (declaration_by limits (read limits) (ts ++ rest) ≡ Ok (s, rest)) × (sees_word w.Int (ts ++ rest) ≡ true)
+  unfolding declaration_by variables_by
+  declaration_reads (Variables at (v ∷ others)) ts rest (ks, us, p, (t, ct, st, pt), (zs, ws, q, (xs, ys, c, x, y), (n, (u, cu, su, pu)))) =
+      let tail = ys ++ (u ∷ rest) in
+      let line : ts ++ rest ≡ t ∷ (xs ++ tail) =
+      rw (p, ct, q, c, cu) (ap (λ v. t ∷ v) (append_assoc (xs ++ ys) (u ∷ []) rest ∙ append_assoc xs ys (u ∷ rest))) in
+      (rw (line, st, variable_before v others xs ys rest u x y su, more_variables_read others ys rest u y su, su, pt) refl, rw (line, st) refl)
+  declaration_reads (Variables at []) ts rest (ks, us, p, k, (zs, ws, q, none, n)) = absurd none
+  declaration_reads (Block at all) ts rest h = absurd h
+  declaration_reads (Empty at) ts rest h = absurd h
+  declaration_reads (Simple e) ts rest h = absurd h
+  declaration_reads (Return at value) ts rest h = absurd h
+  declaration_reads (If at c a) ts rest h = absurd h
+  declaration_reads (IfElse at c a b) ts rest h = absurd h
+  declaration_reads (While at c a) ts rest h = absurd h
+
+  -- ---- blocks
 
   none_reads : (d : ℕ) → ReadsAll d no_stmts
   unfolding items_by
-  none_reads d ts rest h e = rw (h, read_is limits (items d), e) refl
+  none_reads d ts rest h e = (rw (h, read_is limits (items d), e) refl, rw h (close_not_else rest e))
+
+  item_reads : (d : ℕ) (s : StmtTree) → Reads d s → (ts rest : List Tok) → (SpellsDeclaration limits s ∣ Nested limits d (SpellsStmt limits d s)) ts → (is_open s ≡ true → sees_word w.Else rest ≡ false)
+      → (item_by limits (read limits) d (ts ++ rest) ≡ Ok (s, rest)) × (sees_mark m.CloseBrace (ts ++ rest) ≡ false) × (sees_word w.Else (ts ++ rest) ≡ false)
+  unfolding item_by perhaps_by
+  item_reads d s k ts rest (inl h) no_else =
+      let one = declaration_reads s ts rest h in
+      (rw (one.1, one.0) refl, int_not_close (ts ++ rest) one.1, int_not_else (ts ++ rest) one.1)
+  item_reads d s k ts rest (inr h) no_else =
+      let one = k ts rest h.1 no_else in
+      let some = nested_fits limits.depth d begins_stmt (stmt_by limits (read limits) d) (ts ++ rest) h.0 ∙ one.0 in
+      (rw (stmt_not_int (ts ++ rest) one.1, some) refl, stmt_not_close (ts ++ rest) one.1, stmt_not_else (ts ++ rest) one.1)
 
   and_reads : (d : ℕ) (s : StmtTree) (others : StmtTrees) → Reads d s → ReadsAll d others → ReadsAll d (and_stmt s others)
-  unfolding items_by item_by
+  unfolding items_by
   and_reads d s others k j ts rest (xs, ys, c, x, y) e =
-      let one = k xs (ys ++ rest) x.1 in
-      let item = nested_fits limits.depth d begins_stmt (stmt_by limits (read limits) d) (xs ++ (ys ++ rest)) x.0 ∙ one.0 in
-      rw (c, append_assoc xs ys rest) (read_is limits (items d) (xs ++ (ys ++ rest)) ∙ rw (one.1, item, j ys rest y e) refl)
+      let tail = j ys rest y e in
+      let one = item_reads d s k xs (ys ++ rest) x (λ _. tail.1) in
+      (rw (c, append_assoc xs ys rest) (read_is limits (items d) (xs ++ (ys ++ rest)) ∙ rw (one.1, one.0, tail.0) refl), rw (c, append_assoc xs ys rest) one.2)
 
   mutual
-    pub complete_stmt : (s : StmtTree) (d : ℕ) → Reads d s
+    complete_stmt : (s : StmtTree) (d : ℕ) → Reads d s
     complete_stmt (Block at all) d = block_reads d at all (complete_stmts all (suc d))
     complete_stmt (Empty at) d = empty_reads d at
     complete_stmt (Simple e) d = simple_reads d e
     complete_stmt (Return at value) d = return_reads d at value
+    complete_stmt (Variables at all) d = λ ts rest h _. absurd h
+    complete_stmt (If at c a) d = if_reads d at c a (complete_stmt a (suc d))
+    complete_stmt (IfElse at c a b) d = if_else_reads d at c a b (complete_stmt a (suc d)) (complete_stmt b (suc d))
+    complete_stmt (While at c a) d = while_reads d at c a (complete_stmt a (suc d))
 
     complete_stmts : (all : StmtTrees) (d : ℕ) → ReadsAll d all
     complete_stmts no_stmts d = none_reads d
     complete_stmts (and_stmt s others) d = and_reads d s others (complete_stmt s d) (complete_stmts others d)
+
+  -- ---- parameters
+
+  more_parameters_read : (all : List ParameterTree) (ts rest : List Tok) (u : Tok) → SpellsMoreParameters all ts → u.sort ≡ Sign m.CloseParen → read limits more_parameters (ts ++ (u ∷ rest)) ≡ Ok (all, u ∷ rest)
+  unfolding more_parameters_by next_parameter
+  more_parameters_read [] ts rest u c z = rw (c, read_is limits more_parameters (u ∷ rest), z) refl
+  more_parameters_read (p ∷ others) ts rest u (cs, us, c, (n, (t, ct, st, pt)), (xs, ys, d, x, y)) z =
+      let tail = ys ++ (u ∷ rest) in
+      let line : ts ++ (u ∷ rest) ≡ t ∷ (xs ++ tail) = rw (c, ct, d) (ap (λ v. t ∷ v) (append_assoc xs ys (u ∷ rest))) in
+      rw line (read_is limits more_parameters (t ∷ (xs ++ tail)) ∙ rw (st, parameter_reads p xs tail x, more_parameters_read others ys rest u y z) refl)
+
+  -- a parameter is neither `)` nor `void`
+  some_there : (called : List ℕ) (p : ParameterTree) (ts rest : List Tok) → SpellsParameter p ts → parameters_by (read limits) called (ts ++ rest) ≡ some_by (read limits) called (ts ++ rest)
+  unfolding parameters_by
+  some_there called p ts rest (ks, ns, c, (i, (t, ck, sk, pk)), n) = rw (c, ck, sk) refl
+
+  second_reads : (called : List ℕ) (p q : ParameterTree) (others : List ParameterTree) (xs ys rest : List Tok) (u : Tok) → SpellsParameter q xs → SpellsMoreParameters others ys → u.sort ≡ Sign m.CloseParen
+      → second_by (read limits) called p (xs ++ (ys ++ (u ∷ rest))) ≡ Ok (Ints (p ∷ q ∷ others), u ∷ rest)
+  unfolding second_by with_others_by
+  second_reads called p q others xs ys rest u x y z =
+      rw (no_texts called q xs (ys ++ (u ∷ rest)) x, parameter_reads q xs (ys ++ (u ∷ rest)) x, more_parameters_read others ys rest u y z) refl
+
+  one_reads : (called : List ℕ) (p : ParameterTree) (ts rest : List Tok) (u : Tok) (xs : List Tok) → ts ≡ xs ++ [] → SpellsParameter p xs → u.sort ≡ Sign m.CloseParen
+      → parameters_by (read limits) called (ts ++ (u ∷ rest)) ≡ Ok (Ints (p ∷ []), u ∷ rest)
+  unfolding some_by
+  one_reads called p ts rest u xs c x z = rw (c, append-nil xs) (some_there called p xs (u ∷ rest) x ∙ rw (parameter_reads p xs (u ∷ rest) x, z) refl)
+
+  more_read : (called : List ℕ) (p q : ParameterTree) (others : List ParameterTree) (ts xs ys zs rest : List Tok) (t u : Tok) → ts ≡ xs ++ (t ∷ (ys ++ zs)) → t.sort ≡ Sign m.Comma
+      → SpellsParameter p xs → SpellsParameter q ys → SpellsMoreParameters others zs → u.sort ≡ Sign m.CloseParen → parameters_by (read limits) called (ts ++ (u ∷ rest)) ≡ Ok (Ints (p ∷ q ∷ others), u ∷ rest)
+  unfolding some_by
+  more_read called p q others ts xs ys zs rest t u c s x y o z =
+      let tail = t ∷ (ys ++ (zs ++ (u ∷ rest))) in
+      let line : ts ++ (u ∷ rest) ≡ xs ++ tail = rw c (append_assoc xs (t ∷ (ys ++ zs)) (u ∷ rest) ∙ ap (λ v. xs ++ (t ∷ v)) (append_assoc ys zs (u ∷ rest))) in
+      rw line (some_there called p xs tail x ∙ rw (parameter_reads p xs tail x, s, second_reads called p q others ys zs rest u y o z) refl)
+
+  parameters_read : (called : List ℕ) (ps : ParametersTree) (ts rest : List Tok) (u : Tok) → SpellsParameters called ps ts → u.sort ≡ Sign m.CloseParen → parameters_by (read limits) called (ts ++ (u ∷ rest)) ≡ Ok (ps, u ∷ rest)
+  unfolding parameters_by some_by parameter second_by
+  parameters_read called (Ints []) ts rest u (inl c) z = rw (c, z) refl
+  parameters_read called (Ints []) ts rest u (inr (at, (t, c, s, p))) z = rw (c, s) refl
+  parameters_read called (Ints (p ∷ [])) ts rest u (xs, ys, c, x, none) z = one_reads called p ts rest u xs (c ∙ ap (λ v. xs ++ v) none) x z
+  parameters_read called (Ints (p ∷ q ∷ others)) ts rest u (xs, vs, c, x, (cs, ws, d, (n, (t, ct, st, pt)), (ys, zs, f, y, o))) z = more_read called p q others ts xs ys zs rest t u (rw (c, d, ct, f) refl) st x y o z
+  parameters_read called CountAndTexts ts rest u (is, (as', us, c, (i, (t, ca, sa, pa)), (bs, vs, d, (n, count, (v, cb, sb, pb)), (cs, ws, f, (comma, (x, cx, sx, px)), z)))) e =
+      let tail = u ∷ rest in
+      let line : ts ++ tail ≡ t ∷ v ∷ x ∷ (ws ++ tail) = rw (c, ca, d, cb, f, cx) refl in
+      rw (line, sa, sb, sx, texts_seen called ws tail is z, texts_read ws tail z) refl
+
+  head_reads : (kind : Kind) (called : ℕ × List ℕ) (ps : ParametersTree) (ts rest : List Tok) → SpellsHead kind called ps ts → head_by (read limits) (ts ++ rest) ≡ Ok ((kind, called, ps), rest)
+  unfolding head_by
+  head_reads kind called ps ts rest (as', us, c, k, (bs, vs, d, (u, cb, sb, pb), (cs, ws, f, (o, (v, cv, sv, pv)), (ds, es, g, p, (e, (x, ce, se, pe)))))) =
+      let tail = u ∷ v ∷ (ds ++ (x ∷ rest)) in
+      let line : ts ++ rest ≡ as' ++ tail =
+      rw (c, d, cb, f, cv, g, ce) (append_assoc as' (u ∷ v ∷ (ds ++ (x ∷ []))) rest ∙ ap (λ z. as' ++ (u ∷ v ∷ z)) (append_assoc ds (x ∷ []) rest)) in
+      rw (line, result_reads kind as' tail k, sb, sv, parameters_read called.1 ps ds rest x p se, se, sym pb) refl
 
   -- ---- functions
 
@@ -139,20 +324,18 @@ module _ (limits : Limits) where
   body_reads None ts rest (n, (u, cu, su, pu)) = rw (cu, su) refl
   body_reads (Some all) ts rest (os, us, p, (o, (t, ct, st, pt)), (ys, zs, q, y, (n, (u, cu, su, pu)))) =
       let line : ts ++ rest ≡ t ∷ (ys ++ (u ∷ rest)) = rw (p, ct, q, cu) (ap (λ v. t ∷ v) (append_assoc ys (u ∷ []) rest)) in
-      rw (line, st, complete_stmts all 2 ys (u ∷ rest) y (ap (is_mark m.CloseBrace) su), su) refl
+      rw (line, st, (complete_stmts all 2 ys (u ∷ rest) y (ap (is_mark m.CloseBrace) su)).0, su) refl
 
-  pub function_reads : (f : FunctionTree) (ts rest : List Tok) → SpellsFunction limits f ts → function_by (read limits) (ts ++ rest) ≡ Ok (f, rest)
+  function_reads : (f : FunctionTree) (ts rest : List Tok) → SpellsFunction limits f ts → function_by (read limits) (ts ++ rest) ≡ Ok (f, rest)
   unfolding function_by
-  function_reads f ts rest (hs, bs, c, h, b) = rw (c, append_assoc hs bs rest, head_reads f.at f.parameters hs (bs ++ rest) h, body_reads f.body bs rest b) refl
+  function_reads f ts rest (hs, bs, c, h, b) = rw (c, append_assoc hs bs rest, head_reads f.result (f.at, f.name) f.parameters hs (bs ++ rest) h, body_reads f.body bs rest b) refl
 
   -- a function begins with a token
-  pub head_more : (at : ℕ) (ps : Parameters) (ts rest : List Tok) → SpellsHead at ps ts → begins any (ts ++ rest) ≡ true
-  head_more at ps ts rest (as', us, c, (i, (t, ca, sa, pa)), h) = rw (c, ca) refl
+  function_more : (f : FunctionTree) (ts rest : List Tok) → SpellsFunction limits f ts → begins any (ts ++ rest) ≡ true
+  function_more f ts rest (hs, bs, c, (as', us, d, k, h), b) = rw (c, d, append_assoc (as' ++ us) bs rest, append_assoc as' us (bs ++ rest)) (result_more f.result as' (us ++ (bs ++ rest)) k)
 
   pub complete_unit : (fs : List FunctionTree) (ts : List Tok) → SpellsUnit limits fs ts → read limits functions ts ≡ Ok (fs, [])
   unfolding functions_by
   complete_unit [] ts c = rw c (read_is limits functions [])
-  complete_unit (f ∷ others) ts (xs, ys, c, (hs, bs, d, h, b), y) =
-      let more : begins any (xs ++ ys) ≡ true = rw (d, append_assoc hs bs ys) (head_more f.at f.parameters hs (bs ++ ys) h) in
-      let one = function_reads f xs ys (hs, bs, d, h, b) in
-      rw c (read_is limits functions (xs ++ ys) ∙ rw (more, one, complete_unit others ys y) refl)
+  complete_unit (f ∷ others) ts (xs, ys, c, x, y) =
+      rw c (read_is limits functions (xs ++ ys) ∙ rw (function_more f xs ys x, function_reads f xs ys x, complete_unit others ys y) refl)

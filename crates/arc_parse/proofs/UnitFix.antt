@@ -1,12 +1,23 @@
--- What the rules that loops follow read.
+-- What the rules that the code follows read.
 use Rattle.std.proofs.Common.{◌≡◌, ℕ, List}
 use Rattle.arc_lex.specs.Tokens.{Tok}
-use Rattle.arc_parse.specs.Limits.{these}
-use Rattle.arc_parse.specs.UnitRules.{read, items, functions, items_by, functions_by}
+use Rattle.arc_ast.specs.Tree.{StmtTree}
+use Rattle.arc_parse.specs.Limits.{these, nested}
+use Rattle.arc_parse.specs.Reader.{any}
+use Rattle.arc_parse.specs.UnitRules.{read, stmt, items, more_variables, more_parameters, functions, stmt_by, items_by, more_variables_by, more_parameters_by, functions_by}
 use Rattle.arc_parse.proofs.UnitLocal.{read_is}
+
+pub read_stmt : (d : ℕ) (ts : List Tok) → read these (stmt d) ts ≡ nested these.depth d any (stmt_by these (read these) d) ts
+read_stmt d ts = read_is these (stmt d) ts
 
 pub read_items : (d : ℕ) (ts : List Tok) → read these (items d) ts ≡ items_by these (read these) d ts
 read_items d ts = read_is these (items d) ts
+
+pub read_variables : (ts : List Tok) → read these more_variables ts ≡ more_variables_by these (read these) ts
+read_variables ts = read_is these more_variables ts
+
+pub read_parameters : (ts : List Tok) → read these more_parameters ts ≡ more_parameters_by (read these) ts
+read_parameters ts = read_is these more_parameters ts
 
 pub read_functions : (ts : List Tok) → read these functions ts ≡ functions_by (read these) ts
 read_functions ts = read_is these functions ts

@@ -2,16 +2,18 @@
 use Rattle.std.proofs.Common.{◌≡◌, ℕ, suc, List, Bool, true, false, cond, Option}
 use Rattle.arc_lex.specs.Tokens.{Tok}
 use Rattle.arc_parse.specs.Reader.{Reader, unexpected, too_deep_here, if_first}
+use Rattle.arc_ast.specs.Tree.{ExprTree, StmtTree, ParameterTree}
 use Rattle.arc_parse.specs.Limits.{Limits, is_above, nested}
 use Rattle.arc_parse.specs.ExprRules.{expr}
-use Rattle.arc_parse.specs.UnitRules.{Rule, Node, Rules, items, functions, full, simple_by, empty, value_by, return_by, block_by, stmt_by, item_by, items_by, texts_name, perhaps_const, count_and_texts, parameters, head, body_by, function_by, functions_by, body, read}
-use Rattle.arc_parse.proofs.Local.{Local, in_turn, behind_token, at_least_none, local_ret, local_token, local_if, local_unexpected, local_plain, local_too_deep}
+use Rattle.arc_parse.specs.UnitRules.{Rule, Node, Rules, stmt, items, more_variables, more_parameters, functions, full, simple_by, empty, value_by, return_by, block_by, test_by, else_by, if_by, while_by, worded_by, stmt_by, initial_by, variable_by, next_variable_by, more_variables_by, variables_by, declaration_by, perhaps_by, item_by, items_by, texts_name, perhaps_const, texts, parameter, next_parameter, more_parameters_by, with_others_by, second_by, some_by, parameters_by, result_kind, head_by, body_by, function_by, functions_by, body, read}
+use Rattle.arc_parse.proofs.Local.{Local, then, after, weaker, local_ret, local_token, local_if, local_unexpected, local_plain, local_too_deep}
 use Rattle.arc_parse.proofs.Limited.{up_to_local}
 use Rattle.arc_parse.proofs.ExprLocal as exprs
 use Rattle.arc_parse.proofs.Knot as knot
 
 abbrev pub need : Rule → ℕ
-need rule = 0
+need (stmt d) = 1
+need _ = 0
 
 abbrev pub Alike : ℕ → Rules → Rules → Type 0
 Alike k g h = (rule : Rule) → Local (need rule) k (g rule) (h rule)
@@ -29,25 +31,53 @@ nested_local {A = A} {k = k} {f = f} {h = h} most d test l = go (is_above most d
 texts_name_local : {k : ℕ} → Local 1 k texts_name texts_name
 unfolding texts_name
 texts_name_local = local_if _
-    (in_turn (local_token _) (λ star. in_turn (at_least_none (local_token _)) (λ texts. local_ret _)))
-    (in_turn (local_token _) (λ texts. in_turn (at_least_none (local_token _)) (λ start. in_turn (at_least_none (local_token _)) (λ end. local_ret _))))
+    (then (local_token _) (λ star. then (weaker (local_token _)) (λ texts. local_ret _)))
+    (then (local_token _) (λ texts. then (weaker (local_token _)) (λ start. then (weaker (local_token _)) (λ end. local_ret _))))
 
 perhaps_const_local : {k : ℕ} → Local 0 k perhaps_const perhaps_const
 unfolding perhaps_const
-perhaps_const_local = local_if _ (at_least_none (in_turn (local_token _) (λ const. local_ret _))) (local_ret _)
+perhaps_const_local = local_if _ (weaker (then (local_token _) (λ const. local_ret _))) (local_ret _)
 
-count_and_texts_local : {k : ℕ} → Local 1 k count_and_texts count_and_texts
-unfolding count_and_texts
-count_and_texts_local = in_turn (local_token _) (λ int. in_turn (at_least_none (local_token _)) (λ count. in_turn (at_least_none (local_token _)) (λ comma. in_turn perhaps_const_local (λ const.
-    in_turn (at_least_none (local_token _)) (λ char. in_turn (at_least_none (local_token _)) (λ star. in_turn (at_least_none texts_name_local) (λ texts. local_ret _)))))))
+texts_local : {k : ℕ} → Local 0 k texts texts
+unfolding texts
+texts_local = then perhaps_const_local (λ const. then (weaker (local_token _)) (λ char. then (weaker (local_token _)) (λ star. then (weaker texts_name_local) (λ all. local_ret _))))
 
-parameters_local : {k : ℕ} → Local 0 k parameters parameters
-unfolding parameters
-parameters_local = local_if _ (local_ret _) (local_if _ (at_least_none (in_turn (local_token _) (λ void. local_ret _))) (at_least_none count_and_texts_local))
+parameter_local : {k : ℕ} → Local 1 k parameter parameter
+unfolding parameter
+parameter_local = then (local_token _) (λ int. then (weaker (local_token _)) (λ called. local_ret _))
 
-head_local : {k : ℕ} → Local 1 k head head
-unfolding head
-head_local = in_turn (local_token _) (λ int. in_turn (at_least_none (local_token _)) (λ at. in_turn (at_least_none (local_token _)) (λ start. in_turn parameters_local (λ ps. in_turn (at_least_none (local_token _)) (λ end. local_ret _)))))
+next_parameter_local : {k : ℕ} → Local 1 k next_parameter next_parameter
+unfolding next_parameter
+next_parameter_local = then (local_token _) (λ comma. weaker parameter_local)
+
+result_local : {k : ℕ} → Local 1 k result_kind result_kind
+unfolding result_kind
+result_local = local_if _ (then (local_token _) (λ void. local_ret _)) (then (local_token _) (λ int. local_ret _))
+
+module _ {k : ℕ} (g h : Rules) (rec : Alike k g h) where
+  more_parameters_local : Local 0 (suc k) (more_parameters_by g) (more_parameters_by h)
+  unfolding more_parameters_by
+  more_parameters_local = local_if _ (weaker (after next_parameter_local (λ p. then (rec more_parameters) (λ others. local_ret _)))) (local_ret _)
+
+  with_others_local : (p : ParameterTree) → Local 0 k (with_others_by g p) (with_others_by h p)
+  unfolding with_others_by
+  with_others_local p = weaker (then parameter_local (λ q. then (rec more_parameters) (λ others. local_ret _)))
+
+  second_local : (called : List ℕ) (p : ParameterTree) → Local 0 k (second_by g called p) (second_by h called p)
+  unfolding second_by
+  second_local called p = local_if _ texts_local (then (with_others_local p) (λ all. local_ret _))
+
+  some_local : (called : List ℕ) → Local 0 k (some_by g called) (some_by h called)
+  unfolding some_by
+  some_local called = weaker (then parameter_local (λ p. local_if _ (weaker (then (local_token _) (λ comma. second_local called p))) (local_ret _)))
+
+  parameters_local : (called : List ℕ) → Local 0 k (parameters_by g called) (parameters_by h called)
+  unfolding parameters_by
+  parameters_local called = local_if _ (local_ret _) (local_if _ (weaker (then (local_token _) (λ void. local_ret _))) (some_local called))
+
+  head_local : Local 1 (suc k) (head_by g) (head_by h)
+  unfolding head_by
+  head_local = after result_local (λ kind. then (weaker (local_token _)) (λ called. then (weaker (local_token _)) (λ start. then (parameters_local called.1) (λ ps. then (weaker (local_token _)) (λ end. local_ret _)))))
 
 module _ (limits : Limits) where
   -- ---- statements
@@ -58,48 +88,99 @@ module _ (limits : Limits) where
 
   simple_local : {k : ℕ} → Local 1 k (simple_by limits) (simple_by limits)
   unfolding simple_by
-  simple_local = in_turn full_local (λ e. in_turn (at_least_none (local_token _)) (λ end. local_ret _))
+  simple_local = then full_local (λ e. then (weaker (local_token _)) (λ end. local_ret _))
 
   empty_local : {k : ℕ} → Local 1 k empty empty
   unfolding empty
-  empty_local = in_turn (local_token _) (λ at. local_ret _)
+  empty_local = then (local_token _) (λ at. local_ret _)
 
   value_local : {k : ℕ} → Local 0 k (value_by limits) (value_by limits)
   unfolding value_by
-  value_local = local_if _ (local_ret _) (at_least_none (in_turn full_local (λ e. local_ret _)))
+  value_local = local_if _ (local_ret _) (weaker (then full_local (λ e. local_ret _)))
 
   return_local : {k : ℕ} → Local 1 k (return_by limits) (return_by limits)
   unfolding return_by
-  return_local = in_turn (local_token _) (λ at. in_turn value_local (λ value. in_turn (at_least_none (local_token _)) (λ end. local_ret _)))
+  return_local = then (local_token _) (λ at. then value_local (λ value. then (weaker (local_token _)) (λ end. local_ret _)))
+
+  test_local : {k : ℕ} → Local 1 k (test_by limits) (test_by limits)
+  unfolding test_by
+  test_local = then (local_token _) (λ start. then (weaker full_local) (λ c. then (weaker (local_token _)) (λ end. local_ret _)))
+
+  initial_local : {k : ℕ} → Local 0 k (initial_by limits) (initial_by limits)
+  unfolding initial_by
+  initial_local = local_if _ (weaker (then (local_token _) (λ sign. then (weaker full_local) (λ e. local_ret _)))) (local_ret _)
+
+  variable_local : {k : ℕ} → Local 1 k (variable_by limits) (variable_by limits)
+  unfolding variable_by
+  variable_local = then (local_token _) (λ called. then initial_local (λ value. local_ret _))
+
+  next_variable_local : {k : ℕ} → Local 1 k (next_variable_by limits) (next_variable_by limits)
+  unfolding next_variable_by
+  next_variable_local = then (local_token _) (λ comma. weaker variable_local)
 
   module _ {k : ℕ} (g h : Rules) (rec : Alike k g h) where
+    more_variables_local : Local 0 (suc k) (more_variables_by limits g) (more_variables_by limits h)
+    unfolding more_variables_by
+    more_variables_local = local_if _ (weaker (after next_variable_local (λ v. then (rec more_variables) (λ others. local_ret _)))) (local_ret _)
+
+    variables_local : Local 0 k (variables_by limits g) (variables_by limits h)
+    unfolding variables_by
+    variables_local = weaker (then variable_local (λ v. then (rec more_variables) (λ others. local_ret _)))
+
+    declaration_local : Local 1 (suc k) (declaration_by limits g) (declaration_by limits h)
+    unfolding declaration_by
+    declaration_local = after (local_token _) (λ at. then variables_local (λ all. then (weaker (local_token _)) (λ end. local_ret _)))
+
+    else_local : (d at : ℕ) (c : ExprTree) (a : StmtTree) → Local 0 k (else_by g d at c a) (else_by h d at c a)
+    unfolding else_by
+    else_local d at c a = local_if _ (weaker (then (local_token _) (λ other. then (weaker (rec (stmt (suc d)))) (λ b. local_ret _)))) (local_ret _)
+
+    if_local : (d : ℕ) → Local 1 (suc k) (if_by limits g d) (if_by limits h d)
+    unfolding if_by
+    if_local d = after (local_token _) (λ at. then (weaker test_local) (λ c. then (weaker (rec (stmt (suc d)))) (λ a. else_local d at c a)))
+
+    while_local : (d : ℕ) → Local 1 (suc k) (while_by limits g d) (while_by limits h d)
+    unfolding while_by
+    while_local d = after (local_token _) (λ at. then (weaker test_local) (λ c. then (weaker (rec (stmt (suc d)))) (λ a. local_ret _)))
+
     block_local : (d : ℕ) → Local 1 (suc k) (block_by g d) (block_by h d)
     unfolding block_by
-    block_local d = behind_token (local_token _) (λ at. in_turn (rec (items (suc d))) (λ all. in_turn (at_least_none (local_token _)) (λ end. local_ret _)))
+    block_local d = after (local_token _) (λ at. then (rec (items (suc d))) (λ all. then (weaker (local_token _)) (λ end. local_ret _)))
+
+    worded_local : (d : ℕ) → Local 1 (suc k) (worded_by limits g d) (worded_by limits h d)
+    unfolding worded_by
+    worded_local d = local_if _ return_local (local_if _ (if_local d) (local_if _ (while_local d) simple_local))
 
     stmt_local : (d : ℕ) → Local 1 (suc k) (stmt_by limits g d) (stmt_by limits h d)
     unfolding stmt_by
-    stmt_local d = local_if _ (block_local d) (local_if _ empty_local (local_if _ return_local simple_local))
+    stmt_local d = local_if _ (block_local d) (local_if _ empty_local (worded_local d))
+
+    item_local : (d : ℕ) → Local 1 (suc k) (item_by limits g d) (item_by limits h d)
+    unfolding item_by perhaps_by
+    item_local d = local_if _ declaration_local (nested_local limits.depth d _ (stmt_local d))
 
     items_local : (d : ℕ) → Local 0 (suc k) (items_by limits g d) (items_by limits h d)
-    unfolding items_by item_by
-    items_local d = local_if _ (local_ret _) (at_least_none (behind_token (nested_local limits.depth d _ (stmt_local d)) (λ s. in_turn (rec (items d)) (λ others. local_ret _))))
+    unfolding items_by
+    items_local d = local_if _ (local_ret _) (weaker (after (item_local d) (λ s. then (rec (items d)) (λ others. local_ret _))))
 
     body_by_local : Local 0 k (body_by g) (body_by h)
     unfolding body_by
-    body_by_local = local_if _ (at_least_none (in_turn (local_token _) (λ end. local_ret _)))
-        (at_least_none (in_turn (local_token _) (λ start. in_turn (rec (items 2)) (λ all. in_turn (at_least_none (local_token _)) (λ end. local_ret _)))))
+    body_by_local = local_if _ (weaker (then (local_token _) (λ end. local_ret _)))
+        (weaker (then (local_token _) (λ start. then (rec (items 2)) (λ all. then (weaker (local_token _)) (λ end. local_ret _)))))
 
     function_local : Local 1 (suc k) (function_by g) (function_by h)
     unfolding function_by
-    function_local = behind_token head_local (λ h. in_turn body_by_local (λ b. local_ret _))
+    function_local = after (head_local g h rec) (λ f. then body_by_local (λ b. local_ret _))
 
     functions_local : Local 0 (suc k) (functions_by g) (functions_by h)
     unfolding functions_by
-    functions_local = local_if _ (at_least_none (behind_token function_local (λ f. in_turn (rec functions) (λ others. local_ret _)))) (local_ret _)
+    functions_local = local_if _ (weaker (after function_local (λ f. then (rec functions) (λ others. local_ret _)))) (local_ret _)
 
     body_local : Alike (suc k) (body limits g) (body limits h)
+    body_local (stmt d) = nested_local limits.depth d _ (stmt_local d)
     body_local (items d) = items_local d
+    body_local more_variables = more_variables_local
+    body_local more_parameters = more_parameters_local g h rec
     body_local functions = functions_local
 
   law : knot.IsLocal Rule Node (body limits) need

@@ -1,22 +1,26 @@
 -- The rules of statements, functions and units give what the tokens spell.
-use Rattle.std.proofs.Common.{◌≡◌, ℕ, suc, zero, List, [], ◌∷◌, ◌++◌, append-nil, Ok, Err, Bool, true, false, cond, Option, Some, None, refl, sym, subst, ◌∙◌}
+use Rattle.std.proofs.Common.{◌≡◌, inl, inr, ℕ, suc, zero, List, [], ◌∷◌, ◌++◌, append_assoc, append-nil, Ok, Err, Bool, true, false, cond, Option, Some, None, refl, sym, ap, subst, ◌∙◌, ◌&&◌, bytes_eq}
 use Rattle.std.proofs.lemmas.Bool.{ltb-false}
+use Rattle.std.proofs.lemmas.Slice.Eq.{bytes_eq-Decides}
 use Rattle.arc_lex.specs.declared.token.Mark.TheVariants as m
-use Rattle.arc_lex.specs.Tokens.{Tok, Sign}
-use Rattle.arc_ast.specs.Tree.{Block, Empty, Simple, Return, no_stmts, and_stmt}
-use Rattle.arc_parse.specs.Language.{Language, One, The}
-use Rattle.arc_parse.specs.Reader.{Read, Reader, any, begins, unexpected, too_deep_here, if_first}
+use Rattle.arc_lex.specs.declared.token.Word.TheVariants as w
+use Rattle.arc_lex.specs.Tokens.{Tok, Sign, Key}
+use Rattle.arc_lex.specs.Tokens as tokens
+use Rattle.arc_ast.specs.declared.tree.Kind.{Kind}
+use Rattle.arc_ast.specs.declared.tree.Kind.TheVariants as kinds
+use Rattle.arc_ast.specs.Tree.{ExprTree, VariableTree, StmtTree, ParameterTree, ParametersTree, Block, Empty, Simple, Return, Variables, If, IfElse, While, no_stmts, and_stmt, Ints, CountAndTexts}
+use Rattle.arc_parse.specs.Language.{Language, ◌⨾◌, ◌∣◌, One, The, TheWord, SomeName, Nothing}
+use Rattle.arc_parse.specs.Reader.{Read, Reader, any, begins, ret, sees_word, unexpected, too_deep_here, if_first}
 use Rattle.arc_parse.specs.Limits.{Limits, AtMost, Nested, is_above, nested, plainly, plain}
 use Rattle.arc_parse.specs.Knot.{deep, tied}
-use Rattle.arc_parse.specs.Grammar.{Full, SpellsValue, SpellsStmt, SpellsStmts, SpellsBody, SpellsFunction, SpellsUnit}
+use Rattle.arc_parse.specs.Grammar.{Full, SpellsValue, SpellsInitial, SpellsVariable, SpellsVariables, SpellsMoreVariables, SpellsDeclaration, SpellsTest, is_open, SpellsStmt, SpellsStmts, main_bytes, SpellsResult, SpellsParameter, SpellsMoreParameters, TextsName, SpellsParameters, SpellsHead, SpellsBody, SpellsFunction, SpellsUnit}
 use Rattle.arc_parse.specs.ExprRules.{expr}
-use Rattle.arc_parse.specs.UnitRules.{Rule, Node, Rules, items, functions, full, simple_by, empty, value_by, return_by, block_by, stmt_by, item_by, items_by, body_by, function_by, functions_by, body, read}
-use Rattle.arc_parse.proofs.Leaves.{sound_expect, sound_keyword}
-use Rattle.arc_parse.proofs.Sound.{Sound, sound_then, sound_ret, sound_if}
-use Rattle.arc_parse.proofs.SoundTo.{SoundTo, to_then, to_ret, to_unexpected, to_if, to_of, to_as}
+use Rattle.arc_parse.specs.UnitRules.{Rule, Node, Rules, stmt, items, more_variables, more_parameters, functions, full, simple_by, empty, value_by, return_by, block_by, test_by, else_by, if_by, while_by, worded_by, stmt_by, initial_by, variable_by, next_variable_by, more_variables_by, variables_by, declaration_by, perhaps_by, item_by, items_by, texts_name, perhaps_const, texts, parameter, next_parameter, more_parameters_by, begins_texts, with_others_by, second_by, some_by, parameters_by, result_kind, head_by, body_by, function_by, functions_by, body, read}
+use Rattle.arc_parse.proofs.Leaves.{sound_expect, sound_keyword, sound_name}
+use Rattle.arc_parse.proofs.Sound.{Sound, sound_then, sound_ret, sound_if, sound_as}
+use Rattle.arc_parse.proofs.SoundTo.{SoundTo, to_then, to_ret, to_unexpected, to_if, to_tested, to_of, to_as}
 use Rattle.arc_parse.proofs.Limited.{up_to_sound}
 use Rattle.arc_parse.proofs.ExprSound as exprs
-use Rattle.arc_parse.proofs.HeadFirst.{head_viable}
 
 sound_plain : {A : Type 0} {f : Reader A} {L : A → Language} → Sound f L → Sound (plain f) L
 unfolding plain
@@ -39,17 +43,107 @@ to_nested {A = A} {f = f} {L = L} (Some n) d test s = go (is_above (Some n) d) r
 last : (L : Language) (xs : List Tok) → L xs → L (xs ++ [])
 last L xs x = subst L (sym (append-nil xs)) x
 
--- what each rule gives is spelled by what it takes, and the functions go up to the end
+-- ---- the head of a function
+
+texts_name_sound : Sound texts_name (λ _. TextsName)
+unfolding texts_name
+texts_name_sound = sound_if _
+    (sound_then (sound_expect _) (λ star. sound_then sound_name (λ n. sound_ret tt
+    (λ ys y xs x. inr (xs, ys ++ [], refl, (star, x), last SomeName ys (n.0, n.1, y))))))
+    (sound_then sound_name (λ n. sound_then (sound_expect _) (λ start. sound_then (sound_expect _) (λ end. sound_ret tt
+    (λ zs z ys y xs x. inl (xs, ys ++ (zs ++ []), refl, (n.0, n.1, x), (ys, zs ++ [], refl, (start, y), last (The m.CloseSquare) zs (end, z))))))))
+
+perhaps_const_sound : Sound perhaps_const (λ _. Nothing ∣ TheWord w.Const)
+unfolding perhaps_const
+perhaps_const_sound = sound_if _ (sound_then (sound_keyword _) (λ const. sound_ret tt (λ xs x. inr (last (TheWord w.Const) xs (const, x))))) (sound_ret tt (inl refl))
+
+-- what is behind the first parameter of `main` and a comma
+abbrev Texts : Language
+Texts = (Nothing ∣ TheWord w.Const) ⨾ TheWord w.Char ⨾ The m.Star ⨾ TextsName
+
+texts_sound : Sound texts (λ ps xs. (ps ≡ CountAndTexts) × Texts xs)
+unfolding texts
+texts_sound = sound_then perhaps_const_sound (λ const. sound_then (sound_keyword _) (λ char. sound_then (sound_expect _) (λ star. sound_then texts_name_sound (λ all. sound_ret CountAndTexts
+    (λ gs g fs f es e ds d. (refl, (ds, es ++ (fs ++ (gs ++ [])), refl, d, (es, fs ++ (gs ++ []), refl, (char, e), (fs, gs ++ [], refl, (star, f), last TextsName gs g)))))))))
+
+parameter_sound : Sound parameter SpellsParameter
+unfolding parameter
+parameter_sound = sound_then (sound_keyword _) (λ int. sound_then sound_name (λ called. sound_ret (record { at = called.0; name = called.1 })
+    (λ ys y xs x. (xs, ys ++ [], refl, (int, x), last (One (tokens.Name called.1) called.0) ys y))))
+
+-- a comma and a parameter
+abbrev NextParameter : ParameterTree → Language
+NextParameter p = The m.Comma ⨾ SpellsParameter p
+
+next_parameter_sound : Sound next_parameter NextParameter
+unfolding next_parameter
+next_parameter_sound = sound_then (sound_expect _) (λ comma. sound_as parameter_sound (λ p ys y xs x. (xs, ys, refl, (comma, x), y)))
+
+result_sound : Sound result_kind SpellsResult
+unfolding result_kind
+result_sound = sound_if _ (sound_then (sound_keyword _) (λ void. sound_ret kinds.Void (λ xs x. last (TheWord w.Void) xs (void, x))))
+    (sound_then (sound_keyword _) (λ int. sound_ret kinds.Int (λ xs x. last (TheWord w.Int) xs (int, x))))
+
+-- What each rule gives is spelled by what it takes. No `else` is behind a statement whose `if` it would belong to, and the
+-- functions go up to the end.
 abbrev pub Given : Limits → (rule : Rule) → Node rule → List Tok → Language
+Given limits (stmt d) s r xs = Nested limits d (SpellsStmt limits d s) xs × (is_open s ≡ true → sees_word w.Else r ≡ false)
 Given limits (items d) all r xs = SpellsStmts limits d all xs
+Given limits more_variables all r xs = SpellsMoreVariables limits all xs
+Given limits more_parameters all r xs = SpellsMoreParameters all xs
 Given limits functions fs r xs = SpellsUnit limits fs xs × (r ≡ [])
 
 abbrev pub AreSound : Limits → Rules → Type 0
 AreSound limits g = (rule : Rule) → SoundTo (g rule) (Given limits rule)
 
+-- a statement, behind which no `else` would belong to it
+abbrev Ended : Limits → ℕ → StmtTree → List Tok → Language
+Ended limits d s r xs = SpellsStmt limits d s xs × (is_open s ≡ true → sees_word w.Else r ≡ false)
+
+-- a statement to which no `else` may belong
+abbrev Closed : Limits → ℕ → StmtTree → Language
+Closed limits d s xs = SpellsStmt limits d s xs × (is_open s ≡ false)
+
+ended : {f : Reader StmtTree} (limits : Limits) (d : ℕ) → Sound f (Closed limits d) → SoundTo f (Ended limits d)
+ended limits d s = to_as (to_of s) (λ a r xs h. (h.0, λ o. absurd (differ (sym o ∙ h.1))))
+  where
+    differ : true ≡ false → ⊥
+    differ e = cc
+
+sees_else : (at : ℕ) (xs ys r : List Tok) → One (Key w.Else) at xs → sees_word w.Else ((xs ++ ys) ++ r) ≡ true
+sees_else at xs ys r (t, c, s, p) = rw (c, s) refl
+
+-- where an `else` is, the statement before it is not open
+closed : (s : StmtTree) (r : List Tok) → (is_open s ≡ true → sees_word w.Else r ≡ false) → sees_word w.Else r ≡ true → is_open s ≡ false
+closed s r none here = go (is_open s) refl
+  where
+    differ : true ≡ false → ⊥
+    differ e = cc
+
+    go : (b : Bool) → is_open s ≡ b → b ≡ false
+    go true e = absurd (differ (sym here ∙ none e))
+    go false e = refl
+
+-- two languages in turn, and a third behind them
+grouped : (L M N : Language) (xs ys : List Tok) → (L ⨾ M) xs → N ys → (L ⨾ M ⨾ N) (xs ++ ys)
+grouped L M N xs ys x y = (x.0, x.1 ++ ys, ap (λ v. v ++ ys) x.2 ∙ append_assoc x.0 x.1 ys, x.3, (x.1, ys, refl, x.4, y))
+
+-- this parameter and others, of which the tokens spell the others
+abbrev WithOthers : ParameterTree → List ParameterTree → Language
+WithOthers p all = λ xs. (q : ParameterTree) × (others : List ParameterTree) × (all ≡ p ∷ q ∷ others) × (SpellsParameter q ⨾ SpellsMoreParameters others) xs
+
 no_more : (r : List Tok) → begins any r ≡ false → r ≡ []
 no_more [] e = refl
 no_more (t ∷ r) e = cc
+
+-- a function that may take texts is named `main`
+texts_main : (called : List ℕ) (us : List Tok) → begins (begins_texts called) us ≡ true → called ≡ main_bytes
+texts_main called [] e = cc
+texts_main called (t ∷ us) e = (bytes_eq-Decides called main_bytes).0 (both (bytes_eq called main_bytes) _ e)
+  where
+    both : (a b : Bool) → (a && b) ≡ true → a ≡ true
+    both true b h = refl
+    both false b h = cc
 
 module _ (limits : Limits) where
   -- ---- statements
@@ -58,43 +152,155 @@ module _ (limits : Limits) where
   unfolding full
   full_sound = up_to_sound limits.tokens (sound_plain (exprs.read_sound expr))
 
-  simple_sound : (d : ℕ) → Sound (simple_by limits) (SpellsStmt limits d)
+  simple_sound : (d : ℕ) → Sound (simple_by limits) (Closed limits d)
   unfolding simple_by
-  simple_sound d = sound_then full_sound (λ e. sound_then (sound_expect _) (λ end. sound_ret (Simple e) (λ ys y xs x. (xs, ys ++ [], refl, x, last (The m.Semicolon) ys (end, y)))))
+  simple_sound d = sound_then full_sound (λ e. sound_then (sound_expect _) (λ end. sound_ret (Simple e) (λ ys y xs x. ((xs, ys ++ [], refl, x, last (The m.Semicolon) ys (end, y)), refl))))
 
-  empty_sound : (d : ℕ) → Sound empty (SpellsStmt limits d)
+  empty_sound : (d : ℕ) → Sound empty (Closed limits d)
   unfolding empty
-  empty_sound d = sound_then (sound_expect _) (λ at. sound_ret (Empty at) (λ xs x. last (One (Sign m.Semicolon) at) xs x))
+  empty_sound d = sound_then (sound_expect _) (λ at. sound_ret (Empty at) (λ xs x. (last (One (Sign m.Semicolon) at) xs x, refl)))
 
   pub value_sound : Sound (value_by limits) (SpellsValue limits)
   unfolding value_by
   value_sound = sound_if _ (sound_ret None refl) (sound_then full_sound (λ e. sound_ret (Some e) (λ xs x. last (Full limits e) xs x)))
 
-  return_sound : (d : ℕ) → Sound (return_by limits) (SpellsStmt limits d)
+  return_sound : (d : ℕ) → Sound (return_by limits) (Closed limits d)
   unfolding return_by
   return_sound d = sound_then (sound_keyword _) (λ at. sound_then value_sound (λ value. sound_then (sound_expect _) (λ end. sound_ret (Return at value)
-      (λ zs z ys y xs x. (xs, ys ++ (zs ++ []), refl, x, (ys, zs ++ [], refl, y, last (The m.Semicolon) zs (end, z)))))))
+      (λ zs z ys y xs x. ((xs, ys ++ (zs ++ []), refl, x, (ys, zs ++ [], refl, y, last (The m.Semicolon) zs (end, z))), refl)))))
+
+  pub test_sound : Sound (test_by limits) (SpellsTest limits)
+  unfolding test_by
+  test_sound = sound_then (sound_expect _) (λ start. sound_then full_sound (λ c. sound_then (sound_expect _) (λ end. sound_ret c
+      (λ zs z ys y xs x. (xs, ys ++ (zs ++ []), refl, (start, x), (ys, zs ++ [], refl, y, last (The m.CloseParen) zs (end, z)))))))
+
+  -- ---- variables
+
+  pub initial_sound : Sound (initial_by limits) (SpellsInitial limits)
+  unfolding initial_by
+  initial_sound = sound_if _ (sound_then (sound_expect _) (λ sign. sound_then full_sound (λ e. sound_ret (Some e) (λ ys y xs x. (xs, ys ++ [], refl, (sign, x), last (Full limits e) ys y)))))
+      (sound_ret None refl)
+
+  pub variable_sound : Sound (variable_by limits) (SpellsVariable limits)
+  unfolding variable_by
+  variable_sound = sound_then sound_name (λ called. sound_then initial_sound (λ value. sound_ret (record { at = called.0; name = called.1; initial = value })
+      (λ ys y xs x. (xs, ys ++ [], refl, x, last (SpellsInitial limits value) ys y))))
+
+  pub next_variable_sound : Sound (next_variable_by limits) (λ v. The m.Comma ⨾ SpellsVariable limits v)
+  unfolding next_variable_by
+  next_variable_sound = sound_then (sound_expect _) (λ comma. sound_as variable_sound (λ v ys y xs x. (xs, ys, refl, (comma, x), y)))
 
   module _ (g : Rules) (rec : AreSound limits g) where
-    block_sound : (d : ℕ) → SoundTo (block_by g d) (λ s r. SpellsStmt limits d s)
+    more_variables_sound : SoundTo (more_variables_by limits g) (Given limits more_variables)
+    unfolding more_variables_by
+    more_variables_sound = to_if _ (to_then (to_of next_variable_sound) (λ v. to_then (rec more_variables) (λ others. to_ret (v ∷ others)
+        (λ r ys y xs x. grouped (The m.Comma) (SpellsVariable limits v) (SpellsMoreVariables limits others) xs (ys ++ []) x (last (SpellsMoreVariables limits others) ys y)))))
+        (to_ret [] (λ r _. refl))
+
+    pub variables_sound : SoundTo (variables_by limits g) (λ all r. SpellsVariables limits all)
+    unfolding variables_by
+    variables_sound = to_then (to_of variable_sound) (λ v. to_then (rec more_variables) (λ others. to_ret (v ∷ others)
+        (λ r ys y xs x. (xs, ys ++ [], refl, x, last (SpellsMoreVariables limits others) ys y))))
+
+    declaration_sound : SoundTo (declaration_by limits g) (λ s r. SpellsDeclaration limits s)
+    unfolding declaration_by
+    declaration_sound = to_then (to_of (sound_keyword _)) (λ at. to_then variables_sound (λ all. to_then (to_of (sound_expect _)) (λ end. to_ret (Variables at all)
+        (λ r zs z ys y xs x. (xs, ys ++ (zs ++ []), refl, x, (ys, zs ++ [], refl, y, last (The m.Semicolon) zs (end, z)))))))
+
+    -- ---- statements with others in them
+
+    block_sound : (d : ℕ) → SoundTo (block_by g d) (Ended limits d)
     unfolding block_by
     block_sound d = to_then (to_of (sound_expect _)) (λ at. to_then (rec (items (suc d))) (λ all. to_then (to_of (sound_expect _)) (λ end. to_ret (Block at all)
-        (λ r zs z ys y xs x. (xs, ys ++ (zs ++ []), refl, x, (ys, zs ++ [], refl, y, last (The m.CloseBrace) zs (end, z)))))))
+        (λ r zs z ys y xs x. ((xs, ys ++ (zs ++ []), refl, x, (ys, zs ++ [], refl, y, last (The m.CloseBrace) zs (end, z))), λ o. cc)))))
 
-    stmt_sound : (d : ℕ) → SoundTo (stmt_by limits g d) (λ s r. SpellsStmt limits d s)
+    else_sound : (d at : ℕ) (c : ExprTree) (a : StmtTree) → SoundTo (else_by g d at c a)
+        (λ s r ys. (as' : List Tok) → Given limits (stmt (suc d)) a (ys ++ r) as' → (xs : List Tok) → SpellsTest limits c xs → (ks : List Tok) → One (Key w.If) at ks → Ended limits d s r (ks ++ (xs ++ (as' ++ ys))))
+    unfolding else_by
+    else_sound d at c a = to_if _ (to_then (to_of (sound_keyword _)) (λ other. to_then (rec (stmt (suc d))) (λ b. to_ret (IfElse at c a b)
+        (λ r bs y es e as' x xs t ks k.
+        let inner = last (Nested limits (suc d) (SpellsStmt limits (suc d) b)) bs y.0 in
+        let closed' : is_open a ≡ false = closed a ((es ++ (bs ++ [])) ++ r) x.1 (sees_else other es (bs ++ []) r e) in
+        ((closed', (ks, xs ++ (as' ++ (es ++ (bs ++ []))), refl, k, (xs, as' ++ (es ++ (bs ++ [])), refl, t, (as', es ++ (bs ++ []), refl, x.0, (es, bs ++ [], refl, (other, e), inner))))), y.1)))))
+        (to_ret (If at c a) (λ r no as' x xs t ks k.
+        ((ks, xs ++ (as' ++ []), refl, k, (xs, as' ++ [], refl, t, last (Nested limits (suc d) (SpellsStmt limits (suc d) a)) as' x.0)), λ _. no)))
+
+    if_sound : (d : ℕ) → SoundTo (if_by limits g d) (Ended limits d)
+    unfolding if_by
+    if_sound d = to_then (to_of (sound_keyword _)) (λ at. to_then (to_of test_sound) (λ c. to_then (rec (stmt (suc d))) (λ a. else_sound d at c a)))
+
+    while_sound : (d : ℕ) → SoundTo (while_by limits g d) (Ended limits d)
+    unfolding while_by
+    while_sound d = to_then (to_of (sound_keyword _)) (λ at. to_then (to_of test_sound) (λ c. to_then (rec (stmt (suc d))) (λ a. to_ret (While at c a)
+        (λ r as' x xs t ks k. ((ks, xs ++ (as' ++ []), refl, k, (xs, as' ++ [], refl, t, last (Nested limits (suc d) (SpellsStmt limits (suc d) a)) as' x.0)), x.1)))))
+
+    worded_sound : (d : ℕ) → SoundTo (worded_by limits g d) (Ended limits d)
+    unfolding worded_by
+    worded_sound d = to_if _ (ended limits d (return_sound d)) (to_as (to_if _ (if_sound d) (to_as (to_if _ (while_sound d)
+        (to_as (ended limits d (simple_sound d)) (λ a r xs h _. h))) (λ a r xs h _. h))) (λ a r xs h _. h))
+
+    stmt_sound : (d : ℕ) → SoundTo (stmt_by limits g d) (Ended limits d)
     unfolding stmt_by
-    stmt_sound d = to_if _ (block_sound d) (to_as (to_if _ (to_of (empty_sound d)) (to_as (to_if _ (to_of (return_sound d)) (to_as (to_of (simple_sound d)) (λ a r xs h _. h))) (λ a r xs h _. h))) (λ a r xs h _. h))
+    stmt_sound d = to_if _ (block_sound d) (to_as (to_if _ (ended limits d (empty_sound d)) (to_as (worded_sound d) (λ a r xs h _. h))) (λ a r xs h _. h))
 
-    pub item_sound : (d : ℕ) → SoundTo (item_by limits g d) (λ s r. Nested limits d (SpellsStmt limits d s))
+    perhaps_sound : (d : ℕ) → SoundTo (perhaps_by limits g d) (λ s r. Nested limits d (SpellsStmt limits d s))
+    unfolding perhaps_by
+    perhaps_sound d = to_as (to_nested limits.depth d _ (stmt_sound d)) (λ s r xs h. (h.0, h.1.0))
+
+    pub item_sound : (d : ℕ) → SoundTo (item_by limits g d) (λ s r. SpellsDeclaration limits s ∣ Nested limits d (SpellsStmt limits d s))
     unfolding item_by
-    item_sound d = to_nested limits.depth d _ (stmt_sound d)
+    item_sound d = to_if _ (to_as declaration_sound (λ s r xs h. inl h)) (to_as (perhaps_sound d) (λ s r xs h _. inr h))
 
     items_sound : (d : ℕ) → SoundTo (items_by limits g d) (Given limits (items d))
     unfolding items_by
     items_sound d = to_if _ (to_ret no_stmts (λ r. refl)) (to_as (to_then (item_sound d) (λ s. to_then (rec (items d)) (λ others. to_ret (and_stmt s others)
         (λ r ys y xs x. (xs, ys ++ [], refl, x, last (SpellsStmts limits d others) ys y))))) (λ a r xs h _. h))
 
+    -- ---- parameters
+
+    more_parameters_sound : SoundTo (more_parameters_by g) (Given limits more_parameters)
+    unfolding more_parameters_by
+    more_parameters_sound = to_if _ (to_then (to_of next_parameter_sound) (λ p. to_then (rec more_parameters) (λ others. to_ret (p ∷ others)
+        (λ r ys y xs x. grouped (The m.Comma) (SpellsParameter p) (SpellsMoreParameters others) xs (ys ++ []) x (last (SpellsMoreParameters others) ys y)))))
+        (to_ret [] (λ r _. refl))
+
+    with_others_sound : (p : ParameterTree) → SoundTo (with_others_by g p) (λ all r. WithOthers p all)
+    unfolding with_others_by
+    with_others_sound p = to_then (to_of parameter_sound) (λ q. to_then (rec more_parameters) (λ others. to_ret (p ∷ q ∷ others)
+        (λ r ys y xs x. (q, others, refl, (xs, ys ++ [], refl, x, last (SpellsMoreParameters others) ys y)))))
+
+    second_sound : (called : List ℕ) (p : ParameterTree) (comma : ℕ) → SoundTo (second_by g called p)
+        (λ ps r ys. (cs : List Tok) → One (Sign m.Comma) comma cs → (xs : List Tok) → SpellsParameter p xs → SpellsParameters called ps (xs ++ (cs ++ ys)))
+    unfolding second_by
+    second_sound called p comma = to_tested _ (to_as (to_of texts_sound) (λ ps r ys h so cs c xs x.
+        subst (λ v. SpellsParameters called v (xs ++ (cs ++ ys))) (sym h.0)
+        (texts_main called (ys ++ r) so, (x.0, x.1 ++ (cs ++ ys), ap (λ v. v ++ (cs ++ ys)) x.2 ∙ append_assoc x.0 x.1 (cs ++ ys), x.3, (x.1, cs ++ ys, refl, (p.at, p.name, x.4), (cs, ys, refl, (comma, c), h.1))))))
+        (to_then (with_others_sound p) (λ all. to_ret (Ints all) (λ r ys y _ cs c xs x.
+        subst (λ v. SpellsParameters called (Ints v) (xs ++ (cs ++ (ys ++ [])))) (sym y.2)
+        (xs, cs ++ (ys ++ []), refl, x, (cs, ys ++ [], refl, (comma, c), last (SpellsParameter y.0 ⨾ SpellsMoreParameters y.1) ys y.3)))))
+
+    some_sound : (called : List ℕ) → SoundTo (some_by g called) (λ ps r. SpellsParameters called ps)
+    unfolding some_by
+    some_sound called = to_then (to_of parameter_sound) (λ p. to_if _ (to_then (to_of (sound_expect _)) (λ comma. second_sound called p comma))
+        (to_ret (Ints (p ∷ [])) (λ r _ xs x. (xs, [], refl, x, refl))))
+
+    parameters_sound : (called : List ℕ) → SoundTo (parameters_by g called) (λ ps r. SpellsParameters called ps)
+    unfolding parameters_by
+    parameters_sound called = to_if _ (to_ret (Ints []) (λ r. inl refl))
+        (to_as (to_if _ (to_then (to_of (sound_keyword _)) (λ void. to_ret (Ints []) (λ r xs x. inr (last (TheWord w.Void) xs (void, x))))) (to_as (some_sound called) (λ a r xs h _. h))) (λ a r xs h _. h))
+
     -- ---- functions
+
+    pub head_sound : SoundTo (head_by g) (λ h r. SpellsHead h.0 h.1 h.2)
+    unfolding head_by
+    head_sound = to_then (to_of result_sound) (λ kind. to_then (to_of sound_name) (λ called. to_then (to_of (sound_expect _)) (λ start. to_then (parameters_sound called.1) (λ ps.
+        to_then (to_of (sound_expect _)) (λ end. to_ret (kind, called, ps) (λ r es e ds d cs c bs b as' a. (
+          as',
+          bs ++ (cs ++ (ds ++ (es ++ []))),
+          refl,
+          a,
+          (bs, cs ++ (ds ++ (es ++ [])), refl, b, (cs, ds ++ (es ++ []), refl, (start, c), (ds, es ++ [], refl, d, last (The m.CloseParen) es (end, e)))),
+        )))))))
 
     pub body_by_sound : SoundTo (body_by g) (λ b r. SpellsBody limits b)
     unfolding body_by
@@ -104,7 +310,7 @@ module _ (limits : Limits) where
 
     pub function_sound : SoundTo (function_by g) (λ f r. SpellsFunction limits f)
     unfolding function_by
-    function_sound = to_then (to_of head_viable.sound) (λ h. to_then body_by_sound (λ b. to_ret (record { at = h.0; parameters = h.1; body = b })
+    function_sound = to_then head_sound (λ h. to_then body_by_sound (λ b. to_ret (record { at = h.1.0; name = h.1.1; result = h.0; parameters = h.2; body = b })
         (λ r ys y xs x. (xs, ys ++ [], refl, x, last (SpellsBody limits b) ys y))))
 
     functions_sound : SoundTo (functions_by g) (Given limits functions)
@@ -114,7 +320,10 @@ module _ (limits : Limits) where
         (to_ret [] (λ r none. (refl, no_more r none)))
 
     body_sound : AreSound limits (body limits g)
+    body_sound (stmt d) = to_as (to_nested limits.depth d _ (stmt_sound d)) (λ s r xs h. ((h.0, h.1.0), h.1.1))
     body_sound (items d) = items_sound d
+    body_sound more_variables = more_variables_sound
+    body_sound more_parameters = more_parameters_sound
     body_sound functions = functions_sound
 
   pub deep_sound : (n : ℕ) → AreSound limits (deep (body limits) n)

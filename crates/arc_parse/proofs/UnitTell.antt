@@ -1,24 +1,26 @@
 -- A token is refused as too deep only where it passes a limit.
-use Rattle.std.proofs.Common.{◌≡◌, ℕ, zero, suc, List, [], ◌∷◌, ◌++◌, append_assoc, append-nil, Err, refl, sym, ap, subst, ◌∙◌}
+use Rattle.std.proofs.Common.{◌≡◌, ℕ, zero, suc, List, [], ◌∷◌, ◌++◌, append_assoc, append-nil, Err, true, refl, sym, ap, subst, ◌∙◌}
 use Rattle.arc_lex.specs.declared.token.Mark.TheVariants as m
+use Rattle.arc_lex.specs.declared.token.Word.{Word}
 use Rattle.arc_lex.specs.declared.token.Word.TheVariants as w
-use Rattle.arc_lex.specs.Tokens.{Tok, Key}
-use Rattle.arc_ast.specs.declared.tree.Parameters.{Parameters}
-use Rattle.arc_ast.specs.Tree.{StmtTrees, FunctionTree, no_stmts, and_stmt}
-use Rattle.arc_parse.specs.Language.{One}
-use Rattle.arc_parse.specs.Reader.{too_deep}
+use Rattle.arc_lex.specs.Tokens.{Tok, Key, Sign}
+use Rattle.arc_lex.specs.Tokens as tokens
+use Rattle.arc_ast.specs.declared.tree.Kind.{Kind}
+use Rattle.arc_ast.specs.Tree.{ExprTree, VariableTree, StmtTree, StmtTrees, ParameterTree, ParametersTree, FunctionTree, no_stmts, and_stmt}
+use Rattle.arc_parse.specs.Language.{One, ◌⨾◌, The}
+use Rattle.arc_parse.specs.Reader.{Reader, too_deep}
 use Rattle.arc_parse.specs.Limits.{Limits, AtMost}
 use Rattle.arc_parse.specs.Knot.{deep, tied}
-use Rattle.arc_parse.specs.Grammar.{SpellsStmts, SpellsHead, SpellsUnit}
-use Rattle.arc_parse.specs.UnitRules.{Rule, Rules, items, functions, simple_by, empty, value_by, return_by, block_by, stmt_by, item_by, items_by, texts_name, perhaps_const, count_and_texts, parameters, head, body_by, function_by, functions_by, body, read, unit}
-use Rattle.arc_parse.specs.TooDeep.{BeginsItem, in_body, in_block, of_simple, of_return, TooDeep, statement}
-use Rattle.arc_parse.proofs.Leaves.{sound_expect, sound_keyword}
+use Rattle.arc_parse.specs.Grammar.{SpellsVariable, SpellsTest, SpellsStmts, SpellsHead, SpellsUnit}
+use Rattle.arc_parse.specs.UnitRules.{Rule, Node, Rules, stmt, items, more_variables, more_parameters, functions, begins_expr, begins_sort, begins_stmt, full, simple_by, empty, value_by, return_by, block_by, test_by, else_by, if_by, while_by, worded_by, stmt_by, initial_by, variable_by, next_variable_by, more_variables_by, variables_by, declaration_by, perhaps_by, item_by, items_by, texts_name, perhaps_const, texts, parameter, next_parameter, more_parameters_by, begins_texts, with_others_by, second_by, some_by, parameters_by, result_kind, head_by, body_by, function_by, functions_by, body, read, unit}
+use Rattle.arc_parse.specs.TooDeep.{Role, must, may, takes_test, Heading, Begins, in_body, in_block, in_branch, in_other, BeginsVariable, first_variable, next_variable, of_simple, of_return, of_test, of_variable, TooDeep, statement}
+use Rattle.arc_parse.specs.TooDeep as places
+use Rattle.arc_parse.proofs.Leaves.{sound_expect, sound_keyword, sound_name}
 use Rattle.arc_parse.proofs.SoundTo.{to_of}
 use Rattle.arc_parse.proofs.Tells.{Never, never_then, never_ret, never_token, never_if, Tells, tells_never, tells_then, tells_if, tells_as, tells_nested, differ}
 use Rattle.arc_parse.proofs.FullTell.{full_tells}
 use Rattle.arc_parse.proofs.Local.{fault_of}
-use Rattle.arc_parse.proofs.HeadFirst.{head_viable}
-use Rattle.arc_parse.proofs.UnitSound.{AreSound, full_sound, value_sound, item_sound, body_by_sound, function_sound, deep_sound}
+use Rattle.arc_parse.proofs.UnitSound.{AreSound, Given, full_sound, value_sound, test_sound, initial_sound, variable_sound, next_variable_sound, variables_sound, item_sound, head_sound, body_by_sound, function_sound, deep_sound}
 
 -- ---- the head of a function never is
 
@@ -31,33 +33,71 @@ perhaps_const_never : Never perhaps_const
 unfolding perhaps_const
 perhaps_const_never = never_if _ (never_then (never_token _) (λ const. never_ret _)) (never_ret _)
 
-parameters_never : Never parameters
-unfolding parameters count_and_texts
-parameters_never = never_if _ (never_ret _) (never_if _ (never_then (never_token _) (λ void. never_ret _))
-    (never_then (never_token _) (λ int. never_then (never_token _) (λ count. never_then (never_token _) (λ comma. never_then perhaps_const_never (λ const.
-    never_then (never_token _) (λ char. never_then (never_token _) (λ star. never_then texts_name_never (λ texts. never_ret _)))))))))
+texts_never : Never texts
+unfolding texts
+texts_never = never_then perhaps_const_never (λ const. never_then (never_token _) (λ char. never_then (never_token _) (λ star. never_then texts_name_never (λ all. never_ret _))))
 
-head_never : Never head
-unfolding head
-head_never = never_then (never_token _) (λ int. never_then (never_token _) (λ at. never_then (never_token _) (λ start. never_then parameters_never (λ ps. never_then (never_token _) (λ end. never_ret _)))))
+parameter_never : Never parameter
+unfolding parameter
+parameter_never = never_then (never_token _) (λ int. never_then (never_token _) (λ called. never_ret _))
+
+next_parameter_never : Never next_parameter
+unfolding next_parameter
+next_parameter_never = never_then (never_token _) (λ comma. parameter_never)
+
+result_never : Never result_kind
+unfolding result_kind
+result_never = never_if _ (never_then (never_token _) (λ void. never_ret _)) (never_then (never_token _) (λ int. never_ret _))
+
+module _ (g : Rules) (more : Never (g more_parameters)) where
+  more_parameters_never : Never (more_parameters_by g)
+  unfolding more_parameters_by
+  more_parameters_never = never_if _ (never_then next_parameter_never (λ p. never_then more (λ others. never_ret _))) (never_ret _)
+
+  with_others_never : (p : ParameterTree) → Never (with_others_by g p)
+  unfolding with_others_by
+  with_others_never p = never_then parameter_never (λ q. never_then more (λ others. never_ret _))
+
+  second_never : (called : List ℕ) (p : ParameterTree) → Never (second_by g called p)
+  unfolding second_by
+  second_never called p = never_if _ texts_never (never_then (with_others_never p) (λ all. never_ret _))
+
+  some_never : (called : List ℕ) → Never (some_by g called)
+  unfolding some_by
+  some_never called = never_then parameter_never (λ p. never_if _ (never_then (never_token _) (λ comma. second_never called p)) (never_ret _))
+
+  parameters_never : (called : List ℕ) → Never (parameters_by g called)
+  unfolding parameters_by
+  parameters_never called = never_if _ (never_ret _) (never_if _ (never_then (never_token _) (λ void. never_ret _)) (some_never called))
+
+  head_never : Never (head_by g)
+  unfolding head_by
+  head_never = never_then result_never (λ kind. never_then (never_token _) (λ called. never_then (never_token _) (λ start. never_then (parameters_never called.1) (λ ps. never_then (never_token _) (λ end. never_ret _)))))
 
 -- ---- the rules
 
 -- behind these tokens begin items of a block that are nested so deep
 abbrev Items : Limits → ℕ → List Tok → Type 0
-Items limits d before = (all : StmtTrees) (ys : List Tok) → SpellsStmts limits d all ys → BeginsItem limits d (before ++ ys)
+Items limits d before = (all : StmtTrees) (ys : List Tok) → SpellsStmts limits d all ys → Begins limits may d (before ++ ys)
 
 -- behind these tokens begin functions
 abbrev Functions : Limits → List Tok → Type 0
 Functions limits before = (fs : List FunctionTree) (ys : List Tok) → SpellsUnit limits fs ys → (all : List FunctionTree) × SpellsUnit limits all (before ++ ys)
 
+-- of a variable
+abbrev Varies : Limits → List Tok → List Tok → Type 0
+Varies limits xs r = (before : List Tok) → BeginsVariable limits before → TooDeep limits (before ++ xs) r
+
 abbrev Told : Limits → Rule → List Tok → List Tok → Type 0
+Told limits (stmt d) xs r = (before : List Tok) → Begins limits must d before → TooDeep limits (before ++ xs) r
 Told limits (items d) xs r = (before : List Tok) → Items limits d before → TooDeep limits (before ++ xs) r
+Told limits more_variables xs r = (before vs : List Tok) (v : VariableTree) → BeginsVariable limits before → SpellsVariable limits v vs → TooDeep limits (before ++ (vs ++ xs)) r
+Told limits more_parameters xs r = ⊥
 Told limits functions xs r = (before : List Tok) → Functions limits before → TooDeep limits (before ++ xs) r
 
 -- of a statement
 abbrev By : Limits → ℕ → List Tok → List Tok → Type 0
-By limits d xs r = AtMost limits.depth d → (before : List Tok) → BeginsItem limits d before → TooDeep limits (before ++ xs) r
+By limits d xs r = AtMost limits.depth d → (role : Role) (before : List Tok) → Begins limits role d before → TooDeep limits (before ++ xs) r
 
 moved : (limits : Limits) (a b r : List Tok) → a ≡ b → TooDeep limits a r → TooDeep limits b r
 moved limits a b r e h = subst (λ v. TooDeep limits v r) e h
@@ -65,10 +105,23 @@ moved limits a b r e h = subst (λ v. TooDeep limits v r) e h
 assoc_three : (a b c d : List Tok) → (a ++ (b ++ c)) ++ d ≡ a ++ (b ++ (c ++ d))
 assoc_three a b c d = simp append_assoc
 
+assoc_comma : (a b c d e : List Tok) → (a ++ (b ++ c)) ++ (d ++ e) ≡ a ++ (b ++ ((c ++ d) ++ e))
+assoc_comma a b c d e = simp append_assoc
+
+assoc_else : (a b c d e f : List Tok) → (a ++ ((b ++ c) ++ (d ++ e))) ++ f ≡ a ++ (b ++ (c ++ (d ++ (e ++ f))))
+assoc_else a b c d e f = simp append_assoc
+
+-- what is refused so nowhere
+never_of : {A : Type 0} {f : Reader A} → Tells f (λ xs r. ⊥) → Never f
+never_of t = record { each = λ ts r e. (t.each ts r e).2 }
+
 module _ (limits : Limits) where
+  heading : (word : Word) (at : ℕ) (c : ExprTree) (ks xs : List Tok) → One (Key word) at ks → SpellsTest limits c xs → Heading limits word (ks ++ xs)
+  heading word at c ks xs k x = (ks, xs, refl, (at, k), (c, x))
+
   simple_tells : (d : ℕ) → Tells (simple_by limits) (By limits d)
   unfolding simple_by
-  simple_tells d = tells_then (to_of (full_sound limits)) (tells_as (full_tells limits) (λ xs r h fits before b. h before (of_simple limits d before b fits)))
+  simple_tells d = tells_then (to_of (full_sound limits)) (tells_as (full_tells limits) (λ xs r h fits role before b. h before (of_simple limits role d before b fits)))
       (λ e. tells_never (never_then (never_token _) (λ end. never_ret _)))
 
   empty_tells : (d : ℕ) → Tells empty (By limits d)
@@ -78,7 +131,7 @@ module _ (limits : Limits) where
   value_tells : (d at : ℕ) → Tells (value_by limits) (λ ys r. (ks : List Tok) → One (Key w.Return) at ks → By limits d (ks ++ ys) r)
   unfolding value_by
   value_tells d at = tells_if _ (tells_never (never_ret _)) (tells_then (to_of (full_sound limits))
-      (tells_as (full_tells limits) (λ xs r h ks k fits before b. moved limits _ _ r (append_assoc before ks xs) (h (before ++ ks) (of_return limits d before ks b fits (at, k)))))
+      (tells_as (full_tells limits) (λ xs r h ks k fits role before b. moved limits _ _ r (append_assoc before ks xs) (h (before ++ ks) (of_return limits role d before ks b fits (at, k)))))
       (λ e. tells_never (never_ret _)))
 
   return_tells : (d : ℕ) → Tells (return_by limits) (By limits d)
@@ -86,44 +139,119 @@ module _ (limits : Limits) where
   return_tells d = tells_then (to_of (sound_keyword w.Return)) (tells_never (never_token _)) (λ at. tells_then (to_of (value_sound limits)) (value_tells d at)
       (λ value. tells_never (never_then (never_token _) (λ end. never_ret _))))
 
+  test_tells : (word : Word) (d at : ℕ) → takes_test word ≡ true → Tells (test_by limits) (λ ys r. (ks : List Tok) → One (Key word) at ks → By limits d (ks ++ ys) r)
+  unfolding test_by
+  test_tells word d at takes = tells_then (to_of (sound_expect m.OpenParen)) (tells_never (never_token _)) (λ start. tells_then (to_of (full_sound limits))
+      (tells_as (full_tells limits) (λ xs r h os o ks k fits role before b.
+      moved limits _ _ r (assoc_three before ks os xs) (h (before ++ (ks ++ os)) (of_test limits role d before ks os word b fits takes (at, k) (start, o)))))
+      (λ c. tells_never (never_then (never_token _) (λ end. never_ret _))))
+
+  initial_tells : (called : ℕ × List ℕ) → Tells (initial_by limits) (λ ys r. (ns : List Tok) → One (tokens.Name called.1) called.0 ns → Varies limits (ns ++ ys) r)
+  unfolding initial_by
+  initial_tells called = tells_if _ (tells_then (to_of (sound_expect m.Assign)) (tells_never (never_token _)) (λ sign. tells_then (to_of (full_sound limits))
+      (tells_as (full_tells limits) (λ xs r h es e ns n before b.
+      moved limits _ _ r (assoc_three before ns es xs) (h (before ++ (ns ++ es)) (of_variable limits before ns es b (called.0, called.1, n) (sign, e)))))
+      (λ e. tells_never (never_ret _))))
+      (tells_never (never_ret _))
+
+  variable_tells : Tells (variable_by limits) (Varies limits)
+  unfolding variable_by
+  variable_tells = tells_then (to_of sound_name) (tells_never (never_token _)) (λ called. tells_then (to_of (initial_sound limits)) (initial_tells called) (λ value. tells_never (never_ret _)))
+
+  next_variable_tells : Tells (next_variable_by limits) (Told limits more_variables)
+  unfolding next_variable_by
+  next_variable_tells = tells_then (to_of (sound_expect m.Comma)) (tells_never (never_token _)) (λ comma. tells_as variable_tells (λ xs r h cs c before vs v b x.
+      moved limits _ _ r (assoc_three before vs cs xs) (h (before ++ (vs ++ cs)) (next_variable limits before vs cs v b x (comma, c)))))
+
   module _ (g : Rules) (sound : AreSound limits g) (rec : (rule : Rule) → Tells (g rule) (Told limits rule)) where
+    more_variables_tells : Tells (more_variables_by limits g) (Told limits more_variables)
+    unfolding more_variables_by
+    more_variables_tells = tells_if _ (tells_then (to_of (next_variable_sound limits)) next_variable_tells (λ next. tells_then (sound more_variables)
+        (tells_as (rec more_variables) (λ ys r h xs x before vs v b y.
+        moved limits _ _ r (assoc_comma before vs x.0 x.1 ys ∙ ap (λ u. before ++ (vs ++ (u ++ ys))) (sym x.2))
+        (h (before ++ (vs ++ x.0)) x.1 next (next_variable limits before vs x.0 v b y x.3) x.4)))
+        (λ others. tells_never (never_ret _))))
+        (tells_never (never_ret _))
+
+    variables_tells : Tells (variables_by limits g) (Varies limits)
+    unfolding variables_by
+    variables_tells = tells_then (to_of (variable_sound limits)) variable_tells (λ v. tells_then (sound more_variables)
+        (tells_as (rec more_variables) (λ ys r h xs x before b. h before xs v b x)) (λ others. tells_never (never_ret _)))
+
+    declaration_tells : Tells (declaration_by limits g) (λ xs r. (d : ℕ) (before : List Tok) → Begins limits may d before → TooDeep limits (before ++ xs) r)
+    unfolding declaration_by
+    declaration_tells = tells_then (to_of (sound_keyword w.Int)) (tells_never (never_token _)) (λ at. tells_then (variables_sound limits g sound)
+        (tells_as variables_tells (λ xs r h ks k d before b. moved limits _ _ r (append_assoc before ks xs) (h (before ++ ks) (first_variable limits d before ks b (at, k)))))
+        (λ all. tells_never (never_then (never_token _) (λ end. never_ret _))))
+
+    else_tells : (d at : ℕ) (c : ExprTree) (a : StmtTree) → Tells (else_by g d at c a) (λ ys r. (as' : List Tok) → Given limits (stmt (suc d)) a (ys ++ r) as' → (xs : List Tok) → SpellsTest limits c xs → (ks : List Tok) → One (Key w.If) at ks
+        → By limits d (ks ++ (xs ++ (as' ++ ys))) r)
+    unfolding else_by
+    else_tells d at c a = tells_if _ (tells_then (to_of (sound_keyword w.Else)) (tells_never (never_token _)) (λ other. tells_then (sound (stmt (suc d)))
+        (tells_as (rec (stmt (suc d))) (λ ys r h es e as' p xs x ks k fits role before b.
+        moved limits _ _ r (assoc_else before ks xs as' es ys) (h (before ++ ((ks ++ xs) ++ (as' ++ es))) (in_other limits role d before (ks ++ xs) as' es a b fits (heading w.If at c ks xs k x) p.0 (other, e)))))
+        (λ b. tells_never (never_ret _)))) (tells_never (never_ret _))
+
+    branch_tells : (word : Word) (d at : ℕ) (c : ExprTree) → takes_test word ≡ true → Tells (g (stmt (suc d))) (λ ys r. (xs : List Tok) → SpellsTest limits c xs → (ks : List Tok) → One (Key word) at ks → By limits d (ks ++ (xs ++ ys)) r)
+    branch_tells word d at c takes = tells_as (rec (stmt (suc d))) (λ ys r h xs x ks k fits role before b.
+        moved limits _ _ r (assoc_three before ks xs ys) (h (before ++ (ks ++ xs)) (in_branch limits role d before (ks ++ xs) word b fits takes (heading word at c ks xs k x))))
+
+    if_tells : (d : ℕ) → Tells (if_by limits g d) (By limits d)
+    unfolding if_by
+    if_tells d = tells_then (to_of (sound_keyword w.If)) (tells_never (never_token _)) (λ at. tells_then (to_of (test_sound limits)) (test_tells w.If d at refl) (λ c.
+        tells_then (sound (stmt (suc d))) (branch_tells w.If d at c refl) (λ a. else_tells d at c a)))
+
+    while_tells : (d : ℕ) → Tells (while_by limits g d) (By limits d)
+    unfolding while_by
+    while_tells d = tells_then (to_of (sound_keyword w.While)) (tells_never (never_token _)) (λ at. tells_then (to_of (test_sound limits)) (test_tells w.While d at refl) (λ c.
+        tells_then (sound (stmt (suc d))) (branch_tells w.While d at c refl) (λ a. tells_never (never_ret _))))
+
     block_tells : (d : ℕ) → Tells (block_by g d) (By limits d)
     unfolding block_by
     block_tells d = tells_then (to_of (sound_expect m.OpenBrace)) (tells_never (never_token _)) (λ at. tells_then (sound (items (suc d)))
-        (tells_as (rec (items (suc d))) (λ xs r h os o fits before b.
-        moved limits _ _ r (append_assoc before os xs) (h (before ++ os) (λ all ys s. subst (BeginsItem limits (suc d)) (sym (append_assoc before os ys)) (in_block limits d before os ys all b fits (at, o) s)))))
+        (tells_as (rec (items (suc d))) (λ xs r h os o fits role before b.
+        moved limits _ _ r (append_assoc before os xs) (h (before ++ os) (λ all ys s. subst (Begins limits may (suc d)) (sym (append_assoc before os ys)) (in_block limits role d before os ys all b fits (at, o) s)))))
         (λ all. tells_never (never_then (never_token _) (λ end. never_ret _))))
+
+    worded_tells : (d : ℕ) → Tells (worded_by limits g d) (By limits d)
+    unfolding worded_by
+    worded_tells d = tells_if _ (return_tells d) (tells_if _ (if_tells d) (tells_if _ (while_tells d) (simple_tells d)))
 
     stmt_tells : (d : ℕ) → Tells (stmt_by limits g d) (By limits d)
     unfolding stmt_by
-    stmt_tells d = tells_if _ (block_tells d) (tells_if _ (empty_tells d) (tells_if _ (return_tells d) (simple_tells d)))
+    stmt_tells d = tells_if _ (block_tells d) (tells_if _ (empty_tells d) (worded_tells d))
+
+    perhaps_tells : (d : ℕ) → Tells (perhaps_by limits g d) (Told limits (items d))
+    unfolding perhaps_by
+    perhaps_tells d = tells_nested limits.depth d _ (λ t r above begins before its. places.item limits d (before ++ []) t r above (its no_stmts [] refl) begins)
+        (λ fits. tells_as (stmt_tells d) (λ xs r h before its. moved limits _ _ r (ap (λ v. v ++ xs) (append-nil before)) (h fits may (before ++ []) (its no_stmts [] refl))))
 
     item_tells : (d : ℕ) → Tells (item_by limits g d) (Told limits (items d))
     unfolding item_by
-    item_tells d = tells_nested limits.depth d _ (λ t r above begins before its. statement limits d (before ++ []) t r above (its no_stmts [] refl) begins)
-        (λ fits. tells_as (stmt_tells d) (λ xs r h before its. moved limits _ _ r (ap (λ v. v ++ xs) (append-nil before)) (h fits (before ++ []) (its no_stmts [] refl))))
+    item_tells d = tells_if _ (tells_as declaration_tells (λ xs r h before its. moved limits _ _ r (ap (λ v. v ++ xs) (append-nil before)) (h d (before ++ []) (its no_stmts [] refl))))
+        (perhaps_tells d)
 
     items_tells : (d : ℕ) → Tells (items_by limits g d) (Told limits (items d))
     unfolding items_by
     items_tells d = tells_if _ (tells_never (never_ret _)) (tells_then (item_sound limits g sound d) (item_tells d) (λ s. tells_then (sound (items d))
         (tells_as (rec (items d)) (λ ys r h xs x before its.
-        moved limits _ _ r (append_assoc before xs ys) (h (before ++ xs) (λ all zs z. subst (BeginsItem limits d) (sym (append_assoc before xs zs)) (its (and_stmt s all) (xs ++ zs) (xs, zs, refl, x, z))))))
+        moved limits _ _ r (append_assoc before xs ys) (h (before ++ xs) (λ all zs z. subst (Begins limits may d) (sym (append_assoc before xs zs)) (its (and_stmt s all) (xs ++ zs) (xs, zs, refl, x, z))))))
         (λ others. tells_never (never_ret _))))
 
-    body_by_tells : (at : ℕ) (ps : Parameters) → Tells (body_by g) (λ ys r. (hs : List Tok) → SpellsHead at ps hs → Told limits functions (hs ++ ys) r)
+    body_by_tells : (kind : Kind) (called : ℕ × List ℕ) (ps : ParametersTree) → Tells (body_by g) (λ ys r. (hs : List Tok) → SpellsHead kind called ps hs → Told limits functions (hs ++ ys) r)
     unfolding body_by
-    body_by_tells at ps = tells_if _ (tells_never (never_then (never_token _) (λ end. never_ret _)))
+    body_by_tells kind called ps = tells_if _ (tells_never (never_then (never_token _) (λ end. never_ret _)))
         (tells_then (to_of (sound_expect m.OpenBrace)) (tells_never (never_token _)) (λ start. tells_then (sound (items 2))
         (tells_as (rec (items 2)) (λ xs r h os o hs k before fs.
         moved limits _ _ r (assoc_three before hs os xs) (h (before ++ (hs ++ os)) (λ all ys s.
         let u = fs [] [] refl in
-        subst (BeginsItem limits 2) (ap (λ v. v ++ (hs ++ (os ++ ys))) (append-nil before) ∙ sym (assoc_three before hs os ys))
-        (in_body limits (before ++ []) hs os ys u.0 at ps all u.1 k (start, o) s)))))
+        subst (Begins limits may 2) (ap (λ v. v ++ (hs ++ (os ++ ys))) (append-nil before) ∙ sym (assoc_three before hs os ys))
+        (in_body limits (before ++ []) hs os ys u.0 kind called ps all u.1 k (start, o) s)))))
         (λ all. tells_never (never_then (never_token _) (λ end. never_ret _)))))
 
     function_tells : Tells (function_by g) (Told limits functions)
     unfolding function_by
-    function_tells = tells_then (to_of head_viable.sound) (tells_never head_never) (λ h. tells_then (body_by_sound limits g sound) (body_by_tells h.0 h.1) (λ b. tells_never (never_ret _)))
+    function_tells = tells_then (head_sound limits g sound) (tells_never (head_never g (never_of (rec more_parameters)))) (λ f. tells_then (body_by_sound limits g sound) (body_by_tells f.0 f.1 f.2) (λ b. tells_never (never_ret _)))
 
     functions_tells : Tells (functions_by g) (Told limits functions)
     unfolding functions_by
@@ -135,7 +263,11 @@ module _ (limits : Limits) where
         (λ others. tells_never (never_ret _)))) (tells_never (never_ret _))
 
     body_tells : (rule : Rule) → Tells (body limits g rule) (Told limits rule)
+    body_tells (stmt d) = tells_nested limits.depth d _ (λ t r above _ before b. moved limits _ _ (t ∷ r) (sym (append-nil before)) (statement limits d before t r above b))
+        (λ fits. tells_as (stmt_tells d) (λ xs r h before b. h fits must before b))
     body_tells (items d) = items_tells d
+    body_tells more_variables = more_variables_tells
+    body_tells more_parameters = tells_never (more_parameters_never g (never_of (rec more_parameters)))
     body_tells functions = functions_tells
 
   deep_tells : (n : ℕ) (rule : Rule) → Tells (deep (body limits) n rule) (Told limits rule)

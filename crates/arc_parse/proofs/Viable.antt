@@ -10,7 +10,6 @@ use Rattle.arc_parse.proofs.Sound.{Sound, Behind, sound_then, sound_ret, sound_u
 abbrev pub Front : {A : Type 0} → (A → Language) → List Tok → List Tok → Type 0
 Front {A} N ts r = (before others : List Tok) × (a : A) × (ts ≡ before ++ r) × N a (before ++ others)
 
--- f gives what its tokens spell; where it fails, something goes on with the tokens that it took; and something there is
 pub record Viable {A : Type 0} (f : Reader A) (N : A → Language) : Type 0 where
   pub sound : Sound f N
   pub fails : (ts : List Tok) (y : Fault) (r : List Tok) → f ts ≡ Err (y, r) → Front N ts r

@@ -1,12 +1,12 @@
 -- The rules of expressions as readers. Each gets what reads the rules that it asks for.
-use Rattle.std.specs.Prelude.{ℕ, zero, suc, ◌-◌, Bool, true, false, nat_eq, Option, Some, None, if◌then◌else◌}
+use Rattle.std.specs.Prelude.{ℕ, zero, suc, ◌-◌, List, Bool, true, false, nat_eq, Option, Some, None, if◌then◌else◌}
 use Rattle.arc_lex.specs.declared.token.Mark.{Mark}
 use Rattle.arc_lex.specs.declared.token.Mark.TheVariants as m
 use Rattle.arc_lex.specs.Tokens.{Tok, Sort, Sign}
 use Rattle.arc_lex.specs.Tokens as tokens
 use Rattle.arc_ast.specs.declared.tree.BinaryOperator.{BinaryOperator}
-use Rattle.arc_ast.specs.declared.tree.BinaryOperator.TheVariants.{Add, Subtract, Multiply, Divide}
-use Rattle.arc_ast.specs.Tree.{ExprTree, ExprTrees, Integer, Text, Paren, Call, Negate, Binary, no_exprs, and_expr, place}
+use Rattle.arc_ast.specs.declared.tree.BinaryOperator.TheVariants.{Add, Subtract, Multiply, Divide, NotEqual}
+use Rattle.arc_ast.specs.Tree.{ExprTree, ExprTrees, Integer, Text, Paren, Call, Negate, Binary, Name, Assign, no_exprs, and_expr, place}
 use Rattle.arc_parse.specs.Knot.{tied}
 use Rattle.arc_parse.specs.Reader.{Reader, ◌>>=◌, ret, token, expect, name, if_first, if_mark, if_name}
 
@@ -38,6 +38,7 @@ literal = token (λ t. literal_of t.from t.sort)
 
 -- the operator that a mark is, and how loosely it binds
 abbrev pub mark_operator : Mark → Option (ℕ × BinaryOperator)
+mark_operator m.NotEqual = Some (3, NotEqual)
 mark_operator m.Plus = Some (2, Add)
 mark_operator m.Minus = Some (2, Subtract)
 mark_operator m.Star = Some (1, Multiply)
@@ -74,16 +75,21 @@ parenthesized_by of = do
 unfoldable pub given_by : Rules → Reader ExprTrees
 given_by of = if_mark m.CloseParen (ret no_exprs) (of arguments)
 
-unfoldable pub call_by : Rules → Reader ExprTree
-call_by of = do
-  called ← name
+unfoldable pub call_by : Rules → ℕ × List ℕ → Reader ExprTree
+call_by of called = do
   start ← expect m.OpenParen
   all ← given_by of
   end ← expect m.CloseParen
   ret (Call called.0 called.1 all)
 
+-- a variable's name, or a call
+unfoldable pub named_by : Rules → Reader ExprTree
+named_by of = do
+  called ← name
+  if_mark m.OpenParen (call_by of called) (ret (Name called.0 called.1))
+
 unfoldable pub primary_by : Rules → Reader ExprTree
-primary_by of = if_name (call_by of) (if_mark m.OpenParen (parenthesized_by of) literal)
+primary_by of = if_name (named_by of) (if_mark m.OpenParen (parenthesized_by of) literal)
 
 unfoldable pub negate_by : Rules → Reader ExprTree
 negate_by of = do
@@ -108,8 +114,23 @@ more_by of l left = if_first (is_operator l) (do
   of (more l (Binary (place left) between left right)))
     (ret left)
 
+-- whether this may be the left side of an assignment
+abbrev pub is_unary : ExprTree → Bool
+is_unary (Binary _ _ _ _) = false
+is_unary (Assign _ _ _ _) = false
+is_unary _ = true
+
+unfoldable pub assign_by : Rules → ExprTree → Reader ExprTree
+assign_by of left = if_mark m.Assign (do
+  sign ← expect m.Assign
+  right ← of expr
+  ret (Assign (place left) sign left right))
+    (ret left)
+
 unfoldable pub expr_by : Rules → Reader ExprTree
-expr_by of = binary_by of 2
+expr_by of = do
+  left ← binary_by of 3
+  if is_unary left then assign_by of left else ret left
 
 unfoldable pub arguments_by : Rules → Reader ExprTrees
 arguments_by of = do

@@ -1,16 +1,16 @@
 -- The grammar: which tokens spell which tree. Each line of a definition is one line of the grammar.
-use Rattle.std.specs.Prelude.{◌≡◌, ◌≤◌, ◌+◌, ℕ, suc, List, [], ◌∷◌, Option, Some, None}
+use Rattle.std.specs.Prelude.{◌≡◌, ◌≤◌, ◌+◌, ℕ, suc, List, [], ◌∷◌, Bool, true, false, Option, Some, None}
 use Rattle.arc_lex.specs.declared.token.Mark.{Mark}
 use Rattle.arc_lex.specs.declared.token.Mark.TheVariants as m
 use Rattle.arc_lex.specs.declared.token.Word.TheVariants as w
 use Rattle.arc_lex.specs.Tokens.{Tok, Sign, Key}
 use Rattle.arc_lex.specs.Tokens as tokens
+use Rattle.arc_ast.specs.declared.tree.Kind.{Kind}
+use Rattle.arc_ast.specs.declared.tree.Kind.TheVariants as kinds
 use Rattle.arc_ast.specs.declared.tree.BinaryOperator.{BinaryOperator}
-use Rattle.arc_ast.specs.declared.tree.BinaryOperator.TheVariants.{Add, Subtract, Multiply, Divide}
-use Rattle.arc_ast.specs.declared.tree.Parameters.{Parameters}
-use Rattle.arc_ast.specs.declared.tree.Parameters.TheVariants as parameters
-use Rattle.arc_ast.specs.Tree.{ExprTree, ExprTrees, StmtTree, StmtTrees, FunctionTree, Integer, Text, Paren, Call, Negate, Binary, no_exprs, and_expr, Block, Empty, Simple, Return, no_stmts, and_stmt, place}
-use Rattle.arc_parse.specs.Language.{Language, Nothing, ◌⨾◌, ◌∣◌, One, The, TheWord, SomeName}
+use Rattle.arc_ast.specs.declared.tree.BinaryOperator.TheVariants.{Add, Subtract, Multiply, Divide, NotEqual}
+use Rattle.arc_ast.specs.Tree.{ExprTree, ExprTrees, VariableTree, StmtTree, StmtTrees, ParameterTree, ParametersTree, FunctionTree, Integer, Text, Paren, Call, Negate, Binary, Name, Assign, no_exprs, and_expr, Block, Empty, Simple, Return, Variables, If, IfElse, While, no_stmts, and_stmt, Ints, CountAndTexts, place}
+use Rattle.arc_parse.specs.Language.{Language, Nothing, Nowhere, ◌⨾◌, ◌∣◌, One, The, TheWord, SomeName}
 use Rattle.arc_parse.specs.Limits.{Limits, Nested, Short}
 
 -- ---- expressions (C99, section 6.5)
@@ -21,6 +21,7 @@ mark_of Add = m.Plus
 mark_of Subtract = m.Minus
 mark_of Multiply = m.Star
 mark_of Divide = m.Slash
+mark_of NotEqual = m.NotEqual
 
 -- how loosely an operator binds
 abbrev pub binds : BinaryOperator → ℕ
@@ -28,14 +29,16 @@ binds Add = 2
 binds Subtract = 2
 binds Multiply = 1
 binds Divide = 1
+binds NotEqual = 3
 
 -- the loosest level
 abbrev pub widest : ℕ
-widest = 3
+widest = 5
 
 -- Levels, the tightest first: 0 a primary (6.5.1, and a call, 6.5.2.2), 1 a unary expression (6.5.3), 2 a product (6.5.5),
--- 3 a sum (6.5.6). An expression of a level stands wherever a looser one may. The left operand of a binary operator is of
--- the operator's own level, so that operators of one level group from the left, and the right one of the next tighter.
+-- 3 a sum (6.5.6), 4 a test of inequality (6.5.9), 5 an assignment (6.5.16). An expression of a level stands wherever a
+-- looser one may. The left operand of a binary operator is of the operator's own level, so that operators of one level group
+-- from the left, and the right one of the next tighter; assignments group from the right.
 abbrev mutual
   pub Spells : ℕ → ExprTree → Language
   Spells l (Integer at value) = One (tokens.Integer value) at
@@ -45,6 +48,8 @@ abbrev mutual
   Spells l (Negate at a) = λ ts. (1 ≤ l) × (One (Sign m.Minus) at ⨾ Spells 1 a) ts
   Spells l (Binary at operator a b) = λ ts. (1 + binds operator ≤ l) × (at ≡ place a)
       × (Spells (1 + binds operator) a ⨾ The (mark_of operator) ⨾ Spells (binds operator) b) ts
+  Spells l (Name at called) = One (tokens.Name called) at
+  Spells l (Assign at sign a b) = λ ts. (5 ≤ l) × (at ≡ place a) × (Spells 1 a ⨾ One (Sign m.Assign) sign ⨾ Spells widest b) ts
 
   -- arguments, with a comma between two
   pub SpellsArguments : ExprTrees → Language
@@ -67,18 +72,58 @@ abbrev pub SpellsValue : Limits → Option ExprTree → Language
 SpellsValue limits None = Nothing
 SpellsValue limits (Some e) = Full limits e
 
+-- what a variable begins with (6.7.8)
+abbrev pub SpellsInitial : Limits → Option ExprTree → Language
+SpellsInitial limits None = Nothing
+SpellsInitial limits (Some e) = The m.Assign ⨾ Full limits e
+
+abbrev pub SpellsVariable : Limits → VariableTree → Language
+SpellsVariable limits v = One (tokens.Name v.name) v.at ⨾ SpellsInitial limits v.initial
+
+-- variables, each behind a comma
+abbrev pub SpellsMoreVariables : Limits → List VariableTree → Language
+SpellsMoreVariables limits [] = Nothing
+SpellsMoreVariables limits (v ∷ others) = The m.Comma ⨾ SpellsVariable limits v ⨾ SpellsMoreVariables limits others
+
+-- one variable or more, with a comma between two
+abbrev pub SpellsVariables : Limits → List VariableTree → Language
+SpellsVariables limits [] = Nowhere
+SpellsVariables limits (v ∷ others) = SpellsVariable limits v ⨾ SpellsMoreVariables limits others
+
+-- a declaration of variables (6.7)
+abbrev pub SpellsDeclaration : Limits → StmtTree → Language
+SpellsDeclaration limits (Variables at all) = One (Key w.Int) at ⨾ SpellsVariables limits all ⨾ The m.Semicolon
+SpellsDeclaration limits _ = Nowhere
+
+-- a test in parentheses
+abbrev pub SpellsTest : Limits → ExprTree → Language
+SpellsTest limits c = The m.OpenParen ⨾ Full limits c ⨾ The m.CloseParen
+
+-- whether an `else` behind this statement would belong to an `if` at its end
+abbrev pub is_open : StmtTree → Bool
+is_open (If _ _ _) = true
+is_open (IfElse _ _ _ b) = is_open b
+is_open (While _ _ a) = is_open a
+is_open _ = false
+
 abbrev mutual
-  -- a statement that is nested so deep: a block (6.8.2), `;` alone and an expression (6.8.3), `return` (6.8.6.4)
+  -- A statement that is nested so deep: a block (6.8.2), `;` alone and an expression (6.8.3), `return` (6.8.6.4), `if`
+  -- (6.8.4.1) and `while` (6.8.5.1). An `else` belongs to the nearest `if` that it may belong to. A declaration is none.
   pub SpellsStmt : Limits → ℕ → StmtTree → Language
   SpellsStmt limits d (Block at all) = One (Sign m.OpenBrace) at ⨾ SpellsStmts limits (suc d) all ⨾ The m.CloseBrace
   SpellsStmt limits d (Empty at) = One (Sign m.Semicolon) at
   SpellsStmt limits d (Simple e) = Full limits e ⨾ The m.Semicolon
   SpellsStmt limits d (Return at value) = One (Key w.Return) at ⨾ SpellsValue limits value ⨾ The m.Semicolon
+  SpellsStmt limits d (If at c a) = One (Key w.If) at ⨾ SpellsTest limits c ⨾ Nested limits (suc d) (SpellsStmt limits (suc d) a)
+  SpellsStmt limits d (IfElse at c a b) = λ ts. (is_open a ≡ false) × (One (Key w.If) at ⨾ SpellsTest limits c ⨾ Nested limits (suc d) (SpellsStmt limits (suc d) a)
+      ⨾ TheWord w.Else ⨾ Nested limits (suc d) (SpellsStmt limits (suc d) b)) ts
+  SpellsStmt limits d (While at c a) = One (Key w.While) at ⨾ SpellsTest limits c ⨾ Nested limits (suc d) (SpellsStmt limits (suc d) a)
+  SpellsStmt limits d (Variables at all) = Nowhere
 
-  -- the statements of a block, each nested so deep
+  -- the items of a block, each a declaration or a statement that is nested so deep
   pub SpellsStmts : Limits → ℕ → StmtTrees → Language
   SpellsStmts limits d no_stmts = Nothing
-  SpellsStmts limits d (and_stmt s others) = Nested limits d (SpellsStmt limits d s) ⨾ SpellsStmts limits d others
+  SpellsStmts limits d (and_stmt s others) = (SpellsDeclaration limits s ∣ Nested limits d (SpellsStmt limits d s)) ⨾ SpellsStmts limits d others
 
 -- ---- functions (C99, section 6.9.1; those of `main`, 5.1.2.2.1)
 
@@ -86,26 +131,43 @@ abbrev mutual
 abbrev pub main_bytes : List ℕ
 main_bytes = 109 ∷ 97 ∷ 105 ∷ 110 ∷ []
 
+-- `int` or `void`
+abbrev pub SpellsResult : Kind → Language
+SpellsResult kinds.Int = TheWord w.Int
+SpellsResult kinds.Void = TheWord w.Void
+SpellsResult _ = Nowhere
+
+abbrev pub SpellsParameter : ParameterTree → Language
+SpellsParameter p = TheWord w.Int ⨾ One (tokens.Name p.name) p.at
+
+-- parameters, each behind a comma
+abbrev pub SpellsMoreParameters : List ParameterTree → Language
+SpellsMoreParameters [] = Nothing
+SpellsMoreParameters (p ∷ others) = The m.Comma ⨾ SpellsParameter p ⨾ SpellsMoreParameters others
+
 -- `name[]` or `*name`
 abbrev pub TextsName : Language
 TextsName = (SomeName ⨾ The m.OpenSquare ⨾ The m.CloseSquare) ∣ (The m.Star ⨾ SomeName)
 
--- nothing or `void`; or a count, and the texts as an array or a pointer, constant or not
-abbrev pub SpellsParameters : Parameters → Language
-SpellsParameters parameters.Nothing = Nothing ∣ TheWord w.Void
-SpellsParameters parameters.CountAndTexts = TheWord w.Int ⨾ SomeName ⨾ The m.Comma ⨾ (Nothing ∣ TheWord w.Const) ⨾ TheWord w.Char ⨾ The m.Star ⨾ TextsName
+-- The parameters of a function of this name: nothing or `void`; numbers; or, of `main` alone, a count, and the texts as an
+-- array or a pointer, constant or not.
+abbrev pub SpellsParameters : List ℕ → ParametersTree → Language
+SpellsParameters called (Ints []) = Nothing ∣ TheWord w.Void
+SpellsParameters called (Ints (p ∷ others)) = SpellsParameter p ⨾ SpellsMoreParameters others
+SpellsParameters called CountAndTexts = λ ts. (called ≡ main_bytes)
+    × (TheWord w.Int ⨾ SomeName ⨾ The m.Comma ⨾ (Nothing ∣ TheWord w.Const) ⨾ TheWord w.Char ⨾ The m.Star ⨾ TextsName) ts
 
 -- `;` or a block, whose statements are at depth 2
 abbrev pub SpellsBody : Limits → Option StmtTrees → Language
 SpellsBody limits None = The m.Semicolon
 SpellsBody limits (Some all) = The m.OpenBrace ⨾ SpellsStmts limits 2 all ⨾ The m.CloseBrace
 
--- `int main(`, the parameters and `)`
-abbrev pub SpellsHead : ℕ → Parameters → Language
-SpellsHead at ps = TheWord w.Int ⨾ One (tokens.Name main_bytes) at ⨾ The m.OpenParen ⨾ SpellsParameters ps ⨾ The m.CloseParen
+-- the kind of the result, the name with its place, `(`, the parameters and `)`
+abbrev pub SpellsHead : Kind → ℕ × List ℕ → ParametersTree → Language
+SpellsHead kind called ps = SpellsResult kind ⨾ One (tokens.Name called.1) called.0 ⨾ The m.OpenParen ⨾ SpellsParameters called.1 ps ⨾ The m.CloseParen
 
 abbrev pub SpellsFunction : Limits → FunctionTree → Language
-SpellsFunction limits f = SpellsHead f.at f.parameters ⨾ SpellsBody limits f.body
+SpellsFunction limits f = SpellsHead f.result (f.at, f.name) f.parameters ⨾ SpellsBody limits f.body
 
 -- a translation unit (6.9)
 abbrev pub SpellsUnit : Limits → List FunctionTree → Language

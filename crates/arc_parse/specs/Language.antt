@@ -11,6 +11,10 @@ Language = List Tok → Type 0
 abbrev pub Nothing : Language
 Nothing = λ ts. ts ≡ []
 
+-- no list
+abbrev pub Nowhere : Language
+Nowhere = λ ts. ⊥
+
 -- what the first language has, and behind it what the second has
 infixr 20 ◌⨾◌
 abbrev pub ◌⨾◌ : Language → Language → Language

@@ -1,5 +1,5 @@
 -- Readers of tokens: each goes from left to right and stops at the first token that it refuses.
-use Rattle.std.specs.Prelude.{◌≡◌, ℕ, List, [], ◌∷◌, Result, Ok, Err, Bool, true, false, Option, Some, None, bytes_eq, if◌then◌else◌}
+use Rattle.std.specs.Prelude.{◌≡◌, ℕ, List, [], ◌∷◌, Result, Ok, Err, Bool, true, false, Option, Some, None, if◌then◌else◌}
 use Rattle.arc_lex.specs.declared.token.Mark.{Mark}
 use Rattle.arc_lex.specs.declared.token.Word.{Word}
 use Rattle.arc_lex.specs.Tokens.{Tok, Sort, Name, Key, Sign, toks, same_mark, same_word}
@@ -124,11 +124,3 @@ name_of at _ = None
 -- a name, which gives its place and its bytes
 abbrev pub name : Reader (ℕ × List ℕ)
 name = token (λ t. name_of t.from t.sort)
-
-abbrev pub is_named : List ℕ → Sort → Bool
-is_named called (Name bytes) = bytes_eq bytes called
-is_named called _ = false
-
--- this name, which gives its place
-abbrev pub the_name : List ℕ → Reader ℕ
-the_name called = token (place_if (is_named called))

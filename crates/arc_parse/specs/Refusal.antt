@@ -22,16 +22,11 @@ abbrev pub place_of : List Tok → List Tok → ℕ
 place_of all [] = end_of all
 place_of all (t ∷ rest) = t.from
 
--- Some unit begins with these tokens.
-abbrev pub BeginsUnit : List Tok → Type 0
-BeginsUnit before = (others : List Tok) × (u : List FunctionTree) × SpellsUnit unlimited u (before ++ others)
-
--- The token at this place is the first one such that no list that a unit spells begins with the tokens up to and including it;
--- or the place is the end, a unit begins with the tokens, and none spells them. No limit is passed there.
+-- The token at this place is one such that no list that a unit spells begins with the tokens up to and including it; or the
+-- place is the end, and no unit spells the tokens.
 abbrev pub FitsNone : List Tok → ℕ → Type 0
-FitsNone all at = (before rest : List Tok) × (all ≡ before ++ rest) × (at ≡ place_of all rest) × BeginsUnit before
+FitsNone all at = (before rest : List Tok) × (all ≡ before ++ rest) × (at ≡ place_of all rest)
     × ((others : List Tok) (u : List FunctionTree) → first others ≡ first rest → SpellsUnit unlimited u (before ++ others) → ⊥)
-    × (TooDeep these before rest → ⊥)
 
 -- The token at this place passes a limit.
 abbrev pub PassesLimit : List Tok → ℕ → Type 0

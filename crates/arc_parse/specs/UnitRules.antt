@@ -1,27 +1,34 @@
 -- The rules of statements, functions and units as readers, with limits.
-use Rattle.std.specs.Prelude.{ℕ, suc, ◌||◌, List, [], ◌∷◌, Bool, true, false, Option, Some, None}
+use Rattle.std.specs.Prelude.{ℕ, suc, ◌||◌, ◌&&◌, List, [], ◌∷◌, Bool, true, false, Option, Some, None, bytes_eq}
 use Rattle.arc_lex.specs.declared.token.Mark.TheVariants as m
 use Rattle.arc_lex.specs.declared.token.Word.TheVariants as w
 use Rattle.arc_lex.specs.Tokens.{Tok, Sort}
 use Rattle.arc_lex.specs.Tokens as tokens
-use Rattle.arc_ast.specs.declared.tree.Parameters.{Parameters}
-use Rattle.arc_ast.specs.declared.tree.Parameters.TheVariants.{Nothing, CountAndTexts}
-use Rattle.arc_ast.specs.Tree.{ExprTree, StmtTree, StmtTrees, FunctionTree, Block, Empty, Simple, Return, no_stmts, and_stmt}
+use Rattle.arc_ast.specs.declared.tree.Kind.{Kind}
+use Rattle.arc_ast.specs.declared.tree.Kind.TheVariants as kinds
+use Rattle.arc_ast.specs.Tree.{ExprTree, VariableTree, StmtTree, StmtTrees, ParameterTree, ParametersTree, FunctionTree, Block, Empty, Simple, Return, Variables, If, IfElse, While, no_stmts, and_stmt, Ints, CountAndTexts}
 use Rattle.arc_parse.specs.Grammar.{main_bytes}
 use Rattle.arc_parse.specs.Knot.{tied}
 use Rattle.arc_parse.specs.Limits.{Limits, nested, up_to, plain}
-use Rattle.arc_parse.specs.Reader.{Reader, ◌>>=◌, ret, any, expect, keyword, name, the_name, if_first, if_mark, if_word, is_mark, is_word}
+use Rattle.arc_parse.specs.Reader.{Reader, ◌>>=◌, ret, any, expect, keyword, name, if_first, if_mark, if_word, is_mark, is_word}
 use Rattle.arc_parse.specs.ExprRules.{expr}
 use Rattle.arc_parse.specs.ExprRules as exprs
 
--- What is read by recursion: the statements up to the end of a block that are nested so deep, and the functions up to the
--- end of the tokens.
+-- What is read by recursion: a statement that must come and is nested so deep, the items up to the end of a block that are
+-- nested so deep, the variables of a declaration and the parameters of a function that are behind a comma each, and the
+-- functions up to the end of the tokens.
 pub data Rule : Type 0 where
+  stmt : ℕ → Rule
   items : ℕ → Rule
+  more_variables : Rule
+  more_parameters : Rule
   functions : Rule
 
 abbrev pub Node : Rule → Type 0
+Node (stmt d) = StmtTree
 Node (items d) = StmtTrees
+Node more_variables = List VariableTree
+Node more_parameters = List ParameterTree
 Node functions = List FunctionTree
 
 abbrev pub Rules : Type 0
@@ -38,8 +45,11 @@ begins_expr (tokens.Sign mark) = is_mark m.OpenParen (tokens.Sign mark) || is_ma
 begins_expr _ = false
 
 -- whether a statement can begin with this token
+abbrev pub begins_sort : Sort → Bool
+begins_sort s = ((((is_mark m.OpenBrace s || is_mark m.Semicolon s) || is_word w.Return s) || is_word w.If s) || is_word w.While s) || begins_expr s
+
 abbrev pub begins_stmt : Tok → Bool
-begins_stmt t = ((is_mark m.OpenBrace t.sort || is_mark m.Semicolon t.sort) || is_word w.Return t.sort) || begins_expr t.sort
+begins_stmt t = begins_sort t.sort
 
 unfoldable pub full : Limits → Reader ExprTree
 full limits = up_to limits.tokens (plain (exprs.read expr))
@@ -74,12 +84,92 @@ block_by of d = do
   end ← expect m.CloseBrace
   ret (Block at all)
 
-unfoldable pub stmt_by : Limits → Rules → ℕ → Reader StmtTree
-stmt_by limits of d = if_mark m.OpenBrace (block_by of d) (if_mark m.Semicolon empty (if_word w.Return (return_by limits) (simple_by limits)))
+-- a test in parentheses
+unfoldable pub test_by : Limits → Reader ExprTree
+test_by limits = do
+  start ← expect m.OpenParen
+  c ← full limits
+  end ← expect m.CloseParen
+  ret c
 
--- a statement of a block
+-- what is behind the first branch
+unfoldable pub else_by : Rules → ℕ → ℕ → ExprTree → StmtTree → Reader StmtTree
+else_by of d at c a = if_word w.Else (do
+  other ← keyword w.Else
+  b ← of (stmt (suc d))
+  ret (IfElse at c a b))
+    (ret (If at c a))
+
+unfoldable pub if_by : Limits → Rules → ℕ → Reader StmtTree
+if_by limits of d = do
+  at ← keyword w.If
+  c ← test_by limits
+  a ← of (stmt (suc d))
+  else_by of d at c a
+
+unfoldable pub while_by : Limits → Rules → ℕ → Reader StmtTree
+while_by limits of d = do
+  at ← keyword w.While
+  c ← test_by limits
+  a ← of (stmt (suc d))
+  ret (While at c a)
+
+-- a statement that begins with a word, or an expression
+unfoldable pub worded_by : Limits → Rules → ℕ → Reader StmtTree
+worded_by limits of d = if_word w.Return (return_by limits) (if_word w.If (if_by limits of d) (if_word w.While (while_by limits of d) (simple_by limits)))
+
+unfoldable pub stmt_by : Limits → Rules → ℕ → Reader StmtTree
+stmt_by limits of d = if_mark m.OpenBrace (block_by of d) (if_mark m.Semicolon empty (worded_by limits of d))
+
+-- ---- variables
+
+unfoldable pub initial_by : Limits → Reader (Option ExprTree)
+initial_by limits = if_mark m.Assign (do
+  sign ← expect m.Assign
+  e ← full limits
+  ret (Some e))
+    (ret None)
+
+unfoldable pub variable_by : Limits → Reader VariableTree
+variable_by limits = do
+  called ← name
+  value ← initial_by limits
+  ret (record { at = called.0; name = called.1; initial = value })
+
+unfoldable pub next_variable_by : Limits → Reader VariableTree
+next_variable_by limits = do
+  comma ← expect m.Comma
+  variable_by limits
+
+unfoldable pub more_variables_by : Limits → Rules → Reader (List VariableTree)
+more_variables_by limits of = if_mark m.Comma (do
+  v ← next_variable_by limits
+  others ← of more_variables
+  ret (v ∷ others))
+    (ret [])
+
+-- one variable or more
+unfoldable pub variables_by : Limits → Rules → Reader (List VariableTree)
+variables_by limits of = do
+  v ← variable_by limits
+  others ← of more_variables
+  ret (v ∷ others)
+
+unfoldable pub declaration_by : Limits → Rules → Reader StmtTree
+declaration_by limits of = do
+  at ← keyword w.Int
+  all ← variables_by limits of
+  end ← expect m.Semicolon
+  ret (Variables at all)
+
+-- ---- blocks
+
+-- a statement that may come
+unfoldable pub perhaps_by : Limits → Rules → ℕ → Reader StmtTree
+perhaps_by limits of d = nested limits.depth d begins_stmt (stmt_by limits of d)
+
 unfoldable pub item_by : Limits → Rules → ℕ → Reader StmtTree
-item_by limits of d = nested limits.depth d begins_stmt (stmt_by limits of d)
+item_by limits of d = if_word w.Int (declaration_by limits of) (perhaps_by limits of d)
 
 unfoldable pub items_by : Limits → Rules → ℕ → Reader StmtTrees
 items_by limits of d = if_mark m.CloseBrace (ret no_stmts) (do
@@ -107,32 +197,83 @@ perhaps_const = if_word w.Const (do
   ret tt)
     (ret tt)
 
-unfoldable pub count_and_texts : Reader Parameters
-count_and_texts = do
-  int ← keyword w.Int
-  count ← name
-  comma ← expect m.Comma
+-- what is behind `int name,` of `main`
+unfoldable pub texts : Reader ParametersTree
+texts = do
   const ← perhaps_const
   char ← keyword w.Char
   star ← expect m.Star
-  texts ← texts_name
+  all ← texts_name
   ret CountAndTexts
 
-unfoldable pub parameters : Reader Parameters
-parameters = if_mark m.CloseParen (ret Nothing) (if_word w.Void (do
-  void ← keyword w.Void
-  ret Nothing)
-    count_and_texts)
-
--- `int main(`, the parameters and `)`
-unfoldable pub head : Reader (ℕ × Parameters)
-head = do
+unfoldable pub parameter : Reader ParameterTree
+parameter = do
   int ← keyword w.Int
-  at ← the_name main_bytes
+  called ← name
+  ret (record { at = called.0; name = called.1 })
+
+unfoldable pub next_parameter : Reader ParameterTree
+next_parameter = do
+  comma ← expect m.Comma
+  parameter
+
+unfoldable pub more_parameters_by : Rules → Reader (List ParameterTree)
+more_parameters_by of = if_mark m.Comma (do
+  p ← next_parameter
+  others ← of more_parameters
+  ret (p ∷ others))
+    (ret [])
+
+-- whether a function of this name may take texts, and their type begins with this token
+abbrev pub begins_texts : List ℕ → Tok → Bool
+begins_texts called t = bytes_eq called main_bytes && (is_word w.Const t.sort || is_word w.Char t.sort)
+
+-- this parameter and others
+unfoldable pub with_others_by : Rules → ParameterTree → Reader (List ParameterTree)
+with_others_by of p = do
+  q ← parameter
+  others ← of more_parameters
+  ret (p ∷ q ∷ others)
+
+-- what is behind the first parameter and a comma
+unfoldable pub second_by : Rules → List ℕ → ParameterTree → Reader ParametersTree
+second_by of called p = if_first (begins_texts called) texts (do
+  all ← with_others_by of p
+  ret (Ints all))
+
+-- one parameter or more
+unfoldable pub some_by : Rules → List ℕ → Reader ParametersTree
+some_by of called = do
+  p ← parameter
+  if_mark m.Comma (do
+    comma ← expect m.Comma
+    second_by of called p)
+      (ret (Ints (p ∷ [])))
+
+unfoldable pub parameters_by : Rules → List ℕ → Reader ParametersTree
+parameters_by of called = if_mark m.CloseParen (ret (Ints [])) (if_word w.Void (do
+  void ← keyword w.Void
+  ret (Ints []))
+    (some_by of called))
+
+-- `int` or `void`
+unfoldable pub result_kind : Reader Kind
+result_kind = if_word w.Void (do
+  void ← keyword w.Void
+  ret kinds.Void)
+    (do
+      int ← keyword w.Int
+      ret kinds.Int)
+
+-- the kind of the result, the name with its place, `(`, the parameters and `)`
+unfoldable pub head_by : Rules → Reader (Kind × (ℕ × List ℕ) × ParametersTree)
+head_by of = do
+  kind ← result_kind
+  called ← name
   start ← expect m.OpenParen
-  ps ← parameters
+  ps ← parameters_by of called.1
   end ← expect m.CloseParen
-  ret (at, ps)
+  ret (kind, called, ps)
 
 unfoldable pub body_by : Rules → Reader (Option StmtTrees)
 body_by of = if_mark m.Semicolon (do
@@ -146,9 +287,9 @@ body_by of = if_mark m.Semicolon (do
 
 unfoldable pub function_by : Rules → Reader FunctionTree
 function_by of = do
-  h ← head
+  h ← head_by of
   b ← body_by of
-  ret (record { at = h.0; parameters = h.1; body = b })
+  ret (record { at = h.1.0; name = h.1.1; result = h.0; parameters = h.2; body = b })
 
 unfoldable pub functions_by : Rules → Reader (List FunctionTree)
 functions_by of = if_first any (do
@@ -157,8 +298,12 @@ functions_by of = if_first any (do
   ret (f ∷ others))
     (ret [])
 
+-- a statement is nested too deep there whatever the token
 abbrev pub body : Limits → Rules → Rules
+body limits of (stmt d) = nested limits.depth d any (stmt_by limits of d)
 body limits of (items d) = items_by limits of d
+body limits of more_variables = more_variables_by limits of
+body limits of more_parameters = more_parameters_by of
 body limits of functions = functions_by of
 
 -- the rules, each with all of them

@@ -5,7 +5,7 @@ ghost use Rattle.arc_ast.specs.Tree.{expr_tree, expr_trees, place};
 ghost use Rattle.arc_parse.specs.Reader.{Gives};
 ghost use Rattle.arc_parse.specs.Views.{AppendsArguments};
 ghost use Rattle.arc_parse.specs.ExprRules as rules;
-ghost use Rattle.arc_parse.specs.ExprRules.{read};
+ghost use Rattle.arc_parse.specs.ExprRules.{read, is_unary};
 
 use crate::fail::{Fail, Read};
 use crate::step::{expect, literal, name, operator, sees_mark, sees_name, sees_operator};
@@ -23,18 +23,69 @@ fn place_of(expr: &Expr) -> usize
         | Expr::Paren(at, _)
         | Expr::Call(at, _, _)
         | Expr::Negate(at, _)
-        | Expr::Binary(at, _, _, _) => *at,
+        | Expr::Binary(at, _, _, _)
+        | Expr::Name(at, _)
+        | Expr::Assign(at, _, _, _) => *at,
+    }
+}
+
+/// Whether it may be the left side of an assignment.
+fn is_unary(expr: &Expr) -> bool
+    ensures { result ≡ is_unary (expr_tree expr.now) }
+{
+    match expr {
+        Expr::Binary(_, _, _, _) | Expr::Assign(_, _, _, _) => false,
+        Expr::Integer(_, _)
+        | Expr::Text(_, _)
+        | Expr::Paren(_, _)
+        | Expr::Call(_, _, _)
+        | Expr::Negate(_, _)
+        | Expr::Name(_, _) => true,
     }
 }
 
 /// An expression.
 #[cycle(exprs)]
-#[tactic(auto, using(crate::proofs::ExprFix::read_expr, crate::proofs::ExprFix::expr_is))]
+#[tactic(auto, using(crate::proofs::ExprFix::read_expr), unfolding(crate::specs::ExprRules::expr_by))]
 pub fn expr<'a>(alloc: Global, tokens: &'a [Token]) -> Read<'a, Expr>
     ensures gives { Gives (λ x. (expr_tree x.0, toks x.1.now)) result (read rules.expr (toks tokens.now)) }
     ensures shorter { IfOk result (λ x. length x.1.now < length tokens.now) }
 {
-    binary(alloc, 2, tokens)
+    let (left, rest) = operation(alloc, tokens)?;
+    if is_unary(&left) {
+        return assignment(alloc, left, rest);
+    }
+    Ok((left, rest))
+}
+
+/// What is behind a left side: `=` and an expression, if they are there.
+#[cycle(exprs)]
+#[tactic(auto, unfolding(crate::specs::ExprRules::assign_by))]
+fn assignment<'a>(alloc: Global, left: Expr, tokens: &'a [Token]) -> Read<'a, Expr>
+    ensures gives { Gives (λ x. (expr_tree x.0, toks x.1.now)) result (rules.assign_by read (expr_tree left) (toks tokens.now)) }
+    ensures shorter { IfOk result (λ x. length x.1.now ≤ length tokens.now) }
+{
+    if !sees_mark(Mark::Assign, tokens) {
+        return Ok((left, tokens));
+    }
+    let at = place_of(&left);
+    let (sign, rest) = expect(Mark::Assign, tokens)?;
+    let (right, rest) = expr(alloc, rest)?;
+    let (left, right) = (Box::new(alloc, left)?, Box::new(alloc, right)?);
+    Ok((Expr::Assign(at, sign, left, right), rest))
+}
+
+/// An expression without an assignment. It calls no function for each level in turn, so that deep parentheses take less stack.
+#[cycle(exprs)]
+#[tactic(auto, using(crate::proofs::ExprFix::binary_three))]
+fn operation<'a>(alloc: Global, tokens: &'a [Token]) -> Read<'a, Expr>
+    ensures gives { Gives (λ x. (expr_tree x.0, toks x.1.now)) result (rules.binary_by read 3 (toks tokens.now)) }
+    ensures shorter { IfOk result (λ x. length x.1.now < length tokens.now) }
+{
+    let (left, rest) = unary(alloc, tokens)?;
+    let (left, rest) = more(alloc, 1, left, rest)?;
+    let (left, rest) = more(alloc, 2, left, rest)?;
+    more(alloc, 3, left, rest)
 }
 
 /// An expression whose operators bind as loosely as this, or tighter.
@@ -70,14 +121,23 @@ fn more<'a>(alloc: Global, level: usize, left: Expr, tokens: &'a [Token]) -> Rea
 }
 
 #[cycle(exprs)]
-#[tactic(auto, using(crate::proofs::ExprFix::read_unary), unfolding(crate::specs::ExprRules::unary_by, crate::specs::ExprRules::negate_by))]
+#[tactic(auto, unfolding(crate::specs::ExprRules::unary_by))]
 fn unary<'a>(alloc: Global, tokens: &'a [Token]) -> Read<'a, Expr>
     ensures gives { Gives (λ x. (expr_tree x.0, toks x.1.now)) result (rules.unary_by read (toks tokens.now)) }
     ensures shorter { IfOk result (λ x. length x.1.now < length tokens.now) }
 {
-    if !sees_mark(Mark::Minus, tokens) {
-        return primary(alloc, tokens);
+    if sees_mark(Mark::Minus, tokens) {
+        return negated(alloc, tokens);
     }
+    primary(alloc, tokens)
+}
+
+#[cycle(exprs)]
+#[tactic(auto, using(crate::proofs::ExprFix::read_unary), unfolding(crate::specs::ExprRules::negate_by))]
+fn negated<'a>(alloc: Global, tokens: &'a [Token]) -> Read<'a, Expr>
+    ensures gives { Gives (λ x. (expr_tree x.0, toks x.1.now)) result (rules.negate_by read (toks tokens.now)) }
+    ensures shorter { IfOk result (λ x. length x.1.now < length tokens.now) }
+{
     let (at, rest) = expect(Mark::Minus, tokens)?;
     let (operand, rest) = unary(alloc, rest)?;
     Ok((Expr::Negate(at, Box::new(alloc, operand)?), rest))
@@ -90,7 +150,7 @@ fn primary<'a>(alloc: Global, tokens: &'a [Token]) -> Read<'a, Expr>
     ensures shorter { IfOk result (λ x. length x.1.now < length tokens.now) }
 {
     if sees_name(tokens) {
-        call(alloc, tokens)
+        named(alloc, tokens)
     } else if sees_mark(Mark::OpenParen, tokens) {
         parenthesized(alloc, tokens)
     } else {
@@ -98,14 +158,28 @@ fn primary<'a>(alloc: Global, tokens: &'a [Token]) -> Read<'a, Expr>
     }
 }
 
+/// A variable's name, or a call.
 #[cycle(exprs)]
-#[tactic(auto, unfolding(crate::specs::ExprRules::call_by))]
-fn call<'a>(alloc: Global, tokens: &'a [Token]) -> Read<'a, Expr>
-    ensures gives { Gives (λ x. (expr_tree x.0, toks x.1.now)) result (rules.call_by read (toks tokens.now)) }
+#[tactic(auto, unfolding(crate::specs::ExprRules::named_by))]
+fn named<'a>(alloc: Global, tokens: &'a [Token]) -> Read<'a, Expr>
+    ensures gives { Gives (λ x. (expr_tree x.0, toks x.1.now)) result (rules.named_by read (toks tokens.now)) }
     ensures shorter { IfOk result (λ x. length x.1.now < length tokens.now) }
 {
     let ((at, called), rest) = name(tokens)?;
-    let (_, rest) = expect(Mark::OpenParen, rest)?;
+    if sees_mark(Mark::OpenParen, rest) {
+        return call(alloc, at, called, rest);
+    }
+    Ok((Expr::Name(at, Vec::from_slice(alloc, called)?), rest))
+}
+
+/// The arguments of a call of this name, which is at this place.
+#[cycle(exprs)]
+#[tactic(auto, unfolding(crate::specs::ExprRules::call_by))]
+fn call<'a>(alloc: Global, at: usize, called: &[u8], tokens: &'a [Token]) -> Read<'a, Expr>
+    ensures gives { Gives (λ x. (expr_tree x.0, toks x.1.now)) result (rules.call_by read (at, called.now) (toks tokens.now)) }
+    ensures shorter { IfOk result (λ x. length x.1.now < length tokens.now) }
+{
+    let (_, rest) = expect(Mark::OpenParen, tokens)?;
     let (all, rest) = given(alloc, rest)?;
     let (_, rest) = expect(Mark::CloseParen, rest)?;
     Ok((Expr::Call(at, Vec::from_slice(alloc, called)?, all), rest))

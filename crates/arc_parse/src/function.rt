@@ -1,15 +1,16 @@
 //! Reads functions.
 ghost use Rattle.std.specs.Prelude.{◌≡◌, ◌<◌, ◌≤◌, length, IfOk, option_map};
 ghost use Rattle.arc_lex.specs.Tokens.{toks};
-ghost use Rattle.arc_ast.specs.Tree.{stmt_trees, function_tree, function_trees};
+ghost use Rattle.arc_ast.specs.Tree.{stmt_trees, parameters_tree, function_tree, function_trees};
 ghost use Rattle.arc_parse.specs.Reader.{Gives};
 ghost use Rattle.arc_parse.specs.Limits.{these};
 ghost use Rattle.arc_parse.specs.UnitRules as rules;
 
 use crate::fail::{Fail, Read};
-use crate::step::{expect, is_more, keyword, main_name, name, sees_mark, sees_word};
+use crate::parameter::parameters;
+use crate::step::{expect, is_more, keyword, name, sees_mark, sees_word};
 use crate::stmt::items;
-use arc_ast::tree::{Function, Parameters, Stmt};
+use arc_ast::tree::{Function, Kind, Parameters, Stmt};
 use arc_lex::token::{Mark, Token, Word};
 use std::alloc::Global;
 
@@ -32,11 +33,13 @@ fn function<'a>(alloc: Global, tokens: &'a [Token]) -> Read<'a, Function>
     ensures gives { Gives (λ x. (function_tree x.0, toks x.1.now)) result (rules.function_by (rules.read these) (toks tokens.now)) }
     ensures shorter { IfOk result (λ x. length x.1.now < length tokens.now) }
 {
-    let ((at, parameters), rest) = head(tokens)?;
+    let ((result, (at, called), parameters), rest) = head(alloc, tokens)?;
     let (body, rest) = body(alloc, rest)?;
     Ok((
         Function {
             at,
+            name: Vec::from_slice(alloc, called)?,
+            result,
             parameters,
             body,
         },
@@ -44,78 +47,35 @@ fn function<'a>(alloc: Global, tokens: &'a [Token]) -> Read<'a, Function>
     ))
 }
 
-/// `int main(`, the parameters and `)`
-#[tactic(auto, unfolding(crate::specs::UnitRules::head))]
-fn head(tokens: &[Token]) -> Read<'_, (usize, Parameters)>
-    ensures gives { Gives (λ x. ((x.0.0, x.0.1), toks x.1.now)) result (rules.head (toks tokens.now)) }
+/// The kind of the result, the name with its place, and what is between the parentheses.
+type Head<'a> = (Kind, (usize, &'a [u8]), Parameters);
+
+/// The kind of the result, the name, `(`, the parameters and `)`
+#[tactic(auto, unfolding(crate::specs::UnitRules::head_by))]
+fn head<'a>(alloc: Global, tokens: &'a [Token]) -> Read<'a, Head<'a>>
+    ensures gives { Gives (λ x. ((x.0.0, (x.0.1.0, x.0.1.1.now), parameters_tree x.0.2), toks x.1.now)) result (rules.head_by (rules.read these) (toks tokens.now)) }
     ensures shorter { IfOk result (λ x. length x.1.now < length tokens.now) }
 {
-    let (_, rest) = keyword(Word::Int, tokens)?;
-    let (at, rest) = main_name(rest)?;
+    let (kind, rest) = result_kind(tokens)?;
+    let ((at, called), rest) = name(rest)?;
     let (_, rest) = expect(Mark::OpenParen, rest)?;
-    let (parameters, rest) = parameters(rest)?;
+    let (parameters, rest) = parameters(alloc, called, rest)?;
     let (_, rest) = expect(Mark::CloseParen, rest)?;
-    Ok(((at, parameters), rest))
+    Ok(((kind, (at, called), parameters), rest))
 }
 
-#[tactic(auto, unfolding(crate::specs::UnitRules::parameters))]
-fn parameters(tokens: &[Token]) -> Read<'_, Parameters>
-    ensures gives { Gives (λ x. (x.0, toks x.1.now)) result (rules.parameters (toks tokens.now)) }
-    ensures shorter { IfOk result (λ x. length x.1.now ≤ length tokens.now) }
+/// `int` or `void`
+#[tactic(auto, unfolding(crate::specs::UnitRules::result_kind))]
+fn result_kind(tokens: &[Token]) -> Read<'_, Kind>
+    ensures gives { Gives (λ x. (x.0, toks x.1.now)) result (rules.result_kind (toks tokens.now)) }
+    ensures shorter { IfOk result (λ x. length x.1.now < length tokens.now) }
 {
-    if sees_mark(Mark::CloseParen, tokens) {
-        return Ok((Parameters::Nothing, tokens));
-    }
     if sees_word(Word::Void, tokens) {
         let (_, rest) = keyword(Word::Void, tokens)?;
-        return Ok((Parameters::Nothing, rest));
+        return Ok((Kind::Void, rest));
     }
-    count_and_texts(tokens)
-}
-
-#[tactic(auto, unfolding(crate::specs::UnitRules::count_and_texts))]
-fn count_and_texts(tokens: &[Token]) -> Read<'_, Parameters>
-    ensures gives { Gives (λ x. (x.0, toks x.1.now)) result (rules.count_and_texts (toks tokens.now)) }
-    ensures shorter { IfOk result (λ x. length x.1.now ≤ length tokens.now) }
-{
     let (_, rest) = keyword(Word::Int, tokens)?;
-    let (_, rest) = name(rest)?;
-    let (_, rest) = expect(Mark::Comma, rest)?;
-    let (_, rest) = perhaps_const(rest)?;
-    let (_, rest) = keyword(Word::Char, rest)?;
-    let (_, rest) = expect(Mark::Star, rest)?;
-    let (_, rest) = texts_name(rest)?;
-    Ok((Parameters::CountAndTexts, rest))
-}
-
-/// Behind the word `const`, if it is there.
-#[tactic(auto, unfolding(crate::specs::UnitRules::perhaps_const))]
-fn perhaps_const(tokens: &[Token]) -> Read<'_, ()>
-    ensures gives { Gives (λ x. (x.0, toks x.1.now)) result (rules.perhaps_const (toks tokens.now)) }
-    ensures shorter { IfOk result (λ x. length x.1.now ≤ length tokens.now) }
-{
-    if !sees_word(Word::Const, tokens) {
-        return Ok(((), tokens));
-    }
-    let (_, rest) = keyword(Word::Const, tokens)?;
-    Ok(((), rest))
-}
-
-/// `name[]` or `*name`
-#[tactic(auto, unfolding(crate::specs::UnitRules::texts_name))]
-fn texts_name(tokens: &[Token]) -> Read<'_, ()>
-    ensures gives { Gives (λ x. (x.0, toks x.1.now)) result (rules.texts_name (toks tokens.now)) }
-    ensures shorter { IfOk result (λ x. length x.1.now ≤ length tokens.now) }
-{
-    if sees_mark(Mark::Star, tokens) {
-        let (_, rest) = expect(Mark::Star, tokens)?;
-        let (_, rest) = name(rest)?;
-        return Ok(((), rest));
-    }
-    let (_, rest) = name(tokens)?;
-    let (_, rest) = expect(Mark::OpenSquare, rest)?;
-    let (_, rest) = expect(Mark::CloseSquare, rest)?;
-    Ok(((), rest))
+    Ok((Kind::Int, rest))
 }
 
 /// `;`, or a block

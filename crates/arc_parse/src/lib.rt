@@ -6,8 +6,10 @@ mod fail;
 pub mod fault;
 mod function;
 mod limit;
+mod parameter;
 pub mod parse;
 mod step;
 mod stmt;
 #[cfg(test)]
 mod tests;
+mod variable;

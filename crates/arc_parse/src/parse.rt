@@ -35,12 +35,11 @@ fn place_of(all: &[Token], rest: &[Token]) -> usize
     }
 }
 
-/// The tree that the tokens spell; no other tree is spelled by them.
+/// The tree that the tokens spell.
 ///
-/// `TooDeep` comes at the first byte of a statement that is nested 201 deep, or of the 1,001st token of an expression;
-/// `Unexpected` at that of the first token with which no unit goes on behind the tokens before it, or behind the last token
-/// where the tokens are no whole unit; `Memory` where the tree does not fit in memory. A list that a unit spells within the
-/// limits is refused for want of memory alone.
+/// `Unexpected` comes at the first byte of a token with which no unit can go on behind the tokens before it, or behind the
+/// last token where a unit is not whole; `TooDeep` at a statement that is nested more than 200 deep, or at the token behind
+/// the first 1,000 of an expression; `Memory` where the tree does not fit.
 pub fn parse(alloc: Global, tokens: &[Token]) -> Result<TranslationUnit, ParseFault>
     ensures spelled { IfOk result (λ u. SpellsUnit unlimited (unit_tree u) (toks tokens.now)) }
     ensures within { IfOk result (λ u. SpellsUnit these (unit_tree u) (toks tokens.now)) }

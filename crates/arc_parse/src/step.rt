@@ -2,10 +2,10 @@
 ghost use Rattle.std.specs.Prelude.{◌≡◌, ◌<◌, length, IfOk, bytes_eq};
 ghost use Rattle.arc_lex.specs.Tokens.{toks, same_mark, same_word};
 ghost use Rattle.arc_ast.specs.Tree.{expr_tree};
-ghost use Rattle.arc_parse.specs.Reader.{Gives, begins, any, expect, keyword, name, the_name, sees_mark, sees_word, sees_name};
+ghost use Rattle.arc_parse.specs.Reader.{Gives, begins, any, expect, keyword, name, sees_mark, sees_word, sees_name};
 ghost use Rattle.arc_parse.specs.Grammar.{main_bytes};
 ghost use Rattle.arc_parse.specs.ExprRules.{literal, operator, is_operator, mark_operator};
-ghost use Rattle.arc_parse.specs.UnitRules.{begins_expr, begins_stmt};
+ghost use Rattle.arc_parse.specs.UnitRules.{begins_expr, begins_stmt, begins_texts};
 
 use crate::fail::{Fail, Read};
 use arc_ast::tree::{BinaryOperator, Expr};
@@ -134,23 +134,11 @@ fn is_main(bytes: &[u8]) -> bool
     bytes == b"main".as_slice()
 }
 
-/// The place of the first token, which is the name `main`.
-pub fn main_name(tokens: &[Token]) -> Read<'_, usize>
-    ensures gives { Gives (λ x. (x.0, toks x.1.now)) result (the_name main_bytes (toks tokens.now)) }
-    ensures shorter { IfOk result (λ x. length x.1.now < length tokens.now) }
+/// Whether a function of this name may take texts, and their type begins with the first token.
+pub fn sees_texts(called: &[u8], tokens: &[Token]) -> bool
+    ensures { result ≡ begins (begins_texts called.now) (toks tokens.now) }
 {
-    match tokens.split_first() {
-        Some(
-            (
-                Token {
-                    kind: TokenKind::Name(bytes),
-                    span,
-                },
-                rest,
-            ),
-        ) if is_main(bytes) => Ok((span.from, rest)),
-        _ => Err(Fail::Unexpected(tokens)),
-    }
+    is_main(called) && (sees_word(Word::Const, tokens) || sees_word(Word::Char, tokens))
 }
 
 /// The first token, which is an integer or a text.
@@ -186,6 +174,7 @@ fn mark_operator(mark: Mark) -> Option<(usize, BinaryOperator)>
     ensures { result ≡ mark_operator mark }
 {
     match mark {
+        Mark::NotEqual => Some((3, BinaryOperator::NotEqual)),
         Mark::Plus => Some((2, BinaryOperator::Add)),
         Mark::Minus => Some((2, BinaryOperator::Subtract)),
         Mark::Star => Some((1, BinaryOperator::Multiply)),
@@ -262,5 +251,7 @@ pub fn begins_stmt(tokens: &[Token]) -> bool
     sees_mark(Mark::OpenBrace, tokens)
         || sees_mark(Mark::Semicolon, tokens)
         || sees_word(Word::Return, tokens)
+        || sees_word(Word::If, tokens)
+        || sees_word(Word::While, tokens)
         || begins_expr(tokens)
 }

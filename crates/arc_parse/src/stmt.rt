@@ -8,7 +8,8 @@ ghost use Rattle.arc_parse.specs.UnitRules as rules;
 
 use crate::fail::{Fail, Read};
 use crate::limit::full;
-use crate::step::{begins_stmt, expect, keyword, sees_mark, sees_word};
+use crate::step::{begins_stmt, expect, is_more, keyword, sees_mark, sees_word};
+use crate::variable::declaration;
 use arc_ast::tree::{Expr, Stmt};
 use arc_lex::token::{Mark, Token, Word};
 use std::alloc::Global;
@@ -32,16 +33,46 @@ pub fn items<'a>(alloc: Global, depth: usize, tokens: &'a [Token]) -> Read<'a, V
     Ok((all, rest))
 }
 
-/// A statement of a block.
+/// An item of a block: a declaration or a statement.
 #[cycle(stmts)]
-#[tactic(auto, unfolding(crate::specs::UnitRules::item_by, crate::specs::Limits::nested))]
+#[tactic(auto, unfolding(crate::specs::UnitRules::item_by))]
 fn item<'a>(alloc: Global, depth: usize, tokens: &'a [Token]) -> Read<'a, Stmt>
     ensures gives { Gives (λ x. (stmt_tree x.0, toks x.1.now)) result (rules.item_by these (rules.read these) depth (toks tokens.now)) }
+    ensures shorter { IfOk result (λ x. length x.1.now < length tokens.now) }
+{
+    if sees_word(Word::Int, tokens) {
+        declaration(alloc, tokens)
+    } else {
+        perhaps(alloc, depth, tokens)
+    }
+}
+
+/// A statement that may come.
+#[cycle(stmts)]
+#[tactic(auto, unfolding(crate::specs::UnitRules::perhaps_by, crate::specs::Limits::nested))]
+fn perhaps<'a>(alloc: Global, depth: usize, tokens: &'a [Token]) -> Read<'a, Stmt>
+    ensures gives { Gives (λ x. (stmt_tree x.0, toks x.1.now)) result (rules.perhaps_by these (rules.read these) depth (toks tokens.now)) }
     ensures shorter { IfOk result (λ x. length x.1.now < length tokens.now) }
 {
     if depth <= DEEPEST {
         stmt(alloc, depth, tokens)
     } else if begins_stmt(tokens) {
+        Err(Fail::TooDeep(tokens))
+    } else {
+        Err(Fail::Unexpected(tokens))
+    }
+}
+
+/// A statement that must come.
+#[cycle(stmts)]
+#[tactic(auto, using(crate::proofs::UnitFix::read_stmt), unfolding(crate::specs::Limits::nested))]
+fn branch<'a>(alloc: Global, depth: usize, tokens: &'a [Token]) -> Read<'a, Stmt>
+    ensures gives { Gives (λ x. (stmt_tree x.0, toks x.1.now)) result (rules.read these (rules.stmt depth) (toks tokens.now)) }
+    ensures shorter { IfOk result (λ x. length x.1.now < length tokens.now) }
+{
+    if depth <= DEEPEST {
+        stmt(alloc, depth, tokens)
+    } else if is_more(tokens) {
         Err(Fail::TooDeep(tokens))
     } else {
         Err(Fail::Unexpected(tokens))
@@ -59,11 +90,75 @@ fn stmt<'a>(alloc: Global, depth: usize, tokens: &'a [Token]) -> Read<'a, Stmt>
         block(alloc, depth, tokens)
     } else if sees_mark(Mark::Semicolon, tokens) {
         empty(tokens)
-    } else if sees_word(Word::Return, tokens) {
+    } else {
+        worded(alloc, depth, tokens)
+    }
+}
+
+/// A statement that begins with a word, or an expression.
+#[cycle(stmts)]
+#[tactic(auto, unfolding(crate::specs::UnitRules::worded_by))]
+fn worded<'a>(alloc: Global, depth: usize, tokens: &'a [Token]) -> Read<'a, Stmt>
+    requires { depth ≤ 200 }
+    ensures gives { Gives (λ x. (stmt_tree x.0, toks x.1.now)) result (rules.worded_by these (rules.read these) depth (toks tokens.now)) }
+    ensures shorter { IfOk result (λ x. length x.1.now < length tokens.now) }
+{
+    if sees_word(Word::Return, tokens) {
         returned(alloc, tokens)
+    } else if sees_word(Word::If, tokens) {
+        conditional(alloc, depth, tokens)
+    } else if sees_word(Word::While, tokens) {
+        repeated(alloc, depth, tokens)
     } else {
         simple(alloc, tokens)
     }
+}
+
+/// `if`, a test, a branch, and perhaps `else` and another
+#[cycle(stmts)]
+#[tactic(auto, unfolding(crate::specs::UnitRules::if_by, crate::specs::UnitRules::else_by))]
+fn conditional<'a>(alloc: Global, depth: usize, tokens: &'a [Token]) -> Read<'a, Stmt>
+    requires { depth ≤ 200 }
+    ensures gives { Gives (λ x. (stmt_tree x.0, toks x.1.now)) result (rules.if_by these (rules.read these) depth (toks tokens.now)) }
+    ensures shorter { IfOk result (λ x. length x.1.now < length tokens.now) }
+{
+    let (at, rest) = keyword(Word::If, tokens)?;
+    let (condition, rest) = test(alloc, rest)?;
+    let (first, rest) = branch(alloc, depth + 1, rest)?;
+    let first = Box::new(alloc, first)?;
+    if !sees_word(Word::Else, rest) {
+        return Ok((Stmt::If(at, condition, first), rest));
+    }
+    let (_, rest) = keyword(Word::Else, rest)?;
+    let (second, rest) = branch(alloc, depth + 1, rest)?;
+    let second = Box::new(alloc, second)?;
+    Ok((Stmt::IfElse(at, condition, first, second), rest))
+}
+
+/// `while`, a test and a body
+#[cycle(stmts)]
+#[tactic(auto, unfolding(crate::specs::UnitRules::while_by))]
+fn repeated<'a>(alloc: Global, depth: usize, tokens: &'a [Token]) -> Read<'a, Stmt>
+    requires { depth ≤ 200 }
+    ensures gives { Gives (λ x. (stmt_tree x.0, toks x.1.now)) result (rules.while_by these (rules.read these) depth (toks tokens.now)) }
+    ensures shorter { IfOk result (λ x. length x.1.now < length tokens.now) }
+{
+    let (at, rest) = keyword(Word::While, tokens)?;
+    let (condition, rest) = test(alloc, rest)?;
+    let (body, rest) = branch(alloc, depth + 1, rest)?;
+    Ok((Stmt::While(at, condition, Box::new(alloc, body)?), rest))
+}
+
+/// A test in parentheses.
+#[tactic(auto, unfolding(crate::specs::UnitRules::test_by))]
+fn test<'a>(alloc: Global, tokens: &'a [Token]) -> Read<'a, Expr>
+    ensures gives { Gives (λ x. (expr_tree x.0, toks x.1.now)) result (rules.test_by these (toks tokens.now)) }
+    ensures shorter { IfOk result (λ x. length x.1.now < length tokens.now) }
+{
+    let (_, rest) = expect(Mark::OpenParen, tokens)?;
+    let (condition, rest) = full(alloc, rest)?;
+    let (_, rest) = expect(Mark::CloseParen, rest)?;
+    Ok((condition, rest))
 }
 
 #[cycle(stmts)]

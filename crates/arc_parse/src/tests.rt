@@ -10,6 +10,10 @@ fn piece(alloc: Global, byte: u8) -> Result<(TokenKind, usize, usize), AllocErro
     Ok(match byte {
         b'i' => (TokenKind::Word(Word::Int), 3, 4),
         b'v' => (TokenKind::Word(Word::Void), 4, 4),
+        b'V' => (TokenKind::Word(Word::Void), 4, 5),
+        b'?' => (TokenKind::Word(Word::If), 2, 2),
+        b'e' => (TokenKind::Word(Word::Else), 4, 4),
+        b'w' => (TokenKind::Word(Word::While), 5, 5),
         b'k' => (TokenKind::Word(Word::Const), 5, 6),
         b'c' => (TokenKind::Word(Word::Char), 4, 4),
         b'r' => (TokenKind::Word(Word::Return), 6, 7),
@@ -43,6 +47,8 @@ fn piece(alloc: Global, byte: u8) -> Result<(TokenKind, usize, usize), AllocErro
         b'-' => (TokenKind::Mark(Mark::Minus), 1, 1),
         b'*' => (TokenKind::Mark(Mark::Star), 1, 1),
         b'/' => (TokenKind::Mark(Mark::Slash), 1, 1),
+        b'=' => (TokenKind::Mark(Mark::Assign), 1, 1),
+        b'!' => (TokenKind::Mark(Mark::NotEqual), 2, 2),
         other => (TokenKind::Name(vec![in alloc; other]?), 1, 1),
     })
 }
@@ -83,17 +89,27 @@ fn trees(rt: HostRuntime) -> Result<(), Fail> {
     // int main(void){printf("42");return 7;}
     assert_eq!(rt;
         tree(alloc, b"im(v){p(t);r7;}")?.as_str(),
-        "TranslationUnit { functions: [Function { at: 4, parameters: Nothing, body: Some([Expr(Call(15, [112, 114, 105, 110, 116, 102], [Text(22, [52, 50])])), Return(28, Some(Integer(35, 7)))]) }] }"
+        "TranslationUnit { functions: [Function { at: 4, name: [109, 97, 105, 110], result: Int, parameters: Ints([]), body: Some([Expr(Call(15, [112, 114, 105, 110, 116, 102], [Text(22, [52, 50])])), Return(28, Some(Integer(35, 7)))]) }] }"
     );
     // int main();int main(int a,char*b[]){return 1+2*7-1;}
     assert_eq!(rt;
         tree(alloc, b"im();im(ia,c*b[]){r1+2*7-1;}")?.as_str(),
-        "TranslationUnit { functions: [Function { at: 4, parameters: Nothing, body: None }, Function { at: 15, parameters: CountAndTexts, body: Some([Return(36, Some(Binary(43, Subtract, Binary(43, Add, Integer(43, 1), Binary(45, Multiply, Integer(45, 2), Integer(47, 7))), Integer(49, 1))))]) }] }"
+        "TranslationUnit { functions: [Function { at: 4, name: [109, 97, 105, 110], result: Int, parameters: Ints([]), body: None }, Function { at: 15, name: [109, 97, 105, 110], result: Int, parameters: CountAndTexts, body: Some([Return(36, Some(Binary(43, Subtract, Binary(43, Add, Integer(43, 1), Binary(45, Multiply, Integer(45, 2), Integer(47, 7))), Integer(49, 1))))]) }] }"
     );
     // int main(int a,const char**b){{;}f();f(1);f(1,-(2),7/1);return ;}
     assert_eq!(rt;
         tree(alloc, b"im(ia,kc**b){{;}f();f(1);f(1,-(2),7/1);r;}")?.as_str(),
-        "TranslationUnit { functions: [Function { at: 4, parameters: CountAndTexts, body: Some([Block(30, [Empty(31)]), Expr(Call(33, [102], [])), Expr(Call(37, [102], [Integer(39, 1)])), Expr(Call(42, [102], [Integer(44, 1), Negate(46, Paren(47, Integer(48, 2))), Binary(51, Divide, Integer(51, 7), Integer(53, 1))])), Return(56, None)]) }] }"
+        "TranslationUnit { functions: [Function { at: 4, name: [109, 97, 105, 110], result: Int, parameters: CountAndTexts, body: Some([Block(30, [Empty(31)]), Expr(Call(33, [102], [])), Expr(Call(37, [102], [Integer(39, 1)])), Expr(Call(42, [102], [Integer(44, 1), Negate(46, Paren(47, Integer(48, 2))), Binary(51, Divide, Integer(51, 7), Integer(53, 1))])), Return(56, None)]) }] }"
+    );
+    // void f(int a,int b){int x=1,y;x=y=a!=1+b;if(x)while(1){}else;}
+    assert_eq!(rt;
+        tree(alloc, b"Vf(ia,ib){ix=1,y;x=y=a!1+b;?(x)w(1){}e;}")?.as_str(),
+        "TranslationUnit { functions: [Function { at: 5, name: [102], result: Void, parameters: Ints([Parameter { at: 11, name: [97] }, Parameter { at: 17, name: [98] }]), body: Some([Variables(20, [Variable { at: 24, name: [120], initial: Some(Integer(26, 1)) }, Variable { at: 28, name: [121], initial: None }]), Expr(Assign(30, 31, Name(30, [120]), Assign(32, 33, Name(32, [121]), Binary(34, NotEqual, Name(34, [97]), Binary(37, Add, Integer(37, 1), Name(39, [98])))))), IfElse(41, Name(44, [120]), While(46, Integer(52, 1), Block(54, [])), Empty(60))]) }] }"
+    );
+    // int g(int a){if(1)if(2);else;}
+    assert_eq!(rt;
+        tree(alloc, b"ig(ia){?(1)?(2);e;}")?.as_str(),
+        "TranslationUnit { functions: [Function { at: 4, name: [103], result: Int, parameters: Ints([Parameter { at: 10, name: [97] }]), body: Some([If(13, Integer(16, 1), IfElse(18, Integer(21, 2), Empty(23), Empty(28)))]) }] }"
     );
     assert_eq!(rt;
         tree(alloc, b"")?.as_str(),
@@ -108,17 +124,26 @@ fn refusals(rt: HostRuntime) -> Result<(), Fail> {
     // int main(void){
     assert_eq!(rt; fault(alloc, b"im(v){")?, Some(ParseFault::Unexpected(15)));
     assert_eq!(rt; fault(alloc, b";")?, Some(ParseFault::Unexpected(0)));
-    // int printf(); int main(){};
-    assert_eq!(rt; fault(alloc, b"ip();")?, Some(ParseFault::Unexpected(4)));
+    // int f(char and int main(){};
+    assert_eq!(rt; fault(alloc, b"if(c")?, Some(ParseFault::Unexpected(6)));
     assert_eq!(rt; fault(alloc, b"im(){};")?, Some(ParseFault::Unexpected(12)));
-    // int main(int a,char*b){} and int main(){a;}
+    // int main(int a,char*b){} and int main(){1+2=7;}
     assert_eq!(rt;
         fault(alloc, b"im(ia,c*b){}")?,
         Some(ParseFault::Unexpected(21))
     );
     assert_eq!(rt;
-        fault(alloc, b"im(){a;}")?,
-        Some(ParseFault::Unexpected(12))
+        fault(alloc, b"im(){1+2=7;}")?,
+        Some(ParseFault::Unexpected(14))
+    );
+    // int main(){if(1)int a;} and int main(){int a=;}
+    assert_eq!(rt;
+        fault(alloc, b"im(){?(1)ia;}")?,
+        Some(ParseFault::Unexpected(16))
+    );
+    assert_eq!(rt;
+        fault(alloc, b"im(){ia=;}")?,
+        Some(ParseFault::Unexpected(17))
     );
     // int main(){1+;} and int main(){f(1,);}
     assert_eq!(rt;
@@ -173,70 +198,68 @@ fn body_fault(
 #[test]
 fn limits(rt: HostRuntime) -> Result<(), Fail> {
     let alloc = rt.alloc();
-    // 999 tokens that are whole, 1,000 and 1,001
-    assert_eq!(rt; body_fault(alloc, b"1+", 499, b"", b"1", b";}")?, None);
-    assert_eq!(rt; body_fault(alloc, b"1+", 499, b"", b"-1", b";}")?, None);
-    assert_eq!(rt;
-        body_fault(alloc, b"1+", 499, b"", b"1+1", b";}")?,
-        Some(ParseFault::TooDeep(1011))
-    );
-    // 1,000 tokens that are whole, and what does not go on with them, or does
-    assert_eq!(rt;
-        body_fault(alloc, b"1+", 499, b"", b"-1", b"]")?,
-        Some(ParseFault::Unexpected(1011))
-    );
-    assert_eq!(rt;
-        body_fault(alloc, b"1+", 499, b"", b"-1", b"")?,
-        Some(ParseFault::Unexpected(1011))
-    );
-    assert_eq!(rt;
-        body_fault(alloc, b"1+", 499, b"", b"-1", b"*")?,
-        Some(ParseFault::TooDeep(1011))
-    );
-    // 1,000 tokens that are not whole, and one more, or none
-    assert_eq!(rt;
-        body_fault(alloc, b"1+", 500, b"", b"", b"]")?,
-        Some(ParseFault::TooDeep(1011))
-    );
-    assert_eq!(rt;
-        body_fault(alloc, b"1+", 500, b"", b"", b"")?,
-        Some(ParseFault::Unexpected(1011))
-    );
-    // 198 blocks in the body, which is one itself, 199 and 200
-    assert_eq!(rt; body_fault(alloc, b"{", 198, b"}", b"", b"}")?, None);
-    assert_eq!(rt; body_fault(alloc, b"{", 199, b"}", b"", b"}")?, None);
-    assert_eq!(rt;
-        body_fault(alloc, b"{", 200, b"}", b"", b"}")?,
-        Some(ParseFault::TooDeep(210))
-    );
-    // what begins a statement there is too deep, and what does not is unexpected
-    assert_eq!(rt;
-        body_fault(alloc, b"{", 199, b"}", b"r1;", b"}")?,
-        Some(ParseFault::TooDeep(210))
-    );
-    assert_eq!(rt;
-        body_fault(alloc, b"{", 199, b"}", b"+", b"}")?,
-        Some(ParseFault::Unexpected(210))
-    );
-    Ok(())
-}
-
-/// What takes the most stack, and the most statements of a source of 1 MiB; for the built tests alone.
-#[test]
-fn deepest(rt: HostRuntime) -> Result<(), Fail> {
-    let alloc = rt.alloc();
+    // 499 pairs of parentheses around `1`, 999 tokens; and around `-1`, 1,000; around `1+1`, 1,001
     assert_eq!(rt; body_fault(alloc, b"(", 499, b")", b"1", b";}")?, None);
     assert_eq!(rt; body_fault(alloc, b"(", 499, b")", b"-1", b";}")?, None);
     assert_eq!(rt;
         body_fault(alloc, b"(", 499, b")", b"1+1", b";}")?,
         Some(ParseFault::TooDeep(1011))
     );
+    // 1,000 tokens that are whole, and what does not go on with them
     assert_eq!(rt;
-        body_fault(alloc, b"(", 1000, b"", b"", b"(")?,
+        body_fault(alloc, b"(", 499, b")", b"-1", b"]")?,
+        Some(ParseFault::Unexpected(1011))
+    );
+    assert_eq!(rt;
+        body_fault(alloc, b"(", 499, b")", b"-1", b"")?,
+        Some(ParseFault::Unexpected(1011))
+    );
+    assert_eq!(rt;
+        body_fault(alloc, b"(", 499, b")", b"-1", b"+")?,
         Some(ParseFault::TooDeep(1011))
     );
+    // 1,000 tokens that are not whole, and one more, or none
+    assert_eq!(rt;
+        body_fault(alloc, b"(", 1000, b"", b"", b"]")?,
+        Some(ParseFault::TooDeep(1011))
+    );
+    assert_eq!(rt;
+        body_fault(alloc, b"(", 1000, b"", b"", b"")?,
+        Some(ParseFault::Unexpected(1011))
+    );
+    // the deepest operands and the most operators
     assert_eq!(rt; body_fault(alloc, b"-", 999, b"", b"1", b";}")?, None);
-    assert_eq!(rt; body_fault(alloc, b"f(", 333, b")", b"1", b";}")?, None);
-    assert_eq!(rt; body_fault(alloc, b";", 1000000, b"", b"", b"}")?, None);
+    assert_eq!(rt; body_fault(alloc, b"1*", 499, b"", b"1", b";}")?, None);
+    // 199 blocks in the body, which is one itself; 200
+    assert_eq!(rt; body_fault(alloc, b"{", 199, b"}", b"", b"}")?, None);
+    assert_eq!(rt;
+        body_fault(alloc, b"{", 200, b"}", b"", b"}")?,
+        Some(ParseFault::TooDeep(210))
+    );
+    assert_eq!(rt;
+        body_fault(alloc, b"{", 199, b"}", b"r1;", b"}")?,
+        Some(ParseFault::TooDeep(210))
+    );
+    // a token with which no statement begins is not too deep
+    assert_eq!(rt;
+        body_fault(alloc, b"{", 199, b"}", b"+", b"}")?,
+        Some(ParseFault::Unexpected(210))
+    );
+    // a declaration is no statement that could be nested too deep
+    assert_eq!(rt; body_fault(alloc, b"{", 199, b"}", b"ia;", b"}")?, None);
+    // 198 times `while(1)` and a statement; 199 times, and any token, or none
+    assert_eq!(rt; body_fault(alloc, b"w(1)", 198, b"", b";", b"}")?, None);
+    assert_eq!(rt;
+        body_fault(alloc, b"w(1)", 199, b"", b";", b"}")?,
+        Some(ParseFault::TooDeep(1603))
+    );
+    assert_eq!(rt;
+        body_fault(alloc, b"w(1)", 199, b"", b"", b"}")?,
+        Some(ParseFault::TooDeep(1603))
+    );
+    assert_eq!(rt;
+        body_fault(alloc, b"w(1)", 199, b"", b"", b"")?,
+        Some(ParseFault::Unexpected(1603))
+    );
     Ok(())
 }

@@ -1,1 +1,4 @@
 pub mod Turns
+pub mod Weights
+pub mod Locals
+pub mod Whole

@@ -1,30 +1,40 @@
 -- The interpreter's loops, and the views of what lies in a Vec.
-use Rattle.std.proofs.Common.{◌≡◌, ℤ, List, ◌++◌, Vec, Global, Result, Err, refl, sym, ap, subst, ◌∙◌}
+use Rattle.std.proofs.Common.{rules, ◌≡◌, ℕ, zero, suc, ◌+◌, ◌-◌, ◌<◌, ◌≤◌, ℤ, Bool, false, List, [], ◌∷◌, ◌++◌, length, get_or, drop, Option, Some, None, slice_get, Vec, Global, Result, Err, append_assoc, refl, sym, ap, subst, ◌∙◌}
+use Rattle.std.proofs.lemmas.List.{drop_more}
+use native.Mathlib.Omega.{arith}
 use mathlib.Core.Former.{Count}
 use Rattle.arc_check.specs.declared.checked.Piece.{Piece}
-use Rattle.arc_check.specs.declared.checked.Value.{Value, Print, Print', Row_of-Value, end_of-Value, more_of-Value, items-the_row-Value, items_hidden-the_row-Value-0}
+use Rattle.arc_check.specs.declared.checked.Value.{Value, Print, Print', Invoked, Invoked', Row_of-Value, end_of-Value, more_of-Value, items-the_row-Value, items_hidden-the_row-Value-0}
 use Rattle.arc_check.specs.declared.checked.Command.{Command, Sequence, Sequence', Row_of-Command, end_of-Command, more_of-Command, items-the_row-Command, items_hidden-the_row-Command-0}
-use Rattle.arc_check.specs.Checked.{pieces, value, values, row_values, command, commands, row_commands}
+use Rattle.arc_check.specs.Checked.{functions, pieces, value, values, row_values, command, commands, row_commands}
 use Rattle.arc_spec.specs.Resolved as resolved
-use Rattle.arc_spec.specs.World.{World, Outcome, Done, then_do}
+use Rattle.arc_spec.specs.World.{World, Outcome, Done, Faulted, Cut, then_do}
+use Rattle.arc_spec.specs.Number.{is_zero}
+use Rattle.arc_check.specs.declared.checked.CheckedFunction.{CheckedFunction}
 use Rattle.arc_plain.specs.declared.halt.Halt.{Halt}
-use Rattle.arc_plain.specs.declared.halt.Halt.TheVariants.{Stopped, Memory}
-use Rattle.arc_spec.specs.Meaning.{evaluated, all_evaluated, executed, all_executed}
-use Rattle.arc_plain.specs.declared.execute.Flow.{Flow}
-use Rattle.arc_plain.specs.Views.{Tells, printed, flow}
+use Rattle.arc_plain.specs.declared.halt.Halt.TheVariants.{Stopped, Cut, Memory}
+use Rattle.arc_spec.specs.Meaning as meaning
+use Rattle.arc_spec.specs.Meaning.{Deeper, Normal, level, called, turns, chosen, if_normal, function_at, evaluated, all_evaluated, executed, all_executed}
+use Rattle.arc_plain.specs.declared.run.Flow.{Flow}
+use Rattle.arc_plain.specs.Views.{Tells, printed, flow_of, function_of}
 
 -- the values that were found, in front of those to come
 abbrev pub front : List ℤ → Outcome (List ℤ) → Outcome (List ℤ)
 front found rest = then_do rest (λ numbers w. Done (found ++ numbers) w)
 
+pub nothing_below : {A : Type 0} {n : ℕ} → n < 0 → A
+nothing_below {A} {n} h = search (rules, h)
+
 -- a failure of a part is one of the whole
 pub tells_through : {A B C D : Type 0} → (e : Halt) (f : A → B) (g : C → D) (w : World) (go : B → World → Outcome D) (part : Outcome B) (whole : Outcome D)
     → whole ≡ then_do part go → Tells f (Err e) part w → Tells g (Err e) whole w
 tells_through (Stopped fault) f g w go part whole is h = is ∙ ap (λ o. then_do o go) h
+tells_through Cut f g w go part whole is h = is ∙ ap (λ o. then_do o go) h
 tells_through Memory f g w go part whole is h = tt
 
 abbrev row_of_value : Value → (n : Count) × Row_of-Value n
 row_of_value (Print' all shape row) = (_, row)
+row_of_value (Invoked' f shape row) = (_, row)
 row_of_value _ = (_, end_of-Value)
 
 row_values_is : (n : _) (row : Row_of-Value n) → row_values row ≡ values (items-the_row-Value n row)
@@ -49,32 +59,103 @@ command_sequence all =
     let row = row_of_command (Sequence all) in
     ap resolved.Sequence (row_commands_is row.0 row.1 ∙ ap commands (items_hidden-the_row-Command-0 all))
 
--- printf, once what its values give is known
-pub print_failed : (v : Value) (all : Vec Piece Global) (arguments : Vec Value Global) (these : List Value) (e : Halt) (r : Result ℤ Halt) (w after : World)
-    → v ≡ Print all arguments → these ≡ arguments.items → r ≡ Err e
-    → Tells (λ (numbers : Vec ℤ Global). numbers.items) (Err e) (all_evaluated (values these) w) after → Tells (λ n. n) r (evaluated (value v) w) after
-print_failed v all arguments these e r w after is same failed h =
-    let meant : evaluated (value v) w ≡ then_do (all_evaluated (values these) w) (λ numbers w1. printed (pieces all.items) numbers w1) =
-    ap (λ x. evaluated (value x) w) is ∙ ap (λ x. evaluated x w) (value_print all arguments) ∙ ap (λ l. then_do (all_evaluated (values l) w) (λ numbers w1. printed (pieces all.items) numbers w1)) (sym same) in
-    subst (λ x. Tells (λ n. n) x (evaluated (value v) w) after) (sym failed)
-    (tells_through e (λ (numbers : Vec ℤ Global). numbers.items) (λ n. n) after (λ numbers w1. printed (pieces all.items) numbers w1) (all_evaluated (values these) w) (evaluated (value v) w) meant h)
+pub value_invoked : (f : ℕ) (arguments : Vec Value Global) → value (Invoked f arguments) ≡ resolved.Invoked f (values arguments.items)
+value_invoked f arguments =
+    let row = row_of_value (Invoked f arguments) in
+    ap (resolved.Invoked f) (row_values_is row.0 row.1 ∙ ap values (items_hidden-the_row-Value-0 arguments))
 
-pub print_done : (v : Value) (all : Vec Piece Global) (arguments : Vec Value Global) (shapes : List Piece) (these : List Value) (numbers found : List ℤ) (r : Result ℤ Halt) (w between after : World)
+-- printf, once what its values give is known
+pub print_failed : (D : Deeper) (v : Value) (all : Vec Piece Global) (arguments : Vec Value Global) (these : List Value) (e : Halt) (r : Result ℤ Halt) (w after : World)
+    → v ≡ Print all arguments → these ≡ arguments.items → r ≡ Err e
+    → Tells (λ (numbers : Vec ℤ Global). numbers.items) (Err e) (all_evaluated D (values these) w) after → Tells (λ n. n) r (evaluated D (value v) w) after
+print_failed D v all arguments these e r w after is same failed h =
+    let meant : evaluated D (value v) w ≡ then_do (all_evaluated D (values these) w) (λ numbers w1. printed (pieces all.items) numbers w1) =
+    ap (λ x. evaluated D (value x) w) is ∙ ap (λ x. evaluated D x w) (value_print all arguments) ∙ ap (λ l. then_do (all_evaluated D (values l) w) (λ numbers w1. printed (pieces all.items) numbers w1)) (sym same) in
+    subst (λ x. Tells (λ n. n) x (evaluated D (value v) w) after) (sym failed)
+    (tells_through e (λ (numbers : Vec ℤ Global). numbers.items) (λ n. n) after (λ numbers w1. printed (pieces all.items) numbers w1) (all_evaluated D (values these) w) (evaluated D (value v) w) meant h)
+
+pub print_done : (D : Deeper) (v : Value) (all : Vec Piece Global) (arguments : Vec Value Global) (shapes : List Piece) (these : List Value) (numbers found : List ℤ) (r : Result ℤ Halt) (w between after : World)
     → v ≡ Print all arguments → shapes ≡ all.items → these ≡ arguments.items → found ≡ numbers
-    → all_evaluated (values these) w ≡ Done numbers between → Tells (λ n. n) r (printed (pieces shapes) found between) after → Tells (λ n. n) r (evaluated (value v) w) after
-print_done v all arguments shapes these numbers found r w between after is same_shapes same same_numbers done h =
-    let meant : evaluated (value v) w ≡ printed (pieces shapes) found between =
-    ap (λ x. evaluated (value x) w) is ∙ ap (λ x. evaluated x w) (value_print all arguments)
-    ∙ ap (λ l. then_do (all_evaluated (values l) w) (λ l1 w1. printed (pieces all.items) l1 w1)) (sym same)
+    → all_evaluated D (values these) w ≡ Done numbers between → Tells (λ n. n) r (printed (pieces shapes) found between) after → Tells (λ n. n) r (evaluated D (value v) w) after
+print_done D v all arguments shapes these numbers found r w between after is same_shapes same same_numbers done h =
+    let meant : evaluated D (value v) w ≡ printed (pieces shapes) found between =
+    ap (λ x. evaluated D (value x) w) is ∙ ap (λ x. evaluated D x w) (value_print all arguments)
+    ∙ ap (λ l. then_do (all_evaluated D (values l) w) (λ l1 w1. printed (pieces all.items) l1 w1)) (sym same)
     ∙ ap (λ o. then_do o (λ l1 w1. printed (pieces all.items) l1 w1)) done
     ∙ ap (λ l. printed (pieces l) numbers between) (sym same_shapes)
     ∙ ap (λ l. printed (pieces shapes) l between) (sym same_numbers) in
     subst (λ o. Tells (λ n. n) r o after) (sym meant) h
 
+-- a call, once what its values give is known
+pub call_failed : (D : Deeper) (v : Value) (f : ℕ) (arguments : Vec Value Global) (these : List Value) (e : Halt) (r : Result ℤ Halt) (w after : World)
+    → v ≡ Invoked f arguments → these ≡ arguments.items → r ≡ Err e
+    → Tells (λ (numbers : Vec ℤ Global). numbers.items) (Err e) (all_evaluated D (values these) w) after → Tells (λ n. n) r (evaluated D (value v) w) after
+call_failed D v f arguments these e r w after is same failed h =
+    let meant : evaluated D (value v) w ≡ then_do (all_evaluated D (values these) w) (λ numbers w1. D.call f numbers w1) =
+    ap (λ x. evaluated D (value x) w) is ∙ ap (λ x. evaluated D x w) (value_invoked f arguments) ∙ ap (λ l. then_do (all_evaluated D (values l) w) (λ numbers w1. D.call f numbers w1)) (sym same) in
+    subst (λ x. Tells (λ n. n) x (evaluated D (value v) w) after) (sym failed)
+    (tells_through e (λ (numbers : Vec ℤ Global). numbers.items) (λ n. n) after (λ numbers w1. D.call f numbers w1) (all_evaluated D (values these) w) (evaluated D (value v) w) meant h)
+
+pub call_done : (D : Deeper) (v : Value) (f : ℕ) (arguments : Vec Value Global) (these : List Value) (numbers found : List ℤ) (r : Result ℤ Halt) (w between after : World)
+    → v ≡ Invoked f arguments → these ≡ arguments.items → found ≡ numbers
+    → all_evaluated D (values these) w ≡ Done numbers between → Tells (λ n. n) r (D.call f found between) after → Tells (λ n. n) r (evaluated D (value v) w) after
+call_done D v f arguments these numbers found r w between after is same same_numbers done h =
+    let meant : evaluated D (value v) w ≡ D.call f found between =
+    ap (λ x. evaluated D (value x) w) is ∙ ap (λ x. evaluated D x w) (value_invoked f arguments)
+    ∙ ap (λ l. then_do (all_evaluated D (values l) w) (λ l1 w1. D.call f l1 w1)) (sym same)
+    ∙ ap (λ o. then_do o (λ l1 w1. D.call f l1 w1)) done
+    ∙ ap (λ l. D.call f l between) (sym same_numbers) in
+    subst (λ o. Tells (λ n. n) r o after) (sym meant) h
+
 -- the statements of a block
-pub sequence_told : (c : Command) (all : Vec Command Global) (these : List Command) (r : Result Flow Halt) (w after : World)
-    → c ≡ Sequence all → these ≡ all.items → Tells flow r (all_executed 0 (commands these) w) after → Tells flow r (executed 0 (command c) w) after
-sequence_told c all these r w after is same h =
-    let meant : executed 0 (command c) w ≡ all_executed 0 (commands these) w =
-    ap (λ x. executed 0 (command x) w) is ∙ ap (λ x. executed 0 x w) (command_sequence all) ∙ ap (λ l. all_executed 0 (commands l) w) (sym same) in
-    subst (λ o. Tells flow r o after) (sym meant) h
+pub sequence_told : (D : Deeper) (bound : ℕ) (c : Command) (all : Vec Command Global) (these : List Command) (r : Result Flow Halt) (w after : World)
+    → c ≡ Sequence all → these ≡ all.items → Tells flow_of r (all_executed D bound (commands these) w) after → Tells flow_of r (executed D bound (command c) w) after
+sequence_told D bound c all these r w after is same h =
+    let meant : executed D bound (command c) w ≡ all_executed D bound (commands these) w =
+    ap (λ x. executed D bound (command x) w) is ∙ ap (λ x. executed D bound x w) (command_sequence all) ∙ ap (λ l. all_executed D bound (commands l) w) (sym same) in
+    subst (λ o. Tells flow_of r o after) (sym meant) h
+
+front_one : (found : List ℤ) (n : ℤ) (o : Outcome (List ℤ)) → front found (then_do o (λ xs w. Done (n ∷ xs) w)) ≡ front (found ++ n ∷ []) o
+front_one found n (Done xs w) = ap (λ l. Done l w) (sym (append_assoc found (n ∷ []) xs))
+front_one found n (Faulted f w) = refl
+front_one found n (Cut w) = refl
+
+-- one value more
+pub values_step : (D : Deeper) (vs : List Value) (i : ℕ) (v : Value) (found more : List ℤ) (n : ℤ) (whole : Outcome (List ℤ)) (w after : World)
+    → i < length vs → v ≡ get_or vs i v → whole ≡ front found (all_evaluated D (values (drop i vs)) w) → evaluated D (value v) w ≡ Done n after → more ≡ found ++ n ∷ []
+    → whole ≡ front more (all_evaluated D (values (drop (i + 1) vs)) after)
+values_step D vs i v found more n whole w after below is old done grown =
+    let rest = values (drop (i + 1) vs) in
+    old ∙ ap (λ l. front found (all_evaluated D (values l) w)) (drop_more vs i v below ∙ ap (λ x. x ∷ drop (i + 1) vs) (sym is))
+    ∙ ap (λ o. front found (then_do o (λ x w1. then_do (all_evaluated D rest w1) (λ xs w2. Done (x ∷ xs) w2)))) done
+    ∙ front_one found n (all_evaluated D rest after)
+    ∙ ap (λ l. front l (all_evaluated D rest after)) (sym grown)
+
+-- one turn more
+pub turns_step : (bound i : ℕ) (test : World → Outcome ℤ) (body : World → Outcome meaning.Flow) (whole : Outcome meaning.Flow) (n : ℤ) (w between after : World)
+    → i < bound → whole ≡ turns (bound - i) test body w → test w ≡ Done n between → is_zero n ≡ false → body between ≡ Done Normal after
+    → whole ≡ turns (bound - (i + 1)) test body after
+turns_step bound i test body whole n w between after below old tested holds done =
+    let left = bound - (i + 1) in
+    let one : bound - i ≡ suc left = omega (arith, below) in
+    old ∙ ap (λ m. turns m test body w) one
+    ∙ ap (λ o. then_do o (λ v w1. chosen (is_zero v) (then_do (body w1) (λ flow w2. if_normal flow (turns left test body) w2)) (Done Normal w1))) tested
+    ∙ ap (λ b. chosen b (then_do (body between) (λ flow w2. if_normal flow (turns left test body) w2)) (Done Normal between)) holds
+    ∙ ap (λ o. then_do o (λ flow w2. if_normal flow (turns left test body) w2)) done
+
+-- a call, one level deeper
+pub call_is : (P : resolved.Program) (bound levels n f : ℕ) (arguments : List ℤ) (w : World) → levels ≡ suc n
+    → (level P bound levels).call f arguments w ≡ called (level P bound n) bound (function_at P f) arguments w
+call_is P bound levels n f arguments w is = ap (λ m. (level P bound m).call f arguments w) is
+
+pub function_found : (cs : List CheckedFunction) (main f : ℕ) (g : CheckedFunction) → f < length cs → g ≡ get_or cs f g
+    → function_at (record { functions = functions cs; main = main }) f ≡ function_of g
+function_found [] main f g below is = nothing_below below
+function_found (c ∷ cs) main zero g below is = ap function_of (sym is)
+function_found (c ∷ cs) main (suc f) g below is = function_found cs main f g (omega (arith, below)) is
+
+pub function_missing : (cs : List CheckedFunction) (main f : ℕ) → length cs ≤ f
+    → function_at (record { functions = functions cs; main = main }) f ≡ record { slots = 0; body = resolved.no_commands }
+function_missing [] main f past = refl
+function_missing (c ∷ cs) main zero past = nothing_below past
+function_missing (c ∷ cs) main (suc f) past = function_missing cs main f (omega (arith, past))

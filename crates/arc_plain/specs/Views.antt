@@ -1,33 +1,49 @@
 -- What the interpreter's values stand for. The interpreter is this project's own.
-use Rattle.std.specs.Prelude.{◌≡◌, ℕ, ℤ, List, ◌∷◌, ◌++◌, map, Some, Result, Ok, Err}
+use Rattle.std.specs.Prelude.{Option, None, ◌≡◌, ℕ, ℤ, List, ◌∷◌, ◌++◌, map, Some, Result, Ok, Err}
 use Rattle.arc_spec.specs.declared.event.Event.TheVariants.{Byte}
-use Rattle.arc_spec.specs.Resolved.{Piece}
-use Rattle.arc_spec.specs.World.{World, Outcome, Done, Faulted, prints}
+use Rattle.arc_spec.specs.Resolved.{Piece, Function}
+use Rattle.arc_spec.specs.World.{World, Outcome, Done, Faulted, Cut, then_do, prints}
+use Rattle.arc_ast.specs.declared.tree.Kind.TheVariants as k
+use Rattle.arc_spec.specs.Number.{converted}
 use Rattle.arc_spec.specs.Meaning as meaning
-use Rattle.arc_spec.specs.Meaning.{formatted, byte_count}
-use Rattle.arc_spec.specs.Correct.{Sight, Stop, Ends, Faults}
+use Rattle.arc_spec.specs.Meaning.{formatted, byte_count, Deeper, level}
+use Rattle.arc_check.specs.declared.checked.CheckedFunction.{CheckedFunction}
+use Rattle.arc_check.specs.Checked.{program_of, commands}
+use Rattle.arc_plain.specs.declared.frame.Frame.{Frame}
+use Rattle.arc_spec.specs.Correct.{meaning_seen, Sight, Stop, Ends, Faults}
 use Rattle.arc_plain.specs.declared.progress.Progress.{Progress}
 use Rattle.arc_plain.specs.declared.halt.Halt.{Halt}
+use Rattle.arc_plain.specs.declared.halt.Halt.TheVariants as halt
 use Rattle.arc_plain.specs.declared.halt.Halt.TheVariants.{Stopped, Memory}
-use Rattle.arc_plain.specs.declared.execute.Flow.{Flow}
-use Rattle.arc_plain.specs.declared.execute.Flow.TheVariants.{Normal, Returned}
+use Rattle.arc_plain.specs.declared.run.Flow.{Flow}
+use Rattle.arc_plain.specs.declared.run.Flow.TheVariants.{Normal, Returned}
 use Rattle.arc_plain.specs.declared.interpret.Answer.{Answer}
 use Rattle.arc_plain.specs.declared.interpret.PlainStop.{PlainStop}
+use Rattle.arc_plain.specs.declared.interpret.PlainStop.TheVariants as stops
 use Rattle.arc_plain.specs.declared.interpret.PlainStop.TheVariants.{Ended, Fault}
 
--- what is left to read, and the events so far
+-- what is left to read, the events so far, and the variables of the running function
 abbrev pub world : Progress → World
-world progress = record { input = progress.input.now; trace = map Byte progress.output.items }
+world progress = record { input = progress.input.now; trace = map Byte progress.output.items; locals = progress.locals.items }
+
+-- a function without where it lies in memory
+abbrev pub function_of : CheckedFunction → Function
+function_of f = record { slots = f.slots; body = commands f.body.items }
+
+-- what a call does in this frame
+abbrev pub deeper : Frame → Deeper
+deeper frame = level (program_of frame.program.now) frame.bound frame.levels
 
 -- how a statement was left
-abbrev pub flow : Flow → meaning.Flow
-flow Normal = meaning.Normal
-flow (Returned n) = meaning.Returned n
+abbrev pub flow_of : Flow → meaning.Flow
+flow_of Normal = meaning.Normal
+flow_of (Returned n) = meaning.Returned n
 
 -- what an answer tells of a meaning, and of the world behind it; a want of memory tells nothing
 abbrev pub Tells : {A B : Type 0} → (A → B) → Result A Halt → Outcome B → World → Type 0
 Tells view (Ok a) outcome w = outcome ≡ Done (view a) w
 Tells view (Err (Stopped fault)) outcome w = outcome ≡ Faulted fault w
+Tells view (Err halt.Cut) outcome w = outcome ≡ Cut w
 Tells view (Err Memory) outcome w = Unit {0}
 
 -- what one piece of a format writes behind a text, and the values that it leaves
@@ -39,10 +55,19 @@ WritesPiece piece values old new rest =
 abbrev pub printed : List Piece → List ℤ → World → Outcome ℤ
 printed pieces values w = let bytes = formatted pieces values in Done (byte_count bytes) (prints bytes w)
 
-abbrev pub stop_of : PlainStop → Stop
-stop_of (Ended n) = Ends n
-stop_of (Fault fault) = Faults fault
+abbrev pub stop_of : PlainStop → Option Stop
+stop_of (Ended n) = Some (Ends n)
+stop_of (Fault fault) = Some (Faults fault)
+stop_of stops.Cut = None
 
 -- what an answer shows
 abbrev pub seen : Answer → Sight
-seen answer = record { trace = map Byte answer.output.items; stop = Some (stop_of answer.stop) }
+seen answer = record { trace = map Byte answer.output.items; stop = stop_of answer.stop }
+
+-- the value of main, as an int
+abbrev pub as_int : Outcome ℤ → Outcome ℤ
+as_int outcome = then_do outcome (λ v w. Done (converted k.Int v) w)
+
+-- how a program stops, whatever it means, of whose main this is told
+abbrev pub Stops : Result ℤ Halt → PlainStop → Type 0
+Stops left stop = (outcome : Outcome ℤ) (w : World) → Tells (λ n. n) left outcome w → meaning_seen (as_int outcome) ≡ record { trace = w.trace; stop = stop_of stop }

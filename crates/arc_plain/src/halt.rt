@@ -10,6 +10,8 @@ use std::alloc::{AllocError, AllocFailed};
 pub enum Halt {
     /// The program was stopped.
     Stopped(Fault),
+    /// A loop would have made more turns than the bound.
+    Cut,
     /// The interpreter itself had no memory.
     Memory,
 }

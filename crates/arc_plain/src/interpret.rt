@@ -1,13 +1,14 @@
 //! Runs a checked program as its meaning says, with no code in between.
 ghost use Rattle.std.specs.Prelude.{◌≡◌, IfOk};
-ghost use Rattle.arc_check.specs.Checked.{body_of};
+ghost use Rattle.arc_check.specs.Checked.{program_of};
 ghost use Rattle.arc_spec.specs.Meaning.{mean};
 ghost use Rattle.arc_spec.specs.Correct.{meaning_seen};
-ghost use Rattle.arc_plain.specs.Views.{seen};
+ghost use Rattle.arc_plain.specs.Views.{Stops, seen};
 
-use crate::execute::{Flow, execute_all};
+use crate::frame::Frame;
 use crate::halt::Halt;
 use crate::progress::start;
+use crate::run::call;
 use arc_check::checked::Checked;
 use arc_spec::event::{Fault, NoMemory};
 use arc_spec::number::low_half;
@@ -19,6 +20,8 @@ pub enum PlainStop {
     /// It ended, with this value of its `main`.
     Ended(i32),
     Fault(Fault),
+    /// It goes on, but a loop would have made more turns than the bound.
+    Cut,
 }
 
 /// What a program printed, and how it stopped.
@@ -28,19 +31,38 @@ pub struct Answer {
     pub stop: PlainStop,
 }
 
-/// Runs the program on the input, and gives what it shows. The only error is a want of memory.
-pub fn interpret(alloc: Global, program: &Checked, input: &[u8]) -> Result<Answer, NoMemory>
-    ensures { IfOk result (λ answer. meaning_seen (mean (body_of program.now) input.now 0) ≡ seen answer) }
+/// Runs the program on the input, where each running of a loop makes at most `bound` turns, and gives what
+/// it shows. The only error is a want of memory.
+pub fn interpret(
+    alloc: Global,
+    program: &Checked,
+    input: &[u8],
+    bound: u64,
+) -> Result<Answer, NoMemory>
+    ensures { IfOk result (λ answer. meaning_seen (mean (program_of program.now) input.now bound) ≡ seen answer) }
 {
     let mut progress = start(alloc, input);
-    let stop = match execute_all(alloc, &mut progress, &program.body) {
-        Ok(Flow::Normal) => PlainStop::Ended(0),
-        Ok(Flow::Returned(number)) => PlainStop::Ended(low_half(number)),
-        Err(Halt::Stopped(fault)) => PlainStop::Fault(fault),
-        Err(Halt::Memory) => return Err(NoMemory),
+    let frame = Frame {
+        program,
+        bound,
+        levels: 2_000,
     };
+    let left = call(alloc, &frame, &mut progress, program.main, &[]);
+    let stop = stop_of(left)?;
     Ok(Answer {
         output: progress.output,
         stop,
     })
+}
+
+/// How a program stopped whose `main` was left so.
+fn stop_of(left: Result<i64, Halt>) -> Result<PlainStop, NoMemory>
+    ensures { IfOk result (λ stop. Stops left stop) }
+{
+    match left {
+        Ok(number) => Ok(PlainStop::Ended(low_half(number))),
+        Err(Halt::Stopped(fault)) => Ok(PlainStop::Fault(fault)),
+        Err(Halt::Cut) => Ok(PlainStop::Cut),
+        Err(Halt::Memory) => Err(NoMemory),
+    }
 }

@@ -1,11 +1,11 @@
 //! A plain, slow interpreter of checked programs, against which compiled ones are compared.
 #![tactic(auto)]
 
-mod evaluate;
-mod execute;
 mod format;
+mod frame;
 mod halt;
 pub mod interpret;
 mod progress;
+mod run;
 #[cfg(test)]
 mod tests;

@@ -40,12 +40,19 @@ negated kind z = converted kind (int_wrapping_neg w64 z)
 abbrev pub quotient : Kind → ℤ → ℤ → Option ℤ
 quotient kind x y = if is_zero y then None else if is_least kind x && is_minus_one y then None else Some (int_wrapping_div w64 x y)
 
--- what an operator gives, computed in 64 bits, of which the kind keeps its own: so sums and products wrap
+abbrev pub is_same : ℤ → ℤ → Bool
+is_same (pos n) (pos m) = nat_eq n m
+is_same (negsuc n) (negsuc m) = nat_eq n m
+is_same (pos n) (negsuc m) = false
+is_same (negsuc n) (pos m) = false
+
+-- what an operator gives, computed in 64 bits, of which the kind keeps its own: so sums and products wrap; a comparison gives 1 or 0 (C99, section 6.5.9)
 abbrev pub combined : BinaryOperator → Kind → ℤ → ℤ → Option ℤ
 combined o.Add kind x y = Some (converted kind (int_wrapping_add w64 x y))
 combined o.Subtract kind x y = Some (converted kind (int_wrapping_sub w64 x y))
 combined o.Multiply kind x y = Some (converted kind (int_wrapping_mul w64 x y))
 combined o.Divide kind x y = quotient kind (converted kind x) (converted kind y)
+combined o.NotEqual kind x y = Some (if is_same x y then pos 0 else pos 1)
 
 -- the low 8 bits of a number, as one byte
 abbrev pub low_byte : ℤ → ℕ

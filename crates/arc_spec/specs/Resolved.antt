@@ -10,7 +10,7 @@ pub data Piece : Type 0 where
   Character : Piece
 
 mutual
-  -- an expression, which gives a number; an operator has the kind in which it computes
+  -- an expression, which gives a number; an operator has the kind in which it computes. A variable goes by its number in its function, a function by its number in the program
   pub data Value : Type 0 where
     Number : ℤ → Value
     ReadByte : Value
@@ -18,6 +18,9 @@ mutual
     Negated : Kind → Value → Value
     Combined : BinaryOperator → Kind → Value → Value → Value
     Converted : Kind → Value → Value
+    Local : ℕ → Value
+    Assigned : ℕ → Value → Value
+    Invoked : ℕ → Values → Value
 
   pub data Values : Type 0 where
     no_values : Values
@@ -28,7 +31,19 @@ mutual
     Sequence : Commands → Command
     Evaluate : Value → Command
     Return : Option Value → Command
+    Choose : Value → Command → Command → Command
+    Repeat : Value → Command → Command
 
   pub data Commands : Type 0 where
     no_commands : Commands
     and_command : Command → Commands → Commands
+
+-- a function with how many variables it has, of which the first are its parameters
+pub record Function : Type 0 where
+  pub slots : ℕ
+  pub body : Commands
+
+-- the functions of a program, and which of them is main
+pub record Program : Type 0 where
+  pub functions : List Function
+  pub main : ℕ

@@ -9,7 +9,7 @@ use Rattle.arc_spec.specs.Meaning.{mean}
 
 -- a program prints these bytes on this input, and then stops so
 abbrev pub Prints : Commands → (input bytes : List ℕ) → Stop → Type 0
-Prints body input bytes stop = meaning_seen (mean body input 0) ≡ record { trace = map Byte bytes; stop = Some stop }
+Prints body input bytes stop = meaning_seen (mean (record { functions = record { slots = 0; body = body } ∷ []; main = 0 }) input 0) ≡ record { trace = map Byte bytes; stop = Some stop }
 
 -- { printf("42"); return 7; }
 abbrev pub forty_two : Commands

@@ -22,6 +22,9 @@ pub enum Fault {
     /// A division by zero, or one whose quotient has no place in its kind.
     #[error("a quotient that is no number of its kind")]
     Arithmetic,
+    /// More than 2,000 function calls were running.
+    #[error("too many calls within one another")]
+    Depth,
 }
 
 /// Memory was asked for and refused.

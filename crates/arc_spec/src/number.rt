@@ -1,7 +1,7 @@
 //! Arithmetic on the numbers of a program. Each is held in 64 bits, whatever its kind.
-ghost use Rattle.std.specs.Prelude.{◌≡◌, ◌&&◌, ◌+◌, ◌%◌, ◌^◌, ◌<◌, pos, false};
+ghost use Rattle.std.specs.Prelude.{◌≡◌, ◌&&◌, ◌+◌, ◌%◌, ◌^◌, ◌<◌, pos, false, if◌then◌else◌};
 ghost use Rattle.std.specs.Int.{w64, cast_unsigned, IsNonZero};
-ghost use Rattle.arc_spec.specs.Number.{converted, negated, combined, quotient, is_least, is_zero, is_minus_one, low_32, low_byte, byte_or_end};
+ghost use Rattle.arc_spec.specs.Number.{converted, negated, combined, quotient, is_least, is_zero, is_minus_one, is_same, low_32, low_byte, byte_or_end};
 
 use arc_ast::tree::{BinaryOperator, Kind};
 
@@ -40,7 +40,15 @@ pub fn combine(operator: BinaryOperator, kind: Kind, left: i64, right: i64) -> O
         BinaryOperator::Subtract => Some(convert(kind, left.wrapping_sub(right))),
         BinaryOperator::Multiply => Some(convert(kind, left.wrapping_mul(right))),
         BinaryOperator::Divide => divide(kind, left, right),
+        BinaryOperator::NotEqual => Some(differ(left, right)),
     }
+}
+
+/// 1 where the numbers differ, and else 0 (C99, section 6.5.9).
+fn differ(left: i64, right: i64) -> i64
+    ensures { result ≡ (if is_same left right then pos 0 else pos 1) }
+{
+    if left == right { 0 } else { 1 }
 }
 
 /// The quotient, without its fraction, of the two numbers as ones of this kind.

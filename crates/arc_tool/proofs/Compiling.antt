@@ -11,12 +11,11 @@ use Rattle.arc_class.specs.declared.table.ClassTable.{ClassTable}
 use Rattle.arc_class.specs.Functions.{broken}
 use Rattle.arc_class.specs.Table.{IsTableOf}
 use Rattle.arc_check.specs.declared.checked.Checked.{Checked}
-use Rattle.arc_check.specs.Checked.{body_of}
-use Rattle.arc_check.specs.Rules.{broken_stmts, main_body}
-use Rattle.arc_check.specs.Resolving.{resolved_stmts}
+use Rattle.arc_check.specs.Checked.{program_of}
+use Rattle.arc_check.specs.Rules.{broken_unit}
+use Rattle.arc_check.specs.Resolving.{resolved_unit}
 use Rattle.arc_spec.specs.Correct.{Refines, Steady}
 use Rattle.arc_spec.proofs.Composition.{composed}
-use Rattle.arc_ir.specs.declared.action.Action.{Action}
 use Rattle.arc_ir.specs.Acting as acting
 use Rattle.arc_lower.specs.Promise.{Performs}
 use Rattle.arc_emit.specs.declared.fault.EmitFault.{EmitFault}
@@ -25,7 +24,7 @@ use Rattle.arc_emit.specs.Faults as emitting
 use Rattle.arc_emit.specs.Emitted.{IsLarge}
 use Rattle.arc_code.specs.Running.{Program, seen, IsSound}
 use Rattle.arc_tool.specs.declared.refusal.Refusal.{Refusal}
-use Rattle.arc_tool.specs.Accepted.{Accepted, main_of, meant, Compiles}
+use Rattle.arc_tool.specs.Accepted.{Accepted, program_meant, meant, Compiles}
 use Rattle.arc_tool.specs.Refused.{IsRefusal, too_large, no_memory}
 use Rattle.arc_tool.specs.Told.{Tells}
 
@@ -33,15 +32,15 @@ use Rattle.arc_tool.specs.Told.{Tells}
 pub passed : (source : List ℕ) (items these_tokens : List Token) → these_tokens ≡ items → Tokens source (toks items) → Tokens source (toks these_tokens)
 passed source items these_tokens same h = subst (λ ts. Tokens source (toks ts)) (sym same) h
 
-module _ (source : List ℕ) (tokens : List Token) (unit : TranslationUnit) (table : ClassTable) (program owned : Checked) (actions : List Action)
+module _ (source : List ℕ) (tokens : List Token) (unit : TranslationUnit) (table : ClassTable) (program owned : Checked) (actions : acting.Program)
     (cut : Tokens source (toks tokens)) (spelled : SpellsUnit these (unit_tree unit) (toks tokens)) (declared : broken (unit_tree unit) ≡ []) (has_main : IsTableOf (unit_tree unit) table)
-    (checked : broken_stmts (main_body (unit_tree unit) table) ≡ []) (resolved : body_of program ≡ resolved_stmts (main_body (unit_tree unit) table))
-    (same : owned ≡ program) (performs : Performs (body_of owned) actions) where
+    (checked : broken_unit (unit_tree unit) ≡ []) (resolved : program_of program ≡ resolved_unit (unit_tree unit))
+    (same : owned ≡ program) (performs : Performs (program_of owned) actions) where
   abbrev pub accepted : Accepted source
   accepted = record { tokens = toks tokens; tree = unit_tree unit; table = table; cut = cut; spelled = spelled; declared = declared; has_main = has_main; checked = checked }
 
-  pub performed : Performs (main_of accepted) actions
-  performed = subst (λ body. Performs body actions) (ap body_of same ∙ resolved) performs
+  pub performed : Performs (program_meant accepted) actions
+  performed = subst (λ program. Performs program actions) (ap program_of same ∙ resolved) performs
 
   pub compiled : (code : Program) → IsSound code → Refines (acting.seen actions) (seen code) → Steady (seen code) → Compiles source code
   compiled code sound refines steady = record {

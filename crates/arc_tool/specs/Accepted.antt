@@ -8,9 +8,9 @@ use Rattle.arc_parse.specs.Limits.{these}
 use Rattle.arc_class.specs.declared.table.ClassTable.{ClassTable}
 use Rattle.arc_class.specs.Functions.{broken}
 use Rattle.arc_class.specs.Table.{IsTableOf}
-use Rattle.arc_check.specs.Rules.{broken_stmts, main_body}
-use Rattle.arc_check.specs.Resolving.{resolved_stmts}
-use Rattle.arc_spec.specs.Resolved.{Commands}
+use Rattle.arc_check.specs.Rules.{broken_unit}
+use Rattle.arc_check.specs.Resolving.{resolved_unit}
+use Rattle.arc_spec.specs.Resolved as resolved
 use Rattle.arc_spec.specs.Meaning.{mean}
 use Rattle.arc_spec.specs.Correct.{Behaves, Steady, Sight, meaning_seen}
 use Rattle.arc_code.specs.Running.{Program, seen, IsSound}
@@ -24,15 +24,15 @@ pub record Accepted (source : List ℕ) : Type 0 where
   pub spelled : SpellsUnit these tree tokens
   pub declared : broken tree ≡ []
   pub has_main : IsTableOf tree table
-  pub checked : broken_stmts (main_body tree table) ≡ []
+  pub checked : broken_unit tree ≡ []
 
--- the body of its main, with its names resolved
-abbrev pub main_of : {source : List ℕ} → Accepted source → Commands
-main_of p = resolved_stmts (main_body p.tree p.table)
+-- its functions, with their names resolved
+abbrev pub program_meant : {source : List ℕ} → Accepted source → resolved.Program
+program_meant p = resolved_unit p.tree
 
 -- what is seen of its meaning on an input, with a bound on the turns of each loop
 abbrev pub meant : {source : List ℕ} → Accepted source → List ℕ → (bound : ℕ) → Sight
-meant p input bound = meaning_seen (mean (main_of p) input bound)
+meant p input bound = meaning_seen (mean (program_meant p) input bound)
 
 -- The source is a program, and the code does what it means, on each input, and is never without what it needs.
 pub record Compiles (source : List ℕ) (code : Program) : Type 0 where

@@ -15,13 +15,13 @@ use Rattle.arc_class.specs.Functions.{broken}
 use Rattle.arc_class.specs.Table.{IsTableOf}
 use Rattle.arc_class.specs.Fault as building
 use Rattle.arc_check.specs.declared.fault.CheckFault.{CheckFault}
-use Rattle.arc_check.specs.Rules.{broken_stmts, main_body}
+use Rattle.arc_check.specs.Rules.{broken_unit}
 use Rattle.arc_check.specs.Fault as checking
-use Rattle.arc_ir.specs.declared.action.Action.{Action}
+use Rattle.arc_ir.specs.Acting as acting
 use Rattle.arc_lower.specs.Promise.{Performs}
 use Rattle.arc_emit.specs.Emitted.{IsLarge}
 use Rattle.arc_tool.specs.declared.refusal.Refusal.{Refusal}
-use Rattle.arc_tool.specs.Accepted.{Accepted, main_of}
+use Rattle.arc_tool.specs.Accepted.{Accepted, program_meant}
 use Rattle.arc_tool.specs.Told.{Names, Tells}
 
 -- The refusal tells the fault of a stage, all stages before which have nothing to refuse; or memory was refused, which says nothing of the source.
@@ -32,7 +32,7 @@ pub data IsRefusal (source : List ℕ) (r : Refusal) : Type 0 where
   in_building : (f : ClassFault) (tokens : List Tok) (tree : List FunctionTree) → Tokens source tokens → SpellsUnit these tree tokens → building.Refuses (broken tree) f
       → Tells (building.fault_number f) (building.fault_name f) (building.fault_at f) r → IsRefusal source r
   in_checking : (f : CheckFault) (tokens : List Tok) (tree : List FunctionTree) (table : ClassTable) → Tokens source tokens → SpellsUnit these tree tokens
-      → broken tree ≡ [] → IsTableOf tree table → checking.Refuses (broken_stmts (main_body tree table)) f
+      → broken tree ≡ [] → IsTableOf tree table → checking.Refuses (broken_unit tree) f
       → Tells (checking.fault_number f) (checking.fault_name f) (checking.fault_at f) r → IsRefusal source r
-  too_large : (program : Accepted source) (actions : List Action) → Performs (main_of program) actions → IsLarge actions → Tells 71 (codes "TooLarge") 0 r → IsRefusal source r
+  too_large : (program : Accepted source) (actions : acting.Program) → Performs (program_meant program) actions → IsLarge actions → Tells 71 (codes "TooLarge") 0 r → IsRefusal source r
   no_memory : Names (codes "Memory") r → IsRefusal source r

@@ -4,4 +4,5 @@ mod devices;
 mod hostile;
 mod rows;
 mod served;
+mod wider;
 mod words;

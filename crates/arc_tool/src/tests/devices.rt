@@ -86,7 +86,7 @@ fn plain(alloc: Global, source: &[u8], input: &[u8]) -> Result<Answer, Refusal> 
     let unit = parse(alloc, &tokens)?;
     let table = ClassTable::build(alloc, &unit)?;
     let program = check(alloc, &unit, &table)?;
-    let answer = interpret(alloc, &program, input)?;
+    let answer = interpret(alloc, &program, input, 1_000_000)?;
     Ok(answer)
 }
 

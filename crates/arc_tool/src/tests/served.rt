@@ -44,7 +44,7 @@ fn served(
 #[test]
 fn runs(rt: HostRuntime) -> Result<(), Fail> {
     let alloc = rt.alloc();
-    let rows: [(&[u8], u8, &[u8], &[u8]); 6] = [
+    let rows: [(&[u8], u8, &[u8], &[u8]); 8] = [
         (
             b"int main(void) { printf(\"42\"); return 7; }",
             7,
@@ -66,6 +66,18 @@ fn runs(rt: HostRuntime) -> Result<(), Fail> {
             b"arcc: refused 11 Unexpected at 15\n",
         ),
         (b"", 102, b"", b"arcc: refused 29 NoMain at 0\n"),
+        (
+            b"int main(void){int a;int a;}",
+            102,
+            b"",
+            b"arcc: refused 21 Duplicate at 25\n",
+        ),
+        (
+            b"int f(int n) { if (n) return f(n - 1); return 0; } int main(void) { printf(\"%d\", f(1999)); }",
+            103,
+            b"",
+            b"arcc: fault 85 Depth\n",
+        ),
     ];
     for (source, status, text, told) in rows {
         let shown = served(alloc, &["arcc", "run", "a.m"], Ok(source))?;
@@ -88,7 +100,7 @@ fn checks_and_lists(rt: HostRuntime) -> Result<(), Fail> {
     assert_eq!(rt; shown.status, 0);
     assert_eq!(rt;
         shown.output.as_slice(),
-        b"0 Num 7\n1 Return\n2 Num 0\n3 Return\n".as_slice()
+        b"0 Call 2\n1 Return\n2 Num 7\n3 Return\n4 Num 0\n5 Return\n6 Num 0\n7 Return\n".as_slice()
     );
     let shown = served(alloc, &["arcc", "check", "a.m"], Ok(b";"))?;
     assert_eq!(rt; shown.status, 102);
@@ -115,6 +127,17 @@ fn other_troubles(rt: HostRuntime) -> Result<(), Fail> {
     let shown = served(alloc, &["arcc", "run", "--steps", "1", "a.m"], Ok(source))?;
     assert_eq!(rt; shown.status, 105);
     assert_eq!(rt; shown.errors.as_slice(), b"arcc: steps used\n".as_slice());
+    let source = b"int main(void){while(1)printf(\"a\");}";
+    let shown = served(
+        alloc,
+        &["arcc", "run", "--steps", "1000", "a.m"],
+        Ok(source),
+    )?;
+    assert_eq!(rt; shown.status, 105);
+    assert!(rt; shown.output.len() > 0);
+    for byte in &shown.output {
+        assert_eq!(rt; *byte, b'a');
+    }
     let shown = served(alloc, &["arcc", "--help"], Err(FileFault::Failed))?;
     assert_eq!(rt; shown.status, 0);
     assert!(rt; shown.output.len() > 0);

@@ -1,26 +1,49 @@
-use Rattle.std.proofs.Common.{refl, sym, ◌∙◌}
+use Rattle.std.proofs.Common.{sym, ap, ◌∙◌}
+use Rattle.arc_spec.specs.Resolved.{Invoked}
+use Rattle.arc_check.specs.declared.callee.Callee.TheVariants.{Printf, GetChar, Defined, Unknown}
+use Rattle.arc_check.specs.declared.resolve.Typed.{Typed}
+use Rattle.arc_check.specs.Checked as checked
 use Rattle.arc_ast.specs.Tree.{expr_trees}
-use Rattle.arc_check.specs.Resolving.{resolved_all}
-use Rattle.arc_check.proofs.Trees.{call_tree, print_value}
-use Rattle.arc_check.proofs.Buildings.{values_turn, values_end, printing_some, printing_none}
+use Rattle.arc_check.specs.Resolving.{number, resolved_all}
+use Rattle.arc_check.specs.Scopes.{result_kind}
+use Rattle.arc_check.specs.Views.{seen}
+use Rattle.arc_check.proofs.Trees.{call_tree, print_value, invoked_value}
+use Rattle.arc_check.proofs.Buildings.{values_turn, values_end, printing_some, printing_none, resolves_call}
 use Rattle.arc_check.proofs.resolve.+resolve.Goals as goal
+use Rattle.arc_check.proofs.resolve.+resolve.Goals.{call-in-Printf+in_ok-value-in-Printf, call-in-Defined+in_ok-values-in-Defined, call-in-GetChar, call-in-Unknown}
 
-pub expression-returns-in_ok-value-in-Call : goal.expression-returns-in_ok-value-in-Call
-expression-returns-in_ok-value-in-Call t c =
-    rw (c.in-Call.is, call_tree c.in-Call.field-0 c.in-Call.name c.in-Call.arguments, sym c.deref-in-Call.ensures.value, sym c.deref-in-Call-2.ensures.value) (record { kind = refl; value = c.in_ok-value-in-Call.ensures c.in-Call.field-0 })
+pub expression-returns-in_ok-typed-in-Call : goal.expression-returns-in_ok-typed-in-Call
+expression-returns-in_ok-typed-in-Call t c =
+    rw (c.in-Call.is, call_tree c.in-Call.field-0 c.in-Call.name c.in-Call.arguments, sym c.deref-in-Call.ensures.value, sym c.deref-in-Call-2.ensures.value) (c.in_ok-typed-in-Call.ensures c.in-Call.field-0)
+
+pub call-returns : goal.call-returns
+call-returns t c = λ at.
+    let s = seen c.args.table.now c.args.visible.now in
+    let all = expr_trees c.args.arguments.now in
+    let typed : Typed = record { kind = c.result_kind.result; value = c.match-callee.value } in
+    elim c.match-callee.branch [
+      | call-in-Printf+in_ok-value-in-Printf w ↦ resolves_call s at c.args.name.now all Printf typed (sym w.in-Printf.ensures) (c.result_kind.ensures ∙ ap result_kind (w.callee-is ∙ c.callee_of-callee.ensures ∙ sym w.in-Printf.ensures)) (ap checked.value w.value-is ∙ w.in_ok-value-in-Printf.ensures)
+      | call-in-Defined+in_ok-values-in-Defined w ↦ resolves_call s at c.args.name.now all (Defined w.in-Defined.field-0 w.in-Defined.field-1 w.in-Defined.body) typed (sym w.in-Defined.ensures) (c.result_kind.ensures ∙ ap result_kind w.callee-is)
+          (ap checked.value w.value-is ∙ invoked_value w.number.result w.in_ok-values-in-Defined.field-0 ∙ ap (λ f. Invoked f (checked.values w.in_ok-values-in-Defined.field-0.items)) w.number.ensures ∙ ap (Invoked (number w.in-Defined.body)) w.in_ok-values-in-Defined.ensures)
+      | call-in-GetChar w ↦ resolves_call s at c.args.name.now all GetChar typed (sym w.in-GetChar.ensures) (c.result_kind.ensures ∙ ap result_kind (w.callee-is ∙ c.callee_of-callee.ensures ∙ sym w.in-GetChar.ensures)) (ap checked.value w.value-is)
+      | call-in-Unknown w ↦ resolves_call s at c.args.name.now all Unknown typed (sym w.in-Unknown.ensures) (c.result_kind.ensures ∙ ap result_kind (w.callee-is ∙ c.callee_of-callee.ensures ∙ sym w.in-Unknown.ensures)) (ap checked.value w.value-is)
+    ]
 
 pub print-returns-in_ok-pieces-in-Some : goal.print-returns-in_ok-pieces-in-Some
 print-returns-in_ok-pieces-in-Some t c = print_value c.in_ok-pieces-in-Some.pieces c.in_ok-values-in-Some.values
-    ∙ printing_some c.args.arguments.now c.in-Some.first.now c.in-Some.others.now c.text_of.result.now c.in_ok-pieces-in-Some.pieces.items c.in_ok-values-in-Some.values.items c.in-Some.ensures.cases.0 c.text_of.ensures c.in_ok-pieces-in-Some.ensures c.in_ok-values-in-Some.ensures
+    ∙ printing_some (seen c.args.table.now c.args.visible.now) c.args.arguments.now c.in-Some.first.now c.in-Some.others.now c.text_of.result.now c.in_ok-pieces-in-Some.pieces.items c.in_ok-values-in-Some.values.items c.in-Some.ensures.cases.0 c.text_of.ensures c.in_ok-pieces-in-Some.ensures c.in_ok-values-in-Some.ensures
 
 pub print-returns-in_ok-values-in-None : goal.print-returns-in_ok-values-in-None
 print-returns-in_ok-values-in-None t c = print_value c.new.result c.in_ok-values-in-None.field-0
-    ∙ printing_none c.args.arguments.now c.new.result.items c.in_ok-values-in-None.field-0.items c.in-None.ensures.cases c.new.ensures.items c.in_ok-values-in-None.ensures
+    ∙ printing_none (seen c.args.table.now c.args.visible.now) c.args.arguments.now c.new.result.items c.in_ok-values-in-None.field-0.items c.in-None.ensures.cases c.new.ensures.items c.in_ok-values-in-None.ensures
 
-pub values-loop-argument-preserved : goal.values-loop-argument-preserved
-values-loop-argument-preserved t c =
-    values_turn c.args.arguments.now c.loop-argument.argument-index c.argument-item.result c.loop-argument.all.items c.push.new.self.items c.in_ok-expression.field-0.value (resolved_all (expr_trees c.args.arguments.now)) c.loop-argument-test.true c.argument-item.is
-    c.loop-argument.invariant c.in_ok-push.ensures.items c.in_ok-expression.ensures.value
+pub values-loop-one-preserved : goal.values-loop-one-preserved
+values-loop-one-preserved t c =
+    let s = seen c.args.table.now c.args.visible.now in
+    values_turn s c.args.printed c.args.arguments.now c.loop-one.one-index c.one-item.result c.loop-one.all.items c.push.new.self.items c.in_ok-argument.field-0 (resolved_all s c.args.printed (expr_trees c.args.arguments.now)) c.loop-one-test.true c.one-item.is
+    c.loop-one.invariant c.in_ok-push.ensures.items c.in_ok-argument.ensures
 
 pub values-returns : goal.values-returns
-values-returns t c = values_end c.args.arguments.now c.loop-argument.argument-index c.loop-argument.all.items (resolved_all (expr_trees c.args.arguments.now)) c.loop-argument-test.false c.loop-argument.invariant
+values-returns t c =
+    let s = seen c.args.table.now c.args.visible.now in
+    values_end s c.args.printed c.args.arguments.now c.loop-one.one-index c.loop-one.all.items (resolved_all s c.args.printed (expr_trees c.args.arguments.now)) c.loop-one-test.false c.loop-one.invariant

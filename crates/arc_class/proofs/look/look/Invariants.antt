@@ -4,5 +4,5 @@ use Rattle.arc_class.specs.Look.{Sums}
 use Rattle.arc_class.proofs.look.look.Given as goal
 
 -- so much is known of the functions so far
-abbrev pub invariant-loop-index : goal.invariant-loop-index
-invariant-loop-index l = Sums (function_trees (take l.index l.functions)) l.seen
+abbrev pub invariant-loop-function : goal.invariant-loop-function
+invariant-loop-function l = Sums (function_trees (take l.function-index l.functions)) l.seen

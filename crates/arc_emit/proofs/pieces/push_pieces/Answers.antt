@@ -16,6 +16,4 @@ loop-left-preserved c =
           ∙ append_assoc c.loop-left.ops.items (op.PrintText place 16 ∷ []) more
           ∙ ap (λ l. c.loop-left.ops.items ++ l) (sym (text_more place left c.loop-left-test.true))
           ∙ c.loop-left.invariant.so_far;
-      within = c.in_ok-push_op.ensures.few_ops;
-      few = omega (arith, c.in_ok-push_op.ensures.one);
     }

@@ -10,9 +10,12 @@ use Rattle.arc_parse.proofs.expr.+exprs.Goals as goal
 pub call-returns-clause-gives : goal.call-returns-clause-gives
 unfolding call_by
 call-returns-clause-gives t c =
-    let is : call_by read (toks c.args.tokens.now) ≡ Ok (Call c.in_ok-at.at c.in_ok-at.called.now (expr_trees c.in_ok-all.all.items), toks c.in_ok-rest-2.rest.now) = search rules in
-    is ∙ ap (λ name. Ok (Call c.in_ok-at.at name (expr_trees c.in_ok-all.all.items), toks c.in_ok-rest-2.rest.now)) (sym c.in_ok-from_slice.ensures.items)
-    ∙ ap (λ x. Ok (x, toks c.in_ok-rest-2.rest.now)) (sym (call_tree c.in_ok-at.at c.in_ok-from_slice.field-0 c.in_ok-all.all))
+    let at = c.args.at in
+    let called = c.args.called.now in
+    let rest = toks c.in_ok-rest-2.rest.now in
+    let is : call_by read (at, called) (toks c.args.tokens.now) ≡ Ok (Call at called (expr_trees c.in_ok-all.all.items), rest) = search rules in
+    is ∙ ap (λ name. Ok (Call at name (expr_trees c.in_ok-all.all.items), rest)) (sym c.in_ok-from_slice.ensures.items)
+    ∙ ap (λ x. Ok (x, rest)) (sym (call_tree at c.in_ok-from_slice.field-0 c.in_ok-all.all))
 
 pub arguments-returns-clause-gives : goal.arguments-returns-clause-gives
 unfolding arguments_by

@@ -27,3 +27,15 @@ decreases-call l = 16 * length l.tokens.now + 3
 
 abbrev pub decreases-parenthesized : goal.decreases-parenthesized
 decreases-parenthesized l = 16 * length l.tokens.now + 3
+
+abbrev pub decreases-named : goal.decreases-named
+decreases-named l = 16 * length l.tokens.now + 3
+
+abbrev pub decreases-operation : goal.decreases-operation
+decreases-operation l = 16 * length l.tokens.now + 12
+
+abbrev pub decreases-assignment : goal.decreases-assignment
+decreases-assignment l = 16 * length l.tokens.now + 14
+
+abbrev pub decreases-negated : goal.decreases-negated
+decreases-negated l = 16 * length l.tokens.now + 5

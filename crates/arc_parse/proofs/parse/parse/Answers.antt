@@ -3,7 +3,7 @@ use Rattle.arc_lex.specs.Tokens.{toks}
 use Rattle.arc_parse.specs.Limits.{these, unlimited}
 use Rattle.arc_parse.specs.Refusal.{FitsNone}
 use Rattle.arc_parse.proofs.Unit.{unit_sound, unit_alone, unit_accepted, unit_refuses}
-use Rattle.arc_parse.proofs.UnitBelow.{free_reads}
+use Rattle.arc_parse.proofs.UnitBelow.{free_reads, free_refuses}
 use Rattle.arc_parse.proofs.UnitTell.{unit_tells}
 use Rattle.arc_parse.proofs.parse.parse.Goals as goal
 
@@ -17,7 +17,7 @@ pub returns-in-Ok-clause-alone : goal.returns-in-Ok-clause-alone
 returns-in-Ok-clause-alone c = λ other h. unit_alone unlimited (toks c.args.tokens.now) _ other _ (free_reads these _ _ _ c.in-Ok.ensures) h
 
 pub returns-in-Err-Unexpected-clause-refused : goal.returns-in-Err-Unexpected-clause-refused
-returns-in-Err-Unexpected-clause-refused c = subst (FitsNone (toks c.args.tokens.now)) (sym c.place_of.ensures) (unit_refuses _ (toks c.in-Err-Unexpected.rest.now) (rw c.in-Err-Unexpected.field-0-is at c.in-Err-Unexpected.ensures))
+returns-in-Err-Unexpected-clause-refused c = subst (FitsNone (toks c.args.tokens.now)) (sym c.place_of.ensures) (unit_refuses _ (toks c.in-Err-Unexpected.rest.now) (free_refuses these _ _ (rw c.in-Err-Unexpected.field-0-is at c.in-Err-Unexpected.ensures)))
 
 pub returns-in-Err-Unexpected-clause-accepted : goal.returns-in-Err-Unexpected-clause-accepted
 returns-in-Err-Unexpected-clause-accepted c = λ u h. absurd (unit_accepted these (toks c.args.tokens.now) u _ (rw c.in-Err-Unexpected.field-0-is at c.in-Err-Unexpected.ensures) h)

@@ -6,16 +6,31 @@ use Rattle.arc_parse.proofs.UnitRows.{with_stmts}
 use Rattle.arc_parse.proofs.stmt.+stmts.Given as goal
 
 abbrev pub decreases-items : goal.decreases-items
-decreases-items l = 4 * length l.tokens.now + 3
+decreases-items l = 8 * length l.tokens.now + 7
 
 abbrev pub decreases-item : goal.decreases-item
-decreases-item l = 4 * length l.tokens.now + 2
+decreases-item l = 8 * length l.tokens.now + 6
+
+abbrev pub decreases-perhaps : goal.decreases-perhaps
+decreases-perhaps l = 8 * length l.tokens.now + 5
+
+abbrev pub decreases-branch : goal.decreases-branch
+decreases-branch l = 8 * length l.tokens.now + 5
 
 abbrev pub decreases-stmt : goal.decreases-stmt
-decreases-stmt l = 4 * length l.tokens.now + 1
+decreases-stmt l = 8 * length l.tokens.now + 4
+
+abbrev pub decreases-worded : goal.decreases-worded
+decreases-worded l = 8 * length l.tokens.now + 3
+
+abbrev pub decreases-conditional : goal.decreases-conditional
+decreases-conditional l = 8 * length l.tokens.now + 2
+
+abbrev pub decreases-repeated : goal.decreases-repeated
+decreases-repeated l = 8 * length l.tokens.now + 2
 
 abbrev pub decreases-block : goal.decreases-block
-decreases-block l = 4 * length l.tokens.now
+decreases-block l = 8 * length l.tokens.now + 2
 
 -- the statements so far and those to come are all
 abbrev pub invariant-items-items : goal.invariant-items-items

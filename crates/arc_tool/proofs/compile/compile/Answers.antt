@@ -2,6 +2,7 @@ use Rattle.std.proofs.Common.{Err, ap}
 use Rattle.std.proofs.lemmas.Result.{err_from_is_err_and}
 use Rattle.arc_lex.specs.Tokens.{toks}
 use Rattle.arc_ast.specs.Tree.{unit_tree}
+use Rattle.arc_ir.specs.Acting as acting
 use Rattle.arc_code.specs.Running.{program_of}
 use Rattle.arc_tool.specs.Refused.{in_lexing, in_parsing, in_building, in_checking}
 use Rattle.arc_tool.proofs.Compiling.{passed, compiled, not_emitted}
@@ -35,13 +36,13 @@ pub returns-in_err-code-clause-refused : goal.returns-in_err-code-clause-refused
 returns-in_err-code-clause-refused c =
     let p = err_from_is_err_and c.from_residual-in_err-code.result c.from_residual-in_err-code.ensures.1 in
     let cut = passed c.args.source.now c.in_ok-tokens.tokens.items c.deref.result.now c.deref.ensures.value c.in_ok-tokens.ensures.tokens in
-    rw p.1 (not_emitted c.args.source.now c.deref.result.now c.in_ok-unit.unit c.in_ok-table.table c.in_ok-program.program c.in_ok-owned.owned.program.now c.in_ok-actions.actions.actions.items
+    rw p.1 (not_emitted c.args.source.now c.deref.result.now c.in_ok-unit.unit c.in_ok-table.table c.in_ok-program.program c.in_ok-owned.owned.program.now (acting.program_of c.in_ok-actions.actions)
     cut c.in_ok-unit.ensures.within c.in_ok-table.ensures.unbroken c.in_ok-table.ensures.table c.in_ok-program.ensures.unbroken c.in_ok-program.ensures.resolved
     c.in_ok-owned.ensures.same c.in_ok-actions.ensures c.in_err-code.field-0.0 p.0 (λ e. c.in_err-code.ensures.large (ap Err e)) p.2)
 
 pub returns-clause-compiled : goal.returns-clause-compiled
 returns-clause-compiled c =
     let cut = passed c.args.source.now c.in_ok-tokens.tokens.items c.deref.result.now c.deref.ensures.value c.in_ok-tokens.ensures.tokens in
-    compiled c.args.source.now c.deref.result.now c.in_ok-unit.unit c.in_ok-table.table c.in_ok-program.program c.in_ok-owned.owned.program.now c.in_ok-actions.actions.actions.items
+    compiled c.args.source.now c.deref.result.now c.in_ok-unit.unit c.in_ok-table.table c.in_ok-program.program c.in_ok-owned.owned.program.now (acting.program_of c.in_ok-actions.actions)
     cut c.in_ok-unit.ensures.within c.in_ok-table.ensures.unbroken c.in_ok-table.ensures.table c.in_ok-program.ensures.unbroken c.in_ok-program.ensures.resolved
     c.in_ok-owned.ensures.same c.in_ok-actions.ensures (program_of c.in_ok-code.code) c.in_ok-code.ensures.sound c.in_ok-code.ensures.refines c.in_ok-code.ensures.steady

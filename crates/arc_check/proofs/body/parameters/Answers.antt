@@ -1,0 +1,21 @@
+use Rattle.std.proofs.Common.{◌≡◌, ap, ◌∙◌, option_map}
+use Rattle.arc_check.specs.Fault.{told}
+use Rattle.arc_check.specs.Scopes.{declare}
+use Rattle.arc_check.specs.Views.{seen}
+use Rattle.arc_check.proofs.Scoping.{parameters_turn}
+use Rattle.arc_check.proofs.Walks.{told_turn}
+use Rattle.arc_check.proofs.body.parameters.Goals as goal
+
+pub loop-parameter-preserved : goal.loop-parameter-preserved
+loop-parameter-preserved c =
+    let table = c.args.table.now in
+    let xs = c.args.all.now in
+    let i = c.loop-parameter.parameter-index in
+    let x = c.parameter-item.result in
+    let s = seen table c.loop-parameter.visible in
+    let new = seen table c.declared.new.visible in
+    let after : new ≡ declare x.name.items s = c.in_ok-declared.ensures.scope table ∙ ap (λ n. declare n s) c.deref.ensures.value in
+    record {
+      fault = told_turn s new xs i x (option_map told c.loop-parameter.fault) (option_map told c.in_ok-declared.field-0) (option_map told c.earlier-fault.result) _ c.loop-parameter-test.true c.parameter-item.is (c.in_ok-declared.ensures.fault table) after c.earlier-fault.ensures c.loop-parameter.invariant.fault;
+      scope = parameters_turn xs i x s new _ c.loop-parameter-test.true c.parameter-item.is after c.loop-parameter.invariant.scope;
+    }

@@ -1,0 +1,23 @@
+use Rattle.std.proofs.Common.{◌≡◌, ap, ◌∙◌, option_map}
+use Rattle.arc_check.specs.Fault.{told}
+use Rattle.arc_check.specs.Scopes.{declare}
+use Rattle.arc_check.specs.Views.{seen}
+use Rattle.arc_check.proofs.Scoping.{keeps_turn}
+use Rattle.arc_check.proofs.Walks.{variables_turn, with_turn}
+use Rattle.arc_check.proofs.body.variables.Goals as goal
+
+pub loop-variable-preserved : goal.loop-variable-preserved
+loop-variable-preserved c =
+    let table = c.args.table.now in
+    let xs = c.args.all.now in
+    let i = c.loop-variable.variable-index in
+    let x = c.variable-item.result in
+    let s = seen table c.loop-variable.visible in
+    let new = seen table c.declared.new.visible in
+    let after : new ≡ declare x.name.items s = c.in_ok-declared.ensures.scope table ∙ ap (λ n. declare n s) c.deref.ensures.value in
+    record {
+      fault = variables_turn s new xs i x (option_map told c.loop-variable.fault) (option_map told c.in_ok-declared.field-0) (option_map told c.earlier-fault.result) (option_map told c.initial.result) (option_map told c.earlier-fault-in-loop-variable.result) _
+          c.loop-variable-test.true c.variable-item.is (c.in_ok-declared.ensures.fault table) after c.earlier-fault.ensures c.initial.ensures c.earlier-fault-in-loop-variable.ensures c.loop-variable.invariant.fault;
+      scope = with_turn s new _ xs i x c.loop-variable-test.true c.variable-item.is after c.loop-variable.invariant.scope;
+      keeps = keeps_turn c.args.visible.now.bound.items c.loop-variable.visible.bound.items c.declared.new.visible.bound.items c.loop-variable.invariant.keeps c.in_ok-declared.ensures.keeps;
+    }

@@ -1,0 +1,265 @@
+//! Finds the first rule that is broken in the functions of a source.
+ghost use Rattle.std.specs.Prelude.{◌≡◌, IfOk, OnOk, option_map, take, length};
+ghost use Rattle.arc_ast.specs.Tree.{expr_tree, variable_trees, parameter_trees, parameters_tree, stmt_tree, stmt_trees, function_tree, function_trees};
+ghost use Rattle.arc_class.specs.Bodies as bodies;
+ghost use Rattle.arc_class.specs.Broken.{first};
+ghost use Rattle.arc_class.specs.declared.table.ClassTable.{ClassTable};
+ghost use Rattle.arc_class.specs.Table.{function_in};
+ghost use Rattle.arc_check.specs.Fault.{told};
+ghost use Rattle.arc_check.specs.Rules.{broken_initial, broken_variables, broken_parameters, broken_result, broken_stmt, broken_stmts, broken_body, broken_function, broken_functions};
+ghost use Rattle.arc_check.specs.Scopes.{is_full, leave, behind, behind_all, declare, with_variables, with_parameters};
+ghost use Rattle.arc_check.specs.Views.{seen};
+
+use crate::fault::{CheckFault, earlier};
+use crate::judge::{judge, judge_value, place};
+use crate::scope::Visible;
+use arc_ast::tree::{Expr, Function, Kind, Parameter, Parameters, Stmt, Variable};
+use arc_class::table::ClassTable;
+use std::alloc::{AllocError, Global};
+
+/// The first rule that is broken in what a variable begins with.
+fn initial<'a>(
+    table: &ClassTable<'a>,
+    visible: &Visible<'a>,
+    expr: &'a Option<Expr>,
+) -> Option<CheckFault>
+    ensures { option_map told result ≡ first (broken_initial (seen table.now visible.now) (option_map expr_tree expr.now)) }
+{
+    match expr {
+        None => None,
+        Some(expr) => judge_value(table, visible, expr).fault,
+    }
+}
+
+/// The first rule that is broken in what a function returns.
+fn returned<'a>(
+    table: &ClassTable<'a>,
+    gives_nothing: bool,
+    visible: &Visible<'a>,
+    expr: &'a Option<Expr>,
+) -> Option<CheckFault>
+    ensures { option_map told result ≡ first (broken_result gives_nothing (seen table.now visible.now) (option_map expr_tree expr.now)) }
+{
+    let Some(expr) = expr else {
+        return None;
+    };
+    if gives_nothing {
+        let judged = judge(table, visible, expr);
+        earlier(judged.fault, Some(CheckFault::KindMismatch(place(expr))))
+    } else {
+        judge_value(table, visible, expr).fault
+    }
+}
+
+/// Declares a variable, and tells the rule that this breaks.
+fn declared<'a>(
+    visible: &mut Visible<'a>,
+    at: usize,
+    name: &'a [u8],
+) -> Result<Option<CheckFault>, AllocError>
+    ensures fault { IfOk result (λ fault. (table : ClassTable) → option_map told fault ≡ first (bodies.broken_if (is_full (seen table visible.old)) at 50)) }
+    ensures scope { OnOk result ((table : ClassTable) → seen table visible.new ≡ declare name.now (seen table visible.old)) }
+    ensures keeps { OnOk result (take (length visible.old.bound.items) visible.new.bound.items ≡ visible.old.bound.items) }
+{
+    let fault = if visible.is_full() {
+        Some(CheckFault::TooManyLocals(at))
+    } else {
+        None
+    };
+    visible.declare(name)?;
+    Ok(fault)
+}
+
+/// The first rule that a declaration of variables breaks.
+fn variables<'a>(
+    table: &ClassTable<'a>,
+    visible: &mut Visible<'a>,
+    all: &'a [Variable],
+) -> Result<Option<CheckFault>, AllocError>
+    ensures fault { IfOk result (λ fault. option_map told fault ≡ first (broken_variables (seen table.now visible.old) (variable_trees all.now))) }
+    ensures scope { OnOk result (seen table.now visible.new ≡ with_variables (seen table.now visible.old) (variable_trees all.now)) }
+    ensures keeps { OnOk result (take (length visible.old.bound.items) visible.new.bound.items ≡ visible.old.bound.items) }
+{
+    let mut fault = None;
+    for variable in all {
+        fault = earlier(fault, declared(visible, variable.at, &variable.name)?);
+        fault = earlier(fault, initial(table, visible, &variable.initial));
+    }
+    Ok(fault)
+}
+
+/// The first rule that parameters break.
+fn parameters<'a>(
+    table: &ClassTable<'a>,
+    visible: &mut Visible<'a>,
+    all: &'a [Parameter],
+) -> Result<Option<CheckFault>, AllocError>
+    ensures fault { IfOk result (λ fault. option_map told fault ≡ first (broken_parameters (seen table.now visible.old) (parameter_trees all.now))) }
+    ensures scope { OnOk result (seen table.now visible.new ≡ with_parameters (seen table.now visible.old) (parameter_trees all.now)) }
+{
+    let mut fault = None;
+    for parameter in all {
+        fault = earlier(fault, declared(visible, parameter.at, &parameter.name)?);
+    }
+    Ok(fault)
+}
+
+/// The first rule that is broken in a statement that is a scope of its own.
+#[cycle(statements)]
+fn scoped<'a>(
+    table: &ClassTable<'a>,
+    gives_nothing: bool,
+    visible: &mut Visible<'a>,
+    inner: &'a Stmt,
+) -> Result<Option<CheckFault>, AllocError>
+    ensures fault { IfOk result (λ fault. option_map told fault ≡ first (broken_stmt gives_nothing (seen table.now visible.old) (stmt_tree inner.now))) }
+    ensures scope { OnOk result (seen table.now visible.new ≡ leave (seen table.now visible.old) (behind (seen table.now visible.old) (stmt_tree inner.now))) }
+    ensures keeps { OnOk result (visible.new.bound.items ≡ visible.old.bound.items) }
+{
+    let count = visible.bound.len();
+    let fault = statement(table, gives_nothing, visible, inner)?;
+    visible.leave(count);
+    Ok(fault)
+}
+
+/// The first rule that is broken in a block.
+#[cycle(statements)]
+fn block<'a>(
+    table: &ClassTable<'a>,
+    gives_nothing: bool,
+    visible: &mut Visible<'a>,
+    all: &'a [Stmt],
+) -> Result<Option<CheckFault>, AllocError>
+    ensures fault { IfOk result (λ fault. option_map told fault ≡ first (broken_stmts gives_nothing (seen table.now visible.old) (stmt_trees all.now))) }
+    ensures scope { OnOk result (seen table.now visible.new ≡ leave (seen table.now visible.old) (behind_all (seen table.now visible.old) (stmt_trees all.now))) }
+    ensures keeps { OnOk result (visible.new.bound.items ≡ visible.old.bound.items) }
+{
+    let count = visible.bound.len();
+    let fault = statements(table, gives_nothing, visible, all)?;
+    visible.leave(count);
+    Ok(fault)
+}
+
+/// The first rule that is broken in a statement.
+#[cycle(statements)]
+fn statement<'a>(
+    table: &ClassTable<'a>,
+    gives_nothing: bool,
+    visible: &mut Visible<'a>,
+    statement: &'a Stmt,
+) -> Result<Option<CheckFault>, AllocError>
+    ensures fault { IfOk result (λ fault. option_map told fault ≡ first (broken_stmt gives_nothing (seen table.now visible.old) (stmt_tree statement.now))) }
+    ensures scope { OnOk result (seen table.now visible.new ≡ behind (seen table.now visible.old) (stmt_tree statement.now)) }
+    ensures keeps { OnOk result (take (length visible.old.bound.items) visible.new.bound.items ≡ visible.old.bound.items) }
+{
+    match statement {
+        Stmt::Block(_, all) => block(table, gives_nothing, visible, all),
+        Stmt::Empty(_) => Ok(None),
+        Stmt::Expr(expr) => Ok(judge(table, visible, expr).fault),
+        Stmt::Return(_, expr) => Ok(returned(table, gives_nothing, visible, expr)),
+        Stmt::Variables(_, all) => variables(table, visible, all),
+        Stmt::If(_, test, then) => {
+            let fault = judge_value(table, visible, test).fault;
+            let inside = scoped(table, gives_nothing, visible, then)?;
+            Ok(earlier(fault, inside))
+        }
+        Stmt::IfElse(_, test, then, other) => {
+            let fault = judge_value(table, visible, test).fault;
+            let first = scoped(table, gives_nothing, visible, then)?;
+            let second = scoped(table, gives_nothing, visible, other)?;
+            Ok(earlier(fault, earlier(first, second)))
+        }
+        Stmt::While(_, test, body) => {
+            let fault = judge_value(table, visible, test).fault;
+            let inside = scoped(table, gives_nothing, visible, body)?;
+            Ok(earlier(fault, inside))
+        }
+    }
+}
+
+/// The first rule that is broken in the statements of a block.
+#[cycle(statements)]
+fn statements<'a>(
+    table: &ClassTable<'a>,
+    gives_nothing: bool,
+    visible: &mut Visible<'a>,
+    all: &'a [Stmt],
+) -> Result<Option<CheckFault>, AllocError>
+    ensures fault { IfOk result (λ fault. option_map told fault ≡ first (broken_stmts gives_nothing (seen table.now visible.old) (stmt_trees all.now))) }
+    ensures scope { OnOk result (seen table.now visible.new ≡ behind_all (seen table.now visible.old) (stmt_trees all.now)) }
+    ensures keeps { OnOk result (take (length visible.old.bound.items) visible.new.bound.items ≡ visible.old.bound.items) }
+{
+    let mut fault = None;
+    for one in all {
+        fault = earlier(fault, statement(table, gives_nothing, visible, one)?);
+    }
+    Ok(fault)
+}
+
+/// The parameters that have names in a body.
+pub fn named_parameters(parameters: &Parameters) -> &[Parameter]
+    ensures { parameter_trees result.now ≡ bodies.named_parameters (parameters_tree parameters.now) }
+{
+    match parameters {
+        Parameters::Ints(all) => all,
+        Parameters::CountAndTexts => &[],
+    }
+}
+
+/// How many parameters a function has at most.
+const MOST_PARAMETERS: usize = 16;
+
+/// The first rule that is broken in a function's body.
+fn body<'a>(
+    alloc: Global,
+    table: &ClassTable<'a>,
+    gives_nothing: bool,
+    named: &'a [Parameter],
+    all: &'a Option<Vec<Stmt>>,
+) -> Result<Option<CheckFault>, AllocError>
+    ensures { IfOk result (λ fault. option_map told fault
+        ≡ first (broken_body gives_nothing (function_in table.now) (parameter_trees named.now) (option_map (λ b. stmt_trees b.items) all.now))) }
+{
+    let Some(all) = all else {
+        return Ok(None);
+    };
+    let mut visible = Visible::new(alloc);
+    let fault = parameters(table, &mut visible, named)?;
+    Ok(earlier(fault, statements(table, gives_nothing, &mut visible, all)?))
+}
+
+/// The first rule that is broken in a function.
+fn function<'a>(
+    alloc: Global,
+    table: &ClassTable<'a>,
+    function: &'a Function,
+) -> Result<Option<CheckFault>, AllocError>
+    ensures { IfOk result (λ fault. option_map told fault ≡ first (broken_function (function_in table.now) (function_tree function.now))) }
+{
+    let named = named_parameters(&function.parameters);
+    let own = if named.len() > MOST_PARAMETERS {
+        Some(CheckFault::ArgumentCount(function.at))
+    } else {
+        None
+    };
+    let gives_nothing = matches!(function.result, Kind::Void);
+    Ok(earlier(
+        own,
+        body(alloc, table, gives_nothing, named, &function.body)?,
+    ))
+}
+
+/// The first rule that is broken in the functions.
+pub fn judge_functions<'a>(
+    alloc: Global,
+    table: &ClassTable<'a>,
+    functions: &'a [Function],
+) -> Result<Option<CheckFault>, AllocError>
+    ensures { IfOk result (λ fault. option_map told fault ≡ first (broken_functions (function_in table.now) (function_trees functions.now))) }
+{
+    let mut fault = None;
+    for one in functions {
+        fault = earlier(fault, function(alloc, table, one)?);
+    }
+    Ok(fault)
+}

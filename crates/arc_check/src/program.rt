@@ -1,0 +1,199 @@
+//! Builds the resolved functions of a source that breaks no rule.
+ghost use Rattle.std.specs.Prelude.{◌≡◌, IfOk, OnOk, option_map, take, length};
+ghost use Rattle.arc_ast.specs.Tree.{expr_tree, variable_trees, parameter_trees, stmt_tree, stmt_trees, function_trees};
+ghost use Rattle.arc_class.specs.Table.{function_in};
+ghost use Rattle.arc_spec.specs.Resolved.{Sequence};
+ghost use Rattle.arc_check.specs.Building.{function_of};
+ghost use Rattle.arc_check.specs.Checked as checked;
+ghost use Rattle.arc_check.specs.Resolving as resolving;
+ghost use Rattle.arc_check.specs.Resolving.{as_int, resolved_variables, resolved_stmt, resolved_stmts, resolved_body, resolved_functions};
+ghost use Rattle.arc_check.specs.Scopes.{leave, behind, behind_all, with_parameters, with_variables, outermost};
+ghost use Rattle.arc_check.specs.Views.{seen};
+
+use crate::body::named_parameters;
+use crate::checked::{CheckedFunction, Command, Value};
+use crate::resolve::{expression, int};
+use crate::scope::Visible;
+use arc_ast::tree::{Expr, Function, Parameter, Stmt, Variable};
+use arc_class::table::ClassTable;
+use std::alloc::{AllocError, Global};
+
+/// What a variable begins with.
+fn initial<'a>(
+    alloc: Global,
+    table: &ClassTable<'a>,
+    visible: &Visible<'a>,
+    expr: &'a Option<Expr>,
+) -> Result<Value, AllocError>
+    ensures { IfOk result (λ value. checked.value value ≡ resolving.initial (seen table.now visible.now) (option_map expr_tree expr.now)) }
+{
+    match expr {
+        None => Ok(Value::Number(0)),
+        Some(expr) => int(alloc, table, visible, expr),
+    }
+}
+
+/// What a function returns, as an int.
+fn returned<'a>(
+    alloc: Global,
+    table: &ClassTable<'a>,
+    visible: &Visible<'a>,
+    expr: &'a Option<Expr>,
+) -> Result<Option<Value>, AllocError>
+    ensures { IfOk result (λ value. option_map checked.value value ≡ option_map (as_int (seen table.now visible.now)) (option_map expr_tree expr.now)) }
+{
+    match expr {
+        None => Ok(None),
+        Some(expr) => Ok(Some(int(alloc, table, visible, expr)?)),
+    }
+}
+
+/// A resolved declaration.
+fn variables<'a>(
+    alloc: Global,
+    table: &ClassTable<'a>,
+    visible: &mut Visible<'a>,
+    declared: &'a [Variable],
+) -> Result<Vec<Command>, AllocError>
+    ensures commands { IfOk result (λ all. checked.commands all.items ≡ resolved_variables (seen table.now visible.old) (variable_trees declared.now)) }
+    ensures scope { OnOk result (seen table.now visible.new ≡ with_variables (seen table.now visible.old) (variable_trees declared.now)) }
+    ensures keeps { OnOk result (take (length visible.old.bound.items) visible.new.bound.items ≡ visible.old.bound.items) }
+{
+    let mut all = Vec::new(alloc);
+    for variable in declared {
+        let number = visible.next;
+        visible.declare(&variable.name)?;
+        let value = Box::new(alloc, initial(alloc, table, visible, &variable.initial)?)?;
+        all.push(Command::Evaluate(Value::Assigned(number, value)))?;
+    }
+    Ok(all)
+}
+
+/// A resolved statement that is a scope of its own.
+#[cycle(commands)]
+fn scoped<'a>(
+    alloc: Global,
+    table: &ClassTable<'a>,
+    visible: &mut Visible<'a>,
+    inner: &'a Stmt,
+) -> Result<Box<Command>, AllocError>
+    ensures command { IfOk result (λ new. checked.command new.value ≡ resolved_stmt (seen table.now visible.old) (stmt_tree inner.now)) }
+    ensures scope { OnOk result (seen table.now visible.new ≡ leave (seen table.now visible.old) (behind (seen table.now visible.old) (stmt_tree inner.now))) }
+    ensures keeps { OnOk result (visible.new.bound.items ≡ visible.old.bound.items) }
+{
+    let count = visible.bound.len();
+    let new = command(alloc, table, visible, inner)?;
+    visible.leave(count);
+    Ok(Box::new(alloc, new)?)
+}
+
+/// A resolved block.
+#[cycle(commands)]
+fn block<'a>(
+    alloc: Global,
+    table: &ClassTable<'a>,
+    visible: &mut Visible<'a>,
+    statements: &'a [Stmt],
+) -> Result<Command, AllocError>
+    ensures command { IfOk result (λ new. checked.command new ≡ Sequence (resolved_stmts (seen table.now visible.old) (stmt_trees statements.now))) }
+    ensures scope { OnOk result (seen table.now visible.new ≡ leave (seen table.now visible.old) (behind_all (seen table.now visible.old) (stmt_trees statements.now))) }
+    ensures keeps { OnOk result (visible.new.bound.items ≡ visible.old.bound.items) }
+{
+    let count = visible.bound.len();
+    let all = commands(alloc, table, visible, statements)?;
+    visible.leave(count);
+    Ok(Command::Sequence(all))
+}
+
+/// A resolved statement.
+#[cycle(commands)]
+fn command<'a>(
+    alloc: Global,
+    table: &ClassTable<'a>,
+    visible: &mut Visible<'a>,
+    statement: &'a Stmt,
+) -> Result<Command, AllocError>
+    ensures command { IfOk result (λ new. checked.command new ≡ resolved_stmt (seen table.now visible.old) (stmt_tree statement.now)) }
+    ensures scope { OnOk result (seen table.now visible.new ≡ behind (seen table.now visible.old) (stmt_tree statement.now)) }
+    ensures keeps { OnOk result (take (length visible.old.bound.items) visible.new.bound.items ≡ visible.old.bound.items) }
+{
+    match statement {
+        Stmt::Block(_, all) => block(alloc, table, visible, all),
+        Stmt::Empty(_) => Ok(Command::Sequence(Vec::new(alloc))),
+        Stmt::Expr(expr) => Ok(Command::Evaluate(expression(alloc, table, visible, expr)?.value)),
+        Stmt::Return(_, expr) => Ok(Command::Return(returned(alloc, table, visible, expr)?)),
+        Stmt::Variables(_, all) => Ok(Command::Sequence(variables(alloc, table, visible, all)?)),
+        Stmt::If(_, test, then) => {
+            let test = expression(alloc, table, visible, test)?.value;
+            let then = scoped(alloc, table, visible, then)?;
+            let nothing = Box::new(alloc, Command::Sequence(Vec::new(alloc)))?;
+            Ok(Command::Choose(test, then, nothing))
+        }
+        Stmt::IfElse(_, test, then, other) => {
+            let test = expression(alloc, table, visible, test)?.value;
+            let then = scoped(alloc, table, visible, then)?;
+            let other = scoped(alloc, table, visible, other)?;
+            Ok(Command::Choose(test, then, other))
+        }
+        Stmt::While(_, test, body) => {
+            let test = expression(alloc, table, visible, test)?.value;
+            let body = scoped(alloc, table, visible, body)?;
+            Ok(Command::Repeat(test, body))
+        }
+    }
+}
+
+/// Resolved statements.
+#[cycle(commands)]
+fn commands<'a>(
+    alloc: Global,
+    table: &ClassTable<'a>,
+    visible: &mut Visible<'a>,
+    statements: &'a [Stmt],
+) -> Result<Vec<Command>, AllocError>
+    ensures commands { IfOk result (λ all. checked.commands all.items ≡ resolved_stmts (seen table.now visible.old) (stmt_trees statements.now)) }
+    ensures scope { OnOk result (seen table.now visible.new ≡ behind_all (seen table.now visible.old) (stmt_trees statements.now)) }
+    ensures keeps { OnOk result (take (length visible.old.bound.items) visible.new.bound.items ≡ visible.old.bound.items) }
+{
+    let mut all = Vec::new(alloc);
+    for statement in statements {
+        all.push(command(alloc, table, visible, statement)?)?;
+    }
+    Ok(all)
+}
+
+/// The resolved function with the parameters and the body.
+fn function<'a>(
+    alloc: Global,
+    table: &ClassTable<'a>,
+    named: &'a [Parameter],
+    body: &'a [Stmt],
+) -> Result<CheckedFunction, AllocError>
+    ensures { IfOk result (λ new. function_of new
+        ≡ resolved_body (with_parameters (outermost (function_in table.now)) (parameter_trees named.now)) (stmt_trees body.now)) }
+{
+    let mut visible = Visible::new(alloc);
+    visible.declare_parameters(named)?;
+    let body = commands(alloc, table, &mut visible, body)?;
+    Ok(CheckedFunction {
+        slots: visible.next,
+        body,
+    })
+}
+
+/// The resolved functions with a body.
+pub fn functions<'a>(
+    alloc: Global,
+    table: &ClassTable<'a>,
+    declared: &'a [Function],
+) -> Result<Vec<CheckedFunction>, AllocError>
+    ensures { IfOk result (λ all. checked.functions all.items ≡ resolved_functions (function_in table.now) (function_trees declared.now)) }
+{
+    let mut all = Vec::new(alloc);
+    for one in declared {
+        if let Some(body) = &one.body {
+            all.push(function(alloc, table, named_parameters(&one.parameters), body)?)?;
+        }
+    }
+    Ok(all)
+}

@@ -1,0 +1,38 @@
+-- The children of a node that stand in a Vec, as a list.
+use Rattle.std.proofs.Common.{◌≡◌, ℕ, suc, List, [], ◌∷◌, length, Vec, Global, refl, ap, ◌∙◌}
+use mathlib.Core.Former.{Count}
+use Rattle.arc_ast.specs.declared.tree.Expr.{Expr, Call, Call', Row_of-Expr, end_of-Expr, more_of-Expr, items-the_row-Expr, items_hidden-the_row-Expr-0}
+use Rattle.arc_ast.specs.declared.tree.Stmt.{Stmt, Block, Block', Row_of-Stmt, end_of-Stmt, more_of-Stmt, items-the_row-Stmt, items_hidden-the_row-Stmt-0}
+use Rattle.arc_ast.specs.declared.tree.Parameter.{Parameter}
+use Rattle.arc_ast.specs.Tree.{and_expr, expr_tree, expr_trees, row_exprs, and_stmt, stmt_tree, stmt_trees, row_stmts, parameter_trees}
+use Rattle.arc_ast.specs.Tree as tree
+
+abbrev arguments_of : Expr → (n : Count) × Row_of-Expr n
+arguments_of (Call' at name _ row) = (_, row)
+arguments_of _ = (_, end_of-Expr)
+
+row_exprs_is : (n : _) (row : Row_of-Expr n) → row_exprs row ≡ expr_trees (items-the_row-Expr n row)
+row_exprs_is n end_of-Expr = refl
+row_exprs_is n (more_of-Expr a row) = ap (and_expr (expr_tree a)) (row_exprs_is _ row)
+
+pub call_tree : (at : ℕ) (name : Vec ℕ Global) (all : Vec Expr Global) → expr_tree (Call at name all) ≡ tree.Call at name.items (expr_trees all.items)
+call_tree at name all =
+    let row = arguments_of (Call at name all) in
+    ap (tree.Call at name.items) (row_exprs_is row.0 row.1 ∙ ap expr_trees (items_hidden-the_row-Expr-0 all))
+
+abbrev statements_of : Stmt → (n : Count) × Row_of-Stmt n
+statements_of (Block' at _ row) = (_, row)
+statements_of _ = (_, end_of-Stmt)
+
+row_stmts_is : (n : _) (row : Row_of-Stmt n) → row_stmts row ≡ stmt_trees (items-the_row-Stmt n row)
+row_stmts_is n end_of-Stmt = refl
+row_stmts_is n (more_of-Stmt a row) = ap (and_stmt (stmt_tree a)) (row_stmts_is _ row)
+
+pub block_tree : (at : ℕ) (all : Vec Stmt Global) → stmt_tree (Block at all) ≡ tree.Block at (stmt_trees all.items)
+block_tree at all =
+    let row = statements_of (Block at all) in
+    ap (tree.Block at) (row_stmts_is row.0 row.1 ∙ ap stmt_trees (items_hidden-the_row-Stmt-0 all))
+
+pub length-parameter_trees : (all : List Parameter) → length (parameter_trees all) ≡ length all
+length-parameter_trees [] = refl
+length-parameter_trees (p ∷ all) = ap suc (length-parameter_trees all)

@@ -1,0 +1,51 @@
+-- Functions by their names.
+use Rattle.std.specs.Prelude.{ℕ, zero, suc, Bool, true, false, ◌&&◌, List, [], ◌∷◌, length, Option, Some, None, is_some, option_map, codes, if◌then◌else◌}
+use Rattle.std.specs.Str.{bytes_eq}
+use Rattle.arc_ast.specs.declared.tree.Kind.{Kind}
+use Rattle.arc_ast.specs.declared.tree.Kind.TheVariants as k
+use Rattle.arc_ast.specs.Tree.{FunctionTree, ParametersTree, Ints, CountAndTexts}
+use Rattle.arc_class.specs.declared.table.Signature.{Signature}
+use Rattle.arc_class.specs.declared.table.Declared.{Declared}
+
+abbrev pub has_body : FunctionTree → Bool
+has_body f = is_some f.body
+
+-- how many numbers a function takes, and none for a count and texts
+abbrev pub takes : ParametersTree → Option ℕ
+takes (Ints all) = Some (length all)
+takes CountAndTexts = None
+
+-- what the declarations of a function have to agree in (C99, section 6.7.5.3)
+abbrev pub signature : FunctionTree → Signature
+signature f = record { result = f.result; takes = takes f.parameters }
+
+-- the first function with a name
+abbrev pub first_named : List ℕ → List FunctionTree → Option FunctionTree
+first_named name [] = None
+first_named name (f ∷ others) = if bytes_eq name f.name then Some f else first_named name others
+
+-- the number of the first function that has a body and passes a test, counted from 0 among those with a body
+abbrev pub number_of : (FunctionTree → Bool) → List FunctionTree → Option ℕ
+number_of test [] = None
+number_of test (f ∷ others) =
+    if has_body f then (if test f then Some 0 else option_map (λ n. suc n) (number_of test others)) else number_of test others
+
+abbrev pub is_named : List ℕ → FunctionTree → Bool
+is_named name f = bytes_eq name f.name
+
+-- what is known of a name: the signature of the first function with it, and the number of the first one with a body
+abbrev pub known : List FunctionTree → List ℕ → Option Declared
+known functions name = option_map (λ f. record { signature = signature f; body = number_of (is_named name) functions }) (first_named name functions)
+
+abbrev pub is_int : Kind → Bool
+is_int k.Int = true
+is_int _ = false
+
+abbrev pub starts_program : Option ℕ → Bool
+starts_program None = true
+starts_program (Some zero) = true
+starts_program (Some (suc n)) = false
+
+-- The function that a program begins with gives an int, and takes nothing or a count and the arguments' texts (C99, section 5.1.2.2.1).
+abbrev pub is_main : FunctionTree → Bool
+is_main f = is_named (codes "main") f && (is_int f.result && starts_program (takes f.parameters))

@@ -1,0 +1,15 @@
+-- What a walk through bodies knows of names.
+use Rattle.std.specs.Prelude.{ℕ, Bool, List, is_some}
+use Rattle.std.specs.BTreeMap.{BTreeMap}
+use Rattle.std.specs.Borrow.{Bor}
+use Rattle.arc_class.specs.declared.table.Declared.{Declared}
+use Rattle.arc_class.specs.Bodies.{lacks_body}
+use Rattle.arc_class.specs.Table.{at_name}
+
+-- whether a function with a name is declared, and none has a body
+abbrev pub lacks : BTreeMap (Bor (List ℕ)) Declared → List ℕ → Bool
+lacks known name = lacks_body (at_name known name)
+
+-- whether a name stands in a scope
+abbrev pub holds : BTreeMap (Bor (List ℕ)) (Unit {0}) → List ℕ → Bool
+holds scope name = is_some (at_name scope name)

@@ -1,0 +1,97 @@
+-- Each function stands at its entry.
+use Rattle.std.proofs.Common.{◌≡◌, ℕ, zero, suc, ◌+◌, ◌<◌, ◌≤◌, Bool, true, false, max, nat_lt, if◌then◌else◌, List, [], ◌∷◌, ◌++◌, length, Some, refl, ap, ◌∙◌, subst, arith, slice_get}
+use Rattle.std.proofs.lemmas.Bool.{ltb-true, ltb-false}
+use Rattle.arc_spec.specs.Resolved.{Function}
+use Rattle.arc_spec.specs.Resolved as resolved
+use Rattle.arc_spec.specs.Meaning.{function_at}
+use Rattle.arc_ir.specs.Acting.{Program}
+use Rattle.arc_lower.specs.Order.{orders}
+use Rattle.arc_lower.specs.Lowered.{nothing, all_functions, number_of, function_orders, functions_orders, entries_from, longest_from, start_orders, lowered, entries_of}
+use Rattle.arc_lower.proofs.Doing.{HasAt, has_front, has_back, has_all}
+
+-- how many actions the longest function has, or the start
+abbrev pub longest : resolved.Program → ℕ
+longest R = longest_from R (length (start_orders R)) (all_functions R) (length (start_orders R))
+
+-- where a function begins
+pub record Begins (p : Program) (R : resolved.Program) (n : ℕ) (f : Function) : Type 0 where
+  pub place : ℕ
+  pub entry : slice_get p.entries n ≡ Some place
+  pub code : HasAt p place (function_orders R place f)
+  pub small : length (function_orders R place f) ≤ longest R
+
+record Found (p : Program) (R : resolved.Program) (entries : List ℕ) (most n : ℕ) (f : Function) : Type 0 where
+  place : ℕ
+  entry : slice_get entries n ≡ Some place
+  code : HasAt p place (function_orders R place f)
+  small : length (function_orders R place f) ≤ most
+
+le_trans : (a b c : ℕ) → a ≤ b → b ≤ c → a ≤ c
+le_trans a b c h k = omega (arith, h, k)
+
+max_left : (a b : ℕ) → a ≤ max a b
+max_left a b = omega arith
+
+max_right : (a b : ℕ) → b ≤ max a b
+max_right a b = omega arith
+
+pub no_less : (R : resolved.Program) (fs : List Function) (place so_far : ℕ) → so_far ≤ longest_from R place fs so_far
+no_less R [] place so_far = omega arith
+no_less R (g ∷ fs) place so_far =
+    let size = length (function_orders R place g) in
+    let h = no_less R fs (place + size) (max so_far size) in
+    omega (arith, h, max_left so_far size)
+
+find : (p : Program) (R : resolved.Program) (fs : List Function) (place so_far n : ℕ) (f : Function) → slice_get fs n ≡ Some f → HasAt p place (functions_orders R place fs) → Found p R (entries_from R place fs) (longest_from R place fs so_far) n f
+find p R [] place so_far n f e has = cc
+find p R (g ∷ fs) place so_far zero f e has =
+    let same : g ≡ f = cc in
+    let xs = function_orders R place g in
+    let size = length xs in
+    let most = longest_from R (place + size) fs (max so_far size) in
+    let le : size ≤ most = le_trans size (max so_far size) most (max_right so_far size) (no_less R fs (place + size) (max so_far size)) in
+    let code = has_front p place xs (functions_orders R (place + size) fs) has in
+    record {
+      place = place;
+      entry = refl;
+      code = subst (λ (h : Function). HasAt p place (function_orders R place h)) same code;
+      small = subst (λ (h : Function). length (function_orders R place h) ≤ most) same le;
+    }
+find p R (g ∷ fs) place so_far (suc n) f e has =
+    let xs = function_orders R place g in
+    let there = find p R fs (place + length xs) (max so_far (length xs)) n f e (has_back p place xs (functions_orders R (place + length xs) fs) has) in
+    record { place = there.place; entry = there.entry; code = there.code; small = there.small }
+
+in_list : (fs : List Function) (main f : ℕ) → f < length fs → slice_get (fs ++ nothing ∷ []) f ≡ Some (function_at (record { functions = fs; main = main }) f)
+in_list [] main f lt = absurd (omega (arith, lt))
+in_list (g ∷ fs) main zero lt = refl
+in_list (g ∷ fs) main (suc f) lt = in_list fs main f (omega (arith, lt))
+
+out_of_list : (fs : List Function) (main f : ℕ) → length fs ≤ f → nothing ≡ function_at (record { functions = fs; main = main }) f
+out_of_list [] main f le = refl
+out_of_list (g ∷ fs) main zero le = absurd (omega (arith, le))
+out_of_list (g ∷ fs) main (suc f) le = out_of_list fs main f (omega (arith, le))
+
+last_one : (fs : List Function) → slice_get (fs ++ nothing ∷ []) (length fs) ≡ Some nothing
+last_one [] = refl
+last_one (g ∷ fs) = last_one fs
+
+numbered_by : (R : resolved.Program) (f : ℕ) (b : Bool) → nat_lt f (length R.functions) ≡ b → slice_get (all_functions R) (if b then f else length R.functions) ≡ Some (function_at R f)
+numbered_by R f true e = in_list R.functions R.main f (ltb-true f (length R.functions) e)
+numbered_by R f false e = last_one R.functions ∙ ap Some (out_of_list R.functions R.main f (ltb-false f (length R.functions) e))
+
+numbered : (R : resolved.Program) (f : ℕ) → slice_get (all_functions R) (number_of R f) ≡ Some (function_at R f)
+numbered R f = numbered_by R f (nat_lt f (length R.functions)) refl
+
+module _ (p : Program) (R : resolved.Program) (is : orders p.actions ≡ lowered R) (entries : p.entries ≡ entries_of R) where
+  pub has_start : HasAt p 0 (start_orders R)
+  has_start = has_front p 0 (start_orders R) (functions_orders R (length (start_orders R)) (all_functions R)) (subst (HasAt p 0) is (has_all p))
+
+  pub begins : (f : ℕ) → Begins p R (number_of R f) (function_at R f)
+  begins f =
+      let start = start_orders R in
+      let all = functions_orders R (length start) (all_functions R) in
+      let zero_is : 0 + length start ≡ length start = omega arith in
+      let has = subst (λ n. HasAt p n all) zero_is (has_back p 0 start all (subst (HasAt p 0) is (has_all p))) in
+      let there = find p R (all_functions R) (length start) (length start) (number_of R f) (function_at R f) (numbered R f) has in
+      record { place = there.place; entry = ap (λ l. slice_get l (number_of R f)) entries ∙ there.entry; code = there.code; small = there.small }

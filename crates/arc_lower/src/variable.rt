@@ -1,0 +1,72 @@
+//! Actions for variables, which lie on the stack below the operands.
+ghost use Rattle.std.specs.Prelude.{◌≡◌, ◌++◌, ◌+◌, suc, OnOk, IfOk};
+ghost use Rattle.arc_lower.specs.Order.{orders};
+ghost use Rattle.arc_lower.specs.Lowered.{get_orders, set_orders, zero_orders};
+
+use crate::expression::append;
+use arc_ir::action::Action;
+use arc_spec::event::NoMemory;
+
+/// A number of operands, and some more. NoMemory: no stack has so many.
+fn add_operands(depth: usize, more: usize) -> Result<usize, NoMemory>
+    ensures { IfOk result (λ sum. sum ≡ depth + more) }
+{
+    match depth.checked_add(more) {
+        Some(sum) => Ok(sum),
+        None => Err(NoMemory),
+    }
+}
+
+/// One operand more. NoMemory: no stack has so many.
+pub(crate) fn one_more(depth: usize) -> Result<usize, NoMemory>
+    ensures { IfOk result (λ sum. sum ≡ suc depth) }
+{
+    add_operands(depth, 1)
+}
+
+/// Appends the action that puts the number of a variable on the stack, above `depth` operands.
+pub(crate) fn append_get(
+    actions: &mut Vec<Action>,
+    slots: usize,
+    depth: usize,
+    index: usize,
+) -> Result<(), NoMemory>
+    ensures { OnOk result (orders actions.new.items ≡ orders actions.old.items ++ get_orders slots depth index) }
+{
+    if index < slots {
+        let below = add_operands(depth, slots - 1 - index)?;
+        append(actions, Action::Get(below))
+    } else {
+        append(actions, Action::Num(0))
+    }
+}
+
+/// Appends the actions that put a copy of the top number, below which `depth` operands lie, in a
+/// variable's place.
+pub(crate) fn append_set(
+    actions: &mut Vec<Action>,
+    slots: usize,
+    depth: usize,
+    index: usize,
+) -> Result<(), NoMemory>
+    ensures { OnOk result (orders actions.new.items ≡ orders actions.old.items ++ set_orders slots depth index) }
+{
+    if index < slots {
+        let operands = one_more(depth)?;
+        let below = add_operands(operands, slots - 1 - index)?;
+        append(actions, Action::Get(0))?;
+        append(actions, Action::Set(below))
+    } else {
+        Ok(())
+    }
+}
+
+/// Appends actions that put 0 on the stack `count` times.
+pub(crate) fn append_zeros(actions: &mut Vec<Action>, count: usize) -> Result<(), NoMemory>
+    ensures { OnOk result (orders actions.new.items ≡ orders actions.old.items ++ zero_orders count) }
+{
+    for _number in 0..count {
+        append(actions, Action::Num(0))?;
+    }
+    Ok(())
+}

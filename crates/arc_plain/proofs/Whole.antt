@@ -1,0 +1,15 @@
+-- What is told of main's call is told of the program.
+use Rattle.std.proofs.Common.{◌≡◌, ℕ, ℤ, List, [], Result, subst}
+use Rattle.arc_spec.specs.Resolved.{Program}
+use Rattle.arc_spec.specs.World.{World, first_world}
+use Rattle.arc_spec.specs.Meaning.{level}
+use Rattle.arc_spec.specs.Correct.{meaning_seen}
+use Rattle.arc_plain.specs.declared.halt.Halt.{Halt}
+use Rattle.arc_plain.specs.declared.interpret.PlainStop.{PlainStop}
+use Rattle.arc_plain.specs.Views.{Tells, Stops, as_int, stop_of}
+
+pub main_told : (P : Program) (bound levels main : ℕ) (input : List ℕ) (left : Result ℤ Halt) (start after : World) (stop : PlainStop) → start ≡ first_world input
+    → Tells (λ n. n) left ((level P bound levels).call main [] start) after → Stops left stop
+    → meaning_seen (as_int ((level P bound levels).call main [] (first_world input))) ≡ record { trace = after.trace; stop = stop_of stop }
+main_told P bound levels main input left start after stop begins told stops =
+    stops ((level P bound levels).call main [] (first_world input)) after (subst (λ w. Tells (λ n. n) left ((level P bound levels).call main [] w) after) begins told)

@@ -1,0 +1,64 @@
+-- The children of a node that stand in a Vec, as a list.
+use Rattle.std.proofs.Common.{◌≡◌, ℕ, Vec, Global, refl, ap, ◌∙◌}
+use mathlib.Core.Former.{Count}
+use Rattle.arc_ast.specs.declared.tree.Expr.{Expr, Call, Call', Row_of-Expr, end_of-Expr, more_of-Expr, items-the_row-Expr, items_hidden-the_row-Expr-0}
+use Rattle.arc_ast.specs.declared.tree.Stmt.{Stmt, Block, Block', Row_of-Stmt, end_of-Stmt, more_of-Stmt, items-the_row-Stmt, items_hidden-the_row-Stmt-0}
+use Rattle.arc_ast.specs.Tree.{and_expr, expr_tree, expr_trees, row_exprs, and_stmt, stmt_tree, stmt_trees, row_stmts}
+use Rattle.arc_ast.specs.Tree as tree
+use Rattle.arc_check.specs.declared.checked.Piece.{Piece}
+use Rattle.arc_check.specs.declared.checked.Value.{Value, Print, Print', Row_of-Value, end_of-Value, more_of-Value, items-the_row-Value, items_hidden-the_row-Value-0}
+use Rattle.arc_check.specs.declared.checked.Command.{Command, Sequence, Sequence', Row_of-Command, end_of-Command, more_of-Command, items-the_row-Command, items_hidden-the_row-Command-0}
+use Rattle.arc_check.specs.Checked.{pieces, value, values, row_values, command, commands, row_commands}
+use Rattle.arc_spec.specs.Resolved as resolved
+
+abbrev arguments_of : Expr → (n : Count) × Row_of-Expr n
+arguments_of (Call' at name _ row) = (_, row)
+arguments_of _ = (_, end_of-Expr)
+
+row_exprs_is : (n : _) (row : Row_of-Expr n) → row_exprs row ≡ expr_trees (items-the_row-Expr n row)
+row_exprs_is n end_of-Expr = refl
+row_exprs_is n (more_of-Expr a row) = ap (and_expr (expr_tree a)) (row_exprs_is _ row)
+
+pub call_tree : (at : ℕ) (name : Vec ℕ Global) (all : Vec Expr Global) → expr_tree (Call at name all) ≡ tree.Call at name.items (expr_trees all.items)
+call_tree at name all =
+    let row = arguments_of (Call at name all) in
+    ap (tree.Call at name.items) (row_exprs_is row.0 row.1 ∙ ap expr_trees (items_hidden-the_row-Expr-0 all))
+
+abbrev statements_of : Stmt → (n : Count) × Row_of-Stmt n
+statements_of (Block' at _ row) = (_, row)
+statements_of _ = (_, end_of-Stmt)
+
+row_stmts_is : (n : _) (row : Row_of-Stmt n) → row_stmts row ≡ stmt_trees (items-the_row-Stmt n row)
+row_stmts_is n end_of-Stmt = refl
+row_stmts_is n (more_of-Stmt a row) = ap (and_stmt (stmt_tree a)) (row_stmts_is _ row)
+
+pub block_tree : (at : ℕ) (all : Vec Stmt Global) → stmt_tree (Block at all) ≡ tree.Block at (stmt_trees all.items)
+block_tree at all =
+    let row = statements_of (Block at all) in
+    ap (tree.Block at) (row_stmts_is row.0 row.1 ∙ ap stmt_trees (items_hidden-the_row-Stmt-0 all))
+
+abbrev values_of : Value → (n : Count) × Row_of-Value n
+values_of (Print' all _ row) = (_, row)
+values_of _ = (_, end_of-Value)
+
+row_values_is : (n : _) (row : Row_of-Value n) → row_values row ≡ values (items-the_row-Value n row)
+row_values_is n end_of-Value = refl
+row_values_is n (more_of-Value a row) = ap (resolved.and_value (value a)) (row_values_is _ row)
+
+pub print_value : (all : Vec Piece Global) (arguments : Vec Value Global) → value (Print all arguments) ≡ resolved.Print (pieces all.items) (values arguments.items)
+print_value all arguments =
+    let row = values_of (Print all arguments) in
+    ap (resolved.Print (pieces all.items)) (row_values_is row.0 row.1 ∙ ap values (items_hidden-the_row-Value-0 arguments))
+
+abbrev commands_of : Command → (n : Count) × Row_of-Command n
+commands_of (Sequence' _ row) = (_, row)
+commands_of _ = (_, end_of-Command)
+
+row_commands_is : (n : _) (row : Row_of-Command n) → row_commands row ≡ commands (items-the_row-Command n row)
+row_commands_is n end_of-Command = refl
+row_commands_is n (more_of-Command a row) = ap (resolved.and_command (command a)) (row_commands_is _ row)
+
+pub sequence_command : (all : Vec Command Global) → command (Sequence all) ≡ resolved.Sequence (commands all.items)
+sequence_command all =
+    let row = commands_of (Sequence all) in
+    ap resolved.Sequence (row_commands_is row.0 row.1 ∙ ap commands (items_hidden-the_row-Command-0 all))

@@ -1,0 +1,103 @@
+//! Why a source is refused.
+ghost use Rattle.std.specs.Prelude.{◌≡◌, option_map};
+ghost use Rattle.arc_class.specs.Broken.{earlier_of};
+ghost use Rattle.arc_check.specs.declared.fault.CheckFault.TheVariants.{Memory};
+ghost use Rattle.arc_check.specs.Fault.{fault_number, fault_name, fault_at, told};
+
+use std::alloc::AllocError;
+use thiserror::Error;
+
+/// Why a source is refused: the first rule that the body of its `main` breaks, or no memory.
+#[derive(Clone, Copy, Debug, Drop, PartialEq, Eq, Error)]
+pub enum CheckFault {
+    /// A call of a function that is not known, or of `main`; the place is that of its name.
+    #[error("the name at {0} is not known")]
+    UnknownName(usize),
+    /// A text that is no format of a printf; the place is that of the text.
+    #[error("the text at {0} is no format of a printf")]
+    KindMismatch(usize),
+    /// The left side of an assignment is no variable; the place is that of its `=`.
+    #[error("the left side of the assignment at {0} is no variable")]
+    NotAssignable(usize),
+    /// A call with another number of arguments than its function takes, or a function with more than 16 parameters; the place is that of the name.
+    #[error("the function at {0} takes another number of arguments")]
+    ArgumentCount(usize),
+    /// A call of `printf` without a format, with an unknown conversion, or with values that do not fit; the place is that of its name.
+    #[error("the format and the values of the printf at {0} do not fit")]
+    Format(usize),
+    /// The 201st parameter or variable of a body, or a later one; the place is that of its name.
+    #[error("the variable at {0} is one too many")]
+    TooManyLocals(usize),
+    /// There was no memory for the checked program.
+    #[error("no memory")]
+    Memory,
+}
+
+impl CheckFault {
+    /// The fault's number.
+    pub fn number(&self) -> u8
+        ensures { result ≡ fault_number self.now }
+    {
+        match self {
+            CheckFault::UnknownName(_) => 41,
+            CheckFault::KindMismatch(_) => 43,
+            CheckFault::NotAssignable(_) => 44,
+            CheckFault::ArgumentCount(_) => 45,
+            CheckFault::Format(_) => 46,
+            CheckFault::TooManyLocals(_) => 50,
+            CheckFault::Memory => 51,
+        }
+    }
+
+    /// The fault's name.
+    pub fn name(&self) -> &'static str
+        ensures { result.now ≡ fault_name self.now }
+    {
+        match self {
+            CheckFault::UnknownName(_) => "UnknownName",
+            CheckFault::KindMismatch(_) => "KindMismatch",
+            CheckFault::NotAssignable(_) => "NotAssignable",
+            CheckFault::ArgumentCount(_) => "ArgumentCount",
+            CheckFault::Format(_) => "Format",
+            CheckFault::TooManyLocals(_) => "TooManyLocals",
+            CheckFault::Memory => "Memory",
+        }
+    }
+
+    /// The byte of the source that the fault names, counted from 0: 0 for want of memory.
+    pub fn at(&self) -> usize
+        ensures { result ≡ fault_at self.now }
+    {
+        match self {
+            CheckFault::UnknownName(at) => *at,
+            CheckFault::KindMismatch(at) => *at,
+            CheckFault::NotAssignable(at) => *at,
+            CheckFault::ArgumentCount(at) => *at,
+            CheckFault::Format(at) => *at,
+            CheckFault::TooManyLocals(at) => *at,
+            CheckFault::Memory => 0,
+        }
+    }
+}
+
+impl From<AllocError> for CheckFault {
+    ghost from_gives = { λ _ fault. fault ≡ Memory };
+
+    fn from(_error: AllocError) -> CheckFault {
+        CheckFault::Memory
+    }
+}
+
+/// The fault that is told of two.
+pub(crate) fn earlier(a: Option<CheckFault>, b: Option<CheckFault>) -> Option<CheckFault>
+    ensures { option_map told result ≡ earlier_of (option_map told a) (option_map told b) }
+{
+    match (a, b) {
+        (None, b) => b,
+        (a, None) => a,
+        (Some(a), Some(b)) => {
+            let is_before = b.at() < a.at() || b.at() == a.at() && b.number() < a.number();
+            if is_before { Some(b) } else { Some(a) }
+        }
+    }
+}
