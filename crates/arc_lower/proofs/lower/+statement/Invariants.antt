@@ -1,8 +1,0 @@
-use Rattle.std.proofs.Common.{◌≡◌, ◌++◌, drop}
-use Rattle.arc_check.specs.Checked.{commands}
-use Rattle.arc_lower.specs.Order.{orders}
-use Rattle.arc_lower.specs.Lowered.{all_command_orders}
-use Rattle.arc_lower.proofs.lower.+statement.Given as goal
-
-abbrev pub invariant-append_commands-loop-statement : goal.invariant-append_commands-loop-statement
-invariant-append_commands-loop-statement l = orders l.actions.items ++ all_command_orders (commands (drop l.statement-index l.all)) ≡ orders l.initial.actions.items ++ all_command_orders (commands l.all)
