@@ -9,7 +9,7 @@ use thiserror::Error;
 /// A program that keeps the rules of ownership.
 #[derive(Debug, Drop)]
 pub struct Owned<'a> {
-    pub program: &'a Checked,
+    pub program: &'a Checked<'a>,
 }
 
 /// Why a program was refused.
@@ -49,7 +49,7 @@ impl OwnFault {
 }
 
 /// The program, where it keeps the rules of ownership (Objective-C Automatic Reference Counting).
-pub fn own<'a>(_alloc: Global, program: &'a Checked) -> Result<Owned<'a>, OwnFault>
+pub fn own<'a>(_alloc: Global, program: &'a Checked<'a>) -> Result<Owned<'a>, OwnFault>
     ensures accepted { IsOk result }
     ensures same { IfOk result (λ owned. owned.program.now ≡ program.now) }
 {
