@@ -2,6 +2,8 @@ pub mod Broken
 pub mod Names
 pub mod Bodies
 pub mod Functions
+pub mod Classes
+pub mod ClassRules
 pub mod Table
 pub mod Fault
 pub mod Look

@@ -10,10 +10,23 @@ use thiserror::Error;
 /// Why a source has no table: the first rule that its declarations break, or no memory.
 #[derive(Clone, Copy, Debug, Drop, PartialEq, Eq, Error)]
 pub enum ClassFault {
-    /// A second body of a function, a declaration that differs from an earlier one, a function of the library's name, or a second variable of a
-    /// name in a scope; the place is that of the name.
+    /// A second body of a function, a declaration that differs from an earlier one, a function or a class of the library's name, a second
+    /// class or implementation of a name, a name for both a class and a function, or a second variable of a name in a scope, told at the name;
+    /// or a second method of an implementation with its selector, told at its `+`.
     #[error("the name at {0} is declared in another way already")]
     Duplicate(usize),
+    /// A superclass that no earlier interface declares, or an implementation of a class without an interface; the place is that of the name.
+    #[error("the class at {0} is not known")]
+    UnknownClass(usize),
+    /// A method whose result is of another kind than that of an earlier one with its selector; the place is that of its `+`.
+    #[error("the method at {0} gives another kind of value than an earlier one")]
+    SelectorKinds(usize),
+    /// A class without an implementation; the place is that of its interface's name.
+    #[error("the class at {0} has no implementation")]
+    NoImplementation(usize),
+    /// A class method `load`, `initialize`, `alloc` or `class`; the place is that of its `+`.
+    #[error("the method at {0} has a name that classes cannot take")]
+    HookMethod(usize),
     /// No `main` has a body.
     #[error("no main has a body")]
     NoMain,
@@ -32,6 +45,10 @@ impl ClassFault {
     {
         match self {
             ClassFault::Duplicate(_) => 21,
+            ClassFault::UnknownClass(_) => 22,
+            ClassFault::SelectorKinds(_) => 24,
+            ClassFault::NoImplementation(_) => 26,
+            ClassFault::HookMethod(_) => 28,
             ClassFault::NoMain => 29,
             ClassFault::UndefinedFunction(_) => 30,
             ClassFault::Memory => 31,
@@ -44,6 +61,10 @@ impl ClassFault {
     {
         match self {
             ClassFault::Duplicate(_) => "Duplicate",
+            ClassFault::UnknownClass(_) => "UnknownClass",
+            ClassFault::SelectorKinds(_) => "SelectorKinds",
+            ClassFault::NoImplementation(_) => "NoImplementation",
+            ClassFault::HookMethod(_) => "HookMethod",
             ClassFault::NoMain => "NoMain",
             ClassFault::UndefinedFunction(_) => "UndefinedFunction",
             ClassFault::Memory => "Memory",
@@ -56,6 +77,10 @@ impl ClassFault {
     {
         match self {
             ClassFault::Duplicate(at) => *at,
+            ClassFault::UnknownClass(at) => *at,
+            ClassFault::SelectorKinds(at) => *at,
+            ClassFault::NoImplementation(at) => *at,
+            ClassFault::HookMethod(at) => *at,
             ClassFault::NoMain => 0,
             ClassFault::UndefinedFunction(at) => *at,
             ClassFault::Memory => 0,

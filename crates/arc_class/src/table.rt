@@ -3,7 +3,8 @@ ghost use Rattle.std.specs.Prelude.{◌≡◌, [], option_map, IfOk, IfErr};
 ghost use Rattle.arc_ast.specs.Tree.{unit_tree};
 ghost use Rattle.arc_class.specs.Broken.{first};
 ghost use Rattle.arc_class.specs.Fault.{Refuses, told};
-ghost use Rattle.arc_class.specs.Functions.{broken, missing_main};
+ghost use Rattle.arc_class.specs.ClassRules.{broken};
+ghost use Rattle.arc_class.specs.Functions.{missing_main};
 ghost use Rattle.arc_class.specs.Table.{IsTableOf, at_name, function_in};
 
 use crate::fault::{ClassFault, earlier};
@@ -48,12 +49,43 @@ fn missing_main(main: Option<usize>) -> Option<ClassFault>
     }
 }
 
-/// What a source declares: its functions. So far a source has no classes.
+/// A class of a table, by its number.
+#[derive(Clone, Copy, Debug, PartialEq, Eq)]
+pub struct ClassId(pub usize);
+
+/// A selector of a table, by its number.
+#[derive(Clone, Copy, Debug, PartialEq, Eq)]
+pub struct Sel(pub usize);
+
+/// A method of a source, by the number of the function that it runs.
+#[derive(Clone, Copy, Debug, PartialEq, Eq)]
+pub struct MethodId(pub usize);
+
+/// Whether a method belongs to a class (`+`) or to its instances (`-`).
+#[derive(Clone, Copy, Debug, PartialEq, Eq)]
+pub enum Sign {
+    Class,
+    Instance,
+}
+
+/// What a table knows of a class: its superclass, and what each of its own methods gives.
+#[derive(Debug, Drop)]
+pub struct Entry<'a> {
+    pub superclass: Option<usize>,
+    pub results: BTreeMap<&'a [u8], Kind>,
+}
+
+/// What a source declares: its functions, its classes with their methods, and its selectors.
 #[derive(Debug, Drop)]
 pub struct ClassTable<'a> {
     functions: Known<'a>,
     /// Which of the functions with a body is `main`, counted from 0.
     pub main: usize,
+    names: IndexSet<&'a [u8]>,
+    entries: Vec<Entry<'a>>,
+    selectors: IndexSet<&'a [u8]>,
+    /// The classes as a running program knows them.
+    pub classes: Vec<Class>,
 }
 
 impl<'a> ClassTable<'a> {
@@ -62,6 +94,52 @@ impl<'a> ClassTable<'a> {
         ensures { result ≡ function_in self.now name.now }
     {
         at_name(&self.functions, name)
+    }
+
+    /// The class with the name, where it has an interface or is the root (Runtime Reference, `objc_getClass`).
+    pub fn objc_get_class(&self, name: &'a [u8]) -> Option<ClassId>
+        ensures { option_map number_of_class result ≡ class_in self.now name.now }
+    {
+        match self.names.get_index_of(&name) {
+            None => None,
+            Some(number) => Some(ClassId(number)),
+        }
+    }
+
+    /// The superclass of the class, which the root has none of (Runtime Reference, `class_getSuperclass`).
+    pub fn superclass(&self, class: ClassId) -> Option<ClassId>
+        ensures { option_map number_of_class result ≡ superclass_in self.now (number_of_class class) }
+    {
+    }
+
+    /// What the method gives that the class, or else the nearest class above it, declares or defines for the selector.
+    pub fn result(&self, class: Option<ClassId>, selector: &'a [u8]) -> Option<Kind>
+        ensures { result ≡ result_in_table self.now (option_map number_of_class class) selector.now }
+    {
+    }
+
+    /// The method that a message with the selector finds, from the class up to the root. So far no class has methods of its instances.
+    pub fn method(&self, class: ClassId, sign: Sign, selector: Sel) -> Option<MethodId>
+        ensures { option_map number_of_method result ≡ method_in self.now (number_of_class class) sign (number_of_selector selector) }
+    {
+    }
+
+    /// The selector with the name, where the source has it.
+    pub fn selector(&self, name: &'a [u8]) -> Option<Sel>
+        ensures { option_map number_of_selector result ≡ selector_in self.now name.now }
+    {
+    }
+
+    /// The selector with the name, which gets the next number where it has none yet (Runtime Reference, `sel_registerName`). NoMemory: it
+    /// got none, and nothing has changed.
+    pub fn sel_register_name(&mut self, name: &'a [u8]) -> Result<Sel, NoMemory>
+    {
+    }
+
+    /// The selector's name (Runtime Reference, `sel_getName`); empty at a number that no selector has.
+    pub fn sel_get_name(&self, selector: Sel) -> &'a [u8]
+        ensures { result.now ≡ selector_name self.now (number_of_selector selector) }
+    {
     }
 
     /// The table of a source whose declarations break no rule, or the fault that tells the first rule that is broken: the one at the
