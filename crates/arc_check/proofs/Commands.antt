@@ -65,8 +65,9 @@ block_command s a at all items e m = ap (λ us. resolved.Sequence (resolved_stmt
 pub block_scope : (s : Scope) (a : Stmt) (at : ℕ) (all : Vec Stmt Global) (items : List Stmt) → a ≡ stmt.Block at all → items ≡ all.items → leave s (behind_all s (stmt_trees items)) ≡ behind s (stmt_tree a)
 block_scope s a at all items e m = ap (λ us. leave s (behind_all s (stmt_trees us))) m ∙ sym (ap (behind s) (ap stmt_tree e ∙ block_tree at all))
 
-pub declaration_command : (s : Scope) (a : Stmt) (at : ℕ) (all : Vec Variable Global) (items : List Variable) → a ≡ stmt.Variables at all → items ≡ all.items → resolved.Sequence (resolved_variables s (variable_trees items)) ≡ resolved_stmt s (stmt_tree a)
-declaration_command s a at all items e m = rw (e, m) refl
+pub declaration_command : (s : Scope) (a : Stmt) (at : ℕ) (all : Vec Variable Global) (items : List Variable) (made : Vec Command Global) → a ≡ stmt.Variables at all → items ≡ all.items → checked.commands made.items ≡ resolved_variables s (variable_trees items)
+    → checked.command (command.Sequence made) ≡ resolved_stmt s (stmt_tree a)
+declaration_command s a at all items made e m h = sequence_command made ∙ rw (e, h, m) refl
 
 pub choose_is : (test other : resolved.Value) (a b c d : resolved.Command) → test ≡ other → a ≡ b → c ≡ d → resolved.Choose test a c ≡ resolved.Choose other b d
 choose_is test other a b c d t e f = rw (t, e, f) refl
@@ -96,16 +97,16 @@ functions_ahead-none [] = refl
 functions_ahead-none (b ∷ all) = ap (λ us. function_of b ∷ us) (functions_ahead-none all)
 
 -- one function more, with a body
-pub functions_turn : (functions : List ℕ → Option Declared) (xs : List Function) (i : ℕ) (x : Function) (named : List Parameter) (body : Vec Stmt Global) (items : List Stmt) (old new : List CheckedFunction) (a : CheckedFunction) (whole : List resolved.Function) → i < length xs → x ≡ get_or xs i x
-    → x.body ≡ Some body → items ≡ body.items → parameter_trees named ≡ named_parameters (parameters_tree x.parameters) → function_of a ≡ resolved_body (with_parameters (outermost functions) (parameter_trees named)) (stmt_trees items) → new ≡ old ++ a ∷ []
-    → whole ≡ functions_ahead old (resolved_functions functions (function_trees (drop i xs))) → whole ≡ functions_ahead new (resolved_functions functions (function_trees (drop (i + 1) xs)))
-functions_turn functions xs i x named body items old new a whole l e o m p h n w =
+pub functions_turn : (functions : List ℕ → Option Declared) (xs : List Function) (i : ℕ) (x : Function) (named : List Parameter) (body : Vec Stmt Global) (items : List Stmt) (old : List CheckedFunction) (pushed new : Vec CheckedFunction Global) (a : CheckedFunction) (whole : List resolved.Function) → i < length xs → x ≡ get_or xs i x
+    → x.body ≡ Some body → items ≡ body.items → parameter_trees named ≡ named_parameters (parameters_tree x.parameters) → function_of a ≡ resolved_body (with_parameters (outermost functions) (parameter_trees named)) (stmt_trees items) → pushed.items ≡ old ++ a ∷ [] → new ≡ pushed
+    → whole ≡ functions_ahead old (resolved_functions functions (function_trees (drop i xs))) → whole ≡ functions_ahead new.items (resolved_functions functions (function_trees (drop (i + 1) xs)))
+functions_turn functions xs i x named body items old pushed new a whole l e o m p h n v w =
     let rest = resolved_functions functions (function_trees (drop (i + 1) xs)) in
     let ps = named_parameters (parameters_tree x.parameters) in
     let own : function_of a ≡ resolved_body (with_parameters (outermost functions) ps) (stmt_trees body.items) =
         h ∙ ap (λ us. resolved_body (with_parameters (outermost functions) us) (stmt_trees items)) p ∙ ap (λ us. resolved_body (with_parameters (outermost functions) ps) (stmt_trees us)) m in
     w ∙ ap (λ us. functions_ahead old (resolved_functions functions (function_trees us))) (drop_turn xs i x l e) ∙ ap (λ b. functions_ahead old (with_function functions ps (option_map (λ b. stmt_trees b.items) b) rest)) o
-    ∙ ap (λ f. functions_ahead old (f ∷ rest)) (sym own) ∙ sym (functions_ahead-push old a rest) ∙ ap (λ us. functions_ahead us rest) (sym n)
+    ∙ ap (λ f. functions_ahead old (f ∷ rest)) (sym own) ∙ sym (functions_ahead-push old a rest) ∙ ap (λ us. functions_ahead us rest) (sym n) ∙ ap (λ us. functions_ahead us.items rest) (sym v)
 
 -- one function more, without a body
 pub functions_pass : (functions : List ℕ → Option Declared) (xs : List Function) (i : ℕ) (x : Function) (old new : List CheckedFunction) (whole : List resolved.Function) → i < length xs → x ≡ get_or xs i x → x.body ≡ None → new ≡ old

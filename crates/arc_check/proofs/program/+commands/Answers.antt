@@ -32,8 +32,7 @@ command-returns-in-Empty-clause-command t c = nothing c.new.result c.new.ensures
 pub command-returns-in_ok-variables-in-Variables-clause-command : goal.command-returns-in_ok-variables-in-Variables-clause-command
 command-returns-in_ok-variables-in-Variables-clause-command t c =
     let s = seen c.args.table.now c.args.visible.now in
-    sequence_command c.in_ok-variables-in-Variables.field-0 ∙ ap spec.Sequence c.in_ok-variables-in-Variables.ensures.commands
-    ∙ declaration_command s c.args.statement.now c.in-Variables.field-0 c.in-Variables.all c.deref-in-Variables.result.now c.in-Variables.is c.deref-in-Variables.ensures.value
+    declaration_command s c.args.statement.now c.in-Variables.field-0 c.in-Variables.all c.deref-in-Variables.result.now c.in_ok-variables-in-Variables.field-0 c.in-Variables.is c.deref-in-Variables.ensures.value c.in_ok-variables-in-Variables.ensures.commands
 
 pub command-returns-in_ok-nothing-in-If-clause-command : goal.command-returns-in_ok-nothing-in-If-clause-command
 command-returns-in_ok-nothing-in-If-clause-command t c =
