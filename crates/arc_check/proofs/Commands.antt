@@ -5,7 +5,7 @@ use Rattle.arc_ast.specs.declared.tree.Parameter.{Parameter}
 use Rattle.arc_ast.specs.declared.tree.Stmt as stmt
 use Rattle.arc_ast.specs.declared.tree.Stmt.{Stmt}
 use Rattle.arc_ast.specs.declared.tree.Variable.{Variable}
-use Rattle.arc_ast.specs.Tree.{StmtTrees, ParameterTree, expr_tree, stmt_tree, stmt_trees, variable_trees, parameter_trees, parameters_tree, function_tree, function_trees}
+use Rattle.arc_ast.specs.Tree.{StmtTrees, ParameterTree, expr_tree, stmt_tree, stmt_trees, variable_trees, parameter_trees, parameters_tree, function_trees}
 use Rattle.arc_spec.specs.Resolved as resolved
 use Rattle.arc_spec.specs.Resolved.{Commands, no_commands, and_command, Evaluate, Assigned}
 use Rattle.arc_class.specs.Bodies.{named_parameters}
@@ -104,7 +104,7 @@ functions_turn functions xs i x named body items old pushed new a whole l e o m 
     let rest = resolved_functions functions (function_trees (drop (i + 1) xs)) in
     let ps = named_parameters (parameters_tree x.parameters) in
     let own : function_of a ≡ resolved_body (with_parameters (outermost functions) ps) (stmt_trees body.items) =
-        h ∙ ap (λ us. resolved_body (with_parameters (outermost functions) us) (stmt_trees items)) p ∙ ap (λ us. resolved_body (with_parameters (outermost functions) ps) (stmt_trees us)) m in
+    h ∙ ap (λ us. resolved_body (with_parameters (outermost functions) us) (stmt_trees items)) p ∙ ap (λ us. resolved_body (with_parameters (outermost functions) ps) (stmt_trees us)) m in
     w ∙ ap (λ us. functions_ahead old (resolved_functions functions (function_trees us))) (drop_turn xs i x l e) ∙ ap (λ b. functions_ahead old (with_function functions ps (option_map (λ b. stmt_trees b.items) b) rest)) o
     ∙ ap (λ f. functions_ahead old (f ∷ rest)) (sym own) ∙ sym (functions_ahead-push old a rest) ∙ ap (λ us. functions_ahead us rest) (sym n) ∙ ap (λ us. functions_ahead us.items rest) (sym v)
 

@@ -3,9 +3,8 @@ use Rattle.std.proofs.Common.{◌≡◌, ℕ, List, [], Option, Some, None, opti
 use Rattle.std.proofs.Math.Path.{fun_ext}
 use Rattle.arc_ast.specs.Tree.{FunctionTree}
 use Rattle.arc_class.specs.declared.table.ClassTable.{ClassTable}
-use Rattle.arc_class.specs.declared.table.Declared.{Declared}
 use Rattle.arc_class.specs.Broken.{Broken, first}
-use Rattle.arc_class.specs.Names.{known, number_of, is_main}
+use Rattle.arc_class.specs.Names.{known}
 use Rattle.arc_class.specs.Table.{IsTableOf, function_in}
 use Rattle.arc_class.proofs.Firsts.{none_broken}
 use Rattle.arc_check.specs.declared.checked.Checked.{Checked}
