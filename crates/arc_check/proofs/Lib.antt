@@ -6,3 +6,4 @@ pub mod Printing
 pub mod Judgements
 pub mod Buildings
 pub mod Walks
+pub mod Statements
