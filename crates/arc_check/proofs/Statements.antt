@@ -1,5 +1,7 @@
 -- What is told of statements and of functions.
-use Rattle.std.proofs.Common.{◌≡◌, ℕ, ◌+◌, ◌<◌, Bool, List, length, get_or, drop, Vec, Global, Option, Some, option_map, sym, ap, ◌∙◌}
+use Rattle.std.proofs.Common.{◌≡◌, ℕ, ◌+◌, ◌<◌, Bool, false, List, length, get_or, drop, Vec, Global, Option, Some, option_map, refl, sym, ap, ◌∙◌}
+use Rattle.arc_ast.specs.declared.tree.Kind.{Kind}
+use Rattle.arc_ast.specs.declared.tree.Kind.TheVariants as k
 use Rattle.arc_ast.specs.declared.tree.Stmt as stmt
 use Rattle.arc_ast.specs.declared.tree.Stmt.{Stmt}
 use Rattle.arc_ast.specs.declared.tree.Parameter.{Parameter}
@@ -8,7 +10,7 @@ use Rattle.arc_ast.specs.Tree.{parameter_trees, stmt_tree, stmt_trees, function_
 use Rattle.arc_class.specs.Broken.{Broken, first, earlier_of}
 use Rattle.arc_class.specs.declared.table.Declared.{Declared}
 use Rattle.arc_class.proofs.Firsts.{first_turn, first_both}
-use Rattle.arc_check.specs.Rules.{broken_parameters, broken_stmt, broken_stmts, broken_body, broken_function, broken_functions}
+use Rattle.arc_check.specs.Rules.{broken_parameters, broken_stmt, broken_stmts, broken_body, is_void, broken_function, broken_functions}
 use Rattle.arc_check.specs.Scopes.{Scope, outermost, with_parameters, leave, behind, behind_all}
 use Rattle.arc_check.proofs.Lists.{drop_turn}
 use Rattle.arc_check.proofs.Trees.{block_tree}
@@ -47,3 +49,10 @@ body_is gives_nothing known s inside named maybe body items one other both e m n
     first_both (broken_parameters start ps) (broken_stmts gives_nothing (with_parameters start ps) (stmt_trees body.items)) one other both (o ∙ ap (λ q. first (broken_parameters q ps)) n)
     (h ∙ ap (λ q. first (broken_stmts gives_nothing q (stmt_trees items))) (i ∙ ap (λ q. with_parameters q ps) n) ∙ ap (λ us. first (broken_stmts gives_nothing (with_parameters start ps) (stmt_trees us))) m) b
     ∙ sym (ap (λ x. first (broken_body gives_nothing known ps (option_map (λ b. stmt_trees b.items) x))) e)
+
+pub is_void-other : (kind : Kind) → (kind ≡ k.Void → ⊥) → is_void kind ≡ false
+is_void-other k.Void h = absurd (h refl)
+is_void-other k.Bool h = refl
+is_void-other k.Int h = refl
+is_void-other k.Long h = refl
+is_void-other k.Object h = refl
