@@ -37,7 +37,7 @@ statement-returns-in_ok-second-in-IfElse-clause-fault t c =
     let one : option_map told c.in_ok-first-in-IfElse.first ≡ first A = rw c.deref-in-IfElse.ensures at c.in_ok-first-in-IfElse.ensures.fault in
     let between : seen c.args.table.now c.scoped-in-IfElse.new.visible ≡ mid = rw c.deref-in-IfElse.ensures at c.in_ok-first-in-IfElse.ensures.scope in
     let two : option_map told c.in_ok-second-in-IfElse.second ≡ first (broken_stmt c.args.gives_nothing (seen c.args.table.now c.scoped-in-IfElse.new.visible) (stmt_tree c.in-IfElse.other.value)) =
-        rw c.deref-in-IfElse-2.ensures at c.in_ok-second-in-IfElse.ensures.fault in
+    rw c.deref-in-IfElse-2.ensures at c.in_ok-second-in-IfElse.ensures.fault in
     let other : option_map told c.in_ok-second-in-IfElse.second ≡ first B = two ∙ ap (λ p. first (broken_stmt c.args.gives_nothing p (stmt_tree c.in-IfElse.other.value))) between in
     rw c.in-IfElse.is (first_both (broken_value s (expr_tree c.in-IfElse.test)) _ (option_map told c.judge_value-fault-in-IfElse.result.fault) (option_map told c.earlier-in-IfElse.result) (option_map told c.earlier-in-IfElse-2.result) c.judge_value-fault-in-IfElse.ensures.fault
     (first_both A B (option_map told c.in_ok-first-in-IfElse.first) (option_map told c.in_ok-second-in-IfElse.second) (option_map told c.earlier-in-IfElse.result) one other c.earlier-in-IfElse.ensures) c.earlier-in-IfElse-2.ensures)

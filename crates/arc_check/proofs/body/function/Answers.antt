@@ -1,4 +1,4 @@
-use Rattle.std.proofs.Common.{◌≡◌, ℕ, true, false, nat_lt, length, option_map, rules, sym, ap, ◌∙◌}
+use Rattle.std.proofs.Common.{◌≡◌, true, false, nat_lt, length, option_map, rules, sym, ap, ◌∙◌}
 use Rattle.arc_ast.specs.Tree.{parameter_trees, parameters_tree, stmt_trees}
 use Rattle.arc_class.specs.Bodies.{broken_if, named_parameters}
 use Rattle.arc_class.specs.Broken.{first}
