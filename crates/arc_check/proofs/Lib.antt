@@ -8,3 +8,4 @@ pub mod Buildings
 pub mod Walks
 pub mod Commands
 pub mod Refusals
+pub mod Statements
