@@ -6,3 +6,6 @@ pub mod Printing
 pub mod Judgements
 pub mod Buildings
 pub mod Walks
+pub mod Commands
+pub mod Refusals
+pub mod Statements

@@ -11,3 +11,5 @@ mod judge;
 mod program;
 mod resolve;
 mod scope;
+#[cfg(test)]
+mod tests;

@@ -1,4 +1,4 @@
-use Rattle.std.proofs.Common.{◌≡◌, ℕ, [], ◌∷◌, Option, Some, ap, option_map}
+use Rattle.std.proofs.Common.{ℕ, [], ◌∷◌, Some, ap, option_map}
 use Rattle.arc_ast.specs.Tree.{expr_tree, place}
 use Rattle.arc_class.specs.Broken.{Broken}
 use Rattle.arc_class.proofs.Firsts.{first_both}

@@ -1,0 +1,120 @@
+-- What is built of lists of statements, and one more.
+use Rattle.std.proofs.Common.{◌≡◌, ℕ, ◌+◌, ◌<◌, ◌≤◌, List, [], ◌∷◌, ◌++◌, length, get_or, drop, Option, Some, None, Vec, Global, option_map, refl, sym, ap, ◌∙◌}
+use Rattle.arc_ast.specs.declared.tree.Function.{Function}
+use Rattle.arc_ast.specs.declared.tree.Parameter.{Parameter}
+use Rattle.arc_ast.specs.declared.tree.Stmt as stmt
+use Rattle.arc_ast.specs.declared.tree.Stmt.{Stmt}
+use Rattle.arc_ast.specs.declared.tree.Variable.{Variable}
+use Rattle.arc_ast.specs.Tree.{StmtTrees, ParameterTree, expr_tree, stmt_tree, stmt_trees, variable_trees, parameter_trees, parameters_tree, function_trees}
+use Rattle.arc_spec.specs.Resolved as resolved
+use Rattle.arc_spec.specs.Resolved.{Commands, no_commands, and_command, Evaluate, Assigned}
+use Rattle.arc_class.specs.Bodies.{named_parameters}
+use Rattle.arc_class.specs.declared.table.Declared.{Declared}
+use Rattle.arc_check.specs.declared.checked.Command as command
+use Rattle.arc_check.specs.declared.checked.Command.{Command}
+use Rattle.arc_check.specs.declared.checked.CheckedFunction.{CheckedFunction}
+use Rattle.arc_check.specs.Building.{ahead_of, function_of, functions_ahead}
+use Rattle.arc_check.specs.Checked as checked
+use Rattle.arc_check.specs.Resolving.{initial, resolved_variables, resolved_stmt, resolved_stmts, resolved_body, with_function, resolved_functions}
+use Rattle.arc_check.specs.Scopes.{Scope, declare, with_parameters, leave, behind, behind_all, outermost}
+use Rattle.arc_check.proofs.Lists.{drop_turn, drop_end}
+use Rattle.arc_check.proofs.Trees.{block_tree, sequence_command}
+
+ahead_of-push : (all : List Command) (a : Command) (others : Commands) → ahead_of (all ++ a ∷ []) others ≡ ahead_of all (and_command (checked.command a) others)
+ahead_of-push [] a others = refl
+ahead_of-push (b ∷ all) a others = ap (and_command (checked.command b)) (ahead_of-push all a others)
+
+ahead_of-none : (all : List Command) → ahead_of all no_commands ≡ checked.commands all
+ahead_of-none [] = refl
+ahead_of-none (b ∷ all) = ap (and_command (checked.command b)) (ahead_of-none all)
+
+-- one command more
+command_turn : (old new : List Command) (a : Command) (one : resolved.Command) (rest whole : Commands) → whole ≡ ahead_of old (and_command one rest) → new ≡ old ++ a ∷ [] → checked.command a ≡ one → whole ≡ ahead_of new rest
+command_turn old new a one rest whole w n h = w ∙ ap (λ v. ahead_of old (and_command v rest)) (sym h) ∙ sym (ahead_of-push old a rest) ∙ ap (λ us. ahead_of us rest) (sym n)
+
+-- ---- declarations
+
+pub assigned_turn : (s after : Scope) (xs : List Variable) (i : ℕ) (x : Variable) (old new : List Command) (a : Command) (whole : Commands) → i < length xs → x ≡ get_or xs i x → after ≡ declare x.name.items s
+    → checked.command a ≡ Evaluate (Assigned s.next (initial after (option_map expr_tree x.initial))) → new ≡ old ++ a ∷ [] → whole ≡ ahead_of old (resolved_variables s (variable_trees (drop i xs))) → whole ≡ ahead_of new (resolved_variables after (variable_trees (drop (i + 1) xs)))
+assigned_turn s after xs i x old new a whole l e d h n w =
+    command_turn old new a (Evaluate (Assigned s.next (initial after (option_map expr_tree x.initial)))) (resolved_variables after (variable_trees (drop (i + 1) xs))) whole
+    (w ∙ ap (λ us. ahead_of old (resolved_variables s (variable_trees us))) (drop_turn xs i x l e)
+    ∙ ap (λ p. ahead_of old (and_command (Evaluate (Assigned s.next (initial p (option_map expr_tree x.initial)))) (resolved_variables p (variable_trees (drop (i + 1) xs))))) (sym d)) n h
+
+pub assigned_end : (s : Scope) (xs : List Variable) (i : ℕ) (all : List Command) (whole : Commands) → length xs ≤ i → whole ≡ ahead_of all (resolved_variables s (variable_trees (drop i xs))) → checked.commands all ≡ whole
+assigned_end s xs i all whole l w = sym (w ∙ ap (λ us. ahead_of all (resolved_variables s (variable_trees us))) (drop_end xs i l) ∙ ahead_of-none all)
+
+-- ---- statements
+
+pub commands_turn : (s after : Scope) (xs : List Stmt) (i : ℕ) (x : Stmt) (old new : List Command) (a : Command) (whole : Commands) → i < length xs → x ≡ get_or xs i x → after ≡ behind s (stmt_tree x) → checked.command a ≡ resolved_stmt s (stmt_tree x) → new ≡ old ++ a ∷ []
+    → whole ≡ ahead_of old (resolved_stmts s (stmt_trees (drop i xs))) → whole ≡ ahead_of new (resolved_stmts after (stmt_trees (drop (i + 1) xs)))
+commands_turn s after xs i x old new a whole l e d h n w =
+    command_turn old new a (resolved_stmt s (stmt_tree x)) (resolved_stmts after (stmt_trees (drop (i + 1) xs))) whole
+    (w ∙ ap (λ us. ahead_of old (resolved_stmts s (stmt_trees us))) (drop_turn xs i x l e)
+    ∙ ap (λ p. ahead_of old (and_command (resolved_stmt s (stmt_tree x)) (resolved_stmts p (stmt_trees (drop (i + 1) xs))))) (sym d)) n h
+
+pub commands_end : (s : Scope) (xs : List Stmt) (i : ℕ) (all : List Command) (whole : Commands) → length xs ≤ i → whole ≡ ahead_of all (resolved_stmts s (stmt_trees (drop i xs))) → checked.commands all ≡ whole
+commands_end s xs i all whole l w = sym (w ∙ ap (λ us. ahead_of all (resolved_stmts s (stmt_trees us))) (drop_end xs i l) ∙ ahead_of-none all)
+
+pub behind_turn : (s after whole : Scope) (xs : List Stmt) (i : ℕ) (x : Stmt) → i < length xs → x ≡ get_or xs i x → after ≡ behind s (stmt_tree x) → whole ≡ behind_all s (stmt_trees (drop i xs)) → whole ≡ behind_all after (stmt_trees (drop (i + 1) xs))
+behind_turn s after whole xs i x l e a w = w ∙ ap (λ us. behind_all s (stmt_trees us)) (drop_turn xs i x l e) ∙ ap (λ p. behind_all p (stmt_trees (drop (i + 1) xs))) (sym a)
+
+pub block_command : (s : Scope) (a : Stmt) (at : ℕ) (all : Vec Stmt Global) (items : List Stmt) → a ≡ stmt.Block at all → items ≡ all.items → resolved.Sequence (resolved_stmts s (stmt_trees items)) ≡ resolved_stmt s (stmt_tree a)
+block_command s a at all items e m = ap (λ us. resolved.Sequence (resolved_stmts s (stmt_trees us))) m ∙ sym (ap (resolved_stmt s) (ap stmt_tree e ∙ block_tree at all))
+
+pub block_scope : (s : Scope) (a : Stmt) (at : ℕ) (all : Vec Stmt Global) (items : List Stmt) → a ≡ stmt.Block at all → items ≡ all.items → leave s (behind_all s (stmt_trees items)) ≡ behind s (stmt_tree a)
+block_scope s a at all items e m = ap (λ us. leave s (behind_all s (stmt_trees us))) m ∙ sym (ap (behind s) (ap stmt_tree e ∙ block_tree at all))
+
+pub declaration_command : (s : Scope) (a : Stmt) (at : ℕ) (all : Vec Variable Global) (items : List Variable) (made : Vec Command Global) → a ≡ stmt.Variables at all → items ≡ all.items → checked.commands made.items ≡ resolved_variables s (variable_trees items)
+    → checked.command (command.Sequence made) ≡ resolved_stmt s (stmt_tree a)
+declaration_command s a at all items made e m h = sequence_command made ∙ rw (e, h, m) refl
+
+pub choose_is : (test other : resolved.Value) (a b c d : resolved.Command) → test ≡ other → a ≡ b → c ≡ d → resolved.Choose test a c ≡ resolved.Choose other b d
+choose_is test other a b c d t e f = rw (t, e, f) refl
+
+-- a sequence of nothing
+pub nothing : (all : Vec Command Global) → all.items ≡ [] → checked.command (command.Sequence all) ≡ resolved.Sequence no_commands
+nothing all e = sequence_command all ∙ ap (λ us. resolved.Sequence (checked.commands us)) e
+
+-- ---- functions
+
+abbrev function : ℕ → Commands → resolved.Function
+function slots body = record { slots = slots; body = body }
+
+pub function_is : (functions : List ℕ → Option Declared) (parameters : List ParameterTree) (body : StmtTrees) (f : CheckedFunction) (empty before after : Scope) → empty ≡ outermost functions → before ≡ with_parameters empty parameters → after ≡ behind_all before body
+    → checked.commands f.body.items ≡ resolved_stmts before body → f.slots ≡ after.next → function_of f ≡ resolved_body (with_parameters (outermost functions) parameters) body
+function_is functions parameters body f empty before after o b a c n =
+    let inner : before ≡ with_parameters (outermost functions) parameters = b ∙ ap (λ s. with_parameters s parameters) o in
+    ap (λ slots. function slots (checked.commands f.body.items)) (n ∙ ap (λ s. s.next) a ∙ ap (λ s. (behind_all s body).next) inner)
+    ∙ ap (function (behind_all (with_parameters (outermost functions) parameters) body).next) (c ∙ ap (λ s. resolved_stmts s body) inner)
+
+functions_ahead-push : (all : List CheckedFunction) (a : CheckedFunction) (others : List resolved.Function) → functions_ahead (all ++ a ∷ []) others ≡ functions_ahead all (function_of a ∷ others)
+functions_ahead-push [] a others = refl
+functions_ahead-push (b ∷ all) a others = ap (λ us. function_of b ∷ us) (functions_ahead-push all a others)
+
+functions_ahead-none : (all : List CheckedFunction) → functions_ahead all [] ≡ checked.functions all
+functions_ahead-none [] = refl
+functions_ahead-none (b ∷ all) = ap (λ us. function_of b ∷ us) (functions_ahead-none all)
+
+-- one function more, with a body
+pub functions_turn : (functions : List ℕ → Option Declared) (xs : List Function) (i : ℕ) (x : Function) (named : List Parameter) (body : Vec Stmt Global) (items : List Stmt) (old : List CheckedFunction) (pushed new : Vec CheckedFunction Global) (a : CheckedFunction) (whole : List resolved.Function) → i < length xs → x ≡ get_or xs i x
+    → x.body ≡ Some body → items ≡ body.items → parameter_trees named ≡ named_parameters (parameters_tree x.parameters) → function_of a ≡ resolved_body (with_parameters (outermost functions) (parameter_trees named)) (stmt_trees items) → pushed.items ≡ old ++ a ∷ [] → new ≡ pushed
+    → whole ≡ functions_ahead old (resolved_functions functions (function_trees (drop i xs))) → whole ≡ functions_ahead new.items (resolved_functions functions (function_trees (drop (i + 1) xs)))
+functions_turn functions xs i x named body items old pushed new a whole l e o m p h n v w =
+    let rest = resolved_functions functions (function_trees (drop (i + 1) xs)) in
+    let ps = named_parameters (parameters_tree x.parameters) in
+    let own : function_of a ≡ resolved_body (with_parameters (outermost functions) ps) (stmt_trees body.items) =
+    h ∙ ap (λ us. resolved_body (with_parameters (outermost functions) us) (stmt_trees items)) p ∙ ap (λ us. resolved_body (with_parameters (outermost functions) ps) (stmt_trees us)) m in
+    w ∙ ap (λ us. functions_ahead old (resolved_functions functions (function_trees us))) (drop_turn xs i x l e) ∙ ap (λ b. functions_ahead old (with_function functions ps (option_map (λ b. stmt_trees b.items) b) rest)) o
+    ∙ ap (λ f. functions_ahead old (f ∷ rest)) (sym own) ∙ sym (functions_ahead-push old a rest) ∙ ap (λ us. functions_ahead us rest) (sym n) ∙ ap (λ us. functions_ahead us.items rest) (sym v)
+
+-- one function more, without a body
+pub functions_pass : (functions : List ℕ → Option Declared) (xs : List Function) (i : ℕ) (x : Function) (old new : List CheckedFunction) (whole : List resolved.Function) → i < length xs → x ≡ get_or xs i x → x.body ≡ None → new ≡ old
+    → whole ≡ functions_ahead old (resolved_functions functions (function_trees (drop i xs))) → whole ≡ functions_ahead new (resolved_functions functions (function_trees (drop (i + 1) xs)))
+functions_pass functions xs i x old new whole l e o n w =
+    let rest = resolved_functions functions (function_trees (drop (i + 1) xs)) in
+    w ∙ ap (λ us. functions_ahead old (resolved_functions functions (function_trees us))) (drop_turn xs i x l e)
+    ∙ ap (λ b. functions_ahead old (with_function functions (named_parameters (parameters_tree x.parameters)) (option_map (λ b. stmt_trees b.items) b) rest)) o ∙ ap (λ us. functions_ahead us rest) (sym n)
+
+pub functions_end : (functions : List ℕ → Option Declared) (xs : List Function) (i : ℕ) (all : List CheckedFunction) (whole : List resolved.Function) → length xs ≤ i → whole ≡ functions_ahead all (resolved_functions functions (function_trees (drop i xs))) → checked.functions all ≡ whole
+functions_end functions xs i all whole l w = sym (w ∙ ap (λ us. functions_ahead all (resolved_functions functions (function_trees us))) (drop_end xs i l) ∙ functions_ahead-none all)

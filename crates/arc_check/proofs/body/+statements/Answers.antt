@@ -1,0 +1,65 @@
+use Rattle.std.proofs.Common.{◌≡◌, option_map, subst, Option, IfOk, OnOk, ap, ◌∙◌}
+use Rattle.arc_ast.specs.Tree.{stmt_tree, expr_tree}
+use Rattle.arc_class.specs.Broken.{Broken, first}
+use Rattle.arc_class.proofs.Firsts.{first_both}
+use Rattle.arc_check.specs.Fault.{told}
+use Rattle.arc_check.specs.Rules.{broken_value, broken_stmt}
+use Rattle.arc_check.specs.Scopes.{Scope, leave, behind}
+use Rattle.arc_check.specs.Views.{seen}
+use Rattle.arc_check.proofs.Scoping.{keeps_turn}
+use Rattle.arc_check.proofs.Statements.{statements_turn, behind_turn, block_is, block_behind}
+use Rattle.arc_check.proofs.body.+statements.Goals as goal
+
+pub statement-returns-in-Block-clause-fault : goal.statement-returns-in-Block-clause-fault
+statement-returns-in-Block-clause-fault t c =
+    let P : Option Broken → Type 0 = λ b. IfOk c.block.result (λ fault. option_map told fault ≡ b) in
+    subst P (block_is c.args.statement.now c.in-Block.field-0 c.in-Block.all c.deref.result.now c.in-Block.is c.deref.ensures.value c.args.gives_nothing (seen c.args.table.now c.args.visible.now)) c.block.ensures.fault
+
+pub statement-returns-in-Block-clause-scope : goal.statement-returns-in-Block-clause-scope
+statement-returns-in-Block-clause-scope t c =
+    let P : Scope → Type 0 = λ s. OnOk c.block.result (seen c.args.table.now c.block.new.visible ≡ s) in
+    subst P (block_behind c.args.statement.now c.in-Block.field-0 c.in-Block.all c.deref.result.now c.in-Block.is c.deref.ensures.value (seen c.args.table.now c.args.visible.now)) c.block.ensures.scope
+
+pub statement-returns-in_ok-inside-in-If-clause-fault : goal.statement-returns-in_ok-inside-in-If-clause-fault
+statement-returns-in_ok-inside-in-If-clause-fault t c =
+    let s = seen c.args.table.now c.args.visible.now in
+    let A = broken_stmt c.args.gives_nothing s (stmt_tree c.in-If.then.value) in
+    let inside : option_map told c.in_ok-inside-in-If.inside ≡ first A = rw c.deref-in-If.ensures at c.in_ok-inside-in-If.ensures.fault in
+    rw c.in-If.is (first_both (broken_value s (expr_tree c.in-If.test)) A (option_map told c.judge_value-fault.result.fault) (option_map told c.in_ok-inside-in-If.inside) (option_map told c.earlier.result) c.judge_value-fault.ensures.fault inside c.earlier.ensures)
+
+pub statement-returns-in_ok-second-in-IfElse-clause-fault : goal.statement-returns-in_ok-second-in-IfElse-clause-fault
+statement-returns-in_ok-second-in-IfElse-clause-fault t c =
+    let s = seen c.args.table.now c.args.visible.now in
+    let then = stmt_tree c.in-IfElse.then.value in
+    let mid = leave s (behind s then) in
+    let A = broken_stmt c.args.gives_nothing s then in
+    let B = broken_stmt c.args.gives_nothing mid (stmt_tree c.in-IfElse.other.value) in
+    let one : option_map told c.in_ok-first-in-IfElse.first ≡ first A = rw c.deref-in-IfElse.ensures at c.in_ok-first-in-IfElse.ensures.fault in
+    let between : seen c.args.table.now c.scoped-in-IfElse.new.visible ≡ mid = rw c.deref-in-IfElse.ensures at c.in_ok-first-in-IfElse.ensures.scope in
+    let two : option_map told c.in_ok-second-in-IfElse.second ≡ first (broken_stmt c.args.gives_nothing (seen c.args.table.now c.scoped-in-IfElse.new.visible) (stmt_tree c.in-IfElse.other.value)) =
+    rw c.deref-in-IfElse-2.ensures at c.in_ok-second-in-IfElse.ensures.fault in
+    let other : option_map told c.in_ok-second-in-IfElse.second ≡ first B = two ∙ ap (λ p. first (broken_stmt c.args.gives_nothing p (stmt_tree c.in-IfElse.other.value))) between in
+    rw c.in-IfElse.is (first_both (broken_value s (expr_tree c.in-IfElse.test)) _ (option_map told c.judge_value-fault-in-IfElse.result.fault) (option_map told c.earlier-in-IfElse.result) (option_map told c.earlier-in-IfElse-2.result) c.judge_value-fault-in-IfElse.ensures.fault
+    (first_both A B (option_map told c.in_ok-first-in-IfElse.first) (option_map told c.in_ok-second-in-IfElse.second) (option_map told c.earlier-in-IfElse.result) one other c.earlier-in-IfElse.ensures) c.earlier-in-IfElse-2.ensures)
+
+pub statement-returns-in_ok-inside-in-While-clause-fault : goal.statement-returns-in_ok-inside-in-While-clause-fault
+statement-returns-in_ok-inside-in-While-clause-fault t c =
+    let s = seen c.args.table.now c.args.visible.now in
+    let A = broken_stmt c.args.gives_nothing s (stmt_tree c.in-While.body.value) in
+    let inside : option_map told c.in_ok-inside-in-While.inside ≡ first A = rw c.deref-in-While.ensures at c.in_ok-inside-in-While.ensures.fault in
+    rw c.in-While.is (first_both (broken_value s (expr_tree c.in-While.test)) A (option_map told c.judge_value-fault-in-While.result.fault) (option_map told c.in_ok-inside-in-While.inside) (option_map told c.earlier-in-While.result) c.judge_value-fault-in-While.ensures.fault inside c.earlier-in-While.ensures)
+
+pub statements-loop-one-preserved : goal.statements-loop-one-preserved
+statements-loop-one-preserved t c =
+    let table = c.args.table.now in
+    let xs = c.args.all.now in
+    let i = c.loop-one.one-index in
+    let x = c.one-item.result in
+    let s = seen table c.loop-one.visible in
+    let new = seen table c.statement.new.visible in
+    record {
+      fault = statements_turn c.args.gives_nothing s new xs i x (option_map told c.loop-one.fault) (option_map told c.in_ok-statement.field-0) (option_map told c.earlier-fault.result) _ c.loop-one-test.true c.one-item.is
+          c.in_ok-statement.ensures.fault c.in_ok-statement.ensures.scope c.earlier-fault.ensures c.loop-one.invariant.fault;
+      scope = behind_turn s new _ xs i x c.loop-one-test.true c.one-item.is c.in_ok-statement.ensures.scope c.loop-one.invariant.scope;
+      keeps = keeps_turn c.args.visible.now.bound.items c.loop-one.visible.bound.items c.statement.new.visible.bound.items c.loop-one.invariant.keeps c.in_ok-statement.ensures.keeps;
+    }

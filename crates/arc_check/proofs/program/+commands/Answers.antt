@@ -1,0 +1,61 @@
+use Rattle.std.proofs.Common.{◌≡◌, OnOk, IfOk, refl, ap, subst, ◌∙◌}
+use Rattle.arc_ast.specs.Tree.{expr_tree, stmt_tree, stmt_trees}
+use Rattle.arc_spec.specs.Resolved as spec
+use Rattle.arc_spec.specs.Resolved.{no_commands}
+use Rattle.arc_check.specs.Checked as checked
+use Rattle.arc_check.specs.Resolving.{resolved, resolved_stmt, resolved_stmts}
+use Rattle.arc_check.specs.Scopes.{Scope}
+use Rattle.arc_check.specs.Views.{seen}
+use Rattle.arc_check.proofs.Commands.{commands_turn, commands_end, behind_turn, block_command, block_scope, declaration_command, choose_is, nothing}
+use Rattle.arc_check.proofs.Scoping.{keeps_turn}
+use Rattle.arc_check.proofs.Trees.{sequence_command}
+use Rattle.arc_check.proofs.program.+commands.Goals as goal
+
+pub block-returns-clause-command : goal.block-returns-clause-command
+block-returns-clause-command t c = sequence_command c.in_ok-all.all ∙ ap spec.Sequence c.in_ok-all.ensures.commands
+
+pub command-returns-in-Block-clause-command : goal.command-returns-in-Block-clause-command
+command-returns-in-Block-clause-command t c =
+    let s = seen c.args.table.now c.args.visible.now in
+    let P : spec.Command → Type 0 = λ b. IfOk c.block.result (λ new. checked.command new ≡ b) in
+    subst P (block_command s c.args.statement.now c.in-Block.field-0 c.in-Block.all c.deref.result.now c.in-Block.is c.deref.ensures.value) c.block.ensures.command
+
+pub command-returns-in-Block-clause-scope : goal.command-returns-in-Block-clause-scope
+command-returns-in-Block-clause-scope t c =
+    let s = seen c.args.table.now c.args.visible.now in
+    let P : Scope → Type 0 = λ b. OnOk c.block.result (seen c.args.table.now c.block.new.visible ≡ b) in
+    subst P (block_scope s c.args.statement.now c.in-Block.field-0 c.in-Block.all c.deref.result.now c.in-Block.is c.deref.ensures.value) c.block.ensures.scope
+
+pub command-returns-in-Empty-clause-command : goal.command-returns-in-Empty-clause-command
+command-returns-in-Empty-clause-command t c = nothing c.new.result c.new.ensures.items ∙ rw c.in-Empty.is refl
+
+pub command-returns-in_ok-variables-in-Variables-clause-command : goal.command-returns-in_ok-variables-in-Variables-clause-command
+command-returns-in_ok-variables-in-Variables-clause-command t c =
+    let s = seen c.args.table.now c.args.visible.now in
+    declaration_command s c.args.statement.now c.in-Variables.field-0 c.in-Variables.all c.deref-in-Variables.result.now c.in_ok-variables-in-Variables.field-0 c.in-Variables.is c.deref-in-Variables.ensures.value c.in_ok-variables-in-Variables.ensures.commands
+
+pub command-returns-in_ok-nothing-in-If-clause-command : goal.command-returns-in_ok-nothing-in-If-clause-command
+command-returns-in_ok-nothing-in-If-clause-command t c =
+    let s = seen c.args.table.now c.args.visible.now in
+    let then : checked.command c.in_ok-then-in-If.then.value ≡ resolved_stmt s (stmt_tree c.in-If.then.value) = c.in_ok-then-in-If.ensures.command ∙ ap (λ a. resolved_stmt s (stmt_tree a)) c.deref-in-If.ensures in
+    rw c.in-If.is (choose_is (checked.value c.in_ok-test-in-If.field-0.value) (resolved s (expr_tree c.in-If.test)) (checked.command c.in_ok-then-in-If.then.value) (resolved_stmt s (stmt_tree c.in-If.then.value)) (checked.command c.in_ok-nothing-in-If.nothing.value)
+    (spec.Sequence no_commands) c.in_ok-test-in-If.ensures.value then (ap checked.command c.in_ok-nothing-in-If.ensures.ok ∙ nothing c.new-in-If.result c.new-in-If.ensures.items))
+
+pub commands-loop-statement-preserved : goal.commands-loop-statement-preserved
+commands-loop-statement-preserved t c =
+    let table = c.args.table.now in
+    let xs = c.args.statements.now in
+    let i = c.loop-statement.statement-index in
+    let x = c.statement-item.result in
+    let s = seen table c.loop-statement.visible in
+    let new = seen table c.command.new.visible in
+    record {
+      commands = commands_turn s new xs i x c.loop-statement.all.items c.push.new.self.items c.in_ok-command.field-0 _ c.loop-statement-test.true c.statement-item.is c.in_ok-command.ensures.scope c.in_ok-command.ensures.command c.in_ok-push.ensures.items c.loop-statement.invariant.commands;
+      scope = behind_turn s new _ xs i x c.loop-statement-test.true c.statement-item.is c.in_ok-command.ensures.scope c.loop-statement.invariant.scope;
+      keeps = keeps_turn c.args.visible.now.bound.items c.loop-statement.visible.bound.items c.command.new.visible.bound.items c.loop-statement.invariant.keeps c.in_ok-command.ensures.keeps;
+    }
+
+pub commands-returns-clause-commands : goal.commands-returns-clause-commands
+commands-returns-clause-commands t c =
+    let s = seen c.args.table.now c.loop-statement.visible in
+    commands_end s c.args.statements.now c.loop-statement.statement-index c.loop-statement.all.items (resolved_stmts (seen c.args.table.now c.args.visible.now) (stmt_trees c.args.statements.now)) c.loop-statement-test.false c.loop-statement.invariant.commands
