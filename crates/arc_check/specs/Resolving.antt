@@ -1,11 +1,10 @@
 -- The resolved program of a source that breaks no rule.
-use Rattle.std.specs.Prelude.{ℕ, pos, Bool, List, [], ◌∷◌, Option, Some, None, option_map, if◌then◌else◌}
+use Rattle.std.specs.Prelude.{ℕ, pos, Bool, List, [], ◌∷◌, ◌++◌, Option, Some, None, option_map, if◌then◌else◌}
 use Rattle.arc_ast.specs.declared.tree.Kind.{Kind}
 use Rattle.arc_ast.specs.declared.tree.Kind.TheVariants as k
 use Rattle.arc_ast.specs.Tree as tree
 use Rattle.arc_ast.specs.Tree.{ExprTree, ExprTrees, Integer, Text, Paren, Call, Negate, Binary, Name, Assign, Send, ReceiverTree, Named, Itself, Super, no_exprs, and_expr, VariableTree, StmtTree, StmtTrees, Block, Empty, Simple, Variables, If, IfElse, While, no_stmts, and_stmt, ParameterTree, FunctionTree, MethodTree, ImplementationTree, UnitTree}
 use Rattle.arc_spec.specs.Resolved.{Value, Number, ReadByte, Print, Negated, Combined, Converted, Local, Assigned, Invoked, Sent, SentSuper, Values, no_values, and_value, Command, Sequence, Evaluate, Return, Choose, Repeat, Commands, no_commands, and_command, Function, Program}
-use Rattle.arc_class.specs.declared.table.Declared.{Declared}
 use Rattle.arc_class.specs.Bodies.{named_parameters}
 use Rattle.arc_class.specs.Classes.{classes}
 use Rattle.arc_class.specs.Names.{number_of, is_main}
@@ -16,6 +15,10 @@ use Rattle.arc_check.specs.Kinds.{literal_kind, wider, given_kind}
 use Rattle.arc_check.specs.Formats.{parts, printed}
 use Rattle.arc_check.specs.Scopes.{Known, Scope, declare, with_parameters, leave, behind, behind_all, outermost, in_method, callee, result_kind, is_printf, above, receiving, sent_kind}
 use Rattle.arc_check.specs.Rules.{known_of}
+
+abbrev pub kind_or_int : Option Kind → Kind
+kind_or_int None = k.Int
+kind_or_int (Some kind) = kind
 
 -- the kind of an expression that breaks no rule; a text has none, and its kind here is never asked for
 abbrev pub kind : Scope → ExprTree → Kind

@@ -5,7 +5,6 @@ use Rattle.arc_ast.specs.declared.tree.Kind.TheVariants as k
 use Rattle.arc_ast.specs.declared.tree.BinaryOperator.{BinaryOperator}
 use Rattle.arc_ast.specs.declared.tree.BinaryOperator.TheVariants as o
 use Rattle.arc_ast.specs.Tree.{ExprTree, ExprTrees, Integer, Text, Paren, Call, Negate, Binary, Name, Assign, Send, ReceiverTree, Named, Itself, Super, no_exprs, and_expr, place, VariableTree, StmtTree, StmtTrees, Block, Empty, Simple, Return, Variables, If, IfElse, While, no_stmts, and_stmt, ParameterTree, FunctionTree, HeadTree, MethodTree, InterfaceTree, ImplementationTree, UnitTree}
-use Rattle.arc_class.specs.declared.table.Declared.{Declared}
 use Rattle.arc_class.specs.Bodies.{broken_if, named_parameters}
 use Rattle.arc_class.specs.Broken.{Broken}
 use Rattle.arc_class.specs.Classes.{class_number, superclass, known_result, selector_number}

@@ -21,6 +21,10 @@ const MOST_VARIABLES: usize = 200;
 /// The visible variables, outer ones first.
 #[derive(Debug, Drop)]
 pub struct Visible<'a> {
+    /// The class in whose method they are.
+    pub class: Option<ClassId>,
+    /// How many variables without a name come before all others: 1 in a method, `self`, and else 0.
+    pub hidden: usize,
     pub bound: Vec<Bound<'a>>,
     /// The number that the next variable gets.
     pub next: usize,
