@@ -6,8 +6,7 @@ use arc_check::checked::{Checked, CheckedFunction, Command};
 fn owns(rt: HostRuntime) {
     let alloc = rt.alloc();
     let body = vec![in alloc; Command::Return(None)].expect(&rt, "no memory");
-    let functions =
-        vec![in alloc; CheckedFunction { slots: 0, body }].expect(&rt, "no memory");
+    let functions = vec![in alloc; CheckedFunction { slots: 0, body }].expect(&rt, "no memory");
     let program = Checked { functions, main: 0 };
     match own(alloc, &program) {
         Ok(owned) => {

@@ -35,6 +35,7 @@ fn a_loop_without_input(rt: HostRuntime) -> Result<(), Fail> {
     let mut writer = Counted::new(Vec::new(alloc));
     let answer = run_text(alloc, ECHO, 1_048_576, 1000, &mut reader, &mut writer);
     assert!(rt; answer == Err(ToolFault::Io(IoFault::Read)));
+    assert_eq!(rt; IoFault::Read.number(), 91);
     assert_eq!(rt; writer.get_ref().len(), 0);
     Ok(())
 }

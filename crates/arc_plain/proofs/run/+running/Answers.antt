@@ -1,13 +1,12 @@
-use Rattle.std.proofs.Common.{rules, arith, suc, length, to_z, of_z, w64, ◌∷◌, ◌++◌, [], refl, ◌≡◌, ℕ, ◌+◌, ◌-◌, ◌*◌, ◌<◌, ◌≤◌, Err, sym, subst, ap, ◌∙◌}
+use Rattle.std.proofs.Common.{rules, arith, suc, length, to_z, of_z, w64, ◌∷◌, ◌++◌, [], refl, ◌≡◌, ◌-◌, ◌<◌, ◌≤◌, Err, sym, subst, ap, ◌∙◌}
 use Rattle.std.proofs.lemmas.Int.{to_z-of_z}
 use Rattle.std.proofs.lemmas.Bool.{ltb-true, ltb-false}
 use Rattle.std.proofs.lemmas.Result.{err_from_is_err_and}
 use Rattle.arc_check.specs.Checked as checked
 use Rattle.arc_spec.specs.Number.{is_zero}
-use Rattle.arc_spec.specs.World.{Done, with_locals, first_locals}
 use Rattle.arc_check.specs.Checked.{program_of}
 use Rattle.arc_spec.specs.Meaning.{evaluated, all_evaluated, executed, turns, called, level, function_at}
-use Rattle.arc_plain.specs.Views.{world, Tells, printed, flow_of, function_of, deeper}
+use Rattle.arc_plain.specs.Views.{world, Tells, deeper}
 use Rattle.arc_plain.proofs.Turns.{print_failed, print_done, call_failed, call_done, sequence_told, values_step, turns_step, call_is, function_found, function_missing}
 use Rattle.arc_plain.proofs.Weights.{print_lighter, call_lighter, sequence_lighter, value_in, command_in, enter_lighter}
 use Rattle.arc_plain.proofs.run.+running.Goals as goal

@@ -1,4 +1,4 @@
-use Rattle.std.proofs.Common.{◌≡◌, ℕ, ◌+◌, ◌-◌, suc, drop}
+use Rattle.std.proofs.Common.{◌≡◌, ◌+◌, ◌-◌, suc, drop}
 use Rattle.arc_check.specs.Checked as checked
 use Rattle.arc_spec.specs.Meaning.{evaluated, all_evaluated, executed, all_executed, turns}
 use Rattle.arc_plain.specs.Views.{world, deeper}
