@@ -1,7 +1,7 @@
 -- The methods of classes and what a unit has, as lists, and the loops that read them.
-use Rattle.std.proofs.Common.{◌≡◌, ℕ, List, [], ◌∷◌, ◌++◌, append_assoc, append-nil, Ok, Err, Bool, true, false, refl, sym, ap, ◌∙◌}
+use Rattle.std.proofs.Common.{◌≡◌, ℕ, List, [], ◌∷◌, ◌++◌, append_assoc, append-nil, Ok, Err, true, false, refl, sym, ap, ◌∙◌}
 use Rattle.arc_lex.specs.declared.token.Mark.TheVariants as m
-use Rattle.arc_lex.specs.Tokens.{Tok, toks}
+use Rattle.arc_lex.specs.Tokens.{Tok}
 use Rattle.arc_ast.specs.declared.tree.Parameter.{Parameter}
 use Rattle.arc_ast.specs.declared.tree.Function.{Function}
 use Rattle.arc_ast.specs.declared.tree.MethodHead.{MethodHead}
@@ -12,7 +12,7 @@ use Rattle.arc_ast.specs.Tree.{ParameterTree, FunctionTree, HeadTree, MethodTree
 use Rattle.arc_parse.specs.declared.fail.Fail.{Fail}
 use Rattle.arc_parse.specs.declared.fail.Fail.TheVariants.{Memory, Unexpected, TooDeep}
 use Rattle.arc_parse.specs.Grammar.{TopTree, OfNames, OfFunction, OfInterface, OfImplementation, and_part, unit_of, functions_of, interfaces_of, implementations_of}
-use Rattle.arc_parse.specs.Reader.{Read, Reader, Fault, misfit, too_deep, Fails, any, begins, bind, ret, ◌>>=◌, sees_mark, sees_name}
+use Rattle.arc_parse.specs.Reader.{Read, Reader, Fails, any, begins, bind, ret, ◌>>=◌, sees_mark, sees_name}
 use Rattle.arc_parse.specs.Views.{parameter_tree, parameters_before, parts_then, and_top}
 use Rattle.arc_parse.specs.Limits.{these}
 use Rattle.arc_parse.specs.UnitRules.{Typed, typed_parts, heads, methods, more_names, tops, read, unit, next_part, typed_parts_by, selector_by, typed, next_head_by, heads_by, method_by, methods_by, next_name, more_names_by, top_by, tops_by}

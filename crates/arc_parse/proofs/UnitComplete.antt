@@ -16,8 +16,8 @@ use Rattle.arc_parse.specs.Language.{Language, ◌⨾◌, ◌∣◌, The, TheWor
 use Rattle.arc_parse.specs.Reader.{Reader, any, begins, bind, ret, is_mark, is_word, sees_mark, sees_word, sees_at}
 use Rattle.arc_parse.specs.ExprRules.{mark_operator}
 use Rattle.arc_parse.specs.Limits.{Limits, AtMost, Nested, nested, cut, up_to, plain, plainly}
-use Rattle.arc_parse.specs.Grammar.{widest, Full, SpellsValue, SpellsInitial, SpellsVariable, SpellsVariables, SpellsMoreVariables, SpellsDeclaration, SpellsTest, is_open, SpellsStmt, SpellsStmts, main_bytes, SpellsResult, SpellsParameter, SpellsMoreParameters, TextsName, SpellsParameters, SpellsHead, SpellsBraces, SpellsBody, SpellsFunction, SpellsTyped, SpellsTypedParts, SpellsSelector, SpellsMethodHead, SpellsHeads, SpellsMethod, SpellsMethods, SpellsInterface, SpellsImplementation, MoreNames, SpellsNames, TopTree, OfNames, OfFunction, OfInterface, OfImplementation, SpellsTop, SpellsTops, SpellsUnit, unit_of}
-use Rattle.arc_parse.specs.UnitRules.{Rules, stmt, items, more_variables, more_parameters, more_names, typed_parts, heads, methods, tops, begins_expr, begins_stmt, full, simple_by, empty, value_by, return_by, block_by, test_by, else_by, if_by, while_by, worded_by, stmt_by, initial_by, variable_by, more_variables_by, next_variable_by, variables_by, declaration_by, perhaps_by, item_by, items_by, texts_name, perhaps_const, texts, parameter, next_parameter, more_parameters_by, begins_texts, with_others_by, second_by, some_by, parameters_by, result_kind, head_by, braces_by, body_by, function_by, typed, next_part, typed_parts_by, selector_by, method_head_by, next_head_by, heads_by, perhaps_semicolon, method_by, methods_by, interface_by, title, implementation_by, next_name, more_names_by, names_by, names_top_by, interface_top_by, implementation_top_by, function_top_by, top_by, tops_by, read, unit}
+use Rattle.arc_parse.specs.Grammar.{widest, Full, SpellsValue, SpellsInitial, SpellsVariable, SpellsMoreVariables, SpellsDeclaration, SpellsTest, is_open, SpellsStmt, SpellsStmts, main_bytes, SpellsResult, SpellsParameter, SpellsMoreParameters, TextsName, SpellsParameters, SpellsHead, SpellsBraces, SpellsBody, SpellsFunction, SpellsTyped, SpellsTypedParts, SpellsSelector, SpellsMethodHead, SpellsHeads, SpellsMethod, SpellsMethods, SpellsInterface, SpellsImplementation, MoreNames, SpellsNames, TopTree, OfNames, OfFunction, OfInterface, OfImplementation, SpellsTop, SpellsTops, SpellsUnit, unit_of}
+use Rattle.arc_parse.specs.UnitRules.{stmt, items, more_variables, more_parameters, more_names, typed_parts, heads, methods, tops, begins_expr, begins_stmt, full, simple_by, empty, value_by, return_by, block_by, test_by, else_by, if_by, while_by, worded_by, stmt_by, initial_by, variable_by, more_variables_by, next_variable_by, variables_by, declaration_by, perhaps_by, item_by, items_by, texts_name, perhaps_const, texts, parameter, next_parameter, more_parameters_by, begins_texts, with_others_by, second_by, some_by, parameters_by, result_kind, head_by, braces_by, body_by, function_by, typed, next_part, typed_parts_by, selector_by, method_head_by, next_head_by, heads_by, perhaps_semicolon, method_by, methods_by, interface_by, title, implementation_by, next_name, more_names_by, names_by, names_top_by, interface_top_by, implementation_top_by, function_top_by, top_by, tops_by, read, unit}
 use Rattle.arc_parse.proofs.ExprComplete.{complete, ends_mark}
 use Rattle.arc_parse.proofs.UnitBegin.{begun, not_there, mark_not_there, word_not_there, stmt_begun, stmt_not_close, stmt_not_else, stmt_not_int, int_not_close, int_not_else, close_not_else}
 use Rattle.arc_parse.proofs.UnitLocal.{read_is}

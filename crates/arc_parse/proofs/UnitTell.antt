@@ -7,12 +7,12 @@ use Rattle.arc_lex.specs.Tokens.{Tok, Key, Sign}
 use Rattle.arc_lex.specs.Tokens as tokens
 use Rattle.arc_ast.specs.declared.tree.Kind.{Kind}
 use Rattle.arc_ast.specs.Tree.{ExprTree, VariableTree, StmtTree, StmtTrees, ParameterTree, ParametersTree, HeadTree, MethodTree, no_stmts, and_stmt}
-use Rattle.arc_parse.specs.Language.{Nothing, One, ◌⨾◌, ◌∣◌, The}
+use Rattle.arc_parse.specs.Language.{Nothing, One, ◌∣◌, The}
 use Rattle.arc_parse.specs.Reader.{Read, Reader, too_deep, bind, ret}
 use Rattle.arc_parse.specs.Limits.{Limits, AtMost}
 use Rattle.arc_parse.specs.Knot.{deep, tied}
-use Rattle.arc_parse.specs.Grammar.{SpellsVariable, SpellsTest, SpellsStmts, SpellsHead, SpellsMethodHead, SpellsMethods, SpellsTitle, TopTree, SpellsTops, unit_of}
-use Rattle.arc_parse.specs.UnitRules.{Rule, Node, Rules, stmt, items, more_variables, more_parameters, more_names, typed_parts, heads, methods, tops, begins_expr, begins_sort, begins_stmt, full, simple_by, empty, value_by, return_by, block_by, test_by, else_by, if_by, while_by, worded_by, stmt_by, initial_by, variable_by, next_variable_by, more_variables_by, variables_by, declaration_by, perhaps_by, item_by, items_by, texts_name, perhaps_const, texts, parameter, next_parameter, more_parameters_by, begins_texts, with_others_by, second_by, some_by, parameters_by, result_kind, head_by, braces_by, body_by, function_by, typed, next_part, typed_parts_by, selector_by, method_head_by, next_head_by, heads_by, perhaps_semicolon, method_by, methods_by, interface_by, title, implementation_by, next_name, more_names_by, names_by, names_top_by, interface_top_by, implementation_top_by, function_top_by, top_by, tops_by, body, read, unit}
+use Rattle.arc_parse.specs.Grammar.{SpellsVariable, SpellsTest, SpellsStmts, SpellsHead, SpellsMethodHead, SpellsMethods, TopTree, SpellsTops, unit_of}
+use Rattle.arc_parse.specs.UnitRules.{Rule, Rules, stmt, items, more_variables, more_parameters, more_names, typed_parts, heads, methods, tops, simple_by, empty, value_by, return_by, block_by, test_by, else_by, if_by, while_by, worded_by, stmt_by, initial_by, variable_by, next_variable_by, more_variables_by, variables_by, declaration_by, perhaps_by, item_by, items_by, texts_name, perhaps_const, texts, parameter, next_parameter, more_parameters_by, with_others_by, second_by, some_by, parameters_by, result_kind, head_by, braces_by, body_by, function_by, typed, next_part, typed_parts_by, selector_by, method_head_by, next_head_by, heads_by, perhaps_semicolon, method_by, methods_by, interface_by, title, implementation_by, next_name, more_names_by, names_by, names_top_by, interface_top_by, implementation_top_by, function_top_by, top_by, tops_by, body, read, unit}
 use Rattle.arc_parse.specs.TooDeep.{Role, must, may, takes_test, Heading, BeginsBody, of_function, of_method, Begins, in_body, in_block, in_branch, in_other, BeginsVariable, first_variable, next_variable, of_simple, of_return, of_test, of_variable, TooDeep, statement}
 use Rattle.arc_parse.specs.TooDeep as places
 use Rattle.arc_parse.proofs.Leaves.{sound_expect, sound_keyword, sound_name}

@@ -1,5 +1,5 @@
 -- The rules of expressions as readers. Each gets what reads the rules that it asks for.
-use Rattle.std.specs.Prelude.{ℕ, zero, suc, ◌-◌, List, [], ◌∷◌, ◌++◌, Bool, true, false, nat_eq, Option, Some, None, if◌then◌else◌}
+use Rattle.std.specs.Prelude.{ℕ, zero, suc, ◌-◌, List, [], Bool, true, false, nat_eq, Option, Some, None, if◌then◌else◌}
 use Rattle.arc_lex.specs.declared.token.Mark.{Mark}
 use Rattle.arc_lex.specs.declared.token.Mark.TheVariants as m
 use Rattle.arc_lex.specs.declared.token.Word.TheVariants as w
@@ -104,9 +104,9 @@ receiver = if_word w.SelfWord (do
     (if_word w.Super (do
       at ← keyword w.Super
       ret (Super at))
-        (do
-          called ← name
-          ret (Named called.0 called.1)))
+    (do
+      called ← name
+      ret (Named called.0 called.1)))
 
 -- what is behind the name of a selector's part: a colon, an argument and further parts
 unfoldable pub part_by : Rules → List ℕ → Reader Sent

@@ -167,19 +167,13 @@ fn class_refusals(rt: HostRuntime) -> Result<(), Fail> {
         fault(alloc, b"IP:Q+(v)f{}E")?,
         Some(ParseFault::Unexpected(22))
     );
-    assert_eq!(rt;
-        fault(alloc, b"IP:QMPE")?,
-        Some(ParseFault::Unexpected(14))
-    );
+    assert_eq!(rt; fault(alloc, b"IP:QMPE")?, Some(ParseFault::Unexpected(14)));
     // two `;` before a block, and a name that is missing
     assert_eq!(rt;
         fault(alloc, b"MP+(v)f;;{}E")?,
         Some(ParseFault::Unexpected(26))
     );
-    assert_eq!(rt;
-        fault(alloc, b"CP,;")?,
-        Some(ParseFault::Unexpected(9))
-    );
+    assert_eq!(rt; fault(alloc, b"CP,;")?, Some(ParseFault::Unexpected(9)));
     // `self` alone, messages without an argument, a colon and a name, and to a call
     assert_eq!(rt;
         fault(alloc, b"im(){s;}")?,
@@ -411,10 +405,7 @@ fn class_limits(rt: HostRuntime) -> Result<(), Fail> {
         Some(ParseFault::Unexpected(1011))
     );
     // 332 parts of one selector, 999 tokens; 333
-    assert_eq!(rt;
-        body_fault(alloc, b"", 332, b"a:1", b"[P", b"];}")?,
-        None
-    );
+    assert_eq!(rt; body_fault(alloc, b"", 332, b"a:1", b"[P", b"];}")?, None);
     assert_eq!(rt;
         body_fault(alloc, b"", 333, b"a:1", b"[P", b"];}")?,
         Some(ParseFault::TooDeep(1011))
@@ -424,9 +415,6 @@ fn class_limits(rt: HostRuntime) -> Result<(), Fail> {
         method_fault(alloc, 199)?,
         Some(ParseFault::Unexpected(225))
     );
-    assert_eq!(rt;
-        method_fault(alloc, 200)?,
-        Some(ParseFault::TooDeep(225))
-    );
+    assert_eq!(rt; method_fault(alloc, 200)?, Some(ParseFault::TooDeep(225)));
     Ok(())
 }
