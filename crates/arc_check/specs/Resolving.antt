@@ -1,5 +1,5 @@
 -- The resolved program of a source that breaks no rule.
-use Rattle.std.specs.Prelude.{ℕ, pos, Bool, List, [], ◌∷◌, ◌++◌, Option, Some, None, option_map, if◌then◌else◌}
+use Rattle.std.specs.Prelude.{ℕ, pos, Bool, false, List, [], ◌∷◌, ◌++◌, Option, Some, None, option_map, if◌then◌else◌}
 use Rattle.arc_ast.specs.declared.tree.Kind.{Kind}
 use Rattle.arc_ast.specs.declared.tree.Kind.TheVariants as k
 use Rattle.arc_ast.specs.Tree as tree
@@ -156,6 +156,7 @@ resolved_methods known (i ∷ others) = with_methods known (known.class i.name) 
 -- the program of a source: its functions with a body, and then its methods
 abbrev pub resolved_unit : UnitTree → Program
 resolved_unit u = record {
-    functions = resolved_functions (known_of u) u.functions ++ resolved_methods (known_of u) u.implementations;
-    main = number (number_of is_main u.functions);
-    classes = classes u }
+  functions = resolved_functions (known_of u) u.functions ++ resolved_methods (known_of u) u.implementations;
+  main = number (number_of is_main u.functions);
+  classes = classes u;
+}

@@ -255,11 +255,12 @@ broken_implementations known (i ∷ others) = broken_methods known (known.class 
 -- what is known of the names of a source
 abbrev pub known_of : UnitTree → Known
 known_of u = record {
-    function = known u.functions;
-    class = class_number u.interfaces;
-    superclass = superclass u.interfaces;
-    result = known_result u;
-    selector = selector_number u }
+  function = known u.functions;
+  class = class_number u.interfaces;
+  superclass = superclass u.interfaces;
+  result = known_result u;
+  selector = selector_number u;
+}
 
 -- all that is wrong in the functions and the methods of a source
 abbrev pub broken_unit : UnitTree → List Broken

@@ -8,24 +8,28 @@ use Rattle.arc_class.specs.declared.look.Seen.{Seen}
 use Rattle.arc_class.specs.Broken.{Broken, first, earlier_of}
 use Rattle.arc_class.specs.Bodies.{lacks_body}
 use Rattle.arc_class.specs.Fault.{told, Refuses}
-use Rattle.arc_class.specs.Functions.{duplicates, missing_main, no_main, broken_functions, lacks_body_in, broken}
+use Rattle.arc_class.specs.Functions.{duplicates, missing_main, no_main, broken_functions, lacks_body_in, broken_in_functions}
 use Rattle.arc_class.specs.Look.{Sums}
 use Rattle.arc_class.specs.Walk.{lacks}
 use Rattle.arc_class.proofs.Firsts.{first_both, none_broken}
 
 pub refuses : (all : List Broken) (fault : ClassFault) → first all ≡ Some (told fault) → Refuses all fault
 refuses all (f.Duplicate at) h = h
+refuses all (f.UnknownClass at) h = h
+refuses all (f.SelectorKinds at) h = h
+refuses all (f.NoImplementation at) h = h
+refuses all (f.HookMethod at) h = h
 refuses all f.NoMain h = h
 refuses all (f.UndefinedFunction at) h = h
 refuses all f.Memory h = tt
 
 -- the first of all broken rules, from those of the names, a missing main's and those of the bodies
 pub first_known : (fs : List FunctionTree) (seen : Seen) (inside gone two all : Option Broken) → Sums fs seen → inside ≡ first (broken_functions (lacks seen.known) fs) → gone ≡ first (missing_main seen.main) → two ≡ earlier_of gone inside
-    → all ≡ earlier_of (option_map told seen.fault) two → all ≡ first (broken fs)
+    → all ≡ earlier_of (option_map told seen.fault) two → all ≡ first (broken_in_functions fs)
 first_known fs seen inside gone two all h i m t a =
     let same : lacks seen.known ≡ lacks_body_in fs = fun_ext (λ name. ap lacks_body (h.knows name)) in
     first_both (duplicates [] fs) (no_main fs ++ broken_functions (lacks_body_in fs) fs) (option_map told seen.fault) two all h.fault
     (first_both (no_main fs) (broken_functions (lacks_body_in fs) fs) gone inside two (m ∙ ap (λ o. first (missing_main o)) h.main) (i ∙ ap (λ l. first (broken_functions l fs)) same) t) a
 
-pub nothing : (fs : List FunctionTree) → None ≡ first (broken fs) → broken fs ≡ []
-nothing fs e = none_broken (broken fs) (sym e)
+pub nothing : (all : List Broken) → None ≡ first all → all ≡ []
+nothing all e = none_broken all (sym e)

@@ -7,13 +7,14 @@ use Rattle.arc_ast.specs.declared.tree.Stmt.{Stmt}
 use Rattle.arc_ast.specs.declared.tree.Variable.{Variable}
 use Rattle.arc_ast.specs.declared.tree.Parameter.{Parameter}
 use Rattle.arc_ast.specs.declared.tree.Function.{Function}
+use Rattle.arc_ast.specs.declared.tree.Receiver.{Receiver}
 use Rattle.arc_ast.specs.Tree.{expr_tree, expr_trees, stmt_tree, stmt_trees, variable_trees, parameter_trees, parameters_tree, function_tree, function_trees}
 use Rattle.arc_class.specs.Broken.{Broken, first, earlier_of}
 use Rattle.arc_class.specs.Bodies.{broken_if, broken_expr, broken_exprs, broken_maybe, broken_variables, broken_stmt, broken_stmts, broken_parameters, broken_function, no_name, and_name, names_with, names_after, names_taken, named_parameters, broken_body}
 use Rattle.arc_class.specs.Functions.{broken_functions}
 use Rattle.arc_class.proofs.Firsts.{first_turn, first_both}
 use Rattle.arc_class.proofs.Lists.{drop_turn}
-use Rattle.arc_class.proofs.Trees.{call_tree, block_tree}
+use Rattle.arc_class.proofs.Trees.{call_tree, send_tree, block_tree}
 
 pub expressions_turn : (L : List ℕ → Bool) (xs : List Expr) (i : ℕ) (x : Expr) (so_far one now whole : Option Broken) → i < length xs → x ≡ get_or xs i x → one ≡ first (broken_expr L (expr_tree x)) → now ≡ earlier_of so_far one
     → whole ≡ earlier_of so_far (first (broken_exprs L (expr_trees (drop i xs)))) → whole ≡ earlier_of now (first (broken_exprs L (expr_trees (drop (i + 1) xs))))
@@ -60,6 +61,11 @@ pub call_is : (L : List ℕ → Bool) (a : Expr) (at : ℕ) (name : Vec ℕ Glob
 call_is L a at name arguments bytes all e n m =
     ap (λ b. first (broken_if (L b) at 30 ++ broken_exprs L (expr_trees all))) n ∙ ap (λ us. first (broken_if (L name.items) at 30 ++ broken_exprs L (expr_trees us))) m
     ∙ sym (ap (λ t. first (broken_expr L t)) (ap expr_tree e ∙ call_tree at name arguments))
+
+pub send_is : (L : List ℕ → Bool) (a : Expr) (at part : ℕ) (receiver : Receiver) (selector : Vec ℕ Global) (arguments : Vec Expr Global) (all : List Expr) → a ≡ ast.Send at part receiver selector arguments → all ≡ arguments.items
+    → first (broken_exprs L (expr_trees all)) ≡ first (broken_expr L (expr_tree a))
+send_is L a at part receiver selector arguments all e m =
+    ap (λ us. first (broken_exprs L (expr_trees us))) m ∙ sym (ap (λ t. first (broken_expr L t)) (ap expr_tree e ∙ send_tree at part receiver selector arguments))
 
 pub block_is : (L names inner : List ℕ → Bool) (a : Stmt) (at : ℕ) (all : Vec Stmt Global) (items : List Stmt) → a ≡ stmt.Block at all → items ≡ all.items → inner ≡ no_name
     → first (broken_stmts L inner (stmt_trees items)) ≡ first (broken_stmt L names (stmt_tree a))

@@ -1,5 +1,5 @@
 -- What a table of a source is.
-use Rattle.std.specs.Prelude.{◌≡◌, ℕ, zero, suc, ◌-◌, List, [], ◌∷◌, length, position, slice_get, nat_eq, Option, Some, None, if◌then◌else◌}
+use Rattle.std.specs.Prelude.{◌≡◌, ℕ, zero, suc, ◌-◌, List, [], ◌∷◌, length, map, position, slice_get, nat_eq, Option, Some, None, if◌then◌else◌}
 use Rattle.std.specs.Str.{bytes_eq}
 use Rattle.std.specs.BTreeMap.{BTreeMap, get_by}
 use Rattle.std.specs.Cmp.Lexicographic.{slice_cmp}
@@ -7,12 +7,27 @@ use Rattle.std.specs.Ordering.{nat_cmp}
 use Rattle.std.specs.Borrow.{Bor}
 use Rattle.arc_ast.specs.declared.tree.Kind.{Kind}
 use Rattle.arc_ast.specs.Tree.{UnitTree}
-use Rattle.arc_spec.specs.Classes.{classes_of}
-use Rattle.arc_class.specs.declared.table.Declared.{Declared}
+use Rattle.arc_spec.specs.Classes.{classes_of, lookup}
+use Rattle.arc_class.specs.declared.table.ClassId.{ClassId}
 use Rattle.arc_class.specs.declared.table.ClassTable.{ClassTable}
+use Rattle.arc_class.specs.declared.table.Declared.{Declared}
 use Rattle.arc_class.specs.declared.table.Entry.{Entry}
-use Rattle.arc_class.specs.Classes.{class_number, superclass, or_result, known_result, selector_number, classes}
+use Rattle.arc_class.specs.declared.table.MethodId.{MethodId}
+use Rattle.arc_class.specs.declared.table.Sel.{Sel}
+use Rattle.arc_class.specs.declared.table.Sign.{Sign}
+use Rattle.arc_class.specs.declared.table.Sign.TheVariants as sign
+use Rattle.arc_class.specs.Classes.{and_name, class_number, superclass, or_result, known_result, selector_number, classes}
 use Rattle.arc_class.specs.Names.{known, number_of, is_main}
+
+-- the numbers that stand for classes, selectors and methods
+abbrev pub number_of_class : ClassId → ℕ
+number_of_class class = class.0
+
+abbrev pub number_of_selector : Sel → ℕ
+number_of_selector selector = selector.0
+
+abbrev pub number_of_method : MethodId → ℕ
+number_of_method method = method.0
 
 -- what a map from names has at a name
 abbrev pub at_name : {X : Type 0} → BTreeMap (Bor (List ℕ)) X → List ℕ → Option X
@@ -64,6 +79,35 @@ selector_name table number = name_at (slice_get table.selectors.keys number)
     name_at : Option (Bor (List ℕ)) → List ℕ
     name_at None = []
     name_at (Some key) = key.now
+
+-- the method that a message with a selector finds, from a class up to the root (OPL, "How Messaging Works"); so far instances have none
+abbrev pub method_in : ClassTable → (class : ℕ) → Sign → (selector : ℕ) → Option ℕ
+method_in table class sign.Class selector = lookup (classes_of table.classes.items) (Some class) selector (colons (selector_name table selector))
+method_in table class sign.Instance selector = None
+
+-- the names of all selectors, in the order of their numbers
+abbrev pub selector_names : ClassTable → List (List ℕ)
+selector_names table = map (λ key. key.now) table.selectors.keys
+
+-- a table with the same functions and classes, of whose selectors nothing is said
+pub record KeepsDeclared (old new : ClassTable) : Type 0 where
+  pub functions : new.functions ≡ old.functions
+  pub main : new.main ≡ old.main
+  pub names : new.names ≡ old.names
+  pub entries : new.entries ≡ old.entries
+  pub classes : new.classes ≡ old.classes
+
+-- a table that knows the same
+pub record IsSameTable (old new : ClassTable) : Type 0 where
+  pub declared : KeepsDeclared old new
+  pub selectors : selector_names new ≡ selector_names old
+
+-- The name is a selector's from now on, and this is its number. A new one stands behind the others, whose numbers stay (Runtime Reference,
+-- `sel_registerName`).
+pub record Registers (old : ClassTable) (name : List ℕ) (new : ClassTable) (number : ℕ) : Type 0 where
+  pub declared : KeepsDeclared old new
+  pub selectors : selector_names new ≡ and_name (selector_names old) name
+  pub is_numbered : selector_in new name ≡ Some number
 
 -- The table is one of a source: it knows what is known of each name, which function is `main`, and the classes, their methods and the selectors.
 pub record IsTableOf (u : UnitTree) (table : ClassTable) : Type 0 where

@@ -45,6 +45,7 @@ fn expression<'a>(known: &Known<'a>, expr: &'a Expr) -> Option<ClassFault>
             let left = expression(known, left);
             earlier(left, expression(known, right))
         }
+        Expr::Send(_, _, _, _, arguments) => expressions(known, arguments),
     }
 }
 
