@@ -5,7 +5,7 @@ use Rattle.arc_ast.specs.declared.tree.Stmt.{Stmt}
 use Rattle.arc_ast.specs.declared.tree.Function.{Function}
 use Rattle.arc_ast.specs.Tree.{ParameterTree, stmt_tree, stmt_trees, function_tree, function_trees}
 use Rattle.arc_class.specs.Broken.{Broken, first, earlier_of}
-use Rattle.arc_class.proofs.Firsts.{first_turn, first_both}
+use Rattle.arc_class.proofs.Firsts.{first_turn}
 use Rattle.arc_check.specs.Rules.{broken_parameters, broken_stmt, broken_stmts, broken_body, broken_function, broken_functions}
 use Rattle.arc_check.specs.Scopes.{Known, Scope, outermost, with_parameters, leave, behind, behind_all}
 use Rattle.arc_check.proofs.Lists.{drop_turn}

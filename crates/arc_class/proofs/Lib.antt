@@ -7,3 +7,7 @@ pub mod Walks
 pub mod Looks
 pub mod Answering
 pub mod Results
+pub mod Keeping
+pub mod Rules
+pub mod Parts
+pub mod Tables

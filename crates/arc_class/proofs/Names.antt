@@ -1,5 +1,5 @@
 -- Names, their equality and their numbers in a list.
-use Rattle.std.proofs.Common.{◌≡◌, ℕ, suc, ◌+◌, Bool, true, false, not, cond, ◌||◌, List, [], ◌∷◌, ◌++◌, length, map, Option, Some, None, option_map, nat_lt, if◌then◌else◌, position, refl, sym, ap, ◌∙◌, arith}
+use Rattle.std.proofs.Common.{◌≡◌, ℕ, suc, ◌+◌, Bool, true, false, not, cond, ◌||◌, List, [], ◌∷◌, ◌++◌, length, Option, Some, None, option_map, nat_lt, if◌then◌else◌, position, refl, sym, ap, ◌∙◌, arith}
 use Rattle.std.specs.Borrow.{Bor}
 use Rattle.std.specs.List.{list_any, position_or_len}
 use Rattle.std.specs.Str.{bytes_eq}
@@ -8,6 +8,7 @@ use Rattle.std.proofs.lemmas.Bool.Decides.{nat_tests, Decides-ltb}
 use Rattle.std.proofs.lemmas.Slice.Eq.{bytes_eq-Decides}
 use Rattle.indexmap.specs.IndexSet.{insert_key}
 use Rattle.arc_class.specs.Classes.{among, and_name, number_among}
+use Rattle.arc_class.specs.Table.{names_of}
 
 pub self_eq : (name : List ℕ) → bytes_eq name name ≡ true
 self_eq name = (bytes_eq-Decides name name).1 refl
@@ -73,9 +74,6 @@ module _ {X : Type 0} (t : X → Bool) where
       go false c e h = next c e h
 
 -- ---- names that stand in a set
-
-abbrev pub names_of : List (Bor (List ℕ)) → List (List ℕ)
-names_of = map (λ key. key.now)
 
 any_among : (ks : List (Bor (List ℕ))) (name : List ℕ) → list_any (λ key. bytes_eq name key.now) ks ≡ among (names_of ks) name
 any_among [] name = refl

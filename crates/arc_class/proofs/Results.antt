@@ -56,19 +56,17 @@ no_class n k table class selector lt none =
     no_superclass table class none = rw none refl
 
 pub in_class : (n k : ℕ) (table : ClassTable) (class : ℕ) (selector : List ℕ) (e : Entry) → k < n → slice_get table.entries.items class ≡ Some e
-    → results_left (n - k) table (Some class) selector ≡ or_result (at_name e.results selector) (results_left (n - (k + 1)) table e.superclass selector)
+    → results_left (n - k) table (Some class) selector ≡ or_result (own_result_in (Some e) selector) (results_left (n - (k + 1)) table e.superclass selector)
 in_class n k table class selector e lt some =
     further n k table class selector lt ∙ ap (λ o. or_result (own_result_in o selector) (results_left (n - (k + 1)) table (superclass_in table class) selector)) some
-    ∙ ap (λ above. or_result (at_name e.results selector) (results_left (n - (k + 1)) table above selector)) (its_superclass table class e some)
+    ∙ ap (λ above. or_result (own_result_in (Some e) selector) (results_left (n - (k + 1)) table above selector)) (its_superclass table class e some)
   where
     its_superclass : (table : ClassTable) (class : ℕ) (e : Entry) → slice_get table.entries.items class ≡ Some e → superclass_in table class ≡ e.superclass
     its_superclass table class e some = rw some refl
 
 -- the own method comes first, and with none the next class is asked
-pub own_first : (own : Option Kind) (all above : Option Kind) (there : is_some own ≡ true) (e : Option Kind) → own ≡ e → all ≡ or_result e above → own ≡ all
-own_first None all above there e same is = absurd (true≢false (sym there))
-own_first (Some a) all above there e same is = sym (is ∙ ap (λ o. or_result o above) (sym same))
+pub own_first : (own : Option Kind) (kind : Kind) (all above : Option Kind) → own ≡ Some kind → all ≡ or_result own above → Some kind ≡ all
+own_first own kind all above same is = sym (is ∙ ap (λ o. or_result o above) same)
 
-pub above_next : (own : Option Kind) (all above : Option Kind) (missing : is_some own ≡ false) (e : Option Kind) → own ≡ e → all ≡ or_result e above → all ≡ above
-above_next None all above missing e same is = is ∙ ap (λ o. or_result o above) (sym same)
-above_next (Some a) all above missing e same is = absurd (true≢false missing)
+pub above_next : (own : Option Kind) (all above : Option Kind) → own ≡ None → all ≡ or_result own above → all ≡ above
+above_next own all above missing is = is ∙ ap (λ o. or_result o above) missing

@@ -4,8 +4,9 @@ use mathlib.Core.Former.{Count}
 use Rattle.arc_ast.specs.declared.tree.Expr.{Expr, Call, Call', Send, Send', Row_of-Expr, end_of-Expr, more_of-Expr, items-the_row-Expr, items_hidden-the_row-Expr-0}
 use Rattle.arc_ast.specs.declared.tree.Stmt.{Stmt, Block, Block', Row_of-Stmt, end_of-Stmt, more_of-Stmt, items-the_row-Stmt, items_hidden-the_row-Stmt-0}
 use Rattle.arc_ast.specs.declared.tree.Parameter.{Parameter}
+use Rattle.arc_ast.specs.declared.tree.Method.{Method}
 use Rattle.arc_ast.specs.declared.tree.Receiver.{Receiver}
-use Rattle.arc_ast.specs.Tree.{and_expr, receiver_tree, expr_tree, expr_trees, row_exprs, and_stmt, stmt_tree, stmt_trees, row_stmts, parameter_trees}
+use Rattle.arc_ast.specs.Tree.{and_expr, receiver_tree, expr_tree, expr_trees, row_exprs, and_stmt, stmt_tree, stmt_trees, row_stmts, parameter_trees, method_trees}
 use Rattle.arc_ast.specs.Tree as tree
 
 abbrev arguments_of : Expr → (n : Count) × Row_of-Expr n
@@ -44,3 +45,7 @@ block_tree at all =
 pub length-parameter_trees : (all : List Parameter) → length (parameter_trees all) ≡ length all
 length-parameter_trees [] = refl
 length-parameter_trees (p ∷ all) = ap suc (length-parameter_trees all)
+
+pub length-method_trees : (all : List Method) → length (method_trees all) ≡ length all
+length-method_trees [] = refl
+length-method_trees (m ∷ all) = ap suc (length-method_trees all)

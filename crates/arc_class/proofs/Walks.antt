@@ -8,7 +8,7 @@ use Rattle.arc_ast.specs.declared.tree.Variable.{Variable}
 use Rattle.arc_ast.specs.declared.tree.Parameter.{Parameter}
 use Rattle.arc_ast.specs.declared.tree.Function.{Function}
 use Rattle.arc_ast.specs.declared.tree.Receiver.{Receiver}
-use Rattle.arc_ast.specs.Tree.{expr_tree, expr_trees, stmt_tree, stmt_trees, variable_trees, parameter_trees, parameters_tree, function_tree, function_trees}
+use Rattle.arc_ast.specs.Tree.{ParameterTree, StmtTrees, expr_tree, expr_trees, stmt_tree, stmt_trees, variable_trees, parameter_trees, parameters_tree, function_tree, function_trees}
 use Rattle.arc_class.specs.Broken.{Broken, first, earlier_of}
 use Rattle.arc_class.specs.Bodies.{broken_if, broken_expr, broken_exprs, broken_maybe, broken_variables, broken_stmt, broken_stmts, broken_parameters, broken_function, no_name, and_name, names_with, names_after, names_taken, named_parameters, broken_body}
 use Rattle.arc_class.specs.Functions.{broken_functions}
@@ -74,11 +74,14 @@ block_is L names inner a at all items e m p =
 
 -- ---- a function
 
-pub function_is : (L names : List ℕ → Bool) (a : Function) (body : Vec Stmt Global) (named : List Parameter) (items : List Stmt) (scope : List ℕ → Bool) (one other both : Option Broken) → a.body ≡ Some body → items ≡ body.items
-    → named_parameters (parameters_tree a.parameters) ≡ parameter_trees named → names ≡ no_name → one ≡ first (broken_parameters names (parameter_trees named)) → scope ≡ names_taken names (parameter_trees named)
-    → other ≡ first (broken_stmts L scope (stmt_trees items)) → both ≡ earlier_of one other → both ≡ first (broken_function L (function_tree a))
-function_is L names a body named items scope one other both e m n p o s h b =
-    let ps = parameter_trees named in
-    first_both (broken_parameters no_name ps) (broken_stmts L (names_taken no_name ps) (stmt_trees body.items)) one other both (o ∙ ap (λ q. first (broken_parameters q ps)) p)
-    (h ∙ ap (λ q. first (broken_stmts L q (stmt_trees items))) (s ∙ ap (λ q. names_taken q ps) p) ∙ ap (λ us. first (broken_stmts L (names_taken no_name ps) (stmt_trees us))) m) b
+pub inside_is : (L names scope : List ℕ → Bool) (ps : List ParameterTree) (items : StmtTrees) (one other both : Option Broken) → names ≡ no_name → one ≡ first (broken_parameters names ps) → scope ≡ names_taken names ps
+    → other ≡ first (broken_stmts L scope items) → both ≡ earlier_of one other → both ≡ first (broken_parameters no_name ps ++ broken_stmts L (names_taken no_name ps) items)
+inside_is L names scope ps items one other both p o s h b =
+    first_both (broken_parameters no_name ps) (broken_stmts L (names_taken no_name ps) items) one other both (o ∙ ap (λ q. first (broken_parameters q ps)) p)
+    (h ∙ ap (λ q. first (broken_stmts L q items)) (s ∙ ap (λ q. names_taken q ps) p)) b
+
+pub function_is : (L : List ℕ → Bool) (a : Function) (body : Vec Stmt Global) (named : List Parameter) (items : List Stmt) → a.body ≡ Some body → items ≡ body.items → named_parameters (parameters_tree a.parameters) ≡ parameter_trees named
+    → first (broken_parameters no_name (parameter_trees named) ++ broken_stmts L (names_taken no_name (parameter_trees named)) (stmt_trees items)) ≡ first (broken_function L (function_tree a))
+function_is L a body named items e m n =
+    ap (λ us. first (broken_parameters no_name (parameter_trees named) ++ broken_stmts L (names_taken no_name (parameter_trees named)) (stmt_trees us))) m
     ∙ ap (λ qs. first (broken_body L qs (Some (stmt_trees body.items)))) (sym n) ∙ sym (ap (λ o. first (broken_body L (named_parameters (parameters_tree a.parameters)) (option_map (λ b. stmt_trees b.items) o))) e)

@@ -8,3 +8,5 @@ pub mod Table
 pub mod Fault
 pub mod Look
 pub mod Walk
+pub mod Kept
+pub mod Entries

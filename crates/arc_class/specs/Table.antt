@@ -1,5 +1,5 @@
 -- What a table of a source is.
-use Rattle.std.specs.Prelude.{◌≡◌, ℕ, zero, suc, ◌-◌, List, [], ◌∷◌, length, map, position, slice_get, nat_eq, Option, Some, None, if◌then◌else◌}
+use Rattle.std.specs.Prelude.{◌≡◌, ℕ, zero, suc, ◌-◌, List, [], ◌∷◌, length, map, position, slice_get, nat_eq, Option, Some, None, option_map, if◌then◌else◌}
 use Rattle.std.specs.Str.{bytes_eq}
 use Rattle.std.specs.BTreeMap.{BTreeMap, get_by}
 use Rattle.std.specs.Cmp.Lexicographic.{slice_cmp}
@@ -13,10 +13,11 @@ use Rattle.arc_class.specs.declared.table.ClassTable.{ClassTable}
 use Rattle.arc_class.specs.declared.table.Declared.{Declared}
 use Rattle.arc_class.specs.declared.table.Entry.{Entry}
 use Rattle.arc_class.specs.declared.table.MethodId.{MethodId}
+use Rattle.arc_class.specs.declared.table.Place.{Place}
 use Rattle.arc_class.specs.declared.table.Sel.{Sel}
 use Rattle.arc_class.specs.declared.table.Sign.{Sign}
 use Rattle.arc_class.specs.declared.table.Sign.TheVariants as sign
-use Rattle.arc_class.specs.Classes.{and_name, class_number, superclass, or_result, known_result, selector_number, classes}
+use Rattle.arc_class.specs.Classes.{and_name, is_root, class_number, superclass, or_result, known_result, selector_number, classes}
 use Rattle.arc_class.specs.Names.{known, number_of, is_main}
 
 -- the numbers that stand for classes, selectors and methods
@@ -37,18 +38,21 @@ at_name map name = get_by (λ key. slice_cmp nat_cmp name key.now) map
 abbrev pub function_in : ClassTable → List ℕ → Option Declared
 function_in table = at_name table.functions
 
--- the number of the class with a name, by a table
+-- the number of the class with a name, by a map from the names of interfaces, and by a table
+abbrev pub class_number_in : BTreeMap (Bor (List ℕ)) Place → List ℕ → Option ℕ
+class_number_in names name = if is_root name then Some 0 else option_map (λ p. p.number) (at_name names name)
+
 abbrev pub class_in : ClassTable → List ℕ → Option ℕ
-class_in table name = position (λ key. bytes_eq name key.now) table.names.keys
+class_in table = class_number_in table.names
 
 -- the number of the selector with a name, by a table
 abbrev pub selector_in : ClassTable → List ℕ → Option ℕ
 selector_in table name = position (λ key. bytes_eq name key.now) table.selectors.keys
 
--- what the method gives that a class and those above it have for a selector, by a table of what the methods of each class give
+-- what the method gives that a class and those above it have for a selector, by a table of the methods of each class
 abbrev pub own_result_in : Option Entry → List ℕ → Option Kind
 own_result_in None selector = None
-own_result_in (Some e) selector = at_name e.results selector
+own_result_in (Some e) selector = option_map (λ h. h.now.result) (at_name e.methods selector)
 
 abbrev pub superclass_in : ClassTable → ℕ → Option ℕ
 superclass_in table class = superclass_at (slice_get table.entries.items class)
@@ -86,8 +90,11 @@ method_in table class sign.Class selector = lookup (classes_of table.classes.ite
 method_in table class sign.Instance selector = None
 
 -- the names of all selectors, in the order of their numbers
+abbrev pub names_of : List (Bor (List ℕ)) → List (List ℕ)
+names_of = map (λ key. key.now)
+
 abbrev pub selector_names : ClassTable → List (List ℕ)
-selector_names table = map (λ key. key.now) table.selectors.keys
+selector_names table = names_of table.selectors.keys
 
 -- a table with the same functions and classes, of whose selectors nothing is said
 pub record KeepsDeclared (old new : ClassTable) : Type 0 where

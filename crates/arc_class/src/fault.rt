@@ -1,10 +1,11 @@
 //! Why a source has no table.
 ghost use Rattle.std.specs.Prelude.{◌≡◌, option_map};
-ghost use Rattle.arc_class.specs.Broken.{earlier_of};
+ghost use Rattle.arc_class.specs.Bodies.{broken_if};
+ghost use Rattle.arc_class.specs.Broken.{earlier_of, first};
 ghost use Rattle.arc_class.specs.declared.fault.ClassFault.TheVariants.{Memory};
 ghost use Rattle.arc_class.specs.Fault.{fault_number, fault_name, fault_at, told};
 
-use std::alloc::AllocError;
+use std::alloc::{AllocError, AllocFailed};
 use thiserror::Error;
 
 /// Why a source has no table: the first rule that its declarations break, or no memory.
@@ -94,6 +95,21 @@ impl From<AllocError> for ClassFault {
     fn from(_error: AllocError) -> ClassFault {
         ClassFault::Memory
     }
+}
+
+impl<T: Drop> From<AllocFailed<T>> for ClassFault {
+    ghost from_gives = { λ _ fault. fault ≡ Memory };
+
+    fn from(_error: AllocFailed<T>) -> ClassFault {
+        ClassFault::Memory
+    }
+}
+
+/// The fault, if the rule is broken.
+pub(crate) fn fault_if(breaks: bool, fault: ClassFault) -> Option<ClassFault>
+    ensures { option_map told result ≡ first (broken_if breaks (fault_at fault) (fault_number fault)) }
+{
+    if breaks { Some(fault) } else { None }
 }
 
 /// The fault that is told of two.

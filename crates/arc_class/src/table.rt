@@ -1,19 +1,24 @@
 //! The table that the later stages look names up in.
-ghost use Rattle.std.specs.Prelude.{◌≡◌, [], option_map, IfOk, IfErr, OnErr};
+ghost use Rattle.std.specs.Prelude.{◌≡◌, [], Some, option_map, IfOk, IfErr, OnErr};
 ghost use Rattle.arc_ast.specs.Tree.{unit_tree};
 ghost use Rattle.arc_class.specs.Broken.{first};
+ghost use Rattle.arc_class.specs.Classes.{is_root};
 ghost use Rattle.arc_class.specs.ClassRules.{broken};
+ghost use Rattle.arc_class.specs.declared.fault.ClassFault.TheVariants.{Memory};
 ghost use Rattle.arc_class.specs.Fault.{Refuses, told};
 ghost use Rattle.arc_class.specs.Functions.{missing_main};
-ghost use Rattle.arc_class.specs.Table.{IsTableOf, at_name, function_in, class_in, superclass_in, result_in_table, method_in, selector_in, selector_name, colons, number_of_class, number_of_selector, number_of_method, IsSameTable, Registers};
+ghost use Rattle.arc_class.specs.Kept.{Knows};
+ghost use Rattle.arc_class.specs.Names.{number_of, is_main};
+ghost use Rattle.arc_class.specs.Table.{IsTableOf, at_name, function_in, class_number_in, class_in, superclass_in, result_in_table, method_in, selector_in, selector_name, colons, number_of_class, number_of_selector, number_of_method, IsSameTable, Registers};
 
 use crate::fault::{ClassFault, earlier};
-use crate::look::{Seen, look};
+use crate::building::{Selectors, selectors};
+use crate::kept::{Heads, Source};
+use crate::look::look;
 use crate::walk::walk;
 use arc_ast::tree::{Kind, TranslationUnit};
 use arc_spec::class::{Class, look_up};
 use arc_spec::event::NoMemory;
-use indexmap::IndexSet;
 use std::alloc::Global;
 use std::collections::BTreeMap;
 
@@ -35,11 +40,41 @@ pub struct Declared {
 /// What is known of each name.
 pub type Known<'a> = BTreeMap<&'a [u8], Declared>;
 
-/// What is known of the name.
-pub(crate) fn at_name<'a>(known: &Known<'a>, name: &'a [u8]) -> Option<Declared>
-    ensures { result ≡ at_name known.now name.now }
+/// What the map has at the name.
+pub(crate) fn at_name<'a, V: Copy>(map: &BTreeMap<&'a [u8], V>, name: &'a [u8]) -> Option<V>
+    ensures { result ≡ at_name map.now name.now }
 {
-    known.get(&name).copied()
+    map.get(&name).copied()
+}
+
+/// The first interface of a name: the number of its class, and the place of the name.
+#[derive(Clone, Copy, Debug, PartialEq, Eq)]
+pub struct Place {
+    pub number: usize,
+    pub at: usize,
+}
+
+/// The first interface of each name.
+pub type Names<'a> = BTreeMap<&'a [u8], Place>;
+
+/// Whether this is the name of the root class.
+pub(crate) fn is_root(name: &[u8]) -> bool
+    ensures { result ≡ is_root name.now }
+{
+    name == b"NSObject".as_slice()
+}
+
+/// The number of the class with the name.
+pub(crate) fn class_number<'a>(names: &Names<'a>, name: &'a [u8]) -> Option<usize>
+    ensures { result ≡ class_number_in names.now name.now }
+{
+    if is_root(name) {
+        return Some(0);
+    }
+    match at_name(names, name) {
+        None => None,
+        Some(place) => Some(place.number),
+    }
 }
 
 /// The fault of a source in which no function that a program can begin with has a body.
@@ -94,11 +129,11 @@ pub enum Sign {
     Instance,
 }
 
-/// What a table knows of a class: its superclass, and what each of its own methods gives.
+/// What a table knows of a class: its superclass, and its own methods by their selectors.
 #[derive(Debug, Drop)]
 pub struct Entry<'a> {
     pub superclass: Option<usize>,
-    pub results: BTreeMap<&'a [u8], Kind>,
+    pub methods: Heads<'a>,
 }
 
 /// What a source declares: its functions, its classes with their methods, and its selectors.
@@ -107,9 +142,9 @@ pub struct ClassTable<'a> {
     functions: Known<'a>,
     /// Which of the functions with a body is `main`, counted from 0.
     pub main: usize,
-    names: IndexSet<&'a [u8]>,
+    names: Names<'a>,
     entries: Vec<Entry<'a>>,
-    selectors: IndexSet<&'a [u8]>,
+    selectors: Selectors<'a>,
     /// The classes as a running program knows them.
     pub classes: Vec<Class>,
 }
@@ -126,7 +161,7 @@ impl<'a> ClassTable<'a> {
     pub fn objc_get_class(&self, name: &'a [u8]) -> Option<ClassId>
         ensures { option_map number_of_class result ≡ class_in self.now name.now }
     {
-        self.names.get_index_of(&name).map(ClassId)
+        class_number(&self.names, name).map(ClassId)
     }
 
     /// The superclass of the class, which the root has none of (Runtime Reference, `class_getSuperclass`).
@@ -151,9 +186,8 @@ impl<'a> ClassTable<'a> {
             let Some(entry) = self.entries.get(number) else {
                 return None;
             };
-            let own = entry.results.get(&selector).copied();
-            if own.is_some() {
-                return own;
+            if let Some(head) = at_name(&entry.methods, selector) {
+                return Some(head.result);
             }
             next = entry.superclass;
         }
@@ -200,6 +234,32 @@ impl<'a> ClassTable<'a> {
         }
     }
 
+    /// The table of a source whose names are known and in which this function is `main`. Memory:
+    /// there was none, or so many methods have no numbers.
+    fn of(alloc: Global, source: Source<'a>, main: usize) -> Result<ClassTable<'a>, ClassFault>
+        requires knows { Knows (unit_tree source.unit.now) source }
+        requires main { number_of is_main (unit_tree source.unit.now).functions ≡ Some main }
+        ensures table { IfOk result (λ table. IsTableOf (unit_tree source.entry.unit.now) table) }
+        ensures refused { IfErr result (λ fault. fault ≡ Memory) }
+    {
+        let selectors = selectors(alloc, source.unit)?;
+        let entries = source.entries(alloc)?;
+        let classes = source.classes(alloc, &selectors)?;
+        let Source {
+            known,
+            names,
+            ..
+        } = source;
+        Ok(ClassTable {
+            functions: known,
+            main,
+            names,
+            entries,
+            selectors,
+            classes,
+        })
+    }
+
     /// The table of a source whose declarations break no rule, or the fault that tells the first rule that is broken: the one at the
     /// earliest place, and there the one with the lowest number. The fault names a byte of the source.
     pub fn build(alloc: Global, unit: &'a TranslationUnit) -> Result<ClassTable<'a>, ClassFault>
@@ -207,6 +267,16 @@ impl<'a> ClassTable<'a> {
         ensures table { IfOk result (λ table. IsTableOf (unit_tree unit.now) table) }
         ensures refused { IfErr result (λ fault. Refuses (broken (unit_tree unit.now)) fault) }
     {
-        Err(ClassFault::Memory)
+        let seen = look(alloc, &unit.functions)?;
+        let inside = walk(alloc, &seen.known, &unit.functions)?;
+        let functions = earlier(seen.fault, earlier(missing_main(seen.main), inside));
+        let main = seen.main;
+        let source = Source::new(alloc, unit, seen.known, seen.bodies)?;
+        let classes = source.classes_fault(alloc)?;
+        match (earlier(functions, classes), main) {
+            (Some(fault), _) => Err(fault),
+            (None, Some(main)) => ClassTable::of(alloc, source, main),
+            (None, None) => Err(ClassFault::NoMain),
+        }
     }
 }
