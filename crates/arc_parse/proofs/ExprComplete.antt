@@ -6,7 +6,7 @@ use Rattle.arc_lex.specs.declared.token.Mark.TheVariants as m
 use Rattle.arc_lex.specs.Tokens.{Tok, Sign}
 use Rattle.arc_ast.specs.declared.tree.BinaryOperator.{BinaryOperator}
 use Rattle.arc_ast.specs.declared.tree.BinaryOperator.TheVariants.{Add, Subtract, Multiply, Divide, NotEqual}
-use Rattle.arc_ast.specs.Tree.{ExprTree, ExprTrees, Integer, Text, Paren, Call, Negate, Binary, Name, Assign, no_exprs, and_expr, place}
+use Rattle.arc_ast.specs.Tree.{ExprTree, ExprTrees, Integer, Text, Paren, Call, Negate, Binary, Name, Assign, no_exprs, and_expr}
 use Rattle.arc_parse.specs.Grammar.{Spells, SpellsArguments, mark_of, binds, widest}
 use Rattle.arc_parse.specs.Reader.{Read, misfit, bind, ret, begins, is_mark, sees_mark}
 use Rattle.arc_parse.specs.ExprRules.{expr, unary, more, arguments, operator_of, is_operator, mark_operator, parenthesized_by, given_by, call_by, named_by, primary_by, negate_by, unary_by, binary_by, more_by, is_unary, assign_by, expr_by, arguments_by, read}

@@ -9,7 +9,7 @@ use Rattle.arc_parse.specs.Reader.{Read, Reader, misfit, too_deep, bind, â—Œ>>=â
 use Rattle.arc_parse.specs.Knot.{deep, tied}
 use Rattle.arc_parse.specs.ExprRules.{expr}
 use Rattle.arc_parse.specs.ExprRules as exprs
-use Rattle.arc_parse.specs.UnitRules.{Rule, Node, Rules, stmt, items, more_variables, more_parameters, functions, begins_expr, begins_sort, begins_stmt, full, simple_by, empty, value_by, return_by, block_by, test_by, else_by, if_by, while_by, worded_by, stmt_by, initial_by, variable_by, next_variable_by, more_variables_by, variables_by, declaration_by, perhaps_by, item_by, items_by, texts_name, perhaps_const, texts, parameter, next_parameter, more_parameters_by, begins_texts, with_others_by, second_by, some_by, parameters_by, result_kind, head_by, body_by, function_by, functions_by, body, read, unit}
+use Rattle.arc_parse.specs.UnitRules.{Rule, Rules, stmt, items, more_variables, more_parameters, functions, begins_expr, begins_stmt, full, simple_by, value_by, return_by, block_by, test_by, else_by, if_by, while_by, worded_by, stmt_by, initial_by, variable_by, next_variable_by, more_variables_by, variables_by, declaration_by, perhaps_by, item_by, items_by, parameter, more_parameters_by, with_others_by, second_by, some_by, parameters_by, result_kind, head_by, body_by, function_by, functions_by, body, read, unit}
 use Rattle.arc_parse.proofs.Local.{fault_of}
 use Rattle.arc_parse.proofs.UnitBegin.{no, neither, no_expr, none_left}
 

@@ -13,8 +13,8 @@ use Rattle.arc_parse.specs.Language.{Language, ◌⨾◌, ◌∣◌, The, TheWor
 use Rattle.arc_parse.specs.Reader.{Reader, any, begins, is_mark, is_word, sees_mark, sees_word}
 use Rattle.arc_parse.specs.ExprRules.{mark_operator}
 use Rattle.arc_parse.specs.Limits.{Limits, AtMost, Nested, nested, cut, up_to, plain, plainly}
-use Rattle.arc_parse.specs.Grammar.{widest, Full, SpellsValue, SpellsInitial, SpellsVariable, SpellsVariables, SpellsMoreVariables, SpellsDeclaration, SpellsTest, is_open, SpellsStmt, SpellsStmts, main_bytes, SpellsResult, SpellsParameter, SpellsMoreParameters, TextsName, SpellsParameters, SpellsHead, SpellsBody, SpellsFunction, SpellsUnit}
-use Rattle.arc_parse.specs.UnitRules.{Rules, stmt, items, more_variables, more_parameters, functions, begins_expr, begins_stmt, full, simple_by, empty, value_by, return_by, block_by, test_by, else_by, if_by, while_by, worded_by, stmt_by, initial_by, variable_by, more_variables_by, next_variable_by, variables_by, declaration_by, perhaps_by, item_by, items_by, texts_name, perhaps_const, texts, parameter, next_parameter, more_parameters_by, begins_texts, with_others_by, second_by, some_by, parameters_by, result_kind, head_by, body_by, function_by, functions_by, read}
+use Rattle.arc_parse.specs.Grammar.{widest, Full, SpellsValue, SpellsInitial, SpellsVariable, SpellsMoreVariables, SpellsDeclaration, SpellsTest, is_open, SpellsStmt, SpellsStmts, main_bytes, SpellsResult, SpellsParameter, SpellsMoreParameters, TextsName, SpellsParameters, SpellsHead, SpellsBody, SpellsFunction, SpellsUnit}
+use Rattle.arc_parse.specs.UnitRules.{stmt, items, more_variables, more_parameters, functions, begins_expr, begins_stmt, full, simple_by, empty, value_by, return_by, block_by, test_by, else_by, if_by, while_by, worded_by, stmt_by, initial_by, variable_by, more_variables_by, next_variable_by, variables_by, declaration_by, perhaps_by, item_by, items_by, texts_name, perhaps_const, texts, parameter, next_parameter, more_parameters_by, begins_texts, with_others_by, second_by, some_by, parameters_by, result_kind, head_by, body_by, function_by, functions_by, read}
 use Rattle.arc_parse.proofs.ExprComplete.{complete, ends_mark}
 use Rattle.arc_parse.proofs.UnitBegin.{begun, not_there, mark_not_there, word_not_there, stmt_begun, stmt_not_close, stmt_not_else, stmt_not_int, int_not_close, int_not_else, close_not_else}
 use Rattle.arc_parse.proofs.UnitLocal.{read_is}

@@ -1,7 +1,6 @@
 -- What the rules that the code follows read.
 use Rattle.std.proofs.Common.{◌≡◌, ℕ, List}
 use Rattle.arc_lex.specs.Tokens.{Tok}
-use Rattle.arc_ast.specs.Tree.{StmtTree}
 use Rattle.arc_parse.specs.Limits.{these, nested}
 use Rattle.arc_parse.specs.Reader.{any}
 use Rattle.arc_parse.specs.UnitRules.{read, stmt, items, more_variables, more_parameters, functions, stmt_by, items_by, more_variables_by, more_parameters_by, functions_by}

@@ -7,12 +7,12 @@ use Rattle.arc_lex.specs.Tokens.{Tok, Key, Sign}
 use Rattle.arc_lex.specs.Tokens as tokens
 use Rattle.arc_ast.specs.declared.tree.Kind.{Kind}
 use Rattle.arc_ast.specs.Tree.{ExprTree, VariableTree, StmtTree, StmtTrees, ParameterTree, ParametersTree, FunctionTree, no_stmts, and_stmt}
-use Rattle.arc_parse.specs.Language.{One, ◌⨾◌, The}
+use Rattle.arc_parse.specs.Language.{One}
 use Rattle.arc_parse.specs.Reader.{Reader, too_deep}
 use Rattle.arc_parse.specs.Limits.{Limits, AtMost}
 use Rattle.arc_parse.specs.Knot.{deep, tied}
 use Rattle.arc_parse.specs.Grammar.{SpellsVariable, SpellsTest, SpellsStmts, SpellsHead, SpellsUnit}
-use Rattle.arc_parse.specs.UnitRules.{Rule, Node, Rules, stmt, items, more_variables, more_parameters, functions, begins_expr, begins_sort, begins_stmt, full, simple_by, empty, value_by, return_by, block_by, test_by, else_by, if_by, while_by, worded_by, stmt_by, initial_by, variable_by, next_variable_by, more_variables_by, variables_by, declaration_by, perhaps_by, item_by, items_by, texts_name, perhaps_const, texts, parameter, next_parameter, more_parameters_by, begins_texts, with_others_by, second_by, some_by, parameters_by, result_kind, head_by, body_by, function_by, functions_by, body, read, unit}
+use Rattle.arc_parse.specs.UnitRules.{Rule, Rules, stmt, items, more_variables, more_parameters, functions, simple_by, empty, value_by, return_by, block_by, test_by, else_by, if_by, while_by, worded_by, stmt_by, initial_by, variable_by, next_variable_by, more_variables_by, variables_by, declaration_by, perhaps_by, item_by, items_by, texts_name, perhaps_const, texts, parameter, next_parameter, more_parameters_by, with_others_by, second_by, some_by, parameters_by, result_kind, head_by, body_by, function_by, functions_by, body, read, unit}
 use Rattle.arc_parse.specs.TooDeep.{Role, must, may, takes_test, Heading, Begins, in_body, in_block, in_branch, in_other, BeginsVariable, first_variable, next_variable, of_simple, of_return, of_test, of_variable, TooDeep, statement}
 use Rattle.arc_parse.specs.TooDeep as places
 use Rattle.arc_parse.proofs.Leaves.{sound_expect, sound_keyword, sound_name}
