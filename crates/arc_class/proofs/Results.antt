@@ -30,7 +30,6 @@ none_left zero table selector = refl
 none_left (suc zero) table selector = refl
 none_left (suc (suc n)) table selector = refl
 
-
 -- one class further up
 step : (n : ℕ) (table : ClassTable) (class : ℕ) (selector : List ℕ)
     → results_left (suc n) table (Some class) selector ≡ or_result (own_result_in (slice_get table.entries.items class) selector) (results_left n table (superclass_in table class) selector)

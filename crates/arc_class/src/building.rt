@@ -68,10 +68,7 @@ fn add_defined<'a>(
 }
 
 /// The selectors of a source.
-pub fn selectors<'a>(
-    alloc: Global,
-    unit: &'a TranslationUnit,
-) -> Result<Selectors<'a>, AllocError>
+pub fn selectors<'a>(alloc: Global, unit: &'a TranslationUnit) -> Result<Selectors<'a>, AllocError>
     ensures { IfOk result (λ names. names_of names.keys ≡ selectors (unit_tree unit.now)) }
 {
     let mut names = Selectors::new(alloc);
@@ -120,11 +117,7 @@ fn methods_from<'a>(
 
 impl<'a> Source<'a> {
     /// The methods that a class's interface declares and its implementation defines.
-    fn own_methods(
-        &self,
-        alloc: Global,
-        interface: &'a Interface,
-    ) -> Result<Heads<'a>, AllocError>
+    fn own_methods(&self, alloc: Global, interface: &'a Interface) -> Result<Heads<'a>, AllocError>
         requires { Knows (unit_tree self.now.unit.now) self.now }
         ensures { IfOk result (λ map. (sought : List ℕ) → head_in map sought
             ≡ first_head sought ((interface_tree interface.now).methods ++ heads (defined_by (unit_tree self.now.unit.now).implementations (interface_tree interface.now).name))) }

@@ -136,7 +136,10 @@ impl<'a> Source<'a> {
         let mut before = Scope::new(alloc);
         let mut fault = None;
         for implementation in &self.unit.implementations {
-            fault = earlier(fault, self.implementation_fault(alloc, &before, implementation)?);
+            fault = earlier(
+                fault,
+                self.implementation_fault(alloc, &before, implementation)?,
+            );
             before.insert(&implementation.name, ())?;
         }
         Ok(fault)

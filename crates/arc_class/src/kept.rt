@@ -82,10 +82,7 @@ pub fn keep_methods<'a>(map: &mut Heads<'a>, methods: &'a [Method]) -> Result<()
 }
 
 /// The first method with each selector that interfaces declare.
-fn declared_heads<'a>(
-    alloc: Global,
-    interfaces: &'a [Interface],
-) -> Result<Heads<'a>, AllocError>
+fn declared_heads<'a>(alloc: Global, interfaces: &'a [Interface]) -> Result<Heads<'a>, AllocError>
     ensures { IfOk result (λ map. (sought : List ℕ) → head_in map sought ≡ first_head sought (declared (interface_trees interfaces.now))) }
 {
     let mut map = Heads::new(alloc);
@@ -154,7 +151,11 @@ fn first_implementations<'a>(
     let mut first = first;
     for implementation in implementations {
         let methods: &'a [Method] = &implementation.methods;
-        keep_first(&mut map, &implementation.name, Implemented { first, methods })?;
+        keep_first(
+            &mut map,
+            &implementation.name,
+            Implemented { first, methods },
+        )?;
         if methods.len() > usize::MAX - first {
             return Err(ClassFault::Memory);
         }

@@ -82,9 +82,15 @@ impl<'a> Source<'a> {
             → option_map told fault ≡ first (broken_methods (unit_tree self.now.unit.now) (lacks_body_in (unit_tree self.now.unit.now).functions) earlier (method_tree method.now ∷ []))) }
     {
         let head = &method.head;
-        let again = fault_if(stands(before, &head.selector), ClassFault::Duplicate(head.at));
+        let again = fault_if(
+            stands(before, &head.selector),
+            ClassFault::Duplicate(head.at),
+        );
         let own = earlier(again, self.head_fault(head));
-        Ok(earlier(own, inside(alloc, &self.known, &head.parameters, &method.body)?))
+        Ok(earlier(
+            own,
+            inside(alloc, &self.known, &head.parameters, &method.body)?,
+        ))
     }
 
     /// The first rule that is broken in the methods of an implementation.

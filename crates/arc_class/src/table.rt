@@ -11,8 +11,8 @@ ghost use Rattle.arc_class.specs.Kept.{Knows};
 ghost use Rattle.arc_class.specs.Names.{number_of, is_main};
 ghost use Rattle.arc_class.specs.Table.{IsTableOf, at_name, function_in, class_number_in, class_in, superclass_in, result_in_table, method_in, selector_in, selector_name, colons, number_of_class, number_of_selector, number_of_method, IsSameTable, Registers};
 
-use crate::fault::{ClassFault, earlier};
 use crate::building::{Selectors, selectors};
+use crate::fault::{ClassFault, earlier};
 use crate::kept::{Heads, Source};
 use crate::look::look;
 use crate::walk::walk;
@@ -245,11 +245,7 @@ impl<'a> ClassTable<'a> {
         let selectors = selectors(alloc, source.unit)?;
         let entries = source.entries(alloc)?;
         let classes = source.classes(alloc, &selectors)?;
-        let Source {
-            known,
-            names,
-            ..
-        } = source;
+        let Source { known, names, .. } = source;
         Ok(ClassTable {
             functions: known,
             main,

@@ -13,6 +13,6 @@ loop-head-preserved c =
     let x = c.head-item.result in
     let old = c.loop-head.names.keys in
     let more : names_of c.insert.new.self.keys ≡ and_name (names_of old) x.selector.items =
-        ap names_of c.in_ok-insert.ensures.keys ∙ names_with_key old c.deref.result ∙ ap (and_name (names_of old)) c.deref.ensures.value in
+    ap names_of c.in_ok-insert.ensures.keys ∙ names_with_key old c.deref.result ∙ ap (and_name (names_of old)) c.deref.ensures.value in
     c.loop-head.invariant ∙ ap (λ us. with_selectors (names_of old) (head_trees us)) (drop_turn xs k x c.loop-head-test.true c.head-item.is)
     ∙ ap (λ ns. with_selectors ns (head_trees (drop (k + 1) xs))) (sym more)

@@ -13,6 +13,6 @@ loop-method-preserved c =
     let x = c.method-item.result in
     let old = c.loop-method.names.keys in
     let more : names_of c.insert.new.self.keys ≡ and_name (names_of old) x.head.selector.items =
-        ap names_of c.in_ok-insert.ensures.keys ∙ names_with_key old c.deref.result ∙ ap (and_name (names_of old)) c.deref.ensures.value in
+    ap names_of c.in_ok-insert.ensures.keys ∙ names_with_key old c.deref.result ∙ ap (and_name (names_of old)) c.deref.ensures.value in
     c.loop-method.invariant ∙ ap (λ us. with_selectors (names_of old) (heads (method_trees us))) (drop_turn xs k x c.loop-method-test.true c.method-item.is)
     ∙ ap (λ ns. with_selectors ns (heads (method_trees (drop (k + 1) xs)))) (sym more)

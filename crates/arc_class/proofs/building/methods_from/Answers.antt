@@ -20,7 +20,7 @@ loop-method-preserved c u same =
     let all = c.loop-method.all.items in
     let takes = length c.deref-parameters.result.now in
     let number : c.selector_number.result ≡ or_zero (selector_number u x.head.selector.items) =
-        c.selector_number.ensures ∙ ap (λ n. or_zero (number_among (names_of c.args.selectors.now.keys) n)) c.deref.ensures.value ∙ ap (λ ns. or_zero (number_among ns x.head.selector.items)) same in
+    c.selector_number.ensures ∙ ap (λ n. or_zero (number_among (names_of c.args.selectors.now.keys) n)) c.deref.ensures.value ∙ ap (λ ns. or_zero (number_among ns x.head.selector.items)) same in
     let made = method_made (or_zero (selector_number u x.head.selector.items)) (length (parameter_trees x.head.parameters.items)) runs in
     let next : suc runs ≡ runs + 1 = omega arith in
     let many : takes ≡ length (parameter_trees x.head.parameters.items) = ap length c.deref-parameters.ensures.value ∙ sym (length-parameter_trees x.head.parameters.items) in

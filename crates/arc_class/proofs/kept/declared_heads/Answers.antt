@@ -15,4 +15,4 @@ loop-interface-preserved c sought =
     let old = head_in c.loop-interface.map sought in
     kept_turn old (first_head sought (head_trees x.methods.items)) _ _ _ (c.in_ok-keep_heads.ensures sought ∙ ap (λ us. or_then old (first_head sought (head_trees us))) c.deref.ensures.value)
     (c.loop-interface.invariant sought ∙ ap (or_then old) (ap (λ us. first_head sought (declared (interface_trees us))) (drop_turn xs i x c.loop-interface-test.true c.interface-item.is)
-        ∙ first_head-append sought (head_trees x.methods.items) (declared (interface_trees (drop (i + 1) xs)))))
+    ∙ first_head-append sought (head_trees x.methods.items) (declared (interface_trees (drop (i + 1) xs)))))

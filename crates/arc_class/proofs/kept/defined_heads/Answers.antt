@@ -15,4 +15,4 @@ loop-implementation-preserved c sought =
     let old = head_in c.loop-implementation.map sought in
     kept_turn old (first_head sought (heads (method_trees x.methods.items))) _ _ _ (c.in_ok-keep_methods.ensures sought ∙ ap (λ us. or_then old (first_head sought (heads (method_trees us)))) c.deref.ensures.value)
     (c.loop-implementation.invariant sought ∙ ap (or_then old) (ap (λ us. first_head sought (defined (implementation_trees us))) (drop_turn xs i x c.loop-implementation-test.true c.implementation-item.is)
-        ∙ first_head-append sought (heads (method_trees x.methods.items)) (defined (implementation_trees (drop (i + 1) xs)))))
+    ∙ first_head-append sought (heads (method_trees x.methods.items)) (defined (implementation_trees (drop (i + 1) xs)))))

@@ -19,9 +19,9 @@ loop-implementation-preserved c sought =
     let tree : ℕ × List MethodTree = (first, method_trees x.methods.items) in
     let value : Implemented = record { first = first; methods = c.deref-methods.result } in
     let kept : implemented_in c.keep_first.new.map sought ≡ or_then old (one_at x.name.items tree sought) =
-        kept_map implemented_tree (at_name c.loop-implementation.map sought) _ c.deref.result.now value sought (c.in_ok-keep_first.ensures sought)
-        ∙ ap (λ n. or_then old (one_at n (first, method_trees c.deref-methods.result.now) sought)) c.deref.ensures.value ∙ ap (λ us. or_then old (one_at x.name.items (first, method_trees us) sought)) c.deref-methods.ensures.value in
+    kept_map implemented_tree (at_name c.loop-implementation.map sought) _ c.deref.result.now value sought (c.in_ok-keep_first.ensures sought)
+    ∙ ap (λ n. or_then old (one_at n (first, method_trees c.deref-methods.result.now) sought)) c.deref.ensures.value ∙ ap (λ us. or_then old (one_at x.name.items (first, method_trees us) sought)) c.deref-methods.ensures.value in
     let many : length (method_trees x.methods.items) ≡ length c.deref-methods.result.now = length-method_trees x.methods.items ∙ ap length (sym c.deref-methods.ensures.value) in
     kept_turn old (one_at x.name.items tree sought) _ _ _ kept
     (c.loop-implementation.invariant sought ∙ ap (or_then old) (ap (λ us. implemented first (implementation_trees us) sought) (drop_turn xs i x c.loop-implementation-test.true c.implementation-item.is)
-        ∙ or_one x.name.items tree (implemented (first + length (method_trees x.methods.items)) rest sought) sought ∙ ap (λ n. or_then (one_at x.name.items tree sought) (implemented (first + n) rest sought)) many))
+    ∙ or_one x.name.items tree (implemented (first + length (method_trees x.methods.items)) rest sought) sought ∙ ap (λ n. or_then (one_at x.name.items tree sought) (implemented (first + n) rest sought)) many))

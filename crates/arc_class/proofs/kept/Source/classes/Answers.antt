@@ -19,7 +19,7 @@ loop-interface-preserved c =
     let within : k < length xs = subst (λ us. k < length us) c.deref-interface-items.ensures.value c.loop-interface-test.true in
     let same : x ≡ get_or xs k x = c.interface-item.is ∙ ap (λ us. get_or us k x) c.deref-interface-items.ensures.value in
     let superclass = c.class_number-superclass.ensures ∙ ap (class_number_in source.names) c.deref-in-loop-interface.ensures.value
-        ∙ class_number_kept source.names u.interfaces x.superclass.items (c.requires.knows.class_places x.superclass.items) in
+    ∙ class_number_kept source.names u.interfaces x.superclass.items (c.requires.knows.class_places x.superclass.items) in
     let one : declared.Class = record { superclass = c.class_number-superclass.result; methods = c.in_ok-methods.methods } in
     made_turn class_of c.loop-interface.classes.items c.push-in-loop-interface.new.self.items one (rules.class_of u (interface_tree x)) (map (rules.class_of u) (interface_trees (drop (k + 1) xs))) _
     c.in_ok-push-2.ensures.items (class_is u (interface_tree x) c.class_number-superclass.result c.in_ok-methods.methods.items superclass (c.in_ok-methods.ensures.made ∙ ap (rules.methods_named u (rules.bodies u.functions) u.implementations) c.deref.ensures.value))

@@ -18,7 +18,7 @@ loop-interface-preserved c =
     let within : k < length xs = subst (λ us. k < length us) c.deref-interface-items.ensures.value c.loop-interface-test.true in
     let same : x ≡ get_or xs k x = c.interface-item.is ∙ ap (λ us. get_or us k x) c.deref-interface-items.ensures.value in
     let superclass = c.class_number-superclass.ensures ∙ ap (class_number_in source.names) c.deref.ensures.value
-        ∙ class_number_kept source.names u.interfaces x.superclass.items (c.requires.class_places x.superclass.items) in
+    ∙ class_number_kept source.names u.interfaces x.superclass.items (c.requires.class_places x.superclass.items) in
     let one : Entry = record { superclass = c.class_number-superclass.result; methods = c.in_ok-methods.methods } in
     made_turn entry_tree c.loop-interface.entries.items c.push-in-loop-interface.new.self.items one (class_entry u (interface_tree x)) (map (class_entry u) (interface_trees (drop (k + 1) xs))) _
     c.in_ok-push-2.ensures.items (entry_is u (interface_tree x) c.class_number-superclass.result c.in_ok-methods.methods superclass c.in_ok-methods.ensures)

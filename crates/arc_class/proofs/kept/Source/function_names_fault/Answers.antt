@@ -18,6 +18,6 @@ loop-function-preserved c =
     let within : k < length xs = subst (λ us. k < length us) c.deref-function-items.ensures.value c.loop-function-test.true in
     let same : x ≡ get_or xs k x = c.function-item.is ∙ ap (λ us. get_or us k x) c.deref-function-items.ensures.value in
     let one : option_map told c.fault_if.result ≡ first (broken_if (interface_before u.interfaces x.name.items x.at) x.at 21) =
-        c.fault_if.ensures ∙ ap (λ b. first (broken_if b x.at 21)) (c.place_before-taken.ensures
-        ∙ ap (λ o. place_before o x.at) (c.at_name.ensures ∙ ap (at_name c.args.self.now.names) c.deref.ensures.value ∙ c.requires.class_places x.name.items) ∙ before_places 1 u.interfaces x.name.items x.at) in
+    c.fault_if.ensures ∙ ap (λ b. first (broken_if b x.at 21)) (c.place_before-taken.ensures
+    ∙ ap (λ o. place_before o x.at) (c.at_name.ensures ∙ ap (at_name c.args.self.now.names) c.deref.ensures.value ∙ c.requires.class_places x.name.items) ∙ before_places 1 u.interfaces x.name.items x.at) in
     names_turn u.interfaces xs k x _ _ _ _ within same one c.earlier-fault.ensures c.loop-function.invariant

@@ -16,8 +16,8 @@ returns c earlier held =
     let i = c.args.implementation.now in
     let source = c.args.self.now in
     let known : c.is_some-known.result ≡ is_some (class_number u.interfaces i.name.items) =
-        c.is_some-known.ensures ∙ ap is_some (c.class_number.ensures ∙ ap (class_number_in source.names) c.deref-2.ensures.value
-        ∙ class_number_kept source.names u.interfaces i.name.items (c.requires.class_places i.name.items)) in
+    c.is_some-known.ensures ∙ ap is_some (c.class_number.ensures ∙ ap (class_number_in source.names) c.deref-2.ensures.value
+    ∙ class_number_kept source.names u.interfaces i.name.items (c.requires.class_places i.name.items)) in
     let again = c.is_known-again.ensures ∙ ap (λ n. is_root n || holds c.args.before.now n) c.deref.ensures.value ∙ ap (λ b. is_root i.name.items || b) (held i.name.items) in
     three_told (broken_if (is_root i.name.items || is_implemented earlier i.name.items) i.at 21) (broken_if (is_none (class_number u.interfaces i.name.items)) i.at 22) (broken_methods u (lacks_body_in u.functions) [] (method_trees i.methods.items)) _ _ _ _ _
     (c.fault_if.ensures ∙ ap (λ b. first (broken_if b i.at 21)) again)

@@ -17,7 +17,7 @@ loop-implementation-preserved c =
     let same : x ≡ get_or xs k x = c.implementation-item.is ∙ ap (λ us. get_or us k x) c.deref-implementation-items.ensures.value in
     let old = holds c.loop-implementation.before in
     let more : holds c.insert.new.self ≡ and_name x.name.items old =
-        holds-more c.deref.result.now c.loop-implementation.before c.insert.new.self c.in_ok-insert.ensures.updates ∙ ap (λ n. and_name n old) c.deref.ensures.value in
+    holds-more c.deref.result.now c.loop-implementation.before c.insert.new.self c.in_ok-insert.ensures.updates ∙ ap (λ n. and_name n old) c.deref.ensures.value in
     record {
       fault = implementations_turn u (lacks_body_in u.functions) xs k x _ _ _ _ within same (c.in_ok-implementation_fault.ensures (implementation_trees (take k xs)) c.loop-implementation.invariant.held) c.earlier-fault.ensures c.loop-implementation.invariant.fault;
       held = implementations_held xs k x old (holds c.insert.new.self) within same more c.loop-implementation.invariant.held;

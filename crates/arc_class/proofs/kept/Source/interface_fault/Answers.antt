@@ -15,8 +15,8 @@ returns c earlier held =
     let i = c.args.interface.now in
     let source = c.args.self.now in
     let there : c.is_some-implemented.result ≡ is_implemented u.implementations i.name.items =
-        c.is_some-implemented.ensures ∙ ap is_some (c.at_name.ensures ∙ ap (at_name source.implemented) c.deref.ensures.value)
-        ∙ implemented_known (at_name source.implemented i.name.items) (bodies u.functions) u.implementations i.name.items (c.requires.methods i.name.items) in
+    c.is_some-implemented.ensures ∙ ap is_some (c.at_name.ensures ∙ ap (at_name source.implemented) c.deref.ensures.value)
+    ∙ implemented_known (at_name source.implemented i.name.items) (bodies u.functions) u.implementations i.name.items (c.requires.methods i.name.items) in
     let missing = c.is_known-known.ensures ∙ ap (λ n. is_root n || holds c.args.before.now n) c.deref-2.ensures.value ∙ ap (λ b. is_root i.superclass.items || b) (held i.superclass.items) in
     four_told (broken_if (is_taken u earlier (interface_tree i)) i.at 21) (broken_if (not (is_implemented u.implementations i.name.items)) i.at 26)
     (broken_if (is_none (class_number earlier i.superclass.items)) i.superclass_at 22) (broken_heads u (head_trees i.methods.items)) _ _ _ _ _ _ _

@@ -16,7 +16,7 @@ loop-interface-preserved c =
     let same : x ≡ get_or xs k x = c.interface-item.is ∙ ap (λ us. get_or us k x) c.deref-interface-items.ensures.value in
     let old = holds c.loop-interface.before in
     let more : holds c.insert.new.self ≡ and_name x.name.items old =
-        holds-more c.deref.result.now c.loop-interface.before c.insert.new.self c.in_ok-insert.ensures.updates ∙ ap (λ n. and_name n old) c.deref.ensures.value in
+    holds-more c.deref.result.now c.loop-interface.before c.insert.new.self c.in_ok-insert.ensures.updates ∙ ap (λ n. and_name n old) c.deref.ensures.value in
     record {
       fault = interfaces_turn u xs k x _ _ _ _ within same (c.interface_fault.ensures (interface_trees (take k xs)) c.loop-interface.invariant.held) c.earlier-fault.ensures c.loop-interface.invariant.fault;
       held = interfaces_held xs k x old (holds c.insert.new.self) within same more c.loop-interface.invariant.held;

@@ -16,7 +16,7 @@ loop-method-preserved c =
     let x = c.method-item.result in
     let old = holds c.loop-method.before in
     let more : holds c.insert.new.self ≡ and_name x.head.selector.items old =
-        holds-more c.deref.result.now c.loop-method.before c.insert.new.self c.in_ok-insert.ensures.updates ∙ ap (λ n. and_name n old) c.deref.ensures.value in
+    holds-more c.deref.result.now c.loop-method.before c.insert.new.self c.in_ok-insert.ensures.updates ∙ ap (λ n. and_name n old) c.deref.ensures.value in
     record {
       fault = methods_turn u (lacks_body_in u.functions) xs k x _ _ _ _ c.loop-method-test.true c.method-item.is
           (c.in_ok-method_fault.ensures (heads (method_trees (take k xs))) c.loop-method.invariant.held) c.earlier-fault.ensures c.loop-method.invariant.fault;

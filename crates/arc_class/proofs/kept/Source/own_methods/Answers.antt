@@ -15,9 +15,9 @@ returns-in-None c sought =
     let source = c.args.self.now in
     let empty : head_in c.new-map.result sought ≡ None = ap (option_map (λ h. head_tree h.now)) (kept_none c.new-map.result sought c.new-map.ensures.empty) in
     let declared : head_in c.keep_heads.new.map sought ≡ first_head sought (head_trees i.methods.items) =
-        c.in_ok-keep_heads.ensures sought ∙ ap (λ o. or_then o (first_head sought (head_trees c.deref.result.now))) empty ∙ ap (λ us. first_head sought (head_trees us)) c.deref.ensures.value in
+    c.in_ok-keep_heads.ensures sought ∙ ap (λ o. or_then o (first_head sought (head_trees c.deref.result.now))) empty ∙ ap (λ us. first_head sought (head_trees us)) c.deref.ensures.value in
     let none : defined_by u.implementations i.name.items ≡ [] = defined_kept (bodies u.functions) u.implementations i.name.items
-        ∙ ap trees_at (sym (c.requires.methods i.name.items) ∙ ap (option_map implemented_tree) (ap (at_name source.implemented) (sym c.deref-2.ensures.value) ∙ sym c.at_name.ensures ∙ c.in-None.is)) in
+    ∙ ap trees_at (sym (c.requires.methods i.name.items) ∙ ap (option_map implemented_tree) (ap (at_name source.implemented) (sym c.deref-2.ensures.value) ∙ sym c.at_name.ensures ∙ c.in-None.is)) in
     declared ∙ sym (ap (λ ms. first_head sought (head_trees i.methods.items ++ heads ms)) none ∙ ap (first_head sought) (append-nil (head_trees i.methods.items)))
 
 pub returns-in_ok-keep_methods-in-Some : goal.returns-in_ok-keep_methods-in-Some
@@ -28,8 +28,8 @@ returns-in_ok-keep_methods-in-Some c sought =
     let own = method_trees c.in-Some.own.methods.now in
     let empty : head_in c.new-map.result sought ≡ None = ap (option_map (λ h. head_tree h.now)) (kept_none c.new-map.result sought c.new-map.ensures.empty) in
     let declared : head_in c.keep_heads.new.map sought ≡ first_head sought (head_trees i.methods.items) =
-        c.in_ok-keep_heads.ensures sought ∙ ap (λ o. or_then o (first_head sought (head_trees c.deref.result.now))) empty ∙ ap (λ us. first_head sought (head_trees us)) c.deref.ensures.value in
+    c.in_ok-keep_heads.ensures sought ∙ ap (λ o. or_then o (first_head sought (head_trees c.deref.result.now))) empty ∙ ap (λ us. first_head sought (head_trees us)) c.deref.ensures.value in
     let some : defined_by u.implementations i.name.items ≡ own = defined_kept (bodies u.functions) u.implementations i.name.items
-        ∙ ap trees_at (sym (c.requires.methods i.name.items) ∙ ap (option_map implemented_tree) (ap (at_name source.implemented) (sym c.deref-2.ensures.value) ∙ sym c.at_name.ensures ∙ c.in-Some.is)) in
+    ∙ ap trees_at (sym (c.requires.methods i.name.items) ∙ ap (option_map implemented_tree) (ap (at_name source.implemented) (sym c.deref-2.ensures.value) ∙ sym c.at_name.ensures ∙ c.in-Some.is)) in
     c.in_ok-keep_methods-in-Some.ensures sought ∙ ap (λ o. or_then o (first_head sought (heads own))) declared
     ∙ sym (ap (λ ms. first_head sought (head_trees i.methods.items ++ heads ms)) some ∙ first_head-append sought (head_trees i.methods.items) (heads own))

@@ -18,7 +18,7 @@ returns-in-Some-default-clause-refused c =
     let inside : option_map told c.in_ok-inside.inside ≡ first (broken_functions (lacks seen.known) u.functions) = rw c.deref-2.ensures.value at c.in_ok-inside.ensures in
     let classes : option_map told c.in_ok-classes.classes ≡ first (in_classes u) = c.in_ok-classes.ensures ∙ ap (λ t. first (in_classes (unit_tree t))) c.in_ok-source.ensures.unit in
     let whole : option_map told c.earlier-2.result ≡ first (broken u) =
-        whole_known u seen _ _ _ _ _ (option_map told c.earlier-2.result) sums inside c.missing_main.ensures c.earlier.ensures c.earlier-functions.ensures classes c.earlier-2.ensures in
+    whole_known u seen _ _ _ _ _ (option_map told c.earlier-2.result) sums inside c.missing_main.ensures c.earlier.ensures c.earlier-functions.ensures classes c.earlier-2.ensures in
     refuses (broken u) c.in-Some-default.fault (sym whole ∙ ap (option_map told) c.in-Some-default.is-0)
 
 pub returns-in-None-Some-clause-unbroken : goal.returns-in-None-Some-clause-unbroken
@@ -29,5 +29,5 @@ returns-in-None-Some-clause-unbroken c =
     let inside : option_map told c.in_ok-inside.inside ≡ first (broken_functions (lacks seen.known) u.functions) = rw c.deref-2.ensures.value at c.in_ok-inside.ensures in
     let classes : option_map told c.in_ok-classes.classes ≡ first (in_classes u) = c.in_ok-classes.ensures ∙ ap (λ t. first (in_classes (unit_tree t))) c.in_ok-source.ensures.unit in
     let whole : option_map told c.earlier-2.result ≡ first (broken u) =
-        whole_known u seen _ _ _ _ _ (option_map told c.earlier-2.result) sums inside c.missing_main.ensures c.earlier.ensures c.earlier-functions.ensures classes c.earlier-2.ensures in
+    whole_known u seen _ _ _ _ _ (option_map told c.earlier-2.result) sums inside c.missing_main.ensures c.earlier.ensures c.earlier-functions.ensures classes c.earlier-2.ensures in
     IfOk-weaker c.of.result _ _ (λ table h. nothing (broken u) (sym (ap (option_map told) c.in-None-Some.is-0) ∙ whole)) c.of.ensures.table

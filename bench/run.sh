@@ -1,0 +1,106 @@
+#!/usr/bin/env bash
+# Times `arcc run` on a loop of calls and on recursion, next to Lua 5.4 and Python 3 where these are
+# installed, and `arcc check` on sources of 1 KiB, 32 KiB and 1 MiB. Prints seconds (the least of five
+# runs) and ratios. It isn't part of the gate.
+set -eu
+top=$(cd "$(dirname "${BASH_SOURCE[0]}")/.." && pwd)
+arcc=$top/crates/arcc/out/arcc
+work=$(mktemp -d)
+trap 'rm -rf "$work"' EXIT
+"$top/arcc" --help >/dev/null 2>&1 # builds it where it has to
+
+# least SECONDS of five runs of a command
+least() {
+  local best= from to took
+  for _ in 1 2 3 4 5; do
+    from=$(date +%s%N)
+    "$@" >/dev/null 2>&1
+    to=$(date +%s%N)
+    took=$((to - from))
+    if [ -z "$best" ] || [ "$took" -lt "$best" ]; then best=$took; fi
+  done
+  awk -v n="$best" 'BEGIN { printf "%.4f", n / 1e9 }'
+}
+
+ratio() { awk -v a="$1" -v b="$2" 'BEGIN { printf "%.2f", a / b }'; }
+
+cat >"$work/calls.m" <<'END'
+int add(int a, int b) { return a + b; }
+int main(void) {
+  int i = 0;
+  int sum = 0;
+  while (i != 10000000) { sum = add(sum, i); i = i + 1; }
+  printf("%d\n", sum);
+}
+END
+cat >"$work/calls.lua" <<'END'
+local function add(a, b) return (a + b) & 0xffffffff end
+local i, sum = 0, 0
+while i ~= 10000000 do sum = add(sum, i); i = i + 1 end
+print(sum)
+END
+cat >"$work/calls.py" <<'END'
+def add(a, b):
+    return (a + b) & 0xffffffff
+def main():
+    i = 0
+    total = 0
+    while i != 10000000:
+        total = add(total, i)
+        i = i + 1
+    print(total)
+main()
+END
+cat >"$work/fib.m" <<'END'
+int fib(int n) { if (n != 0) if (n != 1) return fib(n - 1) + fib(n - 2); return n; }
+int main(void) { printf("%d\n", fib(32)); }
+END
+cat >"$work/fib.lua" <<'END'
+local function fib(n) if n ~= 0 then if n ~= 1 then return fib(n - 1) + fib(n - 2) end end return n end
+print(fib(32))
+END
+cat >"$work/fib.py" <<'END'
+def fib(n):
+    if n != 0:
+        if n != 1:
+            return fib(n - 1) + fib(n - 2)
+    return n
+print(fib(32))
+END
+
+echo "machine: $(uname -m), $(nproc) processors, $(awk -F': ' '/model name/ { print $2; exit }' /proc/cpuinfo)"
+for name in calls fib; do
+  ours=$(least "$arcc" run "$work/$name.m" --steps 9000000000)
+  line="$name: arcc $ours s"
+  if command -v lua5.4 >/dev/null; then
+    theirs=$(least lua5.4 "$work/$name.lua")
+    line="$line, Lua 5.4 $theirs s (arcc takes $(ratio "$ours" "$theirs") of it)"
+  fi
+  if command -v python3 >/dev/null; then
+    theirs=$(least python3 "$work/$name.py")
+    line="$line, Python 3 $theirs s (arcc takes $(ratio "$ours" "$theirs") of it)"
+  fi
+  echo "$line"
+done
+
+# a source of about so many bytes: functions that call the one before them
+source_of() {
+  awk -v most="$1" 'BEGIN {
+    text = "int f0(int a) { return a; }\n"
+    size = length(text); printf "%s", text
+    for (n = 1; ; n++) {
+      text = "int f" n "(int a) { int b = f" (n - 1) "(a) + 1; while (b != 0) { b = b - 1; if (b != 7) printf(\"%d\", b * 2); } return b; }\n"
+      if (size + length(text) + 40 > most) break
+      size += length(text); printf "%s", text
+    }
+    text = "int main(void) { return f" (n - 1) "(1); }\n"
+    printf "%s", text
+  }'
+}
+
+for size in 1024 32768 1048576; do
+  source_of "$size" >"$work/source.m"
+  bytes=$(wc -c <"$work/source.m")
+  took=$(least "$arcc" check "$work/source.m")
+  awk -v t="$took" -v n="$bytes" 'BEGIN { printf "check: %d bytes in %s s, %.0f ns a byte\n", n, t, t * 1e9 / n }'
+done
