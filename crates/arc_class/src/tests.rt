@@ -184,7 +184,7 @@ fn interface(
     Ok(Interface {
         at,
         name: Vec::from_slice(alloc, name)?,
-        superclass_at: at + 9,
+        superclass_at: at.saturating_add(9),
         superclass: Vec::from_slice(alloc, superclass)?,
         methods,
     })
