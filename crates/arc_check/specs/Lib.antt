@@ -1,11 +1,1 @@
 pub mod Checked
-pub mod Fault
-pub mod Kinds
-pub mod Formats
-pub mod Scopes
-pub mod Rules
-pub mod Resolving
-pub mod Runs
-pub mod Views
-pub mod Judging
-pub mod Building

@@ -1,9 +1,4 @@
-//! Tables of what a source declares.
+//! A stand-in for the table of classes.
 #![tactic(auto)]
 
-pub mod fault;
-mod look;
 pub mod table;
-#[cfg(test)]
-mod tests;
-mod walk;

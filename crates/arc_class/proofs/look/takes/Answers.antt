@@ -1,8 +1,0 @@
-use Rattle.std.proofs.Common.{Some, length, sym, ap, ◌∙◌}
-use Rattle.arc_ast.specs.Tree.{parameters_tree}
-use Rattle.arc_class.specs.Names.{takes}
-use Rattle.arc_class.proofs.Trees.{length-parameter_trees}
-use Rattle.arc_class.proofs.look.takes.Goals as goal
-
-pub returns-in-Ints : goal.returns-in-Ints
-returns-in-Ints c = ap Some (ap length c.deref-all.ensures.value ∙ sym (length-parameter_trees c.in-Ints.all.items)) ∙ sym (ap (λ p. takes (parameters_tree p)) c.in-Ints.is)

@@ -1,3 +1,0 @@
-pub mod Compiling
-pub mod Running
-pub mod Serving

@@ -1,1 +1,0 @@
-int main(void) { printf("42"); return 7; }
