@@ -2,6 +2,7 @@ use Rattle.std.proofs.Common.{◌≡◌, arith, rules, ap, ◌∙◌, sym, add-o
 use Rattle.arc_machine.specs.declared.stop.Answer.TheVariants as answer
 use Rattle.arc_machine.specs.Views.{Seen}
 use Rattle.arc_machine.proofs.Farther.{turned_start, turned}
+use Rattle.arc_machine.proofs.Sliding.{turned_slid}
 use Rattle.arc_machine.proofs.machine.Machine.run.Goals as goal
 
 pub loop-turns-init : goal.loop-turns-init
@@ -12,10 +13,3 @@ loop-turns-init g c =
       ap (λ (m : Seen). m.answer) (sym c.self.view_is) ∙ going,
       turned_start _ engine _ _ _ _ c.self.view_is going c.self.invariant,
     )
-
-pub loop-turns-preserved : goal.loop-turns-preserved
-loop-turns-preserved g c =
-    let engine = c.loop-turns.self-inside.engine in
-    let going : engine.answer ≡ answer.Going = search rules in
-    let e = c.advance.ensures in
-    (omega arith, c.loop-turns.invariant.1, rw add-one (turned _ engine _ _ _ _ _ _ _ _ _ _ _ _ _ _ c.loop-turns.invariant.2 going c.advance.result e.ok e.fine e.err e.cause))
