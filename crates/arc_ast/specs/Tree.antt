@@ -2,6 +2,8 @@
 use Rattle.std.specs.Prelude.{ℕ, ℤ, List, [], ◌∷◌, Option, option_map}
 use Rattle.arc_ast.specs.declared.tree.Kind.{Kind}
 use Rattle.arc_ast.specs.declared.tree.BinaryOperator.{BinaryOperator}
+use Rattle.arc_ast.specs.declared.tree.Receiver.{Receiver}
+use Rattle.arc_ast.specs.declared.tree.Receiver.TheVariants as r
 use Rattle.arc_ast.specs.declared.tree.Expr.{Expr, Row_of-Expr, end_of-Expr, more_of-Expr}
 use Rattle.arc_ast.specs.declared.tree.Expr.TheVariants as e
 use Rattle.arc_ast.specs.declared.tree.Variable.{Variable}
@@ -11,10 +13,21 @@ use Rattle.arc_ast.specs.declared.tree.Parameter.{Parameter}
 use Rattle.arc_ast.specs.declared.tree.Parameters.{Parameters}
 use Rattle.arc_ast.specs.declared.tree.Parameters.TheVariants as p
 use Rattle.arc_ast.specs.declared.tree.Function.{Function}
+use Rattle.arc_ast.specs.declared.tree.MethodHead.{MethodHead}
+use Rattle.arc_ast.specs.declared.tree.Method.{Method}
+use Rattle.arc_ast.specs.declared.tree.Interface.{Interface}
+use Rattle.arc_ast.specs.declared.tree.Implementation.{Implementation}
 use Rattle.arc_ast.specs.declared.tree.TranslationUnit.{TranslationUnit}
 
+-- what a message is sent to, with the place of its first byte (OPL, "Objects, Classes, and Messaging")
+pub data ReceiverTree : Type 0 where
+  Named : ℕ → List ℕ → ReceiverTree
+  Itself : ℕ → ReceiverTree
+  Super : ℕ → ReceiverTree
+
 mutual
-  -- an expression, with the place of its first byte (C99, section 6.5); an assignment has that of its `=` too
+  -- An expression, with the place of its first byte (C99, section 6.5). An assignment has that of its `=` too, and a message that of its selector's first part;
+  -- a selector is written with all its colons.
   pub data ExprTree : Type 0 where
     Integer : ℕ → ℤ → ExprTree
     Text : ℕ → List ℕ → ExprTree
@@ -24,6 +37,7 @@ mutual
     Binary : ℕ → BinaryOperator → ExprTree → ExprTree → ExprTree
     Name : ℕ → List ℕ → ExprTree
     Assign : ℕ → ℕ → ExprTree → ExprTree → ExprTree
+    Send : ℕ → ℕ → ReceiverTree → List ℕ → ExprTrees → ExprTree
 
   pub data ExprTrees : Type 0 where
     no_exprs : ExprTrees
@@ -51,7 +65,7 @@ mutual
     no_stmts : StmtTrees
     and_stmt : StmtTree → StmtTrees → StmtTrees
 
--- an int that a function takes, with the place of its name
+-- an int that a function or a method takes, with the place of its name
 pub record ParameterTree : Type 0 where
   pub at : ℕ
   pub name : List ℕ
@@ -68,7 +82,50 @@ pub record FunctionTree : Type 0 where
   pub parameters : ParametersTree
   pub body : Option StmtTrees
 
+-- a class method's declaration, with the place of its `+` (OPL, "Defining a Class")
+pub record HeadTree : Type 0 where
+  pub at : ℕ
+  pub selector : List ℕ
+  pub result : Kind
+  pub parameters : List ParameterTree
+
+pub record MethodTree : Type 0 where
+  pub head : HeadTree
+  pub body : StmtTrees
+
+-- a class's interface, with the places of its name and of its superclass's name
+pub record InterfaceTree : Type 0 where
+  pub at : ℕ
+  pub name : List ℕ
+  pub superclass_at : ℕ
+  pub superclass : List ℕ
+  pub methods : List HeadTree
+
+-- a class's implementation, with the place of its name
+pub record ImplementationTree : Type 0 where
+  pub at : ℕ
+  pub name : List ℕ
+  pub methods : List MethodTree
+
+-- what a source declares and defines
+pub record UnitTree : Type 0 where
+  pub functions : List FunctionTree
+  pub interfaces : List InterfaceTree
+  pub implementations : List ImplementationTree
+
 -- the place of an expression's first byte
+abbrev pub begins : ExprTree → ℕ
+begins (Integer at _) = at
+begins (Text at _) = at
+begins (Paren at _) = at
+begins (Call at _ _) = at
+begins (Negate at _) = at
+begins (Binary at _ _ _) = at
+begins (Name at _) = at
+begins (Assign at _ _ _) = at
+begins (Send at _ _ _ _) = at
+
+-- the place at which an expression is told that breaks a rule: an assignment's `=`, a message's first selector part, and else the first byte (this project's own choice)
 abbrev pub place : ExprTree → ℕ
 place (Integer at _) = at
 place (Text at _) = at
@@ -77,7 +134,13 @@ place (Call at _ _) = at
 place (Negate at _) = at
 place (Binary at _ _ _) = at
 place (Name at _) = at
-place (Assign at _ _ _) = at
+place (Assign _ sign _ _) = sign
+place (Send _ part _ _ _) = part
+
+abbrev pub receiver_tree : Receiver → ReceiverTree
+receiver_tree (r.Named at name) = Named at name.items
+receiver_tree (r.Itself at) = Itself at
+receiver_tree (r.Super at) = Super at
 
 abbrev mutual
   pub expr_tree : Expr → ExprTree
@@ -89,6 +152,7 @@ abbrev mutual
   expr_tree (e.Binary' at operator q a r b) = Binary at operator (expr_tree a) (expr_tree b)
   expr_tree (e.Name at name) = Name at name.items
   expr_tree (e.Assign' at sign q a r b) = Assign at sign (expr_tree a) (expr_tree b)
+  expr_tree (e.Send' at part receiver selector shape args) = Send at part (receiver_tree receiver) selector.items (row_exprs args)
 
   pub row_exprs : {n : _} → Row_of-Expr n → ExprTrees
   row_exprs end_of-Expr = no_exprs
@@ -140,5 +204,35 @@ abbrev pub function_trees : List Function → List FunctionTree
 function_trees [] = []
 function_trees (f ∷ others) = function_tree f ∷ function_trees others
 
-abbrev pub unit_tree : TranslationUnit → List FunctionTree
-unit_tree u = function_trees u.functions.items
+abbrev pub head_tree : MethodHead → HeadTree
+head_tree h = record { at = h.at; selector = h.selector.items; result = h.result; parameters = parameter_trees h.parameters.items }
+
+abbrev pub head_trees : List MethodHead → List HeadTree
+head_trees [] = []
+head_trees (h ∷ others) = head_tree h ∷ head_trees others
+
+abbrev pub method_tree : Method → MethodTree
+method_tree m = record { head = head_tree m.head; body = stmt_trees m.body.items }
+
+abbrev pub method_trees : List Method → List MethodTree
+method_trees [] = []
+method_trees (m ∷ others) = method_tree m ∷ method_trees others
+
+abbrev pub interface_tree : Interface → InterfaceTree
+interface_tree i =
+    record { at = i.at; name = i.name.items; superclass_at = i.superclass_at; superclass = i.superclass.items; methods = head_trees i.methods.items }
+
+abbrev pub interface_trees : List Interface → List InterfaceTree
+interface_trees [] = []
+interface_trees (i ∷ others) = interface_tree i ∷ interface_trees others
+
+abbrev pub implementation_tree : Implementation → ImplementationTree
+implementation_tree i = record { at = i.at; name = i.name.items; methods = method_trees i.methods.items }
+
+abbrev pub implementation_trees : List Implementation → List ImplementationTree
+implementation_trees [] = []
+implementation_trees (i ∷ others) = implementation_tree i ∷ implementation_trees others
+
+abbrev pub unit_tree : TranslationUnit → UnitTree
+unit_tree u =
+    record { functions = function_trees u.functions.items; interfaces = interface_trees u.interfaces.items; implementations = implementation_trees u.implementations.items }

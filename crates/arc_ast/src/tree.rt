@@ -1,4 +1,4 @@
-//! Functions, statements and expressions. A place is a byte of the source, counted from 0.
+//! Classes, functions, statements and expressions. A place is a byte of the source, counted from 0.
 
 /// What kind of value an expression gives or a variable holds.
 #[derive(Clone, Copy, Debug, PartialEq, Eq)]
@@ -19,6 +19,16 @@ pub enum BinaryOperator {
     NotEqual,
 }
 
+/// What a message is sent to, with the place of its first byte.
+#[derive(Debug, Drop)]
+pub enum Receiver {
+    Named(usize, Vec<u8>),
+    /// `self`
+    Itself(usize),
+    /// `super`
+    Super(usize),
+}
+
 /// An expression, with the place of its first byte; a call has that of its function's name.
 #[derive(Debug, Drop)]
 pub enum Expr {
@@ -34,6 +44,9 @@ pub enum Expr {
     Name(usize, Vec<u8>),
     /// An assignment: the place of its first byte and that of its `=`, the left side and the right one.
     Assign(usize, usize, Box<Expr>, Box<Expr>),
+    /// A message: the place of its `[` and that of its selector's first part, what it is sent to, its
+    /// selector with all colons, and the arguments.
+    Send(usize, usize, Receiver, Vec<u8>, Vec<Expr>),
 }
 
 /// A variable that a declaration makes, with the place of its name.
@@ -58,7 +71,7 @@ pub enum Stmt {
     While(usize, Expr, Box<Stmt>),
 }
 
-/// An `int` that a function takes, with the place of its name.
+/// An `int` that a function or a method takes, with the place of its name.
 #[derive(Debug, Drop)]
 pub struct Parameter {
     pub at: usize,
@@ -83,8 +96,46 @@ pub struct Function {
     pub body: Option<Vec<Stmt>>,
 }
 
-/// All of a source, in its order (C99, section 6.9).
+/// A class method as it is declared, with the place of its `+` and its selector with all colons. The
+/// result is Int or Void.
+#[derive(Debug, Drop)]
+pub struct MethodHead {
+    pub at: usize,
+    pub selector: Vec<u8>,
+    pub result: Kind,
+    pub parameters: Vec<Parameter>,
+}
+
+/// A class method that an implementation defines.
+#[derive(Debug, Drop)]
+pub struct Method {
+    pub head: MethodHead,
+    pub body: Vec<Stmt>,
+}
+
+/// A class's interface, with the place of its name and that of its superclass's.
+#[derive(Debug, Drop)]
+pub struct Interface {
+    pub at: usize,
+    pub name: Vec<u8>,
+    pub superclass_at: usize,
+    pub superclass: Vec<u8>,
+    pub methods: Vec<MethodHead>,
+}
+
+/// A class's implementation, with the place of its name.
+#[derive(Debug, Drop)]
+pub struct Implementation {
+    pub at: usize,
+    pub name: Vec<u8>,
+    pub methods: Vec<Method>,
+}
+
+/// All of a source (C99, section 6.9): the functions, the interfaces and the implementations, each
+/// of them in their order. Names that `@class` declares are known without it, so they aren't kept.
 #[derive(Debug, Drop)]
 pub struct TranslationUnit {
     pub functions: Vec<Function>,
+    pub interfaces: Vec<Interface>,
+    pub implementations: Vec<Implementation>,
 }

@@ -1,21 +1,20 @@
 -- What is built of expressions and statements.
-use Rattle.std.proofs.Common.{◌≡◌, ℕ, ◌+◌, ◌<◌, ◌≤◌, Bool, true, List, [], ◌∷◌, ◌++◌, length, get_or, drop, refl, sym, ap, ◌∙◌, arith}
+use Rattle.std.proofs.Common.{◌≡◌, ℕ, ◌+◌, ◌<◌, ◌≤◌, Bool, true, false, List, [], ◌∷◌, ◌++◌, length, get_or, drop, refl, sym, ap, ◌∙◌, arith}
 use Rattle.arc_ast.specs.declared.tree.Expr.{Expr}
-use Rattle.arc_ast.specs.Tree.{ExprTrees, Call, expr_tree, expr_trees}
+use Rattle.arc_ast.specs.Tree.{ExprTrees, ReceiverTree, Call, Send, expr_tree, expr_trees}
 use Rattle.arc_spec.specs.Resolved as resolved
 use Rattle.arc_check.specs.declared.checked.Piece.{Piece}
 use Rattle.arc_check.specs.declared.format.Begun.TheVariants.{Nothing}
 use Rattle.arc_check.specs.Formats.{parts, printed}
 use Rattle.arc_spec.specs.Resolved.{Values, no_values, and_value, Commands, no_commands, and_command}
 use Rattle.arc_check.specs.declared.checked.Value.{Value}
-use Rattle.arc_check.specs.declared.checked.Command.{Command}
 use Rattle.arc_check.specs.Checked as checked
 use Rattle.arc_check.specs.Building.{Resolves, in_front, printing}
 use Rattle.arc_check.specs.declared.callee.Callee.{Callee}
 use Rattle.arc_check.specs.declared.resolve.Typed.{Typed}
 use Rattle.arc_check.specs.Resolving as resolving
-use Rattle.arc_check.specs.Resolving.{kind, argument, called, resolved_all, text_of}
-use Rattle.arc_check.specs.Scopes.{Scope, callee, result_kind, is_printf}
+use Rattle.arc_check.specs.Resolving.{kind, kind_or_int, number, argument, called, sent, resolved_all, text_of}
+use Rattle.arc_check.specs.Scopes.{Scope, callee, result_kind, is_printf, receiving, sent_kind}
 use Rattle.arc_check.proofs.Lists.{drop_turn, drop_end}
 
 in_front-push : (all : List Value) (a : Value) (others : Values) → in_front (all ++ a ∷ []) others ≡ in_front all (and_value (checked.value a) others)
@@ -49,6 +48,12 @@ printing_none s (a ∷ all) pieces values l p v = absurd (omega arith)
 
 -- ---- calls
 
-pub resolves_call : (s : Scope) (at : ℕ) (name : List ℕ) (arguments : ExprTrees) (function : Callee) (typed : Typed) → callee s.functions name ≡ function → typed.kind ≡ result_kind function
+pub resolves_call : (s : Scope) (at : ℕ) (name : List ℕ) (arguments : ExprTrees) (function : Callee) (typed : Typed) → callee s.known name ≡ function → typed.kind ≡ result_kind function
     → checked.value typed.value ≡ called function arguments (resolved_all s (is_printf function) arguments) → Resolves s (Call at name arguments) typed
 resolves_call s at name arguments function typed e k v = record { kind = k ∙ ap result_kind (sym e); value = v ∙ ap (λ f. called f arguments (resolved_all s (is_printf f) arguments)) (sym e) }
+
+-- ---- messages
+
+pub resolves_send : (s : Scope) (at part : ℕ) (receiver : ReceiverTree) (selector : List ℕ) (arguments : ExprTrees) (n : ℕ) (all : Values) (typed : Typed) → typed.kind ≡ kind_or_int (sent_kind s.known (receiving s receiver) selector)
+    → n ≡ number (s.known.selector selector) → all ≡ resolved_all s false arguments → checked.value typed.value ≡ sent s receiver n all → Resolves s (Send at part receiver selector arguments) typed
+resolves_send s at part receiver selector arguments n all typed k m a v = record { kind = k; value = v ∙ ap (λ i. sent s receiver i all) m ∙ ap (sent s receiver (number (s.known.selector selector))) a }

@@ -1,5 +1,5 @@
 -- What is built of lists of statements, and one more.
-use Rattle.std.proofs.Common.{◌≡◌, ℕ, ◌+◌, ◌<◌, ◌≤◌, List, [], ◌∷◌, ◌++◌, length, get_or, drop, Option, Some, None, Vec, Global, option_map, refl, sym, ap, ◌∙◌}
+use Rattle.std.proofs.Common.{◌≡◌, ℕ, ◌+◌, ◌<◌, ◌≤◌, List, [], ◌∷◌, ◌++◌, length, get_or, drop, Some, None, Vec, Global, option_map, refl, sym, ap, ◌∙◌}
 use Rattle.arc_ast.specs.declared.tree.Function.{Function}
 use Rattle.arc_ast.specs.declared.tree.Parameter.{Parameter}
 use Rattle.arc_ast.specs.declared.tree.Stmt as stmt
@@ -9,14 +9,13 @@ use Rattle.arc_ast.specs.Tree.{StmtTrees, ParameterTree, expr_tree, stmt_tree, s
 use Rattle.arc_spec.specs.Resolved as resolved
 use Rattle.arc_spec.specs.Resolved.{Commands, no_commands, and_command, Evaluate, Assigned}
 use Rattle.arc_class.specs.Bodies.{named_parameters}
-use Rattle.arc_class.specs.declared.table.Declared.{Declared}
 use Rattle.arc_check.specs.declared.checked.Command as command
 use Rattle.arc_check.specs.declared.checked.Command.{Command}
 use Rattle.arc_check.specs.declared.checked.CheckedFunction.{CheckedFunction}
 use Rattle.arc_check.specs.Building.{ahead_of, function_of, functions_ahead}
 use Rattle.arc_check.specs.Checked as checked
 use Rattle.arc_check.specs.Resolving.{initial, resolved_variables, resolved_stmt, resolved_stmts, resolved_body, with_function, resolved_functions}
-use Rattle.arc_check.specs.Scopes.{Scope, declare, with_parameters, leave, behind, behind_all, outermost}
+use Rattle.arc_check.specs.Scopes.{Known, Scope, declare, with_parameters, leave, behind, behind_all, outermost}
 use Rattle.arc_check.proofs.Lists.{drop_turn, drop_end}
 use Rattle.arc_check.proofs.Trees.{block_tree, sequence_command}
 
@@ -81,14 +80,13 @@ nothing all e = sequence_command all ∙ ap (λ us. resolved.Sequence (checked.c
 abbrev function : ℕ → Commands → resolved.Function
 function slots body = record { slots = slots; body = body }
 
-pub function_is : (functions : List ℕ → Option Declared) (parameters : List ParameterTree) (body : StmtTrees) (f : CheckedFunction) (empty before after : Scope) → empty ≡ outermost functions → before ≡ with_parameters empty parameters → after ≡ behind_all before body
-    → checked.commands f.body.items ≡ resolved_stmts before body → f.slots ≡ after.next → function_of f ≡ resolved_body (with_parameters (outermost functions) parameters) body
-function_is functions parameters body f empty before after o b a c n =
-    let inner : before ≡ with_parameters (outermost functions) parameters = b ∙ ap (λ s. with_parameters s parameters) o in
-    ap (λ slots. function slots (checked.commands f.body.items)) (n ∙ ap (λ s. s.next) a ∙ ap (λ s. (behind_all s body).next) inner)
-    ∙ ap (function (behind_all (with_parameters (outermost functions) parameters) body).next) (c ∙ ap (λ s. resolved_stmts s body) inner)
+pub function_is : (parameters : List ParameterTree) (body : StmtTrees) (f : CheckedFunction) (empty before after : Scope) → before ≡ with_parameters empty parameters → after ≡ behind_all before body
+    → checked.commands f.body.items ≡ resolved_stmts before body → f.slots ≡ after.next → function_of f ≡ resolved_body (with_parameters empty parameters) body
+function_is parameters body f empty before after b a c n =
+    ap (λ slots. function slots (checked.commands f.body.items)) (n ∙ ap (λ s. s.next) a ∙ ap (λ s. (behind_all s body).next) b)
+    ∙ ap (function (behind_all (with_parameters empty parameters) body).next) (c ∙ ap (λ s. resolved_stmts s body) b)
 
-functions_ahead-push : (all : List CheckedFunction) (a : CheckedFunction) (others : List resolved.Function) → functions_ahead (all ++ a ∷ []) others ≡ functions_ahead all (function_of a ∷ others)
+pub functions_ahead-push : (all : List CheckedFunction) (a : CheckedFunction) (others : List resolved.Function) → functions_ahead (all ++ a ∷ []) others ≡ functions_ahead all (function_of a ∷ others)
 functions_ahead-push [] a others = refl
 functions_ahead-push (b ∷ all) a others = ap (λ us. function_of b ∷ us) (functions_ahead-push all a others)
 
@@ -97,24 +95,24 @@ functions_ahead-none [] = refl
 functions_ahead-none (b ∷ all) = ap (λ us. function_of b ∷ us) (functions_ahead-none all)
 
 -- one function more, with a body
-pub functions_turn : (functions : List ℕ → Option Declared) (xs : List Function) (i : ℕ) (x : Function) (named : List Parameter) (body : Vec Stmt Global) (items : List Stmt) (old : List CheckedFunction) (pushed new : Vec CheckedFunction Global) (a : CheckedFunction) (whole : List resolved.Function) → i < length xs → x ≡ get_or xs i x
-    → x.body ≡ Some body → items ≡ body.items → parameter_trees named ≡ named_parameters (parameters_tree x.parameters) → function_of a ≡ resolved_body (with_parameters (outermost functions) (parameter_trees named)) (stmt_trees items) → pushed.items ≡ old ++ a ∷ [] → new ≡ pushed
-    → whole ≡ functions_ahead old (resolved_functions functions (function_trees (drop i xs))) → whole ≡ functions_ahead new.items (resolved_functions functions (function_trees (drop (i + 1) xs)))
-functions_turn functions xs i x named body items old pushed new a whole l e o m p h n v w =
-    let rest = resolved_functions functions (function_trees (drop (i + 1) xs)) in
+pub functions_turn : (known : Known) (xs : List Function) (i : ℕ) (x : Function) (named : List Parameter) (body : Vec Stmt Global) (items : List Stmt) (old : List CheckedFunction) (pushed new : Vec CheckedFunction Global) (a : CheckedFunction) (s : Scope) (whole : List resolved.Function) → i < length xs → x ≡ get_or xs i x
+    → x.body ≡ Some body → items ≡ body.items → parameter_trees named ≡ named_parameters (parameters_tree x.parameters) → s ≡ outermost known → function_of a ≡ resolved_body (with_parameters s (parameter_trees named)) (stmt_trees items) → pushed.items ≡ old ++ a ∷ [] → new ≡ pushed
+    → whole ≡ functions_ahead old (resolved_functions known (function_trees (drop i xs))) → whole ≡ functions_ahead new.items (resolved_functions known (function_trees (drop (i + 1) xs)))
+functions_turn known xs i x named body items old pushed new a s whole l e o m p q h n v w =
+    let rest = resolved_functions known (function_trees (drop (i + 1) xs)) in
     let ps = named_parameters (parameters_tree x.parameters) in
-    let own : function_of a ≡ resolved_body (with_parameters (outermost functions) ps) (stmt_trees body.items) =
-    h ∙ ap (λ us. resolved_body (with_parameters (outermost functions) us) (stmt_trees items)) p ∙ ap (λ us. resolved_body (with_parameters (outermost functions) ps) (stmt_trees us)) m in
-    w ∙ ap (λ us. functions_ahead old (resolved_functions functions (function_trees us))) (drop_turn xs i x l e) ∙ ap (λ b. functions_ahead old (with_function functions ps (option_map (λ b. stmt_trees b.items) b) rest)) o
+    let own : function_of a ≡ resolved_body (with_parameters (outermost known) ps) (stmt_trees body.items) =
+    h ∙ ap (λ b. resolved_body (with_parameters b (parameter_trees named)) (stmt_trees items)) q ∙ ap (λ us. resolved_body (with_parameters (outermost known) us) (stmt_trees items)) p ∙ ap (λ us. resolved_body (with_parameters (outermost known) ps) (stmt_trees us)) m in
+    w ∙ ap (λ us. functions_ahead old (resolved_functions known (function_trees us))) (drop_turn xs i x l e) ∙ ap (λ b. functions_ahead old (with_function known ps (option_map (λ b. stmt_trees b.items) b) rest)) o
     ∙ ap (λ f. functions_ahead old (f ∷ rest)) (sym own) ∙ sym (functions_ahead-push old a rest) ∙ ap (λ us. functions_ahead us rest) (sym n) ∙ ap (λ us. functions_ahead us.items rest) (sym v)
 
 -- one function more, without a body
-pub functions_pass : (functions : List ℕ → Option Declared) (xs : List Function) (i : ℕ) (x : Function) (old new : List CheckedFunction) (whole : List resolved.Function) → i < length xs → x ≡ get_or xs i x → x.body ≡ None → new ≡ old
-    → whole ≡ functions_ahead old (resolved_functions functions (function_trees (drop i xs))) → whole ≡ functions_ahead new (resolved_functions functions (function_trees (drop (i + 1) xs)))
-functions_pass functions xs i x old new whole l e o n w =
-    let rest = resolved_functions functions (function_trees (drop (i + 1) xs)) in
-    w ∙ ap (λ us. functions_ahead old (resolved_functions functions (function_trees us))) (drop_turn xs i x l e)
-    ∙ ap (λ b. functions_ahead old (with_function functions (named_parameters (parameters_tree x.parameters)) (option_map (λ b. stmt_trees b.items) b) rest)) o ∙ ap (λ us. functions_ahead us rest) (sym n)
+pub functions_pass : (known : Known) (xs : List Function) (i : ℕ) (x : Function) (old new : List CheckedFunction) (whole : List resolved.Function) → i < length xs → x ≡ get_or xs i x → x.body ≡ None → new ≡ old
+    → whole ≡ functions_ahead old (resolved_functions known (function_trees (drop i xs))) → whole ≡ functions_ahead new (resolved_functions known (function_trees (drop (i + 1) xs)))
+functions_pass known xs i x old new whole l e o n w =
+    let rest = resolved_functions known (function_trees (drop (i + 1) xs)) in
+    w ∙ ap (λ us. functions_ahead old (resolved_functions known (function_trees us))) (drop_turn xs i x l e)
+    ∙ ap (λ b. functions_ahead old (with_function known (named_parameters (parameters_tree x.parameters)) (option_map (λ b. stmt_trees b.items) b) rest)) o ∙ ap (λ us. functions_ahead us rest) (sym n)
 
-pub functions_end : (functions : List ℕ → Option Declared) (xs : List Function) (i : ℕ) (all : List CheckedFunction) (whole : List resolved.Function) → length xs ≤ i → whole ≡ functions_ahead all (resolved_functions functions (function_trees (drop i xs))) → checked.functions all ≡ whole
-functions_end functions xs i all whole l w = sym (w ∙ ap (λ us. functions_ahead all (resolved_functions functions (function_trees us))) (drop_end xs i l) ∙ functions_ahead-none all)
+pub functions_end : (known : Known) (xs : List Function) (i : ℕ) (all : List CheckedFunction) (whole : List resolved.Function) → length xs ≤ i → whole ≡ functions_ahead all (resolved_functions known (function_trees (drop i xs))) → checked.functions all ≡ whole
+functions_end known xs i all whole l w = sym (w ∙ ap (λ us. functions_ahead all (resolved_functions known (function_trees us))) (drop_end xs i l) ∙ functions_ahead-none all)

@@ -4,7 +4,8 @@ use Rattle.arc_ast.specs.declared.tree.Kind.{Kind}
 use Rattle.arc_ast.specs.declared.tree.Expr as ast
 use Rattle.arc_ast.specs.declared.tree.Expr.{Expr}
 use Rattle.arc_ast.specs.declared.tree.BinaryOperator.{BinaryOperator}
-use Rattle.arc_ast.specs.Tree.{ExprTree, Binary, Assign, expr_tree, expr_trees, place}
+use Rattle.arc_ast.specs.declared.tree.Receiver.{Receiver}
+use Rattle.arc_ast.specs.Tree.{ExprTree, ExprTrees, ReceiverTree, Binary, Assign, Send, expr_tree, expr_trees, receiver_tree, place}
 use Rattle.arc_class.specs.Bodies.{broken_if}
 use Rattle.arc_class.specs.Broken.{Broken, first, earlier_of}
 use Rattle.arc_class.proofs.Firsts.{first_turn, first_both, first-append}
@@ -15,21 +16,39 @@ use Rattle.arc_check.specs.declared.format.Part.{Part}
 use Rattle.arc_check.specs.declared.judge.Judged.{Judged}
 use Rattle.arc_check.specs.Fault.{told}
 use Rattle.arc_check.specs.Formats.{fits}
-use Rattle.arc_check.specs.Judging.{Judges, JudgesValue, JudgesCall}
-use Rattle.arc_check.specs.Rules.{kind_if, kind_of, kinds, binary_kind, is_variable, no_value, unless, broken, broken_at, broken_value, broken_arguments, call_rule, other_rule, unless_so, count}
-use Rattle.arc_check.specs.Scopes.{Scope, callee, result_kind, is_printf}
+use Rattle.arc_check.specs.Judging.{Judges, JudgesNumber, JudgesTest, JudgesCall}
+use Rattle.arc_check.specs.Rules.{kind_if, kind_of, kinds, binary_kind, is_variable, no_value, no_number, no_left, no_right, unless, broken, broken_at, broken_receiver, no_method, broken_number, broken_arguments, call_rule, other_rule, count}
+use Rattle.arc_check.specs.Scopes.{Scope, callee, result_kind, is_printf, receiving, sent_kind}
 use Rattle.arc_check.proofs.Lists.{drop_turn}
-use Rattle.arc_check.proofs.Trees.{call_tree}
+use Rattle.arc_check.proofs.Trees.{call_tree, send_tree}
 
-pub judges_value : (s : Scope) (a : ExprTree) (judged new : Judged) → Judges s a judged → new.kind ≡ judged.kind → option_map told new.fault ≡ earlier_of (option_map told judged.fault) (first (no_value judged.kind (place a))) → JudgesValue s a new
-judges_value s a judged new j k f = record {
-  kind = k ∙ j.kind;
-  fault = f ∙ ap (λ o. earlier_of o (first (no_value judged.kind (place a)))) j.fault ∙ ap (λ o. earlier_of (first (broken s a)) (first (no_value o (place a)))) j.kind ∙ sym (first-append (broken s a) (no_value (kind_of s a) (place a)));
-}
+-- what is told of an expression, and then one rule more of its kind
+with_rule : (s : Scope) (a : ExprTree) (rule : Option Kind → ℕ → List Broken) (judged : Judged) (new : Option Broken) → Judges s a judged → new ≡ earlier_of (option_map told judged.fault) (first (rule judged.kind (place a)))
+    → new ≡ first (broken s a ++ rule (kind_of s a) (place a))
+with_rule s a rule judged new j f =
+    f ∙ ap (λ o. earlier_of o (first (rule judged.kind (place a)))) j.fault ∙ ap (λ o. earlier_of (first (broken s a)) (first (rule o (place a)))) j.kind ∙ sym (first-append (broken s a) (rule (kind_of s a) (place a)))
+
+pub judges_number : (s : Scope) (a : ExprTree) (judged new : Judged) → Judges s a judged → new.kind ≡ judged.kind → option_map told new.fault ≡ earlier_of (option_map told judged.fault) (first (no_number judged.kind (place a))) → JudgesNumber s a new
+judges_number s a judged new j k f = record { kind = k ∙ j.kind; fault = with_rule s a no_number judged (option_map told new.fault) j f }
+
+pub judges_test : (s : Scope) (a : ExprTree) (judged new : Judged) → Judges s a judged → new.kind ≡ judged.kind → option_map told new.fault ≡ earlier_of (option_map told judged.fault) (first (no_value judged.kind (place a))) → JudgesTest s a new
+judges_test s a judged new j k f = record { kind = k ∙ j.kind; fault = with_rule s a no_value judged (option_map told new.fault) j f }
 
 pub judges_call : (s : Scope) (a : Expr) (at : ℕ) (name : Vec ℕ Global) (arguments : Vec Expr Global) (bytes : List ℕ) (all : List Expr) (judged : Judged) → a ≡ ast.Call at name arguments
-    → bytes ≡ name.items → all ≡ arguments.items → JudgesCall s at (callee s.functions bytes) (expr_trees all) judged → Judges s (expr_tree a) judged
+    → bytes ≡ name.items → all ≡ arguments.items → JudgesCall s at (callee s.known bytes) (expr_trees all) judged → Judges s (expr_tree a) judged
 judges_call s a at name arguments bytes all judged e n m h = rw (e, call_tree at name arguments, sym n, sym m) (record { kind = h.kind; fault = h.fault })
+
+pub judges_send : (s : Scope) (a : Expr) (at part : ℕ) (receiver : Receiver) (selector : Vec ℕ Global) (arguments : Vec Expr Global) (bytes : List ℕ) (all : List Expr) (judged : Judged) → a ≡ ast.Send at part receiver selector arguments
+    → bytes ≡ selector.items → all ≡ arguments.items → ((at : ℕ) → Judges s (Send at part (receiver_tree receiver) bytes (expr_trees all)) judged) → Judges s (expr_tree a) judged
+judges_send s a at part receiver selector arguments bytes all judged e n m h = rw (e, send_tree at part receiver selector arguments, sym n, sym m) (h at)
+
+-- a message, from what it breaks itself and what is told of its arguments
+pub judges_message : (s : Scope) (at part : ℕ) (receiver : ReceiverTree) (selector : List ℕ) (arguments : ExprTrees) (own inside : Option Broken) (judged : Judged) → own ≡ first (broken_receiver s receiver ++ no_method s receiver selector part)
+    → inside ≡ first (broken_arguments s false false arguments) → judged.kind ≡ sent_kind s.known (receiving s receiver) selector → option_map told judged.fault ≡ earlier_of own inside → Judges s (Send at part receiver selector arguments) judged
+judges_message s at part receiver selector arguments own inside judged o i k f = record {
+  kind = k;
+  fault = first_both (broken_receiver s receiver ++ no_method s receiver selector part) (broken_arguments s false false arguments) own inside (option_map told judged.fault) o i f;
+}
 
 pub count-expr_trees : (all : List Expr) → count (expr_trees all) ≡ length all
 count-expr_trees [] = refl
@@ -49,28 +68,33 @@ fit_turn s xs i x kind wanted behind so_far fit now whole l e k h w n =
     ∙ and-assoc so_far fit (fits behind rest) ∙ ap (λ p. p && fits behind rest) (sym n)
 
 pub fault_turn : (s : Scope) (printed : Bool) (xs : List Expr) (i : ℕ) (x : Expr) (so_far one now whole : Option Broken) → i < length xs → x ≡ get_or xs i x
-    → one ≡ earlier_of (first (broken s (expr_tree x))) (first (unless printed (no_value (kind_of s (expr_tree x)) (place (expr_tree x))))) → now ≡ earlier_of so_far one
+    → one ≡ earlier_of (first (broken s (expr_tree x))) (first (unless printed (no_number (kind_of s (expr_tree x)) (place (expr_tree x))))) → now ≡ earlier_of so_far one
     → whole ≡ earlier_of so_far (first (broken_arguments s printed false (expr_trees (drop i xs)))) → whole ≡ earlier_of now (first (broken_arguments s printed false (expr_trees (drop (i + 1) xs))))
 fault_turn s printed xs i x so_far one now whole l e o n w =
     let own = broken s (expr_tree x) in
-    let kind = unless printed (no_value (kind_of s (expr_tree x)) (place (expr_tree x))) in
+    let kind = unless printed (no_number (kind_of s (expr_tree x)) (place (expr_tree x))) in
     first_turn (own ++ kind) (broken_arguments s printed false (expr_trees (drop (i + 1) xs))) so_far one now whole (o ∙ sym (first-append own kind)) n
     (w ∙ ap (λ us. earlier_of so_far (first (broken_arguments s printed false (expr_trees us)))) (drop_turn xs i x l e))
 
-pub judges_binary : (s : Scope) (at : ℕ) (operator : BinaryOperator) (a b : ExprTree) (left right both : Judged) → JudgesValue s a left → JudgesValue s b right → both.kind ≡ binary_kind operator left.kind right.kind
-    → option_map told both.fault ≡ earlier_of (option_map told left.fault) (option_map told right.fault) → Judges s (Binary at operator a b) both
-judges_binary s at operator a b left right both l r k f = record {
-  kind = k ∙ ap (λ o. binary_kind operator o right.kind) l.kind ∙ ap (binary_kind operator (kind_of s a)) r.kind;
-  fault = first_both (broken_value s a) (broken_value s b) (option_map told left.fault) (option_map told right.fault) (option_map told both.fault) l.fault r.fault f;
-}
+pub judges_binary : (s : Scope) (at : ℕ) (operator : BinaryOperator) (a b : ExprTree) (left right both : Judged) (left_at right_at : ℕ) → Judges s a left → Judges s b right → left_at ≡ place a → right_at ≡ place b → both.kind ≡ binary_kind operator left.kind right.kind
+    → option_map told both.fault ≡ earlier_of (earlier_of (option_map told left.fault) (first (no_left operator left.kind left_at))) (earlier_of (option_map told right.fault) (first (no_right operator left.kind right.kind right_at))) → Judges s (Binary at operator a b) both
+judges_binary s at operator a b left right both left_at right_at l r p q k f =
+    let one = earlier_of (option_map told left.fault) (first (no_left operator left.kind left_at)) in
+    let two = earlier_of (option_map told right.fault) (first (no_right operator left.kind right.kind right_at)) in
+    record {
+      kind = k ∙ ap (λ o. binary_kind operator o right.kind) l.kind ∙ ap (binary_kind operator (kind_of s a)) r.kind;
+      fault = first_both (broken s a ++ no_left operator (kind_of s a) (place a)) (broken s b ++ no_right operator (kind_of s a) (kind_of s b) (place b)) one two (option_map told both.fault)
+          (with_rule s a (no_left operator) left one l (ap (λ n. earlier_of (option_map told left.fault) (first (no_left operator left.kind n))) p))
+          (with_rule s b (no_right operator (kind_of s a)) right two r (ap (λ n. earlier_of (option_map told right.fault) (first (no_right operator left.kind right.kind n))) q ∙ ap (λ o. earlier_of (option_map told right.fault) (first (no_right operator o right.kind (place b)))) l.kind)) f;
+    }
 
-pub judges_assign : (s : Scope) (at sign : ℕ) (a b : ExprTree) (variable : Bool) (left right both : Judged) → Judges s a left → JudgesValue s b right → variable ≡ is_variable a → both.kind ≡ cond variable left.kind None
+pub judges_assign : (s : Scope) (at sign : ℕ) (a b : ExprTree) (variable : Bool) (left right both : Judged) → Judges s a left → JudgesNumber s b right → variable ≡ is_variable a → both.kind ≡ cond variable left.kind None
     → option_map told both.fault ≡ earlier_of (earlier_of (option_map told left.fault) (first (broken_if (not variable) sign 44))) (option_map told right.fault) → Judges s (Assign at sign a b) both
 judges_assign s at sign a b variable left right both l r v k f =
     let own = broken_if (not (is_variable a)) sign 44 in
     record {
       kind = k ∙ ap (λ o. cond variable o None) l.kind ∙ ap (λ p. cond p (kind_of s a) None) v;
-      fault = first_both (broken s a ++ own) (broken_value s b) (earlier_of (option_map told left.fault) (first own)) (option_map told right.fault) (option_map told both.fault)
+      fault = first_both (broken s a ++ own) (broken_number s b) (earlier_of (option_map told left.fault) (first own)) (option_map told right.fault) (option_map told both.fault)
           (ap (λ o. earlier_of o (first own)) l.fault ∙ sym (first-append (broken s a) own)) r.fault
           (f ∙ ap (λ p. earlier_of (earlier_of (option_map told left.fault) (first (broken_if (not p) sign 44))) (option_map told right.fault)) v);
     }

@@ -7,5 +7,8 @@ pub mod Judgements
 pub mod Buildings
 pub mod Walks
 pub mod Commands
-pub mod Refusals
+pub mod Leaving
 pub mod Statements
+pub mod Methods
+pub mod Appended
+pub mod Refusals

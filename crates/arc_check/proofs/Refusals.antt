@@ -1,23 +1,29 @@
--- From what is told of a source to an answer.
-use Rattle.std.proofs.Common.{◌≡◌, ℕ, List, [], Option, Some, None, option_map, sym, ap, ◌∙◌}
+-- From what is told of a source and what is built of it to an answer.
+use Rattle.std.proofs.Common.{◌≡◌, ℕ, List, [], ◌++◌, Option, Some, None, option_map, refl, sym, ap, ◌∙◌}
 use Rattle.std.proofs.Math.Path.{fun_ext}
-use Rattle.arc_ast.specs.Tree.{FunctionTree}
+use Rattle.arc_ast.specs.declared.tree.Kind.{Kind}
+use Rattle.arc_ast.specs.Tree.{FunctionTree, InterfaceTree, ImplementationTree, UnitTree}
 use Rattle.arc_class.specs.declared.table.ClassTable.{ClassTable}
-use Rattle.arc_class.specs.Broken.{Broken, first}
-use Rattle.arc_class.specs.Names.{known}
-use Rattle.arc_class.specs.Table.{IsTableOf, function_in}
-use Rattle.arc_class.proofs.Firsts.{none_broken}
+use Rattle.arc_class.specs.declared.table.Declared.{Declared}
+use Rattle.arc_class.specs.Broken.{Broken, first, earlier_of}
+use Rattle.arc_class.specs.Table.{IsTableOf}
+use Rattle.arc_class.proofs.Firsts.{none_broken, first_both}
 use Rattle.arc_check.specs.declared.checked.Checked.{Checked}
+use Rattle.arc_check.specs.declared.checked.CheckedFunction.{CheckedFunction}
 use Rattle.arc_check.specs.declared.fault.CheckFault.{CheckFault}
 use Rattle.arc_check.specs.declared.fault.CheckFault.TheVariants as f
 use Rattle.arc_check.specs.Checked as checked
 use Rattle.arc_check.specs.Fault.{told, Refuses}
-use Rattle.arc_check.specs.Resolving.{number, resolved_functions, resolved_unit}
-use Rattle.arc_check.specs.Rules.{broken_functions, broken_unit}
+use Rattle.arc_check.specs.Resolving.{number, resolved_functions, resolved_methods, resolved_unit}
+use Rattle.arc_check.specs.Rules.{broken_functions, broken_interfaces, broken_implementations, broken_unit, known_of}
+use Rattle.arc_check.specs.Scopes.{Known}
+use Rattle.arc_check.specs.Views.{known_in}
+use Rattle.arc_spec.specs.Classes.{Class, classes_of}
 use Rattle.arc_spec.specs.Resolved as resolved
 
 refuses : (all : List Broken) (fault : CheckFault) → first all ≡ Some (told fault) → Refuses all fault
 refuses all (f.UnknownName at) h = h
+refuses all (f.NoSuchMethod at) h = h
 refuses all (f.KindMismatch at) h = h
 refuses all (f.NotAssignable at) h = h
 refuses all (f.ArgumentCount at) h = h
@@ -25,23 +31,50 @@ refuses all (f.Format at) h = h
 refuses all (f.TooManyLocals at) h = h
 refuses all f.Memory h = tt
 
--- what a table of a source knows of names
-knows_all : (fs : List FunctionTree) (table : ClassTable) → IsTableOf fs table → function_in table ≡ known fs
-knows_all fs table t = fun_ext t.knows
+pub unbroken : (all : List Broken) (fault : Option CheckFault) → option_map told fault ≡ first all → fault ≡ None → all ≡ []
+unbroken all fault e n = none_broken all (sym e ∙ ap (option_map told) n)
 
-told_of_unit : (fs items : List FunctionTree) (table : ClassTable) (fault : Option CheckFault) → IsTableOf fs table → items ≡ fs → option_map told fault ≡ first (broken_functions (function_in table) items) → option_map told fault ≡ first (broken_unit fs)
-told_of_unit fs items table fault t i e = e ∙ ap (λ us. first (broken_functions (function_in table) us)) i ∙ ap (λ k. first (broken_functions k fs)) (knows_all fs table t)
+pub refused : (all : List Broken) (fault : Option CheckFault) (one : CheckFault) → option_map told fault ≡ first all → fault ≡ Some one → Refuses all one
+refused all fault one e n = refuses all one (sym e ∙ ap (option_map told) n)
 
-pub unbroken : (fs items : List FunctionTree) (table : ClassTable) (fault : Option CheckFault) → IsTableOf fs table → items ≡ fs → option_map told fault ≡ first (broken_functions (function_in table) items) → fault ≡ None → broken_unit fs ≡ []
-unbroken fs items table fault t i e n = none_broken (broken_unit fs) (sym (told_of_unit fs items table fault t i e) ∙ ap (option_map told) n)
+-- ---- what a table of a source knows of names
 
-pub refused : (fs items : List FunctionTree) (table : ClassTable) (fault : Option CheckFault) (one : CheckFault) → IsTableOf fs table → items ≡ fs → option_map told fault ≡ first (broken_functions (function_in table) items) → fault ≡ Some one → Refuses (broken_unit fs) one
-refused fs items table fault one t i e n = refuses (broken_unit fs) one (sym (told_of_unit fs items table fault t i e) ∙ ap (option_map told) n)
+abbrev names : (List ℕ → Option Declared) → (List ℕ → Option ℕ) → (ℕ → Option ℕ) → (Option ℕ → List ℕ → Option Kind) → (List ℕ → Option ℕ) → Known
+names function class superclass result selector = record { function = function; class = class; superclass = superclass; result = result; selector = selector }
 
-abbrev program : List resolved.Function → ℕ → resolved.Program
-program functions main = record { functions = functions; main = main }
+names_are : (f g : List ℕ → Option Declared) (c d : List ℕ → Option ℕ) (s t : ℕ → Option ℕ) (r q : Option ℕ → List ℕ → Option Kind) (m n : List ℕ → Option ℕ) → f ≡ g → c ≡ d → s ≡ t → r ≡ q → m ≡ n → names f c s r m ≡ names g d t q n
+names_are f g c d s t r q m n a b e h i = rw (a, b, e, h, i) refl
 
-pub resolved_is : (fs items : List FunctionTree) (table : ClassTable) (new : Checked) → IsTableOf fs table → items ≡ fs → checked.functions new.functions.items ≡ resolved_functions (function_in table) items → new.main ≡ table.main → checked.program_of new ≡ resolved_unit fs
-resolved_is fs items table new t i e m =
-    ap (λ all. program all new.main) (e ∙ ap (resolved_functions (function_in table)) i ∙ ap (λ k. resolved_functions k fs) (knows_all fs table t))
-    ∙ ap (program (resolved_functions (known fs) fs)) (m ∙ sym (ap number t.main))
+pub known_is : (u : UnitTree) (table : ClassTable) → IsTableOf u table → known_in table ≡ known_of u
+known_is u table t = names_are _ _ _ _ _ _ _ _ _ _ (fun_ext t.knows) (fun_ext t.numbers) (fun_ext t.superclasses) (fun_ext (λ from. fun_ext (t.results from))) (fun_ext t.selectors)
+
+-- ---- what is told of a source
+
+pub told_of_unit : (u : UnitTree) (table : ClassTable) (fs : List FunctionTree) (is : List InterfaceTree) (ms : List ImplementationTree) (one two three between all : Option Broken) → IsTableOf u table → fs ≡ u.functions → is ≡ u.interfaces → ms ≡ u.implementations
+    → one ≡ first (broken_functions (known_in table) fs) → two ≡ first (broken_interfaces is) → three ≡ first (broken_implementations (known_in table) ms) → between ≡ earlier_of two three → all ≡ earlier_of one between → all ≡ first (broken_unit u)
+told_of_unit u table fs is ms one two three between all t f i m o p q b a =
+    let k = known_of u in
+    let same = known_is u table t in
+    let functions : one ≡ first (broken_functions k u.functions) = o ∙ ap (λ us. first (broken_functions (known_in table) us)) f ∙ ap (λ known. first (broken_functions known u.functions)) same in
+    let interfaces : two ≡ first (broken_interfaces u.interfaces) = p ∙ ap (λ us. first (broken_interfaces us)) i in
+    let implementations : three ≡ first (broken_implementations k u.implementations) = q ∙ ap (λ us. first (broken_implementations (known_in table) us)) m ∙ ap (λ known. first (broken_implementations known u.implementations)) same in
+    first_both (broken_functions k u.functions) (broken_interfaces u.interfaces ++ broken_implementations k u.implementations) one between all functions
+    (first_both (broken_interfaces u.interfaces) (broken_implementations k u.implementations) two three between interfaces implementations b) a
+
+-- ---- what is built of a source
+
+pub functions_are : (u : UnitTree) (table : ClassTable) (fs : List FunctionTree) (ms : List ImplementationTree) (old new : List CheckedFunction) → IsTableOf u table → fs ≡ u.functions → ms ≡ u.implementations
+    → checked.functions old ≡ resolved_functions (known_in table) fs → checked.functions new ≡ checked.functions old ++ resolved_methods (known_in table) ms → checked.functions new ≡ (resolved_unit u).functions
+functions_are u table fs ms old new t f m o n =
+    let k = known_in table in
+    n ∙ ap (λ us. us ++ resolved_methods k ms) o ∙ ap (λ us. resolved_functions k us ++ resolved_methods k ms) f ∙ ap (λ us. resolved_functions k u.functions ++ resolved_methods k us) m
+    ∙ ap (λ known. resolved_functions known u.functions ++ resolved_methods known u.implementations) (known_is u table t)
+
+abbrev program : List resolved.Function → ℕ → List Class → resolved.Program
+program functions main classes = record { functions = functions; main = main; classes = classes }
+
+program_is : (f g : List resolved.Function) (m n : ℕ) (c d : List Class) → f ≡ g → m ≡ n → c ≡ d → program f m c ≡ program g n d
+program_is f g m n c d a b e = rw (a, b, e) refl
+
+pub resolved_is : (u : UnitTree) (table : ClassTable) (new : Checked) → IsTableOf u table → checked.functions new.functions.items ≡ (resolved_unit u).functions → new.main ≡ table.main → classes_of new.classes.items ≡ classes_of table.classes.items → checked.program_of new ≡ resolved_unit u
+resolved_is u table new t f m c = program_is _ _ _ _ _ _ f (m ∙ sym (ap number t.main)) (c ∙ t.classes)

@@ -1,14 +1,14 @@
 -- Visible variables, and one more.
-use Rattle.std.proofs.Common.{◌≡◌, ℕ, suc, ◌+◌, ◌<◌, Bool, true, false, nat_lt, List, [], ◌∷◌, ◌++◌, length, get_or, take, drop, Option, Some, None, cond, rules, refl, sym, ap, ◌∙◌}
+use Rattle.std.proofs.Common.{◌≡◌, ℕ, suc, ◌+◌, ◌<◌, Bool, true, false, nat_lt, List, [], ◌∷◌, ◌++◌, length, get_or, take, drop, Option, Some, None, option_map, cond, refl, sym, ap, ◌∙◌}
 use Rattle.std.proofs.Math.Path.{fun_ext}
 use Rattle.std.specs.Str.{bytes_eq}
 use Rattle.arc_ast.specs.declared.tree.Parameter.{Parameter}
 use Rattle.arc_ast.specs.Tree.{parameter_trees}
 use Rattle.arc_class.specs.declared.table.ClassTable.{ClassTable}
-use Rattle.arc_class.specs.declared.table.Declared.{Declared}
+use Rattle.arc_class.specs.Table.{number_of_class}
 use Rattle.arc_check.specs.declared.scope.Bound.{Bound}
 use Rattle.arc_check.specs.declared.scope.Visible.{Visible}
-use Rattle.arc_check.specs.Scopes.{Scope, bound, declare, with_parameters}
+use Rattle.arc_check.specs.Scopes.{Known, Scope, bound, declare, with_parameters}
 use Rattle.arc_check.specs.Views.{later, number_at, number_in, seen}
 use Rattle.arc_check.proofs.Lists.{drop_turn}
 
@@ -28,17 +28,17 @@ pub number_in-push : (all : List Bound) (b : Bound) (name : List ℕ) → number
 number_in-push [] b name = refl
 number_in-push (a ∷ all) b name = ap (later (number_at a name)) (number_in-push all b name) ∙ later-cond (bytes_eq b.name.now name) (number_at a name) (number_in all name) b.number
 
-abbrev scope : (List ℕ → Option Declared) → (List ℕ → Option ℕ) → ℕ → Scope
-scope functions variables next = record { functions = functions; variables = variables; next = next }
+abbrev scope : Known → Option ℕ → ℕ → (List ℕ → Option ℕ) → ℕ → Scope
+scope known class hidden variables next = record { known = known; class = class; hidden = hidden; variables = variables; next = next }
 
-pub scope_is : (f : List ℕ → Option Declared) (v w : List ℕ → Option ℕ) (n m : ℕ) → v ≡ w → n ≡ m → scope f v n ≡ scope f w m
-scope_is f v w n m p q = ap (λ x. scope f x n) p ∙ ap (scope f w) q
+pub scope_is : (k : Known) (c d : Option ℕ) (h g : ℕ) (v w : List ℕ → Option ℕ) (n m : ℕ) → c ≡ d → h ≡ g → v ≡ w → n ≡ m → scope k c h v n ≡ scope k d g w m
+scope_is k c d h g v w n m a b p q = rw (a, b, p, q) refl
 
 -- a variable more is visible
-pub declare_is : (table : ClassTable) (old new : Visible) (b : Bound) (name : List ℕ) → nat_lt old.next 200 ≡ true → new.bound.items ≡ old.bound.items ++ b ∷ [] → b.name.now ≡ name → b.number ≡ old.next → new.next ≡ suc old.next
+pub declare_is : (table : ClassTable) (old new : Visible) (b : Bound) (name : List ℕ) → nat_lt old.next (200 + old.hidden) ≡ true → new.class ≡ old.class → new.hidden ≡ old.hidden → new.bound.items ≡ old.bound.items ++ b ∷ [] → b.name.now ≡ name → b.number ≡ old.next → new.next ≡ suc old.next
     → seen table new ≡ declare name (seen table old)
-declare_is table old new b name t i a n m =
-    rw t (scope_is _ _ _ _ _ (fun_ext (λ q. ap (λ all. number_in all q) i ∙ number_in-push old.bound.items b q ∙ ap (λ x. bound x b.number (number_in old.bound.items) q) a ∙ ap (λ x. bound name x (number_in old.bound.items) q) n)) m)
+declare_is table old new b name t c h i a n m =
+    rw t (scope_is _ _ _ _ _ _ _ _ _ (ap (option_map number_of_class) c) h (fun_ext (λ q. ap (λ all. number_in all q) i ∙ number_in-push old.bound.items b q ∙ ap (λ x. bound x b.number (number_in old.bound.items) q) a ∙ ap (λ x. bound name x (number_in old.bound.items) q) n)) m)
 
 -- one variable more is looked at
 pub number_turn : (xs : List Bound) (i : ℕ) (x : Bound) (name : List ℕ) (so_far now whole : Option ℕ) → i < length xs → x ≡ get_or xs i x → now ≡ later so_far (number_at x name) → whole ≡ later so_far (number_in (drop i xs) name)

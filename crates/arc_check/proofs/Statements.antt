@@ -1,17 +1,13 @@
 -- What is told of statements and of functions.
-use Rattle.std.proofs.Common.{◌≡◌, ℕ, ◌+◌, ◌<◌, Bool, false, List, length, get_or, drop, Vec, Global, Option, Some, option_map, refl, sym, ap, ◌∙◌}
-use Rattle.arc_ast.specs.declared.tree.Kind.{Kind}
-use Rattle.arc_ast.specs.declared.tree.Kind.TheVariants as k
+use Rattle.std.proofs.Common.{◌≡◌, ℕ, ◌+◌, ◌<◌, Bool, List, ◌++◌, length, get_or, drop, Vec, Global, Option, Some, option_map, refl, sym, ap, ◌∙◌}
 use Rattle.arc_ast.specs.declared.tree.Stmt as stmt
 use Rattle.arc_ast.specs.declared.tree.Stmt.{Stmt}
-use Rattle.arc_ast.specs.declared.tree.Parameter.{Parameter}
 use Rattle.arc_ast.specs.declared.tree.Function.{Function}
-use Rattle.arc_ast.specs.Tree.{parameter_trees, stmt_tree, stmt_trees, function_tree, function_trees}
+use Rattle.arc_ast.specs.Tree.{ParameterTree, stmt_tree, stmt_trees, function_tree, function_trees}
 use Rattle.arc_class.specs.Broken.{Broken, first, earlier_of}
-use Rattle.arc_class.specs.declared.table.Declared.{Declared}
-use Rattle.arc_class.proofs.Firsts.{first_turn, first_both}
-use Rattle.arc_check.specs.Rules.{broken_parameters, broken_stmt, broken_stmts, broken_body, is_void, broken_function, broken_functions}
-use Rattle.arc_check.specs.Scopes.{Scope, outermost, with_parameters, leave, behind, behind_all}
+use Rattle.arc_class.proofs.Firsts.{first_turn}
+use Rattle.arc_check.specs.Rules.{broken_parameters, broken_stmt, broken_stmts, broken_body, broken_function, broken_functions}
+use Rattle.arc_check.specs.Scopes.{Known, Scope, outermost, with_parameters, leave, behind, behind_all}
 use Rattle.arc_check.proofs.Lists.{drop_turn}
 use Rattle.arc_check.proofs.Trees.{block_tree}
 
@@ -34,25 +30,12 @@ pub block_behind : (a : Stmt) (at : ℕ) (all : Vec Stmt Global) (items : List S
 block_behind a at all items e m s = ap (λ us. leave s (behind_all s (stmt_trees us))) m ∙ sym (ap (behind s) (ap stmt_tree e ∙ block_tree at all))
 
 -- one function more is told
-pub functions_turn : (known : List ℕ → Option Declared) (xs : List Function) (i : ℕ) (x : Function) (so_far one now whole : Option Broken) → i < length xs → x ≡ get_or xs i x → one ≡ first (broken_function known (function_tree x)) → now ≡ earlier_of so_far one
+pub functions_turn : (known : Known) (xs : List Function) (i : ℕ) (x : Function) (so_far one now whole : Option Broken) → i < length xs → x ≡ get_or xs i x → one ≡ first (broken_function known (function_tree x)) → now ≡ earlier_of so_far one
     → whole ≡ earlier_of so_far (first (broken_functions known (function_trees (drop i xs)))) → whole ≡ earlier_of now (first (broken_functions known (function_trees (drop (i + 1) xs))))
 functions_turn known xs i x so_far one now whole l e o n w =
     first_turn (broken_function known (function_tree x)) (broken_functions known (function_trees (drop (i + 1) xs))) so_far one now whole o n (w ∙ ap (λ us. earlier_of so_far (first (broken_functions known (function_trees us)))) (drop_turn xs i x l e))
 
 -- a function's body stands in a Vec, if there is one
-pub body_is : (gives_nothing : Bool) (known : List ℕ → Option Declared) (s inside : Scope) (named : List Parameter) (maybe : Option (Vec Stmt Global)) (body : Vec Stmt Global) (items : List Stmt) (one other both : Option Broken) → maybe ≡ Some body → items ≡ body.items
-    → s ≡ outermost known → one ≡ first (broken_parameters s (parameter_trees named)) → inside ≡ with_parameters s (parameter_trees named) → other ≡ first (broken_stmts gives_nothing inside (stmt_trees items)) → both ≡ earlier_of one other
-    → both ≡ first (broken_body gives_nothing known (parameter_trees named) (option_map (λ b. stmt_trees b.items) maybe))
-body_is gives_nothing known s inside named maybe body items one other both e m n o i h b =
-    let ps = parameter_trees named in
-    let start = outermost known in
-    first_both (broken_parameters start ps) (broken_stmts gives_nothing (with_parameters start ps) (stmt_trees body.items)) one other both (o ∙ ap (λ q. first (broken_parameters q ps)) n)
-    (h ∙ ap (λ q. first (broken_stmts gives_nothing q (stmt_trees items))) (i ∙ ap (λ q. with_parameters q ps) n) ∙ ap (λ us. first (broken_stmts gives_nothing (with_parameters start ps) (stmt_trees us))) m) b
-    ∙ sym (ap (λ x. first (broken_body gives_nothing known ps (option_map (λ b. stmt_trees b.items) x))) e)
-
-pub is_void-other : (kind : Kind) → (kind ≡ k.Void → ⊥) → is_void kind ≡ false
-is_void-other k.Void h = absurd (h refl)
-is_void-other k.Bool h = refl
-is_void-other k.Int h = refl
-is_void-other k.Long h = refl
-is_void-other k.Object h = refl
+pub body_is : (gives_nothing : Bool) (known : Known) (s : Scope) (named : List ParameterTree) (maybe : Option (Vec Stmt Global)) (body : Vec Stmt Global) (items : List Stmt) → maybe ≡ Some body → items ≡ body.items → s ≡ outermost known
+    → first (broken_parameters s named ++ broken_stmts gives_nothing (with_parameters s named) (stmt_trees items)) ≡ first (broken_body gives_nothing known named (option_map (λ b. stmt_trees b.items) maybe))
+body_is gives_nothing known s named maybe body items e m n = rw (n, m, e) refl

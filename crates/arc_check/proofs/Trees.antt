@@ -1,12 +1,13 @@
 -- The children of a node that stand in a Vec, as a list.
-use Rattle.std.proofs.Common.{◌≡◌, ℕ, Vec, Global, refl, ap, ◌∙◌}
+use Rattle.std.proofs.Common.{◌≡◌, ℕ, Vec, Box, Global, refl, ap, ◌∙◌}
 use mathlib.Core.Former.{Count}
-use Rattle.arc_ast.specs.declared.tree.Expr.{Expr, Call, Call', Row_of-Expr, end_of-Expr, more_of-Expr, items-the_row-Expr, items_hidden-the_row-Expr-0}
+use Rattle.arc_ast.specs.declared.tree.Expr.{Expr, Call, Call', Send, Send', Row_of-Expr, end_of-Expr, more_of-Expr, items-the_row-Expr, items_hidden-the_row-Expr-0}
+use Rattle.arc_ast.specs.declared.tree.Receiver.{Receiver}
 use Rattle.arc_ast.specs.declared.tree.Stmt.{Stmt, Block, Block', Row_of-Stmt, end_of-Stmt, more_of-Stmt, items-the_row-Stmt, items_hidden-the_row-Stmt-0}
-use Rattle.arc_ast.specs.Tree.{and_expr, expr_tree, expr_trees, row_exprs, and_stmt, stmt_tree, stmt_trees, row_stmts}
+use Rattle.arc_ast.specs.Tree.{and_expr, expr_tree, expr_trees, row_exprs, receiver_tree, and_stmt, stmt_tree, stmt_trees, row_stmts}
 use Rattle.arc_ast.specs.Tree as tree
 use Rattle.arc_check.specs.declared.checked.Piece.{Piece}
-use Rattle.arc_check.specs.declared.checked.Value.{Value, Print, Print', Invoked, Invoked', Row_of-Value, end_of-Value, more_of-Value, items-the_row-Value, items_hidden-the_row-Value-0}
+use Rattle.arc_check.specs.declared.checked.Value.{Value, Print, Print', Invoked, Invoked', Sent, Sent', SentSuper, SentSuper', Row_of-Value, end_of-Value, more_of-Value, items-the_row-Value, items_hidden-the_row-Value-0}
 use Rattle.arc_check.specs.declared.checked.Command.{Command, Sequence, Sequence', Row_of-Command, end_of-Command, more_of-Command, items-the_row-Command, items_hidden-the_row-Command-0}
 use Rattle.arc_check.specs.Checked.{pieces, value, values, row_values, command, commands, row_commands}
 use Rattle.arc_spec.specs.Resolved as resolved
@@ -23,6 +24,15 @@ pub call_tree : (at : ℕ) (name : Vec ℕ Global) (all : Vec Expr Global) → e
 call_tree at name all =
     let row = arguments_of (Call at name all) in
     ap (tree.Call at name.items) (row_exprs_is row.0 row.1 ∙ ap expr_trees (items_hidden-the_row-Expr-0 all))
+
+abbrev sent_with : Expr → (n : Count) × Row_of-Expr n
+sent_with (Send' at part receiver selector _ row) = (_, row)
+sent_with _ = (_, end_of-Expr)
+
+pub send_tree : (at part : ℕ) (receiver : Receiver) (selector : Vec ℕ Global) (all : Vec Expr Global) → expr_tree (Send at part receiver selector all) ≡ tree.Send at part (receiver_tree receiver) selector.items (expr_trees all.items)
+send_tree at part receiver selector all =
+    let row = sent_with (Send at part receiver selector all) in
+    ap (tree.Send at part (receiver_tree receiver) selector.items) (row_exprs_is row.0 row.1 ∙ ap expr_trees (items_hidden-the_row-Expr-0 all))
 
 abbrev statements_of : Stmt → (n : Count) × Row_of-Stmt n
 statements_of (Block' at _ row) = (_, row)
@@ -58,6 +68,21 @@ pub invoked_value : (f : ℕ) (arguments : Vec Value Global) → value (Invoked 
 invoked_value f arguments =
     let row = given_of (Invoked f arguments) in
     ap (resolved.Invoked f) (row_values_is row.0 row.1 ∙ ap values (items_hidden-the_row-Value-0 arguments))
+
+abbrev passed_by : Value → (n : Count) × Row_of-Value n
+passed_by (Sent' q a selector _ row) = (_, row)
+passed_by (SentSuper' from selector _ row) = (_, row)
+passed_by _ = (_, end_of-Value)
+
+pub sent_value : (a : Box Value Global) (selector : ℕ) (arguments : Vec Value Global) → value (Sent a selector arguments) ≡ resolved.Sent (value a.value) selector (values arguments.items)
+sent_value a selector arguments =
+    let row = passed_by (Sent a selector arguments) in
+    ap (resolved.Sent (value a.value) selector) (row_values_is row.0 row.1 ∙ ap values (items_hidden-the_row-Value-0 arguments))
+
+pub super_value : (from selector : ℕ) (arguments : Vec Value Global) → value (SentSuper from selector arguments) ≡ resolved.SentSuper from selector (values arguments.items)
+super_value from selector arguments =
+    let row = passed_by (SentSuper from selector arguments) in
+    ap (resolved.SentSuper from selector) (row_values_is row.0 row.1 ∙ ap values (items_hidden-the_row-Value-0 arguments))
 
 abbrev commands_of : Command → (n : Count) × Row_of-Command n
 commands_of (Sequence' _ row) = (_, row)

@@ -8,8 +8,9 @@ use Rattle.arc_check.specs.declared.checked.Command.{Command, Row_of-Command, en
 use Rattle.arc_check.specs.declared.checked.Command.TheVariants as c
 use Rattle.arc_check.specs.declared.checked.CheckedFunction.{CheckedFunction}
 use Rattle.arc_check.specs.declared.checked.Checked.{Checked}
+use Rattle.arc_spec.specs.Classes.{classes_of}
 use Rattle.arc_spec.specs.Resolved as resolved
-use Rattle.arc_spec.specs.Resolved.{Number, ReadByte, Print, Negated, Combined, Converted, Local, Assigned, Invoked, no_values, and_value, Sequence, Evaluate, Return, Choose, Repeat, no_commands, and_command, Bytes, Decimal, Character}
+use Rattle.arc_spec.specs.Resolved.{Number, ReadByte, Print, Negated, Combined, Converted, Local, Assigned, Invoked, Sent, SentSuper, no_values, and_value, Sequence, Evaluate, Return, Choose, Repeat, no_commands, and_command, Bytes, Decimal, Character}
 
 abbrev pub piece : Piece → resolved.Piece
 piece (p.Bytes bytes) = Bytes bytes.items
@@ -31,6 +32,8 @@ abbrev mutual
   value (v.Local i) = Local i
   value (v.Assigned' i q a) = Assigned i (value a)
   value (v.Invoked' f shape arguments) = Invoked f (row_values arguments)
+  value (v.Sent' q a selector shape arguments) = Sent (value a) selector (row_values arguments)
+  value (v.SentSuper' from selector shape arguments) = SentSuper from selector (row_values arguments)
 
   pub row_values : {n : _} → Row_of-Value n → resolved.Values
   row_values end_of-Value = no_values
@@ -61,4 +64,4 @@ functions [] = []
 functions (f ∷ others) = record { slots = f.slots; body = commands f.body.items } ∷ functions others
 
 abbrev pub program_of : Checked → resolved.Program
-program_of c = record { functions = functions c.functions.items; main = c.main }
+program_of c = record { functions = functions c.functions.items; main = c.main; classes = classes_of c.classes.items }

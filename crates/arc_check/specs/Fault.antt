@@ -7,6 +7,7 @@ use Rattle.arc_check.specs.declared.fault.CheckFault.TheVariants as f
 -- the number of a fault, under which the compiler's users know it
 abbrev pub fault_number : CheckFault → ℕ
 fault_number (f.UnknownName at) = 41
+fault_number (f.NoSuchMethod at) = 42
 fault_number (f.KindMismatch at) = 43
 fault_number (f.NotAssignable at) = 44
 fault_number (f.ArgumentCount at) = 45
@@ -16,6 +17,7 @@ fault_number f.Memory = 51
 
 abbrev pub fault_name : CheckFault → List ℕ
 fault_name (f.UnknownName at) = codes "UnknownName"
+fault_name (f.NoSuchMethod at) = codes "NoSuchMethod"
 fault_name (f.KindMismatch at) = codes "KindMismatch"
 fault_name (f.NotAssignable at) = codes "NotAssignable"
 fault_name (f.ArgumentCount at) = codes "ArgumentCount"
@@ -26,6 +28,7 @@ fault_name f.Memory = codes "Memory"
 -- the byte that a fault names, counted from 0
 abbrev pub fault_at : CheckFault → ℕ
 fault_at (f.UnknownName at) = at
+fault_at (f.NoSuchMethod at) = at
 fault_at (f.KindMismatch at) = at
 fault_at (f.NotAssignable at) = at
 fault_at (f.ArgumentCount at) = at
@@ -41,6 +44,7 @@ told f = record { at = fault_at f; number = fault_number f }
 abbrev pub Refuses : List Broken → CheckFault → Type 0
 Refuses all f.Memory = Unit {0}
 Refuses all (f.UnknownName at) = first all ≡ Some (told (f.UnknownName at))
+Refuses all (f.NoSuchMethod at) = first all ≡ Some (told (f.NoSuchMethod at))
 Refuses all (f.KindMismatch at) = first all ≡ Some (told (f.KindMismatch at))
 Refuses all (f.ArgumentCount at) = first all ≡ Some (told (f.ArgumentCount at))
 Refuses all (f.Format at) = first all ≡ Some (told (f.Format at))

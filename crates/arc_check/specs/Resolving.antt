@@ -1,30 +1,36 @@
 -- The resolved program of a source that breaks no rule.
-use Rattle.std.specs.Prelude.{ℕ, pos, Bool, List, [], ◌∷◌, Option, Some, None, option_map, if◌then◌else◌}
+use Rattle.std.specs.Prelude.{ℕ, pos, Bool, false, List, [], ◌∷◌, ◌++◌, Option, Some, None, option_map, if◌then◌else◌}
 use Rattle.arc_ast.specs.declared.tree.Kind.{Kind}
 use Rattle.arc_ast.specs.declared.tree.Kind.TheVariants as k
 use Rattle.arc_ast.specs.Tree as tree
-use Rattle.arc_ast.specs.Tree.{ExprTree, ExprTrees, Integer, Text, Paren, Call, Negate, Binary, Name, Assign, no_exprs, and_expr, VariableTree, StmtTree, StmtTrees, Block, Empty, Simple, Variables, If, IfElse, While, no_stmts, and_stmt, ParameterTree, FunctionTree}
-use Rattle.arc_spec.specs.Resolved.{Value, Number, ReadByte, Print, Negated, Combined, Converted, Local, Assigned, Invoked, Values, no_values, and_value, Command, Sequence, Evaluate, Return, Choose, Repeat, Commands, no_commands, and_command, Function, Program}
-use Rattle.arc_class.specs.declared.table.Declared.{Declared}
+use Rattle.arc_ast.specs.Tree.{ExprTree, ExprTrees, Integer, Text, Paren, Call, Negate, Binary, Name, Assign, Send, ReceiverTree, Named, Itself, Super, no_exprs, and_expr, VariableTree, StmtTree, StmtTrees, Block, Empty, Simple, Variables, If, IfElse, While, no_stmts, and_stmt, ParameterTree, FunctionTree, MethodTree, ImplementationTree, UnitTree}
+use Rattle.arc_spec.specs.Resolved.{Value, Number, ReadByte, Print, Negated, Combined, Converted, Local, Assigned, Invoked, Sent, SentSuper, Values, no_values, and_value, Command, Sequence, Evaluate, Return, Choose, Repeat, Commands, no_commands, and_command, Function, Program}
 use Rattle.arc_class.specs.Bodies.{named_parameters}
-use Rattle.arc_class.specs.Names.{known, number_of, is_main}
+use Rattle.arc_class.specs.Classes.{classes}
+use Rattle.arc_class.specs.Names.{number_of, is_main}
 use Rattle.arc_check.specs.declared.callee.Callee.{Callee}
 use Rattle.arc_check.specs.declared.callee.Callee.TheVariants.{Printf, GetChar, Defined, Unknown}
 use Rattle.arc_check.specs.declared.format.Begun.TheVariants.{Nothing}
 use Rattle.arc_check.specs.Kinds.{literal_kind, wider, given_kind}
 use Rattle.arc_check.specs.Formats.{parts, printed}
-use Rattle.arc_check.specs.Scopes.{Scope, declare, with_parameters, leave, behind, behind_all, outermost, callee, result_kind, is_printf}
+use Rattle.arc_check.specs.Scopes.{Known, Scope, declare, with_parameters, leave, behind, behind_all, outermost, in_method, callee, result_kind, is_printf, above, receiving, sent_kind}
+use Rattle.arc_check.specs.Rules.{known_of}
+
+abbrev pub kind_or_int : Option Kind → Kind
+kind_or_int None = k.Int
+kind_or_int (Some kind) = kind
 
 -- the kind of an expression that breaks no rule; a text has none, and its kind here is never asked for
 abbrev pub kind : Scope → ExprTree → Kind
 kind s (Integer at n) = literal_kind n
 kind s (Text at bytes) = k.Int
 kind s (Paren at a) = kind s a
-kind s (Call at name arguments) = result_kind (callee s.functions name)
+kind s (Call at name arguments) = result_kind (callee s.known name)
 kind s (Negate at a) = kind s a
 kind s (Binary at operator a b) = given_kind operator (wider (kind s a) (kind s b))
 kind s (Name at name) = k.Int
 kind s (Assign at sign a b) = kind s a
+kind s (Send at part receiver selector arguments) = kind_or_int (sent_kind s.known (receiving s receiver) selector)
 
 -- a value of one kind as one of another (C99, section 6.3.1.8; for an assignment section 6.5.16.1, and for a returned value section 6.8.6.4)
 abbrev pub as_kind : Kind → Kind → Value → Value
@@ -58,6 +64,13 @@ called GetChar arguments all = ReadByte
 called (Defined result count body) arguments all = Invoked (number body) all
 called Unknown arguments all = ReadByte
 
+-- A message to a class or to `self`, which is the first variable of a method, is looked up from the class that gets it, and one to `super` from the superclass
+-- of the class whose method has it (OPL, "Messages to self and super").
+abbrev pub sent : Scope → ReceiverTree → (selector : ℕ) → Values → Value
+sent s (Named at name) selector all = Sent (Number (pos (number (s.known.class name)))) selector all
+sent s (Itself at) selector all = Sent (Local 0) selector all
+sent s (Super at) selector all = SentSuper (number (above s.known s.class)) selector all
+
 -- the number of the variable that an assignment's left side names
 abbrev pub variable : Scope → ExprTree → ℕ
 variable s (Paren at a) = variable s a
@@ -74,12 +87,13 @@ abbrev mutual
   resolved s (Integer at n) = Number n
   resolved s (Text at bytes) = Number (pos 0)
   resolved s (Paren at a) = resolved s a
-  resolved s (Call at name arguments) = called (callee s.functions name) arguments (resolved_all s (is_printf (callee s.functions name)) arguments)
+  resolved s (Call at name arguments) = called (callee s.known name) arguments (resolved_all s (is_printf (callee s.known name)) arguments)
   resolved s (Negate at a) = Negated (kind s a) (resolved s a)
   resolved s (Binary at operator a b) =
       let both = wider (kind s a) (kind s b) in Combined operator both (as_kind both (kind s a) (resolved s a)) (as_kind both (kind s b) (resolved s b))
   resolved s (Name at name) = Local (number (s.variables name))
   resolved s (Assign at sign a b) = Assigned (variable s a) (as_kind k.Int (kind s b) (resolved s b))
+  resolved s (Send at part receiver selector arguments) = sent s receiver (number (s.known.selector selector)) (resolved_all s false arguments)
 
   pub resolved_all : Scope → (printed : Bool) → ExprTrees → Values
   resolved_all s printed no_exprs = no_values
@@ -119,15 +133,30 @@ abbrev mutual
 abbrev pub resolved_body : Scope → StmtTrees → Function
 resolved_body s body = record { slots = (behind_all s body).next; body = resolved_stmts s body }
 
-abbrev pub with_function : (List ℕ → Option Declared) → List ParameterTree → Option StmtTrees → List Function → List Function
-with_function functions parameters None others = others
-with_function functions parameters (Some body) others = resolved_body (with_parameters (outermost functions) parameters) body ∷ others
+abbrev pub with_function : Known → List ParameterTree → Option StmtTrees → List Function → List Function
+with_function known parameters None others = others
+with_function known parameters (Some body) others = resolved_body (with_parameters (outermost known) parameters) body ∷ others
 
 -- the functions with a body, in their order
-abbrev pub resolved_functions : (List ℕ → Option Declared) → List FunctionTree → List Function
-resolved_functions functions [] = []
-resolved_functions functions (f ∷ others) = with_function functions (named_parameters f.parameters) f.body (resolved_functions functions others)
+abbrev pub resolved_functions : Known → List FunctionTree → List Function
+resolved_functions known [] = []
+resolved_functions known (f ∷ others) = with_function known (named_parameters f.parameters) f.body (resolved_functions known others)
 
--- the program of a source
-abbrev pub resolved_unit : List FunctionTree → Program
-resolved_unit all = record { functions = resolved_functions (known all) all; main = number (number_of is_main all) }
+-- the methods of an implementation of a class, in front of other functions
+abbrev pub with_methods : Known → (class : Option ℕ) → List MethodTree → List Function → List Function
+with_methods known class [] others = others
+with_methods known class (m ∷ rest) others =
+    resolved_body (with_parameters (in_method known class) m.head.parameters) m.body ∷ with_methods known class rest others
+
+-- the methods of all implementations, in their order
+abbrev pub resolved_methods : Known → List ImplementationTree → List Function
+resolved_methods known [] = []
+resolved_methods known (i ∷ others) = with_methods known (known.class i.name) i.methods (resolved_methods known others)
+
+-- the program of a source: its functions with a body, and then its methods
+abbrev pub resolved_unit : UnitTree → Program
+resolved_unit u = record {
+  functions = resolved_functions (known_of u) u.functions ++ resolved_methods (known_of u) u.implementations;
+  main = number (number_of is_main u.functions);
+  classes = classes u;
+}

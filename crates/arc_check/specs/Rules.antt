@@ -1,19 +1,19 @@
--- The rules for functions: names, kinds, counts of arguments, formats, and the number of variables.
+-- The rules for functions and methods: names, kinds, counts of arguments, formats, and the number of variables.
 use Rattle.std.specs.Prelude.{ℕ, suc, Bool, true, false, ◌&&◌, not, List, [], ◌∷◌, ◌++◌, length, Option, Some, None, is_some, is_none, nat_lt, nat_eq, if◌then◌else◌}
 use Rattle.arc_ast.specs.declared.tree.Kind.{Kind}
 use Rattle.arc_ast.specs.declared.tree.Kind.TheVariants as k
 use Rattle.arc_ast.specs.declared.tree.BinaryOperator.{BinaryOperator}
 use Rattle.arc_ast.specs.declared.tree.BinaryOperator.TheVariants as o
-use Rattle.arc_ast.specs.Tree.{ExprTree, ExprTrees, Integer, Text, Paren, Call, Negate, Binary, Name, Assign, no_exprs, and_expr, place, VariableTree, StmtTree, StmtTrees, Block, Empty, Simple, Return, Variables, If, IfElse, While, no_stmts, and_stmt, ParameterTree, FunctionTree}
-use Rattle.arc_class.specs.declared.table.Declared.{Declared}
+use Rattle.arc_ast.specs.Tree.{ExprTree, ExprTrees, Integer, Text, Paren, Call, Negate, Binary, Name, Assign, Send, ReceiverTree, Named, Itself, Super, no_exprs, and_expr, place, VariableTree, StmtTree, StmtTrees, Block, Empty, Simple, Return, Variables, If, IfElse, While, no_stmts, and_stmt, ParameterTree, FunctionTree, HeadTree, MethodTree, InterfaceTree, ImplementationTree, UnitTree}
 use Rattle.arc_class.specs.Bodies.{broken_if, named_parameters}
 use Rattle.arc_class.specs.Broken.{Broken}
+use Rattle.arc_class.specs.Classes.{class_number, superclass, known_result, selector_number}
 use Rattle.arc_class.specs.Names.{known}
 use Rattle.arc_check.specs.declared.callee.Callee.{Callee}
 use Rattle.arc_check.specs.declared.callee.Callee.TheVariants.{Printf, GetChar, Defined, Unknown}
 use Rattle.arc_check.specs.Formats.{wanted, fits}
 use Rattle.arc_check.specs.Kinds.{literal_kind, wider}
-use Rattle.arc_check.specs.Scopes.{Scope, is_full, declare, with_parameters, leave, behind, outermost, callee, result_kind, is_printf}
+use Rattle.arc_check.specs.Scopes.{Known, Scope, is_full, declare, with_parameters, leave, behind, outermost, in_method, callee, result_kind, is_printf, receiving, sent_kind}
 
 abbrev pub count : ExprTrees → ℕ
 count no_exprs = 0
@@ -81,11 +81,12 @@ abbrev mutual
   kind_of s (Integer at n) = Some (literal_kind n)
   kind_of s (Text at bytes) = None
   kind_of s (Paren at a) = kind_of s a
-  kind_of s (Call at name arguments) = kind_if (is_none (call_rule (callee s.functions name) arguments (kinds s arguments))) (result_kind (callee s.functions name))
+  kind_of s (Call at name arguments) = kind_if (is_none (call_rule (callee s.known name) arguments (kinds s arguments))) (result_kind (callee s.known name))
   kind_of s (Negate at a) = number_kind (kind_of s a)
   kind_of s (Binary at operator a b) = binary_kind operator (kind_of s a) (kind_of s b)
   kind_of s (Name at name) = kind_if (is_some (s.variables name)) k.Int
   kind_of s (Assign at sign a b) = if is_variable a then kind_of s a else None
+  kind_of s (Send at part receiver selector arguments) = sent_kind s.known (receiving s receiver) selector
 
   pub kinds : Scope → ExprTrees → List (Option Kind)
   kinds s no_exprs = []
@@ -96,13 +97,46 @@ abbrev pub no_value : Option Kind → ℕ → List Broken
 no_value (Some k.Void) at = record { at = at; number = 43 } ∷ []
 no_value _ at = []
 
+-- 43 KindMismatch, at an expression's place: it gives no number where one is needed
+abbrev pub no_number : Option Kind → ℕ → List Broken
+no_number (Some k.Void) at = record { at = at; number = 43 } ∷ []
+no_number (Some k.Object) at = record { at = at; number = 43 } ∷ []
+no_number _ at = []
+
+-- An operator computes with numbers; `!=` compares two numbers or two objects, and tells an object and a number at the second (C99, section 6.5.9).
+abbrev pub no_left : BinaryOperator → Option Kind → ℕ → List Broken
+no_left o.NotEqual a at = no_value a at
+no_left _ a at = no_number a at
+
+abbrev pub no_right : BinaryOperator → Option Kind → Option Kind → ℕ → List Broken
+no_right o.NotEqual (Some k.Object) (Some k.Object) at = []
+no_right o.NotEqual (Some k.Object) (Some _) at = record { at = at; number = 43 } ∷ []
+no_right o.NotEqual _ b at = no_number b at
+no_right _ a b at = no_number b at
+
 abbrev pub broken_at : ℕ → Option ℕ → List Broken
 broken_at at None = []
 broken_at at (Some number) = record { at = at; number = number } ∷ []
 
+abbrev pub is_empty : List Broken → Bool
+is_empty [] = true
+is_empty (a ∷ others) = false
+
 abbrev pub unless : Bool → List Broken → List Broken
 unless true all = []
 unless false all = all
+
+-- the rule that a receiver breaks, at its place: 43 KindMismatch for a number's variable, 41 UnknownName for a name that is neither a variable's nor a class's, and
+-- for `self` outside methods
+abbrev pub broken_receiver : Scope → ReceiverTree → List Broken
+broken_receiver s (Named at name) = if is_some (s.variables name) then record { at = at; number = 43 } ∷ [] else broken_if (is_none (s.known.class name)) at 41
+broken_receiver s (Itself at) = broken_if (is_none s.class) at 41
+broken_receiver s (Super at) = []
+
+-- 42 NoSuchMethod, at the first part of the selector: no method is known for a message whose receiver breaks no rule
+abbrev pub no_method : Scope → ReceiverTree → List ℕ → ℕ → List Broken
+no_method s receiver selector part =
+    broken_if (is_empty (broken_receiver s receiver) && is_none (sent_kind s.known (receiving s receiver) selector)) part 42
 
 -- All that is wrong with an expression. 41 UnknownName: a variable that isn't in scope (C99, section 6.5.1). 43 KindMismatch: a text stands anywhere but as the
 -- first argument of printf. 44 NotAssignable, at the `=`: the left side is no variable (section 6.5.16).
@@ -112,25 +146,32 @@ abbrev mutual
   broken s (Text at bytes) = record { at = at; number = 43 } ∷ []
   broken s (Paren at a) = broken s a
   broken s (Call at name arguments) =
-      broken_at at (call_rule (callee s.functions name) arguments (kinds s arguments)) ++ broken_arguments s (is_printf (callee s.functions name)) (is_printf (callee s.functions name)) arguments
-  broken s (Negate at a) = broken s a ++ no_value (kind_of s a) (place a)
-  broken s (Binary at operator a b) = (broken s a ++ no_value (kind_of s a) (place a)) ++ (broken s b ++ no_value (kind_of s b) (place b))
+      broken_at at (call_rule (callee s.known name) arguments (kinds s arguments)) ++ broken_arguments s (is_printf (callee s.known name)) (is_printf (callee s.known name)) arguments
+  broken s (Negate at a) = broken s a ++ no_number (kind_of s a) (place a)
+  broken s (Binary at operator a b) =
+      (broken s a ++ no_left operator (kind_of s a) (place a)) ++ (broken s b ++ no_right operator (kind_of s a) (kind_of s b) (place b))
   broken s (Name at name) = broken_if (is_none (s.variables name)) at 41
-  broken s (Assign at sign a b) = (broken s a ++ broken_if (not (is_variable a)) sign 44) ++ (broken s b ++ no_value (kind_of s b) (place b))
+  broken s (Assign at sign a b) = (broken s a ++ broken_if (not (is_variable a)) sign 44) ++ (broken s b ++ no_number (kind_of s b) (place b))
+  broken s (Send at part receiver selector arguments) =
+      (broken_receiver s receiver ++ no_method s receiver selector part) ++ broken_arguments s false false arguments
 
   -- what printf prints may be of any kind here, since a wrong one breaks the rule of formats
   pub broken_arguments : Scope → (printed text_may_begin : Bool) → ExprTrees → List Broken
   broken_arguments s printed text_may_begin no_exprs = []
   broken_arguments s printed text_may_begin (and_expr a others) =
-      (unless (text_may_begin && is_text a) (broken s a) ++ unless printed (no_value (kind_of s a) (place a))) ++ broken_arguments s printed false others
+      (unless (text_may_begin && is_text a) (broken s a) ++ unless printed (no_number (kind_of s a) (place a))) ++ broken_arguments s printed false others
 
--- all that is wrong with an expression whose value is needed
-abbrev pub broken_value : Scope → ExprTree → List Broken
-broken_value s a = broken s a ++ no_value (kind_of s a) (place a)
+-- all that is wrong with an expression that has to give a number
+abbrev pub broken_number : Scope → ExprTree → List Broken
+broken_number s a = broken s a ++ no_number (kind_of s a) (place a)
+
+-- all that is wrong with a test, which is a number or an object (C99, section 6.8.4.1)
+abbrev pub broken_test : Scope → ExprTree → List Broken
+broken_test s a = broken s a ++ no_value (kind_of s a) (place a)
 
 abbrev pub broken_initial : Scope → Option ExprTree → List Broken
 broken_initial s None = []
-broken_initial s (Some a) = broken_value s a
+broken_initial s (Some a) = broken_number s a
 
 -- 50 TooManyLocals: a variable past the 200th, at its name; a variable is in scope in its own initializer (C99, section 6.2.1)
 abbrev pub broken_variables : Scope → List VariableTree → List Broken
@@ -146,7 +187,7 @@ broken_parameters s (p ∷ others) = broken_if (is_full s) p.at 50 ++ broken_par
 abbrev pub broken_result : (gives_nothing : Bool) → Scope → Option ExprTree → List Broken
 broken_result gives_nothing s None = []
 broken_result true s (Some a) = broken s a ++ record { at = place a; number = 43 } ∷ []
-broken_result false s (Some a) = broken_value s a
+broken_result false s (Some a) = broken_number s a
 
 -- all that is wrong with a statement
 abbrev mutual
@@ -156,9 +197,9 @@ abbrev mutual
   broken_stmt gives_nothing s (Simple a) = broken s a
   broken_stmt gives_nothing s (Return at a) = broken_result gives_nothing s a
   broken_stmt gives_nothing s (Variables at all) = broken_variables s all
-  broken_stmt gives_nothing s (If at c a) = broken_value s c ++ broken_stmt gives_nothing s a
-  broken_stmt gives_nothing s (IfElse at c a b) = broken_value s c ++ (broken_stmt gives_nothing s a ++ broken_stmt gives_nothing (leave s (behind s a)) b)
-  broken_stmt gives_nothing s (While at c a) = broken_value s c ++ broken_stmt gives_nothing s a
+  broken_stmt gives_nothing s (If at c a) = broken_test s c ++ broken_stmt gives_nothing s a
+  broken_stmt gives_nothing s (IfElse at c a b) = broken_test s c ++ (broken_stmt gives_nothing s a ++ broken_stmt gives_nothing (leave s (behind s a)) b)
+  broken_stmt gives_nothing s (While at c a) = broken_test s c ++ broken_stmt gives_nothing s a
 
   pub broken_stmts : (gives_nothing : Bool) → Scope → StmtTrees → List Broken
   broken_stmts gives_nothing s no_stmts = []
@@ -169,24 +210,58 @@ is_void k.Void = true
 is_void _ = false
 
 -- the parameters of a mere declaration are counted alone
-abbrev pub broken_body : (gives_nothing : Bool) → (List ℕ → Option Declared) → List ParameterTree → Option StmtTrees → List Broken
-broken_body gives_nothing functions parameters None = []
-broken_body gives_nothing functions parameters (Some body) =
-    broken_parameters (outermost functions) parameters ++ broken_stmts gives_nothing (with_parameters (outermost functions) parameters) body
+abbrev pub broken_body : (gives_nothing : Bool) → Known → List ParameterTree → Option StmtTrees → List Broken
+broken_body gives_nothing known parameters None = []
+broken_body gives_nothing known parameters (Some body) =
+    broken_parameters (outermost known) parameters ++ broken_stmts gives_nothing (with_parameters (outermost known) parameters) body
 
 -- how many parameters a function has at most (this project's own choice)
 abbrev pub most_parameters : ℕ
 most_parameters = 16
 
 -- 45 ArgumentCount too: a function with more parameters, at its name
-abbrev pub broken_function : (List ℕ → Option Declared) → FunctionTree → List Broken
-broken_function functions f =
-    broken_if (nat_lt most_parameters (length (named_parameters f.parameters))) f.at 45 ++ broken_body (is_void f.result) functions (named_parameters f.parameters) f.body
+abbrev pub broken_function : Known → FunctionTree → List Broken
+broken_function known f =
+    broken_if (nat_lt most_parameters (length (named_parameters f.parameters))) f.at 45 ++ broken_body (is_void f.result) known (named_parameters f.parameters) f.body
 
-abbrev pub broken_functions : (List ℕ → Option Declared) → List FunctionTree → List Broken
-broken_functions functions [] = []
-broken_functions functions (f ∷ others) = broken_function functions f ++ broken_functions functions others
+abbrev pub broken_functions : Known → List FunctionTree → List Broken
+broken_functions known [] = []
+broken_functions known (f ∷ others) = broken_function known f ++ broken_functions known others
 
--- all that is wrong in the functions of a source
-abbrev pub broken_unit : List FunctionTree → List Broken
-broken_unit all = broken_functions (known all) all
+-- 45 ArgumentCount too: a method with more parameters, declared or defined, at its `+`
+abbrev pub broken_head : HeadTree → List Broken
+broken_head h = broken_if (nat_lt most_parameters (length h.parameters)) h.at 45
+
+abbrev pub broken_heads : List HeadTree → List Broken
+broken_heads [] = []
+broken_heads (h ∷ others) = broken_head h ++ broken_heads others
+
+abbrev pub broken_interfaces : List InterfaceTree → List Broken
+broken_interfaces [] = []
+broken_interfaces (i ∷ others) = broken_heads i.methods ++ broken_interfaces others
+
+abbrev pub broken_method : Known → (class : Option ℕ) → MethodTree → List Broken
+broken_method known class m = broken_head m.head
+    ++ (broken_parameters (in_method known class) m.head.parameters ++ broken_stmts (is_void m.head.result) (with_parameters (in_method known class) m.head.parameters) m.body)
+
+abbrev pub broken_methods : Known → (class : Option ℕ) → List MethodTree → List Broken
+broken_methods known class [] = []
+broken_methods known class (m ∷ others) = broken_method known class m ++ broken_methods known class others
+
+abbrev pub broken_implementations : Known → List ImplementationTree → List Broken
+broken_implementations known [] = []
+broken_implementations known (i ∷ others) = broken_methods known (known.class i.name) i.methods ++ broken_implementations known others
+
+-- what is known of the names of a source
+abbrev pub known_of : UnitTree → Known
+known_of u = record {
+  function = known u.functions;
+  class = class_number u.interfaces;
+  superclass = superclass u.interfaces;
+  result = known_result u;
+  selector = selector_number u;
+}
+
+-- all that is wrong in the functions and the methods of a source
+abbrev pub broken_unit : UnitTree → List Broken
+broken_unit u = broken_functions (known_of u) u.functions ++ (broken_interfaces u.interfaces ++ broken_implementations (known_of u) u.implementations)

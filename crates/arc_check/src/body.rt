@@ -1,17 +1,17 @@
 //! Finds the first rule that is broken in the functions of a source.
-ghost use Rattle.std.specs.Prelude.{◌≡◌, IfOk, OnOk, option_map, take, length};
+ghost use Rattle.std.specs.Prelude.{◌≡◌, ◌++◌, IfOk, OnOk, nat_lt, option_map, take, length};
 ghost use Rattle.arc_ast.specs.Tree.{expr_tree, variable_trees, parameter_trees, parameters_tree, stmt_tree, stmt_trees, function_tree, function_trees};
 ghost use Rattle.arc_class.specs.Bodies as bodies;
 ghost use Rattle.arc_class.specs.Broken.{first};
 ghost use Rattle.arc_class.specs.declared.table.ClassTable.{ClassTable};
-ghost use Rattle.arc_class.specs.Table.{function_in};
 ghost use Rattle.arc_check.specs.Fault.{told};
-ghost use Rattle.arc_check.specs.Rules.{broken_initial, broken_variables, broken_parameters, broken_result, broken_stmt, broken_stmts, broken_body, broken_function, broken_functions};
+ghost use Rattle.arc_check.specs.Rules as rules;
+ghost use Rattle.arc_check.specs.Rules.{broken_initial, broken_variables, broken_parameters, broken_result, broken_stmt, broken_stmts, broken_body, most_parameters, broken_function, broken_functions};
 ghost use Rattle.arc_check.specs.Scopes.{is_full, leave, behind, behind_all, declare, with_variables, with_parameters};
-ghost use Rattle.arc_check.specs.Views.{seen};
+ghost use Rattle.arc_check.specs.Views.{known_in, seen};
 
 use crate::fault::{CheckFault, earlier};
-use crate::judge::{judge, judge_value, place};
+use crate::judge::{judge, judge_number, judge_test, place};
 use crate::scope::Visible;
 use arc_ast::tree::{Expr, Function, Kind, Parameter, Parameters, Stmt, Variable};
 use arc_class::table::ClassTable;
@@ -27,7 +27,7 @@ fn initial<'a>(
 {
     match expr {
         None => None,
-        Some(expr) => judge_value(table, visible, expr).fault,
+        Some(expr) => judge_number(table, visible, expr).fault,
     }
 }
 
@@ -47,7 +47,7 @@ fn returned<'a>(
         let judged = judge(table, visible, expr);
         earlier(judged.fault, Some(CheckFault::KindMismatch(place(expr))))
     } else {
-        judge_value(table, visible, expr).fault
+        judge_number(table, visible, expr).fault
     }
 }
 
@@ -159,18 +159,18 @@ fn statement<'a>(
         Stmt::Return(_, expr) => Ok(returned(table, gives_nothing, visible, expr)),
         Stmt::Variables(_, all) => variables(table, visible, all),
         Stmt::If(_, test, then) => {
-            let fault = judge_value(table, visible, test).fault;
+            let fault = judge_test(table, visible, test).fault;
             let inside = scoped(table, gives_nothing, visible, then)?;
             Ok(earlier(fault, inside))
         }
         Stmt::IfElse(_, test, then, other) => {
-            let fault = judge_value(table, visible, test).fault;
+            let fault = judge_test(table, visible, test).fault;
             let first = scoped(table, gives_nothing, visible, then)?;
             let second = scoped(table, gives_nothing, visible, other)?;
             Ok(earlier(fault, earlier(first, second)))
         }
         Stmt::While(_, test, body) => {
-            let fault = judge_value(table, visible, test).fault;
+            let fault = judge_test(table, visible, test).fault;
             let inside = scoped(table, gives_nothing, visible, body)?;
             Ok(earlier(fault, inside))
         }
@@ -206,8 +206,42 @@ pub fn named_parameters(parameters: &Parameters) -> &[Parameter]
     }
 }
 
-/// How many parameters a function has at most.
+/// How many parameters a function or a method has at most.
 const MOST_PARAMETERS: usize = 16;
+
+/// The rule that a function or a method with so many parameters breaks, at its place.
+pub fn count_fault(at: usize, count: usize) -> Option<CheckFault>
+    ensures { option_map told result ≡ first (bodies.broken_if (nat_lt most_parameters count) at 45) }
+{
+    if count > MOST_PARAMETERS {
+        Some(CheckFault::ArgumentCount(at))
+    } else {
+        None
+    }
+}
+
+/// Whether nothing is of the kind.
+pub fn is_void(kind: Kind) -> bool
+    ensures { result ≡ rules.is_void kind }
+{
+    matches!(kind, Kind::Void)
+}
+
+/// The first rule that is broken in a body, its parameters among it, from what is visible before them.
+pub fn inside<'a>(
+    table: &ClassTable<'a>,
+    gives_nothing: bool,
+    mut visible: Visible<'a>,
+    named: &'a [Parameter],
+    all: &'a [Stmt],
+) -> Result<Option<CheckFault>, AllocError>
+    ensures { IfOk result (λ fault. option_map told fault
+        ≡ first (broken_parameters (seen table.now visible.entry) (parameter_trees named.now)
+        ++ broken_stmts gives_nothing (with_parameters (seen table.now visible.entry) (parameter_trees named.now)) (stmt_trees all.now))) }
+{
+    let fault = parameters(table, &mut visible, named)?;
+    Ok(earlier(fault, statements(table, gives_nothing, &mut visible, all)?))
+}
 
 /// The first rule that is broken in a function's body.
 fn body<'a>(
@@ -218,14 +252,12 @@ fn body<'a>(
     all: &'a Option<Vec<Stmt>>,
 ) -> Result<Option<CheckFault>, AllocError>
     ensures { IfOk result (λ fault. option_map told fault
-        ≡ first (broken_body gives_nothing (function_in table.now) (parameter_trees named.now) (option_map (λ b. stmt_trees b.items) all.now))) }
+        ≡ first (broken_body gives_nothing (known_in table.now) (parameter_trees named.now) (option_map (λ b. stmt_trees b.items) all.now))) }
 {
     let Some(all) = all else {
         return Ok(None);
     };
-    let mut visible = Visible::new(alloc);
-    let fault = parameters(table, &mut visible, named)?;
-    Ok(earlier(fault, statements(table, gives_nothing, &mut visible, all)?))
+    inside(table, gives_nothing, Visible::new(alloc), named, all)
 }
 
 /// The first rule that is broken in a function.
@@ -234,19 +266,13 @@ fn function<'a>(
     table: &ClassTable<'a>,
     function: &'a Function,
 ) -> Result<Option<CheckFault>, AllocError>
-    ensures { IfOk result (λ fault. option_map told fault ≡ first (broken_function (function_in table.now) (function_tree function.now))) }
+    ensures { IfOk result (λ fault. option_map told fault ≡ first (broken_function (known_in table.now) (function_tree function.now))) }
 {
     let named = named_parameters(&function.parameters);
-    let own = if named.len() > MOST_PARAMETERS {
-        Some(CheckFault::ArgumentCount(function.at))
-    } else {
-        None
-    };
-    let gives_nothing = matches!(function.result, Kind::Void);
-    Ok(earlier(
-        own,
-        body(alloc, table, gives_nothing, named, &function.body)?,
-    ))
+    let own = count_fault(function.at, named.len());
+    let gives_nothing = is_void(function.result);
+    let inside = body(alloc, table, gives_nothing, named, &function.body)?;
+    Ok(earlier(own, inside))
 }
 
 /// The first rule that is broken in the functions.
@@ -255,7 +281,7 @@ pub fn judge_functions<'a>(
     table: &ClassTable<'a>,
     functions: &'a [Function],
 ) -> Result<Option<CheckFault>, AllocError>
-    ensures { IfOk result (λ fault. option_map told fault ≡ first (broken_functions (function_in table.now) (function_trees functions.now))) }
+    ensures { IfOk result (λ fault. option_map told fault ≡ first (broken_functions (known_in table.now) (function_trees functions.now))) }
 {
     let mut fault = None;
     for one in functions {

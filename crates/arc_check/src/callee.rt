@@ -1,7 +1,7 @@
 //! The functions that a program may call.
 ghost use Rattle.std.specs.Prelude.{◌≡◌};
-ghost use Rattle.arc_class.specs.Table.{function_in};
 ghost use Rattle.arc_check.specs.Scopes as scopes;
+ghost use Rattle.arc_check.specs.Views.{known_in};
 
 use arc_ast::tree::Kind;
 use arc_class::table::{ClassTable, Declared};
@@ -31,7 +31,7 @@ fn known(declared: Option<Declared>) -> Callee
 
 /// The function that the name calls.
 pub fn callee_of<'a>(table: &ClassTable<'a>, name: &'a [u8]) -> Callee
-    ensures { result ≡ scopes.callee (function_in table.now) name.now }
+    ensures { result ≡ scopes.callee (known_in table.now) name.now }
 {
     if name == b"printf".as_slice() {
         Callee::Printf

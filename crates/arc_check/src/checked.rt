@@ -1,6 +1,7 @@
 //! A program whose names are resolved, whose kinds are known and whose conversions are written.
 
-use arc_ast::tree::{BinaryOperator, Kind};
+use arc_ast::tree::{BinaryOperator, Kind, TranslationUnit};
+use arc_spec::class::Class;
 
 /// What a format prints in turn.
 #[derive(Debug, Drop)]
@@ -29,6 +30,12 @@ pub enum Value {
     Assigned(usize, Box<Value>),
     /// A call of the function with this number.
     Invoked(usize, Vec<Value>),
+    /// A message: what gets it, which gives a class's number, the selector's number, and the
+    /// arguments.
+    Sent(Box<Value>, usize, Vec<Value>),
+    /// A message to `super`: the number of the class from which the method is looked up, the
+    /// selector's number, and the arguments.
+    SentSuper(usize, usize, Vec<Value>),
 }
 
 /// A statement.
@@ -43,16 +50,20 @@ pub enum Command {
     Repeat(Value, Box<Command>),
 }
 
-/// A function with how many variables it has, of which the first are its parameters.
+/// A function with how many variables it has, of which the first are its parameters; the first variable
+/// of a method is `self`.
 #[derive(Debug, Drop)]
 pub struct CheckedFunction {
     pub slots: usize,
     pub body: Vec<Command>,
 }
 
-/// A checked program: its functions with a body, in their order, and which of them is `main`.
+/// A checked program: the source that it comes from; its functions with a body, in their order, and then
+/// its methods; which of them is `main`; and its classes, whose methods run functions.
 #[derive(Debug, Drop)]
-pub struct Checked {
+pub struct Checked<'a> {
+    pub unit: &'a TranslationUnit,
     pub functions: Vec<CheckedFunction>,
     pub main: usize,
+    pub classes: Vec<Class>,
 }

@@ -10,10 +10,15 @@ use thiserror::Error;
 /// Why a source is refused: the first rule that its functions break, or no memory.
 #[derive(Clone, Copy, Debug, Drop, PartialEq, Eq, Error)]
 pub enum CheckFault {
-    /// A variable that is not in scope, or a call of a function that is not known or of `main`; the place is that of the name.
+    /// A variable that is not in scope, a call of a function that is not known or of `main`, or a message to a name that is not known or to a `self` outside
+    /// methods; the place is that of the name.
     #[error("the name at {0} is not known")]
     UnknownName(usize),
-    /// A text that is no format of a printf, no value where one is needed, or a value where none is; the place is that of the expression.
+    /// A message for which no method is known; the place is that of its selector's first part.
+    #[error("no method is known for the message at {0}")]
+    NoSuchMethod(usize),
+    /// A text that is no format of a printf, no number where one is needed, a value where none is, or a message to a number; the place is that of the
+    /// expression.
     #[error("the expression at {0} is of the wrong kind")]
     KindMismatch(usize),
     /// The left side of an assignment is no variable; the place is that of its `=`.
@@ -40,6 +45,7 @@ impl CheckFault {
     {
         match self {
             CheckFault::UnknownName(_) => 41,
+            CheckFault::NoSuchMethod(_) => 42,
             CheckFault::KindMismatch(_) => 43,
             CheckFault::NotAssignable(_) => 44,
             CheckFault::ArgumentCount(_) => 45,
@@ -55,6 +61,7 @@ impl CheckFault {
     {
         match self {
             CheckFault::UnknownName(_) => "UnknownName",
+            CheckFault::NoSuchMethod(_) => "NoSuchMethod",
             CheckFault::KindMismatch(_) => "KindMismatch",
             CheckFault::NotAssignable(_) => "NotAssignable",
             CheckFault::ArgumentCount(_) => "ArgumentCount",
@@ -70,6 +77,7 @@ impl CheckFault {
     {
         match self {
             CheckFault::UnknownName(at) => *at,
+            CheckFault::NoSuchMethod(at) => *at,
             CheckFault::KindMismatch(at) => *at,
             CheckFault::NotAssignable(at) => *at,
             CheckFault::ArgumentCount(at) => *at,

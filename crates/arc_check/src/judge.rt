@@ -1,24 +1,24 @@
 //! Finds the first rule that is broken in an expression.
-ghost use Rattle.std.specs.Prelude.{◌≡◌, not, None, is_none, is_some, option_map, if◌then◌else◌};
+ghost use Rattle.std.specs.Prelude.{◌≡◌, ◌++◌, ℕ, not, None, is_none, is_some, option_map, if◌then◌else◌};
 ghost use Rattle.arc_ast.specs.Tree as tree;
-ghost use Rattle.arc_ast.specs.Tree.{expr_tree, expr_trees};
+ghost use Rattle.arc_ast.specs.Tree.{Send, expr_tree, expr_trees, receiver_tree};
 ghost use Rattle.arc_class.specs.Bodies.{broken_if};
 ghost use Rattle.arc_class.specs.Broken.{earlier_of, first};
-ghost use Rattle.arc_class.specs.Table.{function_in};
 ghost use Rattle.arc_check.specs.Fault.{told};
 ghost use Rattle.arc_check.specs.Formats.{wanted};
-ghost use Rattle.arc_check.specs.Judging.{Judges, JudgesValue, JudgesAll, JudgesCall};
+ghost use Rattle.arc_check.specs.Judging.{Judges, JudgesNumber, JudgesTest, JudgesAll, JudgesCall};
 ghost use Rattle.arc_check.specs.Kinds as kinds;
 ghost use Rattle.arc_check.specs.Rules as rules;
-ghost use Rattle.arc_check.specs.Rules.{broken_at, kind_if, no_value, number_kind, other_rule, unless};
+ghost use Rattle.arc_check.specs.Rules.{broken_at, broken_receiver, kind_if, no_left, no_method, no_number, no_right, no_value, number_kind, other_rule, unless};
 ghost use Rattle.arc_check.specs.Scopes as scopes;
-ghost use Rattle.arc_check.specs.Views.{number_in, seen};
+ghost use Rattle.arc_check.specs.Views.{known_in, number_in, seen};
 
 use crate::callee::{Callee, callee_of, result_kind};
 use crate::fault::{CheckFault, earlier};
 use crate::format::{next_conversion, take_conversion};
+use crate::message::{receiving, sent_kind};
 use crate::scope::Visible;
-use arc_ast::tree::{BinaryOperator, Expr, Kind};
+use arc_ast::tree::{BinaryOperator, Expr, Kind, Receiver};
 use arc_class::table::ClassTable;
 
 /// What is told of an expression: its kind, where it has one, and the first rule that is broken in it.
@@ -59,7 +59,7 @@ pub fn wider(a: Kind, b: Kind) -> Kind
     }
 }
 
-/// The place of an expression's first byte.
+/// The place at which an expression is told: an assignment's `=`, a message's first selector part, and else the first byte.
 pub fn place(expr: &Expr) -> usize
     ensures { result ≡ tree.place (expr_tree expr.now) }
 {
@@ -71,7 +71,8 @@ pub fn place(expr: &Expr) -> usize
         | Expr::Negate(at, _)
         | Expr::Binary(at, _, _, _)
         | Expr::Name(at, _)
-        | Expr::Assign(at, _, _, _) => *at,
+        | Expr::Assign(_, at, _, _)
+        | Expr::Send(_, at, _, _, _) => *at,
     }
 }
 
@@ -120,17 +121,89 @@ fn binary_kind(operator: BinaryOperator, a: Option<Kind>, b: Option<Kind>) -> Op
     }
 }
 
-/// The rule that an expression of the kind breaks where a value is needed, and else the other fault.
-fn needed(judged: Judged, at: usize) -> Judged
-    ensures kind { result.kind ≡ judged.kind }
-    ensures fault { option_map told result.fault ≡ earlier_of (option_map told judged.fault) (first (no_value judged.kind at)) }
+/// The rule that an expression of the kind breaks where a value is needed.
+fn no_value(kind: Option<Kind>, at: usize) -> Option<CheckFault>
+    ensures { option_map told result ≡ first (no_value kind at) }
 {
-    match judged.kind {
-        Some(Kind::Void) => Judged {
-            fault: earlier(judged.fault, Some(CheckFault::KindMismatch(at))),
-            ..judged
-        },
-        _ => judged,
+    match kind {
+        Some(Kind::Void) => Some(CheckFault::KindMismatch(at)),
+        _ => None,
+    }
+}
+
+/// The rule that an expression of the kind breaks where a number is needed.
+fn no_number(kind: Option<Kind>, at: usize) -> Option<CheckFault>
+    ensures { option_map told result ≡ first (no_number kind at) }
+{
+    match kind {
+        Some(Kind::Void) | Some(Kind::Object) => Some(CheckFault::KindMismatch(at)),
+        _ => None,
+    }
+}
+
+/// The rule that a left operand of the kind breaks.
+fn no_left(operator: BinaryOperator, kind: Option<Kind>, at: usize) -> Option<CheckFault>
+    ensures { option_map told result ≡ first (no_left operator kind at) }
+{
+    match operator {
+        BinaryOperator::NotEqual => no_value(kind, at),
+        BinaryOperator::Add
+        | BinaryOperator::Subtract
+        | BinaryOperator::Multiply
+        | BinaryOperator::Divide => no_number(kind, at),
+    }
+}
+
+/// The rule that the second of two things breaks, of these kinds, that are compared.
+fn no_other(left: Option<Kind>, right: Option<Kind>, at: usize) -> Option<CheckFault>
+    ensures { option_map told result ≡ first (no_right BinaryOperator.NotEqual left right at) }
+{
+    match (left, right) {
+        (Some(Kind::Object), Some(Kind::Object)) => None,
+        (Some(Kind::Object), Some(_)) => Some(CheckFault::KindMismatch(at)),
+        _ => no_number(right, at),
+    }
+}
+
+/// The rule that a right operand breaks, from the kinds of both.
+fn no_right(
+    operator: BinaryOperator,
+    left: Option<Kind>,
+    right: Option<Kind>,
+    at: usize,
+) -> Option<CheckFault>
+    ensures { option_map told result ≡ first (no_right operator left right at) }
+{
+    match operator {
+        BinaryOperator::NotEqual => no_other(left, right, at),
+        BinaryOperator::Add
+        | BinaryOperator::Subtract
+        | BinaryOperator::Multiply
+        | BinaryOperator::Divide => no_number(right, at),
+    }
+}
+
+/// What is told of an operator's expression, from its operands and their places.
+fn combined(
+    operator: BinaryOperator,
+    left: Judged,
+    left_at: usize,
+    right: Judged,
+    right_at: usize,
+) -> Judged
+    ensures kind { result.kind ≡ rules.binary_kind operator left.kind right.kind }
+    ensures fault { option_map told result.fault
+        ≡ earlier_of (earlier_of (option_map told left.fault) (first (no_left operator left.kind left_at)))
+        (earlier_of (option_map told right.fault) (first (no_right operator left.kind right.kind right_at))) }
+{
+    let first = earlier(left.fault, no_left(operator, left.kind, left_at));
+    let second = earlier(
+        right.fault,
+        no_right(operator, left.kind, right.kind, right_at),
+    );
+    Judged {
+        kind: binary_kind(operator, left.kind, right.kind),
+        fault: earlier(first, second),
     }
 }
 
@@ -199,6 +272,56 @@ fn assigned(is_variable: bool, sign: usize, left: Judged, right: Judged) -> Judg
     }
 }
 
+/// The rule that a message's receiver breaks.
+fn receiver_fault<'a>(
+    table: &ClassTable<'a>,
+    visible: &Visible<'a>,
+    receiver: &'a Receiver,
+) -> Option<CheckFault>
+    ensures { option_map told result ≡ first (broken_receiver (seen table.now visible.now) (receiver_tree receiver.now)) }
+{
+    match receiver {
+        Receiver::Named(at, name) => {
+            if visible.number(name).is_some() {
+                Some(CheckFault::KindMismatch(*at))
+            } else if table.objc_get_class(name).is_none() {
+                Some(CheckFault::UnknownName(*at))
+            } else {
+                None
+            }
+        }
+        Receiver::Itself(at) => {
+            if visible.class.is_none() {
+                Some(CheckFault::UnknownName(*at))
+            } else {
+                None
+            }
+        }
+        Receiver::Super(_) => None,
+    }
+}
+
+/// The rule that a message breaks beside its arguments: its receiver's, or that no method is known for it.
+fn message_fault<'a>(
+    table: &ClassTable<'a>,
+    visible: &Visible<'a>,
+    part: usize,
+    receiver: &'a Receiver,
+    selector: &'a [u8],
+) -> Option<CheckFault>
+    ensures { option_map told result
+        ≡ first (broken_receiver (seen table.now visible.now) (receiver_tree receiver.now) ++ no_method (seen table.now visible.now) (receiver_tree receiver.now) selector.now part) }
+{
+    let own = receiver_fault(table, visible, receiver);
+    if own.is_some() {
+        return own;
+    }
+    match sent_kind(table, receiving(table, visible, receiver), selector) {
+        Some(_) => None,
+        None => Some(CheckFault::NoSuchMethod(part)),
+    }
+}
+
 /// What is told of an expression.
 #[cycle(judge)]
 pub fn judge<'a>(table: &ClassTable<'a>, visible: &Visible<'a>, expr: &'a Expr) -> Judged
@@ -216,34 +339,69 @@ pub fn judge<'a>(table: &ClassTable<'a>, visible: &Visible<'a>, expr: &'a Expr) 
         Expr::Paren(_, inside) => judge(table, visible, inside),
         Expr::Call(at, name, arguments) => judge_call(table, visible, *at, name, arguments),
         Expr::Negate(_, operand) => {
-            let operand = judge_value(table, visible, operand);
+            let operand = judge_number(table, visible, operand);
             Judged {
                 kind: number_kind(operand.kind),
                 fault: operand.fault,
             }
         }
         Expr::Binary(_, operator, left, right) => {
-            let left = judge_value(table, visible, left);
-            let right = judge_value(table, visible, right);
-            Judged {
-                kind: binary_kind(*operator, left.kind, right.kind),
-                fault: earlier(left.fault, right.fault),
-            }
+            let first = judge(table, visible, left);
+            let second = judge(table, visible, right);
+            combined(*operator, first, place(left), second, place(right))
         }
         Expr::Name(at, name) => judge_name(visible, *at, name),
         Expr::Assign(_, sign, left, right) => {
-            let value = judge_value(table, visible, right);
+            let value = judge_number(table, visible, right);
             assigned(is_variable(left), *sign, judge(table, visible, left), value)
+        }
+        Expr::Send(_, part, receiver, selector, arguments) => {
+            judge_send(table, visible, *part, receiver, selector, arguments)
         }
     }
 }
 
-/// What is told of an expression whose value is needed.
+/// What is told of an expression that has to give a number.
 #[cycle(judge)]
-pub fn judge_value<'a>(table: &ClassTable<'a>, visible: &Visible<'a>, expr: &'a Expr) -> Judged
-    ensures { JudgesValue (seen table.now visible.now) (expr_tree expr.now) result }
+pub fn judge_number<'a>(table: &ClassTable<'a>, visible: &Visible<'a>, expr: &'a Expr) -> Judged
+    ensures { JudgesNumber (seen table.now visible.now) (expr_tree expr.now) result }
 {
-    needed(judge(table, visible, expr), place(expr))
+    let judged = judge(table, visible, expr);
+    Judged {
+        kind: judged.kind,
+        fault: earlier(judged.fault, no_number(judged.kind, place(expr))),
+    }
+}
+
+/// What is told of a test.
+pub fn judge_test<'a>(table: &ClassTable<'a>, visible: &Visible<'a>, expr: &'a Expr) -> Judged
+    ensures { JudgesTest (seen table.now visible.now) (expr_tree expr.now) result }
+{
+    let judged = judge(table, visible, expr);
+    Judged {
+        kind: judged.kind,
+        fault: earlier(judged.fault, no_value(judged.kind, place(expr))),
+    }
+}
+
+/// What is told of a message.
+#[cycle(judge)]
+fn judge_send<'a>(
+    table: &ClassTable<'a>,
+    visible: &Visible<'a>,
+    part: usize,
+    receiver: &'a Receiver,
+    selector: &'a [u8],
+    arguments: &'a [Expr],
+) -> Judged
+    ensures { (at : ℕ) → Judges (seen table.now visible.now) (Send at part (receiver_tree receiver.now) selector.now (expr_trees arguments.now)) result }
+{
+    let own = message_fault(table, visible, part, receiver, selector);
+    let passed = judge_arguments(table, visible, false, b"", arguments);
+    Judged {
+        kind: sent_kind(table, receiving(table, visible, receiver), selector),
+        fault: earlier(own, passed.fault),
+    }
 }
 
 /// What is told of a call.
@@ -255,7 +413,7 @@ fn judge_call<'a>(
     name: &'a [u8],
     arguments: &'a [Expr],
 ) -> Judged
-    ensures { JudgesCall (seen table.now visible.now) at (scopes.callee (function_in table.now) name.now) (expr_trees arguments.now) result }
+    ensures { JudgesCall (seen table.now visible.now) at (scopes.callee (known_in table.now) name.now) (expr_trees arguments.now) result }
 {
     let callee = callee_of(table, name);
     match callee {
@@ -305,13 +463,12 @@ fn judge_argument<'a>(
 ) -> Judged
     ensures kind { result.kind ≡ rules.kind_of (seen table.now visible.now) (expr_tree argument.now) }
     ensures fault { option_map told result.fault
-        ≡ earlier_of (first (rules.broken (seen table.now visible.now) (expr_tree argument.now))) (first (unless printed (no_value (rules.kind_of (seen table.now visible.now) (expr_tree argument.now)) (tree.place (expr_tree argument.now))))) }
+        ≡ earlier_of (first (rules.broken (seen table.now visible.now) (expr_tree argument.now))) (first (unless printed (no_number (rules.kind_of (seen table.now visible.now) (expr_tree argument.now)) (tree.place (expr_tree argument.now))))) }
 {
-    let judged = judge(table, visible, argument);
     if printed {
-        judged
+        judge(table, visible, argument)
     } else {
-        needed(judged, place(argument))
+        judge_number(table, visible, argument)
     }
 }
 

@@ -5,9 +5,16 @@ mod body;
 mod callee;
 pub mod check;
 pub mod checked;
+#[cfg(test)]
+mod class_tests;
+mod classes;
 pub mod fault;
 mod format;
 mod judge;
+mod message;
+#[cfg(test)]
+mod message_tests;
+mod method;
 mod program;
 mod resolve;
 mod scope;

@@ -1,21 +1,22 @@
-//! Builds the resolved functions of a source that breaks no rule.
-ghost use Rattle.std.specs.Prelude.{◌≡◌, IfOk, OnOk, option_map, take, length};
-ghost use Rattle.arc_ast.specs.Tree.{expr_tree, variable_trees, parameter_trees, stmt_tree, stmt_trees, function_trees};
-ghost use Rattle.arc_class.specs.Table.{function_in};
+//! Builds the resolved functions and methods of a source that breaks no rule.
+ghost use Rattle.std.specs.Prelude.{◌≡◌, List, ◌++◌, IfOk, OnOk, option_map, take, length};
+ghost use Rattle.arc_ast.specs.Tree.{expr_tree, variable_trees, parameter_trees, stmt_tree, stmt_trees, function_trees, method_trees, implementation_trees};
+ghost use Rattle.arc_class.specs.Table.{number_of_class};
 ghost use Rattle.arc_spec.specs.Resolved.{Sequence};
-ghost use Rattle.arc_check.specs.Building.{function_of};
+ghost use Rattle.arc_spec.specs.Resolved as spec;
+ghost use Rattle.arc_check.specs.Building.{function_of, functions_ahead};
 ghost use Rattle.arc_check.specs.Checked as checked;
 ghost use Rattle.arc_check.specs.Resolving as resolving;
-ghost use Rattle.arc_check.specs.Resolving.{as_int, resolved_variables, resolved_stmt, resolved_stmts, resolved_body, resolved_functions};
-ghost use Rattle.arc_check.specs.Scopes.{leave, behind, behind_all, with_parameters, with_variables, outermost};
-ghost use Rattle.arc_check.specs.Views.{seen};
+ghost use Rattle.arc_check.specs.Resolving.{as_int, resolved_variables, resolved_stmt, resolved_stmts, resolved_body, resolved_functions, with_methods, resolved_methods};
+ghost use Rattle.arc_check.specs.Scopes.{leave, behind, behind_all, with_parameters, with_variables};
+ghost use Rattle.arc_check.specs.Views.{known_in, seen};
 
 use crate::body::named_parameters;
 use crate::checked::{CheckedFunction, Command, Value};
 use crate::resolve::{expression, int};
 use crate::scope::Visible;
-use arc_ast::tree::{Expr, Function, Parameter, Stmt, Variable};
-use arc_class::table::ClassTable;
+use arc_ast::tree::{Expr, Function, Implementation, Method, Parameter, Stmt, Variable};
+use arc_class::table::{ClassId, ClassTable};
 use std::alloc::{AllocError, Global};
 
 /// What a variable begins with.
@@ -162,17 +163,17 @@ fn commands<'a>(
     Ok(all)
 }
 
-/// The resolved function with the parameters and the body.
+/// The resolved function with the parameters and the body, from what is visible before them.
 fn function<'a>(
     alloc: Global,
     table: &ClassTable<'a>,
+    mut visible: Visible<'a>,
     named: &'a [Parameter],
     body: &'a [Stmt],
 ) -> Result<CheckedFunction, AllocError>
     ensures { IfOk result (λ new. function_of new
-        ≡ resolved_body (with_parameters (outermost (function_in table.now)) (parameter_trees named.now)) (stmt_trees body.now)) }
+        ≡ resolved_body (with_parameters (seen table.now visible.entry) (parameter_trees named.now)) (stmt_trees body.now)) }
 {
-    let mut visible = Visible::new(alloc);
     visible.declare_parameters(named)?;
     let body = commands(alloc, table, &mut visible, body)?;
     Ok(CheckedFunction {
@@ -187,13 +188,49 @@ pub fn functions<'a>(
     table: &ClassTable<'a>,
     declared: &'a [Function],
 ) -> Result<Vec<CheckedFunction>, AllocError>
-    ensures { IfOk result (λ all. checked.functions all.items ≡ resolved_functions (function_in table.now) (function_trees declared.now)) }
+    ensures { IfOk result (λ all. checked.functions all.items ≡ resolved_functions (known_in table.now) (function_trees declared.now)) }
 {
     let mut all = Vec::new(alloc);
     for one in declared {
         if let Some(body) = &one.body {
-            all.push(function(alloc, table, named_parameters(&one.parameters), body)?)?;
+            let named = named_parameters(&one.parameters);
+            all.push(function(alloc, table, Visible::new(alloc), named, body)?)?;
         }
     }
     Ok(all)
+}
+
+/// Appends the resolved methods of the class.
+fn add_methods<'a>(
+    alloc: Global,
+    table: &ClassTable<'a>,
+    class: Option<ClassId>,
+    methods: &'a [Method],
+    all: &mut Vec<CheckedFunction>,
+) -> Result<(), AllocError>
+    ensures { OnOk result ((others : List spec.Function) → functions_ahead all.new.items others
+        ≡ functions_ahead all.old.items (with_methods (known_in table.now) (option_map number_of_class class) (method_trees methods.now) others)) }
+{
+    for one in methods {
+        let visible = Visible::in_method(alloc, class);
+        all.push(function(alloc, table, visible, &one.head.parameters, &one.body)?)?;
+    }
+    Ok(())
+}
+
+/// Appends the resolved methods of the implementations.
+pub fn add_implementations<'a>(
+    alloc: Global,
+    table: &ClassTable<'a>,
+    implementations: &'a [Implementation],
+    all: &mut Vec<CheckedFunction>,
+) -> Result<(), AllocError>
+    ensures { OnOk result (checked.functions all.new.items
+        ≡ checked.functions all.old.items ++ resolved_methods (known_in table.now) (implementation_trees implementations.now)) }
+{
+    for one in implementations {
+        let class = table.objc_get_class(&one.name);
+        add_methods(alloc, table, class, &one.methods, all)?;
+    }
+    Ok(())
 }

@@ -1,6 +1,8 @@
 //! Builds the resolved expressions of a source that breaks no rule.
-ghost use Rattle.std.specs.Prelude.{◌≡◌, ℕ, IfOk};
-ghost use Rattle.arc_ast.specs.Tree.{expr_tree, expr_trees, Call};
+ghost use Rattle.std.specs.Prelude.{◌≡◌, ℕ, pos, option_map, IfOk};
+ghost use Rattle.arc_ast.specs.Tree.{expr_tree, expr_trees, receiver_tree, Call, Send};
+ghost use Rattle.arc_class.specs.Table.{number_of_class, number_of_selector};
+ghost use Rattle.arc_spec.specs.Resolved.{Number};
 ghost use Rattle.arc_check.specs.Building.{Resolves, Combines, printing};
 ghost use Rattle.arc_check.specs.Checked as checked;
 ghost use Rattle.arc_check.specs.Kinds as kinds;
@@ -12,9 +14,10 @@ use crate::callee::{Callee, callee_of, result_kind};
 use crate::checked::Value;
 use crate::format::pieces;
 use crate::judge::{literal_kind, wider};
+use crate::message::{above, receiving, sent_kind};
 use crate::scope::Visible;
-use arc_ast::tree::{BinaryOperator, Expr, Kind};
-use arc_class::table::ClassTable;
+use arc_ast::tree::{BinaryOperator, Expr, Kind, Receiver};
+use arc_class::table::{ClassId, ClassTable, Sel};
 use std::alloc::{AllocError, Global};
 
 /// A resolved expression, and its kind.
@@ -72,6 +75,71 @@ pub fn number(found: Option<usize>) -> usize
     ensures { result ≡ resolving.number found }
 {
     found.unwrap_or(0)
+}
+
+/// The class's number, or 0 where there is none.
+fn class_number(found: Option<ClassId>) -> usize
+    ensures { result ≡ resolving.number (option_map number_of_class found) }
+{
+    match found {
+        None => 0,
+        Some(class) => class.0,
+    }
+}
+
+/// The selector's number, or 0 where there is none.
+fn selector_number(found: Option<Sel>) -> usize
+    ensures { result ≡ resolving.number (option_map number_of_selector found) }
+{
+    match found {
+        None => 0,
+        Some(selector) => selector.0,
+    }
+}
+
+/// The kind, or int where there is none.
+fn kind_or_int(kind: Option<Kind>) -> Kind
+    ensures { result ≡ resolving.kind_or_int kind }
+{
+    kind.unwrap_or(Kind::Int)
+}
+
+/// The class with the number, as a value. AllocError: an i64 can't hold the number, of which no source has so many classes.
+fn class_value(number: usize) -> Result<Value, AllocError>
+    ensures { IfOk result (λ new. checked.value new ≡ Number (pos number)) }
+{
+    match i64::try_from(number) {
+        Ok(number) => Ok(Value::Number(number)),
+        Err(_) => Err(AllocError),
+    }
+}
+
+/// A message to the receiver, from its selector's number and its arguments.
+fn sent<'a>(
+    alloc: Global,
+    table: &ClassTable<'a>,
+    visible: &Visible<'a>,
+    receiver: &'a Receiver,
+    selector: usize,
+    arguments: Vec<Value>,
+) -> Result<Value, AllocError>
+    ensures { IfOk result (λ new. checked.value new
+        ≡ resolving.sent (seen table.now visible.now) (receiver_tree receiver.now) selector (checked.values arguments.items)) }
+{
+    match receiver {
+        Receiver::Named(_, name) => {
+            let class = class_value(class_number(table.objc_get_class(name)))?;
+            Ok(Value::Sent(Box::new(alloc, class)?, selector, arguments))
+        }
+        Receiver::Itself(_) => {
+            let itself = Box::new(alloc, Value::Local(0))?;
+            Ok(Value::Sent(itself, selector, arguments))
+        }
+        Receiver::Super(_) => {
+            let from = class_number(above(table, visible.class));
+            Ok(Value::SentSuper(from, selector, arguments))
+        }
+    }
 }
 
 /// The number of the variable that an assignment's left side names.
@@ -136,6 +204,10 @@ pub fn expression<'a>(
                 value: Value::Assigned(variable(visible, left), value),
             })
         }
+        Expr::Send(_, _, receiver, selector, arguments) => {
+            let typed = message(alloc, table, visible, receiver, selector, arguments)?;
+            Ok(typed)
+        }
     }
 }
 
@@ -179,6 +251,27 @@ fn call<'a>(
     Ok(Typed {
         kind: result_kind(callee),
         value,
+    })
+}
+
+/// A message.
+#[cycle(resolve)]
+fn message<'a>(
+    alloc: Global,
+    table: &ClassTable<'a>,
+    visible: &Visible<'a>,
+    receiver: &'a Receiver,
+    selector: &'a [u8],
+    arguments: &'a [Expr],
+) -> Result<Typed, AllocError>
+    ensures { IfOk result (λ typed. (at part : ℕ) → Resolves (seen table.now visible.now) (Send at part (receiver_tree receiver.now) selector.now (expr_trees arguments.now)) typed) }
+{
+    let kind = sent_kind(table, receiving(table, visible, receiver), selector);
+    let all = values(alloc, table, visible, false, arguments)?;
+    let selector = selector_number(table.selector(selector));
+    Ok(Typed {
+        kind: kind_or_int(kind),
+        value: sent(alloc, table, visible, receiver, selector, all)?,
     })
 }
 

@@ -93,7 +93,11 @@ fn answer(
 ) -> Result<String, AllocError> {
     let main = function(alloc, 900, b"main", Kind::Int, Vec::new(alloc), body)?;
     functions.push(main)?;
-    let unit = TranslationUnit { functions };
+    let unit = TranslationUnit {
+        functions,
+        interfaces: Vec::new(alloc),
+        implementations: Vec::new(alloc),
+    };
     let table = match ClassTable::build(alloc, &unit) {
         Ok(table) => table,
         Err(fault) => return format!(in alloc; "{fault}"),

@@ -1,3 +1,4 @@
+pub mod Names
 pub mod Lists
 pub mod Firsts
 pub mod Trees
@@ -5,3 +6,8 @@ pub mod Scopes
 pub mod Walks
 pub mod Looks
 pub mod Answering
+pub mod Results
+pub mod Keeping
+pub mod Rules
+pub mod Parts
+pub mod Tables

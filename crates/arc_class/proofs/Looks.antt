@@ -1,7 +1,6 @@
 -- What is known of some functions, and one more.
 use Rattle.std.proofs.Common.{◌≡◌, ℕ, suc, Bool, true, false, ◌&&◌, ◌||◌, List, [], ◌∷◌, ◌++◌, length, cond, Option, Some, None, option_map, take, get_or, length-take-le, ◌+◌, ◌<◌, ◌≤◌, if◌then◌else◌, append_assoc, refl, sym, ap, ◌∙◌, arith}
 use Rattle.std.specs.Str.{bytes_eq}
-use Rattle.std.proofs.lemmas.Bool.{false_from_ne_true}
 use Rattle.std.proofs.lemmas.List.{append-nil, take_more}
 use Rattle.std.proofs.lemmas.Slice.Eq.{bytes_eq-Decides}
 use Rattle.arc_ast.specs.Tree.{FunctionTree, function_tree, function_trees}
@@ -9,12 +8,14 @@ use Rattle.arc_ast.specs.declared.tree.Function.{Function}
 use Rattle.arc_class.specs.declared.look.Seen.{Seen}
 use Rattle.arc_class.specs.declared.table.Declared.{Declared}
 use Rattle.arc_class.specs.Fault.{told}
-use Rattle.arc_class.specs.Look.{Sums, IsMore, bodies, or_number, joined, fault_with}
+use Rattle.arc_class.specs.Look.{Sums, IsMore, or_number, joined, fault_with}
 use Rattle.arc_class.specs.Broken.{Broken, first, earlier_of}
+use Rattle.arc_class.specs.Classes.{bodies}
 use Rattle.arc_class.specs.Functions.{duplicate, duplicates, is_library, clashes}
 use Rattle.arc_class.specs.Names.{has_body, signature, known, first_named, number_of, is_named, is_main}
 use Rattle.arc_class.specs.Table.{at_name}
 use Rattle.arc_class.proofs.Firsts.{first-append, earlier_of-none}
+use Rattle.arc_class.proofs.Names.{self_eq, apart}
 
 -- ---- duplicates
 
@@ -28,15 +29,6 @@ first-push : (xs : List FunctionTree) (f : FunctionTree) → first (duplicates [
 first-push xs f = ap first (duplicates-push [] xs f) ∙ first-append (duplicates [] xs) (duplicate xs f)
 
 -- ---- names
-
-self_eq : (name : List ℕ) → bytes_eq name name ≡ true
-self_eq name = (bytes_eq-Decides name name).1 refl
-
-apart : (a b : List ℕ) → bytes_eq a b ≡ false → bytes_eq b a ≡ false
-apart a b e = false_from_ne_true (bytes_eq b a) (λ t. clash ((bytes_eq-Decides a b).1 (sym ((bytes_eq-Decides b a).0 t))))
-  where
-    clash : bytes_eq a b ≡ true → ⊥
-    clash t = cc
 
 abbrev or_first : Option FunctionTree → Bool → FunctionTree → Option FunctionTree
 or_first (Some g) b f = Some g

@@ -7,13 +7,14 @@ use Rattle.arc_ast.specs.declared.tree.Stmt.{Stmt}
 use Rattle.arc_ast.specs.declared.tree.Variable.{Variable}
 use Rattle.arc_ast.specs.declared.tree.Parameter.{Parameter}
 use Rattle.arc_ast.specs.declared.tree.Function.{Function}
-use Rattle.arc_ast.specs.Tree.{expr_tree, expr_trees, stmt_tree, stmt_trees, variable_trees, parameter_trees, parameters_tree, function_tree, function_trees}
+use Rattle.arc_ast.specs.declared.tree.Receiver.{Receiver}
+use Rattle.arc_ast.specs.Tree.{ParameterTree, StmtTrees, expr_tree, expr_trees, stmt_tree, stmt_trees, variable_trees, parameter_trees, parameters_tree, function_tree, function_trees}
 use Rattle.arc_class.specs.Broken.{Broken, first, earlier_of}
 use Rattle.arc_class.specs.Bodies.{broken_if, broken_expr, broken_exprs, broken_maybe, broken_variables, broken_stmt, broken_stmts, broken_parameters, broken_function, no_name, and_name, names_with, names_after, names_taken, named_parameters, broken_body}
 use Rattle.arc_class.specs.Functions.{broken_functions}
 use Rattle.arc_class.proofs.Firsts.{first_turn, first_both}
 use Rattle.arc_class.proofs.Lists.{drop_turn}
-use Rattle.arc_class.proofs.Trees.{call_tree, block_tree}
+use Rattle.arc_class.proofs.Trees.{call_tree, send_tree, block_tree}
 
 pub expressions_turn : (L : List ℕ → Bool) (xs : List Expr) (i : ℕ) (x : Expr) (so_far one now whole : Option Broken) → i < length xs → x ≡ get_or xs i x → one ≡ first (broken_expr L (expr_tree x)) → now ≡ earlier_of so_far one
     → whole ≡ earlier_of so_far (first (broken_exprs L (expr_trees (drop i xs)))) → whole ≡ earlier_of now (first (broken_exprs L (expr_trees (drop (i + 1) xs))))
@@ -61,6 +62,11 @@ call_is L a at name arguments bytes all e n m =
     ap (λ b. first (broken_if (L b) at 30 ++ broken_exprs L (expr_trees all))) n ∙ ap (λ us. first (broken_if (L name.items) at 30 ++ broken_exprs L (expr_trees us))) m
     ∙ sym (ap (λ t. first (broken_expr L t)) (ap expr_tree e ∙ call_tree at name arguments))
 
+pub send_is : (L : List ℕ → Bool) (a : Expr) (at part : ℕ) (receiver : Receiver) (selector : Vec ℕ Global) (arguments : Vec Expr Global) (all : List Expr) → a ≡ ast.Send at part receiver selector arguments → all ≡ arguments.items
+    → first (broken_exprs L (expr_trees all)) ≡ first (broken_expr L (expr_tree a))
+send_is L a at part receiver selector arguments all e m =
+    ap (λ us. first (broken_exprs L (expr_trees us))) m ∙ sym (ap (λ t. first (broken_expr L t)) (ap expr_tree e ∙ send_tree at part receiver selector arguments))
+
 pub block_is : (L names inner : List ℕ → Bool) (a : Stmt) (at : ℕ) (all : Vec Stmt Global) (items : List Stmt) → a ≡ stmt.Block at all → items ≡ all.items → inner ≡ no_name
     → first (broken_stmts L inner (stmt_trees items)) ≡ first (broken_stmt L names (stmt_tree a))
 block_is L names inner a at all items e m p =
@@ -68,11 +74,14 @@ block_is L names inner a at all items e m p =
 
 -- ---- a function
 
-pub function_is : (L names : List ℕ → Bool) (a : Function) (body : Vec Stmt Global) (named : List Parameter) (items : List Stmt) (scope : List ℕ → Bool) (one other both : Option Broken) → a.body ≡ Some body → items ≡ body.items
-    → named_parameters (parameters_tree a.parameters) ≡ parameter_trees named → names ≡ no_name → one ≡ first (broken_parameters names (parameter_trees named)) → scope ≡ names_taken names (parameter_trees named)
-    → other ≡ first (broken_stmts L scope (stmt_trees items)) → both ≡ earlier_of one other → both ≡ first (broken_function L (function_tree a))
-function_is L names a body named items scope one other both e m n p o s h b =
-    let ps = parameter_trees named in
-    first_both (broken_parameters no_name ps) (broken_stmts L (names_taken no_name ps) (stmt_trees body.items)) one other both (o ∙ ap (λ q. first (broken_parameters q ps)) p)
-    (h ∙ ap (λ q. first (broken_stmts L q (stmt_trees items))) (s ∙ ap (λ q. names_taken q ps) p) ∙ ap (λ us. first (broken_stmts L (names_taken no_name ps) (stmt_trees us))) m) b
+pub inside_is : (L names scope : List ℕ → Bool) (ps : List ParameterTree) (items : StmtTrees) (one other both : Option Broken) → names ≡ no_name → one ≡ first (broken_parameters names ps) → scope ≡ names_taken names ps
+    → other ≡ first (broken_stmts L scope items) → both ≡ earlier_of one other → both ≡ first (broken_parameters no_name ps ++ broken_stmts L (names_taken no_name ps) items)
+inside_is L names scope ps items one other both p o s h b =
+    first_both (broken_parameters no_name ps) (broken_stmts L (names_taken no_name ps) items) one other both (o ∙ ap (λ q. first (broken_parameters q ps)) p)
+    (h ∙ ap (λ q. first (broken_stmts L q items)) (s ∙ ap (λ q. names_taken q ps) p)) b
+
+pub function_is : (L : List ℕ → Bool) (a : Function) (body : Vec Stmt Global) (named : List Parameter) (items : List Stmt) → a.body ≡ Some body → items ≡ body.items → named_parameters (parameters_tree a.parameters) ≡ parameter_trees named
+    → first (broken_parameters no_name (parameter_trees named) ++ broken_stmts L (names_taken no_name (parameter_trees named)) (stmt_trees items)) ≡ first (broken_function L (function_tree a))
+function_is L a body named items e m n =
+    ap (λ us. first (broken_parameters no_name (parameter_trees named) ++ broken_stmts L (names_taken no_name (parameter_trees named)) (stmt_trees us))) m
     ∙ ap (λ qs. first (broken_body L qs (Some (stmt_trees body.items)))) (sym n) ∙ sym (ap (λ o. first (broken_body L (named_parameters (parameters_tree a.parameters)) (option_map (λ b. stmt_trees b.items) o))) e)

@@ -1,7 +1,7 @@
 -- The rules for the bodies of a source: names of variables, and calls of functions that have no body.
 use Rattle.std.specs.Prelude.{ℕ, Bool, false, ◌||◌, List, [], ◌∷◌, ◌++◌, Option, Some, None, is_none, if◌then◌else◌}
 use Rattle.std.specs.Str.{bytes_eq}
-use Rattle.arc_ast.specs.Tree.{ExprTree, ExprTrees, Integer, Text, Paren, Call, Negate, Binary, Name, Assign, no_exprs, and_expr, VariableTree, StmtTree, StmtTrees, Block, Empty, Simple, Return, Variables, If, IfElse, While, no_stmts, and_stmt, ParameterTree, ParametersTree, Ints, CountAndTexts, FunctionTree}
+use Rattle.arc_ast.specs.Tree.{ExprTree, ExprTrees, Integer, Text, Paren, Call, Negate, Binary, Name, Assign, Send, no_exprs, and_expr, VariableTree, StmtTree, StmtTrees, Block, Empty, Simple, Return, Variables, If, IfElse, While, no_stmts, and_stmt, ParameterTree, ParametersTree, Ints, CountAndTexts, FunctionTree}
 use Rattle.arc_class.specs.declared.table.Declared.{Declared}
 use Rattle.arc_class.specs.Broken.{Broken}
 
@@ -23,6 +23,7 @@ abbrev mutual
   broken_expr lacks (Binary at operator a b) = broken_expr lacks a ++ broken_expr lacks b
   broken_expr lacks (Name at name) = []
   broken_expr lacks (Assign at sign a b) = broken_expr lacks a ++ broken_expr lacks b
+  broken_expr lacks (Send at part receiver selector arguments) = broken_exprs lacks arguments
 
   pub broken_exprs : (lacks : List ℕ → Bool) → ExprTrees → List Broken
   broken_exprs lacks no_exprs = []

@@ -7,12 +7,20 @@ use Rattle.arc_class.specs.Broken.{Broken, first}
 -- the number of a fault, under which the compiler's users know it
 abbrev pub fault_number : ClassFault → ℕ
 fault_number (f.Duplicate at) = 21
+fault_number (f.UnknownClass at) = 22
+fault_number (f.SelectorKinds at) = 24
+fault_number (f.NoImplementation at) = 26
+fault_number (f.HookMethod at) = 28
 fault_number f.NoMain = 29
 fault_number (f.UndefinedFunction at) = 30
 fault_number f.Memory = 31
 
 abbrev pub fault_name : ClassFault → List ℕ
 fault_name (f.Duplicate at) = codes "Duplicate"
+fault_name (f.UnknownClass at) = codes "UnknownClass"
+fault_name (f.SelectorKinds at) = codes "SelectorKinds"
+fault_name (f.NoImplementation at) = codes "NoImplementation"
+fault_name (f.HookMethod at) = codes "HookMethod"
 fault_name f.NoMain = codes "NoMain"
 fault_name (f.UndefinedFunction at) = codes "UndefinedFunction"
 fault_name f.Memory = codes "Memory"
@@ -20,6 +28,10 @@ fault_name f.Memory = codes "Memory"
 -- the byte that a fault names, counted from 0
 abbrev pub fault_at : ClassFault → ℕ
 fault_at (f.Duplicate at) = at
+fault_at (f.UnknownClass at) = at
+fault_at (f.SelectorKinds at) = at
+fault_at (f.NoImplementation at) = at
+fault_at (f.HookMethod at) = at
 fault_at f.NoMain = 0
 fault_at (f.UndefinedFunction at) = at
 fault_at f.Memory = 0
@@ -33,4 +45,8 @@ abbrev pub Refuses : List Broken → ClassFault → Type 0
 Refuses all f.Memory = Unit {0}
 Refuses all f.NoMain = first all ≡ Some (told f.NoMain)
 Refuses all (f.Duplicate at) = first all ≡ Some (told (f.Duplicate at))
+Refuses all (f.UnknownClass at) = first all ≡ Some (told (f.UnknownClass at))
+Refuses all (f.SelectorKinds at) = first all ≡ Some (told (f.SelectorKinds at))
+Refuses all (f.NoImplementation at) = first all ≡ Some (told (f.NoImplementation at))
+Refuses all (f.HookMethod at) = first all ≡ Some (told (f.HookMethod at))
 Refuses all (f.UndefinedFunction at) = first all ≡ Some (told (f.UndefinedFunction at))

@@ -64,5 +64,5 @@ abbrev pub lacks_body_in : List FunctionTree → List ℕ → Bool
 lacks_body_in functions name = lacks_body (known functions name)
 
 -- all that is wrong with the functions of a source
-abbrev pub broken : List FunctionTree → List Broken
-broken functions = duplicates [] functions ++ (no_main functions ++ broken_functions (lacks_body_in functions) functions)
+abbrev pub broken_in_functions : List FunctionTree → List Broken
+broken_in_functions functions = duplicates [] functions ++ (no_main functions ++ broken_functions (lacks_body_in functions) functions)

@@ -2,7 +2,11 @@ pub mod Broken
 pub mod Names
 pub mod Bodies
 pub mod Functions
+pub mod Classes
+pub mod ClassRules
 pub mod Table
 pub mod Fault
 pub mod Look
 pub mod Walk
+pub mod Kept
+pub mod Entries

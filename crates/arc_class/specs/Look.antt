@@ -7,15 +7,11 @@ use Rattle.arc_class.specs.declared.fault.ClassFault.{ClassFault}
 use Rattle.arc_class.specs.declared.look.Seen.{Seen}
 use Rattle.arc_class.specs.declared.table.Declared.{Declared}
 use Rattle.arc_class.specs.Broken.{Broken, first, earlier_of}
+use Rattle.arc_class.specs.Classes.{bodies}
 use Rattle.arc_class.specs.Fault.{told}
 use Rattle.arc_class.specs.Functions.{is_library, clashes, duplicates}
 use Rattle.arc_class.specs.Names.{has_body, signature, known, number_of, is_main}
 use Rattle.arc_class.specs.Table.{at_name}
-
--- how many functions have a body
-abbrev pub bodies : List FunctionTree → ℕ
-bodies [] = 0
-bodies (f ∷ others) = if has_body f then suc (bodies others) else bodies others
 
 -- what is known is so of these functions
 pub record Sums (functions : List FunctionTree) (seen : Seen) : Type 0 where

@@ -1,19 +1,33 @@
 //! Why a source has no table.
 ghost use Rattle.std.specs.Prelude.{◌≡◌, option_map};
-ghost use Rattle.arc_class.specs.Broken.{earlier_of};
+ghost use Rattle.arc_class.specs.Bodies.{broken_if};
+ghost use Rattle.arc_class.specs.Broken.{earlier_of, first};
 ghost use Rattle.arc_class.specs.declared.fault.ClassFault.TheVariants.{Memory};
 ghost use Rattle.arc_class.specs.Fault.{fault_number, fault_name, fault_at, told};
 
-use std::alloc::AllocError;
+use std::alloc::{AllocError, AllocFailed};
 use thiserror::Error;
 
 /// Why a source has no table: the first rule that its declarations break, or no memory.
 #[derive(Clone, Copy, Debug, Drop, PartialEq, Eq, Error)]
 pub enum ClassFault {
-    /// A second body of a function, a declaration that differs from an earlier one, a function of the library's name, or a second variable of a
-    /// name in a scope; the place is that of the name.
+    /// A second body of a function, a declaration that differs from an earlier one, a function or a class of the library's name, a second
+    /// class or implementation of a name, a name for both a class and a function, or a second variable of a name in a scope, told at the name;
+    /// or a second method of an implementation with its selector, told at its `+`.
     #[error("the name at {0} is declared in another way already")]
     Duplicate(usize),
+    /// A superclass that no earlier interface declares, or an implementation of a class without an interface; the place is that of the name.
+    #[error("the class at {0} is not known")]
+    UnknownClass(usize),
+    /// A method whose result is of another kind than that of an earlier one with its selector; the place is that of its `+`.
+    #[error("the method at {0} gives another kind of value than an earlier one")]
+    SelectorKinds(usize),
+    /// A class without an implementation; the place is that of its interface's name.
+    #[error("the class at {0} has no implementation")]
+    NoImplementation(usize),
+    /// A class method `load`, `initialize`, `alloc` or `class`; the place is that of its `+`.
+    #[error("the method at {0} has a name that classes cannot take")]
+    HookMethod(usize),
     /// No `main` has a body.
     #[error("no main has a body")]
     NoMain,
@@ -32,6 +46,10 @@ impl ClassFault {
     {
         match self {
             ClassFault::Duplicate(_) => 21,
+            ClassFault::UnknownClass(_) => 22,
+            ClassFault::SelectorKinds(_) => 24,
+            ClassFault::NoImplementation(_) => 26,
+            ClassFault::HookMethod(_) => 28,
             ClassFault::NoMain => 29,
             ClassFault::UndefinedFunction(_) => 30,
             ClassFault::Memory => 31,
@@ -44,6 +62,10 @@ impl ClassFault {
     {
         match self {
             ClassFault::Duplicate(_) => "Duplicate",
+            ClassFault::UnknownClass(_) => "UnknownClass",
+            ClassFault::SelectorKinds(_) => "SelectorKinds",
+            ClassFault::NoImplementation(_) => "NoImplementation",
+            ClassFault::HookMethod(_) => "HookMethod",
             ClassFault::NoMain => "NoMain",
             ClassFault::UndefinedFunction(_) => "UndefinedFunction",
             ClassFault::Memory => "Memory",
@@ -56,6 +78,10 @@ impl ClassFault {
     {
         match self {
             ClassFault::Duplicate(at) => *at,
+            ClassFault::UnknownClass(at) => *at,
+            ClassFault::SelectorKinds(at) => *at,
+            ClassFault::NoImplementation(at) => *at,
+            ClassFault::HookMethod(at) => *at,
             ClassFault::NoMain => 0,
             ClassFault::UndefinedFunction(at) => *at,
             ClassFault::Memory => 0,
@@ -69,6 +95,21 @@ impl From<AllocError> for ClassFault {
     fn from(_error: AllocError) -> ClassFault {
         ClassFault::Memory
     }
+}
+
+impl<T: Drop> From<AllocFailed<T>> for ClassFault {
+    ghost from_gives = { λ _ fault. fault ≡ Memory };
+
+    fn from(_error: AllocFailed<T>) -> ClassFault {
+        ClassFault::Memory
+    }
+}
+
+/// The fault, if the rule is broken.
+pub(crate) fn fault_if(breaks: bool, fault: ClassFault) -> Option<ClassFault>
+    ensures { option_map told result ≡ first (broken_if breaks (fault_at fault) (fault_number fault)) }
+{
+    if breaks { Some(fault) } else { None }
 }
 
 /// The fault that is told of two.

@@ -24,7 +24,7 @@ pub struct Seen<'a> {
     pub fault: Option<ClassFault>,
 }
 
-fn same_kind(a: Kind, b: Kind) -> bool
+pub(crate) fn same_kind(a: Kind, b: Kind) -> bool
     ensures { result ≡ rules.same_kind a b }
 {
     matches!(
@@ -53,7 +53,7 @@ fn same_signature(a: Signature, b: Signature) -> bool
     same_kind(a.result, b.result) && same_number(a.takes, b.takes)
 }
 
-fn is_library(name: &[u8]) -> bool
+pub(crate) fn is_library(name: &[u8]) -> bool
     ensures { result ≡ rules.is_library name.now }
 {
     name == b"printf".as_slice() || name == b"getchar".as_slice()

@@ -15,7 +15,7 @@ use std::alloc::{AllocError, Global};
 use std::collections::BTreeMap;
 
 /// The names that stand in a scope.
-type Scope<'a> = BTreeMap<&'a [u8], ()>;
+pub type Scope<'a> = BTreeMap<&'a [u8], ()>;
 
 /// Whether a function of the name is declared, and none has a body.
 fn lacks_body<'a>(known: &Known<'a>, name: &'a [u8]) -> bool
@@ -45,6 +45,7 @@ fn expression<'a>(known: &Known<'a>, expr: &'a Expr) -> Option<ClassFault>
             let left = expression(known, left);
             earlier(left, expression(known, right))
         }
+        Expr::Send(_, _, _, _, arguments) => expressions(known, arguments),
     }
 }
 
@@ -86,6 +87,13 @@ fn maybe<'a>(known: &Known<'a>, expr: &'a Option<Expr>) -> Option<ClassFault>
         None => None,
         Some(expr) => expression(known, expr),
     }
+}
+
+/// Whether the name stands in the scope.
+pub fn stands<'a>(scope: &Scope<'a>, name: &'a [u8]) -> bool
+    ensures { result ≡ holds scope.now name.now }
+{
+    scope.get(&name).is_some()
 }
 
 /// Puts the name at the place into the scope, and tells the rule that this breaks.
@@ -218,6 +226,21 @@ fn named_parameters(parameters: &Parameters) -> &[Parameter]
     }
 }
 
+/// The first rule that is broken inside a body, whose parameters are in one scope with the variables of its outermost block.
+pub fn inside<'a>(
+    alloc: Global,
+    known: &Known<'a>,
+    taken: &'a [Parameter],
+    body: &'a [Stmt],
+) -> Result<Option<ClassFault>, AllocError>
+    ensures { IfOk result (λ fault. option_map told fault
+        ≡ first (broken_parameters no_name (parameter_trees taken.now) ++ broken_stmts (lacks known.now) (names_taken no_name (parameter_trees taken.now)) (stmt_trees body.now))) }
+{
+    let mut scope = Scope::new(alloc);
+    let fault = parameters(&mut scope, taken)?;
+    Ok(earlier(fault, statements(alloc, known, &mut scope, body)?))
+}
+
 /// The first rule that is broken inside a function.
 fn function<'a>(
     alloc: Global,
@@ -230,9 +253,7 @@ fn function<'a>(
     let Some(body) = &function.body else {
         return Ok(None);
     };
-    let mut scope = Scope::new(alloc);
-    let fault = parameters(&mut scope, named_parameters(&function.parameters))?;
-    Ok(earlier(fault, statements(alloc, known, &mut scope, body)?))
+    inside(alloc, known, named_parameters(&function.parameters), body)
 }
 
 /// The first rule that is broken inside the functions, of whose names this is known.

@@ -6,7 +6,7 @@ use Rattle.arc_ast.specs.declared.tree.Kind.TheVariants as k
 use Rattle.arc_ast.specs.declared.tree.BinaryOperator.{BinaryOperator}
 use Rattle.arc_ast.specs.declared.tree.BinaryOperator.TheVariants as o
 use Rattle.arc_code.specs.declared.code.Op.{Op}
-use Rattle.arc_code.specs.declared.code.Op.TheVariants.{Num, Bin, Un, Narrow, Pop, Get, Set, PrintText, PrintNum, PrintByte, GetChar, Jump, JumpZero, Call, Return}
+use Rattle.arc_code.specs.declared.code.Op.TheVariants.{Num, Bin, Un, Narrow, Pop, Get, Set, PrintText, PrintNum, PrintByte, GetChar, Jump, JumpZero, Call, Send, SendSuper, Return}
 
 abbrev pub operator_number : BinaryOperator → ℕ
 operator_number o.Add = 0
@@ -37,6 +37,8 @@ name GetChar = codes "GetChar"
 name (Jump to) = codes "Jump"
 name (JumpZero to) = codes "JumpZero"
 name (Call to) = codes "Call"
+name (Send selector takes) = codes "Send"
+name (SendSuper from selector takes) = codes "SendSuper"
 name Return = codes "Return"
 
 -- a space, and a number
@@ -54,6 +56,8 @@ operands (PrintText from len) = operand from ++ operand len
 operands (Jump to) = operand to
 operands (JumpZero to) = operand to
 operands (Call to) = operand to
+operands (Send selector takes) = operand selector ++ operand takes
+operands (SendSuper from selector takes) = operand from ++ (operand selector ++ operand takes)
 operands _ = []
 
 -- the instruction with this number

@@ -1,6 +1,7 @@
 //! Instructions, which take numbers from a stack and put numbers on it.
 
 use arc_ast::tree::{BinaryOperator, Kind};
+use arc_spec::class::Class;
 use thiserror::Error;
 
 /// One instruction. A depth counts the numbers above the one that is meant.
@@ -36,17 +37,24 @@ pub enum Op {
     /// Calls the function that begins at the instruction with this number, and whose variables stand on
     /// the stack.
     Call(usize),
+    /// A message with this selector and so many arguments, which stand on the stack above the number
+    /// of the class that gets it: calls the method that is looked up from that class.
+    Send(usize, usize),
+    /// The same, with the number of the class from which the method is looked up before the selector.
+    SendSuper(usize, usize, usize),
     /// Goes back behind the last call; with no call it takes the top number, with which the program
     /// ends.
     Return,
 }
 
-/// The instructions, the bytes of all texts, and the most numbers that the stack comes to hold.
+/// The instructions, the bytes of all texts, the most numbers that the stack comes to hold, and the
+/// classes, whose methods run the instruction with a number.
 #[derive(Debug, Drop)]
 pub struct Code {
     pub ops: Vec<Op>,
     pub texts: Vec<u8>,
     pub room: usize,
+    pub classes: Vec<Class>,
 }
 
 /// A reader or a writer failed.

@@ -60,6 +60,10 @@ fn put_operands<W: Write>(op: Op, writer: &mut Counted<W>) -> Result<(), IoFault
         Op::Jump(to) => put_operand(to as u64, writer),
         Op::JumpZero(to) => put_operand(to as u64, writer),
         Op::Call(to) => put_operand(to as u64, writer),
+        Op::Send(selector, takes) => put_pair(selector as u64, takes as u64, writer),
+        Op::SendSuper(from, selector, takes) => {
+            put_three(from as u64, selector as u64, takes as u64, writer)
+        }
         Op::Pop | Op::PrintNum | Op::PrintByte | Op::GetChar | Op::Return => put(b"", writer),
     }
 }
@@ -72,6 +76,21 @@ fn put_pair<W: Write>(first: u64, second: u64, writer: &mut Counted<W>) -> Resul
 {
     put_operand(first, writer)?;
     put_operand(second, writer)
+}
+
+fn put_three<W: Write>(
+    first: u64,
+    second: u64,
+    third: u64,
+    writer: &mut Counted<W>,
+) -> Result<(), IoFault>
+    requires { failures_of writer.old < 2 ^ 64 - 1 }
+    ensures { Written result (operand first ++ (operand second ++ operand third))
+        (held_by W.contents writer.old) (held_by W.contents writer.new)
+        (failures_of writer.old) (failures_of writer.new) }
+{
+    put_operand(first, writer)?;
+    put_pair(second, third, writer)
 }
 
 fn put_operand<W: Write>(number: u64, writer: &mut Counted<W>) -> Result<(), IoFault>
@@ -151,6 +170,8 @@ fn name_of(op: Op) -> &'static str
         Op::Jump(_) => "Jump",
         Op::JumpZero(_) => "JumpZero",
         Op::Call(_) => "Call",
+        Op::Send(_, _) => "Send",
+        Op::SendSuper(_, _, _) => "SendSuper",
         Op::Return => "Return",
     }
 }

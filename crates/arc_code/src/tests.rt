@@ -113,12 +113,15 @@ fn some_code(alloc: Global) -> Result<Code, AllocError> {
         Op::JumpZero(7),
         Op::Call(0),
         Op::Jump(12),
+        Op::Send(3, 1),
+        Op::SendSuper(1, 2, 0),
         Op::Return,
     ]?;
     Ok(Code {
         ops,
         texts: Vec::new(alloc),
         room: 0,
+        classes: Vec::new(alloc),
     })
 }
 
@@ -128,7 +131,8 @@ fn code_is_listed(rt: HostRuntime) -> Result<(), Fail> {
     let mut writer = Counted::new(Vec::new(rt.alloc()));
     assert_eq!(rt; list(&code, &mut writer), Ok(()));
     let text = b"0 Num -42\n1 Bin 3 2\n2 Get 2\n3 PrintText 10 6\n\
-        4 JumpZero 7\n5 Call 0\n6 Jump 12\n7 Return\n";
+        4 JumpZero 7\n5 Call 0\n6 Jump 12\n\
+        7 Send 3 1\n8 SendSuper 1 2 0\n9 Return\n";
     assert_eq!(rt; writer.get_ref().as_slice(), text.as_slice());
     let mut narrow = Counted::new(Narrow {
         taken: Vec::new(rt.alloc()),

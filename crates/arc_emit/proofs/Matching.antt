@@ -1,7 +1,8 @@
 -- The code of actions does what the actions do, where they are sound.
-use Rattle.std.proofs.Common.{◌≡◌, ℕ, suc, ◌+◌, ◌-◌, ◌*◌, ◌/◌, ◌≤◌, ℤ, Bool, true, false, nat_lt, List, [], ◌∷◌, ◌++◌, length, map, drop, Option, Some, None, slice_get, slice_set, refl, sym, ap, subst, ◌∙◌, arith}
+use Rattle.std.proofs.Common.{◌≡◌, ℕ, suc, ◌+◌, ◌-◌, ◌*◌, ◌/◌, ◌≤◌, ℤ, Bool, true, false, nat_lt, List, [], ◌∷◌, ◌++◌, length, map, drop, Option, Some, None, slice_get, slice_set, option_map, refl, sym, ap, subst, ◌∙◌, arith}
 use Rattle.std.proofs.lemmas.List.{length-map}
 use Rattle.std.specs.Fmt.{signed_decimal}
+use Rattle.arc_spec.specs.Classes.{class_at, lookup}
 use Rattle.arc_spec.specs.Number.{converted, negated, combined, is_zero, low_byte, counted, byte_or_end}
 use Rattle.arc_spec.specs.Meaning.{chosen, most_levels}
 use Rattle.arc_spec.specs.Stepping.{Next, Goes, Asks, Ends, Faults, Stuck, Along, Sound, on_top, on_two, on_found}
@@ -15,6 +16,7 @@ use Rattle.arc_code.specs.Running as running
 use Rattle.arc_emit.specs.Emitted.{text_of, texts_of, size_of, place, place_of_entry, entry, places_of, text_ops, action_ops, ops_of, code_of}
 use Rattle.arc_emit.proofs.Simulation.{Chain, Does, refines, sound_next, stays_sound}
 use Rattle.arc_emit.proofs.Printing.{get_first, get_none, prints_text}
+use Rattle.arc_emit.proofs.Finding.{lookup_placed}
 use Rattle.arc_emit.proofs.Sizes.{place_next, ops_at, text_before, texts_at, texts_within}
 
 module _ (p : acting.Program) where
@@ -109,6 +111,17 @@ module _ (p : acting.Program) where
         subst (λ n. Same (acting.enters here to few) (running.enters there (entry (places_of p.actions) p.entries f) (nat_lt n most_levels))) (sym (length-map calls begin))
         (subst (λ o. Same (acting.enters here to few) (running.enters there (place_of_entry (places_of p.actions) o) few)) (sym is) (enters to few e))
 
+    answers : (found : Option ℕ) → Next_one → Same (acting.answers here found) (running.answers there (option_map begin found))
+    answers None e = refl
+    answers (Some to) e =
+        let few = nat_lt (length calls) most_levels in
+        subst (λ n. Same (acting.enters here to few) (running.enters there (begin to) (nat_lt n most_levels))) (sym (length-map calls begin)) (enters to few e)
+
+    sends : (class : Option ℕ) (selector takes : ℕ) → Next_one → Same (acting.answers here (lookup p.classes class selector takes)) (running.answers there (lookup code.classes class selector takes))
+    sends class selector takes e =
+        let found = lookup p.classes class selector takes in
+        subst (λ o. Same (acting.answers here found) (running.answers there o)) (sym (lookup_placed (places_of p.actions) p.classes class selector takes)) (answers found e)
+
     leaves : (others : List ℕ) (v : ℤ) → Same (acting.leaves others here v) (running.leaves (map begin others) there v)
     leaves [] v = refl
     leaves (back ∷ others) v = (record { at = begin back; stack = stack; calls = map begin others }, refl, record { at = refl; stack = refl; calls = refl })
@@ -153,6 +166,10 @@ module _ (p : acting.Program) where
         by_one (action.JumpZero to) (op.JumpZero (begin to)) more ops (same_top stack _ _ (λ v left. same_chosen (is_zero v) _ _ _ _ (goes left e) (moves to left)))
     does_action (action.Call f) from past more ops texts within room e =
         by_one (action.Call f) (op.Call (entry (places_of p.actions) p.entries f)) more ops (calls_function f (slice_get p.entries f) refl e)
+    does_action (action.Send selector takes) from past more ops texts within room e =
+        by_one (action.Send selector takes) (op.Send selector takes) more ops (same_found (slice_get stack takes) _ _ (λ self. sends (class_at self) selector takes e))
+    does_action (action.SendSuper class selector takes) from past more ops texts within room e =
+        by_one (action.SendSuper class selector takes) (op.SendSuper class selector takes) more ops (sends (Some class) selector takes e)
     does_action action.Return from past more ops texts within room e = by_one action.Return op.Return more ops (same_top stack _ _ (λ v left. leaves calls v))
 
     does_here : (left : List Action) → drop i p.actions ≡ left → length stack ≤ p.room → Done (acting.acts p (slice_get p.actions i) here) there

@@ -1,5 +1,7 @@
 -- What is written for actions: instructions and their texts. All of it is this project's own choice.
-use Rattle.std.specs.Prelude.{ℕ, zero, suc, ◌+◌, ◌-◌, ◌/◌, ◌<◌, List, [], ◌∷◌, ◌++◌, length, get_or, Option, Some, None, slice_get}
+use Rattle.std.specs.Prelude.{ℕ, zero, suc, ◌+◌, ◌-◌, ◌/◌, ◌<◌, List, [], ◌∷◌, ◌++◌, length, map, get_or, Option, Some, None, slice_get}
+use Rattle.arc_spec.specs.declared.class.Method.{Method}
+use Rattle.arc_spec.specs.Classes.{Class}
 use Rattle.arc_ir.specs.declared.action.Action.{Action}
 use Rattle.arc_ir.specs.declared.action.Action.TheVariants as action
 use Rattle.arc_ir.specs.Acting as acting
@@ -76,6 +78,8 @@ action_ops p entries from action.GetChar = op.GetChar ∷ []
 action_ops p entries from (action.Jump to) = op.Jump (place p to) ∷ []
 action_ops p entries from (action.JumpZero to) = op.JumpZero (place p to) ∷ []
 action_ops p entries from (action.Call f) = op.Call (entry p entries f) ∷ []
+action_ops p entries from (action.Send selector takes) = op.Send selector takes ∷ []
+action_ops p entries from (action.SendSuper class selector takes) = op.SendSuper class selector takes ∷ []
 action_ops p entries from action.Return = op.Return ∷ []
 
 -- the instructions of actions whose texts stand at `from`, one after another
@@ -83,9 +87,25 @@ abbrev pub ops_of : Places → (entries : List ℕ) → (from : ℕ) → List Ac
 ops_of p entries from [] = []
 ops_of p entries from (a ∷ rest) = action_ops p entries from a ++ ops_of p entries (from + length (text_of a)) rest
 
+-- the same method, which runs the instruction where its action begins
+abbrev pub placed_method : Places → Method → Method
+placed_method p m = record { selector = m.selector; takes = m.takes; runs = place p m.runs }
+
+-- the same class, with its methods so
+abbrev pub placed_class : Places → Class → Class
+placed_class p c = record { superclass = c.superclass; methods = map (placed_method p) c.methods }
+
+abbrev pub placed_classes : Places → List Class → List Class
+placed_classes p = map (placed_class p)
+
 -- the code of a program
 abbrev pub code_of : acting.Program → running.Program
-code_of p = record { ops = ops_of (places_of p.actions) p.entries 0 p.actions; texts = texts_of p.actions; room = p.room }
+code_of p = record {
+  ops = ops_of (places_of p.actions) p.entries 0 p.actions;
+  texts = texts_of p.actions;
+  room = p.room;
+  classes = placed_classes (places_of p.actions) p.classes;
+}
 
 -- the most instructions that code may have
 abbrev pub most_ops : ℕ

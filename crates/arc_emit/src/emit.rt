@@ -6,6 +6,7 @@ ghost use Rattle.arc_code.specs.Running as running;
 ghost use Rattle.arc_code.specs.Running.{program_of};
 ghost use Rattle.arc_emit.specs.Emitted.{code_of, most_ops, IsLarge};
 
+use crate::classes::emit_classes;
 use crate::fault::EmitFault;
 use crate::layout::Layout;
 use crate::pieces::emit_action;
@@ -14,7 +15,8 @@ use arc_code::code::Code;
 use arc_ir::action::Ir;
 use std::alloc::Global;
 
-/// The code of a program, in which a text is printed by one instruction for each 16 bytes of it, and any other action is one instruction.
+/// The code of a program, in which a text is printed by one instruction for each 16 bytes of it, and any other action is one instruction. Its
+/// classes are those of the actions, but that each method runs the first instruction of its action.
 /// TooLarge where it would have over 16,777,216 instructions; Memory where memory is refused.
 pub fn emit(alloc: Global, ir: &Ir, _table: &ClassTable) -> Result<Code, EmitFault>
     requires { acting.IsSound (acting.program_of ir.now) }
@@ -40,9 +42,11 @@ fn write_code(alloc: Global, ir: &Ir) -> Result<Code, EmitFault>
     for action in &ir.actions {
         emit_action(&mut ops, &mut texts, action, &layout, &ir.entries)?;
     }
+    let classes = emit_classes(alloc, &ir.classes, &layout)?;
     Ok(Code {
         ops,
         texts,
         room: ir.room,
+        classes,
     })
 }

@@ -39,6 +39,11 @@ pub fn emit_action(
         Action::Jump(to) => push_op(ops, Op::Jump(layout.place(*to))),
         Action::JumpZero(to) => push_op(ops, Op::JumpZero(layout.place(*to))),
         Action::Call(function) => push_op(ops, Op::Call(layout.entry(entries, *function))),
+        Action::Send(selector, takes) => push_op(ops, Op::Send(*selector, *takes)),
+        Action::SendSuper(class, selector, takes) => push_op(
+            ops,
+            Op::SendSuper(*class, *selector, *takes),
+        ),
         Action::Return => push_op(ops, Op::Return),
     }
 }

@@ -1,4 +1,5 @@
 //! Code that was written by hand for a few actions.
+use crate::classes::emit_classes;
 use crate::emit::emit;
 use crate::fault::EmitFault;
 use crate::layout::Layout;
@@ -7,6 +8,7 @@ use arc_ast::tree::{Function, Kind, Parameters, TranslationUnit};
 use arc_class::table::ClassTable;
 use arc_code::code::Op;
 use arc_ir::action::{Action, Ir};
+use arc_spec::class::{Class, Method};
 use std::test::Fail;
 
 #[test]
@@ -19,7 +21,11 @@ fn writes_code(rt: HostRuntime) -> Result<(), Fail> {
         body: Some(Vec::new(rt.alloc())),
     };
     let functions = vec![in rt.alloc(); function]?;
-    let unit = TranslationUnit { functions };
+    let unit = TranslationUnit {
+        functions,
+        interfaces: Vec::new(rt.alloc()),
+        implementations: Vec::new(rt.alloc()),
+    };
     let table = ClassTable::build(rt.alloc(), &unit)?;
     let letters = b"0123456789abcdefghijklmnopqrstuvwxyzABCD";
     let text = letters.as_slice().to_vec(rt.alloc())?;
@@ -34,10 +40,12 @@ fn writes_code(rt: HostRuntime) -> Result<(), Fail> {
         Action::Return,
     ]?;
     let entries = vec![in rt.alloc(); 4]?;
+    let classes = Vec::new(rt.alloc());
     let ir = Ir {
         actions,
         entries,
         room: 2,
+        classes,
     };
     let code = emit(rt.alloc(), &ir, &table)?;
     let want = [
@@ -55,6 +63,7 @@ fn writes_code(rt: HostRuntime) -> Result<(), Fail> {
     assert_eq!(rt; code.ops.as_slice(), want.as_slice());
     assert_eq!(rt; code.texts.as_slice(), letters.as_slice());
     assert_eq!(rt; code.room, 2);
+    assert_eq!(rt; code.classes.len(), 0);
     Ok(())
 }
 
@@ -91,6 +100,64 @@ fn lays_out(rt: HostRuntime) -> Result<(), Fail> {
     assert_eq!(rt; layout.place(3), 4);
     assert_eq!(rt; layout.entry(&[0, 2], 1), 3);
     assert_eq!(rt; layout.entry(&[0, 2], 2), 4);
+    Ok(())
+}
+
+#[test]
+fn writes_messages(rt: HostRuntime) -> Result<(), Fail> {
+    let layout = Layout::of(rt.alloc(), &[])?;
+    let mut ops = Vec::new(rt.alloc());
+    let mut texts = Vec::new(rt.alloc());
+    let send = Action::Send(3, 2);
+    let send_super = Action::SendSuper(1, 3, 2);
+    emit_action(&mut ops, &mut texts, &send, &layout, &[])?;
+    emit_action(&mut ops, &mut texts, &send_super, &layout, &[])?;
+    let want = [Op::Send(3, 2), Op::SendSuper(1, 3, 2)];
+    assert_eq!(rt; ops.as_slice(), want.as_slice());
+    Ok(())
+}
+
+#[test]
+fn places_methods(rt: HostRuntime) -> Result<(), Fail> {
+    let text = b"0123456789abcdefg".as_slice().to_vec(rt.alloc())?;
+    let actions = [Action::PrintText(text), Action::Return];
+    let layout = Layout::of(rt.alloc(), &actions)?;
+    let known = Method {
+        selector: 5,
+        takes: 1,
+        runs: 1,
+    };
+    let unknown = Method {
+        selector: 6,
+        takes: 0,
+        runs: 9,
+    };
+    let root = Class {
+        superclass: None,
+        methods: vec![in rt.alloc(); known, unknown]?,
+    };
+    let below = Class {
+        superclass: Some(0),
+        methods: Vec::new(rt.alloc()),
+    };
+    let placed = emit_classes(rt.alloc(), &[root, below], &layout)?;
+    let want = [
+        Method {
+            selector: 5,
+            takes: 1,
+            runs: 2,
+        },
+        Method {
+            selector: 6,
+            takes: 0,
+            runs: 3,
+        },
+    ];
+    assert_eq!(rt; placed.len(), 2);
+    assert_eq!(rt; placed[0].superclass, None);
+    assert_eq!(rt; placed[0].methods.as_slice(), want.as_slice());
+    assert_eq!(rt; placed[1].superclass, Some(0));
+    assert_eq!(rt; placed[1].methods.len(), 0);
     Ok(())
 }
 

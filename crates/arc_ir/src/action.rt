@@ -1,6 +1,7 @@
 //! Actions, which take numbers from a stack and put numbers on it.
 
 use arc_ast::tree::{BinaryOperator, Kind};
+use arc_spec::class::Class;
 
 /// One action. A depth counts the numbers above the one that is meant.
 #[derive(Debug, Drop)]
@@ -33,16 +34,23 @@ pub enum Action {
     JumpZero(usize),
     /// Calls the function with this number, whose variables stand on the stack.
     Call(usize),
+    /// A message with this selector and so many arguments, which stand on the stack above the number
+    /// of the class that gets it: calls the method that is looked up from that class.
+    Send(usize, usize),
+    /// The same, with the number of the class from which the method is looked up before the selector.
+    SendSuper(usize, usize, usize),
     /// Goes back behind the last call; with no call it takes the top number, with which the program
     /// ends.
     Return,
 }
 
-/// A program: all actions, of which the first is where it begins; where each function begins; and the
-/// most numbers that the stack comes to hold.
+/// A program: all actions, of which the first is where it begins; where each function begins; the
+/// most numbers that the stack comes to hold; and the classes, whose methods run the action with a
+/// number.
 #[derive(Debug, Drop)]
 pub struct Ir {
     pub actions: Vec<Action>,
     pub entries: Vec<usize>,
     pub room: usize,
+    pub classes: Vec<Class>,
 }

@@ -2,18 +2,19 @@
 use Rattle.std.proofs.Common.{◌≡◌, ℕ, zero, suc, ◌<◌, ◌≤◌, nat_lt, if◌then◌else◌, List, [], ◌∷◌, length, slice_index_or, refl, sym, ap, arith}
 use Rattle.std.proofs.lemmas.Bool.{lt-ltb, le-ltb}
 use Rattle.arc_check.specs.declared.checked.CheckedFunction.{CheckedFunction}
+use Rattle.arc_spec.specs.Classes.{Class}
 use Rattle.arc_check.specs.Checked.{functions}
 use Rattle.arc_lower.specs.Lowered.{slots_of}
 
-pub slots_found : (all : List CheckedFunction) (main f : ℕ) (d : CheckedFunction) → f < length all → slots_of (record { functions = functions all; main = main }) f ≡ (slice_index_or all f d).slots
-slots_found [] main f d lt = absurd (omega (arith, lt))
-slots_found (g ∷ others) main zero d lt = refl
-slots_found (g ∷ others) main (suc f) d lt = slots_found others main f d (omega (arith, lt))
+pub slots_found : (all : List CheckedFunction) (main : ℕ) (cs : List Class) (f : ℕ) (d : CheckedFunction) → f < length all → slots_of (record { functions = functions all; main = main; classes = cs }) f ≡ (slice_index_or all f d).slots
+slots_found [] main cs f d lt = absurd (omega (arith, lt))
+slots_found (g ∷ others) main cs zero d lt = refl
+slots_found (g ∷ others) main cs (suc f) d lt = slots_found others main cs f d (omega (arith, lt))
 
-pub slots_none : (all : List CheckedFunction) (main f : ℕ) → length all ≤ f → slots_of (record { functions = functions all; main = main }) f ≡ 0
-slots_none [] main f le = refl
-slots_none (g ∷ others) main zero le = absurd (omega (arith, le))
-slots_none (g ∷ others) main (suc f) le = slots_none others main f (omega (arith, le))
+pub slots_none : (all : List CheckedFunction) (main : ℕ) (cs : List Class) (f : ℕ) → length all ≤ f → slots_of (record { functions = functions all; main = main; classes = cs }) f ≡ 0
+slots_none [] main cs f le = refl
+slots_none (g ∷ others) main cs zero le = absurd (omega (arith, le))
+slots_none (g ∷ others) main cs (suc f) le = slots_none others main cs f (omega (arith, le))
 
 pub number_in : (f n : ℕ) → f < n → f ≡ (if nat_lt f n then f else n)
 number_in f n lt = ap (λ b. if b then f else n) (sym (lt-ltb f n lt))

@@ -3,20 +3,21 @@ use Rattle.std.proofs.Common.{◌≡◌, ℕ, suc, ◌+◌, ◌-◌, ◌<◌, �
 use Rattle.std.proofs.lemmas.Bool.{ltb-true, ltb-false}
 use Rattle.std.proofs.lemmas.List.{length-set, get_or_past, set_past}
 use Rattle.arc_spec.specs.declared.event.Event.{Event}
+use Rattle.arc_spec.specs.Classes.{class_at, lookup}
 use Rattle.arc_spec.specs.Number.{converted, negated, combined, byte_or_end}
-use Rattle.arc_spec.specs.Resolved.{Piece, Value, Number, ReadByte, Print, Negated, Combined, Converted, Local, Assigned, Invoked, Values, no_values, and_value}
+use Rattle.arc_spec.specs.Resolved.{Piece, Value, Number, ReadByte, Print, Negated, Combined, Converted, Local, Assigned, Invoked, Sent, SentSuper, Values, no_values, and_value}
 use Rattle.arc_spec.specs.Resolved as resolved
-use Rattle.arc_spec.specs.Meaning.{Deeper, formatted, byte_count, or_fault, evaluated, all_evaluated}
-use Rattle.arc_spec.specs.World.{World, Done, then_do, prints, next_number, after_next, has_read, with_locals, local_at, first_locals}
+use Rattle.arc_spec.specs.Meaning.{Deeper, dispatched, finds, formatted, byte_count, or_fault, evaluated, all_evaluated}
+use Rattle.arc_spec.specs.World.{World, Outcome, Done, then_do, prints, next_number, after_next, has_read, with_locals, local_at, first_locals}
 use Rattle.arc_spec.specs.Stepping.{Reached, follow, fed, on_found}
-use Rattle.arc_ir.specs.Acting.{Program, State, onward, goes, step}
+use Rattle.arc_ir.specs.Acting.{Program, State, onward, goes, answers, step}
 use Rattle.arc_ir.specs.Acting as acting
-use Rattle.arc_lower.specs.Order.{Num, Bin, Un, Narrow, Get, Set, GetChar, Call}
+use Rattle.arc_lower.specs.Order.{Order, Num, Bin, Un, Narrow, Get, Set, GetChar, Call, Send, SendSuper}
 use Rattle.arc_lower.specs.Lowered.{value_count, print_orders, get_orders, set_orders, fit_orders, number_of, slots_of, call_orders, value_orders, all_value_orders}
 use Rattle.arc_lower.proofs.Leading.{Leads, leads_same, Runs, leads_runs, then_runs, better_runs}
-use Rattle.arc_lower.proofs.Doing.{at, HasAt, has_front, has_back}
+use Rattle.arc_lower.proofs.Doing.{does, at, HasAt, has_front, has_back}
 use Rattle.arc_lower.proofs.Segments.{running, leaves, Segment, then_segment, one_segment, quiet, Passes, then_passes, one_passes, no_passes}
-use Rattle.arc_lower.proofs.Stacking.{onto, get_local, set_local, get_below, set_below}
+use Rattle.arc_lower.proofs.Stacking.{onto, get_onto, get_local, set_local, get_below, set_below}
 use Rattle.arc_lower.proofs.Printing.{print_passes}
 use Rattle.arc_lower.proofs.Fitting.{fit_passes}
 
@@ -28,10 +29,14 @@ read_next calls pc stack (b ∷ i) t locals = refl
 abbrev pub Back : World → ℤ → World → Type 0
 Back w v w1 = w1.locals ≡ w.locals
 
--- calls of functions do what is meant
-abbrev pub Deep : Program → (calls : List ℕ) → (bound : ℕ) → resolved.Program → Deeper → Type 0
-Deep p calls bound R D =
-    (f : ℕ) (given stack : List ℤ) (w : World) (pc : ℕ) → HasAt p pc (Call (number_of R f) ∷ []) → Runs (step p) (Back w) bound (running calls pc (onto (first_locals (slots_of R f) given) stack) w) (λ v w1. running calls (pc + 1) (v ∷ stack) w1) (D.call f given w)
+-- behind a call, with its value on top
+abbrev pub behind_call : (calls : List ℕ) (pc : ℕ) (stack : List ℤ) → ℤ → World → Reached State
+behind_call calls pc stack v w = running calls (pc + 1) (v ∷ stack) w
+
+-- calls of functions and messages do what is meant
+pub record Deep (p : Program) (calls : List ℕ) (bound : ℕ) (R : resolved.Program) (D : Deeper) : Type 0 where
+  pub invokes : (f : ℕ) (given stack : List ℤ) (w : World) (pc : ℕ) → HasAt p pc (Call (number_of R f) ∷ []) → Runs (step p) (Back w) bound (running calls pc (onto (first_locals (slots_of R f) given) stack) w) (behind_call calls pc stack) (D.call f given w)
+  pub sends : (from : Option ℕ) (selector : ℕ) (self : ℤ) (given stack : List ℤ) (w : World) (pc : ℕ) → step p (at calls pc (onto given (self ∷ stack))) ≡ answers (at calls pc (onto given (self ∷ stack))) (lookup p.classes from selector (length given)) → Runs (step p) (Back w) bound (running calls pc (onto given (self ∷ stack)) w) (behind_call calls pc stack) (dispatched D (finds D from selector given) self given w)
 
 module _ (p : Program) (calls : List ℕ) (bound : ℕ) (R : resolved.Program) (slots : ℕ) (below : List ℤ) (D : Deeper) (deep : Deep p calls bound R D) where
   -- operands above the variables
@@ -104,10 +109,38 @@ module _ (p : Program) (calls : List ℕ) (bound : ℕ) (R : resolved.Program) (
       let q = pc + length fits in
       let e : q + 1 ≡ pc + length (fits ++ call) = omega (arith, length-append fits call) in
       let ready = fit_passes p calls bound (slots_of R f) given s w pc (has_front p pc fits call has) in
-      let called = deep f given s w q (has_back p pc fits call has) in
+      let called = deep.invokes f given s w q (has_back p pc fits call has) in
       let shown = better_runs (step p) (Back w) Good bound (running calls q (onto (first_locals (slots_of R f) given) s) w) (λ v w1. running calls (q + 1) (v ∷ s) w1) (above operands (q + 1)) (D.call f given w) (λ v w1 h. (ap length h ∙ g, ap (λ l. running calls (q + 1) (v ∷ operands ++ onto l below) w1) (sym h))) called in
       subst (λ n. Runs (step p) Good bound (running calls pc (onto given s) w) (above operands n) (D.call f given w)) e
       (leads_runs (step p) Good bound (running calls pc (onto given s) w) (running calls q (onto (first_locals (slots_of R f) given) s) w) (above operands (q + 1)) (D.call f given w) ready shown)
+
+  -- what a message's order does above its arguments
+  abbrev Answers : Order → (from : Option ℕ) → (self : ℤ) → (selector : ℕ) → (given rest : List ℤ) → Type 0
+  Answers x from self selector given rest = (pc : ℕ) → does p x (at calls pc (onto given (self ∷ rest))) ≡ answers (at calls pc (onto given (self ∷ rest))) (lookup p.classes from selector (length given))
+
+  send_answers : (self : ℤ) (selector n : ℕ) (given rest : List ℤ) → length given ≡ n → Answers (Send selector n) (class_at self) self selector given rest
+  send_answers self selector n given rest e pc =
+      let s = at calls pc (onto given (self ∷ rest)) in
+      let there = ap (λ o. on_found o (λ v. answers s (lookup p.classes (class_at v) selector (length given)))) (get_onto given rest self) in
+      subst (λ m. does p (Send selector m) s ≡ answers s (lookup p.classes (class_at self) selector (length given))) e there
+
+  super_answers : (self : ℤ) (from selector n : ℕ) (given rest : List ℤ) → length given ≡ n → Answers (SendSuper from selector n) (Some from) self selector given rest
+  super_answers self from selector n given rest e pc = ap (λ m. answers (at calls pc (onto given (self ∷ rest))) (lookup p.classes (Some from) selector m)) (sym e)
+
+  sent_runs : (x : Order) (from : Option ℕ) (self : ℤ) (selector : ℕ) (given operands : List ℤ) (w : World) → length w.locals ≡ slots → Answers x from self selector given (framed operands w) → Segment p calls bound Good (x ∷ []) (onto given (self ∷ framed operands w)) w (above operands) (dispatched D (finds D from selector given) self given w)
+  sent_runs x from self selector given operands w g answered pc has =
+      let s = framed operands w in
+      let stack = onto given (self ∷ s) in
+      better_runs (step p) (Back w) Good bound (running calls pc stack w) (behind_call calls pc s) (above operands (pc + 1)) (dispatched D (finds D from selector given) self given w) (λ v w1 h. (ap length h ∙ g, ap (λ l. running calls (pc + 1) (v ∷ operands ++ onto l below) w1) (sym h))) (deep.sends from selector self given s w pc (has.0 calls stack ∙ answered pc))
+
+  -- the arguments, and then the message
+  arguments_sent : (xs : List Order) (n : ℕ) (x : Order) (from : Option ℕ) (self : ℤ) (selector : ℕ) (operands : List ℤ) (w : World) (o : Outcome (List ℤ)) → Segment p calls bound (GoodAll n) xs (self ∷ framed operands w) w (all_above (self ∷ operands)) o → ((given rest : List ℤ) → length given ≡ n → Answers x from self selector given rest) → Segment p calls bound Good (xs ++ x ∷ []) (self ∷ framed operands w) w (above operands) (then_do o (λ given w1. dispatched D (finds D from selector given) self given w1))
+  arguments_sent xs n x from self selector operands w o arguments answered =
+      then_segment p calls bound (GoodAll n) Good xs (x ∷ []) (self ∷ framed operands w) w (all_above (self ∷ operands)) (above operands) o (λ given w1. dispatched D (finds D from selector given) self given w1) arguments (λ given w1 h.
+      sent_runs x from self selector given operands w1 h.1 (answered given (framed operands w1) h.0))
+
+  self_passes : (operands : List ℤ) (w : World) → length w.locals ≡ slots → Passes p calls bound (get_orders slots (length operands) 0) (framed operands w) w (local_at w.locals 0 ∷ framed operands w) w
+  self_passes operands w g = subst (λ n. Passes p calls bound (get_orders n (length operands) 0) (framed operands w) w (local_at w.locals 0 ∷ framed operands w) w) g (local_by operands 0 w (nat_lt 0 (length w.locals)) refl)
 
   mutual
     pub value_segment : (e : Value) (operands : List ℤ) (w : World) → length w.locals ≡ slots → Segment p calls bound Good (value_orders R slots (length operands) e) (framed operands w) w (above operands) (evaluated D e w)
@@ -134,6 +167,23 @@ module _ (p : Program) (calls : List ℕ) (bound : ℕ) (R : resolved.Program) (
     value_segment (Invoked f arguments) operands w g =
         then_segment p calls bound (GoodAll (value_count arguments)) Good (all_value_orders R slots (length operands) arguments) (call_orders R f (value_count arguments)) (framed operands w) w (all_above operands) (above operands) (all_evaluated D arguments w) (λ given w1. D.call f given w1) (all_segment arguments operands w g) (λ given w1 h.
         subst (λ m. Segment p calls bound Good (call_orders R f m) (onto given (framed operands w1)) w1 (above operands) (D.call f given w1)) h.0 (invoked_runs f given operands w1 h.1))
+    value_segment (Sent a selector arguments) operands w g =
+        let n = value_count arguments in
+        let xs = all_value_orders R slots (suc (length operands)) arguments in
+        then_segment p calls bound Good Good (value_orders R slots (length operands) a) (xs ++ Send selector n ∷ []) (framed operands w) w (above operands) (above operands) (evaluated D a w) (λ self w1. then_do (all_evaluated D arguments w1) (λ given w2. dispatched D (finds D (class_at self) selector given) self given w2)) (value_segment a operands w g) (λ self w1 h.
+        arguments_sent xs n (Send selector n) (class_at self) self selector operands w1 (all_evaluated D arguments w1) (all_segment arguments (self ∷ operands) w1 h) (λ given rest e. send_answers self selector n given rest e))
+    value_segment (SentSuper from selector arguments) operands w g = λ pc has.
+        let n = value_count arguments in
+        let self = local_at w.locals 0 in
+        let gets = get_orders slots (length operands) 0 in
+        let xs = all_value_orders R slots (suc (length operands)) arguments in
+        let ys = xs ++ SendSuper from selector n ∷ [] in
+        let q = pc + length gets in
+        let o = evaluated D (SentSuper from selector arguments) w in
+        let e : q + length ys ≡ pc + length (gets ++ ys) = omega (arith, length-append gets ys) in
+        let sent = arguments_sent xs n (SendSuper from selector n) (Some from) self selector operands w (all_evaluated D arguments w) (all_segment arguments (self ∷ operands) w g) (λ given rest h. super_answers self from selector n given rest h) q (has_back p pc gets ys has) in
+        subst (λ m. Runs (step p) Good bound (running calls pc (framed operands w) w) (above operands m) o) e
+        (leads_runs (step p) Good bound (running calls pc (framed operands w) w) (running calls q (self ∷ framed operands w) w) (above operands (q + length ys)) o (self_passes operands w g pc (has_front p pc gets ys has)) sent)
 
     all_segment : (arguments : Values) (operands : List ℤ) (w : World) → length w.locals ≡ slots → Segment p calls bound (GoodAll (value_count arguments)) (all_value_orders R slots (length operands) arguments) (framed operands w) w (all_above operands) (all_evaluated D arguments w)
     all_segment no_values operands w g = λ pc has. let e : pc ≡ pc + 0 = omega arith in ((refl, g), leads_same (step p) _ _ (ap (λ q. running calls q (framed operands w) w) e))

@@ -2,6 +2,7 @@ mod Rows
 mod Callees
 mod Patching
 mod Laying
+mod Stubbing
 mod Leading
 mod Behaving
 mod Doing
@@ -12,6 +13,7 @@ mod Fitting
 mod Evaluating
 mod Executing
 mod Linking
+mod Finding
 mod Calling
 mod Rising
 mod Safety

@@ -1,12 +1,13 @@
 -- Each function stands at its entry.
-use Rattle.std.proofs.Common.{◌≡◌, ℕ, zero, suc, ◌+◌, ◌<◌, ◌≤◌, Bool, true, false, max, nat_lt, if◌then◌else◌, List, [], ◌∷◌, ◌++◌, length, Some, refl, ap, ◌∙◌, subst, arith, slice_get}
+use Rattle.std.proofs.Common.{◌≡◌, ℕ, zero, suc, ◌+◌, ◌<◌, ◌≤◌, Bool, true, false, max, nat_lt, if◌then◌else◌, List, [], ◌∷◌, ◌++◌, length, Some, refl, ap, ◌∙◌, subst, arith, slice_get, slice_index_or}
 use Rattle.std.proofs.lemmas.Bool.{ltb-true, ltb-false}
+use Rattle.arc_spec.specs.Classes.{Class}
 use Rattle.arc_spec.specs.Resolved.{Function}
 use Rattle.arc_spec.specs.Resolved as resolved
 use Rattle.arc_spec.specs.Meaning.{function_at}
 use Rattle.arc_ir.specs.Acting.{Program}
-use Rattle.arc_lower.specs.Order.{orders}
-use Rattle.arc_lower.specs.Lowered.{nothing, all_functions, number_of, function_orders, functions_orders, entries_from, longest_from, start_orders, lowered, entries_of}
+use Rattle.arc_lower.specs.Order.{Order, orders}
+use Rattle.arc_lower.specs.Lowered.{nothing, all_functions, number_of, function_orders, functions_orders, entries_from, longest_from, start_orders, running_orders, lowered, entries_of, classes_orders}
 use Rattle.arc_lower.proofs.Doing.{HasAt, has_front, has_back, has_all}
 
 -- how many actions the longest function has, or the start
@@ -17,6 +18,7 @@ longest R = longest_from R (length (start_orders R)) (all_functions R) (length (
 pub record Begins (p : Program) (R : resolved.Program) (n : ℕ) (f : Function) : Type 0 where
   pub place : ℕ
   pub entry : slice_get p.entries n ≡ Some place
+  pub first : slice_index_or (entries_of R) n 0 ≡ place
   pub code : HasAt p place (function_orders R place f)
   pub small : length (function_orders R place f) ≤ longest R
 
@@ -62,36 +64,58 @@ find p R (g ∷ fs) place so_far (suc n) f e has =
     let there = find p R fs (place + length xs) (max so_far (length xs)) n f e (has_back p place xs (functions_orders R (place + length xs) fs) has) in
     record { place = there.place; entry = there.entry; code = there.code; small = there.small }
 
-in_list : (fs : List Function) (main f : ℕ) → f < length fs → slice_get (fs ++ nothing ∷ []) f ≡ Some (function_at (record { functions = fs; main = main }) f)
-in_list [] main f lt = absurd (omega (arith, lt))
-in_list (g ∷ fs) main zero lt = refl
-in_list (g ∷ fs) main (suc f) lt = in_list fs main f (omega (arith, lt))
+in_list : (fs : List Function) (main : ℕ) (cs : List Class) (f : ℕ) → f < length fs → slice_get (fs ++ nothing ∷ []) f ≡ Some (function_at (record { functions = fs; main = main; classes = cs }) f)
+in_list [] main cs f lt = absurd (omega (arith, lt))
+in_list (g ∷ fs) main cs zero lt = refl
+in_list (g ∷ fs) main cs (suc f) lt = in_list fs main cs f (omega (arith, lt))
 
-out_of_list : (fs : List Function) (main f : ℕ) → length fs ≤ f → nothing ≡ function_at (record { functions = fs; main = main }) f
-out_of_list [] main f le = refl
-out_of_list (g ∷ fs) main zero le = absurd (omega (arith, le))
-out_of_list (g ∷ fs) main (suc f) le = out_of_list fs main f (omega (arith, le))
+out_of_list : (fs : List Function) (main : ℕ) (cs : List Class) (f : ℕ) → length fs ≤ f → nothing ≡ function_at (record { functions = fs; main = main; classes = cs }) f
+out_of_list [] main cs f le = refl
+out_of_list (g ∷ fs) main cs zero le = absurd (omega (arith, le))
+out_of_list (g ∷ fs) main cs (suc f) le = out_of_list fs main cs f (omega (arith, le))
 
 last_one : (fs : List Function) → slice_get (fs ++ nothing ∷ []) (length fs) ≡ Some nothing
 last_one [] = refl
 last_one (g ∷ fs) = last_one fs
 
 numbered_by : (R : resolved.Program) (f : ℕ) (b : Bool) → nat_lt f (length R.functions) ≡ b → slice_get (all_functions R) (if b then f else length R.functions) ≡ Some (function_at R f)
-numbered_by R f true e = in_list R.functions R.main f (ltb-true f (length R.functions) e)
-numbered_by R f false e = last_one R.functions ∙ ap Some (out_of_list R.functions R.main f (ltb-false f (length R.functions) e))
+numbered_by R f true e = in_list R.functions R.main R.classes f (ltb-true f (length R.functions) e)
+numbered_by R f false e = last_one R.functions ∙ ap Some (out_of_list R.functions R.main R.classes f (ltb-false f (length R.functions) e))
 
 numbered : (R : resolved.Program) (f : ℕ) → slice_get (all_functions R) (number_of R f) ≡ Some (function_at R f)
 numbered R f = numbered_by R f (nat_lt f (length R.functions)) refl
 
+get_index : (list : List ℕ) (n x : ℕ) → slice_get list n ≡ Some x → slice_index_or list n 0 ≡ x
+get_index [] n x e = cc
+get_index (y ∷ list) zero x e = cc
+get_index (y ∷ list) (suc n) x e = get_index list n x e
+
 module _ (p : Program) (R : resolved.Program) (is : orders p.actions ≡ lowered R) (entries : p.entries ≡ entries_of R) where
+  abbrev stubs : List Order
+  stubs = classes_orders R (entries_of R) R.classes
+
+  has_running : HasAt p 0 (running_orders R)
+  has_running = has_front p 0 (running_orders R) stubs (subst (HasAt p 0) is (has_all p))
+
   pub has_start : HasAt p 0 (start_orders R)
-  has_start = has_front p 0 (start_orders R) (functions_orders R (length (start_orders R)) (all_functions R)) (subst (HasAt p 0) is (has_all p))
+  has_start = has_front p 0 (start_orders R) (functions_orders R (length (start_orders R)) (all_functions R)) has_running
+
+  pub has_stubs : HasAt p (length (running_orders R)) stubs
+  has_stubs =
+      let zero_is : 0 + length (running_orders R) ≡ length (running_orders R) = omega arith in
+      subst (λ n. HasAt p n stubs) zero_is (has_back p 0 (running_orders R) stubs (subst (HasAt p 0) is (has_all p)))
 
   pub begins : (f : ℕ) → Begins p R (number_of R f) (function_at R f)
   begins f =
       let start = start_orders R in
       let all = functions_orders R (length start) (all_functions R) in
       let zero_is : 0 + length start ≡ length start = omega arith in
-      let has = subst (λ n. HasAt p n all) zero_is (has_back p 0 start all (subst (HasAt p 0) is (has_all p))) in
+      let has = subst (λ n. HasAt p n all) zero_is (has_back p 0 start all has_running) in
       let there = find p R (all_functions R) (length start) (length start) (number_of R f) (function_at R f) (numbered R f) has in
-      record { place = there.place; entry = ap (λ l. slice_get l (number_of R f)) entries ∙ there.entry; code = there.code; small = there.small }
+      record {
+        place = there.place;
+        entry = ap (λ l. slice_get l (number_of R f)) entries ∙ there.entry;
+        first = get_index (entries_of R) (number_of R f) there.place there.entry;
+        code = there.code;
+        small = there.small;
+      }

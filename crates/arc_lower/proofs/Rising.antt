@@ -1,7 +1,7 @@
 -- How much orders raise the stack.
 use Rattle.std.proofs.Common.{◌≡◌, ℕ, zero, suc, ◌+◌, ◌≤◌, List, [], ◌∷◌, ◌++◌, length, refl, arith}
-use Rattle.arc_lower.specs.Order.{Order, Num, Bin, Un, Narrow, Pop, Get, Set, PrintText, PrintNum, PrintByte, GetChar, Jump, JumpZero, Call, Return}
-use Rattle.arc_lower.specs.Lowered.{pop_orders, keep_orders}
+use Rattle.arc_lower.specs.Order.{Order, Num, Bin, Un, Narrow, Pop, Get, Set, PrintText, PrintNum, PrintByte, GetChar, Jump, JumpZero, Call, Send, SendSuper, Return}
+use Rattle.arc_lower.specs.Lowered.{pop_orders, keep_orders, zero_orders}
 
 abbrev pub lift : Order → ℕ
 lift (Num n) = 1
@@ -34,6 +34,8 @@ lift_small GetChar = omega arith
 lift_small (Jump to) = omega arith
 lift_small (JumpZero to) = omega arith
 lift_small (Call f) = omega arith
+lift_small (Send selector takes) = omega arith
+lift_small (SendSuper from selector takes) = omega arith
 lift_small Return = omega arith
 
 pub rise_small : (xs : List Order) → rise xs ≤ length xs
@@ -47,6 +49,10 @@ rise_pops (suc n) = let h = rise_pops n in omega (arith, h)
 pub rise_keep : (n : ℕ) → rise (keep_orders n) ≡ 0
 rise_keep zero = refl
 rise_keep (suc n) = let h = rise_pops n in omega (arith, h)
+
+pub rise_zeros : (n : ℕ) → rise (zero_orders n) ≡ n
+rise_zeros zero = refl
+rise_zeros (suc n) = let h = rise_zeros n in omega (arith, h)
 
 pub pops_length : (n : ℕ) → length (pop_orders n) ≡ n
 pops_length zero = refl

@@ -1,8 +1,8 @@
 -- What a tree holds in a row, as a list.
-use Rattle.std.proofs.Common.{◌≡◌, ℕ, zero, suc, ◌+◌, pos, List, [], ◌∷◌, ◌++◌, length, Vec, Global, refl, ap, ◌∙◌, add-one}
+use Rattle.std.proofs.Common.{◌≡◌, ℕ, zero, suc, ◌+◌, pos, List, [], ◌∷◌, ◌++◌, length, Vec, Box, Global, refl, ap, ◌∙◌, add-one}
 use mathlib.Core.Former.{Count}
 use Rattle.arc_check.specs.declared.checked.Piece.{Piece}
-use Rattle.arc_check.specs.declared.checked.Value.{Value, Print, Print', Invoked, Invoked', Row_of-Value, end_of-Value, more_of-Value, items-the_row-Value, items_hidden-the_row-Value-0}
+use Rattle.arc_check.specs.declared.checked.Value.{Value, Print, Print', Invoked, Invoked', Sent, Sent', SentSuper, SentSuper', Row_of-Value, end_of-Value, more_of-Value, items-the_row-Value, items_hidden-the_row-Value-0}
 use Rattle.arc_check.specs.declared.checked.Command.{Command, Sequence, Sequence', Row_of-Command, end_of-Command, more_of-Command, items-the_row-Command, items_hidden-the_row-Command-0}
 use Rattle.arc_check.specs.Checked.{pieces, value, values, row_values, command, commands, row_commands, functions}
 use Rattle.arc_check.specs.declared.checked.CheckedFunction.{CheckedFunction}
@@ -14,6 +14,8 @@ use Rattle.arc_lower.specs.Lowered.{pop_orders, zero_orders, value_count}
 abbrev arguments_of : Value → (n : Count) × Row_of-Value n
 arguments_of (Print' all _ row) = (_, row)
 arguments_of (Invoked' f _ row) = (_, row)
+arguments_of (Sent' _ a selector _ row) = (_, row)
+arguments_of (SentSuper' from selector _ row) = (_, row)
 arguments_of _ = (_, end_of-Value)
 
 row_values_are : (n : _) (row : Row_of-Value n) → row_values row ≡ values (items-the_row-Value n row)
@@ -29,6 +31,16 @@ pub invoked_value : (f : ℕ) (arguments : Vec Value Global) → value (Invoked 
 invoked_value f arguments =
     let row = arguments_of (Invoked f arguments) in
     ap (resolved.Invoked f) (row_values_are row.0 row.1 ∙ ap values (items_hidden-the_row-Value-0 arguments))
+
+pub sent_value : (a : Box Value Global) (selector : ℕ) (arguments : Vec Value Global) → value (Sent a selector arguments) ≡ resolved.Sent (value a.value) selector (values arguments.items)
+sent_value a selector arguments =
+    let row = arguments_of (Sent a selector arguments) in
+    ap (resolved.Sent (value a.value) selector) (row_values_are row.0 row.1 ∙ ap values (items_hidden-the_row-Value-0 arguments))
+
+pub super_value : (from selector : ℕ) (arguments : Vec Value Global) → value (SentSuper from selector arguments) ≡ resolved.SentSuper from selector (values arguments.items)
+super_value from selector arguments =
+    let row = arguments_of (SentSuper from selector arguments) in
+    ap (resolved.SentSuper from selector) (row_values_are row.0 row.1 ∙ ap values (items_hidden-the_row-Value-0 arguments))
 
 abbrev statements_of : Command → (n : Count) × Row_of-Command n
 statements_of (Sequence' _ row) = (_, row)

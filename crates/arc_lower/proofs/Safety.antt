@@ -4,13 +4,14 @@ use Rattle.std.proofs.lemmas.Bool.{ltb-true}
 use Rattle.std.proofs.lemmas.List.{length-set}
 use Rattle.std.specs.Fmt.{signed_decimal}
 use Rattle.arc_ast.specs.declared.tree.Kind.TheVariants as k
+use Rattle.arc_spec.specs.Classes.{class_at, lookup}
 use Rattle.arc_spec.specs.Number.{converted, negated, combined, counted, low_byte, byte_or_end}
-use Rattle.arc_spec.specs.Resolved.{Piece, Bytes, Decimal, Character, Value, Number, ReadByte, Print, Negated, Combined, Converted, Local, Assigned, Invoked, Values, no_values, and_value}
+use Rattle.arc_spec.specs.Resolved.{Piece, Bytes, Decimal, Character, Value, Number, ReadByte, Print, Negated, Combined, Converted, Local, Assigned, Invoked, Sent, SentSuper, Values, no_values, and_value}
 use Rattle.arc_spec.specs.Resolved as resolved
 use Rattle.arc_spec.specs.Stepping.{Next, Along, Safe, on_top, on_found}
-use Rattle.arc_ir.specs.Acting.{Program, State, or_fault, step, Fits}
-use Rattle.arc_lower.specs.Order.{Order, Num, Bin, Un, Narrow, Pop, Get, Set, PrintText, PrintNum, PrintByte, GetChar, Call}
-use Rattle.arc_lower.specs.Lowered.{value_count, format_orders, pop_orders, keep_orders, print_orders, set_orders, zero_orders, fit_orders, number_of, slots_of, call_orders, value_orders, all_value_orders}
+use Rattle.arc_ir.specs.Acting.{Program, State, or_fault, answers, step, Fits}
+use Rattle.arc_lower.specs.Order.{Order, Num, Bin, Un, Narrow, Pop, Get, Set, PrintText, PrintNum, PrintByte, GetChar, Call, Send, SendSuper}
+use Rattle.arc_lower.specs.Lowered.{value_count, format_orders, pop_orders, keep_orders, print_orders, get_orders, set_orders, zero_orders, fit_orders, number_of, slots_of, call_orders, value_orders, all_value_orders}
 use Rattle.arc_lower.proofs.Doing.{does, at, HasAt, has_front, has_back}
 use Rattle.arc_lower.proofs.Rising.{lift, rise, rise_append}
 
@@ -25,10 +26,10 @@ SafeAt p calls n pc height = (stack : List ℤ) → length stack ≡ height → 
 abbrev pub Until : Program → List ℕ → (n pc height : ℕ) → Type 0
 Until p calls n pc height = (m : ℕ) → m ≤ n → SafeAt p calls m pc height
 
--- calls are safe from stacks within a limit
-abbrev pub CallsSafe : Program → resolved.Program → (limit : ℕ) → List ℕ → Type 0
-CallsSafe p R limit calls =
-    (f height n pc : ℕ) → slots_of R f + height ≤ limit → HasAt p pc (Call (number_of R f) ∷ []) → Until p calls n (pc + 1) (suc height) → SafeAt p calls n pc (slots_of R f + height)
+-- calls and messages are safe from stacks within a limit
+pub record CallsSafe (p : Program) (R : resolved.Program) (limit : ℕ) (calls : List ℕ) : Type 0 where
+  pub invokes : (f height n pc : ℕ) → slots_of R f + height ≤ limit → HasAt p pc (Call (number_of R f) ∷ []) → Until p calls n (pc + 1) (suc height) → SafeAt p calls n pc (slots_of R f + height)
+  pub sends : (from : Option ℕ) (selector takes height n pc : ℕ) (stack : List ℤ) → suc takes + height ≤ limit → length stack ≡ suc takes + height → Until p calls n (pc + 1) (suc height) → Along (Going p n) (answers (at calls pc stack) (lookup p.classes from selector takes))
 
 pub top_along : (p : Program) (n height : ℕ) (stack : List ℤ) (go : ℤ → List ℤ → Next State) → length stack ≡ suc height → ((v : ℤ) (rest : List ℤ) → length rest ≡ height → Along (Going p n) (go v rest)) → Along (Going p n) (on_top stack go)
 top_along p n height [] go e h = absurd (omega (arith, e))
@@ -58,10 +59,10 @@ module _ (p : Program) (calls : List ℕ) (limit : ℕ) (within : limit ≤ p.ro
             next.safe (omega (arith, r, fits, first.low)) m (pc + length xs) (has_back p pc xs ys has) (λ k le2. subst (λ q. SafeAt p calls k q after) (behind_both xs ys pc) (behind k (omega (arith, le, le2)))));
       }
 
-  pub one_keeps : (x : Order) (height after : ℕ) → after ≤ height + lift x → ((n pc : ℕ) (stack : List ℤ) → length stack ≡ height → Until p calls n (pc + 1) after → Along (Going p n) (does p.entries x (at calls pc stack))) → Keeps (x ∷ []) height after
+  pub one_keeps : (x : Order) (height after : ℕ) → after ≤ height + lift x → ((n pc : ℕ) (stack : List ℤ) → length stack ≡ height → Until p calls n (pc + 1) after → Along (Going p n) (does p x (at calls pc stack))) → Keeps (x ∷ []) height after
   one_keeps x height after low h = record { low = omega (arith, low); safe = λ fits n pc has behind stack e. steps x height after h fits n pc has behind stack e }
     where
-      steps : (x : Order) (height after : ℕ) → ((n pc : ℕ) (stack : List ℤ) → length stack ≡ height → Until p calls n (pc + 1) after → Along (Going p n) (does p.entries x (at calls pc stack))) → height + rise (x ∷ []) ≤ limit → (n pc : ℕ) → HasAt p pc (x ∷ []) → Until p calls n (pc + 1) after → SafeAt p calls n pc height
+      steps : (x : Order) (height after : ℕ) → ((n pc : ℕ) (stack : List ℤ) → length stack ≡ height → Until p calls n (pc + 1) after → Along (Going p n) (does p x (at calls pc stack))) → height + rise (x ∷ []) ≤ limit → (n pc : ℕ) → HasAt p pc (x ∷ []) → Until p calls n (pc + 1) after → SafeAt p calls n pc height
       steps x height after h fits zero pc has behind stack e = omega (arith, fits, e, within)
       steps x height after h fits (suc n) pc has behind stack e = subst (Along (Going p n)) (sym (has.0 calls stack)) (h n pc stack e (λ m le. behind m (omega (arith, le))))
 
@@ -149,7 +150,7 @@ module _ (p : Program) (calls : List ℕ) (limit : ℕ) (within : limit ≤ p.ro
   zeros_keep zero height after e = no_keeps height after (omega (arith, e))
   zeros_keep (suc n) height after e = then_keeps (Num (pos 0) ∷ []) (zero_orders n) height (suc height) after (num_keeps (pos 0) height) (zeros_keep n (suc height) after (omega (arith, e)))
 
-  fit_keeps : (values slots height after stack : ℕ) → height ≡ values + stack → after ≡ slots + stack → Keeps (fit_orders values slots) height after
+  pub fit_keeps : (values slots height after stack : ℕ) → height ≡ values + stack → after ≡ slots + stack → Keeps (fit_orders values slots) height after
   fit_keeps values slots height after stack e1 e2 =
       let middle = height - (values - slots) in
       then_keeps (pop_orders (values - slots)) (zero_orders (slots - values)) height middle after (pops_keep (values - slots) height middle (omega (arith, e1))) (zeros_keep (slots - values) middle after (omega (arith, e1, e2)))
@@ -158,11 +159,26 @@ module _ (p : Program) (calls : List ℕ) (limit : ℕ) (within : limit ≤ p.ro
     call_keeps : (f height : ℕ) → Keeps (Call (number_of R f) ∷ []) (slots_of R f + height) (suc height)
     call_keeps f height = record {
       low = omega arith;
-      safe = λ fits n pc has behind. safe_calls f height n pc (omega (arith, fits)) has behind;
+      safe = λ fits n pc has behind. safe_calls.invokes f height n pc (omega (arith, fits)) has behind;
     }
 
     invoked_keeps : (f values height stack : ℕ) → height ≡ values + stack → Keeps (call_orders R f values) height (suc stack)
     invoked_keeps f values height stack e = then_keeps (fit_orders values (slots_of R f)) (Call (number_of R f) ∷ []) height (slots_of R f + stack) (suc stack) (fit_keeps values (slots_of R f) height (slots_of R f + stack) stack e refl) (call_keeps f stack)
+
+    -- a message with what gets it and its arguments on top
+    message_keeps : (x : Order) (takes height : ℕ) → ((n pc : ℕ) (stack : List ℤ) → suc takes + height ≤ limit → length stack ≡ suc takes + height → Until p calls n (pc + 1) (suc height) → Along (Going p n) (does p x (at calls pc stack))) → Keeps (x ∷ []) (suc takes + height) (suc height)
+    message_keeps x takes height h = record { low = omega arith; safe = λ fits n pc has behind stack e. steps x takes height h (omega (arith, fits)) n pc has behind stack e }
+      where
+        steps : (x : Order) (takes height : ℕ) → ((n pc : ℕ) (stack : List ℤ) → suc takes + height ≤ limit → length stack ≡ suc takes + height → Until p calls n (pc + 1) (suc height) → Along (Going p n) (does p x (at calls pc stack))) → suc takes + height ≤ limit → (n pc : ℕ) → HasAt p pc (x ∷ []) → Until p calls n (pc + 1) (suc height) → SafeAt p calls n pc (suc takes + height)
+        steps x takes height h fits zero pc has behind stack e = omega (arith, fits, e, within)
+        steps x takes height h fits (suc n) pc has behind stack e = subst (Along (Going p n)) (sym (has.0 calls stack)) (h n pc stack fits e (λ m le. behind m (omega (arith, le))))
+
+    send_keeps : (selector takes height : ℕ) → Keeps (Send selector takes ∷ []) (suc takes + height) (suc height)
+    send_keeps selector takes height = message_keeps (Send selector takes) takes height (λ n pc stack fits e behind.
+        found_along p n stack takes _ (omega (arith, e)) (λ self. safe_calls.sends (class_at self) selector takes height n pc stack fits e behind))
+
+    super_keeps : (from selector takes height : ℕ) → Keeps (SendSuper from selector takes ∷ []) (suc takes + height) (suc height)
+    super_keeps from selector takes height = message_keeps (SendSuper from selector takes) takes height (λ n pc stack fits e behind. safe_calls.sends (Some from) selector takes height n pc stack fits e behind)
 
     local_keeps : (depth i height : ℕ) (b : Bool) → nat_lt i slots ≡ b → height ≡ depth + (slots + below) → Keeps (if b then Get (depth + (slots - suc i)) ∷ [] else Num (pos 0) ∷ []) height (suc height)
     local_keeps depth i height true e h = let lt = ltb-true i slots e in get_keeps (depth + (slots - suc i)) height (omega (arith, lt, h))
@@ -191,6 +207,16 @@ module _ (p : Program) (calls : List ℕ) (limit : ℕ) (within : limit ≤ p.ro
       value_keeps (Invoked f arguments) depth height h =
           let n = value_count arguments in
           then_keeps (all_value_orders R slots depth arguments) (call_orders R f n) height (n + height) (suc height) (all_keep arguments depth height (n + height) h refl) (invoked_keeps f n (n + height) height refl)
+      value_keeps (Sent a selector arguments) depth height h =
+          let n = value_count arguments in
+          let xs = all_value_orders R slots (suc depth) arguments in
+          then_keeps (value_orders R slots depth a) (xs ++ Send selector n ∷ []) height (suc height) (suc height) (value_keeps a depth height h)
+          (then_keeps xs (Send selector n ∷ []) (suc height) (suc n + height) (suc height) (all_keep arguments (suc depth) (suc height) (suc n + height) (omega (arith, h)) (omega arith)) (send_keeps selector n height))
+      value_keeps (SentSuper from selector arguments) depth height h =
+          let n = value_count arguments in
+          let xs = all_value_orders R slots (suc depth) arguments in
+          then_keeps (get_orders slots depth 0) (xs ++ SendSuper from selector n ∷ []) height (suc height) (suc height) (local_keeps depth 0 height (nat_lt 0 slots) refl h)
+          (then_keeps xs (SendSuper from selector n ∷ []) (suc height) (suc n + height) (suc height) (all_keep arguments (suc depth) (suc height) (suc n + height) (omega (arith, h)) (omega arith)) (super_keeps from selector n height))
 
       all_keep : (arguments : Values) (depth height after : ℕ) → height ≡ depth + (slots + below) → after ≡ value_count arguments + height → Keeps (all_value_orders R slots depth arguments) height after
       all_keep no_values depth height after h e = no_keeps height after (omega (arith, e))

@@ -30,8 +30,8 @@ module _ (p : Program) (calls : List ℕ) (bound : ℕ) where
   then_segment good better xs ys stack w middle exit o go first next pc has = then_at good better xs ys (running calls pc stack w) pc middle exit o go has (first pc) (λ a w1 g h. next a w1 g (pc + length xs) h)
 
   -- one order
-  pub one_segment : {A : Type 0} (good : A → World → Type 0) (x : Order) (stack : List ℤ) (w : World) (exit : ℕ → A → World → Reached State) (o : Outcome A) → ((pc : ℕ) → Runs (step p) good bound (follow (does p.entries x (at calls pc stack)) w.input w.trace) (exit (pc + 1)) o) → Segment good (x ∷ []) stack w exit o
-  one_segment good x stack w exit o h pc has = leads_runs (step p) good bound (running calls pc stack w) (follow (does p.entries x (at calls pc stack)) w.input w.trace) (exit (pc + 1)) o (leads_step (step p) (at calls pc stack) w.input w.trace (does p.entries x (at calls pc stack)) (has.0 calls stack)) (h pc)
+  pub one_segment : {A : Type 0} (good : A → World → Type 0) (x : Order) (stack : List ℤ) (w : World) (exit : ℕ → A → World → Reached State) (o : Outcome A) → ((pc : ℕ) → Runs (step p) good bound (follow (does p x (at calls pc stack)) w.input w.trace) (exit (pc + 1)) o) → Segment good (x ∷ []) stack w exit o
+  one_segment good x stack w exit o h pc has = leads_runs (step p) good bound (running calls pc stack w) (follow (does p x (at calls pc stack)) w.input w.trace) (exit (pc + 1)) o (leads_step (step p) (at calls pc stack) w.input w.trace (does p x (at calls pc stack)) (has.0 calls stack)) (h pc)
 
   -- a step that shows nothing
   pub quiet : (pc : ℕ) (stack : List ℤ) (w : World) → Leads (step p) (follow (Goes (at calls pc stack) []) w.input w.trace) (running calls pc stack w)
@@ -46,8 +46,8 @@ module _ (p : Program) (calls : List ℕ) (bound : ℕ) where
       let e : pc + length xs + length ys ≡ pc + length (xs ++ ys) = omega (arith, length-append xs ys) in
       leads_trans (step p) (running calls pc s0 w0) (running calls (pc + length xs) s1 w1) (running calls (pc + length (xs ++ ys)) s2 w2) (first pc (has_front p pc xs ys has)) (subst (λ q. Leads (step p) (running calls (pc + length xs) s1 w1) (running calls q s2 w2)) e (next (pc + length xs) (has_back p pc xs ys has)))
 
-  pub one_passes : (x : Order) (s : List ℤ) (w : World) (s' : List ℤ) (w' : World) → ((pc : ℕ) → Leads (step p) (follow (does p.entries x (at calls pc s)) w.input w.trace) (running calls (pc + 1) s' w')) → Passes (x ∷ []) s w s' w'
-  one_passes x s w s' w' h pc has = leads_trans (step p) (running calls pc s w) (follow (does p.entries x (at calls pc s)) w.input w.trace) (running calls (pc + 1) s' w') (leads_step (step p) (at calls pc s) w.input w.trace (does p.entries x (at calls pc s)) (has.0 calls s)) (h pc)
+  pub one_passes : (x : Order) (s : List ℤ) (w : World) (s' : List ℤ) (w' : World) → ((pc : ℕ) → Leads (step p) (follow (does p x (at calls pc s)) w.input w.trace) (running calls (pc + 1) s' w')) → Passes (x ∷ []) s w s' w'
+  one_passes x s w s' w' h pc has = leads_trans (step p) (running calls pc s w) (follow (does p x (at calls pc s)) w.input w.trace) (running calls (pc + 1) s' w') (leads_step (step p) (at calls pc s) w.input w.trace (does p x (at calls pc s)) (has.0 calls s)) (h pc)
 
   pub no_passes : (s : List ℤ) (w : World) (s' : List ℤ) (w' : World) → s ≡ s' → w ≡ w' → Passes [] s w s' w'
   no_passes s w s' w' es ew pc has = let e : pc ≡ pc + 0 = omega arith in leads_same (step p) _ _ (ap (λ q. running calls q s w) e ∙ ap (λ x. running calls (pc + 0) x w) es ∙ ap (λ (x : World). running calls (pc + 0) s' x) ew)

@@ -1,10 +1,12 @@
 -- Which actions a checked program becomes. A function's variables lie on the stack, the first one deepest, and its operands above them. An expression leaves one number more on the stack, and a statement leaves the stack as it was.
-use Rattle.std.specs.Prelude.{ℕ, zero, suc, pred, ◌+◌, ◌-◌, ◌*◌, max, nat_lt, if◌then◌else◌, pos, List, [], ◌∷◌, ◌++◌, length, Some, None}
+use Rattle.std.specs.Prelude.{ℕ, zero, suc, pred, ◌+◌, ◌-◌, ◌*◌, max, nat_lt, if◌then◌else◌, pos, List, [], ◌∷◌, ◌++◌, length, slice_index_or, Some, None}
 use Rattle.arc_ast.specs.declared.tree.Kind.TheVariants as k
-use Rattle.arc_spec.specs.Resolved.{Piece, Bytes, Decimal, Character, Value, Number, ReadByte, Print, Negated, Combined, Converted, Local, Assigned, Invoked, Values, no_values, and_value, Command, Sequence, Evaluate, Choose, Repeat, Commands, no_commands, and_command, Function, Program}
+use Rattle.arc_spec.specs.Resolved.{Piece, Bytes, Decimal, Character, Value, Number, ReadByte, Print, Negated, Combined, Converted, Local, Assigned, Invoked, Sent, SentSuper, Values, no_values, and_value, Command, Sequence, Evaluate, Choose, Repeat, Commands, no_commands, and_command, Function, Program}
 use Rattle.arc_spec.specs.Resolved as resolved
+use Rattle.arc_spec.specs.declared.class.Method.{Method}
+use Rattle.arc_spec.specs.Classes.{Class}
 use Rattle.arc_spec.specs.Meaning.{function_at, most_levels}
-use Rattle.arc_lower.specs.Order.{Order, Num, Bin, Un, Narrow, Pop, Get, Set, PrintText, PrintNum, PrintByte, GetChar, Jump, JumpZero, Call, Return}
+use Rattle.arc_lower.specs.Order.{Order, Num, Bin, Un, Narrow, Pop, Get, Set, PrintText, PrintNum, PrintByte, GetChar, Jump, JumpZero, Call, Send, SendSuper, Return}
 
 abbrev pub value_count : Values → ℕ
 value_count no_values = 0
@@ -79,7 +81,7 @@ slots_of P f = (function_at P f).slots
 abbrev pub call_orders : Program → (f values : ℕ) → List Order
 call_orders P f values = fit_orders values (slots_of P f) ++ Call (number_of P f) ∷ []
 
--- above so many operands, in a function with so many variables
+-- Above so many operands, in a function with so many variables. What gets a message lies below its arguments; a message to `super` goes to `self`, the first variable.
 abbrev mutual
   pub value_orders : Program → (slots depth : ℕ) → Value → List Order
   value_orders P slots depth (Number n) = Num n ∷ []
@@ -91,6 +93,10 @@ abbrev mutual
   value_orders P slots depth (Local i) = get_orders slots depth i
   value_orders P slots depth (Assigned i a) = value_orders P slots depth a ++ set_orders slots depth i
   value_orders P slots depth (Invoked f arguments) = all_value_orders P slots depth arguments ++ call_orders P f (value_count arguments)
+  value_orders P slots depth (Sent a selector arguments) =
+      value_orders P slots depth a ++ (all_value_orders P slots (suc depth) arguments ++ Send selector (value_count arguments) ∷ [])
+  value_orders P slots depth (SentSuper from selector arguments) =
+      get_orders slots depth 0 ++ (all_value_orders P slots (suc depth) arguments ++ SendSuper from selector (value_count arguments) ∷ [])
 
   pub all_value_orders : Program → (slots depth : ℕ) → Values → List Order
   all_value_orders P slots depth no_values = []
@@ -156,12 +162,44 @@ longest_from P place (f ∷ others) so_far =
 abbrev pub start_orders : Program → List Order
 start_orders P = zero_orders (slots_of P P.main) ++ (Call (number_of P P.main) ∷ [] ++ Return ∷ [])
 
-abbrev pub lowered : Program → List Order
-lowered P = start_orders P ++ functions_orders P (length (start_orders P)) (all_functions P)
-
 abbrev pub entries_of : Program → List ℕ
 entries_of P = entries_from P (length (start_orders P)) (all_functions P)
 
--- An action puts at most one number on the stack, so a function adds no more numbers than it has actions, with its variables among them.
+-- A method's stub, to which a message goes: it makes `self` and so many arguments the variables of the function that the method runs, and goes on where that begins.
+abbrev pub stub_orders : Program → (entries : List ℕ) → (takes f : ℕ) → List Order
+stub_orders P entries takes f = fit_orders (suc takes) (slots_of P f) ++ Jump (slice_index_or entries (number_of P f) 0) ∷ []
+
+-- the stubs of methods, one behind the other
+abbrev pub methods_orders : Program → (entries : List ℕ) → List Method → List Order
+methods_orders P entries [] = []
+methods_orders P entries (m ∷ others) = stub_orders P entries m.takes m.runs ++ methods_orders P entries others
+
+abbrev pub classes_orders : Program → (entries : List ℕ) → List Class → List Order
+classes_orders P entries [] = []
+classes_orders P entries (c ∷ others) = methods_orders P entries c.methods ++ classes_orders P entries others
+
+-- the methods, each of which runs its stub; the first stub begins at this place
+abbrev pub linked_methods : Program → (entries : List ℕ) → (place : ℕ) → List Method → List Method
+linked_methods P entries place [] = []
+linked_methods P entries place (m ∷ others) =
+    record { selector = m.selector; takes = m.takes; runs = place } ∷ linked_methods P entries (place + length (stub_orders P entries m.takes m.runs)) others
+
+abbrev pub linked_classes : Program → (entries : List ℕ) → (place : ℕ) → List Class → List Class
+linked_classes P entries place [] = []
+linked_classes P entries place (c ∷ others) =
+    record { superclass = c.superclass; methods = linked_methods P entries place c.methods }
+    ∷ linked_classes P entries (place + length (methods_orders P entries c.methods)) others
+
+-- the start and all functions
+abbrev pub running_orders : Program → List Order
+running_orders P = start_orders P ++ functions_orders P (length (start_orders P)) (all_functions P)
+
+abbrev pub lowered : Program → List Order
+lowered P = running_orders P ++ classes_orders P (entries_of P) P.classes
+
+abbrev pub classes_linked : Program → List Class
+classes_linked P = linked_classes P (entries_of P) (length (running_orders P)) P.classes
+
+-- An action puts at most one number on the stack, so a function adds no more numbers than it has actions, with its variables among them, which a stub may put there.
 abbrev pub room_of : Program → ℕ
 room_of P = most_levels * longest_from P (length (start_orders P)) (all_functions P) (length (start_orders P))

@@ -21,6 +21,8 @@ pub data Order : Type 0 where
   Jump : ℕ → Order
   JumpZero : ℕ → Order
   Call : ℕ → Order
+  Send : (selector takes : ℕ) → Order
+  SendSuper : (from selector takes : ℕ) → Order
   Return : Order
 
 abbrev pub order : Action → Order
@@ -38,6 +40,8 @@ order a.GetChar = GetChar
 order (a.Jump to) = Jump to
 order (a.JumpZero to) = JumpZero to
 order (a.Call f) = Call f
+order (a.Send selector takes) = Send selector takes
+order (a.SendSuper from selector takes) = SendSuper from selector takes
 order a.Return = Return
 
 abbrev pub orders : List Action → List Order

@@ -30,7 +30,11 @@ pub(crate) fn number_of(program: &Checked, function: usize) -> usize
 }
 
 /// Appends the actions that make the `count` numbers on top the variables of a function.
-fn append_fit(actions: &mut Vec<Action>, count: usize, slots: usize) -> Result<(), NoMemory>
+pub(crate) fn append_fit(
+    actions: &mut Vec<Action>,
+    count: usize,
+    slots: usize,
+) -> Result<(), NoMemory>
     ensures { OnOk result (orders actions.new.items ≡ orders actions.old.items ++ fit_orders count slots) }
 {
     append_pops(actions, count.saturating_sub(slots))?;

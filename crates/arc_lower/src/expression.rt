@@ -63,6 +63,21 @@ pub(crate) fn append_value(
             append_values(alloc, actions, program, slots, depth, arguments)?;
             append_call(actions, program, *function, arguments.len())
         }
+        Value::Sent(receiver, selector, arguments) => {
+            append_value(alloc, actions, program, slots, depth, receiver)?;
+            let above_receiver = one_more(depth)?;
+            append_values(alloc, actions, program, slots, above_receiver, arguments)?;
+            append(actions, Action::Send(*selector, arguments.len()))
+        }
+        Value::SentSuper(from, selector, arguments) => {
+            append_get(actions, slots, depth, 0)?;
+            let above_self = one_more(depth)?;
+            append_values(alloc, actions, program, slots, above_self, arguments)?;
+            append(
+                actions,
+                Action::SendSuper(*from, *selector, arguments.len()),
+            )
+        }
     }
 }
 

@@ -6,6 +6,7 @@ mod expression;
 pub mod lower;
 mod print;
 mod statement;
+mod stub;
 #[cfg(test)]
 mod tests;
 mod variable;

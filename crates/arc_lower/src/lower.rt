@@ -10,6 +10,7 @@ ghost use Rattle.arc_lower.specs.Promise.{Performs};
 use crate::call::{append_leave, number_of, slots_of};
 use crate::expression::append;
 use crate::statement::append_commands;
+use crate::stub::append_classes;
 use crate::variable::append_zeros;
 use arc_check::checked::{Checked, Command};
 use arc_family::owned::Owned;
@@ -26,11 +27,13 @@ pub fn lower(alloc: Global, program: &Owned) -> Result<Ir, NoMemory>
     let mut entries = Vec::new(alloc);
     append_start(&mut actions, program.program)?;
     let longest = append_functions(alloc, &mut actions, &mut entries, program.program)?;
+    let classes = append_classes(alloc, &mut actions, program.program, &entries)?;
     let room = room_for(longest)?;
     Ok(Ir {
         actions,
         entries,
         room,
+        classes,
     })
 }
 

@@ -5,3 +5,4 @@ pub mod Sample
 pub mod Shown
 pub mod Chained
 pub mod Calling
+pub mod Messaging

@@ -2,6 +2,7 @@
 use Rattle.std.proofs.Common.{ℕ, zero, suc, ℤ, List, [], ◌∷◌, Option, Some, None, arith, ◌≡◌, subst, sym}
 use Rattle.arc_ast.specs.declared.tree.Kind.TheVariants as k
 use Rattle.arc_ast.specs.declared.tree.BinaryOperator.TheVariants as o
+use Rattle.arc_spec.specs.Classes.{Class}
 use Rattle.arc_spec.specs.Number.{combined}
 use Rattle.arc_spec.specs.Stepping.{Along, Safe}
 use Rattle.arc_code.specs.declared.code.Op.{Op}
@@ -73,7 +74,10 @@ at0 (suc n) = at1 _ n
 pub sample_sound : IsSound sample
 sample_sound = record { safe = at0 }
 
--- the same of code that has the program's instructions, texts and room
-pub at_code : (p : Program) (ops : List Op) (texts : List ℕ) → IsSound p → ops ≡ p.ops → texts ≡ p.texts → IsSound (record { ops = ops; texts = texts; room = p.room })
-at_code p ops texts h e f =
-    subst (λ (l : List Op). IsSound (record { ops = l; texts = texts; room = p.room })) (sym e) (subst (λ (l : List ℕ). IsSound (record { ops = p.ops; texts = l; room = p.room })) (sym f) h)
+-- the same of code that has the program's instructions, texts, room and classes
+pub at_code : (p : Program) (ops : List Op) (texts : List ℕ) (classes : List Class) → IsSound p → ops ≡ p.ops → texts ≡ p.texts → classes ≡ p.classes
+    → IsSound (record { ops = ops; texts = texts; room = p.room; classes = classes })
+at_code p ops texts classes h e f g =
+    subst (λ (l : List Op). IsSound (record { ops = l; texts = texts; room = p.room; classes = classes })) (sym e)
+    (subst (λ (l : List ℕ). IsSound (record { ops = p.ops; texts = l; room = p.room; classes = classes })) (sym f)
+    (subst (λ (l : List Class). IsSound (record { ops = p.ops; texts = p.texts; room = p.room; classes = l })) (sym g) h))

@@ -10,6 +10,7 @@ pub fn fault_number(fault: Fault) -> u8
 {
     match fault {
         Fault::Arithmetic => 81,
+        Fault::Unrecognized => 82,
         Fault::Depth => 85,
     }
 }
@@ -20,6 +21,7 @@ pub fn fault_name(fault: Fault) -> &'static str
 {
     match fault {
         Fault::Arithmetic => "Arithmetic",
+        Fault::Unrecognized => "Unrecognized",
         Fault::Depth => "Depth",
     }
 }

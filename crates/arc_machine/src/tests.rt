@@ -1,7 +1,8 @@
 //! Small programs, on devices that work and on ones that fail.
 ghost use Rattle.std.specs.Prelude.{◌≡◌, IfOk};
+ghost use Rattle.arc_spec.specs.Classes.{classes_of};
 ghost use Rattle.arc_machine.specs.Views.{fresh};
-ghost use Rattle.arc_machine.specs.Sample.{sample};
+ghost use Rattle.arc_machine.specs.Sample.{sample, family};
 
 use crate::fault::{fault_name, fault_number};
 use crate::machine::Machine;
@@ -9,6 +10,7 @@ use crate::stop::Stop;
 use arc_ast::tree::{BinaryOperator, Kind};
 use arc_code::code::{Code, IoFault, Op};
 use arc_code::counted::Counted;
+use arc_spec::class::{Class, Method};
 use arc_spec::event::{Event, Fault};
 use std::alloc::Global;
 use std::io;
@@ -40,6 +42,7 @@ fn sample(alloc: Global) -> Result<Machine, Fail>
         ops,
         texts,
         room: 4,
+        classes: Vec::new(alloc),
     };
     Ok(Machine::new(alloc, code)?)
 }
@@ -66,6 +69,7 @@ fn countdown(alloc: Global) -> Result<Machine, Fail> {
         ops,
         texts,
         room: 2,
+        classes: Vec::new(alloc),
     };
     Ok(Machine::new(alloc, code)?)
 }
@@ -78,6 +82,97 @@ fn endless(alloc: Global) -> Result<Machine, Fail> {
         ops,
         texts,
         room: 0,
+        classes: Vec::new(alloc),
+    };
+    Ok(Machine::new(alloc, code)?)
+}
+
+/// The root, which answers the selector 0 at `base`, and the selector 1 with an argument at `sum`; and
+/// a class below it, which answers the selector 0 at `own`.
+fn family(alloc: Global, own: usize, base: usize, sum: usize) -> Result<Vec<Class>, Fail>
+    ensures { IfOk result (λ classes. classes_of classes.items ≡ family own base sum) }
+{
+    let of_root = vec![in alloc;
+        Method {
+            selector: 0,
+            takes: 0,
+            runs: base
+        },
+        Method {
+            selector: 1,
+            takes: 1,
+            runs: sum
+        },
+    ]?;
+    let of_lower = vec![in alloc;
+        Method {
+            selector: 0,
+            takes: 0,
+            runs: own
+        },
+    ]?;
+    let root = Class {
+        superclass: None,
+        methods: of_root,
+    };
+    let lower = Class {
+        superclass: Some(0),
+        methods: of_lower,
+    };
+    Ok(vec![in alloc; root, lower]?)
+}
+
+/// Sends the selector 0 to the class whose number it reads, which gives 10 in the root, and 5 more by
+/// super below it; and then the selector 1 with 20 to the lower class, which gives 20 + 1 in the root.
+/// Its end is the sum of both.
+fn asking(alloc: Global) -> Result<Machine, Fail> {
+    let ops = vec![in alloc;
+        Op::GetChar,
+        Op::Send(0, 0),
+        Op::Num(1),
+        Op::Num(20),
+        Op::Send(1, 1),
+        Op::Bin(BinaryOperator::Add, Kind::Int),
+        Op::Return,
+        Op::SendSuper(0, 0, 0),
+        Op::Num(5),
+        Op::Bin(BinaryOperator::Add, Kind::Int),
+        Op::Return,
+        Op::Pop,
+        Op::Num(10),
+        Op::Return,
+        Op::Bin(BinaryOperator::Add, Kind::Int),
+        Op::Return,
+    ]?;
+    let code = Code {
+        ops,
+        texts: Vec::new(alloc),
+        room: 3,
+        classes: family(alloc, 7, 11, 14)?,
+    };
+    Ok(Machine::new(alloc, code)?)
+}
+
+/// Sends the selector 0 with an argument, which no class answers.
+fn unheard(alloc: Global) -> Result<Machine, Fail> {
+    let ops = vec![in alloc; Op::Num(1), Op::Num(20), Op::Send(0, 1)]?;
+    let code = Code {
+        ops,
+        texts: Vec::new(alloc),
+        room: 2,
+        classes: family(alloc, 0, 0, 0)?,
+    };
+    Ok(Machine::new(alloc, code)?)
+}
+
+/// A method that sends the message that it answers, again and again.
+fn echoing(alloc: Global) -> Result<Machine, Fail> {
+    let ops = vec![in alloc; Op::Num(1), Op::Send(0, 0)]?;
+    let code = Code {
+        ops,
+        texts: Vec::new(alloc),
+        room: 1,
+        classes: family(alloc, 1, 0, 0)?,
     };
     Ok(Machine::new(alloc, code)?)
 }
@@ -262,5 +357,54 @@ fn one_call_more_than_the_most_stops_it(rt: HostRuntime) -> Result<(), Fail> {
     assert_eq!(rt; machine.steps_done(), 2_001);
     assert_eq!(rt; fault_number(Fault::Depth), 85);
     assert_eq!(rt; fault_name(Fault::Depth), "Depth");
+    Ok(())
+}
+
+/// What the asking program answers on this input, and after how many steps.
+fn asked(alloc: Global, input: &[u8]) -> Result<(Result<Stop, IoFault>, u64), Fail> {
+    let mut machine = asking(alloc)?;
+    let mut reader = Counted::new(input);
+    let mut writer = Counted::new(Vec::new(alloc));
+    let stop = machine.run(1_000, &mut reader, &mut writer);
+    Ok((stop, machine.steps_done()))
+}
+
+#[test]
+fn messages_find_methods(rt: HostRuntime) -> Result<(), Fail> {
+    assert_eq!(rt; asked(rt.alloc(), b"\x00")?, (Ok(Stop::Ended(31)), 12));
+    assert_eq!(rt; asked(rt.alloc(), b"\x01")?, (Ok(Stop::Ended(36)), 16));
+    Ok(())
+}
+
+#[test]
+fn a_number_that_is_no_class_stops_it(rt: HostRuntime) -> Result<(), Fail> {
+    let unrecognized = (Ok(Stop::Fault(Fault::Unrecognized)), 2);
+    assert_eq!(rt; asked(rt.alloc(), b"\x02")?, unrecognized);
+    assert_eq!(rt; asked(rt.alloc(), b"")?, unrecognized);
+    assert_eq!(rt; fault_number(Fault::Unrecognized), 82);
+    assert_eq!(rt; fault_name(Fault::Unrecognized), "Unrecognized");
+    Ok(())
+}
+
+#[test]
+fn a_message_that_nobody_answers_stops_it(rt: HostRuntime) -> Result<(), Fail> {
+    let mut machine = unheard(rt.alloc())?;
+    let mut reader = Counted::new(b"".as_slice());
+    let mut writer = Counted::new(Vec::new(rt.alloc()));
+    let stop = machine.run(1_000, &mut reader, &mut writer);
+    assert_eq!(rt; stop, Ok(Stop::Fault(Fault::Unrecognized)));
+    assert_eq!(rt; machine.steps_done(), 3);
+    assert_eq!(rt; machine.events().len(), 0);
+    Ok(())
+}
+
+#[test]
+fn one_message_more_than_the_most_stops_it(rt: HostRuntime) -> Result<(), Fail> {
+    let mut machine = echoing(rt.alloc())?;
+    let mut reader = Counted::new(b"".as_slice());
+    let mut writer = Counted::new(Vec::new(rt.alloc()));
+    let stop = machine.run(10_000, &mut reader, &mut writer);
+    assert_eq!(rt; stop, Ok(Stop::Fault(Fault::Depth)));
+    assert_eq!(rt; machine.steps_done(), 2_002);
     Ok(())
 }

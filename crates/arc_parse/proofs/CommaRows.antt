@@ -51,11 +51,11 @@ variable_fails (TooDeep s) all us whole n w h = w ∙ variables_fail all us (too
 
 -- ---- parameters
 
-parameters_push : (all : List Parameter) (a : Parameter) (others : List ParameterTree) → parameters_before (all ++ a ∷ []) others ≡ parameters_before all (parameter_tree a ∷ others)
+pub parameters_push : (all : List Parameter) (a : Parameter) (others : List ParameterTree) → parameters_before (all ++ a ∷ []) others ≡ parameters_before all (parameter_tree a ∷ others)
 parameters_push [] a others = refl
 parameters_push (b ∷ all) a others = ap (λ v. parameter_tree b ∷ v) (parameters_push all a others)
 
-parameters_all : (all : List Parameter) → parameters_before all [] ≡ parameter_trees all
+pub parameters_all : (all : List Parameter) → parameters_before all [] ≡ parameter_trees all
 parameters_all [] = refl
 parameters_all (b ∷ all) = ap (λ v. parameter_tree b ∷ v) (parameters_all all)
 

@@ -4,12 +4,14 @@ use Rattle.std.proofs.lemmas.Bool.{eqb-true, eq-eqb}
 use Rattle.arc_lex.specs.declared.token.Mark.{Mark}
 use Rattle.arc_lex.specs.declared.token.Mark.TheVariants as m
 use Rattle.arc_lex.specs.Tokens.{Tok, Sign}
+use Rattle.arc_lex.specs.Tokens as tokens
 use Rattle.arc_ast.specs.declared.tree.BinaryOperator.{BinaryOperator}
 use Rattle.arc_ast.specs.declared.tree.BinaryOperator.TheVariants.{Add, Subtract, Multiply, Divide, NotEqual}
-use Rattle.arc_ast.specs.Tree.{ExprTree, ExprTrees, Integer, Text, Paren, Call, Negate, Binary, Name, Assign, no_exprs, and_expr}
-use Rattle.arc_parse.specs.Grammar.{Spells, SpellsArguments, mark_of, binds, widest}
+use Rattle.arc_ast.specs.Tree.{ReceiverTree, ExprTree, ExprTrees, Named, Itself, Super, Integer, Text, Paren, Call, Negate, Binary, Name, Assign, Send, no_exprs, and_expr}
+use Rattle.arc_parse.specs.Language.{Language, ◌⨾◌, The}
+use Rattle.arc_parse.specs.Grammar.{Spells, SpellsArguments, SpellsReceiver, SpellsSent, SpellsParts, and_part, mark_of, binds, widest}
 use Rattle.arc_parse.specs.Reader.{Read, misfit, bind, ret, begins, is_mark, sees_mark}
-use Rattle.arc_parse.specs.ExprRules.{expr, unary, more, arguments, operator_of, is_operator, mark_operator, parenthesized_by, given_by, call_by, named_by, primary_by, negate_by, unary_by, binary_by, more_by, is_unary, assign_by, expr_by, arguments_by, read}
+use Rattle.arc_parse.specs.ExprRules.{expr, unary, more, arguments, parts, operator_of, is_operator, mark_operator, parenthesized_by, given_by, call_by, named_by, receiver, part_by, parts_by, sent_by, message_by, primary_by, negate_by, unary_by, binary_by, more_by, is_unary, assign_by, expr_by, arguments_by, read}
 use Rattle.arc_parse.specs.TooDeep.{ends_with_name, ends_with_place}
 use Rattle.arc_parse.proofs.Sorts.{sign_is}
 use Rattle.arc_parse.proofs.ExprLocal.{read_is}
@@ -39,6 +41,10 @@ other_number a b d = go (nat_eq a b) refl
 pub ends_mark : (e : ExprTree) (l : ℕ) (mark : Mark) (t : Tok) (us : List Tok) → t.sort ≡ Sign mark → mark_operator mark ≡ None → is_mark m.OpenParen (Sign mark) ≡ false → is_mark m.Assign (Sign mark) ≡ false
     → Ends e l (t ∷ us)
 ends_mark e l mark t us s none paren assign' = record { operators = λ j p q. rw (s, none) refl; call = λ p. ap (is_mark m.OpenParen) s ∙ paren; assign = λ p q. ap (is_mark m.Assign) s ∙ assign' }
+
+-- so does a name
+ends_name : (e : ExprTree) (l : ℕ) (bytes : List ℕ) (t : Tok) (us : List Tok) → t.sort ≡ tokens.Name bytes → Ends e l (t ∷ us)
+ends_name e l bytes t us s = record { operators = λ j p q. rw s refl; call = λ p. ap (is_mark m.OpenParen) s; assign = λ p q. ap (is_mark m.Assign) s }
 
 pub ends_nil : (e : ExprTree) (l : ℕ) → Ends e l []
 ends_nil e l = record { operators = λ j p q. refl; call = λ p. refl; assign = λ p q. refl }
@@ -126,6 +132,7 @@ unary_place (Paren at a) e = refl
 unary_place (Call at called args) e = refl
 unary_place (Negate at a) e = refl
 unary_place (Name at called) e = refl
+unary_place (Send at part to selector args) e = refl
 
 full_from_bin : (t : ExprTree) (us rest : List Tok) → Ends t widest rest → binary_by read 3 us ≡ read (more 3 t) rest → read expr us ≡ Ok (t, rest)
 unfolding expr_by assign_by
@@ -226,6 +233,77 @@ arguments_read a (and_expr b others) k rest_reads ts rest u (xs, us, c, x, (ys, 
     let others' = rest_reads zs rest u z e in
     (rw is (read_is arguments (xs ++ (t ∷ tail)) ∙ rw (← read_is expr (xs ++ (t ∷ tail)), one, sy, others'.0) refl), rw is (not_close a (xs ++ (t ∷ tail)) (t ∷ tail) one))
 
+-- ---- messages
+
+receiver_reads : (to : ReceiverTree) (ts rest : List Tok) → SpellsReceiver to ts → receiver (ts ++ rest) ≡ Ok (to, rest)
+unfolding receiver
+receiver_reads (Named at called) ts rest (t, c, s, p) = rw (c, s, p) refl
+receiver_reads (Itself at) ts rest (t, c, s, p) = rw (c, s, p) refl
+receiver_reads (Super at) ts rest (t, c, s, p) = rw (c, s, p) refl
+
+abbrev ReadsParts : ExprTrees → Type 0
+ReadsParts all = (selector : List ℕ) (ts rest : List Tok) (u : Tok) → SpellsParts selector all ts → u.sort ≡ Sign m.CloseSquare → read parts (ts ++ (u ∷ rest)) ≡ Ok ((selector, all), u ∷ rest)
+
+-- behind an argument is a part's name or the end
+part_ends : (b : ExprTree) (selector : List ℕ) (all : ExprTrees) (ts rest : List Tok) (u : Tok) → SpellsParts selector all ts → u.sort ≡ Sign m.CloseSquare → Ends b widest (ts ++ (u ∷ rest))
+part_ends b selector no_exprs ts rest u (e, c) z = subst (λ v. Ends b widest (v ++ (u ∷ rest))) (sym c) (ends_mark b widest m.CloseSquare u rest z refl refl refl)
+part_ends b selector (and_expr a others) ts rest u (at, called, ps, e, (ns, us, c, (t, cn, sn, pn), h)) z =
+    subst (λ v. Ends b widest (v ++ (u ∷ rest))) (sym (c ∙ ap (λ v. v ++ us) cn)) (ends_name b widest called t (us ++ (u ∷ rest)) sn)
+
+part_reads : (called : List ℕ) (b : ExprTree) (others : ExprTrees) → Completes b → ReadsParts others → (ps : List ℕ) (ts rest : List Tok) (u : Tok) → (The m.Colon ⨾ Spells widest b ⨾ SpellsParts ps others) ts
+    → u.sort ≡ Sign m.CloseSquare → part_by read called (ts ++ (u ∷ rest)) ≡ Ok ((and_part called ps, and_expr b others), u ∷ rest)
+unfolding part_by
+part_reads called b others k j ps ts rest u (cs, us, c, (n, (t, ct, st, pt)), (xs, ys, d, x, y)) z =
+    let tail = ys ++ (u ∷ rest) in
+    let line : ts ++ (u ∷ rest) ≡ t ∷ (xs ++ tail) = rw (c, ct, d) (ap (λ v. t ∷ v) (append_assoc xs ys (u ∷ rest))) in
+    let one : read expr (xs ++ tail) ≡ Ok (b, tail) = k.full xs tail x (part_ends b ps others ys rest u y z) in
+    rw (line, st, one, j ps ys rest u y z) refl
+
+no_parts_read : ReadsParts no_exprs
+unfolding parts_by
+no_parts_read selector ts rest u (e, c) z = rw (c, read_is parts (u ∷ rest), z, e) refl
+
+parts_read : (b : ExprTree) (others : ExprTrees) → Completes b → ReadsParts others → ReadsParts (and_expr b others)
+unfolding parts_by
+parts_read b others k j selector ts rest u (at, called, ps, e, (ns, us, c, (t, cn, sn, pn), h)) z =
+    let tail = us ++ (u ∷ rest) in
+    let line : ts ++ (u ∷ rest) ≡ t ∷ tail = rw (c, cn) refl in
+    rw line (read_is parts (t ∷ tail) ∙ rw (sn, part_reads called b others k j ps us rest u h z, e) refl)
+
+colon_seen : (L : Language) (ts rest : List Tok) → (The m.Colon ⨾ L) ts → sees_mark m.Colon (ts ++ rest) ≡ true
+colon_seen L ts rest (cs, us, c, (n, (t, ct, st, pt)), x) = rw (c, ct, st) refl
+
+-- the name that a selector begins with, and what is read behind it
+abbrev ReadsSent : ExprTrees → Type 0
+ReadsSent all = (at : ℕ) (selector : List ℕ) (ts rest : List Tok) (u : Tok) → SpellsSent at selector all ts → u.sort ≡ Sign m.CloseSquare
+    → (t : Tok) × (us : List Tok) × (called : List ℕ) × (ts ++ (u ∷ rest) ≡ t ∷ us) × (t.sort ≡ tokens.Name called) × (at ≡ t.from) × (sent_by read called us ≡ Ok ((selector, all), u ∷ rest))
+
+name_sent : ReadsSent no_exprs
+unfolding sent_by
+name_sent at selector ts rest u (t, c, s, p) z = (t, u ∷ rest, selector, ap (λ v. v ++ (u ∷ rest)) c, s, p, rw z refl)
+
+parts_sent : (b : ExprTree) (others : ExprTrees) → Completes b → ReadsParts others → ReadsSent (and_expr b others)
+unfolding sent_by
+parts_sent b others k j at selector ts rest u (called, ps, e, (ns, us, c, (t, cn, sn, pn), h)) z =
+    let tail = us ++ (u ∷ rest) in
+    let seen = colon_seen (Spells widest b ⨾ SpellsParts ps others) us (u ∷ rest) h in
+    (t, tail, called, rw (c, cn) refl, sn, pn, rw (seen, part_reads called b others k j ps us rest u h z, e) refl)
+
+message_goes : (at part : ℕ) (to : ReceiverTree) (selector called : List ℕ) (args : ExprTrees) (t n u : Tok) (rs us rest : List Tok) → t.sort ≡ Sign m.OpenSquare → at ≡ t.from → SpellsReceiver to rs → n.sort ≡ tokens.Name called
+    → part ≡ n.from → sent_by read called us ≡ Ok ((selector, args), u ∷ rest) → u.sort ≡ Sign m.CloseSquare → unary_by read (t ∷ (rs ++ (n ∷ us))) ≡ Ok (Send at part to selector args, rest)
+unfolding unary_by primary_by message_by
+message_goes at part to selector called args t n u rs us rest so po r sn pn q se = rw (so, receiver_reads to rs (n ∷ us) r, sn, q, se, po, pn) refl
+
+message_reads : (at part : ℕ) (to : ReceiverTree) (selector : List ℕ) (args : ExprTrees) → ReadsSent args → Completes (Send at part to selector args)
+message_reads at part to selector args k = from_unary (Send at part to selector args) (λ l ts h. h) reads
+  where
+    reads : (ts rest : List Tok) → Spells 1 (Send at part to selector args) ts → Ends (Send at part to selector args) 0 rest → unary_by read (ts ++ rest) ≡ Ok (Send at part to selector args, rest)
+    reads ts rest (os, us, c, (t, co, so, po), (rs, vs, d, r, (ss, es, f, s, (end, (u, ce, se, pe))))) e =
+        let q = k part selector ss rest u s se in
+        let line : ts ++ rest ≡ t ∷ (rs ++ (q.0 ∷ q.1)) =
+        rw (c, co, d, f, ce) (ap (λ v. t ∷ v) (append_assoc rs (ss ++ (u ∷ [])) rest ∙ ap (λ v. rs ++ v) (append_assoc ss (u ∷ []) rest ∙ q.3))) in
+        rw line (message_goes at part to selector q.2 args t q.0 u rs q.1 rest so po r q.4 q.5 q.6 se)
+
 -- ---- binary operators
 
 -- an operand behind an operator
@@ -271,6 +349,7 @@ unary_here (Call at called args) xs h = refl
 unary_here (Negate at a) xs h = refl
 unary_here (Binary at o a b) xs h = absurd (omega (arith, h.0, binds_some o))
 unary_here (Name at called) xs h = refl
+unary_here (Send at part to selector args) xs h = refl
 unary_here (Assign at sign a b) xs h = absurd (omega (arith, h.0))
 
 assign_reads : (at sign : ℕ) (a b : ExprTree) → Completes a → Completes b → Completes (Assign at sign a b)
@@ -298,7 +377,16 @@ mutual
   complete (Binary at o a b) = binary_reads at o a b (complete a) (complete b)
   complete (Name at called) = name_reads at called
   complete (Assign at sign a b) = assign_reads at sign a b (complete a) (complete b)
+  complete (Send at part to selector args) = message_reads at part to selector args (complete_sent args)
 
   complete_arguments : (all : ExprTrees) → ReadsArguments all
   complete_arguments no_exprs = λ ts rest u h e. absurd h
   complete_arguments (and_expr a others) = arguments_read a others (complete a) (complete_arguments others)
+
+  complete_parts : (all : ExprTrees) → ReadsParts all
+  complete_parts no_exprs = no_parts_read
+  complete_parts (and_expr a others) = parts_read a others (complete a) (complete_parts others)
+
+  complete_sent : (all : ExprTrees) → ReadsSent all
+  complete_sent no_exprs = name_sent
+  complete_sent (and_expr a others) = parts_sent a others (complete a) (complete_parts others)

@@ -3,7 +3,7 @@ use Rattle.std.proofs.Common.{◌≡◌, ℕ, zero, suc, ◌≤◌, ◌-◌, Lis
 use Rattle.arc_lex.specs.Tokens.{Tok}
 use Rattle.arc_ast.specs.Tree.{ExprTree}
 use Rattle.arc_parse.specs.Reader.{◌>>=◌}
-use Rattle.arc_parse.specs.ExprRules.{read, expr, unary, more, arguments, expr_by, unary_by, more_by, arguments_by, binary_by}
+use Rattle.arc_parse.specs.ExprRules.{read, expr, unary, more, arguments, parts, expr_by, unary_by, more_by, arguments_by, parts_by, binary_by}
 use Rattle.arc_parse.proofs.ExprLocal.{read_is}
 
 pub read_expr : (ts : List Tok) → read expr ts ≡ expr_by read ts
@@ -17,6 +17,9 @@ read_more l left ts = read_is (more l left) ts
 
 pub read_arguments : (ts : List Tok) → read arguments ts ≡ arguments_by read ts
 read_arguments ts = read_is arguments ts
+
+pub read_parts : (ts : List Tok) → read parts ts ≡ parts_by read ts
+read_parts ts = read_is parts ts
 
 pub binary_zero : (ts : List Tok) → binary_by read 0 ts ≡ unary_by read ts
 unfolding binary_by

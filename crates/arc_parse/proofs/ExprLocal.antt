@@ -3,17 +3,22 @@ use Rattle.std.proofs.Common.{◌≡◌, ℕ, zero, suc, ◌-◌, List, Bool, tr
 use Rattle.arc_lex.specs.Tokens.{Tok}
 use Rattle.arc_ast.specs.Tree.{ExprTree}
 use Rattle.arc_parse.specs.Reader.{ret}
-use Rattle.arc_parse.specs.ExprRules.{Rule, Node, Rules, expr, unary, more, arguments, parenthesized_by, given_by, call_by, named_by, primary_by, negate_by, unary_by, binary_by, more_by, is_unary, assign_by, expr_by, arguments_by, body, read}
+use Rattle.arc_parse.specs.ExprRules.{Rule, Node, Rules, expr, unary, more, arguments, parts, parenthesized_by, given_by, call_by, named_by, receiver, part_by, parts_by, sent_by, message_by, primary_by, negate_by, unary_by, binary_by, more_by, is_unary, assign_by, expr_by, arguments_by, body, read}
 use Rattle.arc_parse.proofs.Local.{Local, then, after, fewer, weaker, local_ret, local_token, local_if}
 use Rattle.arc_parse.proofs.Knot as knot
 
 -- the fewest tokens of each
 abbrev pub need : Rule → ℕ
 need (more l left) = 0
+need parts = 0
 need _ = 1
 
 abbrev pub Alike : ℕ → Rules → Rules → Type 0
 Alike k g h = (rule : Rule) → Local (need rule) k (g rule) (h rule)
+
+receiver_local : {k : ℕ} → Local 1 k receiver receiver
+unfolding receiver
+receiver_local = local_if _ (then (local_token _) (λ at. local_ret _)) (local_if _ (then (local_token _) (λ at. local_ret _)) (then (local_token _) (λ called. local_ret _)))
 
 module _ {k : ℕ} (g h : Rules) (rec : Alike k g h) where
   parenthesized_local : Local 1 (suc k) (parenthesized_by g) (parenthesized_by h)
@@ -32,9 +37,25 @@ module _ {k : ℕ} (g h : Rules) (rec : Alike k g h) where
   unfolding named_by
   named_local = after (local_token _) (λ called. local_if _ (call_local called) (local_ret _))
 
+  part_local : (called : List ℕ) → Local 1 (suc k) (part_by g called) (part_by h called)
+  unfolding part_by
+  part_local called = after (local_token _) (λ colon. then (weaker (rec expr)) (λ one. then (rec parts) (λ others. local_ret _)))
+
+  parts_local : Local 0 (suc k) (parts_by g) (parts_by h)
+  unfolding parts_by
+  parts_local = local_if _ (weaker (then (local_token _) (λ called. weaker (part_local called.1)))) (local_ret _)
+
+  sent_local : (called : List ℕ) → Local 0 (suc k) (sent_by g called) (sent_by h called)
+  unfolding sent_by
+  sent_local called = local_if _ (weaker (part_local called)) (local_ret _)
+
+  message_local : Local 1 (suc k) (message_by g) (message_by h)
+  unfolding message_by
+  message_local = then (local_token _) (λ at. then (weaker receiver_local) (λ to. then (weaker (local_token _)) (λ called. then (sent_local called.1) (λ all. then (weaker (local_token _)) (λ end. local_ret _)))))
+
   primary_local : Local 1 (suc k) (primary_by g) (primary_by h)
   unfolding primary_by
-  primary_local = local_if _ named_local (local_if _ parenthesized_local (local_token _))
+  primary_local = local_if _ named_local (local_if _ parenthesized_local (local_if _ message_local (local_token _)))
 
   negate_local : Local 1 (suc k) (negate_by g) (negate_by h)
   unfolding negate_by
@@ -78,6 +99,7 @@ module _ {k : ℕ} (g h : Rules) (rec : Alike k g h) where
   body_local unary = unary_local
   body_local (more l left) = more_local l left
   body_local arguments = arguments_local
+  body_local parts = parts_local
 
 law : knot.IsLocal Rule Node body need
 law = record { step = λ k g h rec. body_local g h rec }

@@ -3,17 +3,18 @@ use Rattle.std.proofs.Common.{◌≡◌, ℕ, zero, suc, ◌≤◌, ◌+◌, ◌
 use Rattle.std.proofs.lemmas.Bool.{eqb-true}
 use Rattle.arc_lex.specs.declared.token.Mark.{Mark}
 use Rattle.arc_lex.specs.declared.token.Mark.TheVariants as m
+use Rattle.arc_lex.specs.declared.token.Word.TheVariants as w
 use Rattle.arc_lex.specs.Tokens.{Tok, Sort, Sign, Key}
 use Rattle.arc_lex.specs.Tokens as tokens
 use Rattle.arc_ast.specs.declared.tree.BinaryOperator.{BinaryOperator}
 use Rattle.arc_ast.specs.declared.tree.BinaryOperator.TheVariants.{Add, Subtract, Multiply, Divide, NotEqual}
-use Rattle.arc_ast.specs.Tree.{ExprTree, ExprTrees, Integer, Text, Paren, Call, Negate, Binary, Name, Assign, no_exprs, and_expr, place}
+use Rattle.arc_ast.specs.Tree.{ExprTree, ExprTrees, Named, Itself, Super, Integer, Text, Paren, Call, Negate, Binary, Name, Assign, Send, no_exprs, and_expr, begins}
 use Rattle.arc_parse.specs.Language.{Language, ◌⨾◌, One, The}
-use Rattle.arc_parse.specs.Grammar.{Spells, SpellsArguments, SpellsMore, mark_of, binds, widest}
+use Rattle.arc_parse.specs.Grammar.{Spells, SpellsArguments, SpellsMore, SpellsReceiver, SpellsSent, SpellsParts, and_part, mark_of, binds, widest}
 use Rattle.arc_parse.specs.Reader.{Fault, ret}
 use Rattle.arc_parse.specs.Knot.{deep, tied}
-use Rattle.arc_parse.specs.ExprRules.{Rule, Node, Rules, expr, unary, more, arguments, literal, literal_of, operator, operator_of, is_operator, is_there, at_level, mark_operator, parenthesized_by, given_by, call_by, named_by, primary_by, negate_by, unary_by, binary_by, more_by, is_unary, assign_by, expr_by, arguments_by, body, read}
-use Rattle.arc_parse.proofs.Leaves.{a_token, some_is, viable_expect, viable_name}
+use Rattle.arc_parse.specs.ExprRules.{Rule, Node, Rules, Sent, expr, unary, more, arguments, parts, literal, literal_of, operator, operator_of, is_operator, is_there, at_level, mark_operator, parenthesized_by, given_by, call_by, named_by, receiver, part_by, parts_by, sent_by, message_by, primary_by, negate_by, unary_by, binary_by, more_by, is_unary, assign_by, expr_by, arguments_by, body, read}
+use Rattle.arc_parse.proofs.Leaves.{a_token, some_is, viable_expect, viable_keyword, viable_name}
 use Rattle.arc_parse.proofs.Sound.{Sound, Behind, sound_token, sound_as}
 use Rattle.arc_parse.proofs.Viable.{Viable, Front, viable_then, viable_ret, viable_if, viable_as, viable_token, viable_guarded, viable_unexpected}
 
@@ -92,6 +93,7 @@ looser (Negate at a) l j xs p h = (omega (arith, h.0), h.1)
 looser (Binary at o a b) l j xs p h = (omega (arith, h.0), h.1, h.2)
 looser (Name at called) l j xs p h = h
 looser (Assign at sign a b) l j xs p h = (omega (arith, h.0), h.1, h.2)
+looser (Send at part to selector args) l j xs p h = h
 
 -- a unary tree is of the unary level
 unary_level : (t : ExprTree) (l : ℕ) (xs : List Tok) → is_unary t ≡ true → Spells l t xs → Spells 1 t xs
@@ -103,6 +105,7 @@ unary_level (Negate at a) l xs e h = (omega arith, h.1)
 unary_level (Binary at o a b) l xs e h = cc
 unary_level (Name at called) l xs e h = h
 unary_level (Assign at sign a b) l xs e h = cc
+unary_level (Send at part to selector args) l xs e h = h
 
 -- ---- the rules
 
@@ -117,6 +120,7 @@ Given expr t = Spells widest t
 Given unary t = Spells 1 t
 Given (more l left) t = λ ys. 1 ≤ l → (xs : List Tok) → Spells (1 + l) left xs → Spells (1 + l) t (xs ++ ys)
 Given arguments all = Filled all
+Given parts all = SpellsParts all.0 all.1
 
 abbrev AreViable : Rules → Type 0
 AreViable g = (rule : Rule) → Viable (g rule) (Given rule)
@@ -124,6 +128,22 @@ AreViable g = (rule : Rule) → Viable (g rule) (Given rule)
 -- the last part of a rule
 last : (L : Language) (xs : List Tok) → L xs → L (xs ++ [])
 last L xs x = subst L (sym (append-nil xs)) x
+
+receiver_viable : Viable receiver SpellsReceiver
+unfolding receiver
+receiver_viable = viable_if _ (viable_then (viable_keyword _) (λ at. viable_ret (Itself at) (λ xs x. last (One (Key w.SelfWord) at) xs x)))
+    (viable_if _ (viable_then (viable_keyword _) (λ at. viable_ret (Super at) (λ xs x. last (One (Key w.Super) at) xs x)))
+    (viable_then viable_name (λ called. viable_ret (Named called.0 called.1) (λ xs x. last (One (tokens.Name called.1) called.0) xs x))))
+
+-- what is behind the name of a part
+abbrev Part : List ℕ → Sent → Language
+Part called all = λ ys. (ps : List ℕ) × (b : ExprTree) × (others : ExprTrees) × (all ≡ (and_part called ps, and_expr b others)) × (The m.Colon ⨾ Spells widest b ⨾ SpellsParts ps others) ys
+
+as_sent : (called : ℕ × List ℕ) (all : Sent) (ys ns : List Tok) → Part called.1 all ys → One (tokens.Name called.1) called.0 ns → SpellsSent called.0 all.0 all.1 (ns ++ ys)
+as_sent called all ys ns (ps, b, others, e, h) n = subst (λ (v : Sent). SpellsSent called.0 v.0 v.1 (ns ++ ys)) (sym e) (called.1, ps, refl, (ns, ys, refl, n, h))
+
+as_parts : (called : ℕ × List ℕ) (all : Sent) (ys ns : List Tok) → Part called.1 all ys → One (tokens.Name called.1) called.0 ns → SpellsParts all.0 all.1 (ns ++ ys)
+as_parts called all ys ns (ps, b, others, e, h) n = subst (λ (v : Sent). SpellsParts v.0 v.1 (ns ++ ys)) (sym e) (called.0, called.1, ps, refl, (ns, ys, refl, n, h))
 
 module _ (g : Rules) (rec : AreViable g) where
   parenthesized_viable : Viable (parenthesized_by g) (Spells 0)
@@ -148,9 +168,34 @@ module _ (g : Rules) (rec : AreViable g) where
   unfolding named_by
   named_viable = viable_then viable_name (λ called. viable_if _ (call_viable called) (viable_ret (Name called.0 called.1) (λ ns n. last (Spells 0 (Name called.0 called.1)) ns n)))
 
+  part_viable : (called : List ℕ) → Viable (part_by g called) (Part called)
+  unfolding part_by
+  part_viable called = viable_then (viable_expect _) (λ colon. viable_then (rec expr) (λ one. viable_then (rec parts) (λ others. viable_ret (and_part called others.0, and_expr one others.1)
+      (λ zs z ys y xs x. (others.0, one, others.1, refl, (xs, ys ++ (zs ++ []), refl, (colon, x), (ys, zs ++ [], refl, y, last (SpellsParts others.0 others.1) zs z)))))))
+
+  parts_viable : Viable (parts_by g) (Given parts)
+  unfolding parts_by
+  parts_viable = viable_if _ (viable_then viable_name (λ called. viable_as (part_viable called.1) (λ all ys h ns n. as_parts called all ys ns h n))) (viable_ret ([], no_exprs) (refl, refl))
+
+  sent_viable : (called : ℕ × List ℕ) → Viable (sent_by g called.1) (Behind (One (tokens.Name called.1) called.0) (λ all. SpellsSent called.0 all.0 all.1))
+  unfolding sent_by
+  sent_viable called = viable_if _ (viable_as (part_viable called.1) (λ all ys h ns n. as_sent called all ys ns h n))
+      (viable_ret (called.1, no_exprs) (λ ns n. last (One (tokens.Name called.1) called.0) ns n))
+
+  message_viable : Viable (message_by g) (Spells 0)
+  unfolding message_by
+  message_viable = viable_then (viable_expect _) (λ at. viable_then receiver_viable (λ to. viable_then viable_name (λ called. viable_then (sent_viable called) (λ all. viable_then (viable_expect _) (λ end.
+      viable_ret (Send at called.0 to all.0 all.1) (λ es e ss s ns n rs r os o. (
+        os,
+        rs ++ (ns ++ (ss ++ (es ++ []))),
+        refl,
+        o,
+        (rs, ns ++ (ss ++ (es ++ [])), refl, r, (ns ++ ss, es ++ [], sym (append_assoc ns ss (es ++ [])), s ns n, last (The m.CloseSquare) es (end, e))),
+      )))))))
+
   primary_viable : Viable (primary_by g) (Spells 0)
   unfolding primary_by
-  primary_viable = viable_if _ named_viable (viable_if _ parenthesized_viable viable_literal)
+  primary_viable = viable_if _ named_viable (viable_if _ parenthesized_viable (viable_if _ message_viable viable_literal))
 
   negate_viable : Viable (negate_by g) (Spells 1)
   unfolding negate_by
@@ -169,7 +214,7 @@ module _ (g : Rules) (rec : AreViable g) where
 
   more_viable : (l : ℕ) (left : ExprTree) → Viable (more_by g l left) (Given (more l left))
   unfolding more_by
-  more_viable l left = viable_guarded _ _ (sound_operator l) (operator_passes l) (λ o. viable_then (binary_viable (l - 1)) (λ right. viable_as (rec (more l (Binary (place left) o left right)))
+  more_viable l left = viable_guarded _ _ (sound_operator l) (operator_passes l) (λ o. viable_then (binary_viable (l - 1)) (λ right. viable_as (rec (more l (Binary (begins left) o left right)))
       (λ t zs k ys y xs x some ls h. subst (Spells (1 + l) t) (regroup ls xs ys zs) (k some (ls ++ (xs ++ ys)) (made l some o right xs ys ls x y h)))))
       (viable_ret _ (λ some ls h. last (Spells (1 + l) left) ls h))
     where
@@ -177,7 +222,7 @@ module _ (g : Rules) (rec : AreViable g) where
       regroup a b c d = simp append_assoc
 
       made : (l : ℕ) → 1 ≤ l → (o : BinaryOperator) (right : ExprTree) (xs ys ls : List Tok) → AnOperator l o xs → Spells (1 + (l - 1)) right ys → Spells (1 + l) left ls
-          → Spells (1 + l) (Binary (place left) o left right) (ls ++ (xs ++ ys))
+          → Spells (1 + l) (Binary (begins left) o left right) (ls ++ (xs ++ ys))
       made l some o right xs ys ls x y h =
           let e = x.0 in
           let lower : 1 + (l - 1) ≡ binds o = omega arith in
@@ -187,7 +232,7 @@ module _ (g : Rules) (rec : AreViable g) where
   assign_viable : (left : ExprTree) → is_unary left ≡ true → Viable (assign_by g left) (Behind (Spells 4 left) (Spells widest))
   unfolding assign_by
   assign_viable left u = viable_if _
-      (viable_then (viable_expect _) (λ sign. viable_then (rec expr) (λ right. viable_ret (Assign (place left) sign left right)
+      (viable_then (viable_expect _) (λ sign. viable_then (rec expr) (λ right. viable_ret (Assign (begins left) sign left right)
       (λ ys y xs x ls l. (omega arith, refl, (ls, xs ++ (ys ++ []), refl, unary_level left 4 ls u l, (xs, ys ++ [], refl, x, last (Spells widest right) ys y)))))))
       (viable_ret left (λ ls l. last (Spells widest left) ls (looser left 4 widest ls (omega arith) l)))
 
@@ -215,6 +260,7 @@ module _ (g : Rules) (rec : AreViable g) where
   body_viable unary = unary_viable
   body_viable (more l left) = more_viable l left
   body_viable arguments = arguments_viable
+  body_viable parts = parts_viable
 
 -- each rule gives something
 an_example : (rule : Rule) → (a : Node rule) × (xs : List Tok) × Given rule a xs
@@ -222,6 +268,7 @@ an_example expr = (Text 0 [], a_token (tokens.Text []) ∷ [], a_text widest)
 an_example unary = (Text 0 [], a_token (tokens.Text []) ∷ [], a_text 1)
 an_example (more l left) = (left, [], λ some xs h. last (Spells (1 + l) left) xs h)
 an_example arguments = (and_expr (Text 0 []) no_exprs, a_token (tokens.Text []) ∷ [], (a_token (tokens.Text []) ∷ [], [], refl, a_text widest, refl))
+an_example parts = (([], no_exprs), [], (refl, refl))
 
 deep_viable : (n : ℕ) → AreViable (deep body n)
 unfolding deep

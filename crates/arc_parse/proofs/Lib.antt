@@ -24,3 +24,4 @@ pub mod Unit
 pub mod UnitFix
 pub mod UnitRows
 pub mod CommaRows
+pub mod ClassRows

@@ -1,18 +1,24 @@
--- The arguments of a call, as a list.
-use Rattle.std.proofs.Common.{◌≡◌, ℕ, List, [], ◌∷◌, ◌++◌, Vec, Global, Result, Ok, Err, append_assoc, refl, ap, ◌∙◌}
+-- The arguments of a call and of a message, as lists.
+use Rattle.std.proofs.Common.{◌≡◌, ℕ, List, [], ◌∷◌, ◌++◌, Vec, Global, Result, Ok, Err, true, append_assoc, append-nil, refl, sym, ap, ◌∙◌}
 use denote.Bor.{Bor}
 use mathlib.Core.Former.{Count}
+use Rattle.arc_lex.specs.declared.token.Mark.TheVariants as m
 use Rattle.arc_lex.specs.declared.token.Token.{Token}
-use Rattle.arc_ast.specs.declared.tree.Expr.{Expr, Call, Call', Row_of-Expr, end_of-Expr, more_of-Expr, items-the_row-Expr, items_hidden-the_row-Expr-0}
-use Rattle.arc_ast.specs.Tree.{ExprTrees, no_exprs, and_expr, expr_tree, row_exprs, expr_trees}
+use Rattle.arc_lex.specs.Tokens.{Tok, toks}
+use Rattle.arc_ast.specs.declared.tree.Receiver.{Receiver}
+use Rattle.arc_ast.specs.declared.tree.Expr.{Expr, Call, Call', Send, Send', Row_of-Expr, end_of-Expr, more_of-Expr, items-the_row-Expr, items_hidden-the_row-Expr-0}
+use Rattle.arc_ast.specs.Tree.{ExprTree, ExprTrees, no_exprs, and_expr, expr_tree, row_exprs, expr_trees, receiver_tree}
 use Rattle.arc_ast.specs.Tree as tree
 use Rattle.arc_parse.specs.declared.fail.Fail.{Fail}
 use Rattle.arc_parse.specs.declared.fail.Fail.TheVariants.{Memory, Unexpected, TooDeep}
-use Rattle.arc_parse.specs.Reader.{Read, bind, ret}
-use Rattle.arc_parse.specs.Views.{AppendsArguments}
+use Rattle.arc_parse.specs.Reader.{Read, Fails, bind, ret, expect, sees_mark, ◌>>=◌}
+use Rattle.arc_parse.specs.Grammar.{and_part}
+use Rattle.arc_parse.specs.ExprRules.{Sent, read, expr, parts, part_by, sent_by}
+use Rattle.arc_parse.specs.Views.{AppendsArguments, AppendsParts}
 
 abbrev row_of : Expr → (n : Count) × Row_of-Expr n
 row_of (Call' at called _ row) = (_, row)
+row_of (Send' at part to selector _ row) = (_, row)
 row_of _ = (_, end_of-Expr)
 
 row_is : (n : _) (row : Row_of-Expr n) → row_exprs row ≡ expr_trees (items-the_row-Expr n row)
@@ -24,6 +30,11 @@ call_tree at called all =
     let row = row_of (Call at called all) in
     ap (tree.Call at called.items) (row_is row.0 row.1 ∙ ap expr_trees (items_hidden-the_row-Expr-0 all))
 
+pub send_tree : (at part : ℕ) (to : Receiver) (selector : Vec ℕ Global) (all : Vec Expr Global) → expr_tree (Send at part to selector all) ≡ tree.Send at part (receiver_tree to) selector.items (expr_trees all.items)
+send_tree at part to selector all =
+    let row = row_of (Send at part to selector all) in
+    ap (tree.Send at part (receiver_tree to) selector.items) (row_is row.0 row.1 ∙ ap expr_trees (items_hidden-the_row-Expr-0 all))
+
 -- one argument in front of what is appended behind it
 pub appends_more : (old mid new : List Expr) (one : Expr) (r : Result (Bor (List Token)) Fail) (f whole : Read ExprTrees)
     → whole ≡ bind f (λ others. ret (and_expr (expr_tree one) others)) → mid ≡ old ++ one ∷ [] → AppendsArguments mid new r f → AppendsArguments old new r whole
@@ -32,3 +43,56 @@ appends_more old mid new one (Ok rest) f whole w m h =
 appends_more old mid new one (Err Memory) f whole w m h = tt
 appends_more old mid new one (Err (Unexpected s)) f whole w m h = w ∙ ap (λ z. bind z (λ others. ret (and_expr (expr_tree one) others))) h
 appends_more old mid new one (Err (TooDeep s)) f whole w m h = w ∙ ap (λ z. bind z (λ others. ret (and_expr (expr_tree one) others))) h
+
+-- ---- the parts of a selector
+
+-- a name in front of parts
+abbrev named : List ℕ → Read Sent → Read Sent
+named called x = bind x (λ all. ret (called ++ all.0, all.1))
+
+-- the name is in front of what is read
+part_named : (called : List ℕ) (ts : List Tok) → part_by read called ts ≡ named called (part_by read [] ts)
+unfolding part_by
+part_named called ts = at_colon (expect m.Colon ts)
+  where
+    at_parts : (one : ExprTree) (x : Read Sent) → bind x (λ others. ret (and_part called others.0, and_expr one others.1)) ≡ named called (bind x (λ others. ret (and_part [] others.0, and_expr one others.1)))
+    at_parts one (Ok x) = refl
+    at_parts one (Err e) = refl
+
+    at_expr : (x : Read ExprTree) → bind x (λ one. read parts >>= (λ others. ret (and_part called others.0, and_expr one others.1)))
+        ≡ named called (bind x (λ one. read parts >>= (λ others. ret (and_part [] others.0, and_expr one others.1))))
+    at_expr (Ok x) = at_parts x.0 (read parts x.1)
+    at_expr (Err e) = refl
+
+    at_colon : (x : Read ℕ) → bind x (λ colon. read expr >>= (λ one. read parts >>= (λ others. ret (and_part called others.0, and_expr one others.1))))
+        ≡ named called (bind x (λ colon. read expr >>= (λ one. read parts >>= (λ others. ret (and_part [] others.0, and_expr one others.1)))))
+    at_colon (Ok x) = at_expr (read expr x.1)
+    at_colon (Err e) = refl
+
+-- no part behind what there is
+pub appends_none : (selector : List ℕ) (old : List Expr) (rest : Bor (List Token)) (found : Read Sent) → found ≡ Ok (([], no_exprs), toks rest.now) → AppendsParts selector old selector old (Ok rest) found
+appends_none selector old rest found e = ([], [], sym (append-nil selector), sym (append-nil old), e)
+
+-- parts behind a name
+pub appends_named : (selector mid selector' : List ℕ) (old new : List Expr) (r : Result (Bor (List Token)) Fail) (called : List ℕ) (ts : List Tok) (whole : Read Sent)
+    → whole ≡ part_by read called ts → mid ≡ selector ++ called → AppendsParts mid old selector' new r (part_by read [] ts) → AppendsParts selector old selector' new r whole
+appends_named selector mid selector' old new (Ok rest) called ts whole w e h =
+    (called ++ h.0, h.1, h.2 ∙ ap (λ v. v ++ h.0) e ∙ append_assoc selector called h.0, h.3, w ∙ part_named called ts ∙ ap (named called) h.4)
+appends_named selector mid selector' old new (Err Memory) called ts whole w e h = tt
+appends_named selector mid selector' old new (Err (Unexpected s)) called ts whole w e h = w ∙ part_named called ts ∙ ap (named called) h
+appends_named selector mid selector' old new (Err (TooDeep s)) called ts whole w e h = w ∙ part_named called ts ∙ ap (named called) h
+
+-- a selector of parts
+pub sent_parts : (called selector selector' : List ℕ) (old new : List Expr) (rest : Bor (List Token)) (ts : List Tok) → sees_mark m.Colon ts ≡ true → selector ≡ called → old ≡ []
+    → AppendsParts selector old selector' new (Ok rest) (part_by read [] ts) → sent_by read called ts ≡ Ok ((selector', expr_trees new), toks rest.now)
+unfolding sent_by
+sent_parts called selector selector' old new rest ts seen e n h =
+    let bytes : called ++ h.0 ≡ selector' = sym (h.2 ∙ ap (λ v. v ++ h.0) e) in
+    let all : h.1 ≡ new = sym (h.3 ∙ ap (λ v. v ++ h.1) n) in
+    rw seen (part_named called ts ∙ ap (named called) h.4 ∙ ap (λ v. Ok ((v, expr_trees h.1), toks rest.now)) bytes ∙ ap (λ v. Ok ((selector', expr_trees v), toks rest.now)) all)
+
+pub sent_fails : (e : Fail) (called : List ℕ) (ts : List Tok) → sees_mark m.Colon ts ≡ true → Fails e (part_by read [] ts) → Fails e (sent_by read called ts)
+unfolding sent_by
+sent_fails Memory called ts seen h = tt
+sent_fails (Unexpected s) called ts seen h = rw seen (part_named called ts ∙ ap (named called) h)
+sent_fails (TooDeep s) called ts seen h = rw seen (part_named called ts ∙ ap (named called) h)

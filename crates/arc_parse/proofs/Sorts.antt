@@ -5,8 +5,10 @@ use Rattle.arc_lex.specs.declared.token.Mark.{Mark}
 use Rattle.arc_lex.specs.declared.token.Mark.TheVariants as m
 use Rattle.arc_lex.specs.declared.token.Word.{Word}
 use Rattle.arc_lex.specs.declared.token.Word.TheVariants as w
+use Rattle.arc_lex.specs.declared.token.AtWord.{AtWord}
+use Rattle.arc_lex.specs.declared.token.AtWord.TheVariants as ats
 use Rattle.arc_lex.specs.Tokens.{Sort, Name, Integer, Text, Key, At, Sign, same_mark, number_of_mark, same_word, number_of_word}
-use Rattle.arc_parse.specs.Reader.{is_mark, is_word, is_name}
+use Rattle.arc_parse.specs.Reader.{is_mark, is_word, number_of_at, same_at, is_at, is_name}
 
 -- the marks in the order of their numbers
 abbrev marks : List Mark
@@ -118,6 +120,37 @@ word_again w.UnsafeUnretained = refl
 
 pub word_is : (word found : Word) → same_word found word ≡ true → found ≡ word
 word_is word found e = sym (word_again found) ∙ ap (λ n. get_or words n w.Bool) (eqb-true (number_of_word found) (number_of_word word) e) ∙ word_again word
+
+-- the words behind `@` in the order of their numbers
+abbrev at_words : List AtWord
+at_words = ats.Class ∷ ats.Protocol ∷ ats.Interface ∷ ats.Implementation ∷ ats.End ∷ ats.Property ∷ ats.Synthesize ∷ ats.Public ∷ ats.Protected ∷ ats.Private ∷ ats.Required ∷ ats.Optional ∷ ats.Selector ∷ ats.AutoreleasePool ∷ []
+
+at_again : (k : AtWord) → get_or at_words (number_of_at k) ats.Class ≡ k
+at_again ats.Class = refl
+at_again ats.Protocol = refl
+at_again ats.Interface = refl
+at_again ats.Implementation = refl
+at_again ats.End = refl
+at_again ats.Property = refl
+at_again ats.Synthesize = refl
+at_again ats.Public = refl
+at_again ats.Protected = refl
+at_again ats.Private = refl
+at_again ats.Required = refl
+at_again ats.Optional = refl
+at_again ats.Selector = refl
+at_again ats.AutoreleasePool = refl
+
+at_word_is : (word found : AtWord) → same_at found word ≡ true → found ≡ word
+at_word_is word found e = sym (at_again found) ∙ ap (λ n. get_or at_words n ats.Class) (eqb-true (number_of_at found) (number_of_at word) e) ∙ at_again word
+
+pub at_is : (word : AtWord) (s : Sort) → is_at word s ≡ true → s ≡ At word
+at_is word (At found) e = ap At (at_word_is word found e)
+at_is word (Name bytes) e = cc
+at_is word (Integer value) e = cc
+at_is word (Text bytes) e = cc
+at_is word (Key found) e = cc
+at_is word (Sign mark) e = cc
 
 pub sign_is : (mark : Mark) (s : Sort) → is_mark mark s ≡ true → s ≡ Sign mark
 sign_is mark (Sign found) e = ap Sign (mark_is mark found e)

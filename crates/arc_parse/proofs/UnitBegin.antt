@@ -38,8 +38,9 @@ no_expr t us n = read_is expr (t ∷ us) ∙ go t.sort refl
     go (Key k) e = rw e refl
     go (At k) e = rw e refl
     go (Sign mark) e =
-        let p = neither (is_mark m.OpenParen (Sign mark)) (is_mark m.Minus (Sign mark)) (sym (ap begins_expr e) ∙ n) in
-        rw (e, p.0, p.1) refl
+        let p = neither (is_mark m.OpenParen (Sign mark) || is_mark m.Minus (Sign mark)) (is_mark m.OpenSquare (Sign mark)) (sym (ap begins_expr e) ∙ n) in
+        let q = neither (is_mark m.OpenParen (Sign mark)) (is_mark m.Minus (Sign mark)) p.0 in
+        rw (e, q.0, q.1, p.1) refl
 
 pub none_left : read expr [] ≡ Err (misfit, [])
 unfolding expr_by binary_by unary_by primary_by
@@ -62,17 +63,21 @@ pub not_there : (test : Sort → Bool) (ts : List Tok) → ((s : Sort) → begin
 not_there test [] none h = refl
 not_there test (t ∷ ts) none h = none t.sort h
 
-pub mark_not_there : (mark : Mark) → is_mark mark (Sign m.OpenParen) ≡ false → is_mark mark (Sign m.Minus) ≡ false → (s : Sort) → begins_expr s ≡ true → is_mark mark s ≡ false
-mark_not_there mark p q (Name b) h = refl
-mark_not_there mark p q (Integer v) h = refl
-mark_not_there mark p q (Text b) h = refl
-mark_not_there mark p q (Key k) h = refl
-mark_not_there mark p q (At k) h = refl
-mark_not_there mark p q (Sign found) h = go (either (is_mark m.OpenParen (Sign found)) (is_mark m.Minus (Sign found)) h)
+pub mark_not_there : (mark : Mark) → is_mark mark (Sign m.OpenParen) ≡ false → is_mark mark (Sign m.Minus) ≡ false → is_mark mark (Sign m.OpenSquare) ≡ false → (s : Sort) → begins_expr s ≡ true → is_mark mark s ≡ false
+mark_not_there mark p q o (Name b) h = refl
+mark_not_there mark p q o (Integer v) h = refl
+mark_not_there mark p q o (Text b) h = refl
+mark_not_there mark p q o (Key k) h = refl
+mark_not_there mark p q o (At k) h = refl
+mark_not_there mark p q o (Sign found) h = go (either (is_mark m.OpenParen (Sign found) || is_mark m.Minus (Sign found)) (is_mark m.OpenSquare (Sign found)) h)
   where
-    go : (is_mark m.OpenParen (Sign found) ≡ true) ⊎ (is_mark m.Minus (Sign found) ≡ true) → is_mark mark (Sign found) ≡ false
-    go (inl e) = ap (is_mark mark) (sign_is m.OpenParen (Sign found) e) ∙ p
-    go (inr e) = ap (is_mark mark) (sign_is m.Minus (Sign found) e) ∙ q
+    of : (is_mark m.OpenParen (Sign found) ≡ true) ⊎ (is_mark m.Minus (Sign found) ≡ true) → is_mark mark (Sign found) ≡ false
+    of (inl e) = ap (is_mark mark) (sign_is m.OpenParen (Sign found) e) ∙ p
+    of (inr e) = ap (is_mark mark) (sign_is m.Minus (Sign found) e) ∙ q
+
+    go : ((is_mark m.OpenParen (Sign found) || is_mark m.Minus (Sign found)) ≡ true) ⊎ (is_mark m.OpenSquare (Sign found) ≡ true) → is_mark mark (Sign found) ≡ false
+    go (inl e) = of (either (is_mark m.OpenParen (Sign found)) (is_mark m.Minus (Sign found)) e)
+    go (inr e) = ap (is_mark mark) (sign_is m.OpenSquare (Sign found) e) ∙ o
 
 pub word_not_there : (word : Word) (s : Sort) → begins_expr s ≡ true → is_word word s ≡ false
 word_not_there word (Name b) h = refl

@@ -3,13 +3,14 @@ use Rattle.std.proofs.Common.{◌≡◌, ◌⊎◌, inl, inr, ◌||◌, ℕ, zer
 use Rattle.arc_lex.specs.declared.token.Mark.TheVariants as m
 use Rattle.arc_lex.specs.declared.token.Word.TheVariants as w
 use Rattle.arc_lex.specs.Tokens.{Tok}
-use Rattle.arc_ast.specs.Tree.{ExprTree, StmtTree, ParameterTree, FunctionTree}
+use Rattle.arc_lex.specs.declared.token.AtWord.TheVariants as ats
+use Rattle.arc_ast.specs.Tree.{ExprTree, StmtTree, ParameterTree, UnitTree}
 use Rattle.arc_parse.specs.Limits.{Limits, unlimited, is_above, nested, up_to, cut, goes_over, plain}
-use Rattle.arc_parse.specs.Reader.{Read, Reader, misfit, too_deep, bind, ◌>>=◌, unexpected, too_deep_here, if_first, any, begins, expect, name, is_mark, is_word}
+use Rattle.arc_parse.specs.Reader.{Read, Reader, misfit, too_deep, bind, ◌>>=◌, unexpected, too_deep_here, if_first, any, begins, expect, at_word, name, is_mark, is_word}
 use Rattle.arc_parse.specs.Knot.{deep, tied}
 use Rattle.arc_parse.specs.ExprRules.{expr}
 use Rattle.arc_parse.specs.ExprRules as exprs
-use Rattle.arc_parse.specs.UnitRules.{Rule, Rules, stmt, items, more_variables, more_parameters, functions, begins_expr, begins_stmt, full, simple_by, value_by, return_by, block_by, test_by, else_by, if_by, while_by, worded_by, stmt_by, initial_by, variable_by, next_variable_by, more_variables_by, variables_by, declaration_by, perhaps_by, item_by, items_by, parameter, more_parameters_by, with_others_by, second_by, some_by, parameters_by, result_kind, head_by, body_by, function_by, functions_by, body, read, unit}
+use Rattle.arc_parse.specs.UnitRules.{Rule, Rules, stmt, items, more_variables, more_parameters, more_names, typed_parts, heads, methods, tops, begins_expr, begins_stmt, full, simple_by, value_by, return_by, block_by, test_by, else_by, if_by, while_by, worded_by, stmt_by, initial_by, variable_by, next_variable_by, more_variables_by, variables_by, declaration_by, perhaps_by, item_by, items_by, parameter, more_parameters_by, with_others_by, second_by, some_by, parameters_by, result_kind, head_by, braces_by, body_by, function_by, typed, next_part, typed_parts_by, selector_by, method_head_by, next_head_by, heads_by, perhaps_semicolon, method_by, methods_by, interface_by, title, implementation_by, next_name, more_names_by, names_by, names_top_by, interface_top_by, implementation_top_by, function_top_by, top_by, tops_by, body, read, unit}
 use Rattle.arc_parse.proofs.Local.{fault_of}
 use Rattle.arc_parse.proofs.UnitBegin.{no, neither, no_expr, none_left}
 
@@ -165,9 +166,13 @@ module _ (limits : Limits) where
     unfolding items_by
     below_items d = below_if _ below_same (below_then (below_item d) (λ s. below_then (rec (items d)) (λ others. below_same)))
 
+    below_braces : Below (braces_by g) (braces_by h)
+    unfolding braces_by
+    below_braces = below_then below_same (λ start. below_then (rec (items 2)) (λ all. below_same))
+
     below_body_by : Below (body_by g) (body_by h)
     unfolding body_by
-    below_body_by = below_if _ below_same (below_then below_same (λ start. below_then (rec (items 2)) (λ all. below_same)))
+    below_body_by = below_if _ below_same (below_then below_braces (λ all. below_same))
 
     below_more_parameters : Below (more_parameters_by g) (more_parameters_by h)
     unfolding more_parameters_by
@@ -198,9 +203,67 @@ module _ (limits : Limits) where
     unfolding function_by
     below_function = below_then below_head (λ f. below_then below_body_by (λ b. below_same))
 
-    below_functions : Below (functions_by g) (functions_by h)
-    unfolding functions_by
-    below_functions = below_if _ (below_then below_function (λ f. below_then (rec functions) (λ others. below_same))) below_same
+    -- ---- methods
+
+    below_typed_parts : Below (typed_parts_by g) (typed_parts_by h)
+    unfolding typed_parts_by
+    below_typed_parts = below_if _ (below_then {f = next_part} {h = next_part} below_same (λ one. below_then (rec typed_parts) (λ others. below_same))) below_same
+
+    below_selector : (called : List ℕ) → Below (selector_by g called) (selector_by h called)
+    unfolding selector_by
+    below_selector called = below_if _ (below_then {f = typed} {h = typed} below_same (λ p. below_then (rec typed_parts) (λ others. below_same))) below_same
+
+    below_method_head : Below (method_head_by g) (method_head_by h)
+    unfolding method_head_by
+    below_method_head = below_then {f = expect m.Plus} {h = expect m.Plus} below_same (λ at. below_then {f = expect m.OpenParen} {h = expect m.OpenParen} below_same (λ start.
+        below_then {f = result_kind} {h = result_kind} below_same (λ kind. below_then {f = expect m.CloseParen} {h = expect m.CloseParen} below_same (λ end.
+        below_then {f = name} {h = name} below_same (λ (called : ℕ × List ℕ). below_then (below_selector called.1) (λ all. below_same))))))
+
+    below_next_head : Below (next_head_by g) (next_head_by h)
+    unfolding next_head_by
+    below_next_head = below_then below_method_head (λ one. below_same)
+
+    below_heads : Below (heads_by g) (heads_by h)
+    unfolding heads_by
+    below_heads = below_if _ (below_then below_next_head (λ one. below_then (rec heads) (λ others. below_same))) below_same
+
+    below_method : Below (method_by g) (method_by h)
+    unfolding method_by
+    below_method = below_then below_method_head (λ one. below_then {f = perhaps_semicolon} {h = perhaps_semicolon} below_same (λ semicolon. below_then below_braces (λ all. below_same)))
+
+    below_methods : Below (methods_by g) (methods_by h)
+    unfolding methods_by
+    below_methods = below_if _ (below_then below_method (λ one. below_then (rec methods) (λ others. below_same))) below_same
+
+    -- ---- classes
+
+    below_interface : Below (interface_by g) (interface_by h)
+    unfolding interface_by
+    below_interface = below_then {f = at_word ats.Interface} {h = at_word ats.Interface} below_same (λ at. below_then {f = name} {h = name} below_same (λ called.
+        below_then {f = expect m.Colon} {h = expect m.Colon} below_same (λ colon. below_then {f = name} {h = name} below_same (λ super. below_then (rec heads) (λ all. below_same)))))
+
+    below_implementation : Below (implementation_by g) (implementation_by h)
+    unfolding implementation_by
+    below_implementation = below_then {f = title} {h = title} below_same (λ called. below_then (rec methods) (λ all. below_same))
+
+    below_more_names : Below (more_names_by g) (more_names_by h)
+    unfolding more_names_by
+    below_more_names = below_if _ (below_then {f = next_name} {h = next_name} below_same (λ one. rec more_names)) below_same
+
+    below_names : Below (names_by g) (names_by h)
+    unfolding names_by
+    below_names = below_then {f = at_word ats.Class} {h = at_word ats.Class} below_same (λ at. below_then {f = name} {h = name} below_same (λ called. below_then (rec more_names) (λ others. below_same)))
+
+    -- ---- units
+
+    below_top : Below (top_by g) (top_by h)
+    unfolding top_by names_top_by interface_top_by implementation_top_by function_top_by
+    below_top = below_if _ (below_then below_names (λ one. below_same)) (below_if _ (below_then below_interface (λ one. below_same))
+        (below_if _ (below_then below_implementation (λ one. below_same)) (below_then below_function (λ one. below_same))))
+
+    below_tops : Below (tops_by g) (tops_by h)
+    unfolding tops_by
+    below_tops = below_if _ (below_then below_top (λ one. below_then (rec tops) (λ others. below_same))) below_same
 
     below_body : (rule : Rule) → Below (body limits g rule) (body unlimited h rule)
     below_body (stmt d) = below_nested any d _ h none_first (below_stmt d)
@@ -211,7 +274,11 @@ module _ (limits : Limits) where
     below_body (items d) = below_items d
     below_body more_variables = below_more_variables
     below_body more_parameters = below_more_parameters
-    below_body functions = below_functions
+    below_body more_names = below_more_names
+    below_body typed_parts = below_typed_parts
+    below_body heads = below_heads
+    below_body methods = below_methods
+    below_body tops = below_tops
 
   below_deep : (n : ℕ) (rule : Rule) → Below (deep (body limits) n rule) (deep (body unlimited) n rule)
   unfolding deep
@@ -222,15 +289,18 @@ module _ (limits : Limits) where
   unfolding tied
   below_read rule = record { each = λ ts. (below_deep _ rule).each ts }
 
-  pub free_reads : (ts r : List Tok) (u : List FunctionTree) → unit limits ts ≡ Ok (u, r) → unit unlimited ts ≡ Ok (u, r)
-  free_reads ts r u e = go ((below_read functions).each ts)
+  below_unit : Below (unit limits) (unit unlimited)
+  below_unit = below_then (below_read tops) (λ all. below_same)
+
+  pub free_reads : (ts r : List Tok) (u : UnitTree) → unit limits ts ≡ Ok (u, r) → unit unlimited ts ≡ Ok (u, r)
+  free_reads ts r u e = go (below_unit.each ts)
     where
       go : IsDeep (unit limits ts) ⊎ (unit limits ts ≡ unit unlimited ts) → unit unlimited ts ≡ Ok (u, r)
       go (inl d) = let both = sym e ∙ d.1 in cc
       go (inr same) = sym same ∙ e
 
   pub free_refuses : (ts r : List Tok) → unit limits ts ≡ Err (misfit, r) → unit unlimited ts ≡ Err (misfit, r)
-  free_refuses ts r e = go ((below_read functions).each ts)
+  free_refuses ts r e = go (below_unit.each ts)
     where
       differ : misfit ≡ too_deep → ⊥
       differ q = cc

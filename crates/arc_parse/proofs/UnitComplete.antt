@@ -1,20 +1,23 @@
 -- The rules of statements, functions and units read what is spelled within their limits.
-use Rattle.std.proofs.Common.{◌≡◌, inl, inr, ℕ, suc, ◌+◌, List, [], ◌∷◌, ◌++◌, length, length-append, append_assoc, append-nil, Ok, Bool, true, false, Option, Some, None, refl, sym, ap, ◌∙◌, ◌&&◌, bytes_eq, arith}
+use Rattle.std.proofs.Common.{◌≡◌, inl, inr, ℕ, zero, suc, ◌+◌, List, [], ◌∷◌, ◌++◌, length, length-append, append_assoc, append-nil, Ok, Bool, true, false, Option, Some, None, refl, sym, ap, ◌∙◌, ◌&&◌, bytes_eq, arith}
 use Rattle.std.proofs.lemmas.Bool.{le-ltb}
 use Rattle.std.proofs.lemmas.Slice.Eq.{bytes_eq-Decides}
 use Rattle.arc_lex.specs.declared.token.Mark.{Mark}
 use Rattle.arc_lex.specs.declared.token.Mark.TheVariants as m
 use Rattle.arc_lex.specs.declared.token.Word.TheVariants as w
-use Rattle.arc_lex.specs.Tokens.{Tok, Sign}
+use Rattle.arc_lex.specs.declared.token.AtWord.{AtWord}
+use Rattle.arc_lex.specs.declared.token.AtWord.TheVariants as ats
+use Rattle.arc_lex.specs.Tokens.{Tok, Sign, At}
+use Rattle.arc_lex.specs.Tokens as tokens
 use Rattle.arc_ast.specs.declared.tree.Kind.{Kind}
 use Rattle.arc_ast.specs.declared.tree.Kind.TheVariants as kinds
-use Rattle.arc_ast.specs.Tree.{ExprTree, VariableTree, StmtTree, StmtTrees, ParameterTree, ParametersTree, FunctionTree, Block, Empty, Simple, Return, Variables, If, IfElse, While, no_stmts, and_stmt, Ints, CountAndTexts}
+use Rattle.arc_ast.specs.Tree.{ExprTree, VariableTree, StmtTree, StmtTrees, ParameterTree, ParametersTree, FunctionTree, HeadTree, MethodTree, InterfaceTree, ImplementationTree, UnitTree, Block, Empty, Simple, Return, Variables, If, IfElse, While, no_stmts, and_stmt, Ints, CountAndTexts}
 use Rattle.arc_parse.specs.Language.{Language, ◌⨾◌, ◌∣◌, The, TheWord, Nothing}
-use Rattle.arc_parse.specs.Reader.{Reader, any, begins, is_mark, is_word, sees_mark, sees_word}
+use Rattle.arc_parse.specs.Reader.{Reader, any, begins, bind, ret, is_mark, is_word, sees_mark, sees_word, sees_at}
 use Rattle.arc_parse.specs.ExprRules.{mark_operator}
 use Rattle.arc_parse.specs.Limits.{Limits, AtMost, Nested, nested, cut, up_to, plain, plainly}
-use Rattle.arc_parse.specs.Grammar.{widest, Full, SpellsValue, SpellsInitial, SpellsVariable, SpellsMoreVariables, SpellsDeclaration, SpellsTest, is_open, SpellsStmt, SpellsStmts, main_bytes, SpellsResult, SpellsParameter, SpellsMoreParameters, TextsName, SpellsParameters, SpellsHead, SpellsBody, SpellsFunction, SpellsUnit}
-use Rattle.arc_parse.specs.UnitRules.{stmt, items, more_variables, more_parameters, functions, begins_expr, begins_stmt, full, simple_by, empty, value_by, return_by, block_by, test_by, else_by, if_by, while_by, worded_by, stmt_by, initial_by, variable_by, more_variables_by, next_variable_by, variables_by, declaration_by, perhaps_by, item_by, items_by, texts_name, perhaps_const, texts, parameter, next_parameter, more_parameters_by, begins_texts, with_others_by, second_by, some_by, parameters_by, result_kind, head_by, body_by, function_by, functions_by, read}
+use Rattle.arc_parse.specs.Grammar.{widest, Full, SpellsValue, SpellsInitial, SpellsVariable, SpellsMoreVariables, SpellsDeclaration, SpellsTest, is_open, SpellsStmt, SpellsStmts, main_bytes, SpellsResult, SpellsParameter, SpellsMoreParameters, TextsName, SpellsParameters, SpellsHead, SpellsBraces, SpellsBody, SpellsFunction, SpellsTyped, SpellsTypedParts, SpellsSelector, SpellsMethodHead, SpellsHeads, SpellsMethod, SpellsMethods, SpellsInterface, SpellsImplementation, MoreNames, SpellsNames, TopTree, OfNames, OfFunction, OfInterface, OfImplementation, SpellsTop, SpellsTops, SpellsUnit, unit_of}
+use Rattle.arc_parse.specs.UnitRules.{stmt, items, more_variables, more_parameters, more_names, typed_parts, heads, methods, tops, begins_expr, begins_stmt, full, simple_by, empty, value_by, return_by, block_by, test_by, else_by, if_by, while_by, worded_by, stmt_by, initial_by, variable_by, more_variables_by, next_variable_by, variables_by, declaration_by, perhaps_by, item_by, items_by, texts_name, perhaps_const, texts, parameter, next_parameter, more_parameters_by, begins_texts, with_others_by, second_by, some_by, parameters_by, result_kind, head_by, braces_by, body_by, function_by, typed, next_part, typed_parts_by, selector_by, method_head_by, next_head_by, heads_by, perhaps_semicolon, method_by, methods_by, interface_by, title, implementation_by, next_name, more_names_by, names_by, names_top_by, interface_top_by, implementation_top_by, function_top_by, top_by, tops_by, read, unit}
 use Rattle.arc_parse.proofs.ExprComplete.{complete, ends_mark}
 use Rattle.arc_parse.proofs.UnitBegin.{begun, not_there, mark_not_there, word_not_there, stmt_begun, stmt_not_close, stmt_not_else, stmt_not_int, int_not_close, int_not_else, close_not_else}
 use Rattle.arc_parse.proofs.UnitLocal.{read_is}
@@ -72,6 +75,33 @@ result_more kinds.Bool ts rest h = absurd h
 result_more kinds.Long ts rest h = absurd h
 result_more kinds.Object ts rest h = absurd h
 
+-- nor does a result begin with a word behind `@`
+result_not_at : (kind : Kind) (word : AtWord) (ts rest : List Tok) → SpellsResult kind ts → sees_at word (ts ++ rest) ≡ false
+result_not_at kinds.Void word ts rest (at, (t, c, s, p)) = rw (c, s) refl
+result_not_at kinds.Int word ts rest (at, (t, c, s, p)) = rw (c, s) refl
+result_not_at kinds.Bool word ts rest h = absurd h
+result_not_at kinds.Long word ts rest h = absurd h
+result_not_at kinds.Object word ts rest h = absurd h
+
+-- ---- the parts of a selector
+
+typed_reads : (p : ParameterTree) (ts rest : List Tok) → SpellsTyped p ts → typed (ts ++ rest) ≡ Ok (p, rest)
+unfolding typed
+typed_reads p ts rest (cs, us, c, (n, (t, ct, st, pt)), (os, vs, d, (o, (x, cx, sx, px)), (ks, ws, f, (k, (y, cy, sy, py)), (es, ns, g, (e, (z, cz, sz, pz)), (q, cq, sq, pq))))) =
+    rw (c, ct, d, cx, f, cy, g, cz, cq, st, sx, sy, sz, sq, sym pq) refl
+
+typed_seen : (p : ParameterTree) (ts rest : List Tok) → SpellsTyped p ts → sees_mark m.Colon (ts ++ rest) ≡ true
+typed_seen p ts rest (cs, us, c, (n, (t, ct, st, pt)), x) = rw (c, ct, st) refl
+
+semicolon_reads : (ts rest : List Tok) → (Nothing ∣ The m.Semicolon) ts → sees_mark m.Semicolon rest ≡ false → perhaps_semicolon (ts ++ rest) ≡ Ok (tt, rest)
+unfolding perhaps_semicolon
+semicolon_reads ts rest (inl c) e = rw (c, e) refl
+semicolon_reads ts rest (inr (at, (t, c, s, p))) e = rw (c, s) refl
+
+-- a method begins with `+`
+plus_seen : (one : HeadTree) (ts rest : List Tok) → SpellsMethodHead one ts → sees_mark m.Plus (ts ++ rest) ≡ true
+plus_seen one ts rest (ps, us, c, (t, cp, sp, pp), x) = rw (c, cp, sp) refl
+
 -- ---- limits
 
 cut_fits : {A : Type 0} (most : Option ℕ) (ts rest : List Tok) (a : A) → AtMost most (length ts) → cut most (ts ++ rest) (Ok (a, rest)) ≡ Ok (a, rest)
@@ -116,8 +146,8 @@ module _ (limits : Limits) where
       let us = es ++ (u ∷ rest) in
       let line : ts ++ rest ≡ us = rw (q, cu) (append_assoc es (u ∷ []) rest) in
       let begin = full_begun e es rest u x su in
-      let brace : sees_mark m.OpenBrace us ≡ false = not_there (is_mark m.OpenBrace) us (mark_not_there m.OpenBrace refl refl) begin in
-      let semicolon : sees_mark m.Semicolon us ≡ false = not_there (is_mark m.Semicolon) us (mark_not_there m.Semicolon refl refl) begin in
+      let brace : sees_mark m.OpenBrace us ≡ false = not_there (is_mark m.OpenBrace) us (mark_not_there m.OpenBrace refl refl refl) begin in
+      let semicolon : sees_mark m.Semicolon us ≡ false = not_there (is_mark m.Semicolon) us (mark_not_there m.Semicolon refl refl refl) begin in
       let return : sees_word w.Return us ≡ false = not_there (is_word w.Return) us (word_not_there w.Return) begin in
       let no_if : sees_word w.If us ≡ false = not_there (is_word w.If) us (word_not_there w.If) begin in
       let no_while : sees_word w.While us ≡ false = not_there (is_word w.While) us (word_not_there w.While) begin in
@@ -127,7 +157,7 @@ module _ (limits : Limits) where
   unfolding value_by
   value_reads None ts rest u c z = rw (c, z) refl
   value_reads (Some e) ts rest u x z =
-      let semicolon : sees_mark m.Semicolon (ts ++ (u ∷ rest)) ≡ false = not_there (is_mark m.Semicolon) (ts ++ (u ∷ rest)) (mark_not_there m.Semicolon refl refl) (full_begun e ts rest u x z) in
+      let semicolon : sees_mark m.Semicolon (ts ++ (u ∷ rest)) ≡ false = not_there (is_mark m.Semicolon) (ts ++ (u ∷ rest)) (mark_not_there m.Semicolon refl refl refl) (full_begun e ts rest u x z) in
       rw (semicolon, full_reads e ts rest u m.Semicolon x z (refl, refl, refl)) refl
 
   return_reads : (d at : ℕ) (value : Option ExprTree) → Reads d (Return at value)
@@ -319,12 +349,23 @@ module _ (limits : Limits) where
 
   -- ---- functions
 
+  braces_read : (all : StmtTrees) (ts rest : List Tok) → SpellsBraces limits all ts → braces_by (read limits) (ts ++ rest) ≡ Ok (all, rest)
+  unfolding braces_by
+  braces_read all ts rest (os, us, p, (o, (t, ct, st, pt)), (ys, zs, q, y, (n, (u, cu, su, pu)))) =
+      let line : ts ++ rest ≡ t ∷ (ys ++ (u ∷ rest)) = rw (p, ct, q, cu) (ap (λ v. t ∷ v) (append_assoc ys (u ∷ []) rest)) in
+      rw (line, st, (complete_stmts all 2 ys (u ∷ rest) y (ap (is_mark m.CloseBrace) su)).0, su) refl
+
+  -- a block begins with `{`
+  braces_front : (all : StmtTrees) (ts rest : List Tok) → SpellsBraces limits all ts → (t : Tok) × (us : List Tok) × (ts ++ rest ≡ t ∷ us) × (t.sort ≡ Sign m.OpenBrace)
+  braces_front all ts rest (os, us, p, (o, (t, ct, st, pt)), x) = (t, us ++ rest, rw (p, ct) refl, st)
+
   body_reads : (b : Option StmtTrees) (ts rest : List Tok) → SpellsBody limits b ts → body_by (read limits) (ts ++ rest) ≡ Ok (b, rest)
   unfolding body_by
   body_reads None ts rest (n, (u, cu, su, pu)) = rw (cu, su) refl
-  body_reads (Some all) ts rest (os, us, p, (o, (t, ct, st, pt)), (ys, zs, q, y, (n, (u, cu, su, pu)))) =
-      let line : ts ++ rest ≡ t ∷ (ys ++ (u ∷ rest)) = rw (p, ct, q, cu) (ap (λ v. t ∷ v) (append_assoc ys (u ∷ []) rest)) in
-      rw (line, st, (complete_stmts all 2 ys (u ∷ rest) y (ap (is_mark m.CloseBrace) su)).0, su) refl
+  body_reads (Some all) ts rest h =
+      let f = braces_front all ts rest h in
+      let semicolon : sees_mark m.Semicolon (ts ++ rest) ≡ false = rw (f.2, f.3) refl in
+      rw (semicolon, braces_read all ts rest h) refl
 
   function_reads : (f : FunctionTree) (ts rest : List Tok) → SpellsFunction limits f ts → function_by (read limits) (ts ++ rest) ≡ Ok (f, rest)
   unfolding function_by
@@ -334,8 +375,143 @@ module _ (limits : Limits) where
   function_more : (f : FunctionTree) (ts rest : List Tok) → SpellsFunction limits f ts → begins any (ts ++ rest) ≡ true
   function_more f ts rest (hs, bs, c, (as', us, d, k, h), b) = rw (c, d, append_assoc (as' ++ us) bs rest, append_assoc as' us (bs ++ rest)) (result_more f.result as' (us ++ (bs ++ rest)) k)
 
-  pub complete_unit : (fs : List FunctionTree) (ts : List Tok) → SpellsUnit limits fs ts → read limits functions ts ≡ Ok (fs, [])
-  unfolding functions_by
-  complete_unit [] ts c = rw c (read_is limits functions [])
-  complete_unit (f ∷ others) ts (xs, ys, c, x, y) =
-      rw c (read_is limits functions (xs ++ ys) ∙ rw (function_more f xs ys x, function_reads f xs ys x, complete_unit others ys y) refl)
+  function_not_at : (f : FunctionTree) (word : AtWord) (ts rest : List Tok) → SpellsFunction limits f ts → sees_at word (ts ++ rest) ≡ false
+  function_not_at f word ts rest (hs, bs, c, (as', us, d, k, h), b) =
+      rw (c, d, append_assoc (as' ++ us) bs rest, append_assoc as' us (bs ++ rest)) (result_not_at f.result word as' (us ++ (bs ++ rest)) k)
+
+  -- ---- methods
+
+  typed_parts_read : (all : List ParameterTree) (selector : List ℕ) (ts rest : List Tok) (u : Tok) (mark : Mark) → SpellsTypedParts selector all ts → u.sort ≡ Sign mark
+      → read limits typed_parts (ts ++ (u ∷ rest)) ≡ Ok ((selector, all), u ∷ rest)
+  unfolding typed_parts_by next_part
+  typed_parts_read [] selector ts rest u mark (e, c) z = rw (c, read_is limits typed_parts (u ∷ rest), z, e) refl
+  typed_parts_read (p ∷ others) selector ts rest u mark (at, called, ps, e, (ns, us, c, (t, cn, sn, pn), (xs, ys, d, x, y))) z =
+      let tail = ys ++ (u ∷ rest) in
+      let line : ts ++ (u ∷ rest) ≡ t ∷ (xs ++ tail) = rw (c, cn, d) (ap (λ v. t ∷ v) (append_assoc xs ys (u ∷ rest))) in
+      rw line (read_is limits typed_parts (t ∷ (xs ++ tail)) ∙ rw (sn, typed_reads p xs tail x, typed_parts_read others ps ys rest u mark y z, e) refl)
+
+  -- the name that a selector begins with, and what is read behind it
+  selector_reads : (selector : List ℕ) (all : List ParameterTree) (ts rest : List Tok) (u : Tok) (mark : Mark) → SpellsSelector selector all ts → u.sort ≡ Sign mark → is_mark m.Colon (Sign mark) ≡ false
+      → (t : Tok) × (us : List Tok) × (called : List ℕ) × (ts ++ (u ∷ rest) ≡ t ∷ us) × (t.sort ≡ tokens.Name called) × (selector_by (read limits) called us ≡ Ok ((selector, all), u ∷ rest))
+  unfolding selector_by
+  selector_reads selector [] ts rest u mark (at, (t, c, s, p)) z none = (t, u ∷ rest, selector, ap (λ v. v ++ (u ∷ rest)) c, s, rw (z, none) refl)
+  selector_reads selector (p ∷ others) ts rest u mark (at, called, ps, e, (ns, us, c, (t, cn, sn, pn), (xs, ys, d, x, y))) z none =
+      let tail = ys ++ (u ∷ rest) in (
+        t,
+        xs ++ tail,
+        called,
+        rw (c, cn, d) (ap (λ v. t ∷ v) (append_assoc xs ys (u ∷ rest))),
+        sn,
+        rw (typed_seen p xs tail x, typed_reads p xs tail x, typed_parts_read others ps ys rest u mark y z, e) refl,
+      )
+
+  method_head_reads : (one : HeadTree) (ts rest : List Tok) (u : Tok) (mark : Mark) → SpellsMethodHead one ts → u.sort ≡ Sign mark → is_mark m.Colon (Sign mark) ≡ false
+      → method_head_by (read limits) (ts ++ (u ∷ rest)) ≡ Ok (one, u ∷ rest)
+  unfolding method_head_by
+  method_head_reads one ts rest u mark (ps, us, c, (t, cp, sp, pp), (os, vs, d, (o, (x, co, so, po)), (ks, ws, f, k, (es, ss, g, (e, (y, ce, se, pe)), s)))) z none =
+      let q = selector_reads one.selector one.parameters ss rest u mark s z none in
+      let line : ts ++ (u ∷ rest) ≡ t ∷ x ∷ (ks ++ (y ∷ q.0 ∷ q.1)) =
+      rw (c, cp, d, co, f, g, ce) (ap (λ v. t ∷ x ∷ v) (append_assoc ks (y ∷ ss) (u ∷ rest) ∙ ap (λ v. ks ++ (y ∷ v)) q.3)) in
+      rw (line, sp, so, result_reads one.result ks (y ∷ q.0 ∷ q.1) k, se, q.4, q.5, sym pp) refl
+
+  heads_read : (all : List HeadTree) (ts rest : List Tok) (u : Tok) → SpellsHeads all ts → u.sort ≡ At ats.End → read limits heads (ts ++ (u ∷ rest)) ≡ Ok (all, u ∷ rest)
+  unfolding heads_by next_head_by
+  heads_read [] ts rest u c z = rw (c, read_is limits heads (u ∷ rest), z) refl
+  heads_read (one ∷ others) ts rest u (xs, us, c, x, (ss, ys, d, (n, (t, ct, st, pt)), y)) z =
+      let tail = ys ++ (u ∷ rest) in
+      let line : ts ++ (u ∷ rest) ≡ xs ++ (t ∷ tail) = rw (c, d, ct) (append_assoc xs (t ∷ ys) (u ∷ rest)) in
+      rw line (read_is limits heads (xs ++ (t ∷ tail)) ∙ rw (plus_seen one xs (t ∷ tail) x, method_head_reads one xs tail t m.Semicolon x st refl, st, heads_read others ys rest u y z) refl)
+
+  -- a method's head, behind which `;` may stand, and a block
+  head_before : (one : HeadTree) (all : StmtTrees) (hs ss bs rest : List Tok) → SpellsMethodHead one hs → (Nothing ∣ The m.Semicolon) ss → SpellsBraces limits all bs
+      → method_head_by (read limits) (hs ++ (ss ++ (bs ++ rest))) ≡ Ok (one, ss ++ (bs ++ rest))
+  head_before one all hs ss bs rest h (inl c) b =
+      let f = braces_front all bs rest b in
+      rw (c, f.2) (method_head_reads one hs f.1 f.0 m.OpenBrace h f.3 refl)
+  head_before one all hs ss bs rest h (inr (at, (t, c, s, p))) b = rw c (method_head_reads one hs (bs ++ rest) t m.Semicolon h s refl)
+
+  method_reads : (one : MethodTree) (ts rest : List Tok) → SpellsMethod limits one ts → method_by (read limits) (ts ++ rest) ≡ Ok (one, rest)
+  unfolding method_by
+  method_reads one ts rest (hs, us, c, h, (ss, bs, d, s, b)) =
+      let line : ts ++ rest ≡ hs ++ (ss ++ (bs ++ rest)) = rw (c, d) (append_assoc hs (ss ++ bs) rest ∙ ap (λ v. hs ++ v) (append_assoc ss bs rest)) in
+      let f = braces_front one.body bs rest b in
+      let semicolon : sees_mark m.Semicolon (bs ++ rest) ≡ false = rw (f.2, f.3) refl in
+      rw (line, head_before one.head one.body hs ss bs rest h s b, semicolon_reads ss (bs ++ rest) s semicolon, braces_read one.body bs rest b) refl
+
+  methods_read : (all : List MethodTree) (ts rest : List Tok) (u : Tok) → SpellsMethods limits all ts → u.sort ≡ At ats.End → read limits methods (ts ++ (u ∷ rest)) ≡ Ok (all, u ∷ rest)
+  unfolding methods_by
+  methods_read [] ts rest u c z = rw (c, read_is limits methods (u ∷ rest), z) refl
+  methods_read (one ∷ others) ts rest u (xs, ys, c, x, y) z =
+      let tail = ys ++ (u ∷ rest) in
+      let line : ts ++ (u ∷ rest) ≡ xs ++ tail = rw c (append_assoc xs ys (u ∷ rest)) in
+      rw line (read_is limits methods (xs ++ tail) ∙ rw (method_seen one xs tail x, method_reads one xs tail x, methods_read others ys rest u y z) refl)
+    where
+      method_seen : (one : MethodTree) (ts rest : List Tok) → SpellsMethod limits one ts → sees_mark m.Plus (ts ++ rest) ≡ true
+      method_seen one ts rest (hs, us, c, h, x) = rw (c, append_assoc hs us rest) (plus_seen one.head hs (us ++ rest) h)
+
+  -- ---- classes
+
+  interface_reads : (i : InterfaceTree) (ts rest : List Tok) → SpellsInterface i ts → (interface_by (read limits) (ts ++ rest) ≡ Ok (i, rest)) × (t : Tok) × (us : List Tok) × (ts ++ rest ≡ t ∷ us) × (t.sort ≡ At ats.Interface)
+  unfolding interface_by
+  interface_reads i ts rest (ks, us, c, (k, (t, ck, sk, pk)), (ns, vs, d, (n, cn, sn, pn), (cs, ws, f, (o, (x, cx, sx, px)), (ss, xs, g, (s, cs', ss', ps'), (hs, es, h, y, (e, (z, ce, se, pe))))))) =
+      let tail = n ∷ x ∷ s ∷ (hs ++ (z ∷ rest)) in
+      let line : ts ++ rest ≡ t ∷ tail = rw (c, ck, d, cn, f, cx, g, cs', h, ce) (ap (λ v. t ∷ n ∷ x ∷ s ∷ v) (append_assoc hs (z ∷ []) rest)) in
+      (rw (line, sk, sn, sx, ss', heads_read i.methods hs rest z y se, se, sym pn, sym ps') refl, t, tail, line, sk)
+
+  implementation_reads : (i : ImplementationTree) (ts rest : List Tok) → SpellsImplementation limits i ts
+      → (implementation_by (read limits) (ts ++ rest) ≡ Ok (i, rest)) × (t : Tok) × (us : List Tok) × (ts ++ rest ≡ t ∷ us) × (t.sort ≡ At ats.Implementation)
+  unfolding implementation_by title
+  implementation_reads i ts rest (ks, us, c, (as', ns, d, (k, (t, ck, sk, pk)), (n, cn, sn, pn)), (hs, es, h, y, (e, (z, ce, se, pe)))) =
+      let tail = n ∷ (hs ++ (z ∷ rest)) in
+      let line : ts ++ rest ≡ t ∷ tail = rw (c, d, ck, cn, h, ce) (ap (λ v. t ∷ n ∷ v) (append_assoc hs (z ∷ []) rest)) in
+      (rw (line, sk, sn, methods_read i.methods hs rest z y se, se, sym pn) refl, t, tail, line, sk)
+
+  more_names_read : (n : ℕ) (ts rest : List Tok) (u : Tok) → MoreNames n ts → u.sort ≡ Sign m.Semicolon → read limits more_names (ts ++ (u ∷ rest)) ≡ Ok (tt, u ∷ rest)
+  unfolding more_names_by next_name
+  more_names_read zero ts rest u c z = rw (c, read_is limits more_names (u ∷ rest), z) refl
+  more_names_read (suc n) ts rest u (cs, us, c, (k, (t, ct, st, pt)), (ns, ys, d, (at, called, (x, cx, sx, px)), y)) z =
+      let tail = ys ++ (u ∷ rest) in
+      let line : ts ++ (u ∷ rest) ≡ t ∷ x ∷ tail = rw (c, ct, d, cx) refl in
+      rw line (read_is limits more_names (t ∷ x ∷ tail) ∙ rw (st, sx, more_names_read n ys rest u y z) refl)
+
+  names_read : (ts rest : List Tok) → SpellsNames ts → (names_by (read limits) (ts ++ rest) ≡ Ok (tt, rest)) × (t : Tok) × (us : List Tok) × (ts ++ rest ≡ t ∷ us) × (t.sort ≡ At ats.Class)
+  unfolding names_by
+  names_read ts rest (ks, us, c, (k, (t, ck, sk, pk)), (ns, vs, d, (at, called, (n, cn, sn, pn)), (os, es, f, (many, o), (e, (z, ce, se, pe))))) =
+      let tail = n ∷ (os ++ (z ∷ rest)) in
+      let line : ts ++ rest ≡ t ∷ tail = rw (c, ck, d, cn, f, ce) (ap (λ v. t ∷ n ∷ v) (append_assoc os (z ∷ []) rest)) in
+      (rw (line, sk, sn, more_names_read many os rest z o se, se) refl, t, tail, line, sk)
+
+  -- ---- units
+
+  top_reads : (one : TopTree) (ts rest : List Tok) → SpellsTop limits one ts → (top_by (read limits) (ts ++ rest) ≡ Ok (one, rest)) × (begins any (ts ++ rest) ≡ true)
+  unfolding top_by names_top_by interface_top_by implementation_top_by function_top_by
+  top_reads OfNames ts rest h =
+      let p = names_read ts rest h in
+      let seen : sees_at ats.Class (ts ++ rest) ≡ true = rw (p.3, p.4) refl in
+      (rw (seen, p.0) refl, rw p.3 refl)
+  top_reads (OfInterface i) ts rest h =
+      let p = interface_reads i ts rest h in
+      let class : sees_at ats.Class (ts ++ rest) ≡ false = rw (p.3, p.4) refl in
+      let seen : sees_at ats.Interface (ts ++ rest) ≡ true = rw (p.3, p.4) refl in
+      (rw (class, seen, p.0) refl, rw p.3 refl)
+  top_reads (OfImplementation i) ts rest h =
+      let p = implementation_reads i ts rest h in
+      let class : sees_at ats.Class (ts ++ rest) ≡ false = rw (p.3, p.4) refl in
+      let interface : sees_at ats.Interface (ts ++ rest) ≡ false = rw (p.3, p.4) refl in
+      let seen : sees_at ats.Implementation (ts ++ rest) ≡ true = rw (p.3, p.4) refl in
+      (rw (class, interface, seen, p.0) refl, rw p.3 refl)
+  top_reads (OfFunction f) ts rest h =
+      let class = function_not_at f ats.Class ts rest h in
+      let interface = function_not_at f ats.Interface ts rest h in
+      let implementation = function_not_at f ats.Implementation ts rest h in
+      (rw (class, interface, implementation, function_reads f ts rest h) refl, function_more f ts rest h)
+
+  complete_tops : (all : List TopTree) (ts : List Tok) → SpellsTops limits all ts → read limits tops ts ≡ Ok (all, [])
+  unfolding tops_by
+  complete_tops [] ts c = rw c (read_is limits tops [])
+  complete_tops (one ∷ others) ts (xs, ys, c, x, y) =
+      let p = top_reads one xs ys x in
+      rw c (read_is limits tops (xs ++ ys) ∙ rw (p.1, p.0, complete_tops others ys y) refl)
+
+  pub complete_unit : (u : UnitTree) (ts : List Tok) → SpellsUnit limits u ts → unit limits ts ≡ Ok (u, [])
+  complete_unit u ts (all, e, h) = ap (λ x. bind x (λ found. ret (unit_of found))) (complete_tops all ts h) ∙ ap (λ v. Ok (v, [])) (sym e)

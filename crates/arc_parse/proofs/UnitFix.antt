@@ -3,7 +3,7 @@ use Rattle.std.proofs.Common.{◌≡◌, ℕ, List}
 use Rattle.arc_lex.specs.Tokens.{Tok}
 use Rattle.arc_parse.specs.Limits.{these, nested}
 use Rattle.arc_parse.specs.Reader.{any}
-use Rattle.arc_parse.specs.UnitRules.{read, stmt, items, more_variables, more_parameters, functions, stmt_by, items_by, more_variables_by, more_parameters_by, functions_by}
+use Rattle.arc_parse.specs.UnitRules.{read, stmt, items, more_variables, more_parameters, more_names, typed_parts, heads, methods, tops, stmt_by, items_by, more_variables_by, more_parameters_by, more_names_by, typed_parts_by, heads_by, methods_by, tops_by}
 use Rattle.arc_parse.proofs.UnitLocal.{read_is}
 
 pub read_stmt : (d : ℕ) (ts : List Tok) → read these (stmt d) ts ≡ nested these.depth d any (stmt_by these (read these) d) ts
@@ -18,5 +18,17 @@ read_variables ts = read_is these more_variables ts
 pub read_parameters : (ts : List Tok) → read these more_parameters ts ≡ more_parameters_by (read these) ts
 read_parameters ts = read_is these more_parameters ts
 
-pub read_functions : (ts : List Tok) → read these functions ts ≡ functions_by (read these) ts
-read_functions ts = read_is these functions ts
+pub read_names : (ts : List Tok) → read these more_names ts ≡ more_names_by (read these) ts
+read_names ts = read_is these more_names ts
+
+pub read_parts : (ts : List Tok) → read these typed_parts ts ≡ typed_parts_by (read these) ts
+read_parts ts = read_is these typed_parts ts
+
+pub read_heads : (ts : List Tok) → read these heads ts ≡ heads_by (read these) ts
+read_heads ts = read_is these heads ts
+
+pub read_methods : (ts : List Tok) → read these methods ts ≡ methods_by (read these) ts
+read_methods ts = read_is these methods ts
+
+pub read_tops : (ts : List Tok) → read these tops ts ≡ tops_by (read these) ts
+read_tops ts = read_is these tops ts

@@ -4,18 +4,19 @@ use Rattle.std.proofs.lemmas.Bool.{ltb-false}
 use Rattle.std.proofs.lemmas.Slice.Eq.{bytes_eq-Decides}
 use Rattle.arc_lex.specs.declared.token.Mark.TheVariants as m
 use Rattle.arc_lex.specs.declared.token.Word.TheVariants as w
+use Rattle.arc_lex.specs.declared.token.AtWord.TheVariants as ats
 use Rattle.arc_lex.specs.Tokens.{Tok, Sign, Key}
 use Rattle.arc_lex.specs.Tokens as tokens
 use Rattle.arc_ast.specs.declared.tree.Kind.TheVariants as kinds
 use Rattle.arc_ast.specs.Tree.{ExprTree, StmtTree, ParameterTree, Block, Empty, Simple, Return, Variables, If, IfElse, While, no_stmts, and_stmt, Ints, CountAndTexts}
-use Rattle.arc_parse.specs.Language.{Language, ◌⨾◌, ◌∣◌, One, The, TheWord, SomeName, Nothing}
+use Rattle.arc_parse.specs.Language.{Language, ◌⨾◌, ◌∣◌, One, The, TheWord, TheAt, SomeName, Nothing}
 use Rattle.arc_parse.specs.Reader.{Read, Reader, any, begins, sees_word, unexpected, too_deep_here, if_first}
 use Rattle.arc_parse.specs.Limits.{Limits, AtMost, Nested, is_above, nested, plainly, plain}
 use Rattle.arc_parse.specs.Knot.{deep, tied}
-use Rattle.arc_parse.specs.Grammar.{Full, SpellsValue, SpellsInitial, SpellsVariable, SpellsVariables, SpellsMoreVariables, SpellsDeclaration, SpellsTest, is_open, SpellsStmt, SpellsStmts, main_bytes, SpellsResult, SpellsParameter, SpellsMoreParameters, TextsName, SpellsParameters, SpellsHead, SpellsBody, SpellsFunction, SpellsUnit}
+use Rattle.arc_parse.specs.Grammar.{Full, SpellsValue, SpellsInitial, SpellsVariable, SpellsVariables, SpellsMoreVariables, SpellsDeclaration, SpellsTest, is_open, SpellsStmt, SpellsStmts, main_bytes, SpellsResult, SpellsParameter, SpellsMoreParameters, TextsName, SpellsParameters, SpellsHead, SpellsBraces, SpellsBody, SpellsFunction, SpellsTyped, SpellsTypedParts, SpellsSelector, SpellsMethodHead, SpellsHeads, SpellsMethod, SpellsMethods, SpellsInterface, SpellsTitle, SpellsImplementation, MoreNames, SpellsNames, SpellsTop, SpellsTops, OfNames, OfFunction, OfInterface, OfImplementation, and_part}
 use Rattle.arc_parse.specs.ExprRules.{expr}
-use Rattle.arc_parse.specs.UnitRules.{Rule, Node, Rules, stmt, items, more_variables, more_parameters, functions, full, simple_by, empty, value_by, return_by, block_by, test_by, else_by, if_by, while_by, worded_by, stmt_by, initial_by, variable_by, next_variable_by, more_variables_by, variables_by, declaration_by, perhaps_by, item_by, items_by, texts_name, perhaps_const, texts, parameter, next_parameter, more_parameters_by, begins_texts, with_others_by, second_by, some_by, parameters_by, result_kind, head_by, body_by, function_by, functions_by, body, read}
-use Rattle.arc_parse.proofs.Leaves.{sound_expect, sound_keyword, sound_name}
+use Rattle.arc_parse.specs.UnitRules.{Rule, Node, Rules, stmt, items, more_variables, more_parameters, more_names, typed_parts, heads, methods, tops, full, simple_by, empty, value_by, return_by, block_by, test_by, else_by, if_by, while_by, worded_by, stmt_by, initial_by, variable_by, next_variable_by, more_variables_by, variables_by, declaration_by, perhaps_by, item_by, items_by, texts_name, perhaps_const, texts, parameter, next_parameter, more_parameters_by, begins_texts, with_others_by, second_by, some_by, parameters_by, result_kind, head_by, braces_by, body_by, function_by, typed, next_part, typed_parts_by, selector_by, method_head_by, next_head_by, heads_by, perhaps_semicolon, method_by, methods_by, interface_by, title, implementation_by, next_name, more_names_by, names_by, names_top_by, interface_top_by, implementation_top_by, function_top_by, top_by, tops_by, body, read}
+use Rattle.arc_parse.proofs.Leaves.{sound_expect, sound_keyword, sound_at, sound_name}
 use Rattle.arc_parse.proofs.Sound.{Sound, sound_then, sound_ret, sound_if, sound_as}
 use Rattle.arc_parse.proofs.SoundTo.{SoundTo, to_then, to_ret, to_unexpected, to_if, to_tested, to_of, to_as}
 use Rattle.arc_parse.proofs.Limited.{up_to_sound}
@@ -83,14 +84,55 @@ unfolding result_kind
 result_sound = sound_if _ (sound_then (sound_keyword _) (λ void. sound_ret kinds.Void (λ xs x. last (TheWord w.Void) xs (void, x))))
     (sound_then (sound_keyword _) (λ int. sound_ret kinds.Int (λ xs x. last (TheWord w.Int) xs (int, x))))
 
--- What each rule gives is spelled by what it takes. No `else` is behind a statement whose `if` it would belong to, and the
--- functions go up to the end.
+-- ---- parts of classes
+
+typed_sound : Sound typed SpellsTyped
+unfolding typed
+typed_sound = sound_then (sound_expect _) (λ colon. sound_then (sound_expect _) (λ start. sound_then (sound_keyword _) (λ int. sound_then (sound_expect _) (λ end. sound_then sound_name (λ called.
+    sound_ret (record { at = called.0; name = called.1 }) (λ ns n es e ks k os o cs c. (
+      cs,
+      os ++ (ks ++ (es ++ (ns ++ []))),
+      refl,
+      (colon, c),
+      (os, ks ++ (es ++ (ns ++ [])), refl, (start, o), (ks, es ++ (ns ++ []), refl, (int, k), (es, ns ++ [], refl, (end, e), last (One (tokens.Name called.1) called.0) ns n))),
+    )))))))
+
+-- a part of a selector
+abbrev NextPart : List ℕ × ParameterTree → Language
+NextPart one = λ ts. (at : ℕ) × (One (tokens.Name one.0) at ⨾ SpellsTyped one.1) ts
+
+next_part_sound : Sound next_part NextPart
+unfolding next_part
+next_part_sound = sound_then sound_name (λ called. sound_then typed_sound (λ p. sound_ret (called.1, p) (λ ys y xs x. (called.0, (xs, ys ++ [], refl, x, last (SpellsTyped p) ys y)))))
+
+pub perhaps_semicolon_sound : Sound perhaps_semicolon (λ _. Nothing ∣ The m.Semicolon)
+unfolding perhaps_semicolon
+perhaps_semicolon_sound = sound_if _ (sound_then (sound_expect _) (λ semicolon. sound_ret tt (λ xs x. inr (last (The m.Semicolon) xs (semicolon, x))))) (sound_ret tt (inl refl))
+
+pub title_sound : Sound title (λ called. SpellsTitle called.0 called.1)
+unfolding title
+title_sound = sound_then (sound_at _) (λ at. sound_as sound_name (λ called ys y xs x. (xs, ys, refl, (at, x), y)))
+
+-- a comma and a name
+abbrev NextName : Language
+NextName = The m.Comma ⨾ SomeName
+
+next_name_sound : Sound next_name (λ _. NextName)
+unfolding next_name
+next_name_sound = sound_then (sound_expect _) (λ comma. sound_then sound_name (λ called. sound_ret tt (λ ys y xs x. (xs, ys ++ [], refl, (comma, x), last SomeName ys (called.0, called.1, y)))))
+
+-- What each rule gives is spelled by what it takes. No `else` is behind a statement whose `if` it would belong to, and a
+-- unit goes up to the end.
 abbrev pub Given : Limits → (rule : Rule) → Node rule → List Tok → Language
 Given limits (stmt d) s r xs = Nested limits d (SpellsStmt limits d s) xs × (is_open s ≡ true → sees_word w.Else r ≡ false)
 Given limits (items d) all r xs = SpellsStmts limits d all xs
 Given limits more_variables all r xs = SpellsMoreVariables limits all xs
 Given limits more_parameters all r xs = SpellsMoreParameters all xs
-Given limits functions fs r xs = SpellsUnit limits fs xs × (r ≡ [])
+Given limits more_names _ r xs = (n : ℕ) × MoreNames n xs
+Given limits typed_parts all r xs = SpellsTypedParts all.0 all.1 xs
+Given limits heads all r xs = SpellsHeads all xs
+Given limits methods all r xs = SpellsMethods limits all xs
+Given limits tops all r xs = SpellsTops limits all xs × (r ≡ [])
 
 abbrev pub AreSound : Limits → Rules → Type 0
 AreSound limits g = (rule : Rule) → SoundTo (g rule) (Given limits rule)
@@ -301,21 +343,130 @@ module _ (limits : Limits) where
           (bs, cs ++ (ds ++ (es ++ [])), refl, b, (cs, ds ++ (es ++ []), refl, (start, c), (ds, es ++ [], refl, d, last (The m.CloseParen) es (end, e)))),
         )))))))
 
+    pub braces_sound : SoundTo (braces_by g) (λ all r. SpellsBraces limits all)
+    unfolding braces_by
+    braces_sound = to_then (to_of (sound_expect _)) (λ start. to_then (rec (items 2)) (λ all. to_then (to_of (sound_expect _)) (λ end. to_ret all
+        (λ r zs z ys y xs x. (xs, ys ++ (zs ++ []), refl, (start, x), (ys, zs ++ [], refl, y, last (The m.CloseBrace) zs (end, z)))))))
+
     pub body_by_sound : SoundTo (body_by g) (λ b r. SpellsBody limits b)
     unfolding body_by
     body_by_sound = to_if _ (to_then (to_of (sound_expect _)) (λ end. to_ret None (λ r xs x. last (The m.Semicolon) xs (end, x))))
-        (to_as (to_then (to_of (sound_expect _)) (λ start. to_then (rec (items 2)) (λ all. to_then (to_of (sound_expect _)) (λ end. to_ret (Some all)
-        (λ r zs z ys y xs x. (xs, ys ++ (zs ++ []), refl, (start, x), (ys, zs ++ [], refl, y, last (The m.CloseBrace) zs (end, z)))))))) (λ a r xs h _. h))
+        (to_as (to_then braces_sound (λ all. to_ret (Some all) (λ r xs x. last (SpellsBraces limits all) xs x))) (λ a r xs h _. h))
 
     pub function_sound : SoundTo (function_by g) (λ f r. SpellsFunction limits f)
     unfolding function_by
     function_sound = to_then head_sound (λ h. to_then body_by_sound (λ b. to_ret (record { at = h.1.0; name = h.1.1; result = h.0; parameters = h.2; body = b })
         (λ r ys y xs x. (xs, ys ++ [], refl, x, last (SpellsBody limits b) ys y))))
 
-    functions_sound : SoundTo (functions_by g) (Given limits functions)
-    unfolding functions_by
-    functions_sound = to_if _ (to_then function_sound (λ f. to_then (rec functions) (λ others. to_ret (f ∷ others)
-        (λ r ys y xs x. ((xs, ys ++ [], refl, x, last (SpellsUnit limits others) ys y.0), y.1)))))
+    -- ---- methods
+
+    typed_parts_sound : SoundTo (typed_parts_by g) (Given limits typed_parts)
+    unfolding typed_parts_by
+    typed_parts_sound = to_if _ (to_then (to_of next_part_sound) (λ one. to_then (rec typed_parts) (λ others. to_ret (and_part one.0 others.0, one.1 ∷ others.1)
+        (λ r ys y xs x. (
+          x.0,
+          one.0,
+          others.0,
+          refl,
+          grouped (One (tokens.Name one.0) x.0) (SpellsTyped one.1) (SpellsTypedParts others.0 others.1) xs (ys ++ []) x.1 (last (SpellsTypedParts others.0 others.1) ys y),
+        )))))
+        (to_ret ([], []) (λ r _. (refl, refl)))
+
+    selector_sound : (called : ℕ × List ℕ) → SoundTo (selector_by g called.1) (λ all r ys. (ns : List Tok) → One (tokens.Name called.1) called.0 ns → SpellsSelector all.0 all.1 (ns ++ ys))
+    unfolding selector_by
+    selector_sound called = to_if _ (to_then (to_of typed_sound) (λ p. to_then (rec typed_parts) (λ others. to_ret (and_part called.1 others.0, p ∷ others.1)
+        (λ r ys y xs x ns n. (called.0, called.1, others.0, refl, (ns, xs ++ (ys ++ []), refl, n, (xs, ys ++ [], refl, x, last (SpellsTypedParts others.0 others.1) ys y)))))))
+        (to_ret (called.1, []) (λ r _ ns n. (called.0, last (One (tokens.Name called.1) called.0) ns n)))
+
+    pub method_head_sound : SoundTo (method_head_by g) (λ one r. SpellsMethodHead one)
+    unfolding method_head_by
+    method_head_sound = to_then (to_of (sound_expect _)) (λ at. to_then (to_of (sound_expect _)) (λ start. to_then (to_of result_sound) (λ kind. to_then (to_of (sound_expect _)) (λ end.
+        to_then (to_of sound_name) (λ called. to_then (selector_sound called) (λ all. to_ret (record { at = at; selector = all.0; result = kind; parameters = all.1 })
+        (λ r ss s ns n es e ks k os o ps p. (
+          ps,
+          os ++ (ks ++ (es ++ (ns ++ (ss ++ [])))),
+          refl,
+          p,
+          (os, ks ++ (es ++ (ns ++ (ss ++ []))), refl, (start, o), (ks, es ++ (ns ++ (ss ++ [])), refl, k, (es, ns ++ (ss ++ []), refl, (end, e), subst (SpellsSelector all.0 all.1) (ap (λ v. ns ++ v) (sym (append-nil ss))) (s ns n)))),
+        ))))))))
+
+    pub next_head_sound : SoundTo (next_head_by g) (λ one r. SpellsMethodHead one ⨾ The m.Semicolon)
+    unfolding next_head_by
+    next_head_sound = to_then method_head_sound (λ one. to_then (to_of (sound_expect _)) (λ end. to_ret one (λ r ys y xs x. (xs, ys ++ [], refl, x, last (The m.Semicolon) ys (end, y)))))
+
+    heads_sound : SoundTo (heads_by g) (Given limits heads)
+    unfolding heads_by
+    heads_sound = to_if _ (to_then next_head_sound (λ one. to_then (rec heads) (λ others. to_ret (one ∷ others)
+        (λ r ys y xs x. grouped (SpellsMethodHead one) (The m.Semicolon) (SpellsHeads others) xs (ys ++ []) x (last (SpellsHeads others) ys y)))))
+        (to_ret [] (λ r _. refl))
+
+    pub method_sound : SoundTo (method_by g) (λ one r. SpellsMethod limits one)
+    unfolding method_by
+    method_sound = to_then method_head_sound (λ one. to_then (to_of perhaps_semicolon_sound) (λ semicolon. to_then braces_sound (λ all. to_ret (record { head = one; body = all })
+        (λ r zs z ys y xs x. (xs, ys ++ (zs ++ []), refl, x, (ys, zs ++ [], refl, y, last (SpellsBraces limits all) zs z))))))
+
+    methods_sound : SoundTo (methods_by g) (Given limits methods)
+    unfolding methods_by
+    methods_sound = to_if _ (to_then method_sound (λ one. to_then (rec methods) (λ others. to_ret (one ∷ others)
+        (λ r ys y xs x. (xs, ys ++ [], refl, x, last (SpellsMethods limits others) ys y)))))
+        (to_ret [] (λ r _. refl))
+
+    -- ---- classes
+
+    interface_sound : SoundTo (interface_by g) (λ i r. SpellsInterface i)
+    unfolding interface_by
+    interface_sound = to_then (to_of (sound_at _)) (λ at. to_then (to_of sound_name) (λ called. to_then (to_of (sound_expect _)) (λ colon. to_then (to_of sound_name) (λ super.
+        to_then (rec heads) (λ all. to_then (to_of (sound_at _)) (λ end. to_ret (record { at = called.0; name = called.1; superclass_at = super.0; superclass = super.1; methods = all })
+        (λ r es e hs h ss s cs c ns n ks k. (
+          ks,
+          ns ++ (cs ++ (ss ++ (hs ++ (es ++ [])))),
+          refl,
+          (at, k),
+          (ns, cs ++ (ss ++ (hs ++ (es ++ []))), refl, n, (cs, ss ++ (hs ++ (es ++ [])), refl, (colon, c), (ss, hs ++ (es ++ []), refl, s, (hs, es ++ [], refl, h, last (TheAt ats.End) es (end, e))))),
+        ))))))))
+
+    pub implementation_sound : SoundTo (implementation_by g) (λ i r. SpellsImplementation limits i)
+    unfolding implementation_by
+    implementation_sound = to_then (to_of title_sound) (λ called. to_then (rec methods) (λ all. to_then (to_of (sound_at _)) (λ end. to_ret (record { at = called.0; name = called.1; methods = all })
+        (λ r es e ds d ks k. (ks, ds ++ (es ++ []), refl, k, (ds, es ++ [], refl, d, last (TheAt ats.End) es (end, e)))))))
+
+    more_names_sound : SoundTo (more_names_by g) (Given limits more_names)
+    unfolding more_names_by
+    more_names_sound = to_if _ (to_then (to_of next_name_sound) (λ one. to_as (rec more_names) (λ _ r ys y xs x. (suc y.0, grouped (The m.Comma) SomeName (MoreNames y.0) xs ys x y.1))))
+        (to_ret tt (λ r _. (zero, refl)))
+
+    names_sound : SoundTo (names_by g) (λ _ r. SpellsNames)
+    unfolding names_by
+    names_sound = to_then (to_of (sound_at _)) (λ at. to_then (to_of sound_name) (λ called. to_then (rec more_names) (λ others. to_then (to_of (sound_expect _)) (λ end. to_ret tt
+        (λ r es e os o ns n ks k. (ks, ns ++ (os ++ (es ++ [])), refl, (at, k), (ns, os ++ (es ++ []), refl, (called.0, called.1, n), (os, es ++ [], refl, o, last (The m.Semicolon) es (end, e)))))))))
+
+    -- ---- units
+
+    names_top_sound : SoundTo (names_top_by g) (λ one r. SpellsTop limits one)
+    unfolding names_top_by
+    names_top_sound = to_then names_sound (λ names. to_ret OfNames (λ r xs x. last SpellsNames xs x))
+
+    interface_top_sound : SoundTo (interface_top_by g) (λ one r. SpellsTop limits one)
+    unfolding interface_top_by
+    interface_top_sound = to_then interface_sound (λ i. to_ret (OfInterface i) (λ r xs x. last (SpellsInterface i) xs x))
+
+    implementation_top_sound : SoundTo (implementation_top_by g) (λ one r. SpellsTop limits one)
+    unfolding implementation_top_by
+    implementation_top_sound = to_then implementation_sound (λ i. to_ret (OfImplementation i) (λ r xs x. last (SpellsImplementation limits i) xs x))
+
+    function_top_sound : SoundTo (function_top_by g) (λ one r. SpellsTop limits one)
+    unfolding function_top_by
+    function_top_sound = to_then function_sound (λ f. to_ret (OfFunction f) (λ r xs x. last (SpellsFunction limits f) xs x))
+
+    pub top_sound : SoundTo (top_by g) (λ one r. SpellsTop limits one)
+    unfolding top_by
+    top_sound = to_if _ names_top_sound (to_as (to_if _ interface_top_sound (to_as (to_if _ implementation_top_sound
+        (to_as function_top_sound (λ a r xs h _. h))) (λ a r xs h _. h))) (λ a r xs h _. h))
+
+    tops_sound : SoundTo (tops_by g) (Given limits tops)
+    unfolding tops_by
+    tops_sound = to_if _ (to_then top_sound (λ one. to_then (rec tops) (λ others. to_ret (one ∷ others)
+        (λ r ys y xs x. ((xs, ys ++ [], refl, x, last (SpellsTops limits others) ys y.0), y.1)))))
         (to_ret [] (λ r none. (refl, no_more r none)))
 
     body_sound : AreSound limits (body limits g)
@@ -323,7 +474,11 @@ module _ (limits : Limits) where
     body_sound (items d) = items_sound d
     body_sound more_variables = more_variables_sound
     body_sound more_parameters = more_parameters_sound
-    body_sound functions = functions_sound
+    body_sound more_names = more_names_sound
+    body_sound typed_parts = typed_parts_sound
+    body_sound heads = heads_sound
+    body_sound methods = methods_sound
+    body_sound tops = tops_sound
 
   pub deep_sound : (n : ℕ) → AreSound limits (deep (body limits) n)
   unfolding deep

@@ -1,26 +1,26 @@
 -- A token is refused as too deep only where it passes a limit.
-use Rattle.std.proofs.Common.{◌≡◌, ℕ, zero, suc, List, [], ◌∷◌, ◌++◌, append_assoc, append-nil, Err, true, refl, sym, ap, subst, ◌∙◌}
+use Rattle.std.proofs.Common.{◌≡◌, ℕ, zero, suc, List, [], ◌∷◌, ◌++◌, append_assoc, append-nil, Ok, Err, true, refl, sym, ap, subst, ◌∙◌}
 use Rattle.arc_lex.specs.declared.token.Mark.TheVariants as m
 use Rattle.arc_lex.specs.declared.token.Word.{Word}
 use Rattle.arc_lex.specs.declared.token.Word.TheVariants as w
 use Rattle.arc_lex.specs.Tokens.{Tok, Key, Sign}
 use Rattle.arc_lex.specs.Tokens as tokens
 use Rattle.arc_ast.specs.declared.tree.Kind.{Kind}
-use Rattle.arc_ast.specs.Tree.{ExprTree, VariableTree, StmtTree, StmtTrees, ParameterTree, ParametersTree, FunctionTree, no_stmts, and_stmt}
-use Rattle.arc_parse.specs.Language.{One}
-use Rattle.arc_parse.specs.Reader.{Reader, too_deep}
+use Rattle.arc_ast.specs.Tree.{ExprTree, VariableTree, StmtTree, StmtTrees, ParameterTree, ParametersTree, HeadTree, MethodTree, no_stmts, and_stmt}
+use Rattle.arc_parse.specs.Language.{Nothing, One, ◌∣◌, The}
+use Rattle.arc_parse.specs.Reader.{Read, Reader, too_deep, bind, ret}
 use Rattle.arc_parse.specs.Limits.{Limits, AtMost}
 use Rattle.arc_parse.specs.Knot.{deep, tied}
-use Rattle.arc_parse.specs.Grammar.{SpellsVariable, SpellsTest, SpellsStmts, SpellsHead, SpellsUnit}
-use Rattle.arc_parse.specs.UnitRules.{Rule, Rules, stmt, items, more_variables, more_parameters, functions, simple_by, empty, value_by, return_by, block_by, test_by, else_by, if_by, while_by, worded_by, stmt_by, initial_by, variable_by, next_variable_by, more_variables_by, variables_by, declaration_by, perhaps_by, item_by, items_by, texts_name, perhaps_const, texts, parameter, next_parameter, more_parameters_by, with_others_by, second_by, some_by, parameters_by, result_kind, head_by, body_by, function_by, functions_by, body, read, unit}
-use Rattle.arc_parse.specs.TooDeep.{Role, must, may, takes_test, Heading, Begins, in_body, in_block, in_branch, in_other, BeginsVariable, first_variable, next_variable, of_simple, of_return, of_test, of_variable, TooDeep, statement}
+use Rattle.arc_parse.specs.Grammar.{SpellsVariable, SpellsTest, SpellsStmts, SpellsHead, SpellsMethodHead, SpellsMethods, TopTree, SpellsTops, unit_of}
+use Rattle.arc_parse.specs.UnitRules.{Rule, Rules, stmt, items, more_variables, more_parameters, more_names, typed_parts, heads, methods, tops, simple_by, empty, value_by, return_by, block_by, test_by, else_by, if_by, while_by, worded_by, stmt_by, initial_by, variable_by, next_variable_by, more_variables_by, variables_by, declaration_by, perhaps_by, item_by, items_by, texts_name, perhaps_const, texts, parameter, next_parameter, more_parameters_by, with_others_by, second_by, some_by, parameters_by, result_kind, head_by, braces_by, body_by, function_by, typed, next_part, typed_parts_by, selector_by, method_head_by, next_head_by, heads_by, perhaps_semicolon, method_by, methods_by, interface_by, title, implementation_by, next_name, more_names_by, names_by, names_top_by, interface_top_by, implementation_top_by, function_top_by, top_by, tops_by, body, read, unit}
+use Rattle.arc_parse.specs.TooDeep.{Role, must, may, takes_test, Heading, BeginsBody, of_function, of_method, Begins, in_body, in_block, in_branch, in_other, BeginsVariable, first_variable, next_variable, of_simple, of_return, of_test, of_variable, TooDeep, statement}
 use Rattle.arc_parse.specs.TooDeep as places
 use Rattle.arc_parse.proofs.Leaves.{sound_expect, sound_keyword, sound_name}
 use Rattle.arc_parse.proofs.SoundTo.{to_of}
 use Rattle.arc_parse.proofs.Tells.{Never, never_then, never_ret, never_token, never_if, Tells, tells_never, tells_then, tells_if, tells_as, tells_nested, differ}
 use Rattle.arc_parse.proofs.FullTell.{full_tells}
 use Rattle.arc_parse.proofs.Local.{fault_of}
-use Rattle.arc_parse.proofs.UnitSound.{AreSound, Given, full_sound, value_sound, test_sound, initial_sound, variable_sound, next_variable_sound, variables_sound, item_sound, head_sound, body_by_sound, function_sound, deep_sound}
+use Rattle.arc_parse.proofs.UnitSound.{AreSound, Given, perhaps_semicolon_sound, title_sound, full_sound, value_sound, test_sound, initial_sound, variable_sound, next_variable_sound, variables_sound, item_sound, head_sound, braces_sound, body_by_sound, method_head_sound, method_sound, implementation_sound, function_sound, top_sound, deep_sound}
 
 -- ---- the head of a function never is
 
@@ -74,15 +74,81 @@ module _ (g : Rules) (more : Never (g more_parameters)) where
   unfolding head_by
   head_never = never_then result_never (λ kind. never_then (never_token _) (λ called. never_then (never_token _) (λ start. never_then (parameters_never called.1) (λ ps. never_then (never_token _) (λ end. never_ret _)))))
 
+typed_never : Never typed
+unfolding typed
+typed_never = never_then (never_token _) (λ colon. never_then (never_token _) (λ start. never_then (never_token _) (λ int. never_then (never_token _) (λ end. never_then (never_token _) (λ called. never_ret _)))))
+
+next_part_never : Never next_part
+unfolding next_part
+next_part_never = never_then (never_token _) (λ called. never_then typed_never (λ p. never_ret _))
+
+perhaps_semicolon_never : Never perhaps_semicolon
+unfolding perhaps_semicolon
+perhaps_semicolon_never = never_if _ (never_then (never_token _) (λ semicolon. never_ret _)) (never_ret _)
+
+title_never : Never title
+unfolding title
+title_never = never_then (never_token _) (λ at. never_token _)
+
+next_name_never : Never next_name
+unfolding next_name
+next_name_never = never_then (never_token _) (λ comma. never_then (never_token _) (λ called. never_ret _))
+
+-- nor the head of a method, an interface or names
+module _ (g : Rules) (more : Never (g typed_parts)) where
+  typed_parts_never : Never (typed_parts_by g)
+  unfolding typed_parts_by
+  typed_parts_never = never_if _ (never_then next_part_never (λ one. never_then more (λ others. never_ret _))) (never_ret _)
+
+  selector_never : (called : List ℕ) → Never (selector_by g called)
+  unfolding selector_by
+  selector_never called = never_if _ (never_then typed_never (λ p. never_then more (λ others. never_ret _))) (never_ret _)
+
+  method_head_never : Never (method_head_by g)
+  unfolding method_head_by
+  method_head_never = never_then (never_token _) (λ at. never_then (never_token _) (λ start. never_then result_never (λ kind. never_then (never_token _) (λ end. never_then (never_token _) (λ called.
+      never_then (selector_never called.1) (λ all. never_ret _))))))
+
+  next_head_never : Never (next_head_by g)
+  unfolding next_head_by
+  next_head_never = never_then method_head_never (λ one. never_then (never_token _) (λ end. never_ret _))
+
+  module _ (others : Never (g heads)) where
+    heads_never : Never (heads_by g)
+    unfolding heads_by
+    heads_never = never_if _ (never_then next_head_never (λ one. never_then others (λ all. never_ret _))) (never_ret _)
+
+    interface_never : Never (interface_by g)
+    unfolding interface_by
+    interface_never = never_then (never_token _) (λ at. never_then (never_token _) (λ called. never_then (never_token _) (λ colon. never_then (never_token _) (λ super. never_then others (λ all. never_then (never_token _) (λ end. never_ret _))))))
+
+module _ (g : Rules) (more : Never (g more_names)) where
+  more_names_never : Never (more_names_by g)
+  unfolding more_names_by
+  more_names_never = never_if _ (never_then next_name_never (λ one. more)) (never_ret _)
+
+  names_never : Never (names_by g)
+  unfolding names_by
+  names_never = never_then (never_token _) (λ at. never_then (never_token _) (λ called. never_then more (λ others. never_then (never_token _) (λ end. never_ret _))))
+
 -- ---- the rules
 
 -- behind these tokens begin items of a block that are nested so deep
 abbrev Items : Limits → ℕ → List Tok → Type 0
 Items limits d before = (all : StmtTrees) (ys : List Tok) → SpellsStmts limits d all ys → Begins limits may d (before ++ ys)
 
--- behind these tokens begin functions
-abbrev Functions : Limits → List Tok → Type 0
-Functions limits before = (fs : List FunctionTree) (ys : List Tok) → SpellsUnit limits fs ys → (all : List FunctionTree) × SpellsUnit limits all (before ++ ys)
+-- behind these tokens begin methods of an implementation
+abbrev Methods : Limits → List Tok → Type 0
+Methods limits before = (all : List MethodTree) (ds : List Tok) → SpellsMethods limits all ds → (h : HeadTree) (hs ss : List Tok) → SpellsMethodHead h hs → (Nothing ∣ The m.Semicolon) ss
+    → BeginsBody limits (before ++ (ds ++ (hs ++ ss)))
+
+-- behind these tokens a unit goes on
+abbrev Tops : Limits → List Tok → Type 0
+Tops limits before = (some : List TopTree) (ys : List Tok) → SpellsTops limits some ys → (all : List TopTree) × SpellsTops limits all (before ++ ys)
+
+-- of a block of a function or a method
+abbrev Braced : Limits → List Tok → List Tok → Type 0
+Braced limits xs r = (before : List Tok) → BeginsBody limits before → TooDeep limits (before ++ xs) r
 
 -- of a variable
 abbrev Varies : Limits → List Tok → List Tok → Type 0
@@ -93,7 +159,11 @@ Told limits (stmt d) xs r = (before : List Tok) → Begins limits must d before 
 Told limits (items d) xs r = (before : List Tok) → Items limits d before → TooDeep limits (before ++ xs) r
 Told limits more_variables xs r = (before vs : List Tok) (v : VariableTree) → BeginsVariable limits before → SpellsVariable limits v vs → TooDeep limits (before ++ (vs ++ xs)) r
 Told limits more_parameters xs r = ⊥
-Told limits functions xs r = (before : List Tok) → Functions limits before → TooDeep limits (before ++ xs) r
+Told limits more_names xs r = ⊥
+Told limits typed_parts xs r = ⊥
+Told limits heads xs r = ⊥
+Told limits methods xs r = (before : List Tok) → Methods limits before → TooDeep limits (before ++ xs) r
+Told limits tops xs r = (before : List Tok) → Tops limits before → TooDeep limits (before ++ xs) r
 
 -- of a statement
 abbrev By : Limits → ℕ → List Tok → List Tok → Type 0
@@ -110,6 +180,12 @@ assoc_comma a b c d e = simp append_assoc
 
 assoc_else : (a b c d e f : List Tok) → (a ++ ((b ++ c) ++ (d ++ e))) ++ f ≡ a ++ (b ++ (c ++ (d ++ (e ++ f))))
 assoc_else a b c d e f = simp append_assoc
+
+assoc_methods : (a b c d : List Tok) → a ++ ((b ++ c) ++ d) ≡ (a ++ b) ++ (c ++ d)
+assoc_methods a b c d = simp append_assoc
+
+assoc_title : (a b c : List Tok) → (a ++ []) ++ (b ++ c) ≡ (a ++ b) ++ c
+assoc_title a b c = ap (λ v. v ++ (b ++ c)) (append-nil a) ∙ sym (append_assoc a b c)
 
 -- what is refused so nowhere
 never_of : {A : Type 0} {f : Reader A} → Tells f (λ xs r. ⊥) → Never f
@@ -238,28 +314,68 @@ module _ (limits : Limits) where
         moved limits _ _ r (append_assoc before xs ys) (h (before ++ xs) (λ all zs z. subst (Begins limits may d) (sym (append_assoc before xs zs)) (its (and_stmt s all) (xs ++ zs) (xs, zs, refl, x, z))))))
         (λ others. tells_never (never_ret _))))
 
-    body_by_tells : (kind : Kind) (called : ℕ × List ℕ) (ps : ParametersTree) → Tells (body_by g) (λ ys r. (hs : List Tok) → SpellsHead kind called ps hs → Told limits functions (hs ++ ys) r)
+    braces_tells : Tells (braces_by g) (Braced limits)
+    unfolding braces_by
+    braces_tells = tells_then (to_of (sound_expect m.OpenBrace)) (tells_never (never_token _)) (λ start. tells_then (sound (items 2))
+        (tells_as (rec (items 2)) (λ xs r h os o before b.
+        moved limits _ _ r (append_assoc before os xs) (h (before ++ os) (λ all ys s. subst (Begins limits may 2) (sym (append_assoc before os ys)) (in_body limits before os ys all b (start, o) s)))))
+        (λ all. tells_never (never_then (never_token _) (λ end. never_ret _))))
+
+    body_by_tells : (kind : Kind) (called : ℕ × List ℕ) (ps : ParametersTree) → Tells (body_by g) (λ ys r. (hs : List Tok) → SpellsHead kind called ps hs → Told limits tops (hs ++ ys) r)
     unfolding body_by
     body_by_tells kind called ps = tells_if _ (tells_never (never_then (never_token _) (λ end. never_ret _)))
-        (tells_then (to_of (sound_expect m.OpenBrace)) (tells_never (never_token _)) (λ start. tells_then (sound (items 2))
-        (tells_as (rec (items 2)) (λ xs r h os o hs k before fs.
-        moved limits _ _ r (assoc_three before hs os xs) (h (before ++ (hs ++ os)) (λ all ys s.
+        (tells_then (braces_sound limits g sound) (tells_as braces_tells (λ xs r h hs k before fs.
         let u = fs [] [] refl in
-        subst (Begins limits may 2) (ap (λ v. v ++ (hs ++ (os ++ ys))) (append-nil before) ∙ sym (assoc_three before hs os ys))
-        (in_body limits (before ++ []) hs os ys u.0 kind called ps all u.1 k (start, o) s)))))
-        (λ all. tells_never (never_then (never_token _) (λ end. never_ret _)))))
+        moved limits _ _ r (append_assoc before hs xs) (h (before ++ hs)
+        (subst (BeginsBody limits) (ap (λ v. v ++ hs) (append-nil before)) (of_function limits (before ++ []) hs u.0 kind called ps u.1 k)))))
+        (λ all. tells_never (never_ret _)))
 
-    function_tells : Tells (function_by g) (Told limits functions)
+    function_tells : Tells (function_by g) (Told limits tops)
     unfolding function_by
     function_tells = tells_then (head_sound limits g sound) (tells_never (head_never g (never_of (rec more_parameters)))) (λ f. tells_then (body_by_sound limits g sound) (body_by_tells f.0 f.1 f.2) (λ b. tells_never (never_ret _)))
 
-    functions_tells : Tells (functions_by g) (Told limits functions)
-    unfolding functions_by
-    functions_tells = tells_if _ (tells_then (function_sound limits g sound) function_tells (λ f. tells_then (sound functions)
-        (tells_as (rec functions) (λ ys r h xs x before fs.
-        moved limits _ _ r (append_assoc before xs ys) (h (before ++ xs) (λ gs zs z.
-        let u = fs (f ∷ gs) (xs ++ zs) (xs, zs, refl, x, z) in
-        (u.0, subst (SpellsUnit limits u.0) (sym (append_assoc before xs zs)) u.1)))))
+    -- ---- classes
+
+    method_tells : Tells (method_by g) (Told limits methods)
+    unfolding method_by
+    method_tells = tells_then (method_head_sound limits g sound) (tells_never (method_head_never g (never_of (rec typed_parts)))) (λ one. tells_then (to_of perhaps_semicolon_sound) (tells_never perhaps_semicolon_never) (λ semicolon.
+        tells_then (braces_sound limits g sound) (tells_as braces_tells (λ xs r h ss s hs k before ms.
+        moved limits _ _ r (assoc_three before hs ss xs) (h (before ++ (hs ++ ss)) (ms [] [] refl one hs ss k s))))
+        (λ all. tells_never (never_ret _))))
+
+    methods_tells : Tells (methods_by g) (Told limits methods)
+    unfolding methods_by
+    methods_tells = tells_if _ (tells_then (method_sound limits g sound) method_tells (λ one. tells_then (sound methods)
+        (tells_as (rec methods) (λ ys r h xs x before ms.
+        moved limits _ _ r (append_assoc before xs ys) (h (before ++ xs) (λ all ds d head hs ss k s.
+        subst (BeginsBody limits) (assoc_methods before xs ds (hs ++ ss)) (ms (one ∷ all) (xs ++ ds) (xs, ds, refl, x, d) head hs ss k s)))))
+        (λ others. tells_never (never_ret _)))) (tells_never (never_ret _))
+
+    implementation_tells : Tells (implementation_by g) (Told limits tops)
+    unfolding implementation_by
+    implementation_tells = tells_then (to_of title_sound) (tells_never title_never) (λ called. tells_then (sound methods)
+        (tells_as (rec methods) (λ ys r h ks k before fs.
+        let u = fs [] [] refl in
+        moved limits _ _ r (append_assoc before ks ys) (h (before ++ ks) (λ all ds d head hs ss p s.
+        subst (BeginsBody limits) (assoc_title before ks (ds ++ (hs ++ ss))) (of_method limits (before ++ []) ks ds hs ss u.0 called.0 called.1 all head u.1 k d p s)))))
+        (λ all. tells_never (never_then (never_token _) (λ end. never_ret _))))
+
+    -- ---- units
+
+    top_tells : Tells (top_by g) (Told limits tops)
+    unfolding top_by names_top_by interface_top_by implementation_top_by function_top_by
+    top_tells = tells_if _ (tells_never (never_then (names_never g (never_of (rec more_names))) (λ one. never_ret _)))
+        (tells_if _ (tells_never (never_then (interface_never g (never_of (rec typed_parts)) (never_of (rec heads))) (λ one. never_ret _)))
+        (tells_if _ (tells_then (implementation_sound limits g sound) implementation_tells (λ one. tells_never (never_ret _)))
+        (tells_then (function_sound limits g sound) function_tells (λ one. tells_never (never_ret _)))))
+
+    tops_tells : Tells (tops_by g) (Told limits tops)
+    unfolding tops_by
+    tops_tells = tells_if _ (tells_then (top_sound limits g sound) top_tells (λ one. tells_then (sound tops)
+        (tells_as (rec tops) (λ ys r h xs x before fs.
+        moved limits _ _ r (append_assoc before xs ys) (h (before ++ xs) (λ others zs z.
+        let u = fs (one ∷ others) (xs ++ zs) (xs, zs, refl, x, z) in
+        (u.0, subst (SpellsTops limits u.0) (sym (append_assoc before xs zs)) u.1)))))
         (λ others. tells_never (never_ret _)))) (tells_never (never_ret _))
 
     body_tells : (rule : Rule) → Tells (body limits g rule) (Told limits rule)
@@ -268,7 +384,11 @@ module _ (limits : Limits) where
     body_tells (items d) = items_tells d
     body_tells more_variables = more_variables_tells
     body_tells more_parameters = tells_never (more_parameters_never g (never_of (rec more_parameters)))
-    body_tells functions = functions_tells
+    body_tells more_names = tells_never (more_names_never g (never_of (rec more_names)))
+    body_tells typed_parts = tells_never (typed_parts_never g (never_of (rec typed_parts)))
+    body_tells heads = tells_never (heads_never g (never_of (rec typed_parts)) (never_of (rec heads)))
+    body_tells methods = methods_tells
+    body_tells tops = tops_tells
 
   deep_tells : (n : ℕ) (rule : Rule) → Tells (deep (body limits) n rule) (Told limits rule)
   unfolding deep
@@ -280,4 +400,11 @@ module _ (limits : Limits) where
   read_tells rule = record { each = λ ts r e. (deep_tells _ rule).each ts r e }
 
   pub unit_tells : (ts r : List Tok) → unit limits ts ≡ Err (too_deep, r) → (xs : List Tok) × (ts ≡ xs ++ r) × TooDeep limits xs r
-  unit_tells ts r e = let p = (read_tells functions).each ts r e in (p.0, p.1, p.2 [] (λ fs ys h. (fs, h)))
+  unit_tells ts r e = go (read limits tops ts) refl e
+    where
+      go : (x : Read (List TopTree)) → read limits tops ts ≡ x → bind x (λ all. ret (unit_of all)) ≡ Err (too_deep, r) → (xs : List Tok) × (ts ≡ xs ++ r) × TooDeep limits xs r
+      go (Ok x) q h = cc
+      go (Err x) q h =
+          let is : x ≡ (too_deep, r) = cc in
+          let p = (read_tells tops).each ts r (q ∙ ap (λ y. Err y) is) in
+          (p.0, p.1, p.2 [] (λ some ys s. (some, s)))

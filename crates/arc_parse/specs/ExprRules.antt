@@ -1,28 +1,36 @@
 -- The rules of expressions as readers. Each gets what reads the rules that it asks for.
-use Rattle.std.specs.Prelude.{ℕ, zero, suc, ◌-◌, List, Bool, true, false, nat_eq, Option, Some, None, if◌then◌else◌}
+use Rattle.std.specs.Prelude.{ℕ, zero, suc, ◌-◌, List, [], Bool, true, false, nat_eq, Option, Some, None, if◌then◌else◌}
 use Rattle.arc_lex.specs.declared.token.Mark.{Mark}
 use Rattle.arc_lex.specs.declared.token.Mark.TheVariants as m
+use Rattle.arc_lex.specs.declared.token.Word.TheVariants as w
 use Rattle.arc_lex.specs.Tokens.{Tok, Sort, Sign}
 use Rattle.arc_lex.specs.Tokens as tokens
 use Rattle.arc_ast.specs.declared.tree.BinaryOperator.{BinaryOperator}
 use Rattle.arc_ast.specs.declared.tree.BinaryOperator.TheVariants.{Add, Subtract, Multiply, Divide, NotEqual}
-use Rattle.arc_ast.specs.Tree.{ExprTree, ExprTrees, Integer, Text, Paren, Call, Negate, Binary, Name, Assign, no_exprs, and_expr, place}
+use Rattle.arc_ast.specs.Tree.{ReceiverTree, ExprTree, ExprTrees, Named, Itself, Super, Integer, Text, Paren, Call, Negate, Binary, Name, Assign, Send, no_exprs, and_expr, begins}
+use Rattle.arc_parse.specs.Grammar.{and_part}
 use Rattle.arc_parse.specs.Knot.{tied}
-use Rattle.arc_parse.specs.Reader.{Reader, ◌>>=◌, ret, token, expect, name, if_first, if_mark, if_name}
+use Rattle.arc_parse.specs.Reader.{Reader, ◌>>=◌, ret, token, expect, keyword, name, if_first, if_mark, if_word, if_name}
 
 -- What is read by recursion: an expression, a unary one, the operators of a level behind a left operand with their right
--- operands, and the arguments of a call, one or more.
+-- operands, the arguments of a call, one or more, and the further parts of a message's selector with their arguments.
 pub data Rule : Type 0 where
   expr : Rule
   unary : Rule
   more : ℕ → ExprTree → Rule
   arguments : Rule
+  parts : Rule
+
+-- the bytes of parts of a selector, and the arguments
+abbrev pub Sent : Type 0
+Sent = List ℕ × ExprTrees
 
 abbrev pub Node : Rule → Type 0
 Node expr = ExprTree
 Node unary = ExprTree
 Node (more l left) = ExprTree
 Node arguments = ExprTrees
+Node parts = Sent
 
 abbrev pub Rules : Type 0
 Rules = (rule : Rule) → Reader (Node rule)
@@ -88,8 +96,47 @@ named_by of = do
   called ← name
   if_mark m.OpenParen (call_by of called) (ret (Name called.0 called.1))
 
+-- a name, `self` or `super`
+unfoldable pub receiver : Reader ReceiverTree
+receiver = if_word w.SelfWord (do
+  at ← keyword w.SelfWord
+  ret (Itself at))
+    (if_word w.Super (do
+      at ← keyword w.Super
+      ret (Super at))
+    (do
+      called ← name
+      ret (Named called.0 called.1)))
+
+-- what is behind the name of a selector's part: a colon, an argument and further parts
+unfoldable pub part_by : Rules → List ℕ → Reader Sent
+part_by of called = do
+  colon ← expect m.Colon
+  one ← of expr
+  others ← of parts
+  ret (and_part called others.0, and_expr one others.1)
+
+unfoldable pub parts_by : Rules → Reader Sent
+parts_by of = if_name (do
+  called ← name
+  part_by of called.1)
+    (ret ([], no_exprs))
+
+-- what is behind the first name of a selector
+unfoldable pub sent_by : Rules → List ℕ → Reader Sent
+sent_by of called = if_mark m.Colon (part_by of called) (ret (called, no_exprs))
+
+unfoldable pub message_by : Rules → Reader ExprTree
+message_by of = do
+  at ← expect m.OpenSquare
+  to ← receiver
+  called ← name
+  all ← sent_by of called.1
+  end ← expect m.CloseSquare
+  ret (Send at called.0 to all.0 all.1)
+
 unfoldable pub primary_by : Rules → Reader ExprTree
-primary_by of = if_name (named_by of) (if_mark m.OpenParen (parenthesized_by of) literal)
+primary_by of = if_name (named_by of) (if_mark m.OpenParen (parenthesized_by of) (if_mark m.OpenSquare (message_by of) literal))
 
 unfoldable pub negate_by : Rules → Reader ExprTree
 negate_by of = do
@@ -111,7 +158,7 @@ unfoldable pub more_by : Rules → ℕ → ExprTree → Reader ExprTree
 more_by of l left = if_first (is_operator l) (do
   between ← operator l
   right ← binary_by of (l - 1)
-  of (more l (Binary (place left) between left right)))
+  of (more l (Binary (begins left) between left right)))
     (ret left)
 
 -- whether this may be the left side of an assignment
@@ -124,7 +171,7 @@ unfoldable pub assign_by : Rules → ExprTree → Reader ExprTree
 assign_by of left = if_mark m.Assign (do
   sign ← expect m.Assign
   right ← of expr
-  ret (Assign (place left) sign left right))
+  ret (Assign (begins left) sign left right))
     (ret left)
 
 unfoldable pub expr_by : Rules → Reader ExprTree
@@ -146,6 +193,7 @@ body of expr = expr_by of
 body of unary = unary_by of
 body of (more l left) = more_by of l left
 body of arguments = arguments_by of
+body of parts = parts_by of
 
 -- the rules, each with all of them
 abbrev pub read : Rules

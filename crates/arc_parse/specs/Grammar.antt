@@ -1,16 +1,17 @@
 -- The grammar: which tokens spell which tree. Each line of a definition is one line of the grammar.
-use Rattle.std.specs.Prelude.{◌≡◌, ◌≤◌, ◌+◌, ℕ, suc, List, [], ◌∷◌, Bool, true, false, Option, Some, None}
+use Rattle.std.specs.Prelude.{◌≡◌, ◌≤◌, ◌+◌, ℕ, zero, suc, List, [], ◌∷◌, ◌++◌, Bool, true, false, Option, Some, None}
 use Rattle.arc_lex.specs.declared.token.Mark.{Mark}
 use Rattle.arc_lex.specs.declared.token.Mark.TheVariants as m
 use Rattle.arc_lex.specs.declared.token.Word.TheVariants as w
+use Rattle.arc_lex.specs.declared.token.AtWord.TheVariants as words
 use Rattle.arc_lex.specs.Tokens.{Tok, Sign, Key}
 use Rattle.arc_lex.specs.Tokens as tokens
 use Rattle.arc_ast.specs.declared.tree.Kind.{Kind}
 use Rattle.arc_ast.specs.declared.tree.Kind.TheVariants as kinds
 use Rattle.arc_ast.specs.declared.tree.BinaryOperator.{BinaryOperator}
 use Rattle.arc_ast.specs.declared.tree.BinaryOperator.TheVariants.{Add, Subtract, Multiply, Divide, NotEqual}
-use Rattle.arc_ast.specs.Tree.{ExprTree, ExprTrees, VariableTree, StmtTree, StmtTrees, ParameterTree, ParametersTree, FunctionTree, Integer, Text, Paren, Call, Negate, Binary, Name, Assign, no_exprs, and_expr, Block, Empty, Simple, Return, Variables, If, IfElse, While, no_stmts, and_stmt, Ints, CountAndTexts, place}
-use Rattle.arc_parse.specs.Language.{Language, Nothing, Nowhere, ◌⨾◌, ◌∣◌, One, The, TheWord, SomeName}
+use Rattle.arc_ast.specs.Tree.{ReceiverTree, ExprTree, ExprTrees, VariableTree, StmtTree, StmtTrees, ParameterTree, ParametersTree, FunctionTree, HeadTree, MethodTree, InterfaceTree, ImplementationTree, UnitTree, Named, Itself, Super, Integer, Text, Paren, Call, Negate, Binary, Name, Assign, Send, no_exprs, and_expr, Block, Empty, Simple, Return, Variables, If, IfElse, While, no_stmts, and_stmt, Ints, CountAndTexts, begins}
+use Rattle.arc_parse.specs.Language.{Language, Nothing, Nowhere, ◌⨾◌, ◌∣◌, One, The, TheWord, TheAt, SomeName}
 use Rattle.arc_parse.specs.Limits.{Limits, Nested, Short}
 
 -- ---- expressions (C99, section 6.5)
@@ -35,7 +36,17 @@ binds NotEqual = 3
 abbrev pub widest : ℕ
 widest = 5
 
--- Levels, the tightest first: 0 a primary (6.5.1, and a call, 6.5.2.2), 1 a unary expression (6.5.3), 2 a product (6.5.5),
+-- what a message is sent to (OPL, "Objects, Classes, and Messaging")
+abbrev pub SpellsReceiver : ReceiverTree → Language
+SpellsReceiver (Named at called) = One (tokens.Name called) at
+SpellsReceiver (Itself at) = One (Key w.SelfWord) at
+SpellsReceiver (Super at) = One (Key w.Super) at
+
+-- the bytes of a selector's part and of its colon, in front of further parts
+abbrev pub and_part : List ℕ → List ℕ → List ℕ
+and_part called further = called ++ 58 ∷ further
+
+-- Levels, the tightest first: 0 a primary (6.5.1, a call, 6.5.2.2, and a message, OPL, "Objects, Classes, and Messaging"), 1 a unary expression (6.5.3), 2 a product (6.5.5),
 -- 3 a sum (6.5.6), 4 a test of inequality (6.5.9), 5 an assignment (6.5.16). An expression of a level stands wherever a
 -- looser one may. The left operand of a binary operator is of the operator's own level, so that operators of one level group
 -- from the left, and the right one of the next tighter; assignments group from the right.
@@ -46,10 +57,11 @@ abbrev mutual
   Spells l (Paren at a) = One (Sign m.OpenParen) at ⨾ Spells widest a ⨾ The m.CloseParen
   Spells l (Call at called args) = One (tokens.Name called) at ⨾ The m.OpenParen ⨾ SpellsArguments args ⨾ The m.CloseParen
   Spells l (Negate at a) = λ ts. (1 ≤ l) × (One (Sign m.Minus) at ⨾ Spells 1 a) ts
-  Spells l (Binary at operator a b) = λ ts. (1 + binds operator ≤ l) × (at ≡ place a)
+  Spells l (Binary at operator a b) = λ ts. (1 + binds operator ≤ l) × (at ≡ begins a)
       × (Spells (1 + binds operator) a ⨾ The (mark_of operator) ⨾ Spells (binds operator) b) ts
   Spells l (Name at called) = One (tokens.Name called) at
-  Spells l (Assign at sign a b) = λ ts. (5 ≤ l) × (at ≡ place a) × (Spells 1 a ⨾ One (Sign m.Assign) sign ⨾ Spells widest b) ts
+  Spells l (Assign at sign a b) = λ ts. (5 ≤ l) × (at ≡ begins a) × (Spells 1 a ⨾ One (Sign m.Assign) sign ⨾ Spells widest b) ts
+  Spells l (Send at part to selector args) = One (Sign m.OpenSquare) at ⨾ SpellsReceiver to ⨾ SpellsSent part selector args ⨾ The m.CloseSquare
 
   -- arguments, with a comma between two
   pub SpellsArguments : ExprTrees → Language
@@ -60,6 +72,18 @@ abbrev mutual
   pub SpellsMore : ExprTrees → Language
   SpellsMore no_exprs = Nothing
   SpellsMore (and_expr a others) = The m.Comma ⨾ Spells widest a ⨾ SpellsMore others
+
+  -- a message's selector, whose first part is at this place, with the arguments: a name alone, or parts with one each
+  pub SpellsSent : ℕ → List ℕ → ExprTrees → Language
+  SpellsSent part selector no_exprs = One (tokens.Name selector) part
+  SpellsSent part selector (and_expr b others) = λ ts. (called further : List ℕ) × (selector ≡ and_part called further)
+      × (One (tokens.Name called) part ⨾ The m.Colon ⨾ Spells widest b ⨾ SpellsParts further others) ts
+
+  -- further parts of a selector with their arguments
+  pub SpellsParts : List ℕ → ExprTrees → Language
+  SpellsParts selector no_exprs = λ ts. (selector ≡ []) × Nothing ts
+  SpellsParts selector (and_expr b others) = λ ts. (at : ℕ) × (called further : List ℕ) × (selector ≡ and_part called further)
+      × (One (tokens.Name called) at ⨾ The m.Colon ⨾ Spells widest b ⨾ SpellsParts further others) ts
 
 -- ---- statements (C99, section 6.8)
 
@@ -157,10 +181,14 @@ SpellsParameters called (Ints (p ∷ others)) = SpellsParameter p ⨾ SpellsMore
 SpellsParameters called CountAndTexts = λ ts. (called ≡ main_bytes)
     × (TheWord w.Int ⨾ SomeName ⨾ The m.Comma ⨾ (Nothing ∣ TheWord w.Const) ⨾ TheWord w.Char ⨾ The m.Star ⨾ TextsName) ts
 
--- `;` or a block, whose statements are at depth 2
+-- the block of a function or a method, whose statements are at depth 2
+abbrev pub SpellsBraces : Limits → StmtTrees → Language
+SpellsBraces limits all = The m.OpenBrace ⨾ SpellsStmts limits 2 all ⨾ The m.CloseBrace
+
+-- `;` or a block
 abbrev pub SpellsBody : Limits → Option StmtTrees → Language
 SpellsBody limits None = The m.Semicolon
-SpellsBody limits (Some all) = The m.OpenBrace ⨾ SpellsStmts limits 2 all ⨾ The m.CloseBrace
+SpellsBody limits (Some all) = SpellsBraces limits all
 
 -- the kind of the result, the name with its place, `(`, the parameters and `)`
 abbrev pub SpellsHead : Kind → ℕ × List ℕ → ParametersTree → Language
@@ -169,7 +197,97 @@ SpellsHead kind called ps = SpellsResult kind ⨾ One (tokens.Name called.1) cal
 abbrev pub SpellsFunction : Limits → FunctionTree → Language
 SpellsFunction limits f = SpellsHead f.result (f.at, f.name) f.parameters ⨾ SpellsBody limits f.body
 
--- a translation unit (6.9)
-abbrev pub SpellsUnit : Limits → List FunctionTree → Language
-SpellsUnit limits [] = Nothing
-SpellsUnit limits (f ∷ others) = SpellsFunction limits f ⨾ SpellsUnit limits others
+-- ---- classes (OPL, "Defining a Class")
+
+-- what is behind the name of a selector's part: a colon, `int` in parentheses and the parameter's name
+abbrev pub SpellsTyped : ParameterTree → Language
+SpellsTyped p = The m.Colon ⨾ The m.OpenParen ⨾ TheWord w.Int ⨾ The m.CloseParen ⨾ One (tokens.Name p.name) p.at
+
+-- parts of a selector, each with its parameter
+abbrev pub SpellsTypedParts : List ℕ → List ParameterTree → Language
+SpellsTypedParts selector [] = λ ts. (selector ≡ []) × Nothing ts
+SpellsTypedParts selector (p ∷ others) = λ ts. (at : ℕ) × (called further : List ℕ) × (selector ≡ and_part called further)
+    × (One (tokens.Name called) at ⨾ SpellsTyped p ⨾ SpellsTypedParts further others) ts
+
+-- the selector of a method: a name alone, or one part or more
+abbrev pub SpellsSelector : List ℕ → List ParameterTree → Language
+SpellsSelector selector [] = λ ts. (at : ℕ) × One (tokens.Name selector) at ts
+SpellsSelector selector (p ∷ others) = SpellsTypedParts selector (p ∷ others)
+
+-- `+` of a class method, the kind of the result in parentheses and the selector
+abbrev pub SpellsMethodHead : HeadTree → Language
+SpellsMethodHead h = One (Sign m.Plus) h.at ⨾ The m.OpenParen ⨾ SpellsResult h.result ⨾ The m.CloseParen ⨾ SpellsSelector h.selector h.parameters
+
+-- the methods that an interface declares
+abbrev pub SpellsHeads : List HeadTree → Language
+SpellsHeads [] = Nothing
+SpellsHeads (h ∷ others) = SpellsMethodHead h ⨾ The m.Semicolon ⨾ SpellsHeads others
+
+-- a method's definition; `;` may stand before the block
+abbrev pub SpellsMethod : Limits → MethodTree → Language
+SpellsMethod limits method = SpellsMethodHead method.head ⨾ (Nothing ∣ The m.Semicolon) ⨾ SpellsBraces limits method.body
+
+abbrev pub SpellsMethods : Limits → List MethodTree → Language
+SpellsMethods limits [] = Nothing
+SpellsMethods limits (method ∷ others) = SpellsMethod limits method ⨾ SpellsMethods limits others
+
+-- `@interface`, the class's name, its superclass's and its methods
+abbrev pub SpellsInterface : InterfaceTree → Language
+SpellsInterface i = TheAt words.Interface ⨾ One (tokens.Name i.name) i.at ⨾ The m.Colon ⨾ One (tokens.Name i.superclass) i.superclass_at ⨾ SpellsHeads i.methods ⨾ TheAt words.End
+
+-- `@implementation` and the class's name
+abbrev pub SpellsTitle : ℕ → List ℕ → Language
+SpellsTitle at called = TheAt words.Implementation ⨾ One (tokens.Name called) at
+
+abbrev pub SpellsImplementation : Limits → ImplementationTree → Language
+SpellsImplementation limits i = SpellsTitle i.at i.name ⨾ SpellsMethods limits i.methods ⨾ TheAt words.End
+
+-- so many names, each behind a comma
+abbrev pub MoreNames : ℕ → Language
+MoreNames zero = Nothing
+MoreNames (suc n) = The m.Comma ⨾ SomeName ⨾ MoreNames n
+
+-- `@class` and names of classes
+abbrev pub SpellsNames : Language
+SpellsNames = TheAt words.Class ⨾ SomeName ⨾ (λ ts. (n : ℕ) × MoreNames n ts) ⨾ The m.Semicolon
+
+-- ---- translation units (C99, section 6.9)
+
+-- what stands outside of all else
+pub data TopTree : Type 0 where
+  OfNames : TopTree
+  OfFunction : FunctionTree → TopTree
+  OfInterface : InterfaceTree → TopTree
+  OfImplementation : ImplementationTree → TopTree
+
+abbrev pub SpellsTop : Limits → TopTree → Language
+SpellsTop limits OfNames = SpellsNames
+SpellsTop limits (OfFunction f) = SpellsFunction limits f
+SpellsTop limits (OfInterface i) = SpellsInterface i
+SpellsTop limits (OfImplementation i) = SpellsImplementation limits i
+
+abbrev pub SpellsTops : Limits → List TopTree → Language
+SpellsTops limits [] = Nothing
+SpellsTops limits (one ∷ others) = SpellsTop limits one ⨾ SpellsTops limits others
+
+-- the functions among these, in their order
+abbrev pub functions_of : List TopTree → List FunctionTree
+functions_of [] = []
+functions_of (OfFunction f ∷ others) = f ∷ functions_of others
+functions_of (_ ∷ others) = functions_of others
+
+abbrev pub interfaces_of : List TopTree → List InterfaceTree
+interfaces_of [] = []
+interfaces_of (OfInterface i ∷ others) = i ∷ interfaces_of others
+interfaces_of (_ ∷ others) = interfaces_of others
+
+abbrev pub implementations_of : List TopTree → List ImplementationTree
+implementations_of [] = []
+implementations_of (OfImplementation i ∷ others) = i ∷ implementations_of others
+implementations_of (_ ∷ others) = implementations_of others
+
+abbrev pub unit_of : List TopTree → UnitTree
+unit_of all = record { functions = functions_of all; interfaces = interfaces_of all; implementations = implementations_of all }
+
+abbrev pub SpellsUnit : Limits → UnitTree → Language
+SpellsUnit limits u ts = (all : List TopTree) × (u ≡ unit_of all) × SpellsTops limits all ts

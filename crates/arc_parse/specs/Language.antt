@@ -2,7 +2,8 @@
 use Rattle.std.specs.Prelude.{◌≡◌, ◌⊎◌, ℕ, List, [], ◌∷◌, ◌++◌}
 use Rattle.arc_lex.specs.declared.token.Mark.{Mark}
 use Rattle.arc_lex.specs.declared.token.Word.{Word}
-use Rattle.arc_lex.specs.Tokens.{Tok, Sort, Name, Key, Sign}
+use Rattle.arc_lex.specs.declared.token.AtWord.{AtWord}
+use Rattle.arc_lex.specs.Tokens.{Tok, Sort, Name, Key, At, Sign}
 
 abbrev pub Language : Type 1
 Language = List Tok → Type 0
@@ -36,6 +37,10 @@ The mark = λ ts. (at : ℕ) × One (Sign mark) at ts
 -- this word
 abbrev pub TheWord : Word → Language
 TheWord word = λ ts. (at : ℕ) × One (Key word) at ts
+
+-- this word behind `@`
+abbrev pub TheAt : AtWord → Language
+TheAt word = λ ts. (at : ℕ) × One (At word) at ts
 
 -- some name
 abbrev pub SomeName : Language

@@ -1,8 +1,10 @@
 -- Readers of tokens: each goes from left to right and stops at the first token that it refuses.
-use Rattle.std.specs.Prelude.{◌≡◌, ℕ, List, [], ◌∷◌, Result, Ok, Err, Bool, true, false, Option, Some, None, if◌then◌else◌}
+use Rattle.std.specs.Prelude.{◌≡◌, ℕ, List, [], ◌∷◌, Result, Ok, Err, Bool, true, false, Option, Some, None, nat_eq, if◌then◌else◌}
 use Rattle.arc_lex.specs.declared.token.Mark.{Mark}
 use Rattle.arc_lex.specs.declared.token.Word.{Word}
-use Rattle.arc_lex.specs.Tokens.{Tok, Sort, Name, Key, Sign, toks, same_mark, same_word}
+use Rattle.arc_lex.specs.declared.token.AtWord.{AtWord}
+use Rattle.arc_lex.specs.declared.token.AtWord.TheVariants as words
+use Rattle.arc_lex.specs.Tokens.{Tok, Sort, Name, Key, At, Sign, toks, same_mark, same_word}
 use Rattle.arc_parse.specs.declared.fail.Fail.{Fail}
 use Rattle.arc_parse.specs.declared.fail.Fail.TheVariants.{Memory, Unexpected, TooDeep}
 
@@ -83,6 +85,30 @@ abbrev pub is_word : Word → Sort → Bool
 is_word word (Key found) = same_word found word
 is_word word _ = false
 
+-- the number of a word behind `@`, by which two of them are told apart
+abbrev pub number_of_at : AtWord → ℕ
+number_of_at words.Class = 0
+number_of_at words.Protocol = 1
+number_of_at words.Interface = 2
+number_of_at words.Implementation = 3
+number_of_at words.End = 4
+number_of_at words.Property = 5
+number_of_at words.Synthesize = 6
+number_of_at words.Public = 7
+number_of_at words.Protected = 8
+number_of_at words.Private = 9
+number_of_at words.Required = 10
+number_of_at words.Optional = 11
+number_of_at words.Selector = 12
+number_of_at words.AutoreleasePool = 13
+
+abbrev pub same_at : AtWord → AtWord → Bool
+same_at found word = nat_eq (number_of_at found) (number_of_at word)
+
+abbrev pub is_at : AtWord → Sort → Bool
+is_at word (At found) = same_at found word
+is_at word _ = false
+
 abbrev pub is_name : Sort → Bool
 is_name (Name bytes) = true
 is_name _ = false
@@ -93,6 +119,9 @@ sees_mark mark = begins (λ t. is_mark mark t.sort)
 abbrev pub sees_word : Word → List Tok → Bool
 sees_word word = begins (λ t. is_word word t.sort)
 
+abbrev pub sees_at : AtWord → List Tok → Bool
+sees_at word = begins (λ t. is_at word t.sort)
+
 abbrev pub sees_name : List Tok → Bool
 sees_name = begins (λ t. is_name t.sort)
 
@@ -101,6 +130,9 @@ if_mark mark = if_first (λ t. is_mark mark t.sort)
 
 abbrev pub if_word : {A : Type 0} → Word → Reader A → Reader A → Reader A
 if_word word = if_first (λ t. is_word word t.sort)
+
+abbrev pub if_at : {A : Type 0} → AtWord → Reader A → Reader A → Reader A
+if_at word = if_first (λ t. is_at word t.sort)
 
 abbrev pub if_name : {A : Type 0} → Reader A → Reader A → Reader A
 if_name = if_first (λ t. is_name t.sort)
@@ -116,6 +148,10 @@ expect mark = token (place_if (is_mark mark))
 -- this word, which gives its place
 abbrev pub keyword : Word → Reader ℕ
 keyword word = token (place_if (is_word word))
+
+-- this word behind `@`, which gives its place
+abbrev pub at_word : AtWord → Reader ℕ
+at_word word = token (place_if (is_at word))
 
 abbrev pub name_of : ℕ → Sort → Option (ℕ × List ℕ)
 name_of at (Name bytes) = Some (at, bytes)

@@ -1,7 +1,7 @@
 -- What a refusal says of the tokens.
 use Rattle.std.specs.Prelude.{◌≡◌, ℕ, List, [], ◌∷◌, ◌++◌}
 use Rattle.arc_lex.specs.Tokens.{Tok}
-use Rattle.arc_ast.specs.Tree.{FunctionTree}
+use Rattle.arc_ast.specs.Tree.{UnitTree}
 use Rattle.arc_parse.specs.declared.fault.ParseFault.{ParseFault}
 use Rattle.arc_parse.specs.declared.fault.ParseFault.TheVariants as faults
 use Rattle.arc_parse.specs.Reader.{first}
@@ -26,7 +26,7 @@ place_of all (t ∷ rest) = t.from
 -- place is the end, and no unit spells the tokens.
 abbrev pub FitsNone : List Tok → ℕ → Type 0
 FitsNone all at = (before rest : List Tok) × (all ≡ before ++ rest) × (at ≡ place_of all rest)
-    × ((others : List Tok) (u : List FunctionTree) → first others ≡ first rest → SpellsUnit unlimited u (before ++ others) → ⊥)
+    × ((others : List Tok) (u : UnitTree) → first others ≡ first rest → SpellsUnit unlimited u (before ++ others) → ⊥)
 
 -- The token at this place passes a limit.
 abbrev pub PassesLimit : List Tok → ℕ → Type 0

@@ -5,10 +5,10 @@ use Rattle.arc_lex.specs.declared.token.Word.{Word}
 use Rattle.arc_lex.specs.declared.token.Word.TheVariants as w
 use Rattle.arc_lex.specs.Tokens.{Tok, Sort, Sign}
 use Rattle.arc_ast.specs.declared.tree.Kind.{Kind}
-use Rattle.arc_ast.specs.Tree.{ExprTree, VariableTree, StmtTree, StmtTrees, ParametersTree, FunctionTree, Name, Negate, Binary, Assign}
-use Rattle.arc_parse.specs.Language.{Language, ◌⨾◌, The, TheWord, SomeName}
+use Rattle.arc_ast.specs.Tree.{ExprTree, VariableTree, StmtTree, StmtTrees, ParametersTree, HeadTree, MethodTree, Name, Negate, Binary, Assign}
+use Rattle.arc_parse.specs.Language.{Language, Nothing, ◌⨾◌, ◌∣◌, The, TheWord, SomeName}
 use Rattle.arc_parse.specs.Limits.{Limits, AtMost, Nested, is_above}
-use Rattle.arc_parse.specs.Grammar.{widest, Spells, SpellsVariable, SpellsTest, SpellsStmt, SpellsStmts, SpellsHead, SpellsUnit}
+use Rattle.arc_parse.specs.Grammar.{widest, Spells, SpellsVariable, SpellsTest, SpellsStmt, SpellsStmts, SpellsHead, SpellsMethodHead, SpellsMethods, SpellsTitle, TopTree, SpellsTops}
 use Rattle.arc_parse.specs.Reader.{first, begins, is_mark}
 use Rattle.arc_parse.specs.ExprRules.{is_unary}
 use Rattle.arc_parse.specs.UnitRules.{begins_stmt}
@@ -28,11 +28,18 @@ takes_test _ = false
 abbrev pub Heading : Limits → Word → Language
 Heading limits word = TheWord word ⨾ (λ ts. (c : ExprTree) × SpellsTest limits c ts)
 
+-- Behind these tokens of a unit begins the block of a function, or that of a method.
+pub data BeginsBody : Limits → List Tok → Type 0 where
+  of_function : (limits : Limits) (us hs : List Tok) (before : List TopTree) (kind : Kind) (called : ℕ × List ℕ) (ps : ParametersTree)
+      → SpellsTops limits before us → SpellsHead kind called ps hs → BeginsBody limits (us ++ hs)
+  of_method : (limits : Limits) (us ks ds hs ss : List Tok) (before : List TopTree) (at : ℕ) (called : List ℕ) (ms : List MethodTree) (h : HeadTree)
+      → SpellsTops limits before us → SpellsTitle at called ks → SpellsMethods limits ms ds → SpellsMethodHead h hs → (Nothing ∣ The m.Semicolon) ss
+      → BeginsBody limits (us ++ (ks ++ (ds ++ (hs ++ ss))))
+
 -- Behind these tokens of a unit begins a statement, or may begin an item of a block, that is nested so deep. All that stands
 -- before it is spelled within the limits, and the statements around it are.
 pub data Begins : Limits → Role → ℕ → List Tok → Type 0 where
-  in_body : (limits : Limits) (us hs os xs : List Tok) (before : List FunctionTree) (kind : Kind) (called : ℕ × List ℕ) (ps : ParametersTree) (all : StmtTrees)
-      → SpellsUnit limits before us → SpellsHead kind called ps hs → The m.OpenBrace os → SpellsStmts limits 2 all xs → Begins limits may 2 (us ++ (hs ++ (os ++ xs)))
+  in_body : (limits : Limits) (before os xs : List Tok) (all : StmtTrees) → BeginsBody limits before → The m.OpenBrace os → SpellsStmts limits 2 all xs → Begins limits may 2 (before ++ (os ++ xs))
   in_block : (limits : Limits) (role : Role) (d : ℕ) (before os xs : List Tok) (all : StmtTrees)
       → Begins limits role d before → AtMost limits.depth d → The m.OpenBrace os → SpellsStmts limits (suc d) all xs → Begins limits may (suc d) (before ++ (os ++ xs))
   in_branch : (limits : Limits) (role : Role) (d : ℕ) (before hs : List Tok) (word : Word)

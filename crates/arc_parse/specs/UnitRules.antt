@@ -2,34 +2,48 @@
 use Rattle.std.specs.Prelude.{ℕ, suc, ◌||◌, ◌&&◌, List, [], ◌∷◌, Bool, true, false, Option, Some, None, bytes_eq}
 use Rattle.arc_lex.specs.declared.token.Mark.TheVariants as m
 use Rattle.arc_lex.specs.declared.token.Word.TheVariants as w
+use Rattle.arc_lex.specs.declared.token.AtWord.TheVariants as words
 use Rattle.arc_lex.specs.Tokens.{Tok, Sort}
 use Rattle.arc_lex.specs.Tokens as tokens
 use Rattle.arc_ast.specs.declared.tree.Kind.{Kind}
 use Rattle.arc_ast.specs.declared.tree.Kind.TheVariants as kinds
-use Rattle.arc_ast.specs.Tree.{ExprTree, VariableTree, StmtTree, StmtTrees, ParameterTree, ParametersTree, FunctionTree, Block, Empty, Simple, Return, Variables, If, IfElse, While, no_stmts, and_stmt, Ints, CountAndTexts}
-use Rattle.arc_parse.specs.Grammar.{main_bytes}
+use Rattle.arc_ast.specs.Tree.{ExprTree, VariableTree, StmtTree, StmtTrees, ParameterTree, ParametersTree, FunctionTree, HeadTree, MethodTree, InterfaceTree, ImplementationTree, UnitTree, Block, Empty, Simple, Return, Variables, If, IfElse, While, no_stmts, and_stmt, Ints, CountAndTexts}
+use Rattle.arc_parse.specs.Grammar.{TopTree, OfNames, OfFunction, OfInterface, OfImplementation, main_bytes, and_part, unit_of}
 use Rattle.arc_parse.specs.Knot.{tied}
 use Rattle.arc_parse.specs.Limits.{Limits, nested, up_to, plain}
-use Rattle.arc_parse.specs.Reader.{Reader, ◌>>=◌, ret, any, expect, keyword, name, if_first, if_mark, if_word, is_mark, is_word}
+use Rattle.arc_parse.specs.Reader.{Reader, ◌>>=◌, ret, any, expect, keyword, at_word, name, if_first, if_mark, if_word, if_at, if_name, is_mark, is_word}
 use Rattle.arc_parse.specs.ExprRules.{expr}
 use Rattle.arc_parse.specs.ExprRules as exprs
 
 -- What is read by recursion: a statement that must come and is nested so deep, the items up to the end of a block that are
--- nested so deep, the variables of a declaration and the parameters of a function that are behind a comma each, and the
--- functions up to the end of the tokens.
+-- nested so deep, the variables of a declaration, the parameters of a function and the names of classes that are behind a
+-- comma each, parts of a method's selector, the methods of an interface and of an implementation, and all up to the end of
+-- the tokens.
 pub data Rule : Type 0 where
   stmt : ℕ → Rule
   items : ℕ → Rule
   more_variables : Rule
   more_parameters : Rule
-  functions : Rule
+  more_names : Rule
+  typed_parts : Rule
+  heads : Rule
+  methods : Rule
+  tops : Rule
+
+-- the bytes of parts of a selector, and the parameters
+abbrev pub Typed : Type 0
+Typed = List ℕ × List ParameterTree
 
 abbrev pub Node : Rule → Type 0
 Node (stmt d) = StmtTree
 Node (items d) = StmtTrees
 Node more_variables = List VariableTree
 Node more_parameters = List ParameterTree
-Node functions = List FunctionTree
+Node more_names = Unit {0}
+Node typed_parts = Typed
+Node heads = List HeadTree
+Node methods = List MethodTree
+Node tops = List TopTree
 
 abbrev pub Rules : Type 0
 Rules = (rule : Rule) → Reader (Node rule)
@@ -41,7 +55,7 @@ abbrev pub begins_expr : Sort → Bool
 begins_expr (tokens.Name _) = true
 begins_expr (tokens.Integer _) = true
 begins_expr (tokens.Text _) = true
-begins_expr (tokens.Sign mark) = is_mark m.OpenParen (tokens.Sign mark) || is_mark m.Minus (tokens.Sign mark)
+begins_expr (tokens.Sign mark) = (is_mark m.OpenParen (tokens.Sign mark) || is_mark m.Minus (tokens.Sign mark)) || is_mark m.OpenSquare (tokens.Sign mark)
 begins_expr _ = false
 
 -- whether a statement can begin with this token
@@ -275,14 +289,20 @@ head_by of = do
   end ← expect m.CloseParen
   ret (kind, called, ps)
 
+-- the block of a function or a method
+unfoldable pub braces_by : Rules → Reader StmtTrees
+braces_by of = do
+  start ← expect m.OpenBrace
+  all ← of (items 2)
+  end ← expect m.CloseBrace
+  ret all
+
 unfoldable pub body_by : Rules → Reader (Option StmtTrees)
 body_by of = if_mark m.Semicolon (do
   end ← expect m.Semicolon
   ret None)
     (do
-      start ← expect m.OpenBrace
-      all ← of (items 2)
-      end ← expect m.CloseBrace
+      all ← braces_by of
       ret (Some all))
 
 unfoldable pub function_by : Rules → Reader FunctionTree
@@ -291,11 +311,157 @@ function_by of = do
   b ← body_by of
   ret (record { at = h.1.0; name = h.1.1; result = h.0; parameters = h.2; body = b })
 
-unfoldable pub functions_by : Rules → Reader (List FunctionTree)
-functions_by of = if_first any (do
+-- ---- methods
+
+-- a colon, `int` in parentheses and a name
+unfoldable pub typed : Reader ParameterTree
+typed = do
+  colon ← expect m.Colon
+  start ← expect m.OpenParen
+  int ← keyword w.Int
+  end ← expect m.CloseParen
+  called ← name
+  ret (record { at = called.0; name = called.1 })
+
+unfoldable pub next_part : Reader (List ℕ × ParameterTree)
+next_part = do
+  called ← name
+  p ← typed
+  ret (called.1, p)
+
+unfoldable pub typed_parts_by : Rules → Reader Typed
+typed_parts_by of = if_name (do
+  one ← next_part
+  others ← of typed_parts
+  ret (and_part one.0 others.0, one.1 ∷ others.1))
+    (ret ([], []))
+
+-- what is behind the first name of a selector
+unfoldable pub selector_by : Rules → List ℕ → Reader Typed
+selector_by of called = if_mark m.Colon (do
+  p ← typed
+  others ← of typed_parts
+  ret (and_part called others.0, p ∷ others.1))
+    (ret (called, []))
+
+unfoldable pub method_head_by : Rules → Reader HeadTree
+method_head_by of = do
+  at ← expect m.Plus
+  start ← expect m.OpenParen
+  kind ← result_kind
+  end ← expect m.CloseParen
+  called ← name
+  all ← selector_by of called.1
+  ret (record { at = at; selector = all.0; result = kind; parameters = all.1 })
+
+unfoldable pub next_head_by : Rules → Reader HeadTree
+next_head_by of = do
+  h ← method_head_by of
+  end ← expect m.Semicolon
+  ret h
+
+unfoldable pub heads_by : Rules → Reader (List HeadTree)
+heads_by of = if_mark m.Plus (do
+  h ← next_head_by of
+  others ← of heads
+  ret (h ∷ others))
+    (ret [])
+
+unfoldable pub perhaps_semicolon : Reader (Unit {0})
+perhaps_semicolon = if_mark m.Semicolon (do
+  semicolon ← expect m.Semicolon
+  ret tt)
+    (ret tt)
+
+unfoldable pub method_by : Rules → Reader MethodTree
+method_by of = do
+  h ← method_head_by of
+  semicolon ← perhaps_semicolon
+  all ← braces_by of
+  ret (record { head = h; body = all })
+
+unfoldable pub methods_by : Rules → Reader (List MethodTree)
+methods_by of = if_mark m.Plus (do
+  one ← method_by of
+  others ← of methods
+  ret (one ∷ others))
+    (ret [])
+
+-- ---- classes
+
+unfoldable pub interface_by : Rules → Reader InterfaceTree
+interface_by of = do
+  at ← at_word words.Interface
+  called ← name
+  colon ← expect m.Colon
+  super ← name
+  all ← of heads
+  end ← at_word words.End
+  ret (record { at = called.0; name = called.1; superclass_at = super.0; superclass = super.1; methods = all })
+
+unfoldable pub title : Reader (ℕ × List ℕ)
+title = do
+  at ← at_word words.Implementation
+  name
+
+unfoldable pub implementation_by : Rules → Reader ImplementationTree
+implementation_by of = do
+  called ← title
+  all ← of methods
+  end ← at_word words.End
+  ret (record { at = called.0; name = called.1; methods = all })
+
+-- a comma and a name
+unfoldable pub next_name : Reader (Unit {0})
+next_name = do
+  comma ← expect m.Comma
+  called ← name
+  ret tt
+
+unfoldable pub more_names_by : Rules → Reader (Unit {0})
+more_names_by of = if_mark m.Comma (do
+  one ← next_name
+  of more_names)
+    (ret tt)
+
+unfoldable pub names_by : Rules → Reader (Unit {0})
+names_by of = do
+  at ← at_word words.Class
+  called ← name
+  others ← of more_names
+  end ← expect m.Semicolon
+  ret tt
+
+-- ---- units
+
+unfoldable pub implementation_top_by : Rules → Reader TopTree
+implementation_top_by of = do
+  i ← implementation_by of
+  ret (OfImplementation i)
+
+unfoldable pub function_top_by : Rules → Reader TopTree
+function_top_by of = do
   f ← function_by of
-  others ← of functions
-  ret (f ∷ others))
+  ret (OfFunction f)
+
+unfoldable pub interface_top_by : Rules → Reader TopTree
+interface_top_by of = do
+  i ← interface_by of
+  ret (OfInterface i)
+
+unfoldable pub names_top_by : Rules → Reader TopTree
+names_top_by of = do
+  names ← names_by of
+  ret OfNames
+
+unfoldable pub top_by : Rules → Reader TopTree
+top_by of = if_at words.Class (names_top_by of) (if_at words.Interface (interface_top_by of) (if_at words.Implementation (implementation_top_by of) (function_top_by of)))
+
+unfoldable pub tops_by : Rules → Reader (List TopTree)
+tops_by of = if_first any (do
+  one ← top_by of
+  others ← of tops
+  ret (one ∷ others))
     (ret [])
 
 -- a statement is nested too deep there whatever the token
@@ -304,12 +470,16 @@ body limits of (stmt d) = nested limits.depth d any (stmt_by limits of d)
 body limits of (items d) = items_by limits of d
 body limits of more_variables = more_variables_by limits of
 body limits of more_parameters = more_parameters_by of
-body limits of functions = functions_by of
+body limits of more_names = more_names_by of
+body limits of typed_parts = typed_parts_by of
+body limits of heads = heads_by of
+body limits of methods = methods_by of
+body limits of tops = tops_by of
 
 -- the rules, each with all of them
 abbrev pub read : Limits → Rules
 read limits = tied (body limits)
 
 -- all of the tokens
-abbrev pub unit : Limits → Reader (List FunctionTree)
-unit limits = read limits functions
+abbrev pub unit : Limits → Reader UnitTree
+unit limits = read limits tops >>= (λ all. ret (unit_of all))

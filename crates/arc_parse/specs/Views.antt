@@ -1,19 +1,30 @@
--- What functions promise that append to a list.
-use Rattle.std.specs.Prelude.{◌≡◌, List, [], ◌∷◌, ◌++◌, Result, Ok, Err}
+-- What functions promise that append to lists.
+use Rattle.std.specs.Prelude.{◌≡◌, ℕ, List, [], ◌∷◌, ◌++◌, Result, Ok, Err}
 use denote.Bor.{Bor}
 use Rattle.arc_lex.specs.declared.token.Token.{Token}
 use Rattle.arc_lex.specs.Tokens.{toks}
 use Rattle.arc_ast.specs.declared.tree.Expr.{Expr}
 use Rattle.arc_ast.specs.declared.tree.Variable.{Variable}
 use Rattle.arc_ast.specs.declared.tree.Parameter.{Parameter}
-use Rattle.arc_ast.specs.Tree.{ExprTrees, VariableTree, ParameterTree, expr_trees, variable_tree}
+use Rattle.arc_ast.specs.Tree.{ExprTrees, VariableTree, ParameterTree, UnitTree, expr_trees, variable_tree, function_tree, interface_tree, implementation_tree}
 use Rattle.arc_parse.specs.declared.fail.Fail.{Fail}
+use Rattle.arc_parse.specs.declared.source.Top.{Top}
+use Rattle.arc_parse.specs.declared.source.Top.TheVariants as top
+use Rattle.arc_parse.specs.Grammar.{TopTree, OfNames, OfFunction, OfInterface, OfImplementation}
+use Rattle.arc_parse.specs.ExprRules.{Sent}
+use Rattle.arc_parse.specs.UnitRules.{Typed}
 use Rattle.arc_parse.specs.Reader.{Read, Fails, bind, ret}
 
 -- Reading gave the arguments that a function put behind the old ones.
 abbrev pub AppendsArguments : List Expr → List Expr → Result (Bor (List Token)) Fail → Read ExprTrees → Type 0
 AppendsArguments old new (Ok rest) read = (added : List Expr) × (new ≡ old ++ added) × (read ≡ Ok (expr_trees added, toks rest.now))
 AppendsArguments old new (Err e) read = Fails e read
+
+-- Reading gave the parts of a selector, and their arguments, that a function put behind the old ones.
+abbrev pub AppendsParts : List ℕ → List Expr → List ℕ → List Expr → Result (Bor (List Token)) Fail → Read Sent → Type 0
+AppendsParts selector old selector' new (Ok rest) read = (further : List ℕ) × (added : List Expr) × (selector' ≡ selector ++ further) × (new ≡ old ++ added)
+    × (read ≡ Ok ((further, expr_trees added), toks rest.now))
+AppendsParts selector old selector' new (Err e) read = Fails e read
 
 -- variables in front of others
 abbrev pub variables_before : List Variable → List VariableTree → List VariableTree
@@ -35,3 +46,20 @@ parameters_before (p ∷ before) others = parameter_tree p ∷ parameters_before
 -- parameters in front of those that are read
 abbrev pub parameters_then : List Parameter → Read (List ParameterTree) → Read (List ParameterTree)
 parameters_then all read = bind read (λ others. ret (parameters_before all others))
+
+-- parts of a selector and their parameters in front of those that are read
+abbrev pub parts_then : List ℕ → List Parameter → Read Typed → Read Typed
+parts_then selector all read = bind read (λ others. ret (selector ++ others.0, parameters_before all others.1))
+
+abbrev pub top_tree : Top → TopTree
+top_tree top.Names = OfNames
+top_tree (top.Function f) = OfFunction (function_tree f)
+top_tree (top.Interface i) = OfInterface (interface_tree i)
+top_tree (top.Implementation i) = OfImplementation (implementation_tree i)
+
+-- a unit, and behind it one thing more
+abbrev pub and_top : UnitTree → TopTree → UnitTree
+and_top u OfNames = u
+and_top u (OfFunction f) = record { functions = u.functions ++ f ∷ []; interfaces = u.interfaces; implementations = u.implementations }
+and_top u (OfInterface i) = record { functions = u.functions; interfaces = u.interfaces ++ i ∷ []; implementations = u.implementations }
+and_top u (OfImplementation i) = record { functions = u.functions; interfaces = u.interfaces; implementations = u.implementations ++ i ∷ [] }

@@ -1,13 +1,14 @@
 //! Reads expressions.
-ghost use Rattle.std.specs.Prelude.{◌≡◌, ◌<◌, ◌≤◌, length, IfOk};
+ghost use Rattle.std.specs.Prelude.{◌≡◌, ◌<◌, ◌≤◌, [], length, IfOk};
 ghost use Rattle.arc_lex.specs.Tokens.{toks};
-ghost use Rattle.arc_ast.specs.Tree.{expr_tree, expr_trees, place};
+ghost use Rattle.arc_ast.specs.Tree.{expr_tree, expr_trees, begins};
 ghost use Rattle.arc_parse.specs.Reader.{Gives};
-ghost use Rattle.arc_parse.specs.Views.{AppendsArguments};
+ghost use Rattle.arc_parse.specs.Views.{AppendsArguments, AppendsParts};
 ghost use Rattle.arc_parse.specs.ExprRules as rules;
 ghost use Rattle.arc_parse.specs.ExprRules.{read, is_unary};
 
 use crate::fail::{Fail, Read};
+use crate::receiver::receiver;
 use crate::step::{expect, literal, name, operator, sees_mark, sees_name, sees_operator};
 use arc_ast::tree::Expr;
 use arc_lex::token::{Mark, Token};
@@ -15,7 +16,7 @@ use std::alloc::Global;
 
 /// The place of the first byte.
 fn place_of(expr: &Expr) -> usize
-    ensures { result ≡ place (expr_tree expr.now) }
+    ensures { result ≡ begins (expr_tree expr.now) }
 {
     match expr {
         Expr::Integer(at, _)
@@ -25,7 +26,8 @@ fn place_of(expr: &Expr) -> usize
         | Expr::Negate(at, _)
         | Expr::Binary(at, _, _, _)
         | Expr::Name(at, _)
-        | Expr::Assign(at, _, _, _) => *at,
+        | Expr::Assign(at, _, _, _)
+        | Expr::Send(at, _, _, _, _) => *at,
     }
 }
 
@@ -40,7 +42,8 @@ fn is_unary(expr: &Expr) -> bool
         | Expr::Paren(_, _)
         | Expr::Call(_, _, _)
         | Expr::Negate(_, _)
-        | Expr::Name(_, _) => true,
+        | Expr::Name(_, _)
+        | Expr::Send(_, _, _, _, _) => true,
     }
 }
 
@@ -153,6 +156,8 @@ fn primary<'a>(alloc: Global, tokens: &'a [Token]) -> Read<'a, Expr>
         named(alloc, tokens)
     } else if sees_mark(Mark::OpenParen, tokens) {
         parenthesized(alloc, tokens)
+    } else if sees_mark(Mark::OpenSquare, tokens) {
+        message(alloc, tokens)
     } else {
         literal(alloc, tokens)
     }
@@ -230,4 +235,74 @@ fn parenthesized<'a>(alloc: Global, tokens: &'a [Token]) -> Read<'a, Expr>
     let (inside, rest) = expr(alloc, rest)?;
     let (_, rest) = expect(Mark::CloseParen, rest)?;
     Ok((Expr::Paren(at, Box::new(alloc, inside)?), rest))
+}
+
+#[cycle(exprs)]
+#[tactic(auto, unfolding(crate::specs::ExprRules::message_by))]
+fn message<'a>(alloc: Global, tokens: &'a [Token]) -> Read<'a, Expr>
+    ensures gives { Gives (λ x. (expr_tree x.0, toks x.1.now)) result (rules.message_by read (toks tokens.now)) }
+    ensures shorter { IfOk result (λ x. length x.1.now < length tokens.now) }
+{
+    let (at, rest) = expect(Mark::OpenSquare, tokens)?;
+    let (to, rest) = receiver(alloc, rest)?;
+    let ((part, called), rest) = name(rest)?;
+    let ((selector, all), rest) = sent(alloc, called, rest)?;
+    let (_, rest) = expect(Mark::CloseSquare, rest)?;
+    Ok((Expr::Send(at, part, to, selector, all), rest))
+}
+
+/// The selector that begins with this name, and the arguments.
+#[cycle(exprs)]
+#[tactic(auto, unfolding(crate::specs::ExprRules::sent_by))]
+fn sent<'a>(alloc: Global, called: &[u8], tokens: &'a [Token]) -> Read<'a, (Vec<u8>, Vec<Expr>)>
+    ensures gives { Gives (λ x. ((x.0.0.items, expr_trees x.0.1.items), toks x.1.now)) result (rules.sent_by read called.now (toks tokens.now)) }
+    ensures shorter { IfOk result (λ x. length x.1.now ≤ length tokens.now) }
+{
+    let mut selector = Vec::from_slice(alloc, called)?;
+    let mut all = Vec::new(alloc);
+    if !sees_mark(Mark::Colon, tokens) {
+        return Ok(((selector, all), tokens));
+    }
+    let rest = part(alloc, &mut selector, &mut all, tokens)?;
+    Ok(((selector, all), rest))
+}
+
+/// Reads what is behind the name of a selector's part, a colon, an argument and further parts, to the ends of `selector`
+/// and `all`.
+#[cycle(exprs)]
+#[tactic(auto, unfolding(crate::specs::ExprRules::part_by))]
+fn part<'a>(
+    alloc: Global,
+    selector: &mut Vec<u8>,
+    all: &mut Vec<Expr>,
+    tokens: &'a [Token],
+) -> Result<&'a [Token], Fail<'a>>
+    ensures gives { AppendsParts selector.old.items all.old.items selector.new.items all.new.items result (rules.part_by read [] (toks tokens.now)) }
+    ensures shorter { IfOk result (λ rest. length rest.now < length tokens.now) }
+{
+    let (_, rest) = expect(Mark::Colon, tokens)?;
+    selector.push(b':')?;
+    let (one, rest) = expr(alloc, rest)?;
+    all.push(one)?;
+    parts(alloc, selector, all, rest)
+}
+
+/// Reads further parts of a selector to the end of `selector`, and their arguments to the end of `all`.
+#[cycle(exprs)]
+#[tactic(auto, using(crate::proofs::ExprFix::read_parts), unfolding(crate::specs::ExprRules::parts_by))]
+fn parts<'a>(
+    alloc: Global,
+    selector: &mut Vec<u8>,
+    all: &mut Vec<Expr>,
+    tokens: &'a [Token],
+) -> Result<&'a [Token], Fail<'a>>
+    ensures gives { AppendsParts selector.old.items all.old.items selector.new.items all.new.items result (read rules.parts (toks tokens.now)) }
+    ensures shorter { IfOk result (λ rest. length rest.now ≤ length tokens.now) }
+{
+    if !sees_name(tokens) {
+        return Ok(tokens);
+    }
+    let ((_, called), rest) = name(tokens)?;
+    selector.extend_from_slice(called)?;
+    part(alloc, selector, all, rest)
 }

@@ -1,35 +1,21 @@
 //! Reads functions.
 ghost use Rattle.std.specs.Prelude.{◌≡◌, ◌<◌, ◌≤◌, length, IfOk, option_map};
 ghost use Rattle.arc_lex.specs.Tokens.{toks};
-ghost use Rattle.arc_ast.specs.Tree.{stmt_trees, parameters_tree, function_tree, function_trees};
+ghost use Rattle.arc_ast.specs.Tree.{stmt_trees, parameters_tree, function_tree};
 ghost use Rattle.arc_parse.specs.Reader.{Gives};
 ghost use Rattle.arc_parse.specs.Limits.{these};
 ghost use Rattle.arc_parse.specs.UnitRules as rules;
 
-use crate::fail::{Fail, Read};
+use crate::fail::Read;
 use crate::parameter::parameters;
-use crate::step::{expect, is_more, keyword, name, sees_mark, sees_word};
+use crate::step::{expect, keyword, name, sees_mark, sees_word};
 use crate::stmt::items;
 use arc_ast::tree::{Function, Kind, Parameters, Stmt};
 use arc_lex::token::{Mark, Token, Word};
 use std::alloc::Global;
 
-/// The functions up to the end of the tokens.
-pub fn functions<'a>(alloc: Global, tokens: &'a [Token]) -> Read<'a, Vec<Function>>
-    ensures { Gives (λ x. (function_trees x.0.items, toks x.1.now)) result (rules.read these rules.functions (toks tokens.now)) }
-{
-    let mut all = Vec::new(alloc);
-    let mut rest = tokens;
-    'functions: while is_more(rest) {
-        let (function, after) = function(alloc, rest)?;
-        all.push(function)?;
-        rest = after;
-    }
-    Ok((all, rest))
-}
-
 #[tactic(auto, unfolding(crate::specs::UnitRules::function_by))]
-fn function<'a>(alloc: Global, tokens: &'a [Token]) -> Read<'a, Function>
+pub fn function<'a>(alloc: Global, tokens: &'a [Token]) -> Read<'a, Function>
     ensures gives { Gives (λ x. (function_tree x.0, toks x.1.now)) result (rules.function_by (rules.read these) (toks tokens.now)) }
     ensures shorter { IfOk result (λ x. length x.1.now < length tokens.now) }
 {
@@ -66,7 +52,7 @@ fn head<'a>(alloc: Global, tokens: &'a [Token]) -> Read<'a, Head<'a>>
 
 /// `int` or `void`
 #[tactic(auto, unfolding(crate::specs::UnitRules::result_kind))]
-fn result_kind(tokens: &[Token]) -> Read<'_, Kind>
+pub fn result_kind(tokens: &[Token]) -> Read<'_, Kind>
     ensures gives { Gives (λ x. (x.0, toks x.1.now)) result (rules.result_kind (toks tokens.now)) }
     ensures shorter { IfOk result (λ x. length x.1.now < length tokens.now) }
 {
@@ -88,8 +74,18 @@ fn body<'a>(alloc: Global, tokens: &'a [Token]) -> Read<'a, Option<Vec<Stmt>>>
         let (_, rest) = expect(Mark::Semicolon, tokens)?;
         return Ok((None, rest));
     }
+    let (all, rest) = braces(alloc, tokens)?;
+    Ok((Some(all), rest))
+}
+
+/// The block of a function or a method.
+#[tactic(auto, unfolding(crate::specs::UnitRules::braces_by))]
+pub fn braces<'a>(alloc: Global, tokens: &'a [Token]) -> Read<'a, Vec<Stmt>>
+    ensures gives { Gives (λ x. (stmt_trees x.0.items, toks x.1.now)) result (rules.braces_by (rules.read these) (toks tokens.now)) }
+    ensures shorter { IfOk result (λ x. length x.1.now < length tokens.now) }
+{
     let (_, rest) = expect(Mark::OpenBrace, tokens)?;
     let (all, rest) = items(alloc, 2, rest)?;
     let (_, rest) = expect(Mark::CloseBrace, rest)?;
-    Ok((Some(all), rest))
+    Ok((all, rest))
 }

@@ -1,13 +1,17 @@
 //! Reads the tokens of a source as its tree.
 #![tactic(auto)]
 
+mod class;
 mod expr;
 mod fail;
 pub mod fault;
 mod function;
 mod limit;
+mod method;
 mod parameter;
 pub mod parse;
+mod receiver;
+mod source;
 mod step;
 mod stmt;
 #[cfg(test)]

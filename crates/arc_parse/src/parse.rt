@@ -1,7 +1,7 @@
 //! The tree that tokens spell.
-ghost use Rattle.std.specs.Prelude.{◌≡◌, List, IfOk, IfErr, Err};
+ghost use Rattle.std.specs.Prelude.{◌≡◌, IfOk, IfErr, Err};
 ghost use Rattle.arc_lex.specs.Tokens.{toks};
-ghost use Rattle.arc_ast.specs.Tree.{FunctionTree, unit_tree};
+ghost use Rattle.arc_ast.specs.Tree.{UnitTree, unit_tree};
 ghost use Rattle.arc_parse.specs.Grammar.{SpellsUnit};
 ghost use Rattle.arc_parse.specs.Limits.{unlimited, these};
 ghost use Rattle.arc_parse.specs.Refusal.{IsRefused, place_of, end_of};
@@ -9,7 +9,7 @@ ghost use Rattle.arc_parse.specs.declared.fault.ParseFault.TheVariants.{Memory};
 
 use crate::fail::Fail;
 use crate::fault::ParseFault;
-use crate::function::functions;
+use crate::source::unit;
 use arc_ast::tree::TranslationUnit;
 use arc_lex::token::Token;
 use std::alloc::Global;
@@ -43,12 +43,12 @@ fn place_of(all: &[Token], rest: &[Token]) -> usize
 pub fn parse(alloc: Global, tokens: &[Token]) -> Result<TranslationUnit, ParseFault>
     ensures spelled { IfOk result (λ u. SpellsUnit unlimited (unit_tree u) (toks tokens.now)) }
     ensures within { IfOk result (λ u. SpellsUnit these (unit_tree u) (toks tokens.now)) }
-    ensures alone { IfOk result (λ u. (other : List FunctionTree) → SpellsUnit unlimited other (toks tokens.now) → other ≡ unit_tree u) }
+    ensures alone { IfOk result (λ u. (other : UnitTree) → SpellsUnit unlimited other (toks tokens.now) → other ≡ unit_tree u) }
     ensures refused { IfErr result (λ f. IsRefused (toks tokens.now) f) }
-    ensures accepted { IfErr result (λ f. (u : List FunctionTree) → SpellsUnit these u (toks tokens.now) → f ≡ Memory) }
+    ensures accepted { IfErr result (λ f. (u : UnitTree) → SpellsUnit these u (toks tokens.now) → f ≡ Memory) }
 {
-    match functions(alloc, tokens) {
-        Ok((functions, _rest)) => Ok(TranslationUnit { functions }),
+    match unit(alloc, tokens) {
+        Ok((unit, _rest)) => Ok(unit),
         Err(Fail::Memory) => Err(ParseFault::Memory),
         Err(Fail::Unexpected(rest)) => Err(ParseFault::Unexpected(place_of(tokens, rest))),
         Err(Fail::TooDeep(rest)) => Err(ParseFault::TooDeep(place_of(tokens, rest))),

@@ -2,14 +2,14 @@
 ghost use Rattle.std.specs.Prelude.{◌≡◌, ◌<◌, length, IfOk, bytes_eq};
 ghost use Rattle.arc_lex.specs.Tokens.{toks, same_mark, same_word};
 ghost use Rattle.arc_ast.specs.Tree.{expr_tree};
-ghost use Rattle.arc_parse.specs.Reader.{Gives, begins, any, expect, keyword, name, sees_mark, sees_word, sees_name};
+ghost use Rattle.arc_parse.specs.Reader.{Gives, begins, any, same_at, expect, keyword, at_word, name, sees_mark, sees_word, sees_at, sees_name};
 ghost use Rattle.arc_parse.specs.Grammar.{main_bytes};
 ghost use Rattle.arc_parse.specs.ExprRules.{literal, operator, is_operator, mark_operator};
 ghost use Rattle.arc_parse.specs.UnitRules.{begins_expr, begins_stmt, begins_texts};
 
 use crate::fail::{Fail, Read};
 use arc_ast::tree::{BinaryOperator, Expr};
-use arc_lex::token::{Mark, Token, TokenKind, Word};
+use arc_lex::token::{AtWord, Mark, Token, TokenKind, Word};
 use std::alloc::Global;
 
 fn same_mark(found: Mark, mark: Mark) -> bool
@@ -20,6 +20,12 @@ fn same_mark(found: Mark, mark: Mark) -> bool
 
 fn same_word(found: Word, word: Word) -> bool
     ensures { result ≡ same_word found word }
+{
+    found == word
+}
+
+fn same_at(found: AtWord, word: AtWord) -> bool
+    ensures { result ≡ same_at found word }
 {
     found == word
 }
@@ -55,6 +61,21 @@ pub fn sees_word(word: Word, tokens: &[Token]) -> bool
                 ..
             },
         ) => same_word(*found, word),
+        _ => false,
+    }
+}
+
+/// Whether the first token is this word behind `@`.
+pub fn sees_at(word: AtWord, tokens: &[Token]) -> bool
+    ensures { result ≡ sees_at word (toks tokens.now) }
+{
+    match tokens.first() {
+        Some(
+            Token {
+                kind: TokenKind::At(found),
+                ..
+            },
+        ) => same_at(*found, word),
         _ => false,
     }
 }
@@ -105,6 +126,25 @@ pub fn keyword(word: Word, tokens: &[Token]) -> Read<'_, usize>
                 rest,
             ),
         ) if same_word(*found, word) => Ok((span.from, rest)),
+        _ => Err(Fail::Unexpected(tokens)),
+    }
+}
+
+/// The place of the first token, which is this word behind `@`.
+pub fn at_word(word: AtWord, tokens: &[Token]) -> Read<'_, usize>
+    ensures gives { Gives (λ x. (x.0, toks x.1.now)) result (at_word word (toks tokens.now)) }
+    ensures shorter { IfOk result (λ x. length x.1.now < length tokens.now) }
+{
+    match tokens.split_first() {
+        Some(
+            (
+                Token {
+                    kind: TokenKind::At(found),
+                    span,
+                },
+                rest,
+            ),
+        ) if same_at(*found, word) => Ok((span.from, rest)),
         _ => Err(Fail::Unexpected(tokens)),
     }
 }
@@ -239,7 +279,11 @@ fn begins_expr(tokens: &[Token]) -> bool
                 kind: TokenKind::Mark(found),
                 ..
             },
-        ) => { same_mark(*found, Mark::OpenParen) || same_mark(*found, Mark::Minus) }
+        ) => {
+            same_mark(*found, Mark::OpenParen)
+                || same_mark(*found, Mark::Minus)
+                || same_mark(*found, Mark::OpenSquare)
+        }
         _ => false,
     }
 }

@@ -1,7 +1,7 @@
 //! What no clause says: trees and places that were found by hand, and that the deepest sources are read.
 use crate::fault::ParseFault;
 use crate::parse::parse;
-use arc_lex::token::{Mark, Span, Token, TokenKind, Word};
+use arc_lex::token::{AtWord, Mark, Span, Token, TokenKind, Word};
 use std::alloc::{AllocError, Global};
 use std::test::Fail;
 
@@ -17,6 +17,12 @@ fn piece(alloc: Global, byte: u8) -> Result<(TokenKind, usize, usize), AllocErro
         b'k' => (TokenKind::Word(Word::Const), 5, 6),
         b'c' => (TokenKind::Word(Word::Char), 4, 4),
         b'r' => (TokenKind::Word(Word::Return), 6, 7),
+        b's' => (TokenKind::Word(Word::SelfWord), 4, 5),
+        b'u' => (TokenKind::Word(Word::Super), 5, 6),
+        b'C' => (TokenKind::At(AtWord::Class), 6, 7),
+        b'I' => (TokenKind::At(AtWord::Interface), 10, 11),
+        b'M' => (TokenKind::At(AtWord::Implementation), 15, 16),
+        b'E' => (TokenKind::At(AtWord::End), 4, 4),
         b'm' => (
             TokenKind::Name(Vec::from_slice(alloc, b"main".as_slice())?),
             4,
@@ -43,6 +49,7 @@ fn piece(alloc: Global, byte: u8) -> Result<(TokenKind, usize, usize), AllocErro
         b']' => (TokenKind::Mark(Mark::CloseSquare), 1, 1),
         b';' => (TokenKind::Mark(Mark::Semicolon), 1, 1),
         b',' => (TokenKind::Mark(Mark::Comma), 1, 1),
+        b':' => (TokenKind::Mark(Mark::Colon), 1, 1),
         b'+' => (TokenKind::Mark(Mark::Plus), 1, 1),
         b'-' => (TokenKind::Mark(Mark::Minus), 1, 1),
         b'*' => (TokenKind::Mark(Mark::Star), 1, 1),
@@ -89,32 +96,139 @@ fn trees(rt: HostRuntime) -> Result<(), Fail> {
     // int main(void){printf("42");return 7;}
     assert_eq!(rt;
         tree(alloc, b"im(v){p(t);r7;}")?.as_str(),
-        "TranslationUnit { functions: [Function { at: 4, name: [109, 97, 105, 110], result: Int, parameters: Ints([]), body: Some([Expr(Call(15, [112, 114, 105, 110, 116, 102], [Text(22, [52, 50])])), Return(28, Some(Integer(35, 7)))]) }] }"
+        "TranslationUnit { functions: [Function { at: 4, name: [109, 97, 105, 110], result: Int, parameters: Ints([]), body: Some([Expr(Call(15, [112, 114, 105, 110, 116, 102], [Text(22, [52, 50])])), Return(28, Some(Integer(35, 7)))]) }], interfaces: [], implementations: [] }"
     );
     // int main();int main(int a,char*b[]){return 1+2*7-1;}
     assert_eq!(rt;
         tree(alloc, b"im();im(ia,c*b[]){r1+2*7-1;}")?.as_str(),
-        "TranslationUnit { functions: [Function { at: 4, name: [109, 97, 105, 110], result: Int, parameters: Ints([]), body: None }, Function { at: 15, name: [109, 97, 105, 110], result: Int, parameters: CountAndTexts, body: Some([Return(36, Some(Binary(43, Subtract, Binary(43, Add, Integer(43, 1), Binary(45, Multiply, Integer(45, 2), Integer(47, 7))), Integer(49, 1))))]) }] }"
+        "TranslationUnit { functions: [Function { at: 4, name: [109, 97, 105, 110], result: Int, parameters: Ints([]), body: None }, Function { at: 15, name: [109, 97, 105, 110], result: Int, parameters: CountAndTexts, body: Some([Return(36, Some(Binary(43, Subtract, Binary(43, Add, Integer(43, 1), Binary(45, Multiply, Integer(45, 2), Integer(47, 7))), Integer(49, 1))))]) }], interfaces: [], implementations: [] }"
     );
     // int main(int a,const char**b){{;}f();f(1);f(1,-(2),7/1);return ;}
     assert_eq!(rt;
         tree(alloc, b"im(ia,kc**b){{;}f();f(1);f(1,-(2),7/1);r;}")?.as_str(),
-        "TranslationUnit { functions: [Function { at: 4, name: [109, 97, 105, 110], result: Int, parameters: CountAndTexts, body: Some([Block(30, [Empty(31)]), Expr(Call(33, [102], [])), Expr(Call(37, [102], [Integer(39, 1)])), Expr(Call(42, [102], [Integer(44, 1), Negate(46, Paren(47, Integer(48, 2))), Binary(51, Divide, Integer(51, 7), Integer(53, 1))])), Return(56, None)]) }] }"
+        "TranslationUnit { functions: [Function { at: 4, name: [109, 97, 105, 110], result: Int, parameters: CountAndTexts, body: Some([Block(30, [Empty(31)]), Expr(Call(33, [102], [])), Expr(Call(37, [102], [Integer(39, 1)])), Expr(Call(42, [102], [Integer(44, 1), Negate(46, Paren(47, Integer(48, 2))), Binary(51, Divide, Integer(51, 7), Integer(53, 1))])), Return(56, None)]) }], interfaces: [], implementations: [] }"
     );
     // void f(int a,int b){int x=1,y;x=y=a!=1+b;if(x)while(1){}else;}
     assert_eq!(rt;
         tree(alloc, b"Vf(ia,ib){ix=1,y;x=y=a!1+b;?(x)w(1){}e;}")?.as_str(),
-        "TranslationUnit { functions: [Function { at: 5, name: [102], result: Void, parameters: Ints([Parameter { at: 11, name: [97] }, Parameter { at: 17, name: [98] }]), body: Some([Variables(20, [Variable { at: 24, name: [120], initial: Some(Integer(26, 1)) }, Variable { at: 28, name: [121], initial: None }]), Expr(Assign(30, 31, Name(30, [120]), Assign(32, 33, Name(32, [121]), Binary(34, NotEqual, Name(34, [97]), Binary(37, Add, Integer(37, 1), Name(39, [98])))))), IfElse(41, Name(44, [120]), While(46, Integer(52, 1), Block(54, [])), Empty(60))]) }] }"
+        "TranslationUnit { functions: [Function { at: 5, name: [102], result: Void, parameters: Ints([Parameter { at: 11, name: [97] }, Parameter { at: 17, name: [98] }]), body: Some([Variables(20, [Variable { at: 24, name: [120], initial: Some(Integer(26, 1)) }, Variable { at: 28, name: [121], initial: None }]), Expr(Assign(30, 31, Name(30, [120]), Assign(32, 33, Name(32, [121]), Binary(34, NotEqual, Name(34, [97]), Binary(37, Add, Integer(37, 1), Name(39, [98])))))), IfElse(41, Name(44, [120]), While(46, Integer(52, 1), Block(54, [])), Empty(60))]) }], interfaces: [], implementations: [] }"
     );
     // int g(int a){if(1)if(2);else;}
     assert_eq!(rt;
         tree(alloc, b"ig(ia){?(1)?(2);e;}")?.as_str(),
-        "TranslationUnit { functions: [Function { at: 4, name: [103], result: Int, parameters: Ints([Parameter { at: 10, name: [97] }]), body: Some([If(13, Integer(16, 1), IfElse(18, Integer(21, 2), Empty(23), Empty(28)))]) }] }"
+        "TranslationUnit { functions: [Function { at: 4, name: [103], result: Int, parameters: Ints([Parameter { at: 10, name: [97] }]), body: Some([If(13, Integer(16, 1), IfElse(18, Integer(21, 2), Empty(23), Empty(28)))]) }], interfaces: [], implementations: [] }"
     );
     assert_eq!(rt;
         tree(alloc, b"")?.as_str(),
-        "TranslationUnit { functions: [] }"
+        "TranslationUnit { functions: [], interfaces: [], implementations: [] }"
     );
+    Ok(())
+}
+
+#[test]
+fn classes(rt: HostRuntime) -> Result<(), Fail> {
+    let alloc = rt.alloc();
+    // @class P;@class P,Q;@interface P:Q+(int )z:(int )ah:(int )b;+(void )f;@end
+    assert_eq!(rt;
+        tree(alloc, b"CP;CP,Q;IP:Q+(i)z:(i)ah:(i)b;+(V)f;E")?.as_str(),
+        "TranslationUnit { functions: [], interfaces: [Interface { at: 31, name: [80], superclass_at: 33, superclass: [81], methods: [MethodHead { at: 34, selector: [122, 58, 104, 58], result: Int, parameters: [Parameter { at: 49, name: [97] }, Parameter { at: 58, name: [98] }] }, MethodHead { at: 60, selector: [102], result: Void, parameters: [] }] }], implementations: [] }"
+    );
+    // @implementation P+(int )z:(int )ah:(int )b;{return [self z:ah:b+1];}+(void )f{[super f];}@end
+    assert_eq!(rt;
+        tree(alloc, b"MP+(i)z:(i)ah:(i)b;{r[sz:ah:b+1];}+(V)f{[uf];}E")?.as_str(),
+        "TranslationUnit { functions: [], interfaces: [], implementations: [Implementation { at: 16, name: [80], methods: [Method { head: MethodHead { at: 17, selector: [122, 58, 104, 58], result: Int, parameters: [Parameter { at: 32, name: [97] }, Parameter { at: 41, name: [98] }] }, body: [Return(44, Some(Send(51, 57, Itself(52), [122, 58, 104, 58], [Name(59, [97]), Binary(62, Add, Name(62, [98]), Integer(64, 1))])))] }, Method { head: MethodHead { at: 68, selector: [102], result: Void, parameters: [] }, body: [Expr(Send(78, 85, Super(79), [102], []))] }] }] }"
+    );
+    // int main(){[Pf]=-[Pz:1h:[Qf]]+2;}
+    assert_eq!(rt;
+        tree(alloc, b"im(){[Pf]=-[Pz:1h:[Qf]]+2;}")?.as_str(),
+        "TranslationUnit { functions: [Function { at: 4, name: [109, 97, 105, 110], result: Int, parameters: Ints([]), body: Some([Expr(Assign(11, 15, Send(11, 13, Named(12, [80]), [102], []), Binary(16, Add, Negate(16, Send(17, 19, Named(18, [80]), [122, 58, 104, 58], [Integer(21, 1), Send(24, 26, Named(25, [81]), [102], [])])), Integer(30, 2))))]) }], interfaces: [], implementations: [] }"
+    );
+    // int g();@implementation P@end int h();@interface P:Q@end
+    assert_eq!(rt;
+        tree(alloc, b"ig();MPEih();IP:QE")?.as_str(),
+        "TranslationUnit { functions: [Function { at: 4, name: [103], result: Int, parameters: Ints([]), body: None }, Function { at: 33, name: [104], result: Int, parameters: Ints([]), body: None }], interfaces: [Interface { at: 48, name: [80], superclass_at: 50, superclass: [81], methods: [] }], implementations: [Implementation { at: 24, name: [80], methods: [] }] }"
+    );
+    Ok(())
+}
+
+#[test]
+fn class_refusals(rt: HostRuntime) -> Result<(), Fail> {
+    let alloc = rt.alloc();
+    // methods of an interface: `-`, no written type, a block, another class in it
+    assert_eq!(rt;
+        fault(alloc, b"IP:Q-(v)f;E")?,
+        Some(ParseFault::Unexpected(14))
+    );
+    assert_eq!(rt;
+        fault(alloc, b"IP:Q+f;E")?,
+        Some(ParseFault::Unexpected(15))
+    );
+    assert_eq!(rt;
+        fault(alloc, b"IP:Q+(v)f{}E")?,
+        Some(ParseFault::Unexpected(22))
+    );
+    assert_eq!(rt; fault(alloc, b"IP:QMPE")?, Some(ParseFault::Unexpected(14)));
+    // two `;` before a block, and a name that is missing
+    assert_eq!(rt;
+        fault(alloc, b"MP+(v)f;;{}E")?,
+        Some(ParseFault::Unexpected(26))
+    );
+    assert_eq!(rt; fault(alloc, b"CP,;")?, Some(ParseFault::Unexpected(9)));
+    // `self` alone, messages without an argument, a colon and a name, and to a call
+    assert_eq!(rt;
+        fault(alloc, b"im(){s;}")?,
+        Some(ParseFault::Unexpected(11))
+    );
+    assert_eq!(rt;
+        fault(alloc, b"im(){[Pf:];}")?,
+        Some(ParseFault::Unexpected(15))
+    );
+    assert_eq!(rt;
+        fault(alloc, b"im(){[Pz:1h];}")?,
+        Some(ParseFault::Unexpected(17))
+    );
+    assert_eq!(rt;
+        fault(alloc, b"im(){[Pf1];}")?,
+        Some(ParseFault::Unexpected(14))
+    );
+    assert_eq!(rt;
+        fault(alloc, b"im(){[f(1)g];}")?,
+        Some(ParseFault::Unexpected(13))
+    );
+    Ok(())
+}
+
+/// The first bytes, so many of them.
+fn front(text: &[u8], many: usize) -> &[u8] {
+    if many < text.len() {
+        text.split_at(many).0
+    } else {
+        text
+    }
+}
+
+/// The byte behind the last token.
+fn end_of(all: &[Token]) -> usize {
+    match all.last() {
+        Some(token) => token.span.to,
+        None => 0,
+    }
+}
+
+#[test]
+fn prefixes(rt: HostRuntime) -> Result<(), Fail> {
+    let alloc = rt.alloc();
+    let source = b"CP;IP:Q+(i)z:(i)ah:(i)b;EMP+(i)z:(i)ah:(i)b;{r[sz:ah:-[Qf]];}Eim(){[Pz:1h:2];}";
+    let mut accepted: usize = 0;
+    for many in 0..100usize {
+        let all = tokens(alloc, front(source, many))?;
+        match parse(alloc, &all).err() {
+            None => accepted = accepted.saturating_add(1),
+            found => assert_eq!(rt; found, Some(ParseFault::Unexpected(end_of(&all)))),
+        }
+    }
+    // nothing, behind each of the four items, and the whole again from its length on
+    assert_eq!(rt; accepted, 4 + (100 - source.len()));
     Ok(())
 }
 
@@ -195,6 +309,11 @@ fn body_fault(
     fault(alloc, &repeated(alloc, &front, middle, times, end)?)
 }
 
+/// `@implementation P+(void)f{`, which has 26 bytes, and so many blocks in one another that are not whole.
+fn method_fault(alloc: Global, times: usize) -> Result<Option<ParseFault>, AllocError> {
+    fault(alloc, &repeated(alloc, b"MP+(v)f{", b"{", times, b"")?)
+}
+
 #[test]
 fn limits(rt: HostRuntime) -> Result<(), Fail> {
     let alloc = rt.alloc();
@@ -261,5 +380,41 @@ fn limits(rt: HostRuntime) -> Result<(), Fail> {
         body_fault(alloc, b"w(1)", 199, b"", b"", b"")?,
         Some(ParseFault::Unexpected(1603))
     );
+    Ok(())
+}
+
+#[test]
+fn class_limits(rt: HostRuntime) -> Result<(), Fail> {
+    let alloc = rt.alloc();
+    // 199 messages in one another around five tokens, 1,000 tokens; around six, 1,001
+    assert_eq!(rt;
+        body_fault(alloc, b"[Pa:", 199, b"]", b"1*1+1", b";}")?,
+        None
+    );
+    assert_eq!(rt;
+        body_fault(alloc, b"[Pa:", 199, b"]", b"-1*1+1", b";}")?,
+        Some(ParseFault::TooDeep(1011))
+    );
+    // 250 that are not whole, and one token more, or none
+    assert_eq!(rt;
+        body_fault(alloc, b"[Pa:", 250, b"", b"", b"]")?,
+        Some(ParseFault::TooDeep(1011))
+    );
+    assert_eq!(rt;
+        body_fault(alloc, b"[Pa:", 250, b"", b"", b"")?,
+        Some(ParseFault::Unexpected(1011))
+    );
+    // 332 parts of one selector, 999 tokens; 333
+    assert_eq!(rt; body_fault(alloc, b"", 332, b"a:1", b"[P", b"];}")?, None);
+    assert_eq!(rt;
+        body_fault(alloc, b"", 333, b"a:1", b"[P", b"];}")?,
+        Some(ParseFault::TooDeep(1011))
+    );
+    // 199 blocks in the body of a method; 200
+    assert_eq!(rt;
+        method_fault(alloc, 199)?,
+        Some(ParseFault::Unexpected(225))
+    );
+    assert_eq!(rt; method_fault(alloc, 200)?, Some(ParseFault::TooDeep(225)));
     Ok(())
 }

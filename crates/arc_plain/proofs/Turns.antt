@@ -1,13 +1,14 @@
 -- The interpreter's loops, and the views of what lies in a Vec.
-use Rattle.std.proofs.Common.{rules, ◌≡◌, ℕ, zero, suc, ◌+◌, ◌-◌, ◌<◌, ◌≤◌, ℤ, Bool, false, List, [], ◌∷◌, ◌++◌, length, get_or, drop, Option, Some, None, slice_get, Vec, Global, Result, Err, append_assoc, refl, sym, ap, subst, ◌∙◌}
+use Rattle.std.proofs.Common.{rules, ◌≡◌, ℕ, zero, suc, ◌+◌, ◌-◌, ◌<◌, ◌≤◌, ℤ, false, List, [], ◌∷◌, ◌++◌, length, get_or, drop, Vec, Box, Global, Result, Err, append_assoc, refl, sym, ap, subst, ◌∙◌}
 use Rattle.std.proofs.lemmas.List.{drop_more}
 use native.Mathlib.Omega.{arith}
 use mathlib.Core.Former.{Count}
 use Rattle.arc_check.specs.declared.checked.Piece.{Piece}
-use Rattle.arc_check.specs.declared.checked.Value.{Value, Print, Print', Invoked, Invoked', Row_of-Value, end_of-Value, more_of-Value, items-the_row-Value, items_hidden-the_row-Value-0}
+use Rattle.arc_check.specs.declared.checked.Value.{Value, Print, Print', Invoked, Invoked', Sent, Sent', SentSuper, SentSuper', Row_of-Value, end_of-Value, more_of-Value, items-the_row-Value, items_hidden-the_row-Value-0}
 use Rattle.arc_check.specs.declared.checked.Command.{Command, Sequence, Sequence', Row_of-Command, end_of-Command, more_of-Command, items-the_row-Command, items_hidden-the_row-Command-0}
 use Rattle.arc_check.specs.Checked.{functions, pieces, value, values, row_values, command, commands, row_commands}
 use Rattle.arc_spec.specs.Resolved as resolved
+use Rattle.arc_spec.specs.Classes.{Class}
 use Rattle.arc_spec.specs.World.{World, Outcome, Done, Faulted, Cut, then_do}
 use Rattle.arc_spec.specs.Number.{is_zero}
 use Rattle.arc_check.specs.declared.checked.CheckedFunction.{CheckedFunction}
@@ -35,6 +36,8 @@ tells_through Memory f g w go part whole is h = tt
 abbrev row_of_value : Value → (n : Count) × Row_of-Value n
 row_of_value (Print' all shape row) = (_, row)
 row_of_value (Invoked' f shape row) = (_, row)
+row_of_value (Sent' q a selector shape row) = (_, row)
+row_of_value (SentSuper' from selector shape row) = (_, row)
 row_of_value _ = (_, end_of-Value)
 
 row_values_is : (n : _) (row : Row_of-Value n) → row_values row ≡ values (items-the_row-Value n row)
@@ -63,6 +66,27 @@ pub value_invoked : (f : ℕ) (arguments : Vec Value Global) → value (Invoked 
 value_invoked f arguments =
     let row = row_of_value (Invoked f arguments) in
     ap (resolved.Invoked f) (row_values_is row.0 row.1 ∙ ap values (items_hidden-the_row-Value-0 arguments))
+
+-- messages, of which the parts are known
+pub value_sent : (v : Value) (a : Box Value Global) (selector : ℕ) (arguments : Vec Value Global) (receiver : Value) (these : List Value)
+    → v ≡ Sent a selector arguments → receiver ≡ a.value → these ≡ arguments.items → value v ≡ resolved.Sent (value receiver) selector (values these)
+value_sent v a selector arguments receiver these is same_receiver same =
+    let row = row_of_value (Sent a selector arguments) in
+    ap value is ∙ ap (resolved.Sent (value a.value) selector) (row_values_is row.0 row.1 ∙ ap values (items_hidden-the_row-Value-0 arguments))
+    ∙ ap (λ l. resolved.Sent (value a.value) selector (values l)) (sym same)
+    ∙ ap (λ x. resolved.Sent (value x) selector (values these)) (sym same_receiver)
+
+pub value_sent_super : (v : Value) (from selector : ℕ) (arguments : Vec Value Global) (these : List Value)
+    → v ≡ SentSuper from selector arguments → these ≡ arguments.items → value v ≡ resolved.SentSuper from selector (values these)
+value_sent_super v from selector arguments these is same =
+    let row = row_of_value (SentSuper from selector arguments) in
+    ap value is ∙ ap (resolved.SentSuper from selector) (row_values_is row.0 row.1 ∙ ap values (items_hidden-the_row-Value-0 arguments))
+    ∙ ap (λ l. resolved.SentSuper from selector (values l)) (sym same)
+
+-- what is told of the expression that a value stands for
+pub value_told : (D : Deeper) (v : Value) (meant : resolved.Value) (r : Result ℤ Halt) (w after : World)
+    → value v ≡ meant → Tells (λ n. n) r (evaluated D meant w) after → Tells (λ n. n) r (evaluated D (value v) w) after
+value_told D v meant r w after is h = subst (λ x. Tells (λ n. n) r (evaluated D x w) after) (sym is) h
 
 -- printf, once what its values give is known
 pub print_failed : (D : Deeper) (v : Value) (all : Vec Piece Global) (arguments : Vec Value Global) (these : List Value) (e : Halt) (r : Result ℤ Halt) (w after : World)
@@ -143,19 +167,33 @@ turns_step bound i test body whole n w between after below old tested holds done
     ∙ ap (λ b. chosen b (then_do (body between) (λ flow w2. if_normal flow (turns left test body) w2)) (Done Normal between)) holds
     ∙ ap (λ o. then_do o (λ flow w2. if_normal flow (turns left test body) w2)) done
 
+-- a turn whose body fails
+pub turn_failed : (bound i : ℕ) (test : World → Outcome ℤ) (body : World → Outcome meaning.Flow) (whole : Outcome meaning.Flow) (n : ℤ) (e : Halt) (r : Result Flow Halt) (w between after : World)
+    → i < bound → whole ≡ turns (bound - i) test body w → test w ≡ Done n between → is_zero n ≡ false → r ≡ Err e → Tells flow_of (Err e) (body between) after
+    → Tells flow_of r whole after
+turn_failed bound i test body whole n e r w between after below old tested holds failed h =
+    let left = bound - (i + 1) in
+    let one : bound - i ≡ suc left = omega (arith, below) in
+    let meant : whole ≡ then_do (body between) (λ flow w2. if_normal flow (turns left test body) w2) =
+    old ∙ ap (λ m. turns m test body w) one
+    ∙ ap (λ o. then_do o (λ v w1. chosen (is_zero v) (then_do (body w1) (λ flow w2. if_normal flow (turns left test body) w2)) (Done Normal w1))) tested
+    ∙ ap (λ b. chosen b (then_do (body between) (λ flow w2. if_normal flow (turns left test body) w2)) (Done Normal between)) holds in
+    subst (λ x. Tells flow_of x whole after) (sym failed)
+    (tells_through e flow_of flow_of after (λ flow w2. if_normal flow (turns left test body) w2) (body between) whole meant h)
+
 -- a call, one level deeper
 pub call_is : (P : resolved.Program) (bound levels n f : ℕ) (arguments : List ℤ) (w : World) → levels ≡ suc n
     → (level P bound levels).call f arguments w ≡ called (level P bound n) bound (function_at P f) arguments w
 call_is P bound levels n f arguments w is = ap (λ m. (level P bound m).call f arguments w) is
 
-pub function_found : (cs : List CheckedFunction) (main f : ℕ) (g : CheckedFunction) → f < length cs → g ≡ get_or cs f g
-    → function_at (record { functions = functions cs; main = main }) f ≡ function_of g
-function_found [] main f g below is = nothing_below below
-function_found (c ∷ cs) main zero g below is = ap function_of (sym is)
-function_found (c ∷ cs) main (suc f) g below is = function_found cs main f g (omega (arith, below)) is
+pub function_found : (cs : List CheckedFunction) (classes : List Class) (main f : ℕ) (g : CheckedFunction) → f < length cs → g ≡ get_or cs f g
+    → function_at (record { functions = functions cs; main = main; classes = classes }) f ≡ function_of g
+function_found [] classes main f g below is = nothing_below below
+function_found (c ∷ cs) classes main zero g below is = ap function_of (sym is)
+function_found (c ∷ cs) classes main (suc f) g below is = function_found cs classes main f g (omega (arith, below)) is
 
-pub function_missing : (cs : List CheckedFunction) (main f : ℕ) → length cs ≤ f
-    → function_at (record { functions = functions cs; main = main }) f ≡ record { slots = 0; body = resolved.no_commands }
-function_missing [] main f past = refl
-function_missing (c ∷ cs) main zero past = nothing_below past
-function_missing (c ∷ cs) main (suc f) past = function_missing cs main f (omega (arith, past))
+pub function_missing : (cs : List CheckedFunction) (classes : List Class) (main f : ℕ) → length cs ≤ f
+    → function_at (record { functions = functions cs; main = main; classes = classes }) f ≡ record { slots = 0; body = resolved.no_commands }
+function_missing [] classes main f past = refl
+function_missing (c ∷ cs) classes main zero past = nothing_below past
+function_missing (c ∷ cs) classes main (suc f) past = function_missing cs classes main f (omega (arith, past))

@@ -1,13 +1,13 @@
 -- How much of a program is left to go through: the interpreter ends, since that falls with each call.
-use Rattle.std.proofs.Common.{rules, arith, ◌≡◌, ℕ, zero, suc, ◌+◌, ◌<◌, ◌≤◌, List, [], ◌∷◌, Option, Some, None, Vec, Global, length, get_or, sym, ap, subst, ◌∙◌}
+use Rattle.std.proofs.Common.{arith, ◌≡◌, ℕ, zero, suc, ◌+◌, ◌<◌, ◌≤◌, List, [], ◌∷◌, Some, None, Vec, Box, Global, length, get_or, sym, ap, subst, ◌∙◌}
 use Rattle.arc_check.specs.declared.checked.Value as c
 use Rattle.arc_check.specs.declared.checked.Command as d
 use Rattle.arc_check.specs.declared.checked.Piece.{Piece}
 use Rattle.arc_check.specs.declared.checked.CheckedFunction.{CheckedFunction}
 use Rattle.arc_check.specs.declared.checked.Checked.{Checked}
-use Rattle.arc_spec.specs.Resolved.{Value, Number, ReadByte, Print, Negated, Combined, Converted, Local, Assigned, Invoked, Values, no_values, and_value, Command, Sequence, Evaluate, Return, Choose, Repeat, Commands, no_commands, and_command, Function, Program}
+use Rattle.arc_spec.specs.Resolved.{Value, Number, ReadByte, Print, Negated, Combined, Converted, Local, Assigned, Invoked, Sent, SentSuper, Values, no_values, and_value, Command, Sequence, Evaluate, Return, Choose, Repeat, Commands, no_commands, and_command, Function}
 use Rattle.arc_check.specs.Checked.{program_of, functions, value, values, command, commands}
-use Rattle.arc_plain.proofs.Turns.{value_print, value_invoked, command_sequence, nothing_below}
+use Rattle.arc_plain.proofs.Turns.{value_print, value_invoked, value_sent, value_sent_super, command_sequence, nothing_below}
 use Rattle.arc_plain.specs.declared.frame.Frame.{Frame}
 
 abbrev mutual
@@ -21,6 +21,8 @@ abbrev mutual
   value_weight (Local i) = 1
   value_weight (Assigned i a) = suc (value_weight a)
   value_weight (Invoked f arguments) = suc (values_weight arguments)
+  value_weight (Sent a selector arguments) = 3 + value_weight a + values_weight arguments
+  value_weight (SentSuper from selector arguments) = 3 + values_weight arguments
 
   pub values_weight : Values → ℕ
   values_weight no_values = 0
@@ -73,6 +75,16 @@ pub call_lighter : (v : c.Value) (f : ℕ) (arguments : Vec c.Value Global) (the
 call_lighter v f arguments these is same =
     let whole : value_weight (value v) ≡ suc (values_weight (values these)) = ap (λ x. value_weight (value x)) is ∙ ap value_weight (value_invoked f arguments) ∙ ap (λ l. suc (values_weight (values l))) (sym same) in
     omega (arith, whole)
+
+pub sent_lighter : (v : c.Value) (a : Box c.Value Global) (selector : ℕ) (arguments : Vec c.Value Global) (receiver : c.Value) (these : List c.Value)
+    → v ≡ c.Sent a selector arguments → receiver ≡ a.value → these ≡ arguments.items → 2 + value_weight (value receiver) + values_weight (values these) < value_weight (value v)
+sent_lighter v a selector arguments receiver these is same_receiver same =
+    omega (arith, ap value_weight (value_sent v a selector arguments receiver these is same_receiver same))
+
+pub super_lighter : (v : c.Value) (from selector : ℕ) (arguments : Vec c.Value Global) (these : List c.Value)
+    → v ≡ c.SentSuper from selector arguments → these ≡ arguments.items → 2 + values_weight (values these) < value_weight (value v)
+super_lighter v from selector arguments these is same =
+    omega (arith, ap value_weight (value_sent_super v from selector arguments these is same))
 
 pub sequence_lighter : (v : d.Command) (all : Vec d.Command Global) (these : List d.Command) → v ≡ d.Sequence all → these ≡ all.items
     → commands_weight (commands these) < command_weight (command v)

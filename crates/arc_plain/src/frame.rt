@@ -10,7 +10,7 @@ use std::alloc::Global;
 /// The program, how many turns each loop may make, and how many calls within one another may still begin.
 #[derive(Clone, Copy)]
 pub struct Frame<'a> {
-    pub program: &'a Checked,
+    pub program: &'a Checked<'a>,
     pub bound: u64,
     pub levels: u32,
 }

@@ -5,6 +5,7 @@ mod format;
 mod frame;
 mod halt;
 pub mod interpret;
+mod message;
 mod progress;
 mod run;
 #[cfg(test)]

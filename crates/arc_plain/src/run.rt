@@ -1,14 +1,17 @@
 //! What expressions, statements and calls do.
 ghost use Rattle.std.specs.Prelude.{◌≡◌};
 ghost use Rattle.arc_check.specs.Checked as checked;
-ghost use Rattle.arc_spec.specs.Meaning.{evaluated, all_evaluated, executed, all_executed, turns, called, given};
+ghost use Rattle.arc_spec.specs.Resolved as resolved;
+ghost use Rattle.arc_spec.specs.Meaning.{evaluated, all_evaluated, executed, all_executed, turns, called, given, dispatched, finds};
 ghost use Rattle.arc_plain.specs.Views.{world, Tells, printed, flow_of, function_of, deeper};
 
 use crate::format::{count, format};
 use crate::frame::{Frame, begin_locals, is_zero};
 use crate::halt::Halt;
+use crate::message::{class_at, with_receiver};
 use crate::progress::{Progress, assign, local, print, read};
 use arc_check::checked::{CheckedFunction, Command, Piece, Value};
+use arc_spec::class::look_up;
 use arc_spec::event::Fault;
 use arc_spec::number::{combine, convert, negate};
 use std::alloc::Global;
@@ -64,6 +67,12 @@ fn evaluate(
             let values = evaluate_all(alloc, frame, progress, arguments)?;
             call(alloc, frame, progress, *function, &values)
         }
+        Value::Sent(receiver, selector, arguments) => {
+            send(alloc, frame, progress, receiver, *selector, arguments)
+        }
+        Value::SentSuper(from, selector, arguments) => {
+            send_super(alloc, frame, progress, *from, *selector, arguments)
+        }
     }
 }
 
@@ -97,6 +106,77 @@ fn print_format(
     let text = format(alloc, pieces, values)?;
     print(progress, &text)?;
     Ok(count(&text))
+}
+
+/// Sends a message to the class that the receiver gives; the receiver is evaluated before the arguments.
+#[cycle(running)]
+fn send(
+    alloc: Global,
+    frame: &Frame,
+    progress: &mut Progress,
+    receiver: &Value,
+    selector: usize,
+    arguments: &[Value],
+) -> Result<i64, Halt>
+    ensures { Tells (λ n. n) result (evaluated (deeper frame.now) (resolved.Sent (checked.value receiver.now) selector (checked.values arguments.now)) (world progress.old)) (world progress.new) }
+{
+    let itself = evaluate(alloc, frame, progress, receiver)?;
+    let numbers = evaluate_all(alloc, frame, progress, arguments)?;
+    dispatch(
+        alloc,
+        frame,
+        progress,
+        class_at(itself),
+        selector,
+        itself,
+        &numbers,
+    )
+}
+
+/// Sends a message to `self`, the first variable, whose method is looked up from this class.
+#[cycle(running)]
+fn send_super(
+    alloc: Global,
+    frame: &Frame,
+    progress: &mut Progress,
+    from: usize,
+    selector: usize,
+    arguments: &[Value],
+) -> Result<i64, Halt>
+    ensures { Tells (λ n. n) result (evaluated (deeper frame.now) (resolved.SentSuper from selector (checked.values arguments.now)) (world progress.old)) (world progress.new) }
+{
+    let itself = local(progress, 0);
+    let values = evaluate_all(alloc, frame, progress, arguments)?;
+    dispatch(
+        alloc,
+        frame,
+        progress,
+        Some(from),
+        selector,
+        itself,
+        &values,
+    )
+}
+
+/// Calls what a message finds from this class up, with `self` in front of the arguments; a message that
+/// finds nothing is a fault.
+#[cycle(running)]
+fn dispatch(
+    alloc: Global,
+    frame: &Frame,
+    progress: &mut Progress,
+    from: Option<usize>,
+    selector: usize,
+    itself: i64,
+    arguments: &[i64],
+) -> Result<i64, Halt>
+    ensures { Tells (λ n. n) result (dispatched (deeper frame.now) (finds (deeper frame.now) from selector arguments.now) itself arguments.now (world progress.old)) (world progress.new) }
+{
+    let Some(method) = look_up(&frame.program.classes, from, selector, arguments.len()) else {
+        return Err(Halt::Stopped(Fault::Unrecognized));
+    };
+    let passed = with_receiver(alloc, itself, arguments)?;
+    call(alloc, frame, progress, method, &passed)
 }
 
 /// Calls the function with this number, one level deeper.

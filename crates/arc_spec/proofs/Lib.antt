@@ -1,2 +1,3 @@
 pub mod Steadiness
 pub mod Composition
+pub mod Lookups

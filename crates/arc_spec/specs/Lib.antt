@@ -1,4 +1,5 @@
 pub mod Number
+pub mod Classes
 pub mod Resolved
 pub mod World
 pub mod Meaning

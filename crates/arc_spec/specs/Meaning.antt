@@ -2,9 +2,10 @@
 use Rattle.std.specs.Prelude.{ℕ, zero, suc, ℤ, pos, negsuc, List, [], ◌∷◌, ◌++◌, length, Option, Some, None, Bool, true, false, slice_get, slice_set}
 use Rattle.std.specs.Fmt.{signed_decimal}
 use Rattle.arc_ast.specs.declared.tree.Kind.TheVariants as k
-use Rattle.arc_spec.specs.declared.event.Fault.TheVariants.{Arithmetic, Depth}
+use Rattle.arc_spec.specs.declared.event.Fault.TheVariants.{Arithmetic, Unrecognized, Depth}
+use Rattle.arc_spec.specs.Classes.{Class, lookup, class_at}
 use Rattle.arc_spec.specs.Number.{converted, negated, combined, low_byte, is_zero}
-use Rattle.arc_spec.specs.Resolved.{Piece, Bytes, Decimal, Character, Value, Number, ReadByte, Print, Negated, Combined, Converted, Local, Assigned, Invoked, Values, no_values, and_value, Command, Sequence, Evaluate, Return, Choose, Repeat, Commands, no_commands, and_command, Function, Program}
+use Rattle.arc_spec.specs.Resolved.{Piece, Bytes, Decimal, Character, Value, Number, ReadByte, Print, Negated, Combined, Converted, Local, Assigned, Invoked, Sent, SentSuper, Values, no_values, and_value, Command, Sequence, Evaluate, Return, Choose, Repeat, Commands, no_commands, and_command, Function, Program}
 use Rattle.arc_spec.specs.World.{World, Outcome, Done, Faulted, Cut, then_do, prints, first_world, with_locals, local_at, first_locals, next_number, has_read}
 
 -- what a format writes of these values, of which each number takes the next (C99, section 7.19.6.1)
@@ -25,11 +26,22 @@ abbrev pub or_fault : Option ℤ → World → Outcome ℤ
 or_fault (Some v) w = Done v w
 or_fault None w = Faulted Arithmetic w
 
--- what a call does, one level deeper: the number of the function, and what it is given
+-- what a call does, one level deeper, with the number of the function and what it is given; and the classes of the program
 pub record Deeper : Type 0 where
   pub call : ℕ → List ℤ → World → Outcome ℤ
+  pub classes : List Class
+
+-- A message with what it has found: that function runs with `self` and the arguments; with none it is a fault.
+abbrev pub dispatched : Deeper → Option ℕ → (self : ℤ) → List ℤ → World → Outcome ℤ
+dispatched D None self given w = Faulted Unrecognized w
+dispatched D (Some f) self given w = D.call f (self ∷ given) w
+
+-- the function that a message finds from a class up
+abbrev pub finds : Deeper → (from : Option ℕ) → (selector : ℕ) → List ℤ → Option ℕ
+finds D from selector given = lookup D.classes from selector (length given)
 
 -- Evaluation goes from left to right. printf evaluates all values, then writes the bytes, and gives their number. The value of an assignment is its right side (C99, section 6.5.16).
+-- A message evaluates its receiver and then its arguments; one to `super` goes to `self`, the first variable (OPL, "Messages to self and super").
 abbrev mutual
   pub evaluated : Deeper → Value → World → Outcome ℤ
   evaluated D (Number n) w = Done n w
@@ -43,6 +55,10 @@ abbrev mutual
   evaluated D (Local i) w = Done (local_at w.locals i) w
   evaluated D (Assigned i a) w = then_do (evaluated D a w) (λ x w1. Done x (with_locals w1 (slice_set w1.locals i x)))
   evaluated D (Invoked f arguments) w = then_do (all_evaluated D arguments w) (λ given w1. D.call f given w1)
+  evaluated D (Sent a selector arguments) w =
+      then_do (evaluated D a w) (λ self w1. then_do (all_evaluated D arguments w1) (λ given w2. dispatched D (finds D (class_at self) selector given) self given w2))
+  evaluated D (SentSuper from selector arguments) w =
+      then_do (all_evaluated D arguments w) (λ given w1. dispatched D (finds D (Some from) selector given) (local_at w.locals 0) given w1)
 
   pub all_evaluated : Deeper → Values → World → Outcome (List ℤ)
   all_evaluated D no_values w = Done [] w
@@ -104,10 +120,10 @@ called D bound f arguments w =
 
 -- calls where so many levels are left: with none a call is a fault
 abbrev pub level : Program → (bound levels : ℕ) → Deeper
-level P bound zero = record { call = λ f arguments w. Faulted Depth w }
-level P bound (suc n) = record { call = λ f arguments w. called (level P bound n) bound (function_at P f) arguments w }
+level P bound zero = record { call = λ f arguments w. Faulted Depth w; classes = P.classes }
+level P bound (suc n) = record { call = λ f arguments w. called (level P bound n) bound (function_at P f) arguments w; classes = P.classes }
 
--- how many calls may run within one another, main's being the first (this project's own limit)
+-- how many calls of functions and methods may run within one another, main's being the first (this project's own limit)
 abbrev pub most_levels : ℕ
 most_levels = 2000
 

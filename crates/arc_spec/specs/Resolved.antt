@@ -2,6 +2,7 @@
 use Rattle.std.specs.Prelude.{ℕ, ℤ, List, Option}
 use Rattle.arc_ast.specs.declared.tree.Kind.{Kind}
 use Rattle.arc_ast.specs.declared.tree.BinaryOperator.{BinaryOperator}
+use Rattle.arc_spec.specs.Classes.{Class}
 
 -- what a format prints in turn (C99, section 7.19.6.1): bytes as they are, the next value as a decimal number, or its low 8 bits as a byte
 pub data Piece : Type 0 where
@@ -10,7 +11,8 @@ pub data Piece : Type 0 where
   Character : Piece
 
 mutual
-  -- an expression, which gives a number; an operator has the kind in which it computes. A variable goes by its number in its function, a function by its number in the program
+  -- An expression, which gives a number; an operator has the kind in which it computes. A variable goes by its number in its function; functions, classes and
+  -- selectors go by their numbers in the program, and a class is a value by its number. A message to `super` has the class from which its method is looked up.
   pub data Value : Type 0 where
     Number : ℤ → Value
     ReadByte : Value
@@ -21,6 +23,8 @@ mutual
     Local : ℕ → Value
     Assigned : ℕ → Value → Value
     Invoked : ℕ → Values → Value
+    Sent : Value → (selector : ℕ) → Values → Value
+    SentSuper : (from selector : ℕ) → Values → Value
 
   pub data Values : Type 0 where
     no_values : Values
@@ -38,12 +42,14 @@ mutual
     no_commands : Commands
     and_command : Command → Commands → Commands
 
--- a function with how many variables it has, of which the first are its parameters
+-- A function with how many variables it has, of which the first are its parameters. A method is one too; its first variable is `self`, the class that got the
+-- message, which is passed to it before its arguments (OPL, "Using Hidden Arguments").
 pub record Function : Type 0 where
   pub slots : ℕ
   pub body : Commands
 
--- the functions of a program, and which of them is main
+-- the functions of a program, which of them is main, and the classes, whose methods run functions
 pub record Program : Type 0 where
   pub functions : List Function
   pub main : ℕ
+  pub classes : List Class

@@ -22,7 +22,10 @@ pub enum Fault {
     /// A division by zero, or one whose quotient has no place in its kind.
     #[error("a quotient that is no number of its kind")]
     Arithmetic,
-    /// More than 2,000 function calls were running.
+    /// A message that no method answers.
+    #[error("a message that no method answers")]
+    Unrecognized,
+    /// More than 2,000 calls of functions and methods were running.
     #[error("too many calls within one another")]
     Depth,
 }

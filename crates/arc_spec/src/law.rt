@@ -1,8 +1,8 @@
 //! What the definitions say of known programs, and what follows from them. Nothing here is run.
 ghost use Rattle.std.specs.Prelude.{◌≡◌, ℕ, ℤ, pos, negsuc, List, [], ◌∷◌, ◌++◌, codes};
-ghost use Rattle.arc_spec.specs.Rows.{Prints, forty_two, division_fault, one_byte, wrapped_sum, least_long};
+ghost use Rattle.arc_spec.specs.Rows.{Prints, Shows, forty_two, division_fault, one_byte, wrapped_sum, least_long, class_methods};
 ghost use Rattle.arc_spec.specs.Correct.{Sight, Behaves, Steady, Refines, Ends, Faults};
-ghost use Rattle.arc_spec.specs.declared.event.Fault.TheVariants.{Arithmetic};
+ghost use Rattle.arc_spec.specs.declared.event.Fault.TheVariants.{Arithmetic, Unrecognized};
 
 /// Programs mean what the language's rules say of them.
 pub fn known_programs()
@@ -11,6 +11,7 @@ pub fn known_programs()
     ensures one_byte { Prints one_byte (65 ∷ []) (codes "A-1after") (Ends (pos 0)) }
     ensures wrapped_sum { Prints wrapped_sum [] (codes "-2147483648") (Ends (pos 11)) }
     ensures least_long { Prints least_long [] [] (Faults Arithmetic) }
+    ensures class_methods { Shows class_methods [] (codes "10 20") (Faults Unrecognized) }
 {}
 
 /// Runs that refine runs of a meaning do what is meant.

@@ -1,6 +1,7 @@
-//! What several crates speak of: numbers, events, faults, and in `specs/` what a program means.
+//! What several crates speak of: numbers, classes, events, faults, and in `specs/` what a program means.
 #![tactic(auto)]
 
+pub mod class;
 pub mod event;
 pub mod law;
 pub mod number;

@@ -8,12 +8,13 @@ use Rattle.arc_ast.specs.Tree.{unit_tree}
 use Rattle.arc_parse.specs.Grammar.{SpellsUnit}
 use Rattle.arc_parse.specs.Limits.{these}
 use Rattle.arc_class.specs.declared.table.ClassTable.{ClassTable}
-use Rattle.arc_class.specs.Functions.{broken}
+use Rattle.arc_class.specs.ClassRules.{broken}
 use Rattle.arc_class.specs.Table.{IsTableOf}
 use Rattle.arc_check.specs.declared.checked.Checked.{Checked}
 use Rattle.arc_check.specs.Checked.{program_of}
 use Rattle.arc_check.specs.Rules.{broken_unit}
 use Rattle.arc_check.specs.Resolving.{resolved_unit}
+use Rattle.arc_family.specs.Rules as ownership
 use Rattle.arc_spec.specs.Correct.{Refines, Steady}
 use Rattle.arc_spec.proofs.Composition.{composed}
 use Rattle.arc_ir.specs.Acting as acting
@@ -35,9 +36,10 @@ passed source items these_tokens same h = subst (λ ts. Tokens source (toks ts))
 module _ (source : List ℕ) (tokens : List Token) (unit : TranslationUnit) (table : ClassTable) (program owned : Checked) (actions : acting.Program)
     (cut : Tokens source (toks tokens)) (spelled : SpellsUnit these (unit_tree unit) (toks tokens)) (declared : broken (unit_tree unit) ≡ []) (has_main : IsTableOf (unit_tree unit) table)
     (checked : broken_unit (unit_tree unit) ≡ []) (resolved : program_of program ≡ resolved_unit (unit_tree unit))
+    (source_is : unit_tree program.unit.now ≡ unit_tree unit) (ruled : ownership.broken (unit_tree program.unit.now) ≡ [])
     (same : owned ≡ program) (performs : Performs (program_of owned) actions) where
   abbrev pub accepted : Accepted source
-  accepted = record { tokens = toks tokens; tree = unit_tree unit; table = table; cut = cut; spelled = spelled; declared = declared; has_main = has_main; checked = checked }
+  accepted = record { tokens = toks tokens; tree = unit_tree unit; table = table; cut = cut; spelled = spelled; declared = declared; has_main = has_main; checked = checked; owned = subst (λ u. ownership.broken u ≡ []) source_is ruled }
 
   pub performed : Performs (program_meant accepted) actions
   performed = subst (λ program. Performs program actions) (ap program_of same ∙ resolved) performs

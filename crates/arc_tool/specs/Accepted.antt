@@ -2,14 +2,15 @@
 use Rattle.std.specs.Prelude.{◌≡◌, ℕ, List, []}
 use Rattle.arc_lex.specs.Tokens.{Tok}
 use Rattle.arc_lex.specs.Source.{Tokens}
-use Rattle.arc_ast.specs.Tree.{FunctionTree}
+use Rattle.arc_ast.specs.Tree.{UnitTree}
 use Rattle.arc_parse.specs.Grammar.{SpellsUnit}
 use Rattle.arc_parse.specs.Limits.{these}
 use Rattle.arc_class.specs.declared.table.ClassTable.{ClassTable}
-use Rattle.arc_class.specs.Functions.{broken}
+use Rattle.arc_class.specs.ClassRules.{broken}
 use Rattle.arc_class.specs.Table.{IsTableOf}
 use Rattle.arc_check.specs.Rules.{broken_unit}
 use Rattle.arc_check.specs.Resolving.{resolved_unit}
+use Rattle.arc_family.specs.Rules as ownership
 use Rattle.arc_spec.specs.Resolved as resolved
 use Rattle.arc_spec.specs.Meaning.{mean}
 use Rattle.arc_spec.specs.Correct.{Behaves, Steady, Sight, meaning_seen}
@@ -18,15 +19,16 @@ use Rattle.arc_code.specs.Running.{Program, seen, IsSound}
 -- The source has these tokens, which spell this tree within the limits; the tree has a main, and breaks no rule.
 pub record Accepted (source : List ℕ) : Type 0 where
   pub tokens : List Tok
-  pub tree : List FunctionTree
+  pub tree : UnitTree
   pub table : ClassTable
   pub cut : Tokens source tokens
   pub spelled : SpellsUnit these tree tokens
   pub declared : broken tree ≡ []
   pub has_main : IsTableOf tree table
   pub checked : broken_unit tree ≡ []
+  pub owned : ownership.broken tree ≡ []
 
--- its functions, with their names resolved
+-- its functions and methods, with their names resolved
 abbrev pub program_meant : {source : List ℕ} → Accepted source → resolved.Program
 program_meant p = resolved_unit p.tree
 

@@ -11,7 +11,7 @@ ghost use Rattle.arc_tool.specs.Told.{Tells, Names};
 use arc_check::fault::CheckFault;
 use arc_class::fault::ClassFault;
 use arc_emit::fault::EmitFault;
-use arc_family::owned::OwnFault;
+use arc_family::fault::OwnFault;
 use arc_lex::fault::LexFault;
 use arc_parse::fault::ParseFault;
 use arc_spec::event::NoMemory;

@@ -1,5 +1,6 @@
 //! Worked rows on the public calls.
 
+mod classes;
 mod devices;
 mod hostile;
 mod rows;

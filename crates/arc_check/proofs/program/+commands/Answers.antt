@@ -1,4 +1,4 @@
-use Rattle.std.proofs.Common.{◌≡◌, OnOk, IfOk, refl, ap, subst, ◌∙◌}
+use Rattle.std.proofs.Common.{◌≡◌, OnOk, IfOk, take, refl, ap, subst, ◌∙◌}
 use Rattle.arc_ast.specs.Tree.{expr_tree, stmt_tree, stmt_trees}
 use Rattle.arc_spec.specs.Resolved as spec
 use Rattle.arc_spec.specs.Resolved.{no_commands}
@@ -7,9 +7,24 @@ use Rattle.arc_check.specs.Resolving.{resolved, resolved_stmt, resolved_stmts}
 use Rattle.arc_check.specs.Scopes.{Scope}
 use Rattle.arc_check.specs.Views.{seen}
 use Rattle.arc_check.proofs.Commands.{commands_turn, commands_end, behind_turn, block_command, block_scope, declaration_command, choose_is, nothing}
+use Rattle.arc_check.proofs.Leaving.{behind_same, behind_all_same, leave_is}
 use Rattle.arc_check.proofs.Scoping.{keeps_turn}
 use Rattle.arc_check.proofs.Trees.{sequence_command}
 use Rattle.arc_check.proofs.program.+commands.Goals as goal
+
+pub block-returns-clause-scope : goal.block-returns-clause-scope
+block-returns-clause-scope t c =
+    let table = c.args.table.now in
+    let old = c.args.visible.now in
+    leave_is table old c.commands.new.visible c.leave.new.self _ (behind_all_same (seen table old) (stmt_trees c.args.statements.now)) c.in_ok-all.ensures.scope
+    (c.leave.ensures.bound ∙ ap (λ n. take n c.commands.new.visible.bound.items) (c.len-count.ensures ∙ old.bound.ok.0) ∙ c.in_ok-all.ensures.keeps) c.leave.ensures.next c.leave.ensures.class c.leave.ensures.hidden
+
+pub scoped-returns-clause-scope : goal.scoped-returns-clause-scope
+scoped-returns-clause-scope t c =
+    let table = c.args.table.now in
+    let old = c.args.visible.now in
+    leave_is table old c.command.new.visible c.leave.new.self _ (behind_same (seen table old) (stmt_tree c.args.inner.now)) c.in_ok-new.ensures.scope
+    (c.leave.ensures.bound ∙ ap (λ n. take n c.command.new.visible.bound.items) (c.len-count.ensures ∙ old.bound.ok.0) ∙ c.in_ok-new.ensures.keeps) c.leave.ensures.next c.leave.ensures.class c.leave.ensures.hidden
 
 pub block-returns-clause-command : goal.block-returns-clause-command
 block-returns-clause-command t c = sequence_command c.in_ok-all.all ∙ ap spec.Sequence c.in_ok-all.ensures.commands

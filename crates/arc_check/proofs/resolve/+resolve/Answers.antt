@@ -3,18 +3,29 @@ use Rattle.arc_spec.specs.Resolved.{Invoked}
 use Rattle.arc_check.specs.declared.callee.Callee.TheVariants.{Printf, GetChar, Defined, Unknown}
 use Rattle.arc_check.specs.declared.resolve.Typed.{Typed}
 use Rattle.arc_check.specs.Checked as checked
-use Rattle.arc_ast.specs.Tree.{expr_trees}
-use Rattle.arc_check.specs.Resolving.{number, resolved_all}
-use Rattle.arc_check.specs.Scopes.{result_kind}
-use Rattle.arc_check.specs.Views.{seen}
-use Rattle.arc_check.proofs.Trees.{call_tree, print_value, invoked_value}
-use Rattle.arc_check.proofs.Buildings.{values_turn, values_end, printing_some, printing_none, resolves_call}
+use Rattle.arc_ast.specs.Tree.{expr_trees, receiver_tree}
+use Rattle.arc_check.specs.Resolving.{number, kind_or_int, resolved_all}
+use Rattle.arc_check.specs.Scopes.{result_kind, sent_kind}
+use Rattle.arc_check.specs.Views.{known_in, seen}
+use Rattle.arc_check.proofs.Trees.{call_tree, send_tree, print_value, invoked_value}
+use Rattle.arc_check.proofs.Buildings.{values_turn, values_end, printing_some, printing_none, resolves_call, resolves_send}
 use Rattle.arc_check.proofs.resolve.+resolve.Goals as goal
 use Rattle.arc_check.proofs.resolve.+resolve.Goals.{call-in-Printf+in_ok-value-in-Printf, call-in-Defined+in_ok-values-in-Defined, call-in-GetChar, call-in-Unknown}
 
 pub expression-returns-in_ok-typed-in-Call : goal.expression-returns-in_ok-typed-in-Call
 expression-returns-in_ok-typed-in-Call t c =
     rw (c.in-Call.is, call_tree c.in-Call.field-0 c.in-Call.name c.in-Call.arguments, sym c.deref-in-Call.ensures.value, sym c.deref-in-Call-2.ensures.value) (c.in_ok-typed-in-Call.ensures c.in-Call.field-0)
+
+pub expression-returns-in_ok-typed-in-Send : goal.expression-returns-in_ok-typed-in-Send
+expression-returns-in_ok-typed-in-Send t c =
+    rw (c.in-Send.is, send_tree c.in-Send.field-0 c.in-Send.field-1 c.in-Send.receiver c.in-Send.selector c.in-Send.arguments, sym c.deref-in-Send.ensures.value, sym c.deref-in-Send-2.ensures.value) (c.in_ok-typed-in-Send.ensures c.in-Send.field-0 c.in-Send.field-1)
+
+pub message-returns : goal.message-returns
+message-returns t c = λ at part.
+    let table = c.args.table.now in
+    resolves_send (seen table c.args.visible.now) at part (receiver_tree c.args.receiver.now) c.args.selector.now (expr_trees c.args.arguments.now) c.selector_number-selector.result (checked.values c.in_ok-all.all.items)
+    (record { kind = c.kind_or_int.result; value = c.in_ok-sent.field-0 }) (c.kind_or_int.ensures ∙ ap kind_or_int (c.sent_kind-kind.ensures ∙ ap (λ o. sent_kind (known_in table) o c.args.selector.now) c.receiving.ensures))
+    (c.selector_number-selector.ensures ∙ ap number c.selector.ensures) c.in_ok-all.ensures c.in_ok-sent.ensures
 
 pub call-returns : goal.call-returns
 call-returns t c = λ at.

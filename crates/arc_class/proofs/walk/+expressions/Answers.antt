@@ -5,7 +5,7 @@ use Rattle.arc_class.specs.Bodies.{broken_expr}
 use Rattle.arc_class.specs.Fault.{told}
 use Rattle.arc_class.specs.Walk.{lacks}
 use Rattle.arc_class.proofs.Firsts.{first_both}
-use Rattle.arc_class.proofs.Walks.{expressions_turn, call_is}
+use Rattle.arc_class.proofs.Walks.{expressions_turn, call_is, send_is}
 use Rattle.arc_class.proofs.walk.+expressions.Goals as goal
 
 pub expression-returns-in-Call : goal.expression-returns-in-Call
@@ -25,6 +25,10 @@ expression-returns-in-Assign t c =
     let left : option_map told c.expression-left-in-Assign.result ≡ first (broken_expr L (expr_tree c.in-Assign.left.value)) = rw c.deref-in-Assign.ensures at c.expression-left-in-Assign.ensures in
     let right : option_map told c.expression-in-Assign.result ≡ first (broken_expr L (expr_tree c.in-Assign.right.value)) = rw c.deref-in-Assign-2.ensures at c.expression-in-Assign.ensures in
     rw c.in-Assign.is (first_both (broken_expr L (expr_tree c.in-Assign.left.value)) (broken_expr L (expr_tree c.in-Assign.right.value)) (option_map told c.expression-left-in-Assign.result) (option_map told c.expression-in-Assign.result) (option_map told c.earlier-in-Assign.result) left right c.earlier-in-Assign.ensures)
+
+pub expression-returns-in-Send : goal.expression-returns-in-Send
+expression-returns-in-Send t c =
+    c.expressions.ensures ∙ send_is (lacks c.args.known.now) c.args.expr.now c.in-Send.field-0 c.in-Send.field-1 c.in-Send.field-2 c.in-Send.field-3 c.in-Send.arguments c.deref-in-Send.result.now c.in-Send.is c.deref-in-Send.ensures.value
 
 pub expressions-loop-expr-preserved : goal.expressions-loop-expr-preserved
 expressions-loop-expr-preserved t c =

@@ -1,10 +1,13 @@
-use Rattle.std.proofs.Common.{◌≡◌, rules, sym, ap, ◌∙◌, Ok}
+use Rattle.std.proofs.Common.{◌≡◌, rules, [], true, sym, ap, ◌∙◌, Ok}
+use Rattle.std.proofs.lemmas.Result.{err_from_is_err_and}
+use Rattle.arc_lex.specs.declared.token.Mark.TheVariants as m
 use Rattle.arc_lex.specs.Tokens.{toks}
-use Rattle.arc_ast.specs.Tree.{Call, expr_trees}
-use Rattle.arc_parse.specs.ExprRules.{read, call_by, arguments_by}
+use Rattle.arc_ast.specs.Tree.{Call, Send, no_exprs, expr_trees, receiver_tree}
+use Rattle.arc_parse.specs.Reader.{sees_mark}
+use Rattle.arc_parse.specs.ExprRules.{read, call_by, arguments_by, part_by, parts_by, message_by}
 use Rattle.arc_parse.specs.ExprRules as rule
-use Rattle.arc_parse.proofs.ExprFix.{read_arguments, read_expr}
-use Rattle.arc_parse.proofs.Rows.{call_tree, appends_more}
+use Rattle.arc_parse.proofs.ExprFix.{read_arguments, read_expr, read_parts}
+use Rattle.arc_parse.proofs.Rows.{call_tree, send_tree, appends_more, appends_none, appends_named, sent_parts, sent_fails}
 use Rattle.arc_parse.proofs.expr.+exprs.Goals as goal
 
 pub call-returns-clause-gives : goal.call-returns-clause-gives
@@ -23,3 +26,41 @@ arguments-returns-clause-gives t c =
     appends_more c.args.all.now.items c.push.new.self.items c.arguments.new.all.items c.in_ok-one.one c.arguments.result
     (read rule.arguments (toks c.in_ok-rest.rest.now)) (read rule.arguments (toks c.args.tokens.now))
     (read_arguments (toks c.args.tokens.now) ∙ search (rules, read_expr)) c.in_ok-push.ensures.items c.arguments.ensures.gives
+
+pub message-returns-clause-gives : goal.message-returns-clause-gives
+unfolding message_by
+message-returns-clause-gives t c =
+    let at = c.in_ok-at.at in
+    let part = c.in_ok-part.part in
+    let to = c.in_ok-to.to in
+    let selector = c.in_ok-selector.selector in
+    let all = c.in_ok-selector.all in
+    let rest = toks c.in_ok-rest.rest.now in
+    let is : message_by read (toks c.args.tokens.now) ≡ Ok (Send at part (receiver_tree to) selector.items (expr_trees all.items), rest) = search rules in
+    is ∙ ap (λ x. Ok (x, rest)) (sym (send_tree at part to selector all))
+
+pub parts-returns-then-not-sees_name-clause-gives : goal.parts-returns-then-not-sees_name-clause-gives
+unfolding parts_by
+parts-returns-then-not-sees_name-clause-gives t c =
+    let is : read rule.parts (toks c.args.tokens.now) ≡ Ok (([], no_exprs), toks c.args.tokens.now) = read_parts (toks c.args.tokens.now) ∙ search rules in
+    appends_none c.args.selector.now.items c.args.all.now.items c.args.tokens (read rule.parts (toks c.args.tokens.now)) is
+
+pub parts-returns-clause-gives : goal.parts-returns-clause-gives
+unfolding parts_by
+parts-returns-clause-gives t c =
+    let rest = toks c.in_ok-called.rest.now in
+    let is : read rule.parts (toks c.args.tokens.now) ≡ part_by read c.in_ok-called.called.now rest = read_parts (toks c.args.tokens.now) ∙ search rules in
+    appends_named c.args.selector.now.items c.extend_from_slice.new.self.items c.part.new.selector.items c.args.all.now.items c.part.new.all.items c.part.result c.in_ok-called.called.now rest
+    (read rule.parts (toks c.args.tokens.now)) is c.in_ok-extend_from_slice.ensures.items c.part.ensures.gives
+
+pub sent-returns-in_err-rest-clause-gives : goal.sent-returns-in_err-rest-clause-gives
+sent-returns-in_err-rest-clause-gives t c =
+    let p = err_from_is_err_and c.from_residual-in_err-rest.result c.from_residual-in_err-rest.ensures.1 in
+    let seen : sees_mark m.Colon (toks c.args.tokens.now) ≡ true = search rules in
+    rw (p.1, p.2) (sent_fails c.in_err-rest.field-0.0 c.args.called.now (toks c.args.tokens.now) seen c.in_err-rest.ensures.gives)
+
+pub sent-returns-clause-gives : goal.sent-returns-clause-gives
+sent-returns-clause-gives t c =
+    let seen : sees_mark m.Colon (toks c.args.tokens.now) ≡ true = search rules in
+    sent_parts c.args.called.now c.in_ok-selector.selector.items c.part.new.selector.items c.new-all.result.items c.part.new.all.items c.in_ok-rest.rest (toks c.args.tokens.now) seen
+    c.in_ok-selector.ensures.items c.new-all.ensures.items c.in_ok-rest.ensures.gives

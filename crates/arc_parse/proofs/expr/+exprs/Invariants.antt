@@ -39,3 +39,15 @@ decreases-assignment l = 16 * length l.tokens.now + 14
 
 abbrev pub decreases-negated : goal.decreases-negated
 decreases-negated l = 16 * length l.tokens.now + 5
+
+abbrev pub decreases-message : goal.decreases-message
+decreases-message l = 16 * length l.tokens.now + 3
+
+abbrev pub decreases-sent : goal.decreases-sent
+decreases-sent l = 16 * length l.tokens.now + 15
+
+abbrev pub decreases-part : goal.decreases-part
+decreases-part l = 16 * length l.tokens.now + 14
+
+abbrev pub decreases-parts : goal.decreases-parts
+decreases-parts l = 16 * length l.tokens.now + 14

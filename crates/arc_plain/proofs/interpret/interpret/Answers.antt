@@ -1,4 +1,3 @@
-use Rattle.std.proofs.Common.{◌≡◌}
 use Rattle.arc_check.specs.Checked.{program_of}
 use Rattle.arc_spec.specs.Meaning.{most_levels}
 use Rattle.arc_plain.specs.Views.{world}

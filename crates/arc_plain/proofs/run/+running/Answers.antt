@@ -1,15 +1,15 @@
-use Rattle.std.proofs.Common.{rules, arith, suc, length, to_z, of_z, w64, ◌∷◌, ◌++◌, [], refl, ◌≡◌, ℕ, ◌+◌, ◌-◌, ◌*◌, ◌<◌, ◌≤◌, Err, sym, subst, ap, ◌∙◌}
+use Rattle.std.proofs.Common.{rules, arith, suc, length, to_z, of_z, w64, ◌∷◌, ◌++◌, [], refl, ◌≡◌, ◌-◌, ◌<◌, ◌≤◌, Err, sym, subst, ap, ◌∙◌}
 use Rattle.std.proofs.lemmas.Int.{to_z-of_z}
 use Rattle.std.proofs.lemmas.Bool.{ltb-true, ltb-false}
 use Rattle.std.proofs.lemmas.Result.{err_from_is_err_and}
 use Rattle.arc_check.specs.Checked as checked
 use Rattle.arc_spec.specs.Number.{is_zero}
-use Rattle.arc_spec.specs.World.{Done, with_locals, first_locals}
+use Rattle.arc_spec.specs.Classes.{classes_of}
 use Rattle.arc_check.specs.Checked.{program_of}
 use Rattle.arc_spec.specs.Meaning.{evaluated, all_evaluated, executed, turns, called, level, function_at}
-use Rattle.arc_plain.specs.Views.{world, Tells, printed, flow_of, function_of, deeper}
-use Rattle.arc_plain.proofs.Turns.{print_failed, print_done, call_failed, call_done, sequence_told, values_step, turns_step, call_is, function_found, function_missing}
-use Rattle.arc_plain.proofs.Weights.{print_lighter, call_lighter, sequence_lighter, value_in, command_in, enter_lighter}
+use Rattle.arc_plain.specs.Views.{world, Tells, deeper}
+use Rattle.arc_plain.proofs.Turns.{print_failed, print_done, call_failed, call_done, value_sent, value_sent_super, value_told, sequence_told, values_step, turns_step, turn_failed, call_is, function_found, function_missing}
+use Rattle.arc_plain.proofs.Weights.{print_lighter, call_lighter, sent_lighter, super_lighter, sequence_lighter, value_in, command_in, enter_lighter}
 use Rattle.arc_plain.proofs.run.+running.Goals as goal
 
 pub evaluate-returns-in_err-values-in-Print : goal.evaluate-returns-in_err-values-in-Print
@@ -36,6 +36,16 @@ evaluate-returns-in_ok-values-in-Invoked t c =
     (world c.args.progress.now) (world c.evaluate_all-in-Invoked.new.progress) (world c.call.new.progress)
     c.in-Invoked.is c.deref-in-Invoked.ensures.value c.deref-in-Invoked-2.ensures.value c.in_ok-values-in-Invoked.ensures c.call.ensures
 
+pub evaluate-returns-in-Sent : goal.evaluate-returns-in-Sent
+evaluate-returns-in-Sent t c =
+    value_told (deeper c.args.frame.now) c.args.value.now _ c.send.result (world c.args.progress.now) (world c.send.new.progress)
+    (value_sent c.args.value.now c.in-Sent.receiver c.in-Sent.selector c.in-Sent.arguments c.deref-in-Sent.result.now c.deref-in-Sent-2.result.now c.in-Sent.is c.deref-in-Sent.ensures c.deref-in-Sent-2.ensures.value) c.send.ensures
+
+pub evaluate-returns-in-SentSuper : goal.evaluate-returns-in-SentSuper
+evaluate-returns-in-SentSuper t c =
+    value_told (deeper c.args.frame.now) c.args.value.now _ c.send_super.result (world c.args.progress.now) (world c.send_super.new.progress)
+    (value_sent_super c.args.value.now c.in-SentSuper.from c.in-SentSuper.selector c.in-SentSuper.arguments c.deref-in-SentSuper.result.now c.in-SentSuper.is c.deref-in-SentSuper.ensures.value) c.send_super.ensures
+
 pub execute-returns-in-Sequence : goal.execute-returns-in-Sequence
 execute-returns-in-Sequence t c =
     sequence_told (deeper c.args.frame.now) c.args.frame.now.bound c.args.command.now c.in-Sequence.commands c.deref.result.now c.execute_all.result (world c.args.progress.now) (world c.execute_all.new.progress)
@@ -52,6 +62,14 @@ evaluate-evaluate_all-requires t c =
 pub evaluate-evaluate_all-requires-in-Invoked : goal.evaluate-evaluate_all-requires-in-Invoked
 evaluate-evaluate_all-requires-in-Invoked t c =
     (omega (arith, call_lighter c.args.value.now c.in-Invoked.function c.in-Invoked.arguments c.deref-in-Invoked.result.now c.in-Invoked.is c.deref-in-Invoked.ensures.value, c.decreases), tt)
+
+pub evaluate-send-requires : goal.evaluate-send-requires
+evaluate-send-requires t c =
+    (omega (arith, sent_lighter c.args.value.now c.in-Sent.receiver c.in-Sent.selector c.in-Sent.arguments c.deref-in-Sent.result.now c.deref-in-Sent-2.result.now c.in-Sent.is c.deref-in-Sent.ensures c.deref-in-Sent-2.ensures.value, c.decreases), tt)
+
+pub evaluate-send_super-requires : goal.evaluate-send_super-requires
+evaluate-send_super-requires t c =
+    (omega (arith, super_lighter c.args.value.now c.in-SentSuper.from c.in-SentSuper.selector c.in-SentSuper.arguments c.deref-in-SentSuper.result.now c.in-SentSuper.is c.deref-in-SentSuper.ensures.value, c.decreases), tt)
 
 pub evaluate_all-evaluate-requires : goal.evaluate_all-evaluate-requires
 evaluate_all-evaluate-requires t c =
@@ -77,11 +95,22 @@ repeat-loop-preserved t c =
     (world c.loop.progress) (world c.evaluate.new.progress) (world c.execute.new.progress)
     c.loop-test.true c.loop.invariant c.in_ok-number.ensures (ap is_zero (sym same) ∙ sym c.is_zero.ensures ∙ c.if-is_zero.false) (search rules)
 
+pub repeat-returns-in_err-returned : goal.repeat-returns-in_err-returned
+repeat-returns-in_err-returned t c =
+    let test = evaluated (deeper c.args.frame.now) (checked.value c.args.test.now) in
+    let body = executed (deeper c.args.frame.now) c.args.frame.now.bound (checked.command c.args.body.now) in
+    let same : to_z w64 (of_z w64 c.in_ok-number.number) ≡ c.in_ok-number.number = grind (arith, to_z-of_z) in
+    let p = err_from_is_err_and c.from_residual-in_err-returned.result c.from_residual-in_err-returned.ensures.1 in
+    turn_failed c.args.frame.now.bound c.loop.counter test body (turns c.args.frame.now.bound test body (world c.args.progress.now)) c.in_ok-number.number
+    c.in_err-returned.field-0.0 c.from_residual-in_err-returned.result (world c.loop.progress) (world c.evaluate.new.progress) (world c.execute.new.progress)
+    c.loop-test.true c.loop.invariant c.in_ok-number.ensures (ap is_zero (sym same) ∙ sym c.is_zero.ensures ∙ c.if-is_zero.false) (p.1 ∙ ap Err p.2) c.in_err-returned.ensures
+
 pub call-returns-in-Some : goal.call-returns-in-Some
 call-returns-in-Some t c =
     let frame = c.args.frame.now in
     let P = program_of frame.program.now in
     let main = frame.program.now.main in
+    let classes = classes_of frame.program.now.classes.items in
     let f = c.args.function in
     let given = c.args.arguments.now in
     let w = world c.args.progress.now in
@@ -90,7 +119,7 @@ call-returns-in-Some t c =
     let lt : f < length all = ltb-true f (length all) (sym h.0) in
     let inner = level P frame.bound (frame.levels - 1) in
     let one : frame.levels ≡ suc (frame.levels - 1) = omega (arith, c.if-frame-eq0.false) in
-    let found = ap (λ l. function_at (record { functions = checked.functions l; main = main }) f) (sym c.deref.ensures.value) ∙ function_found all main f c.in-Some.entered.now lt h.1 in
+    let found = ap (λ l. function_at (record { functions = checked.functions l; main = main; classes = classes }) f) (sym c.deref.ensures.value) ∙ function_found all classes main f c.in-Some.entered.now lt h.1 in
     let whole = call_is P frame.bound frame.levels (frame.levels - 1) f given w one ∙ ap (λ g. called inner frame.bound g given w) found in
     subst (λ o. Tells (λ n. n) c.enter.result o (world c.enter.new.progress)) (sym whole) c.enter.ensures
 
@@ -99,6 +128,7 @@ call-returns-in-None t c =
     let frame = c.args.frame.now in
     let P = program_of frame.program.now in
     let main = frame.program.now.main in
+    let classes = classes_of frame.program.now.classes.items in
     let f = c.args.function in
     let given = c.args.arguments.now in
     let w = world c.args.progress.now in
@@ -107,7 +137,7 @@ call-returns-in-None t c =
     let le : length all ≤ f = ltb-false f (length all) (sym h.0) in
     let inner = level P frame.bound (frame.levels - 1) in
     let one : frame.levels ≡ suc (frame.levels - 1) = omega (arith, c.if-frame-eq0.false) in
-    let found = ap (λ l. function_at (record { functions = checked.functions l; main = main }) f) (sym c.deref.ensures.value) ∙ function_missing all main f le in
+    let found = ap (λ l. function_at (record { functions = checked.functions l; main = main; classes = classes }) f) (sym c.deref.ensures.value) ∙ function_missing all classes main f le in
     call_is P frame.bound frame.levels (frame.levels - 1) f given w one ∙ ap (λ g. called inner frame.bound g given w) found
 
 pub call-enter-requires : goal.call-enter-requires

@@ -1,4 +1,4 @@
-use Rattle.std.proofs.Common.{◌≡◌, ℕ, ◌+◌, ◌-◌, suc, drop}
+use Rattle.std.proofs.Common.{◌≡◌, ◌+◌, ◌-◌, suc, drop}
 use Rattle.arc_check.specs.Checked as checked
 use Rattle.arc_spec.specs.Meaning.{evaluated, all_evaluated, executed, all_executed, turns}
 use Rattle.arc_plain.specs.Views.{world, deeper}
@@ -17,6 +17,15 @@ decreases-evaluate l = calls_weight l.frame.now + value_weight (checked.value l.
 
 abbrev pub decreases-evaluate_all : goal.decreases-evaluate_all
 decreases-evaluate_all l = calls_weight l.frame.now + values_weight (checked.values l.values.now)
+
+abbrev pub decreases-send : goal.decreases-send
+decreases-send l = calls_weight l.frame.now + (2 + value_weight (checked.value l.receiver.now) + values_weight (checked.values l.arguments.now))
+
+abbrev pub decreases-send_super : goal.decreases-send_super
+decreases-send_super l = calls_weight l.frame.now + (2 + values_weight (checked.values l.arguments.now))
+
+abbrev pub decreases-dispatch : goal.decreases-dispatch
+decreases-dispatch l = suc (calls_weight l.frame.now)
 
 abbrev pub decreases-execute : goal.decreases-execute
 decreases-execute l = calls_weight l.frame.now + command_weight (checked.command l.command.now)

@@ -13,3 +13,7 @@ returns-clause-one_byte c = refl
 pub returns-clause-wrapped_sum : goal.returns-clause-wrapped_sum
 unfolding digits
 returns-clause-wrapped_sum c = refl
+
+pub returns-clause-class_methods : goal.returns-clause-class_methods
+unfolding digits
+returns-clause-class_methods c = refl

@@ -4,6 +4,7 @@ use Rattle.arc_check.proofs.scope.Visible.declare.Goals as goal
 
 pub returns-in_ok-push-clause-scope : goal.returns-in_ok-push-clause-scope
 returns-in_ok-push-clause-scope c = λ table.
-    let t : nat_lt c.args.self.now.next 200 ≡ true = search rules in
-    let more : c.args.self.now.next + 1 ≡ suc c.args.self.now.next = omega arith in
-    declare_is table c.args.self.now (record { bound = c.push.new.self; next = c.args.self.now.next + 1 }) (record { name = c.args.name; number = c.args.self.now.next }) c.args.name.now t c.in_ok-push.ensures.items refl refl more
+    let old = c.args.self.now in
+    let t : nat_lt old.next (200 + old.hidden) ≡ true = search rules in
+    let more : old.next + 1 ≡ suc old.next = omega arith in
+    declare_is table old (record { class = old.class; hidden = old.hidden; bound = c.push.new.self; next = old.next + 1 }) (record { name = c.args.name; number = old.next }) c.args.name.now t refl refl c.in_ok-push.ensures.items refl refl more

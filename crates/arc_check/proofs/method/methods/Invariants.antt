@@ -1,0 +1,13 @@
+use Rattle.std.proofs.Common.{◌≡◌, option_map, drop}
+use Rattle.arc_ast.specs.Tree.{method_trees}
+use Rattle.arc_class.specs.Broken.{first, earlier_of}
+use Rattle.arc_class.specs.Table.{number_of_class}
+use Rattle.arc_check.specs.Fault.{told}
+use Rattle.arc_check.specs.Rules.{broken_methods}
+use Rattle.arc_check.specs.Views.{known_in}
+use Rattle.arc_check.proofs.method.methods.Given as goal
+
+-- what is told so far and what is told of the rest is told of all
+abbrev pub invariant-loop-one : goal.invariant-loop-one
+invariant-loop-one l =
+    first (broken_methods (known_in l.table) (option_map number_of_class l.class) (method_trees l.all)) ≡ earlier_of (option_map told l.fault) (first (broken_methods (known_in l.table) (option_map number_of_class l.class) (method_trees (drop l.one-index l.all))))

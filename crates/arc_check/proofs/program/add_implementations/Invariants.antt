@@ -1,0 +1,11 @@
+use Rattle.std.proofs.Common.{◌≡◌, drop}
+use Rattle.arc_ast.specs.Tree.{implementation_trees}
+use Rattle.arc_check.specs.Building.{functions_ahead}
+use Rattle.arc_check.specs.Resolving.{resolved_methods}
+use Rattle.arc_check.specs.Views.{known_in}
+use Rattle.arc_check.proofs.program.add_implementations.Given as goal
+
+-- the methods so far and those of the rest are all
+abbrev pub invariant-loop-one : goal.invariant-loop-one
+invariant-loop-one l =
+    functions_ahead l.initial.all.items (resolved_methods (known_in l.table) (implementation_trees l.implementations)) ≡ functions_ahead l.all.items (resolved_methods (known_in l.table) (implementation_trees (drop l.one-index l.implementations)))

@@ -1,0 +1,68 @@
+-- The first that a name is declared with.
+use Rattle.std.proofs.Common.{◌≡◌, ℕ, suc, ◌+◌, ◌<◌, Bool, true, false, cond, List, [], ◌∷◌, ◌++◌, length, Option, Some, None, is_some, option_map, if◌then◌else◌, refl, sym, ap, subst, ◌∙◌, true≢false, drop, get_or}
+use Rattle.std.specs.Str.{bytes_eq}
+use Rattle.std.specs.Map.{update}
+use Rattle.std.proofs.lemmas.Slice.Eq.{bytes_eq-Decides}
+use Rattle.arc_ast.specs.Tree.{HeadTree, InterfaceTree, ImplementationTree}
+use Rattle.arc_class.specs.Classes.{first_head}
+use Rattle.arc_class.specs.Kept.{or_then, one_at}
+use Rattle.arc_class.proofs.Names.{eq_turned}
+
+pub or_none : {X : Type 0} (a : Option X) → or_then a None ≡ a
+or_none None = refl
+or_none (Some a) = refl
+
+or_assoc : {X : Type 0} (a b c : Option X) → or_then (or_then a b) c ≡ or_then a (or_then b c)
+or_assoc None b c = refl
+or_assoc (Some a) b c = refl
+
+-- one more is kept
+pub kept_turn : {X : Type 0} (old one new rest whole : Option X) → new ≡ or_then old one → whole ≡ or_then old (or_then one rest) → whole ≡ or_then new rest
+kept_turn old one new rest whole n w = w ∙ sym (or_assoc old one rest) ∙ ap (λ o. or_then o rest) (sym n)
+
+pub or_one : {X : Type 0} (name : List ℕ) (value : X) (rest : Option X) (sought : List ℕ) → (if bytes_eq sought name then Some value else rest) ≡ or_then (one_at name value sought) rest
+or_one name value rest sought = go (bytes_eq sought name)
+  where
+    go : (b : Bool) → (if b then Some value else rest) ≡ or_then (if b then Some value else None) rest
+    go true = refl
+    go false = refl
+
+-- what is kept, as a tree
+pub map_or : {X Y : Type 0} (f : X → Y) (a b : Option X) → option_map f (or_then a b) ≡ or_then (option_map f a) (option_map f b)
+map_or f None b = refl
+map_or f (Some a) b = refl
+
+pub map_one : {X Y : Type 0} (f : X → Y) (name : List ℕ) (value : X) (sought : List ℕ) → option_map f (one_at name value sought) ≡ one_at name (f value) sought
+map_one f name value sought = go (bytes_eq sought name)
+  where
+    go : (b : Bool) → option_map f (if b then Some value else None) ≡ (if b then Some (f value) else None)
+    go true = refl
+    go false = refl
+
+pub kept_map : {X Y : Type 0} (f : X → Y) (old new : Option X) (name : List ℕ) (value : X) (sought : List ℕ) → new ≡ or_then old (one_at name value sought)
+    → option_map f new ≡ or_then (option_map f old) (one_at name (f value) sought)
+kept_map f old new name value sought e = ap (option_map f) e ∙ map_or f old (one_at name value sought) ∙ ap (or_then (option_map f old)) (map_one f name value sought)
+
+pub none_is : {X : Type 0} (o : Option X) → is_some o ≡ false → o ≡ None
+none_is None e = refl
+none_is (Some a) e = absurd (true≢false e)
+
+-- a value is kept for a name, where there is none, and else what there was
+pub put_first : {X : Type 0} (old : List ℕ → Option X) (name : List ℕ) (value : X) (sought : List ℕ) → old name ≡ None → update bytes_eq old name (Some value) sought ≡ or_then (old sought) (one_at name value sought)
+put_first {X} old name value sought none = go (bytes_eq name sought) refl
+  where
+    go : (b : Bool) → bytes_eq name sought ≡ b → cond b (Some value) (old sought) ≡ or_then (old sought) (one_at name value sought)
+    go true e =
+        let same : name ≡ sought = (bytes_eq-Decides name sought).0 e in
+        let turned : bytes_eq sought name ≡ true = eq_turned sought name ∙ e in
+        sym (ap (λ o. or_then o (one_at name value sought)) (ap old (sym same) ∙ none) ∙ ap (λ b. if b then Some value else None) turned)
+    go false e = sym (ap (λ b. or_then (old sought) (if b then Some value else None)) (eq_turned sought name ∙ e) ∙ or_none (old sought))
+
+pub first_head-append : (selector : List ℕ) (xs ys : List HeadTree) → first_head selector (xs ++ ys) ≡ or_then (first_head selector xs) (first_head selector ys)
+first_head-append selector [] ys = refl
+first_head-append selector (x ∷ xs) ys = go (bytes_eq selector x.selector) (first_head-append selector xs ys)
+  where
+    go : (b : Bool) → first_head selector (xs ++ ys) ≡ or_then (first_head selector xs) (first_head selector ys)
+        → (if b then Some x else first_head selector (xs ++ ys)) ≡ or_then (if b then Some x else first_head selector xs) (first_head selector ys)
+    go true h = refl
+    go false h = h

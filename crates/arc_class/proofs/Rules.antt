@@ -1,0 +1,253 @@
+-- What is told of methods, interfaces and implementations, and one more.
+use Rattle.std.proofs.Common.{◌≡◌, ℕ, suc, ◌+◌, ◌<◌, Bool, true, false, ◌||◌, List, [], ◌∷◌, ◌++◌, length, not, nat_lt, Option, Some, None, is_some, is_none, option_map, if◌then◌else◌, take, drop, get_or, append_assoc, refl, sym, ap, ◌∙◌, arith}
+use Rattle.std.proofs.lemmas.List.{append-nil, take_more}
+use Rattle.std.specs.Str.{bytes_eq}
+use Rattle.std.specs.BTreeMap.{BTreeMap}
+use Rattle.std.specs.Borrow.{Bor}
+use Rattle.arc_ast.specs.declared.tree.Function.{Function}
+use Rattle.arc_ast.specs.declared.tree.MethodHead.{MethodHead}
+use Rattle.arc_ast.specs.declared.tree.Parameter.{Parameter}
+use Rattle.arc_ast.specs.declared.tree.Stmt.{Stmt}
+use Rattle.arc_ast.specs.declared.tree.Implementation.{Implementation}
+use Rattle.arc_ast.specs.declared.tree.Interface.{Interface}
+use Rattle.arc_ast.specs.declared.tree.Method.{Method}
+use Rattle.arc_ast.specs.Tree.{HeadTree, MethodTree, InterfaceTree, ImplementationTree, UnitTree, head_tree, method_tree, method_trees, interface_tree, interface_trees, implementation_tree, implementation_trees, function_trees, head_trees, parameter_trees, stmt_trees}
+use Rattle.arc_class.specs.declared.kept.Implemented.{Implemented}
+use Rattle.arc_class.specs.declared.table.Place.{Place}
+use Rattle.arc_class.specs.Bodies.{and_name, broken_if, no_name, names_taken, broken_parameters, broken_stmts}
+use Rattle.arc_class.specs.Broken.{Broken, first, earlier_of}
+use Rattle.arc_class.specs.ClassRules.{broken_head, broken_heads, broken_inside, broken_methods, broken_interfaces, broken_implementations, is_implemented, interface_before, named_as_classes}
+use Rattle.arc_class.specs.Classes.{heads, first_head, interface_number, class_number, is_root}
+use Rattle.arc_class.specs.Kept.{place_before, places, implemented, implemented_tree}
+use Rattle.arc_class.specs.Table.{at_name, class_number_in}
+use Rattle.arc_class.proofs.Firsts.{first_turn, first_both}
+use Rattle.arc_class.proofs.Lists.{drop_turn}
+use Rattle.arc_class.proofs.Names.{eq_turned}
+
+-- ---- lists of rules
+
+pub two_apart : (p q r : List Broken) → p ++ (q ++ r) ≡ (p ++ (q ++ [])) ++ r
+two_apart p q r = ap (λ x. p ++ (x ++ r)) (sym (append-nil q)) ∙ sym (append_assoc p (q ++ []) r)
+
+pub three_apart : (p q s r : List Broken) → p ++ (q ++ (s ++ r)) ≡ (p ++ (q ++ (s ++ []))) ++ r
+three_apart p q s r = ap (λ x. p ++ x) (two_apart q s r) ∙ sym (append_assoc p (q ++ (s ++ [])) r)
+
+pub three_told : (P Q R : List Broken) (p q r pq all : Option Broken) → p ≡ first P → q ≡ first Q → r ≡ first R → pq ≡ earlier_of p q → all ≡ earlier_of pq r → all ≡ first ((P ++ Q) ++ (R ++ []))
+three_told P Q R p q r pq all a b c d e = first_both (P ++ Q) (R ++ []) pq r all (first_both P Q p q pq a b d) (c ∙ ap first (sym (append-nil R))) e
+
+pub four_told : (P Q R S : List Broken) (p q r s pq rs all : Option Broken) → p ≡ first P → q ≡ first Q → r ≡ first R → s ≡ first S → pq ≡ earlier_of p q → rs ≡ earlier_of r s → all ≡ earlier_of pq rs
+    → all ≡ first ((P ++ Q) ++ (R ++ (S ++ [])))
+four_told P Q R S p q r s pq rs all a b c d e f g =
+    first_both (P ++ Q) (R ++ (S ++ [])) pq rs all (first_both P Q p q pq a b e) (first_both R (S ++ []) r s rs c (d ∙ ap first (sym (append-nil S))) f) g
+
+-- ---- names that stand before
+
+or_true : (b : Bool) → true ≡ (b || true)
+or_true true = refl
+or_true false = refl
+
+pub method_seen : (sought : List ℕ) (xs : List HeadTree) (x : HeadTree) → is_some (first_head sought (xs ++ x ∷ [])) ≡ (bytes_eq x.selector sought || is_some (first_head sought xs))
+method_seen sought [] x = go (bytes_eq sought x.selector) (eq_turned sought x.selector)
+  where
+    go : (b : Bool) → b ≡ bytes_eq x.selector sought → is_some (if b then Some x else None) ≡ (bytes_eq x.selector sought || false)
+    go true e = ap (λ b. b || false) e
+    go false e = ap (λ b. b || false) e
+method_seen sought (y ∷ xs) x = go (bytes_eq sought y.selector) (method_seen sought xs x)
+  where
+    go : (b : Bool) → is_some (first_head sought (xs ++ x ∷ [])) ≡ (bytes_eq x.selector sought || is_some (first_head sought xs))
+        → is_some (if b then Some y else first_head sought (xs ++ x ∷ [])) ≡ (bytes_eq x.selector sought || is_some (if b then Some y else first_head sought xs))
+    go true h = or_true (bytes_eq x.selector sought)
+    go false h = h
+
+more_there : (o : Option ℕ) → is_some (option_map (λ n. suc n) o) ≡ is_some o
+more_there None = refl
+more_there (Some n) = refl
+
+pub interface_seen : (sought : List ℕ) (xs : List InterfaceTree) (x : InterfaceTree) → is_some (interface_number (xs ++ x ∷ []) sought) ≡ (bytes_eq x.name sought || is_some (interface_number xs sought))
+interface_seen sought [] x = go (bytes_eq sought x.name) (eq_turned sought x.name)
+  where
+    go : (b : Bool) → b ≡ bytes_eq x.name sought → is_some (if b then Some 0 else option_map (λ n. suc n) None) ≡ (bytes_eq x.name sought || false)
+    go true e = ap (λ b. b || false) e
+    go false e = ap (λ b. b || false) e
+interface_seen sought (y ∷ xs) x = go (bytes_eq sought y.name) (interface_seen sought xs x)
+  where
+    go : (b : Bool) → is_some (interface_number (xs ++ x ∷ []) sought) ≡ (bytes_eq x.name sought || is_some (interface_number xs sought))
+        → is_some (if b then Some 0 else option_map (λ n. suc n) (interface_number (xs ++ x ∷ []) sought)) ≡ (bytes_eq x.name sought || is_some (if b then Some 0 else option_map (λ n. suc n) (interface_number xs sought)))
+    go true h = or_true (bytes_eq x.name sought)
+    go false h = more_there (interface_number (xs ++ x ∷ []) sought) ∙ h ∙ ap (λ b. bytes_eq x.name sought || b) (sym (more_there (interface_number xs sought)))
+
+pub implementation_seen : (sought : List ℕ) (xs : List ImplementationTree) (x : ImplementationTree) → is_implemented (xs ++ x ∷ []) sought ≡ (bytes_eq x.name sought || is_implemented xs sought)
+implementation_seen sought [] x = ap (λ b. b || false) (eq_turned sought x.name)
+implementation_seen sought (y ∷ xs) x = go (bytes_eq sought y.name) (implementation_seen sought xs x)
+  where
+    go : (b : Bool) → is_implemented (xs ++ x ∷ []) sought ≡ (bytes_eq x.name sought || is_implemented xs sought) → (b || is_implemented (xs ++ x ∷ []) sought) ≡ (bytes_eq x.name sought || (b || is_implemented xs sought))
+    go true h = or_true (bytes_eq x.name sought)
+    go false h = h
+
+pub there_none : {X : Type 0} (o : Option X) → not (is_some o) ≡ is_none o
+there_none None = refl
+there_none (Some a) = refl
+
+there_map : {X Y : Type 0} (f : X → Y) (o : Option X) → is_some (option_map f o) ≡ is_some o
+there_map f None = refl
+there_map f (Some a) = refl
+
+-- an earlier interface's class is known, and so is the root
+pub class_missing : (is : List InterfaceTree) (name : List ℕ) → not (is_root name || is_some (interface_number is name)) ≡ is_none (class_number is name)
+class_missing is name = go (is_root name) (interface_number is name)
+  where
+    go : (b : Bool) (o : Option ℕ) → not (b || is_some o) ≡ is_none (if b then Some 0 else option_map (λ n. suc n) o)
+    go true o = refl
+    go false None = refl
+    go false (Some n) = refl
+
+implemented_there : (n : ℕ) (ims : List ImplementationTree) (name : List ℕ) → is_some (implemented n ims name) ≡ is_implemented ims name
+implemented_there n [] name = refl
+implemented_there n (i ∷ ims) name = go (bytes_eq name i.name) (implemented_there (n + length i.methods) ims name)
+  where
+    go : (b : Bool) → is_some (implemented (n + length i.methods) ims name) ≡ is_implemented ims name → is_some (if b then Some (n, i.methods) else implemented (n + length i.methods) ims name) ≡ (b || is_implemented ims name)
+    go true h = refl
+    go false h = h
+
+pub implemented_known : (kept : Option Implemented) (n : ℕ) (ims : List ImplementationTree) (name : List ℕ) → option_map implemented_tree kept ≡ implemented n ims name → is_some kept ≡ is_implemented ims name
+implemented_known kept n ims name e = sym (there_map implemented_tree kept) ∙ ap is_some e ∙ implemented_there n ims name
+
+pub before_places : (n : ℕ) (is : List InterfaceTree) (name : List ℕ) (at : ℕ) → place_before (places n is name) at ≡ interface_before is name at
+before_places n [] name at = refl
+before_places n (i ∷ is) name at = go (bytes_eq name i.name) (before_places (suc n) is name at)
+  where
+    go : (b : Bool) → place_before (places (suc n) is name) at ≡ interface_before is name at
+        → place_before (if b then Some (record { number = n; at = i.at }) else places (suc n) is name) at ≡ (if b then nat_lt i.at at else interface_before is name at)
+    go true h = refl
+    go false h = h
+
+places_number : (n : ℕ) (is : List InterfaceTree) (name : List ℕ) → option_map (λ p. p.number) (places n is name) ≡ option_map (λ m. n + m) (interface_number is name)
+places_number n [] name = refl
+places_number n (i ∷ is) name = go (bytes_eq name i.name) (interface_number is name) (places_number (suc n) is name)
+  where
+    go : (b : Bool) (o : Option ℕ) → option_map (λ p. p.number) (places (suc n) is name) ≡ option_map (λ m. suc n + m) o
+        → option_map (λ p. p.number) (if b then Some (record { number = n; at = i.at }) else places (suc n) is name) ≡ option_map (λ m. n + m) (if b then Some 0 else option_map (λ m. suc m) o)
+    go true o h = ap Some (omega arith)
+    go false None h = h
+    go false (Some m) h = h ∙ ap Some (omega arith)
+
+-- the number of a class, by what is kept of the interfaces
+pub class_number_kept : (names : BTreeMap (Bor (List ℕ)) Place) (is : List InterfaceTree) (name : List ℕ) → at_name names name ≡ places 1 is name → class_number_in names name ≡ class_number is name
+class_number_kept names is name e = ap (λ o. if is_root name then Some 0 else o) (ap (option_map (λ p. p.number)) e ∙ places_number 1 is name ∙ go (interface_number is name))
+  where
+    go : (o : Option ℕ) → option_map (λ m. 1 + m) o ≡ option_map (λ n. suc n) o
+    go None = refl
+    go (Some m) = ap Some (omega arith)
+
+-- ---- functions
+
+pub names_turn : (is : List InterfaceTree) (xs : List Function) (k : ℕ) (x : Function) (so_far one now whole : Option Broken) → k < length xs → x ≡ get_or xs k x
+    → one ≡ first (broken_if (interface_before is x.name.items x.at) x.at 21) → now ≡ earlier_of so_far one
+    → whole ≡ earlier_of so_far (first (named_as_classes is (function_trees (drop k xs)))) → whole ≡ earlier_of now (first (named_as_classes is (function_trees (drop (k + 1) xs))))
+names_turn is xs k x so_far one now whole l e o n w =
+    first_turn (broken_if (interface_before is x.name.items x.at) x.at 21) (named_as_classes is (function_trees (drop (k + 1) xs))) so_far one now whole o n
+    (w ∙ ap (λ us. earlier_of so_far (first (named_as_classes is (function_trees us)))) (drop_turn xs k x l e))
+
+-- ---- methods
+
+pub heads_turn : (u : UnitTree) (xs : List MethodHead) (k : ℕ) (x : MethodHead) (so_far one now whole : Option Broken) → k < length xs → x ≡ get_or xs k x
+    → one ≡ first (broken_head u (head_tree x)) → now ≡ earlier_of so_far one
+    → whole ≡ earlier_of so_far (first (broken_heads u (head_trees (drop k xs)))) → whole ≡ earlier_of now (first (broken_heads u (head_trees (drop (k + 1) xs))))
+heads_turn u xs k x so_far one now whole l e o n w =
+    first_turn (broken_head u (head_tree x)) (broken_heads u (head_trees (drop (k + 1) xs))) so_far one now whole o n
+    (w ∙ ap (λ us. earlier_of so_far (first (broken_heads u (head_trees us)))) (drop_turn xs k x l e))
+
+pub inside_method : (known L : List ℕ → Bool) (m : Method) (ps : List Parameter) (all : List Stmt) → known ≡ L → ps ≡ m.head.parameters.items → all ≡ m.body.items
+    → first (broken_parameters no_name (parameter_trees ps) ++ broken_stmts known (names_taken no_name (parameter_trees ps)) (stmt_trees all)) ≡ first (broken_inside L (method_tree m))
+inside_method known L m ps all e p a =
+    ap (λ k. first (broken_parameters no_name (parameter_trees ps) ++ broken_stmts k (names_taken no_name (parameter_trees ps)) (stmt_trees all))) e
+    ∙ ap (λ qs. first (broken_parameters no_name (parameter_trees qs) ++ broken_stmts L (names_taken no_name (parameter_trees qs)) (stmt_trees all))) p
+    ∙ ap (λ us. first (broken_parameters no_name (parameter_trees m.head.parameters.items) ++ broken_stmts L (names_taken no_name (parameter_trees m.head.parameters.items)) (stmt_trees us))) a
+
+heads_push : (xs : List Method) (x : Method) → heads (method_trees (xs ++ x ∷ [])) ≡ heads (method_trees xs) ++ head_tree x.head ∷ []
+heads_push [] x = refl
+heads_push (y ∷ xs) x = ap (λ us. head_tree y.head ∷ us) (heads_push xs x)
+
+heads_take : (xs : List Method) (k : ℕ) (x : Method) → k < length xs → x ≡ get_or xs k x → heads (method_trees (take (k + 1) xs)) ≡ heads (method_trees (take k xs)) ++ head_tree x.head ∷ []
+heads_take xs k x l e = ap (λ us. heads (method_trees us)) (take_more xs k x l ∙ ap (λ y. take k xs ++ y ∷ []) (sym e)) ∙ heads_push (take k xs) x
+
+pub methods_turn : (u : UnitTree) (L : List ℕ → Bool) (xs : List Method) (k : ℕ) (x : Method) (so_far one now whole : Option Broken) → k < length xs → x ≡ get_or xs k x
+    → one ≡ first (broken_methods u L (heads (method_trees (take k xs))) (method_tree x ∷ [])) → now ≡ earlier_of so_far one
+    → whole ≡ earlier_of so_far (first (broken_methods u L (heads (method_trees (take k xs))) (method_trees (drop k xs)))) → whole ≡ earlier_of now (first (broken_methods u L (heads (method_trees (take (k + 1) xs))) (method_trees (drop (k + 1) xs))))
+methods_turn u L xs k x so_far one now whole l e o n w =
+    let before = heads (method_trees (take k xs)) in
+    let others = method_trees (drop (k + 1) xs) in
+    let rest = broken_methods u L (before ++ head_tree x.head ∷ []) others in
+    first_turn (broken_methods u L before (method_tree x ∷ [])) rest so_far one now whole o n
+    (w ∙ ap (λ us. earlier_of so_far (first (broken_methods u L before (method_trees us)))) (drop_turn xs k x l e)
+    ∙ ap (λ bs. earlier_of so_far (first bs)) (two_apart (broken_if (is_some (first_head (head_tree x.head).selector before)) x.head.at 21 ++ broken_head u (head_tree x.head)) (broken_inside L (method_tree x)) rest))
+    ∙ ap (λ b. earlier_of now (first (broken_methods u L b others))) (sym (heads_take xs k x l e))
+
+pub methods_held : (xs : List Method) (k : ℕ) (x : Method) (old new : List ℕ → Bool) → k < length xs → x ≡ get_or xs k x → new ≡ and_name x.head.selector.items old
+    → ((name : List ℕ) → old name ≡ is_some (first_head name (heads (method_trees (take k xs))))) → (name : List ℕ) → new name ≡ is_some (first_head name (heads (method_trees (take (k + 1) xs))))
+methods_held xs k x old new l e n h name =
+    ap (λ f. f name) n ∙ ap (λ b. bytes_eq x.head.selector.items name || b) (h name) ∙ sym (ap (λ us. is_some (first_head name us)) (heads_take xs k x l e) ∙ method_seen name (heads (method_trees (take k xs))) (head_tree x.head))
+
+-- ---- interfaces
+
+interfaces_push : (xs : List Interface) (x : Interface) → interface_trees (xs ++ x ∷ []) ≡ interface_trees xs ++ interface_tree x ∷ []
+interfaces_push [] x = refl
+interfaces_push (y ∷ xs) x = ap (λ us. interface_tree y ∷ us) (interfaces_push xs x)
+
+interfaces_take : (xs : List Interface) (k : ℕ) (x : Interface) → k < length xs → x ≡ get_or xs k x → interface_trees (take (k + 1) xs) ≡ interface_trees (take k xs) ++ interface_tree x ∷ []
+interfaces_take xs k x l e = ap interface_trees (take_more xs k x l ∙ ap (λ y. take k xs ++ y ∷ []) (sym e)) ∙ interfaces_push (take k xs) x
+
+pub interfaces_turn : (u : UnitTree) (xs : List Interface) (k : ℕ) (x : Interface) (so_far one now whole : Option Broken) → k < length xs → x ≡ get_or xs k x
+    → one ≡ first (broken_interfaces u (interface_trees (take k xs)) (interface_tree x ∷ [])) → now ≡ earlier_of so_far one
+    → whole ≡ earlier_of so_far (first (broken_interfaces u (interface_trees (take k xs)) (interface_trees (drop k xs)))) → whole ≡ earlier_of now (first (broken_interfaces u (interface_trees (take (k + 1) xs)) (interface_trees (drop (k + 1) xs))))
+interfaces_turn u xs k x so_far one now whole l e o n w =
+    let before = interface_trees (take k xs) in
+    let others = interface_trees (drop (k + 1) xs) in
+    let i = interface_tree x in
+    let rest = broken_interfaces u (before ++ i ∷ []) others in
+    first_turn (broken_interfaces u before (i ∷ [])) rest so_far one now whole o n
+    (w ∙ ap (λ us. earlier_of so_far (first (broken_interfaces u before (interface_trees us)))) (drop_turn xs k x l e)
+    ∙ ap (λ bs. earlier_of so_far (first bs)) (interfaces_apart u before i others))
+    ∙ ap (λ b. earlier_of now (first (broken_interfaces u b others))) (sym (interfaces_take xs k x l e))
+  where
+    interfaces_apart : (u : UnitTree) (before : List InterfaceTree) (i : InterfaceTree) (others : List InterfaceTree)
+        → broken_interfaces u before (i ∷ others) ≡ broken_interfaces u before (i ∷ []) ++ broken_interfaces u (before ++ i ∷ []) others
+    interfaces_apart u before i others = three_apart _ _ (broken_heads u i.methods) (broken_interfaces u (before ++ i ∷ []) others)
+
+pub interfaces_held : (xs : List Interface) (k : ℕ) (x : Interface) (old new : List ℕ → Bool) → k < length xs → x ≡ get_or xs k x → new ≡ and_name x.name.items old
+    → ((name : List ℕ) → old name ≡ is_some (interface_number (interface_trees (take k xs)) name)) → (name : List ℕ) → new name ≡ is_some (interface_number (interface_trees (take (k + 1) xs)) name)
+interfaces_held xs k x old new l e n h name =
+    ap (λ f. f name) n ∙ ap (λ b. bytes_eq x.name.items name || b) (h name) ∙ sym (ap (λ us. is_some (interface_number us name)) (interfaces_take xs k x l e) ∙ interface_seen name (interface_trees (take k xs)) (interface_tree x))
+
+-- ---- implementations
+
+implementations_push : (xs : List Implementation) (x : Implementation) → implementation_trees (xs ++ x ∷ []) ≡ implementation_trees xs ++ implementation_tree x ∷ []
+implementations_push [] x = refl
+implementations_push (y ∷ xs) x = ap (λ us. implementation_tree y ∷ us) (implementations_push xs x)
+
+implementations_take : (xs : List Implementation) (k : ℕ) (x : Implementation) → k < length xs → x ≡ get_or xs k x → implementation_trees (take (k + 1) xs) ≡ implementation_trees (take k xs) ++ implementation_tree x ∷ []
+implementations_take xs k x l e = ap implementation_trees (take_more xs k x l ∙ ap (λ y. take k xs ++ y ∷ []) (sym e)) ∙ implementations_push (take k xs) x
+
+pub implementations_turn : (u : UnitTree) (L : List ℕ → Bool) (xs : List Implementation) (k : ℕ) (x : Implementation) (so_far one now whole : Option Broken) → k < length xs → x ≡ get_or xs k x
+    → one ≡ first (broken_implementations u L (implementation_trees (take k xs)) (implementation_tree x ∷ [])) → now ≡ earlier_of so_far one
+    → whole ≡ earlier_of so_far (first (broken_implementations u L (implementation_trees (take k xs)) (implementation_trees (drop k xs))))
+    → whole ≡ earlier_of now (first (broken_implementations u L (implementation_trees (take (k + 1) xs)) (implementation_trees (drop (k + 1) xs))))
+implementations_turn u L xs k x so_far one now whole l e o n w =
+    let before = implementation_trees (take k xs) in
+    let others = implementation_trees (drop (k + 1) xs) in
+    let i = implementation_tree x in
+    let rest = broken_implementations u L (before ++ i ∷ []) others in
+    first_turn (broken_implementations u L before (i ∷ [])) rest so_far one now whole o n
+    (w ∙ ap (λ us. earlier_of so_far (first (broken_implementations u L before (implementation_trees us)))) (drop_turn xs k x l e)
+    ∙ ap (λ bs. earlier_of so_far (first bs)) (implementations_apart u L before i others))
+    ∙ ap (λ b. earlier_of now (first (broken_implementations u L b others))) (sym (implementations_take xs k x l e))
+  where
+    implementations_apart : (u : UnitTree) (L : List ℕ → Bool) (before : List ImplementationTree) (i : ImplementationTree) (others : List ImplementationTree)
+        → broken_implementations u L before (i ∷ others) ≡ broken_implementations u L before (i ∷ []) ++ broken_implementations u L (before ++ i ∷ []) others
+    implementations_apart u L before i others = two_apart _ (broken_methods u L [] i.methods) (broken_implementations u L (before ++ i ∷ []) others)
+
+pub implementations_held : (xs : List Implementation) (k : ℕ) (x : Implementation) (old new : List ℕ → Bool) → k < length xs → x ≡ get_or xs k x → new ≡ and_name x.name.items old
+    → ((name : List ℕ) → old name ≡ is_implemented (implementation_trees (take k xs)) name) → (name : List ℕ) → new name ≡ is_implemented (implementation_trees (take (k + 1) xs)) name
+implementations_held xs k x old new l e n h name =
+    ap (λ f. f name) n ∙ ap (λ b. bytes_eq x.name.items name || b) (h name)
+    ∙ sym (ap (λ us. is_implemented us name) (implementations_take xs k x l e) ∙ implementation_seen name (implementation_trees (take k xs)) (implementation_tree x))

@@ -1,0 +1,10 @@
+use Rattle.std.proofs.Common.{◌≡◌, [], ℕ, List, is_some, option_map, take, drop}
+use Rattle.arc_class.specs.Broken.{first, earlier_of}
+use Rattle.arc_class.specs.Fault.{told}
+use Rattle.arc_ast.specs.Tree.{unit_tree, function_trees}
+use Rattle.arc_class.specs.ClassRules.{named_as_classes}
+use Rattle.arc_class.proofs.kept.Source.function_names_fault.Given as goal
+
+-- what is told so far and what is told of the rest is told of all
+abbrev pub invariant-loop-function : goal.invariant-loop-function
+invariant-loop-function l = first (named_as_classes (unit_tree l.self.unit.now).interfaces (unit_tree l.self.unit.now).functions) ≡ earlier_of (option_map told l.fault) (first (named_as_classes (unit_tree l.self.unit.now).interfaces (function_trees (drop l.function-index l.self.unit.now.functions.items))))

@@ -1,0 +1,12 @@
+use Rattle.std.proofs.Common.{◌≡◌, ◌+◌, ℕ, List, drop}
+use Rattle.arc_ast.specs.Tree.{interface_trees}
+use Rattle.arc_class.specs.Kept.{or_then, places}
+use Rattle.arc_class.specs.Table.{at_name}
+use Rattle.arc_class.proofs.kept.class_places.Given as goal
+
+-- what is kept and what is first of the rest is first of all
+abbrev pub invariant-loop-interface : goal.invariant-loop-interface
+invariant-loop-interface l = record {
+  counted : l.number ≡ l.interface-index;
+  kept : (sought : List ℕ) → places 1 (interface_trees l.interfaces) sought ≡ or_then (at_name l.map sought) (places (l.number + 1) (interface_trees (drop l.interface-index l.interfaces)) sought);
+}

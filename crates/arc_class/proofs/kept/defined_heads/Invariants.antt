@@ -1,0 +1,10 @@
+use Rattle.std.proofs.Common.{◌≡◌, ◌+◌, ℕ, List, drop}
+use Rattle.arc_ast.specs.Tree.{implementation_trees}
+use Rattle.arc_class.specs.Classes.{first_head}
+use Rattle.arc_class.specs.ClassRules.{defined}
+use Rattle.arc_class.specs.Kept.{or_then, head_in}
+use Rattle.arc_class.proofs.kept.defined_heads.Given as goal
+
+-- what is kept and what is first of the rest is first of all
+abbrev pub invariant-loop-implementation : goal.invariant-loop-implementation
+invariant-loop-implementation l = (sought : List ℕ) → first_head sought (defined (implementation_trees l.implementations)) ≡ or_then (head_in l.map sought) (first_head sought (defined (implementation_trees (drop l.implementation-index l.implementations))))

@@ -1,0 +1,27 @@
+use Rattle.std.proofs.Common.{◌≡◌, ℕ, List, ◌+◌, ap, ◌∙◌, sym, drop, length, Some}
+use Rattle.arc_ast.specs.Tree.{MethodTree, method_trees, implementation_trees}
+use Rattle.arc_class.specs.declared.kept.Implemented.{Implemented}
+use Rattle.arc_class.specs.Kept.{or_then, one_at, implemented, implemented_in, implemented_tree}
+use Rattle.arc_class.specs.Table.{at_name}
+use Rattle.arc_class.proofs.Keeping.{kept_turn, kept_map, or_one}
+use Rattle.arc_class.proofs.Lists.{drop_turn}
+use Rattle.arc_class.proofs.Trees.{length-method_trees}
+use Rattle.arc_class.proofs.kept.first_implementations.Goals as goal
+
+pub loop-implementation-preserved : goal.loop-implementation-preserved
+loop-implementation-preserved c sought =
+    let xs = c.args.implementations.now in
+    let i = c.loop-implementation.implementation-index in
+    let x = c.implementation-item.result in
+    let first = c.loop-implementation.first in
+    let old = implemented_in c.loop-implementation.map sought in
+    let rest = implementation_trees (drop (i + 1) xs) in
+    let tree : ℕ × List MethodTree = (first, method_trees x.methods.items) in
+    let value : Implemented = record { first = first; methods = c.deref-methods.result } in
+    let kept : implemented_in c.keep_first.new.map sought ≡ or_then old (one_at x.name.items tree sought) =
+    kept_map implemented_tree (at_name c.loop-implementation.map sought) _ c.deref.result.now value sought (c.in_ok-keep_first.ensures sought)
+    ∙ ap (λ n. or_then old (one_at n (first, method_trees c.deref-methods.result.now) sought)) c.deref.ensures.value ∙ ap (λ us. or_then old (one_at x.name.items (first, method_trees us) sought)) c.deref-methods.ensures.value in
+    let many : length (method_trees x.methods.items) ≡ length c.deref-methods.result.now = length-method_trees x.methods.items ∙ ap length (sym c.deref-methods.ensures.value) in
+    kept_turn old (one_at x.name.items tree sought) _ _ _ kept
+    (c.loop-implementation.invariant sought ∙ ap (or_then old) (ap (λ us. implemented first (implementation_trees us) sought) (drop_turn xs i x c.loop-implementation-test.true c.implementation-item.is)
+    ∙ or_one x.name.items tree (implemented (first + length (method_trees x.methods.items)) rest sought) sought ∙ ap (λ n. or_then (one_at x.name.items tree sought) (implemented (first + n) rest sought)) many))

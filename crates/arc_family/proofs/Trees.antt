@@ -1,0 +1,41 @@
+-- The children of a node that stand in a Vec, as a list.
+use Rattle.std.proofs.Common.{◌≡◌, ℕ, Vec, Global, refl, ap, ◌∙◌}
+use mathlib.Core.Former.{Count}
+use Rattle.arc_ast.specs.declared.tree.Receiver.{Receiver}
+use Rattle.arc_ast.specs.declared.tree.Expr.{Expr, Call, Call', Send, Send', Row_of-Expr, end_of-Expr, more_of-Expr, items-the_row-Expr, items_hidden-the_row-Expr-0}
+use Rattle.arc_ast.specs.declared.tree.Stmt.{Stmt, Block, Block', Row_of-Stmt, end_of-Stmt, more_of-Stmt, items-the_row-Stmt, items_hidden-the_row-Stmt-0}
+use Rattle.arc_ast.specs.Tree.{and_expr, expr_tree, expr_trees, row_exprs, receiver_tree, and_stmt, stmt_tree, stmt_trees, row_stmts}
+use Rattle.arc_ast.specs.Tree as tree
+
+abbrev arguments_of : Expr → (n : Count) × Row_of-Expr n
+arguments_of (Call' at name _ row) = (_, row)
+arguments_of (Send' at part receiver selector _ row) = (_, row)
+arguments_of _ = (_, end_of-Expr)
+
+row_exprs_is : (n : _) (row : Row_of-Expr n) → row_exprs row ≡ expr_trees (items-the_row-Expr n row)
+row_exprs_is n end_of-Expr = refl
+row_exprs_is n (more_of-Expr a row) = ap (and_expr (expr_tree a)) (row_exprs_is _ row)
+
+pub call_tree : (at : ℕ) (name : Vec ℕ Global) (all : Vec Expr Global) → expr_tree (Call at name all) ≡ tree.Call at name.items (expr_trees all.items)
+call_tree at name all =
+    let row = arguments_of (Call at name all) in
+    ap (tree.Call at name.items) (row_exprs_is row.0 row.1 ∙ ap expr_trees (items_hidden-the_row-Expr-0 all))
+
+pub send_tree : (at part : ℕ) (receiver : Receiver) (selector : Vec ℕ Global) (all : Vec Expr Global)
+    → expr_tree (Send at part receiver selector all) ≡ tree.Send at part (receiver_tree receiver) selector.items (expr_trees all.items)
+send_tree at part receiver selector all =
+    let row = arguments_of (Send at part receiver selector all) in
+    ap (tree.Send at part (receiver_tree receiver) selector.items) (row_exprs_is row.0 row.1 ∙ ap expr_trees (items_hidden-the_row-Expr-0 all))
+
+abbrev statements_of : Stmt → (n : Count) × Row_of-Stmt n
+statements_of (Block' at _ row) = (_, row)
+statements_of _ = (_, end_of-Stmt)
+
+row_stmts_is : (n : _) (row : Row_of-Stmt n) → row_stmts row ≡ stmt_trees (items-the_row-Stmt n row)
+row_stmts_is n end_of-Stmt = refl
+row_stmts_is n (more_of-Stmt a row) = ap (and_stmt (stmt_tree a)) (row_stmts_is _ row)
+
+pub block_tree : (at : ℕ) (all : Vec Stmt Global) → stmt_tree (Block at all) ≡ tree.Block at (stmt_trees all.items)
+block_tree at all =
+    let row = statements_of (Block at all) in
+    ap (tree.Block at) (row_stmts_is row.0 row.1 ∙ ap stmt_trees (items_hidden-the_row-Stmt-0 all))

@@ -1,0 +1,69 @@
+//! Why a program is refused.
+ghost use Rattle.std.specs.Prelude.{◌≡◌, option_map};
+ghost use Rattle.arc_class.specs.Broken.{earlier_of};
+ghost use Rattle.arc_family.specs.Fault.{fault_number, fault_name, fault_at, told};
+
+use thiserror::Error;
+
+/// Why a program is refused: the first rule of ownership that it breaks, or no memory.
+#[derive(Clone, Copy, Debug, PartialEq, Eq, Error)]
+pub enum OwnFault {
+    /// A method `retain`, `release`, `autorelease` or `retainCount`, at its `+`; or such a message, at the first part of its selector.
+    #[error("references are counted by hand at {0}")]
+    ManualMemory(usize),
+    /// A message `dealloc`; the place is that of its selector.
+    #[error("dealloc is sent at {0}")]
+    DeallocSent(usize),
+    /// There was no memory.
+    #[error("no memory")]
+    Memory,
+}
+
+impl OwnFault {
+    /// The fault's number.
+    pub fn number(&self) -> u8
+        ensures { result ≡ fault_number self.now }
+    {
+        match self {
+            OwnFault::ManualMemory(_) => 61,
+            OwnFault::DeallocSent(_) => 62,
+            OwnFault::Memory => 69,
+        }
+    }
+
+    /// The fault's name.
+    pub fn name(&self) -> &'static str
+        ensures { result.now ≡ fault_name self.now }
+    {
+        match self {
+            OwnFault::ManualMemory(_) => "ManualMemory",
+            OwnFault::DeallocSent(_) => "DeallocSent",
+            OwnFault::Memory => "Memory",
+        }
+    }
+
+    /// The byte of the source that the fault names, counted from 0: 0 for want of memory.
+    pub fn at(&self) -> usize
+        ensures { result ≡ fault_at self.now }
+    {
+        match self {
+            OwnFault::ManualMemory(at) => *at,
+            OwnFault::DeallocSent(at) => *at,
+            OwnFault::Memory => 0,
+        }
+    }
+}
+
+/// The fault that is told of two.
+pub(crate) fn earlier(a: Option<OwnFault>, b: Option<OwnFault>) -> Option<OwnFault>
+    ensures { option_map told result ≡ earlier_of (option_map told a) (option_map told b) }
+{
+    match (a, b) {
+        (None, b) => b,
+        (a, None) => a,
+        (Some(a), Some(b)) => {
+            let is_before = b.at() < a.at() || b.at() == a.at() && b.number() < a.number();
+            if is_before { Some(b) } else { Some(a) }
+        }
+    }
+}

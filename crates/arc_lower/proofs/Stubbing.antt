@@ -1,0 +1,40 @@
+-- Stubs are laid one behind the other.
+use Rattle.std.proofs.Common.{◌≡◌, ℕ, List, [], ◌∷◌, ◌++◌, length, ap, ◌∙◌, append_assoc, length-append}
+use Rattle.arc_spec.specs.declared.class.Method.{Method}
+use Rattle.arc_spec.specs.Classes.{Class}
+use Rattle.arc_spec.specs.Resolved.{Program}
+use Rattle.arc_lower.specs.Order.{Order}
+use Rattle.arc_lower.specs.Lowered.{stub_orders, methods_orders, classes_orders, linked_methods, linked_classes}
+
+abbrev running_at : Method → (place : ℕ) → Method
+running_at m place = record { selector = m.selector; takes = m.takes; runs = place }
+
+-- with these methods still to come, all comes out as from the start
+pub record MethodsLaid (P : Program) (entries : List ℕ) (o0 : List Order) (all : List Method) (o : List Order) (linked : List Method) (left : List Method) : Type 0 where
+  pub actions : o ++ methods_orders P entries left ≡ o0 ++ methods_orders P entries all
+  pub methods : linked ++ linked_methods P entries (length o) left ≡ linked_methods P entries (length o0) all
+
+pub methods_more : (P : Program) (entries : List ℕ) (o0 : List Order) (all : List Method) (o : List Order) (linked : List Method) (m : Method) (left : List Method) (o' : List Order) (linked' : List Method) (place : ℕ) → MethodsLaid P entries o0 all o linked (m ∷ left) → o' ≡ o ++ stub_orders P entries m.takes m.runs → place ≡ length o → linked' ≡ linked ++ record { selector = m.selector; takes = m.takes; runs = place } ∷ [] → MethodsLaid P entries o0 all o' linked' left
+methods_more P entries o0 all o linked m left o' linked' place laid eo ep el =
+    let is = stub_orders P entries m.takes m.runs in
+    let now = running_at m in
+    let n = ap length eo ∙ length-append o is in
+    record {
+      actions = ap (λ l. l ++ methods_orders P entries left) eo ∙ append_assoc o is (methods_orders P entries left) ∙ laid.actions;
+      methods = ap (λ l. l ++ linked_methods P entries (length o') left) (el ∙ ap (λ q. linked ++ now q ∷ []) ep) ∙ append_assoc linked (now (length o) ∷ []) (linked_methods P entries (length o') left) ∙ ap (λ q. linked ++ now (length o) ∷ linked_methods P entries q left) n ∙ laid.methods;
+    }
+
+-- the same of classes
+pub record ClassesLaid (P : Program) (entries : List ℕ) (o0 : List Order) (all : List Class) (o : List Order) (linked : List Class) (left : List Class) : Type 0 where
+  pub actions : o ++ classes_orders P entries left ≡ o0 ++ classes_orders P entries all
+  pub classes : linked ++ linked_classes P entries (length o) left ≡ linked_classes P entries (length o0) all
+
+pub classes_more : (P : Program) (entries : List ℕ) (o0 : List Order) (all : List Class) (o : List Order) (linked : List Class) (c : Class) (left : List Class) (o' : List Order) (linked' : List Class) → ClassesLaid P entries o0 all o linked (c ∷ left) → o' ≡ o ++ methods_orders P entries c.methods → linked' ≡ linked ++ record { superclass = c.superclass; methods = linked_methods P entries (length o) c.methods } ∷ [] → ClassesLaid P entries o0 all o' linked' left
+classes_more P entries o0 all o linked c left o' linked' laid eo el =
+    let is = methods_orders P entries c.methods in
+    let now : Class = record { superclass = c.superclass; methods = linked_methods P entries (length o) c.methods } in
+    let n = ap length eo ∙ length-append o is in
+    record {
+      actions = ap (λ l. l ++ classes_orders P entries left) eo ∙ append_assoc o is (classes_orders P entries left) ∙ laid.actions;
+      classes = ap (λ l. l ++ linked_classes P entries (length o') left) el ∙ append_assoc linked (now ∷ []) (linked_classes P entries (length o') left) ∙ ap (λ q. linked ++ now ∷ linked_classes P entries q left) n ∙ laid.classes;
+    }

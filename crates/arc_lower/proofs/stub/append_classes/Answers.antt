@@ -1,0 +1,57 @@
+use Rattle.std.proofs.Common.{◌≡◌, List, [], ◌∷◌, ◌+◌, ◌++◌, refl, ap, sym, ◌∙◌, subst, drop, length}
+use Rattle.std.proofs.lemmas.List.{drop_more, drop_all, append-nil, map-append}
+use Rattle.arc_spec.specs.declared.class.Class as declared
+use Rattle.arc_spec.specs.declared.class.Method.{Method}
+use Rattle.arc_spec.specs.Classes.{Class, class_of, classes_of}
+use Rattle.arc_check.specs.Checked.{program_of}
+use Rattle.arc_lower.specs.Order.{orders}
+use Rattle.arc_lower.specs.Lowered.{methods_orders, classes_orders, linked_methods, linked_classes}
+use Rattle.arc_lower.proofs.Stubbing.{ClassesLaid, classes_more}
+use Rattle.arc_lower.proofs.stub.append_classes.Goals as goal
+
+pub loop-class-init : goal.loop-class-init
+loop-class-init c =
+    let P = program_of c.args.program.now in
+    let start = length (orders c.args.actions.now.items) in
+    record { actions = refl; classes = ap (λ l. classes_of l ++ linked_classes P c.args.entries.now start (classes_of c.deref-class-items.result.now)) c.new-linked.ensures.items }
+
+abbrev with_methods : declared.Class → List Method → Class
+with_methods item l = record { superclass = item.superclass; methods = l }
+
+pub loop-class-preserved : goal.loop-class-preserved
+loop-class-preserved c =
+    let P = program_of c.args.program.now in
+    let entries = c.args.entries.now in
+    let all = c.deref-class-items.result.now in
+    let i = c.loop-class.class-index in
+    let item = c.class-item.result in
+    let o = orders c.loop-class.actions.items in
+    let start = orders c.args.actions.now.items in
+    let linked = c.loop-class.linked.items in
+    let left = drop (i + 1) all in
+    let now : declared.Class = record { superclass = item.superclass; methods = c.in_ok-methods.methods } in
+    let split : drop i all ≡ item ∷ left = drop_more all i item c.loop-class-test.true ∙ ap (λ (x : declared.Class). x ∷ left) (sym c.class-item.is) in
+    let before : ClassesLaid P entries start (classes_of all) o (classes_of linked) (class_of item ∷ classes_of left) = subst (λ l. ClassesLaid P entries start (classes_of all) o (classes_of linked) (classes_of l)) split c.loop-class.invariant in
+    let laid = c.in_ok-methods.ensures.actions ∙ ap (λ l. o ++ methods_orders P entries l) c.deref.ensures.value in
+    let methods = c.in_ok-methods.ensures.linked ∙ ap (linked_methods P entries (length o)) c.deref.ensures.value in
+    let more = ap classes_of c.in_ok-push.ensures.items ∙ map-append class_of linked (now ∷ []) ∙ ap (λ l. classes_of linked ++ with_methods item l ∷ []) methods in
+    classes_more P entries start (classes_of all) o (classes_of linked) (class_of item) (classes_of left) (orders c.append_methods.new.actions.items) (classes_of c.push.new.self.items) before laid more
+
+-- behind the last class
+finished : (c : goal.After-loop-class) → ClassesLaid (program_of c.args.program.now) c.args.entries.now (orders c.args.actions.now.items) (classes_of c.deref-class-items.result.now) (orders c.loop-class.actions.items) (classes_of c.loop-class.linked.items) []
+finished c =
+    let all = c.deref-class-items.result.now in
+    let P = program_of c.args.program.now in
+    subst (λ l. ClassesLaid P c.args.entries.now (orders c.args.actions.now.items) (classes_of all) (orders c.loop-class.actions.items) (classes_of c.loop-class.linked.items) (classes_of l)) (drop_all c.loop-class.class-index all c.loop-class-test.false) c.loop-class.invariant
+
+pub returns-clause-actions : goal.returns-clause-actions
+returns-clause-actions c =
+    let P = program_of c.args.program.now in
+    let start = orders c.args.actions.now.items in
+    sym (append-nil (orders c.loop-class.actions.items)) ∙ (finished c).actions ∙ ap (λ l. start ++ classes_orders P c.args.entries.now (classes_of l)) c.deref-class-items.ensures.value
+
+pub returns-clause-linked : goal.returns-clause-linked
+returns-clause-linked c =
+    let P = program_of c.args.program.now in
+    let start = orders c.args.actions.now.items in
+    sym (append-nil (classes_of c.loop-class.linked.items)) ∙ (finished c).classes ∙ ap (λ l. linked_classes P c.args.entries.now (length start) (classes_of l)) c.deref-class-items.ensures.value

@@ -1,0 +1,8 @@
+use Rattle.std.proofs.Common.{drop}
+use Rattle.arc_check.specs.Checked.{program_of}
+use Rattle.arc_lower.specs.Order.{orders}
+use Rattle.arc_lower.proofs.Stubbing.{MethodsLaid}
+use Rattle.arc_lower.proofs.stub.append_methods.Given as goal
+
+abbrev pub invariant-loop-method : goal.invariant-loop-method
+invariant-loop-method l = MethodsLaid (program_of l.program) l.entries (orders l.initial.actions.items) l.methods (orders l.actions.items) l.linked.items (drop l.method-index l.methods)

@@ -1,0 +1,7 @@
+use Rattle.std.proofs.Common.{◌≡◌, drop}
+use Rattle.arc_spec.specs.Classes.{found}
+use Rattle.arc_spec.proofs.class.find.Given as goal
+
+-- none before it answers
+abbrev pub invariant-loop-method : goal.invariant-loop-method
+invariant-loop-method l = found l.selector l.takes l.methods ≡ found l.selector l.takes (drop l.method-index l.methods)
