@@ -1,21 +1,19 @@
 -- The parts of a table, one class or one method more.
-use Rattle.std.proofs.Common.{◌≡◌, ℕ, suc, ◌+◌, ◌<◌, Bool, true, false, List, [], ◌∷◌, ◌++◌, length, map, Option, Some, None, option_map, if◌then◌else◌, append_assoc, drop, get_or, refl, sym, ap, ◌∙◌}
-use Rattle.std.proofs.lemmas.List.{append-nil, map_push}
+use Rattle.std.proofs.Common.{◌≡◌, ℕ, ◌+◌, Bool, true, false, List, [], ◌∷◌, ◌++◌, length, map, Option, Some, None, option_map, if◌then◌else◌, append_assoc, refl, sym, ap, ◌∙◌}
+use Rattle.std.proofs.lemmas.List.{map_push}
 use Rattle.std.proofs.Math.Path.{fun_ext}
 use Rattle.std.specs.BTreeMap.{BTreeMap}
 use Rattle.std.specs.Borrow.{Bor}
 use Rattle.std.specs.Str.{bytes_eq}
 use Rattle.arc_ast.specs.declared.tree.Kind.{Kind}
 use Rattle.arc_ast.specs.declared.tree.MethodHead.{MethodHead}
-use Rattle.arc_ast.specs.Tree.{HeadTree, MethodTree, InterfaceTree, ImplementationTree, UnitTree, head_tree}
+use Rattle.arc_ast.specs.Tree.{MethodTree, InterfaceTree, ImplementationTree, UnitTree, head_tree}
 use Rattle.arc_spec.specs.declared.class.Method.{Method}
 use Rattle.arc_spec.specs.Classes.{Class}
-use Rattle.arc_class.specs.declared.kept.Implemented.{Implemented}
-use Rattle.arc_class.specs.declared.table.Entry.{Entry}
 use Rattle.arc_class.specs.Classes.{first_head, heads, result_of, own_result, defined_by, class_number, methods_from, methods_named}
 use Rattle.arc_class.specs.Classes as rules
 use Rattle.arc_class.specs.Entries.{EntryTree, entry_tree, class_entry}
-use Rattle.arc_class.specs.Kept.{or_then, head_in, implemented, implemented_tree}
+use Rattle.arc_class.specs.Kept.{head_in, implemented}
 use Rattle.arc_class.specs.Table.{at_name, own_result_in}
 
 -- one more is made

@@ -1,10 +1,10 @@
 -- What methods give, a class at a time.
-use Rattle.std.proofs.Common.{◌≡◌, ℕ, zero, suc, ◌-◌, ◌+◌, ◌<◌, Option, Some, None, is_some, true, false, List, [], ◌∷◌, length, slice_get, refl, sym, ap, ◌∙◌, true≢false, arith}
+use Rattle.std.proofs.Common.{◌≡◌, ℕ, zero, suc, ◌-◌, ◌+◌, ◌<◌, Option, Some, None, List, [], ◌∷◌, length, slice_get, refl, sym, ap, ◌∙◌, arith}
 use Rattle.arc_ast.specs.declared.tree.Kind.{Kind}
 use Rattle.arc_class.specs.declared.table.ClassTable.{ClassTable}
 use Rattle.arc_class.specs.declared.table.Entry.{Entry}
 use Rattle.arc_class.specs.Classes.{or_result}
-use Rattle.arc_class.specs.Table.{at_name, own_result_in, superclass_in, results_up, result_in_table}
+use Rattle.arc_class.specs.Table.{own_result_in, superclass_in, results_up, result_in_table}
 
 -- the same of n classes
 abbrev pub results_left : (n : ℕ) → ClassTable → Option ℕ → List ℕ → Option Kind

@@ -11,7 +11,7 @@ use Rattle.arc_ast.specs.declared.tree.Stmt.{Stmt}
 use Rattle.arc_ast.specs.declared.tree.Implementation.{Implementation}
 use Rattle.arc_ast.specs.declared.tree.Interface.{Interface}
 use Rattle.arc_ast.specs.declared.tree.Method.{Method}
-use Rattle.arc_ast.specs.Tree.{HeadTree, MethodTree, InterfaceTree, ImplementationTree, UnitTree, head_tree, method_tree, method_trees, interface_tree, interface_trees, implementation_tree, implementation_trees, function_trees, head_trees, parameter_trees, stmt_trees}
+use Rattle.arc_ast.specs.Tree.{HeadTree, InterfaceTree, ImplementationTree, UnitTree, head_tree, method_tree, method_trees, interface_tree, interface_trees, implementation_tree, implementation_trees, function_trees, head_trees, parameter_trees, stmt_trees}
 use Rattle.arc_class.specs.declared.kept.Implemented.{Implemented}
 use Rattle.arc_class.specs.declared.table.Place.{Place}
 use Rattle.arc_class.specs.Bodies.{and_name, broken_if, no_name, names_taken, broken_parameters, broken_stmts}

@@ -1,5 +1,5 @@
 -- What the entries of a table say of classes.
-use Rattle.std.specs.Prelude.{ℕ, List, Option, Some, None, option_map}
+use Rattle.std.specs.Prelude.{ℕ, List, Option, Some, None}
 use Rattle.arc_ast.specs.declared.tree.Kind.{Kind}
 use Rattle.arc_ast.specs.Tree.{InterfaceTree, UnitTree}
 use Rattle.arc_class.specs.declared.table.Entry.{Entry}

@@ -1,5 +1,5 @@
 -- Lookups of methods, a class at a time.
-use Rattle.std.proofs.Common.{◌≡◌, ℕ, zero, suc, ◌+◌, ◌-◌, ◌<◌, List, [], ◌∷◌, length, Option, Some, None, slice_get, option_map, is_some, true, false, refl, sym, true≢false, ap, ◌∙◌, arith}
+use Rattle.std.proofs.Common.{◌≡◌, ℕ, zero, suc, ◌+◌, ◌-◌, ◌<◌, List, Option, Some, None, slice_get, option_map, is_some, true, false, refl, sym, true≢false, ap, ◌∙◌, arith}
 use Rattle.std.proofs.lemmas.Option.{slice_get-map}
 use Rattle.arc_spec.specs.declared.class.Class as declared
 use Rattle.arc_spec.specs.Classes.{Class, class_of, classes_of, found, found_from, or_else, lookup_up}

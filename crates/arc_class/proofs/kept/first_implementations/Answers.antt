@@ -1,4 +1,4 @@
-use Rattle.std.proofs.Common.{◌≡◌, ℕ, List, ◌+◌, ap, ◌∙◌, sym, drop, length, Some}
+use Rattle.std.proofs.Common.{◌≡◌, ℕ, List, ◌+◌, ap, ◌∙◌, sym, drop, length}
 use Rattle.arc_ast.specs.Tree.{MethodTree, method_trees, implementation_trees}
 use Rattle.arc_class.specs.declared.kept.Implemented.{Implemented}
 use Rattle.arc_class.specs.Kept.{or_then, one_at, implemented, implemented_in, implemented_tree}

@@ -1,8 +1,8 @@
-use Rattle.std.proofs.Common.{◌≡◌, ◌∙◌, ◌-◌, ◌+◌, refl, sym, ap, length, Some, None, arith}
+use Rattle.std.proofs.Common.{◌∙◌, ◌-◌, refl, sym, ap, length, arith}
 use Rattle.std.proofs.lemmas.List.{length-map}
 use Rattle.std.proofs.lemmas.Option.{slice_get_past, slice_get_read}
 use Rattle.std.proofs.lemmas.Bool.{ltb-false, ltb-true}
-use Rattle.arc_spec.specs.Classes.{class_of, classes_of, found, lookup_up, or_else}
+use Rattle.arc_spec.specs.Classes.{class_of, classes_of, found, lookup_up}
 use Rattle.arc_spec.proofs.Lookups.{nothing_above, no_class, in_class, own_first, above_next}
 use Rattle.arc_spec.proofs.class.look_up.Goals as goal
 

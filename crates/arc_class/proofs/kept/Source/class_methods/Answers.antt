@@ -1,8 +1,8 @@
-use Rattle.std.proofs.Common.{◌≡◌, List, Result, IfOk, None, Some, option_map, sym, ap, ◌∙◌}
+use Rattle.std.proofs.Common.{option_map, sym, ap, ◌∙◌}
 use Rattle.std.proofs.lemmas.Result.{IfOk-weaker}
 use Rattle.arc_ast.specs.Tree.{unit_tree}
 use Rattle.arc_class.specs.Classes.{bodies}
-use Rattle.arc_class.specs.Kept.{implemented, implemented_tree}
+use Rattle.arc_class.specs.Kept.{implemented_tree}
 use Rattle.arc_class.proofs.Parts.{methods_at, methods_kept}
 use Rattle.arc_class.proofs.kept.Source.class_methods.Goals as goal
 

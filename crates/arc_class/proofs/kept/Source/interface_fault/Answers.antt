@@ -1,4 +1,4 @@
-use Rattle.std.proofs.Common.{◌≡◌, ◌||◌, not, is_some, is_none, option_map, ap, ◌∙◌}
+use Rattle.std.proofs.Common.{◌≡◌, ◌||◌, not, is_some, is_none, ap, ◌∙◌}
 use Rattle.arc_ast.specs.Tree.{unit_tree, interface_tree, head_trees}
 use Rattle.arc_class.specs.Bodies.{broken_if}
 use Rattle.arc_class.specs.Broken.{first}
