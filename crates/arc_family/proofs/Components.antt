@@ -16,6 +16,7 @@ unfolding first_component
 component_is [] = refl
 component_is (x ∷ xs) = elim (x == 58) as (λ b. take (cond (not b) (1 + prefix_len (λ c. not (c == 58)) xs) 0) (x ∷ xs) ≡ cond b [] (x ∷ first_component xs)) [ true ↦ refl | false ↦ rw (add_comm 1, add-one) (ap (λ ys. x ∷ ys) (component_is xs)) ]
 
+-- a word begins a component where it leads it and ends before what is left
 pub begins_is : (component word : List ℕ) → begins_with_word component word ≡ starts_with nat_eq component word && ends_before (drop (length word) component)
 unfolding begins_with_word
 begins_is component [] = refl
