@@ -1,15 +1,15 @@
 -- Blocks that lie in rows of words, of which one is changed.
-use Rattle.std.proofs.Common.{◌≡◌, ◌≢◌, ℕ, zero, suc, ◌+◌, ◌-◌, ◌*◌, ◌<◌, ◌≤◌, List, [], ◌∷◌, length, take, drop, get_or, set, Option, Some, None, refl, sym, ap, subst, ◌∙◌, arith, ◌⊎◌, inl, inr}
+use Rattle.std.proofs.Common.{◌≡◌, ◌≢◌, ℕ, zero, suc, ◌+◌, ◌-◌, ◌*◌, ◌/◌, ◌<◌, ◌≤◌, List, [], ◌∷◌, length, take, drop, get_or, set, replicate, Option, Some, None, refl, sym, ap, subst, ◌∙◌, arith, ◌⊎◌, inl, inr}
 use Rattle.std.specs.Prelude.{IsSome}
 use Rattle.std.proofs.lemmas.Grind.{common_steps}
-use Rattle.std.proofs.lemmas.List.{get_or-set_same, get_or-set_other, length-set}
+use Rattle.std.proofs.lemmas.List.{get_or-set_same, get_or-set_other, length-set, get_or_past}
 use Rattle.arc_heap.specs.declared.mark.Mark.{Mark}
 use Rattle.arc_heap.specs.declared.mark.Mark.TheVariants.{Inside, Out, Free}
 use Rattle.arc_heap.specs.Blocks.{Blocks, with_block, words_of, IsOut, HasWord}
 use Rattle.arc_heap.specs.Sizes.{size_of}
 use Rattle.arc_heap.specs.Plain.{mark_at, extent, class_at, block_from, blocks_in, IsArranged}
 use Rattle.arc_heap.proofs.Changed.{same_or_other, is_with_block}
-use Rattle.arc_heap.proofs.Segments.{length_segment, get_segment, set_segment, same_segment}
+use Rattle.arc_heap.proofs.Segments.{length_segment, get_segment, set_segment, same_segment, zero_segment}
 
 pub some_words : (class : ℕ) → 0 < size_of class
 unfolding size_of
@@ -137,3 +137,58 @@ stored marks words place i word arranged above has =
       (ap (λ mark. block_from mark (set words (first + i) word) first) at.marked
         ∙ ap Some (set_segment words first (size_of at.class) i word below)
         ∙ ap (λ block. Some (set (words_of block) i word)) (sym at.block))
+
+mark_there : (marks : List Mark) (row : ℕ) (mark : Mark) → row < length marks → mark_at (set marks row mark) row ≡ mark
+mark_there marks row mark within = get_or-set_same marks row mark Inside within
+
+mark_else : (marks : List Mark) (row other : ℕ) (mark : Mark) → other ≢ row → mark_at (set marks row mark) other ≡ mark_at marks other
+mark_else marks row other mark elsewhere = get_or-set_other marks row other mark Inside elsewhere
+
+-- a block of the same class stands at the row
+pub remarked : (marks : List Mark) (words row : ℕ) (mark : Mark) → IsArranged marks words → row < length marks → extent mark ≡ extent (mark_at marks row) → class_at mark ≡ class_at (mark_at marks row)
+    → IsArranged (set marks row mark) words
+remarked marks words row mark arranged within size class = record {
+    rows = omega (arith, arranged.rows, length-set marks row mark);
+    classes = λ r. omega (arith, kept class_at class r, arranged.classes r);
+    inside = λ r below. omega (arith, kept extent size r, arranged.inside r (omega (arith, length-set marks row mark, below)));
+    apart = λ r later before some. omega (arith, kept extent size r, arranged.apart r later before (omega (arith, kept extent size later, some)));
+  }
+  where
+    kept : (f : Mark → ℕ) → f mark ≡ f (mark_at marks row) → (r : ℕ) → f (mark_at (set marks row mark) r) ≡ f (mark_at marks r)
+    kept f same r = elim (same_or_other r row) [
+      | inl here ↦ ap (λ n. f (mark_at (set marks row mark) n)) here ∙ ap f (mark_there marks row mark within) ∙ same ∙ ap (λ n. f (mark_at marks n)) (sym here)
+      | inr other ↦ ap f (mark_else marks row r mark other)
+    ]
+
+-- a block is given back, and its first word is written
+pub given : (marks : List Mark) (words : List ℕ) (place class link : ℕ) → IsArranged marks (length words) → 0 < place → place - 1 < length marks → mark_at marks (place - 1) ≡ Out class
+    → blocks_in (set marks (place - 1) (Free class)) (set words (4 * (place - 1)) link) ≡ with_block (blocks_in marks words) place None
+given marks words place class link arranged above within out =
+    let first = 4 * (place - 1) in
+    let size : extent (mark_at marks (place - 1)) ≡ size_of class = ap extent out in
+    one_changed marks (set marks (place - 1) (Free class)) words (set words first link) place None arranged above
+      (inl (omega (arith, size, some_words class)))
+      (omega (arith, length-set words first link))
+      (λ row other. mark_else marks (place - 1) row (Free class) other)
+      (λ i below elsewhere. get_or-set_other words first i link 0 (elim elsewhere [ inl before ↦ omega arith | inr after ↦ omega (arith, size, some_words class) ]))
+      (ap (λ mark. block_from mark (set words first link) first) (mark_there marks (place - 1) (Free class) within))
+
+pub free_is_none : (marks : List Mark) (words : List ℕ) (place class : ℕ) → 0 < place → mark_at marks (place - 1) ≡ Free class → blocks_in marks words place ≡ None
+free_is_none marks words place class above free = at_place marks words place above ∙ ap (λ mark. block_from mark words (4 * (place - 1))) free
+
+-- the words of a free block are cleared, and it is out
+pub taken_again : (marks : List Mark) (words new : List ℕ) (place class : ℕ) → IsArranged marks (length words) → 0 < place → place - 1 < length marks → mark_at marks (place - 1) ≡ Free class
+    → length new ≡ length words
+    → ((i : ℕ) → 4 * (place - 1) ≤ i → i < 4 * (place - 1) + size_of class → get_or new i 0 ≡ 0)
+    → ((i : ℕ) → (i < 4 * (place - 1)) ⊎ (4 * (place - 1) + size_of class ≤ i) → get_or new i 0 ≡ get_or words i 0)
+    → blocks_in (set marks (place - 1) (Out class)) new ≡ with_block (blocks_in marks words) place (Some (replicate (size_of class) 0))
+taken_again marks words new place class arranged above within free same_length zeros others =
+    let first = 4 * (place - 1) in
+    let size : extent (mark_at marks (place - 1)) ≡ size_of class = ap extent free in
+    let ends : first + size_of class ≤ length new = omega (arith, size, same_length, arranged.inside (place - 1) within) in
+    one_changed marks (set marks (place - 1) (Out class)) words new place (Some (replicate (size_of class) 0)) arranged above
+      (inl (omega (arith, size, some_words class)))
+      (omega (arith, same_length))
+      (λ row other. mark_else marks (place - 1) row (Out class) other)
+      (λ i below elsewhere. others i (elim elsewhere [ inl before ↦ inl before | inr after ↦ inr (omega (arith, size)) ]))
+      (ap (λ mark. block_from mark new first) (mark_there marks (place - 1) (Out class) within) ∙ ap Some (zero_segment new first (size_of class) ends zeros))

@@ -30,6 +30,7 @@ pub fn class_for(words: usize) -> u8
 pub fn words_in(class: u8) -> usize
     requires { (0 < class) × (class ≤ 6) }
     ensures size { result ≡ size_of class }
+    ensures range { (4 ≤ result) × (result ≤ 128) }
 {
     match class {
         1 => 4,
