@@ -173,6 +173,7 @@ given marks words place class link arranged above within out =
       (λ i below elsewhere. get_or-set_other words first i link 0 (elim elsewhere [ inl before ↦ omega arith | inr after ↦ omega (arith, size, some_words class) ]))
       (ap (λ mark. block_from mark (set words first link) first) (mark_there marks (place - 1) (Free class) within))
 
+-- a free block is not out
 pub free_is_none : (marks : List Mark) (words : List ℕ) (place class : ℕ) → 0 < place → mark_at marks (place - 1) ≡ Free class → blocks_in marks words place ≡ None
 free_is_none marks words place class above free = at_place marks words place above ∙ ap (λ mark. block_from mark words (4 * (place - 1))) free
 
@@ -192,3 +193,93 @@ taken_again marks words new place class arranged above within free same_length z
       (λ row other. mark_else marks (place - 1) row (Out class) other)
       (λ i below elsewhere. others i (elim elsewhere [ inl before ↦ inl before | inr after ↦ inr (omega (arith, size)) ]))
       (ap (λ mark. block_from mark new first) (mark_there marks (place - 1) (Out class) within) ∙ ap Some (zero_segment new first (size_of class) ends zeros))
+
+-- a block is a number of whole rows
+whole_rows : (class : ℕ) → 0 < class → class ≤ 6 → 4 * (size_of class / 4) ≡ size_of class
+unfolding size_of
+whole_rows zero above known = absurd (omega arith)
+whole_rows (suc zero) above known = refl
+whole_rows (suc (suc zero)) above known = refl
+whole_rows (suc (suc (suc zero))) above known = refl
+whole_rows (suc (suc (suc (suc zero)))) above known = refl
+whole_rows (suc (suc (suc (suc (suc zero))))) above known = refl
+whole_rows (suc (suc (suc (suc (suc (suc zero)))))) above known = refl
+whole_rows (suc (suc (suc (suc (suc (suc (suc class))))))) above known = absurd (omega arith)
+
+before_or_past : (i j : ℕ) → (i < j) ⊎ (j ≤ i)
+before_or_past i j = grind arith
+
+-- rows were added behind, at which no block starts
+pub same_marks : (marks longer : List Mark) → length marks ≤ length longer
+    → ((row : ℕ) → row < length marks → mark_at longer row ≡ mark_at marks row)
+    → ((row : ℕ) → length marks ≤ row → row < length longer → mark_at longer row ≡ Inside)
+    → (row : ℕ) → mark_at longer row ≡ mark_at marks row
+same_marks marks longer more kept added row = elim (before_or_past row (length marks)) [
+  | inl before ↦ kept row before
+  | inr past ↦ elim (before_or_past row (length longer)) [
+    | inl before ↦ added row past before ∙ sym (get_or_past marks row Inside past)
+    | inr beyond ↦ get_or_past longer row Inside beyond ∙ sym (get_or_past marks row Inside past)
+  ]
+]
+
+-- the marks and words of a store to which a block was added behind all others
+pub record IsLonger (marks longer : List Mark) (words new : List ℕ) (class : ℕ) : Type 0 where
+  pub above : 0 < class
+  pub known : class ≤ 6
+  pub rows : length longer ≡ length marks + size_of class / 4
+  pub marks_kept : (row : ℕ) → mark_at longer row ≡ mark_at marks row
+  pub size : length new ≡ length words + size_of class
+  pub words_kept : (i : ℕ) → i < length words → get_or new i 0 ≡ get_or words i 0
+  pub zeros : (i : ℕ) → length words ≤ i → i < length words + size_of class → get_or new i 0 ≡ 0
+
+pub cut_arranged : (marks longer : List Mark) (words new : List ℕ) (class row : ℕ) → row ≡ length marks → IsArranged marks (length words) → IsLonger marks longer words new class → IsArranged (set longer row (Out class)) (length new)
+cut_arranged marks longer words new class row last arranged more = record {
+    rows = omega (arith, more.rows, more.size, whole, arranged.rows, length-set longer row (Out class));
+    classes = λ r. elim (same_or_other r row) [
+      | inl here ↦ omega (arith, ap class_at (there r here), more.known)
+      | inr other ↦ omega (arith, ap class_at (elsewhere r other), arranged.classes r)
+    ];
+    inside = λ r below. elim (same_or_other r row) [
+      | inl here ↦ omega (arith, ap extent (there r here), more.size, arranged.rows, last, here)
+      | inr other ↦ elim (before_or_past r (length marks)) [
+        | inl before ↦ omega (arith, ap extent (elsewhere r other), arranged.inside r before, more.size)
+        | inr past ↦ let nothing : extent (mark_at (set longer row (Out class)) r) ≡ 0 = ap extent (elsewhere r other ∙ get_or_past marks r Inside past) in
+          omega (arith, nothing, below, length-set longer row (Out class), more.rows, more.size, whole, arranged.rows)
+      ]
+    ];
+    apart = λ r later before some. elim (same_or_other later row) [
+      | inl here ↦ let other : r ≢ row = omega arith in omega (arith, ap extent (elsewhere r other), arranged.inside r (omega arith), arranged.rows, last, here)
+      | inr other ↦
+        let starts : 0 < extent (mark_at marks later) = subst (λ mark. 0 < extent mark) (elsewhere later other) some in
+        let earlier : r ≢ row = omega (arith, marked_row marks later starts, last) in
+        omega (arith, ap extent (elsewhere r earlier), arranged.apart r later before starts)
+    ];
+  }
+  where
+    whole : 4 * (size_of class / 4) ≡ size_of class
+    whole = whole_rows class more.above more.known
+    there : (r : ℕ) → r ≡ row → mark_at (set longer row (Out class)) r ≡ Out class
+    there r here = ap (mark_at (set longer row (Out class))) here ∙ mark_there longer row (Out class) (omega (arith, last, more.rows, whole, some_words class))
+    elsewhere : (r : ℕ) → r ≢ row → mark_at (set longer row (Out class)) r ≡ mark_at marks r
+    elsewhere r other = mark_else longer row r (Out class) other ∙ more.marks_kept r
+
+pub cut_is : (marks longer : List Mark) (words new : List ℕ) (class row : ℕ) → row ≡ length marks → IsArranged marks (length words) → IsLonger marks longer words new class
+    → blocks_in (set longer row (Out class)) new ≡ with_block (blocks_in marks words) (row + 1) (Some (replicate (size_of class) 0))
+cut_is marks longer words new class row last arranged more =
+    let before : row + 1 - 1 ≡ row = omega arith in
+    let whole = whole_rows class more.above more.known in
+    let there : mark_at (set longer row (Out class)) (row + 1 - 1) ≡ Out class =
+      ap (mark_at (set longer row (Out class))) before ∙ mark_there longer row (Out class) (omega (arith, last, more.rows, whole, some_words class)) in
+    let first : 4 * (row + 1 - 1) ≡ length words = omega (arith, arranged.rows, last) in
+    one_changed marks (set longer row (Out class)) words new (row + 1) (Some (replicate (size_of class) 0)) arranged (omega arith)
+      (inr (omega (arith, last)))
+      (omega (arith, more.size))
+      (λ r other. mark_else longer row r (Out class) (omega arith) ∙ more.marks_kept r)
+      (λ i below elsewhere. more.words_kept i below)
+      (ap (λ mark. block_from mark new (4 * (row + 1 - 1))) there
+        ∙ ap (λ n. Some (take (size_of class) (drop n new))) first
+        ∙ ap Some (zero_segment new (length words) (size_of class) (omega (arith, more.size)) more.zeros))
+
+pub last_is_none : (marks : List Mark) (words : List ℕ) (row : ℕ) → row ≡ length marks → blocks_in marks words (row + 1) ≡ None
+last_is_none marks words row last = at_place marks words (row + 1) (omega arith)
+    ∙ ap (λ mark. block_from mark words (4 * (row + 1 - 1))) (get_or_past marks (row + 1 - 1) Inside (omega (arith, last)))

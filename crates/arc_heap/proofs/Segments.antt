@@ -1,7 +1,7 @@
 -- Words that lie one after another in a list.
-use Rattle.std.proofs.Common.{◌≡◌, ℕ, ◌+◌, ◌-◌, ◌<◌, ◌≤◌, List, length, get_or, replicate, set, take, drop, sym, ap, ◌∙◌, arith}
+use Rattle.std.proofs.Common.{◌≡◌, ℕ, ◌+◌, ◌-◌, ◌<◌, ◌≤◌, List, ◌++◌, length, get_or, replicate, set, take, drop, sym, ap, ◌∙◌, arith}
 use Rattle.std.proofs.lemmas.List.{get_or-take, get_or-drop, get_or-replicate, length-take-le, length-drop, length-replicate, drop-set-add}
-use Rattle.std.proofs.Math.Seq.{ext_get_or, take-set-lt}
+use Rattle.std.proofs.Math.Seq.{ext_get_or, take-set-lt, take-append_seam}
 
 pub length_segment : (words : List ℕ) (first count : ℕ) → first + count ≤ length words → length (take count (drop first words)) ≡ count
 length_segment words first count within = length-take-le count (drop first words) (omega (arith, length-drop first words))
@@ -27,3 +27,6 @@ zero_segment words first count within zero_there =
     ext_get_or 0 (take count (drop first words)) (replicate count 0) (segment_length ∙ sym (length-replicate count 0)) (λ i below.
       let inside : i < count = omega (arith, segment_length, below) in
       get_segment words first count i inside ∙ zero_there (first + i) (omega arith) (omega arith) ∙ sym (get_or-replicate count i 0 0 inside))
+
+pub take_first : (words rest : List ℕ) (count : ℕ) → count ≡ length words → take count (words ++ rest) ≡ words
+take_first words rest count all = ap (λ n. take n (words ++ rest)) all ∙ take-append_seam words rest
