@@ -85,9 +85,9 @@ one_changed old_marks new_marks old new place block arranged above starts longer
     is_with_block (blocks_in old_marks old) (blocks_in new_marks new) place block (at_place new_marks new place above ∙ there) (elim [
       | zero ↦ λ other. refl
       | suc row ↦ λ other.
-        let mark = mark_at old_marks row in
-        let elsewhere : row ≢ place - 1 = omega arith in
-        ap (λ m. block_from m new (4 * row)) (marks_kept row elsewhere) ∙ kept mark old new (4 * row) (λ some.
+          let mark = mark_at old_marks row in
+          let elsewhere : row ≢ place - 1 = omega arith in
+          ap (λ m. block_from m new (4 * row)) (marks_kept row elsewhere) ∙ kept mark old new (4 * row) (λ some.
           let inside = arranged.inside row (marked_row old_marks row some) in
           same_segment old new (4 * row) (extent mark) inside (omega arith) (λ i low high. words_kept i (omega arith) (side row i elsewhere some low high)))
     ])
@@ -130,13 +130,13 @@ stored marks words place i word arranged above has =
     let first = 4 * (place - 1) in
     let size : extent (mark_at marks (place - 1)) ≡ size_of at.class = ap extent at.marked in
     one_changed marks marks words (set words (first + i) word) place (Some (set (words_of (blocks_in marks words place)) i word)) arranged above
-      (inl (omega (arith, size, some_words at.class)))
-      (omega (arith, length-set words (first + i) word))
-      (λ row other. refl)
-      (λ j within elsewhere. get_or-set_other words (first + i) j word 0 (elim elsewhere [ inl before ↦ omega arith | inr after ↦ omega (arith, size) ]))
-      (ap (λ mark. block_from mark (set words (first + i) word) first) at.marked
-        ∙ ap Some (set_segment words first (size_of at.class) i word below)
-        ∙ ap (λ block. Some (set (words_of block) i word)) (sym at.block))
+    (inl (omega (arith, size, some_words at.class)))
+    (omega (arith, length-set words (first + i) word))
+    (λ row other. refl)
+    (λ j within elsewhere. get_or-set_other words (first + i) j word 0 (elim elsewhere [ inl before ↦ omega arith | inr after ↦ omega (arith, size) ]))
+    (ap (λ mark. block_from mark (set words (first + i) word) first) at.marked
+    ∙ ap Some (set_segment words first (size_of at.class) i word below)
+    ∙ ap (λ block. Some (set (words_of block) i word)) (sym at.block))
 
 mark_there : (marks : List Mark) (row : ℕ) (mark : Mark) → row < length marks → mark_at (set marks row mark) row ≡ mark
 mark_there marks row mark within = get_or-set_same marks row mark Inside within
@@ -148,11 +148,11 @@ mark_else marks row other mark elsewhere = get_or-set_other marks row other mark
 pub remarked : (marks : List Mark) (words row : ℕ) (mark : Mark) → IsArranged marks words → row < length marks → extent mark ≡ extent (mark_at marks row) → class_at mark ≡ class_at (mark_at marks row)
     → IsArranged (set marks row mark) words
 remarked marks words row mark arranged within size class = record {
-    rows = omega (arith, arranged.rows, length-set marks row mark);
-    classes = λ r. omega (arith, kept class_at class r, arranged.classes r);
-    inside = λ r below. omega (arith, kept extent size r, arranged.inside r (omega (arith, length-set marks row mark, below)));
-    apart = λ r later before some. omega (arith, kept extent size r, arranged.apart r later before (omega (arith, kept extent size later, some)));
-  }
+  rows = omega (arith, arranged.rows, length-set marks row mark);
+  classes = λ r. omega (arith, kept class_at class r, arranged.classes r);
+  inside = λ r below. omega (arith, kept extent size r, arranged.inside r (omega (arith, length-set marks row mark, below)));
+  apart = λ r later before some. omega (arith, kept extent size r, arranged.apart r later before (omega (arith, kept extent size later, some)));
+}
   where
     kept : (f : Mark → ℕ) → f mark ≡ f (mark_at marks row) → (r : ℕ) → f (mark_at (set marks row mark) r) ≡ f (mark_at marks r)
     kept f same r = elim (same_or_other r row) [
@@ -167,11 +167,11 @@ given marks words place class link arranged above within out =
     let first = 4 * (place - 1) in
     let size : extent (mark_at marks (place - 1)) ≡ size_of class = ap extent out in
     one_changed marks (set marks (place - 1) (Free class)) words (set words first link) place None arranged above
-      (inl (omega (arith, size, some_words class)))
-      (omega (arith, length-set words first link))
-      (λ row other. mark_else marks (place - 1) row (Free class) other)
-      (λ i below elsewhere. get_or-set_other words first i link 0 (elim elsewhere [ inl before ↦ omega arith | inr after ↦ omega (arith, size, some_words class) ]))
-      (ap (λ mark. block_from mark (set words first link) first) (mark_there marks (place - 1) (Free class) within))
+    (inl (omega (arith, size, some_words class)))
+    (omega (arith, length-set words first link))
+    (λ row other. mark_else marks (place - 1) row (Free class) other)
+    (λ i below elsewhere. get_or-set_other words first i link 0 (elim elsewhere [ inl before ↦ omega arith | inr after ↦ omega (arith, size, some_words class) ]))
+    (ap (λ mark. block_from mark (set words first link) first) (mark_there marks (place - 1) (Free class) within))
 
 -- a free block is not out
 pub free_is_none : (marks : List Mark) (words : List ℕ) (place class : ℕ) → 0 < place → mark_at marks (place - 1) ≡ Free class → blocks_in marks words place ≡ None
@@ -188,11 +188,11 @@ taken_again marks words new place class arranged above within free same_length z
     let size : extent (mark_at marks (place - 1)) ≡ size_of class = ap extent free in
     let ends : first + size_of class ≤ length new = omega (arith, size, same_length, arranged.inside (place - 1) within) in
     one_changed marks (set marks (place - 1) (Out class)) words new place (Some (replicate (size_of class) 0)) arranged above
-      (inl (omega (arith, size, some_words class)))
-      (omega (arith, same_length))
-      (λ row other. mark_else marks (place - 1) row (Out class) other)
-      (λ i below elsewhere. others i (elim elsewhere [ inl before ↦ inl before | inr after ↦ inr (omega (arith, size)) ]))
-      (ap (λ mark. block_from mark new first) (mark_there marks (place - 1) (Out class) within) ∙ ap Some (zero_segment new first (size_of class) ends zeros))
+    (inl (omega (arith, size, some_words class)))
+    (omega (arith, same_length))
+    (λ row other. mark_else marks (place - 1) row (Out class) other)
+    (λ i below elsewhere. others i (elim elsewhere [ inl before ↦ inl before | inr after ↦ inr (omega (arith, size)) ]))
+    (ap (λ mark. block_from mark new first) (mark_there marks (place - 1) (Out class) within) ∙ ap Some (zero_segment new first (size_of class) ends zeros))
 
 -- a block is a number of whole rows
 whole_rows : (class : ℕ) → 0 < class → class ≤ 6 → 4 * (size_of class / 4) ≡ size_of class
@@ -234,32 +234,34 @@ pub record IsLonger (marks longer : List Mark) (words new : List ℕ) (class : �
 
 pub cut_arranged : (marks longer : List Mark) (words new : List ℕ) (class row : ℕ) → row ≡ length marks → IsArranged marks (length words) → IsLonger marks longer words new class → IsArranged (set longer row (Out class)) (length new)
 cut_arranged marks longer words new class row last arranged more = record {
-    rows = omega (arith, more.rows, more.size, whole, arranged.rows, length-set longer row (Out class));
-    classes = λ r. elim (same_or_other r row) [
-      | inl here ↦ omega (arith, ap class_at (there r here), more.known)
-      | inr other ↦ omega (arith, ap class_at (elsewhere r other), arranged.classes r)
-    ];
-    inside = λ r below. elim (same_or_other r row) [
-      | inl here ↦ omega (arith, ap extent (there r here), more.size, arranged.rows, last, here)
-      | inr other ↦ elim (before_or_past r (length marks)) [
-        | inl before ↦ omega (arith, ap extent (elsewhere r other), arranged.inside r before, more.size)
-        | inr past ↦ let nothing : extent (mark_at (set longer row (Out class)) r) ≡ 0 = ap extent (elsewhere r other ∙ get_or_past marks r Inside past) in
+  rows = omega (arith, more.rows, more.size, whole, arranged.rows, length-set longer row (Out class));
+  classes = λ r. elim (same_or_other r row) [
+    | inl here ↦ omega (arith, ap class_at (there r here), more.known)
+    | inr other ↦ omega (arith, ap class_at (elsewhere r other), arranged.classes r)
+  ];
+  inside = λ r below. elim (same_or_other r row) [
+    | inl here ↦ omega (arith, ap extent (there r here), more.size, arranged.rows, last, here)
+    | inr other ↦ elim (before_or_past r (length marks)) [
+      | inl before ↦ omega (arith, ap extent (elsewhere r other), arranged.inside r before, more.size)
+      | inr past ↦ let nothing : extent (mark_at (set longer row (Out class)) r) ≡ 0 = ap extent (elsewhere r other ∙ get_or_past marks r Inside past) in
           omega (arith, nothing, below, length-set longer row (Out class), more.rows, more.size, whole, arranged.rows)
-      ]
-    ];
-    apart = λ r later before some. elim (same_or_other later row) [
-      | inl here ↦ let other : r ≢ row = omega arith in omega (arith, ap extent (elsewhere r other), arranged.inside r (omega arith), arranged.rows, last, here)
-      | inr other ↦
+    ]
+  ];
+  apart = λ r later before some. elim (same_or_other later row) [
+    | inl here ↦ let other : r ≢ row = omega arith in omega (arith, ap extent (elsewhere r other), arranged.inside r (omega arith), arranged.rows, last, here)
+    | inr other ↦
         let starts : 0 < extent (mark_at marks later) = subst (λ mark. 0 < extent mark) (elsewhere later other) some in
         let earlier : r ≢ row = omega (arith, marked_row marks later starts, last) in
         omega (arith, ap extent (elsewhere r earlier), arranged.apart r later before starts)
-    ];
-  }
+  ];
+}
   where
     whole : 4 * (size_of class / 4) ≡ size_of class
     whole = whole_rows class more.above more.known
+
     there : (r : ℕ) → r ≡ row → mark_at (set longer row (Out class)) r ≡ Out class
     there r here = ap (mark_at (set longer row (Out class))) here ∙ mark_there longer row (Out class) (omega (arith, last, more.rows, whole, some_words class))
+
     elsewhere : (r : ℕ) → r ≢ row → mark_at (set longer row (Out class)) r ≡ mark_at marks r
     elsewhere r other = mark_else longer row r (Out class) other ∙ more.marks_kept r
 
@@ -269,16 +271,16 @@ cut_is marks longer words new class row last arranged more =
     let before : row + 1 - 1 ≡ row = omega arith in
     let whole = whole_rows class more.above more.known in
     let there : mark_at (set longer row (Out class)) (row + 1 - 1) ≡ Out class =
-      ap (mark_at (set longer row (Out class))) before ∙ mark_there longer row (Out class) (omega (arith, last, more.rows, whole, some_words class)) in
+    ap (mark_at (set longer row (Out class))) before ∙ mark_there longer row (Out class) (omega (arith, last, more.rows, whole, some_words class)) in
     let first : 4 * (row + 1 - 1) ≡ length words = omega (arith, arranged.rows, last) in
     one_changed marks (set longer row (Out class)) words new (row + 1) (Some (replicate (size_of class) 0)) arranged (omega arith)
-      (inr (omega (arith, last)))
-      (omega (arith, more.size))
-      (λ r other. mark_else longer row r (Out class) (omega arith) ∙ more.marks_kept r)
-      (λ i below elsewhere. more.words_kept i below)
-      (ap (λ mark. block_from mark new (4 * (row + 1 - 1))) there
-        ∙ ap (λ n. Some (take (size_of class) (drop n new))) first
-        ∙ ap Some (zero_segment new (length words) (size_of class) (omega (arith, more.size)) more.zeros))
+    (inr (omega (arith, last)))
+    (omega (arith, more.size))
+    (λ r other. mark_else longer row r (Out class) (omega arith) ∙ more.marks_kept r)
+    (λ i below elsewhere. more.words_kept i below)
+    (ap (λ mark. block_from mark new (4 * (row + 1 - 1))) there
+    ∙ ap (λ n. Some (take (size_of class) (drop n new))) first
+    ∙ ap Some (zero_segment new (length words) (size_of class) (omega (arith, more.size)) more.zeros))
 
 pub last_is_none : (marks : List Mark) (words : List ℕ) (row : ℕ) → row ≡ length marks → blocks_in marks words (row + 1) ≡ None
 last_is_none marks words row last = at_place marks words (row + 1) (omega arith)

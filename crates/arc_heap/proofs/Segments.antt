@@ -18,15 +18,15 @@ same_segment old new first count within_old within_new same =
     let old_length = length_segment old first count within_old in
     let new_length = length_segment new first count within_new in
     ext_get_or 0 (take count (drop first new)) (take count (drop first old)) (new_length ∙ sym old_length) (λ i below.
-      let within : i < count = omega (arith, new_length, below) in
-      get_segment new first count i within ∙ same (first + i) (omega arith) (omega arith) ∙ sym (get_segment old first count i within))
+    let within : i < count = omega (arith, new_length, below) in
+    get_segment new first count i within ∙ same (first + i) (omega arith) (omega arith) ∙ sym (get_segment old first count i within))
 
 pub zero_segment : (words : List ℕ) (first count : ℕ) → first + count ≤ length words → ((i : ℕ) → first ≤ i → i < first + count → get_or words i 0 ≡ 0) → take count (drop first words) ≡ replicate count 0
 zero_segment words first count within zero_there =
     let segment_length = length_segment words first count within in
     ext_get_or 0 (take count (drop first words)) (replicate count 0) (segment_length ∙ sym (length-replicate count 0)) (λ i below.
-      let inside : i < count = omega (arith, segment_length, below) in
-      get_segment words first count i inside ∙ zero_there (first + i) (omega arith) (omega arith) ∙ sym (get_or-replicate count i 0 0 inside))
+    let inside : i < count = omega (arith, segment_length, below) in
+    get_segment words first count i inside ∙ zero_there (first + i) (omega arith) (omega arith) ∙ sym (get_or-replicate count i 0 0 inside))
 
 pub take_first : (words rest : List ℕ) (count : ℕ) → count ≡ length words → take count (words ++ rest) ≡ words
 take_first words rest count all = ap (λ n. take n (words ++ rest)) all ∙ take-append_seam words rest

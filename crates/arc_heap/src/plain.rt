@@ -18,9 +18,9 @@ const ROW: usize = 4;
 /// later request of its class, and the vector grows only where there is none.
 ///
 /// The vector is seen as rows of four words, and the marks say at which rows blocks start. A block's
-/// place is the number of its first row, counted from 1. A free block's first word is the place of
-/// another free block of its class, or 0, and `free` has for each class the place where this list
-/// begins.
+/// place is the number of its first row, counted from 1, so that a word is read with no look at the
+/// marks. A free block's first word is the place of another free block of its class, or 0, and
+/// `free` has for each class the place where this list begins.
 #[derive(Drop)]
 pub struct PlainStore {
     marks: Vec<Mark>,

@@ -15,8 +15,8 @@ invariant_of-self-2 c =
       known = c.requires.1;
       rows = sym c.resize-2.new.self.ok.0 ∙ c.in-Ok-resize.ensures.len ∙ ap (λ n. n + c.words_in-size.result / 4) row ∙ ap (λ n. length marks + n / 4) size;
       marks_kept = same_marks marks longer (omega (arith, c.resize-2.new.self.ok, c.in-Ok-resize.ensures.len, row))
-        (λ r below. c.in-Ok-resize.ensures.by_index.0 r Inside (omega (arith, below, row)) (omega (arith, below, c.self.inside.marks.ok)))
-        (λ r past below. c.in-Ok-resize.ensures.by_index.1 r Inside refl (omega (arith, past, c.self.inside.marks.ok)) (omega (arith, below, c.resize-2.new.self.ok, c.in-Ok-resize.ensures.len)));
+          (λ r below. c.in-Ok-resize.ensures.by_index.0 r Inside (omega (arith, below, row)) (omega (arith, below, c.self.inside.marks.ok)))
+          (λ r past below. c.in-Ok-resize.ensures.by_index.1 r Inside refl (omega (arith, past, c.self.inside.marks.ok)) (omega (arith, below, c.resize-2.new.self.ok, c.in-Ok-resize.ensures.len)));
       size = omega (arith, c.resize.new.self.ok, c.in-Ok.ensures.len, first, size);
       words_kept = λ i below. c.in-Ok.ensures.by_index.0 i 0 (omega (arith, below, first)) (omega (arith, below, c.self.inside.words.ok));
       zeros = λ i past below. c.in-Ok.ensures.by_index.1 i 0 refl (omega (arith, past, c.self.inside.words.ok)) (omega (arith, below, first, size));
@@ -41,8 +41,8 @@ returns-clause-taken c =
       known = c.requires.1;
       rows = sym c.resize-2.new.self.ok.0 ∙ c.in-Ok-resize.ensures.len ∙ ap (λ n. n + c.words_in-size.result / 4) row ∙ ap (λ n. length marks + n / 4) size;
       marks_kept = same_marks marks longer (omega (arith, c.resize-2.new.self.ok, c.in-Ok-resize.ensures.len, row))
-        (λ r below. c.in-Ok-resize.ensures.by_index.0 r Inside (omega (arith, below, row)) (omega (arith, below, c.self.inside.marks.ok)))
-        (λ r past below. c.in-Ok-resize.ensures.by_index.1 r Inside refl (omega (arith, past, c.self.inside.marks.ok)) (omega (arith, below, c.resize-2.new.self.ok, c.in-Ok-resize.ensures.len)));
+          (λ r below. c.in-Ok-resize.ensures.by_index.0 r Inside (omega (arith, below, row)) (omega (arith, below, c.self.inside.marks.ok)))
+          (λ r past below. c.in-Ok-resize.ensures.by_index.1 r Inside refl (omega (arith, past, c.self.inside.marks.ok)) (omega (arith, below, c.resize-2.new.self.ok, c.in-Ok-resize.ensures.len)));
       size = omega (arith, c.resize.new.self.ok, c.in-Ok.ensures.len, first, size);
       words_kept = λ i below. c.in-Ok.ensures.by_index.0 i 0 (omega (arith, below, first)) (omega (arith, below, c.self.inside.words.ok));
       zeros = λ i past below. c.in-Ok.ensures.by_index.1 i 0 refl (omega (arith, past, c.self.inside.words.ok)) (omega (arith, below, first, size));
