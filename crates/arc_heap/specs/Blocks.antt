@@ -1,5 +1,5 @@
 -- The blocks of a store that are out: taken, and not yet given back.
-use Rattle.std.specs.Prelude.{◌≡◌, ℕ, ◌<◌, List, [], length, Option, Some, None, ◌==◌, if◌then◌else◌, IsSome}
+use Rattle.std.specs.Prelude.{ℕ, ◌<◌, List, [], length, Option, Some, None, ◌==◌, if◌then◌else◌, IsSome}
 
 -- at each place the words of the block that is out there, and None where none is
 abbrev pub Blocks : Type 0

@@ -1,7 +1,6 @@
-use Rattle.std.proofs.Common.{◌≡◌, ℕ, ◌<◌, ◌≤◌, ◌+◌, ◌-◌, ◌*◌, ◌⊎◌, length, get_or, take, drop, sym, subst, ap, ◌∙◌, arith}
+use Rattle.std.proofs.Common.{◌≡◌, ℕ, ◌<◌, ◌≤◌, ◌+◌, ◌-◌, ◌*◌, ◌⊎◌, length, get_or, drop, sym, subst, ap, ◌∙◌, arith}
 use Rattle.arc_heap.specs.declared.mark.Mark.TheVariants.{Out, Free}
-use Rattle.arc_heap.specs.Sizes.{size_of}
-use Rattle.arc_heap.specs.Plain.{mark_at, extent, class_at, blocks_in}
+use Rattle.arc_heap.specs.Plain.{mark_at, extent, class_at}
 use Rattle.arc_heap.proofs.Segments.{take_first}
 use Rattle.arc_heap.proofs.Rows.{remarked, free_is_none, taken_again}
 use Rattle.arc_heap.proofs.plain.PlainStore.reuse.Goals as goal

@@ -2,7 +2,6 @@ use Rattle.std.proofs.Common.{◌≡◌, ◌-◌, ◌*◌, length, get_or, sym, 
 use Rattle.std.proofs.lemmas.List.{get_or_read_under, length-set}
 use Rattle.arc_heap.specs.declared.mark.Mark.TheVariants.{Inside, Out, Free}
 use Rattle.arc_heap.specs.Blocks.{IsOut}
-use Rattle.arc_heap.specs.Sizes.{size_of}
 use Rattle.arc_heap.specs.Plain.{mark_at, extent, class_at, blocks_in}
 use Rattle.arc_heap.proofs.Rows.{stands, some_words, remarked, given}
 use Rattle.arc_heap.proofs.plain.PlainStoreStore.give.Goals as goal

@@ -1,8 +1,8 @@
-use Rattle.std.proofs.Common.{sym, subst, ap, ◌∙◌, arith}
+use Rattle.std.proofs.Common.{sym, subst, ◌∙◌, arith}
 use Rattle.std.proofs.lemmas.Grind.{get_or_default_zero}
 use Rattle.arc_heap.specs.Blocks.{HasWord}
 use Rattle.arc_heap.specs.Plain.{blocks_in}
-use Rattle.arc_heap.proofs.Rows.{word_stands, stored}
+use Rattle.arc_heap.proofs.Rows.{word_stands}
 use Rattle.arc_heap.proofs.plain.PlainStoreStore.load.Goals as goal
 
 pub overflow_mul-block : goal.overflow_mul-block

@@ -1,5 +1,4 @@
-use Rattle.std.proofs.Common.{sym, subst, ap, ◌∙◌, arith}
-use Rattle.std.proofs.lemmas.Grind.{get_or_default_zero}
+use Rattle.std.proofs.Common.{sym, subst, arith}
 use Rattle.arc_heap.specs.Blocks.{HasWord}
 use Rattle.arc_heap.specs.Plain.{blocks_in}
 use Rattle.arc_heap.proofs.Rows.{word_stands, stored}
