@@ -6,3 +6,4 @@ pub mod Shown
 pub mod Chained
 pub mod Calling
 pub mod Messaging
+pub mod Sliding

@@ -86,8 +86,13 @@ impl Machine {
         }
         let mut turns = 0;
         while turns < steps && self.engine.is_going() && self.engine.steps() < u64::MAX {
-            let _ = self.engine.advance(reader, writer);
-            turns += 1;
+            let most = (steps - turns).min(u64::MAX - self.engine.steps());
+            let made = self.engine.slide(most);
+            turns += made;
+            if made < most {
+                let _ = self.engine.advance(reader, writer);
+                turns += 1;
+            }
         }
         said_of(self.engine.answer())
     }

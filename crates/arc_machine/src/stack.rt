@@ -5,6 +5,7 @@ ghost use Rattle.arc_machine.specs.Words.{empty, pushed, with_number};
 use arc_spec::event::NoMemory;
 use std::alloc::Global;
 use std::marker::Model;
+use std::mem;
 
 /// Numbers, of which the last one is on top. It never takes more memory than it was made with.
 #[derive(Drop)]
@@ -29,6 +30,17 @@ impl Stack {
         Ok(Stack {
             numbers: Vec::with_capacity(alloc, room)?,
         })
+    }
+
+    /// Hands the stack out, and leaves one without room.
+    #[inline(always)]
+    pub fn lend(&mut self) -> Stack
+        ensures { result ≡ self.old }
+    {
+        let alloc = *self.numbers.allocator();
+        Stack {
+            numbers: mem::replace(&mut self.numbers, Vec::new(alloc)),
+        }
     }
 
     /// Puts a number on top.
