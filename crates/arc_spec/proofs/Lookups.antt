@@ -1,5 +1,5 @@
 -- Lookups of methods, a class at a time.
-use Rattle.std.proofs.Common.{◌≡◌, ℕ, zero, suc, ◌+◌, ◌-◌, ◌<◌, List, [], ◌∷◌, length, Option, Some, None, slice_get, option_map, is_some, Bool, true, false, ◌||◌, nat_eq, refl, sym, true≢false, ap, ◌∙◌, arith}
+use Rattle.std.proofs.Common.{◌≡◌, ℕ, zero, suc, ◌+◌, ◌-◌, ◌<◌, List, Option, Some, None, slice_get, option_map, is_some, Bool, true, false, ◌||◌, nat_eq, refl, sym, true≢false, ap, ◌∙◌, arith}
 use Rattle.std.proofs.lemmas.Option.{slice_get-map}
 use Rattle.arc_ast.specs.declared.tree.Sign.{Sign}
 use Rattle.arc_spec.specs.declared.class.Class as declared

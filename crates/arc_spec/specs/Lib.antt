@@ -5,5 +5,6 @@ pub mod Resolved
 pub mod World
 pub mod Meaning
 pub mod Stepping
+pub mod Holding
 pub mod Correct
 pub mod Rows

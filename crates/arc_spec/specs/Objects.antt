@@ -1,5 +1,5 @@
 -- Objects, and the places that hold them.
-use Rattle.std.specs.Prelude.{ℕ, zero, suc, ℤ, pos, List, [], ◌∷◌, length, Bool, true, false, nat_eq, Option, Some, None, slice_get, slice_set, if◌then◌else◌}
+use Rattle.std.specs.Prelude.{ℕ, zero, suc, ℤ, pos, List, [], ◌∷◌, Bool, true, false, nat_eq, Option, Some, None, slice_get, slice_set, if◌then◌else◌}
 
 -- how far an object is on its way (ARC, "Object liveness"): its dealloc hasn't begun, has begun, or is done
 pub data Phase : Type 0 where
