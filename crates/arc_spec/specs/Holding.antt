@@ -90,3 +90,11 @@ on_field classes class (suc k) h go = on_object (object_at h.objects (suc k)) (�
 
 abbrev pub with_field : Held → ℕ → Object → (index : ℕ) → ℤ → Held
 with_field h r o index v = with_things h (with_object h.objects r (with_fields o (slice_set o.fields index v)))
+
+-- an object is gone
+abbrev pub gone_in : List Object → ℕ → List Object
+gone_in objects o = changed (object_at objects o)
+  where
+    changed : Option Object → List Object
+    changed None = objects
+    changed (Some ob) = with_object objects o (in_phase Gone ob)
