@@ -1,5 +1,5 @@
 -- Objects whose holders are counted: what actions and instructions do to them, and to the places that hold them.
-use Rattle.std.specs.Prelude.{ℕ, zero, suc, ◌-◌, ℤ, List, [], ◌∷◌, ◌++◌, length, Bool, true, false, ◌&&◌, nat_eq, Option, Some, None, slice_get, slice_set, if◌then◌else◌}
+use Rattle.std.specs.Prelude.{◌≡◌, ◌<◌, ℕ, zero, suc, ◌-◌, ℤ, List, [], ◌∷◌, ◌++◌, length, Bool, true, false, ◌&&◌, nat_eq, Option, Some, None, slice_get, slice_set, if◌then◌else◌}
 use Rattle.arc_spec.specs.declared.event.Fault.TheVariants.{NilField, FieldClass}
 use Rattle.arc_spec.specs.Classes.{Class, descends}
 use Rattle.arc_spec.specs.Objects.{Object, Phase, Live, Dying, Gone, object_at, with_object, in_phase, with_fields, is_live, new_object}
@@ -28,6 +28,16 @@ with_self h self = record { places = h.places; self = self; objects = h.objects;
 
 abbrev pub with_things : Held → List Object → Held
 with_things h objects = record { places = h.places; self = h.self; objects = objects; counts = h.counts }
+
+-- how many places name an object
+abbrev pub holders : ℕ → List ℕ → ℕ
+holders o [] = 0
+holders o (p ∷ others) = if nat_eq o p then suc (holders o others) else holders o others
+
+-- Each count is the number of places that name the object, and an object whose dealloc hasn't begun has a place that names it.
+pub record Counted (h : Held) : Type 0 where
+  pub counted : (k : ℕ) → h.counts (suc k) ≡ holders (suc k) h.places
+  pub held : (k : ℕ) (o : Object) → object_at h.objects (suc k) ≡ Some o → o.phase ≡ Live → 0 < h.counts (suc k)
 
 -- one more place names an object, or one less
 abbrev pub raised : ℕ → Held → Held
