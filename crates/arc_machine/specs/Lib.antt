@@ -1,6 +1,6 @@
 pub mod Words
+pub mod Cells
+pub mod Standing
 pub mod Views
 pub mod Steps
 pub mod Runs
-pub mod Told
-pub mod Sample

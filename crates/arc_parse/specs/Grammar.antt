@@ -1,5 +1,5 @@
 -- The grammar: which tokens spell which tree. Each line of a definition is one line of the grammar.
-use Rattle.std.specs.Prelude.{◌≡◌, ◌≤◌, ◌+◌, ℕ, zero, suc, List, [], ◌∷◌, ◌++◌, Bool, true, false, Option, Some, None}
+use Rattle.std.specs.Prelude.{◌≡◌, ◌≤◌, ◌+◌, ◌&&◌, ℕ, zero, suc, List, [], ◌∷◌, ◌++◌, Bool, true, false, Option, Some, None}
 use Rattle.arc_lex.specs.declared.token.Mark.{Mark}
 use Rattle.arc_lex.specs.declared.token.Mark.TheVariants as m
 use Rattle.arc_lex.specs.declared.token.Word.TheVariants as w
@@ -12,12 +12,13 @@ use Rattle.arc_ast.specs.declared.tree.Kind.TheVariants as kinds
 use Rattle.arc_ast.specs.declared.tree.Sign as trees
 use Rattle.arc_ast.specs.declared.tree.Sign.TheVariants as signs
 use Rattle.arc_ast.specs.declared.tree.Visibility.{Visibility}
-use Rattle.arc_ast.specs.declared.tree.Visibility.TheVariants as v
+use Rattle.arc_ast.specs.declared.tree.Visibility.TheVariants as seen
 use Rattle.arc_ast.specs.declared.tree.BinaryOperator.{BinaryOperator}
 use Rattle.arc_ast.specs.declared.tree.BinaryOperator.TheVariants.{Add, Subtract, Multiply, Divide, NotEqual}
 use Rattle.arc_ast.specs.Tree.{TypeTree, ExprTree, ExprTrees, VariableTree, StmtTree, StmtTrees, ParameterTree, ParametersTree, FunctionTree, HeadTree, MethodTree, FieldTree, InterfaceTree, ImplementationTree, UnitTree, Int, Id, Object, Integer, Text, Paren, Call, Nil, Itself, Name, Negate, Cast, Binary, Arrow, Assign, Send, SendSuper, no_exprs, and_expr, Block, Empty, Simple, Return, Variables, If, IfElse, While, no_stmts, and_stmt, Ints, CountAndTexts, begins}
 use Rattle.arc_parse.specs.Language.{Language, Nothing, Nowhere, ◌⨾◌, ◌∣◌, One, The, TheWord, TheAt, SomeName}
 use Rattle.arc_parse.specs.Limits.{Limits, Nested, Short}
+use Rattle.arc_parse.specs.Reader.{is_mark, is_name}
 
 -- ---- expressions (C99, section 6.5)
 
@@ -267,22 +268,22 @@ SpellsMethods limits (method ∷ others) = SpellsMethod limits method ⨾ Spells
 
 -- what stands among the fields of a class (OPL, "Instance Variables"): a word on those behind it, or some names of fields, each with its place
 pub data FieldGroup : Type 0 where
-  From : Visibility → FieldGroup
-  Ints : List (ℕ × List ℕ) → FieldGroup
+  OfWord : Visibility → FieldGroup
+  OfInts : List (ℕ × List ℕ) → FieldGroup
 
 abbrev pub word_of : Visibility → AtWord
-word_of v.Private = words.Private
-word_of v.Protected = words.Protected
-word_of v.Public = words.Public
+word_of seen.Private = words.Private
+word_of seen.Protected = words.Protected
+word_of seen.Public = words.Public
 
 abbrev pub SpellsMoreNames : List (ℕ × List ℕ) → Language
 SpellsMoreNames [] = Nothing
 SpellsMoreNames (n ∷ others) = The m.Comma ⨾ One (tokens.Name n.1) n.0 ⨾ SpellsMoreNames others
 
 abbrev pub SpellsGroup : FieldGroup → Language
-SpellsGroup (From v) = TheAt (word_of v)
-SpellsGroup (Ints []) = Nowhere
-SpellsGroup (Ints (n ∷ others)) = TheWord w.Int ⨾ One (tokens.Name n.1) n.0 ⨾ SpellsMoreNames others ⨾ The m.Semicolon
+SpellsGroup (OfWord v) = TheAt (word_of v)
+SpellsGroup (OfInts []) = Nowhere
+SpellsGroup (OfInts (n ∷ others)) = TheWord w.Int ⨾ One (tokens.Name n.1) n.0 ⨾ SpellsMoreNames others ⨾ The m.Semicolon
 
 abbrev pub SpellsGroups : List FieldGroup → Language
 SpellsGroups [] = Nothing
@@ -296,8 +297,8 @@ named_fields v (n ∷ names) others = record { at = n.0; name = n.1; visibility 
 -- the fields of these groups, of which those before a word are visible so
 abbrev pub fields_of : Visibility → List FieldGroup → List FieldTree
 fields_of v [] = []
-fields_of v (From other ∷ groups) = fields_of other groups
-fields_of v (Ints names ∷ groups) = named_fields v names (fields_of v groups)
+fields_of v (OfWord other ∷ groups) = fields_of other groups
+fields_of v (OfInts names ∷ groups) = named_fields v names (fields_of v groups)
 
 -- no fields, or braces with them; those before any word are visible so
 abbrev pub SpellsFields : Visibility → List FieldTree → Language
@@ -307,7 +308,7 @@ SpellsFields v fields = (λ ts. (fields ≡ []) × Nothing ts) ∣ (λ ts. (grou
 -- `@interface`, the class's name, its superclass's, its fields, which are protected where no word says otherwise, and its methods
 abbrev pub SpellsInterface : InterfaceTree → Language
 SpellsInterface i = TheAt words.Interface ⨾ One (tokens.Name i.name) i.at ⨾ The m.Colon ⨾ One (tokens.Name i.superclass) i.superclass_at
-    ⨾ SpellsFields v.Protected i.fields ⨾ SpellsHeads i.methods ⨾ TheAt words.End
+    ⨾ SpellsFields seen.Protected i.fields ⨾ SpellsHeads i.methods ⨾ TheAt words.End
 
 -- `@implementation` and the class's name
 abbrev pub SpellsTitle : ℕ → List ℕ → Language
@@ -315,7 +316,7 @@ SpellsTitle at called = TheAt words.Implementation ⨾ One (tokens.Name called) 
 
 -- the title, the class's further fields, which are private where no word says otherwise, and its methods
 abbrev pub SpellsImplementation : Limits → ImplementationTree → Language
-SpellsImplementation limits i = SpellsTitle i.at i.name ⨾ SpellsFields v.Private i.fields ⨾ SpellsMethods limits i.methods ⨾ TheAt words.End
+SpellsImplementation limits i = SpellsTitle i.at i.name ⨾ SpellsFields seen.Private i.fields ⨾ SpellsMethods limits i.methods ⨾ TheAt words.End
 
 -- so many names, each behind a comma
 abbrev pub MoreNames : ℕ → Language
