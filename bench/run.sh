@@ -84,7 +84,7 @@ for name in calls fib; do
 done
 
 # a source of about so many bytes: functions that call the one before them
-source_of() {
+functions_of() {
   awk -v most="$1" 'BEGIN {
     text = "int f0(int a) { return a; }\n"
     size = length(text); printf "%s", text
@@ -98,9 +98,26 @@ source_of() {
   }'
 }
 
-for size in 1024 32768 1048576; do
-  source_of "$size" >"$work/source.m"
-  bytes=$(wc -c <"$work/source.m")
-  took=$(least "$arcc" check "$work/source.m")
-  awk -v t="$took" -v n="$bytes" 'BEGIN { printf "check: %d bytes in %s s, %.0f ns a byte\n", n, t, t * 1e9 / n }'
+# the same of classes, each of which comes from the class of half its number and sends messages to itself
+classes_of() {
+  awk -v most="$1" 'BEGIN {
+    size = 0
+    for (n = 0; ; n++) {
+      above = n == 0 ? "NSObject" : "C" int((n - 1) / 2)
+      text = "@interface C" n " : " above "\n+ (int)m" n ":(int)a;\n+ (void)p;\n@end\n"
+      text = text "@implementation C" n "\n+ (int)m" n ":(int)a { return a + " n "; }\n+ (void)p { printf(\"%d\", [self m" n ":1]); }\n@end\n"
+      if (n > 0 && size + length(text) + 40 > most) break
+      size += length(text); printf "%s", text
+    }
+    printf "int main(void) { [C0 p]; }\n"
+  }'
+}
+
+for kind in functions classes; do
+  for size in 1024 32768 1048576; do
+    "${kind}_of" "$size" >"$work/source.m"
+    bytes=$(wc -c <"$work/source.m")
+    took=$(least "$arcc" check "$work/source.m")
+    awk -v kind="$kind" -v t="$took" -v n="$bytes" 'BEGIN { printf "check of %s: %d bytes in %s s, %.0f ns a byte\n", kind, n, t, t * 1e9 / n }'
+  done
 done

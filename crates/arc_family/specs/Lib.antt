@@ -1,2 +1,4 @@
 pub mod Rules
 pub mod Fault
+pub mod Families
+pub mod Methods

@@ -1,8 +1,11 @@
-//! Checks the rules of ownership.
+//! Checks the rules of ownership, and tells the families of methods.
 #![tactic(auto)]
 
+pub mod family;
 pub mod fault;
+pub mod law;
 pub mod owned;
+pub mod signature;
 #[cfg(test)]
 mod tests;
 mod walk;

@@ -1,6 +1,8 @@
-//! Sources by hand, and which rules of ownership they break.
+//! Sources by hand, and which rules of ownership they break; and methods, with their families.
+use crate::family::family;
 use crate::fault::OwnFault;
 use crate::owned::own;
+use crate::signature::{Family, Signature};
 use arc_ast::tree::{
     BinaryOperator, Expr, Function, Implementation, Interface, Kind, Method, MethodHead,
     Parameters, Receiver, Stmt, TranslationUnit, Variable,
@@ -188,4 +190,61 @@ fn tells(rt: HostRuntime) {
         (fault.number(), fault.name(), fault.at()),
         (69, "Memory", 0)
     );
+}
+
+/// The family of an instance method that returns an object.
+fn of_selector(selector: &str) -> Family {
+    let signature = Signature {
+        instance: true,
+        result: Kind::Object,
+    };
+    family(selector, &signature)
+}
+
+#[test]
+fn finds_families(rt: HostRuntime) {
+    assert_eq!(rt; of_selector("allocWithZone:"), Family::Alloc);
+    assert_eq!(rt; of_selector("_copyMe"), Family::Copy);
+    assert_eq!(rt; of_selector("__copy2"), Family::Copy);
+    assert_eq!(rt; of_selector("initWith:"), Family::Init);
+    assert_eq!(rt; of_selector("mutableCopy"), Family::MutableCopy);
+    assert_eq!(rt; of_selector("newThing"), Family::New);
+    assert_eq!(rt; of_selector("new_x"), Family::New);
+    assert_eq!(rt; of_selector("newÉtat"), Family::New);
+}
+
+#[test]
+fn finds_no_family(rt: HostRuntime) {
+    for selector in [
+        "newest",
+        "copyright",
+        "allocate",
+        "initialize",
+        "Init",
+        "go",
+        "set:copy:",
+        ":init",
+        "",
+        "__",
+    ] {
+        assert_eq!(rt; of_selector(selector), Family::None);
+    }
+}
+
+#[test]
+fn heeds_signatures(rt: HostRuntime) {
+    let class_method = Signature {
+        instance: false,
+        result: Kind::Object,
+    };
+    assert_eq!(rt; family("alloc", &class_method), Family::Alloc);
+    assert_eq!(rt; family("initWith:", &class_method), Family::None);
+    for result in [Kind::Void, Kind::Bool, Kind::Int, Kind::Long] {
+        let signature = Signature {
+            instance: true,
+            result,
+        };
+        assert_eq!(rt; family("newCount", &signature), Family::None);
+        assert_eq!(rt; family("init", &signature), Family::None);
+    }
 }

@@ -1,0 +1,32 @@
+-- Words that lie one after another in a list.
+use Rattle.std.proofs.Common.{◌≡◌, ℕ, ◌+◌, ◌<◌, ◌≤◌, List, ◌++◌, length, get_or, replicate, set, take, drop, sym, ap, ◌∙◌, arith}
+use Rattle.std.proofs.lemmas.List.{get_or-take, get_or-drop, get_or-replicate, length-take-le, length-drop, length-replicate, drop-set-add}
+use Rattle.std.proofs.Math.Seq.{ext_get_or, take-set-lt, take-append_seam}
+
+pub length_segment : (words : List ℕ) (first count : ℕ) → first + count ≤ length words → length (take count (drop first words)) ≡ count
+length_segment words first count within = length-take-le count (drop first words) (omega (arith, length-drop first words))
+
+pub get_segment : (words : List ℕ) (first count i : ℕ) → i < count → get_or (take count (drop first words)) i 0 ≡ get_or words (first + i) 0
+get_segment words first count i below = get_or-take count (drop first words) i 0 below ∙ get_or-drop first words i 0
+
+pub set_segment : (words : List ℕ) (first count i word : ℕ) → i < count → take count (drop first (set words (first + i) word)) ≡ set (take count (drop first words)) i word
+set_segment words first count i word below = ap (take count) (drop-set-add first words i word) ∙ take-set-lt count (drop first words) i word below
+
+pub same_segment : (old new : List ℕ) (first count : ℕ) → first + count ≤ length old → first + count ≤ length new → ((i : ℕ) → first ≤ i → i < first + count → get_or new i 0 ≡ get_or old i 0)
+    → take count (drop first new) ≡ take count (drop first old)
+same_segment old new first count within_old within_new same =
+    let old_length = length_segment old first count within_old in
+    let new_length = length_segment new first count within_new in
+    ext_get_or 0 (take count (drop first new)) (take count (drop first old)) (new_length ∙ sym old_length) (λ i below.
+    let within : i < count = omega (arith, new_length, below) in
+    get_segment new first count i within ∙ same (first + i) (omega arith) (omega arith) ∙ sym (get_segment old first count i within))
+
+pub zero_segment : (words : List ℕ) (first count : ℕ) → first + count ≤ length words → ((i : ℕ) → first ≤ i → i < first + count → get_or words i 0 ≡ 0) → take count (drop first words) ≡ replicate count 0
+zero_segment words first count within zero_there =
+    let segment_length = length_segment words first count within in
+    ext_get_or 0 (take count (drop first words)) (replicate count 0) (segment_length ∙ sym (length-replicate count 0)) (λ i below.
+    let inside : i < count = omega (arith, segment_length, below) in
+    get_segment words first count i inside ∙ zero_there (first + i) (omega arith) (omega arith) ∙ sym (get_or-replicate count i 0 0 inside))
+
+pub take_first : (words rest : List ℕ) (count : ℕ) → count ≡ length words → take count (words ++ rest) ≡ words
+take_first words rest count all = ap (λ n. take n (words ++ rest)) all ∙ take-append_seam words rest

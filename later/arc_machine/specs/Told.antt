@@ -1,0 +1,14 @@
+-- The numbers and the names of faults, which are this project's own choice.
+use Rattle.std.specs.Prelude.{ℕ, List, codes}
+use Rattle.arc_spec.specs.declared.event.Fault.{Fault}
+use Rattle.arc_spec.specs.declared.event.Fault.TheVariants.{Arithmetic, Unrecognized, Depth}
+
+abbrev pub number_of : Fault → ℕ
+number_of Arithmetic = 81
+number_of Unrecognized = 82
+number_of Depth = 85
+
+abbrev pub name_of : Fault → List ℕ
+name_of Arithmetic = codes "Arithmetic"
+name_of Unrecognized = codes "Unrecognized"
+name_of Depth = codes "Depth"

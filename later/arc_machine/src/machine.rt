@@ -1,0 +1,110 @@
+//! A machine, which runs code.
+ghost use Rattle.std.specs.Prelude.{◌≡◌, ◌≢◌, ◌+◌, ◌-◌, ◌^◌, ◌<◌, ◌⊎◌, IfOk};
+ghost use Rattle.arc_code.specs.Counting.{failures_of, left_in, held_by};
+ghost use Rattle.arc_code.specs.Running.{IsSound, program_of};
+ghost use Rattle.arc_machine.specs.Views.{fresh, said};
+ghost use Rattle.arc_machine.specs.Runs.{Runs, Troubled};
+
+use crate::engine::Engine;
+use crate::stop::{Answer, Stop};
+use arc_code::code::{Code, IoFault};
+use arc_code::counted::Counted;
+use arc_spec::event::{Event, NoMemory};
+use std::alloc::Global;
+use std::io::{Read, Write};
+use std::marker::Model;
+
+/// Code, with the stack on which it runs and the instruction that is next.
+#[derive(Drop)]
+pub struct Machine {
+    engine: Engine,
+}
+
+impl Model for Machine {
+    ghost use Rattle.arc_machine.specs.Views.{Seen, StaysSound};
+
+    ghost Value = { Seen };
+
+    ghost view = { λ a. a.engine };
+
+    ghost invariant = { λ a. StaysSound a.engine };
+}
+
+impl Machine {
+    /// A machine at the start of the code. All of its stack and the room of 2,000 calls are reserved
+    /// here, and no step takes memory. The error is a refusal of that memory.
+    pub fn new(alloc: Global, code: Code) -> Result<Machine, NoMemory>
+        requires { IsSound (program_of code) }
+        ensures { IfOk result (λ m. m ≡ fresh (program_of code)) }
+    {
+        Ok(Machine {
+            engine: Engine::new(alloc, code)?,
+        })
+    }
+
+    /// How many steps were made. A step that a device broke isn't counted.
+    pub fn steps_done(&self) -> u64
+        ensures { result ≡ self.now.steps }
+    {
+        self.engine.steps()
+    }
+
+    /// The events of the last step that was made, at most 20. A step that a device broke leaves
+    /// them, and so does a run without a step.
+    pub fn events(&self) -> &[Event]
+        ensures { result.now ≡ self.now.events }
+    {
+        self.engine.events()
+    }
+
+    /// Makes at most so many steps, and tells whether the program goes on: `Ended` and `Fault` say
+    /// that it is over, and `StepsUsed` that all steps were made, or 2^64 - 1 of them in all. The
+    /// error is a reader's or a writer's failure, in a step that is then not made. Once a run has
+    /// ended, was stopped or failed, each later one answers the same, and does nothing.
+    pub fn run<R: Read, W: Write>(
+        &mut self,
+        steps: u64,
+        reader: &mut Counted<R>,
+        writer: &mut Counted<W>,
+    ) -> Result<Stop, IoFault>
+        requires reads { failures_of reader.old < 2 ^ 64 - 1 }
+        requires writes { failures_of writer.old < 2 ^ 64 - 1 }
+        ensures answer { result ≡ said self.new.answer }
+        ensures moves { self.old.answer ≡ Answer.Going → Runs steps self.old self.new
+            (left_in R.remaining reader.old) (left_in R.remaining reader.new)
+            (held_by W.contents writer.old) (held_by W.contents writer.new) }
+        ensures used { self.new.answer ≡ Answer.Going →
+            (self.new.steps ≡ self.old.steps + steps) ⊎ (self.new.steps ≡ 2 ^ 64 - 1) }
+        ensures stays { self.old.answer ≢ Answer.Going →
+            (self.new ≡ self.old) × (reader.new ≡ reader.old) × (writer.new ≡ writer.old) }
+        ensures cause { self.old.answer ≡ Answer.Going → Troubled self.new.answer
+            (failures_of reader.old) (failures_of reader.new)
+            (failures_of writer.old) (failures_of writer.new) }
+    {
+        if !self.engine.is_going() {
+            return said_of(self.engine.answer());
+        }
+        let mut turns = 0;
+        while turns < steps && self.engine.is_going() && self.engine.steps() < u64::MAX {
+            let most = (steps - turns).min(u64::MAX - self.engine.steps());
+            let made = self.engine.slide(most);
+            turns += made;
+            if made < most {
+                let _ = self.engine.advance(reader, writer);
+                turns += 1;
+            }
+        }
+        said_of(self.engine.answer())
+    }
+}
+
+fn said_of(answer: Answer) -> Result<Stop, IoFault>
+    ensures { result ≡ said answer }
+{
+    match answer {
+        Answer::Going => Ok(Stop::StepsUsed),
+        Answer::Ended(number) => Ok(Stop::Ended(number)),
+        Answer::Faulted(fault) => Ok(Stop::Fault(fault)),
+        Answer::Broken(fault) => Err(fault),
+    }
+}
