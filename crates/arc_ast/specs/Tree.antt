@@ -2,8 +2,11 @@
 use Rattle.std.specs.Prelude.{ℕ, ℤ, List, [], ◌∷◌, Option, option_map}
 use Rattle.arc_ast.specs.declared.tree.Kind.{Kind}
 use Rattle.arc_ast.specs.declared.tree.BinaryOperator.{BinaryOperator}
-use Rattle.arc_ast.specs.declared.tree.Receiver.{Receiver}
-use Rattle.arc_ast.specs.declared.tree.Receiver.TheVariants as r
+use Rattle.arc_ast.specs.declared.tree.Sign.{Sign}
+use Rattle.arc_ast.specs.declared.tree.Visibility.{Visibility}
+use Rattle.arc_ast.specs.declared.tree.TypeName.{TypeName}
+use Rattle.arc_ast.specs.declared.tree.TypeName.TheVariants as t
+use Rattle.arc_ast.specs.declared.tree.Field.{Field}
 use Rattle.arc_ast.specs.declared.tree.Expr.{Expr, Row_of-Expr, end_of-Expr, more_of-Expr}
 use Rattle.arc_ast.specs.declared.tree.Expr.TheVariants as e
 use Rattle.arc_ast.specs.declared.tree.Variable.{Variable}
@@ -19,25 +22,30 @@ use Rattle.arc_ast.specs.declared.tree.Interface.{Interface}
 use Rattle.arc_ast.specs.declared.tree.Implementation.{Implementation}
 use Rattle.arc_ast.specs.declared.tree.TranslationUnit.{TranslationUnit}
 
--- what a message is sent to, with the place of its first byte (OPL, "Objects, Classes, and Messaging")
-pub data ReceiverTree : Type 0 where
-  Named : ℕ → List ℕ → ReceiverTree
-  Itself : ℕ → ReceiverTree
-  Super : ℕ → ReceiverTree
+-- a type as it is written; a class by its name, with the name's place (C99, section 6.7.6; OPL, "Object Identifiers" and "Static Typing")
+pub data TypeTree : Type 0 where
+  Int : TypeTree
+  Id : TypeTree
+  Object : ℕ → List ℕ → TypeTree
 
 mutual
-  -- An expression, with the place of its first byte (C99, section 6.5). An assignment has that of its `=` too, and a message that of its selector's first part;
-  -- a selector is written with all its colons.
+  -- An expression, with the place of its first byte (C99, section 6.5). An assignment has that of its `=` too, a field that of its name, and a message that of
+  -- its selector's first part, and to `super` that of `super`; a selector is written with all its colons.
   pub data ExprTree : Type 0 where
     Integer : ℕ → ℤ → ExprTree
     Text : ℕ → List ℕ → ExprTree
     Paren : ℕ → ExprTree → ExprTree
     Call : ℕ → List ℕ → ExprTrees → ExprTree
-    Negate : ℕ → ExprTree → ExprTree
-    Binary : ℕ → BinaryOperator → ExprTree → ExprTree → ExprTree
+    Nil : ℕ → ExprTree
+    Itself : ℕ → ExprTree
     Name : ℕ → List ℕ → ExprTree
+    Negate : ℕ → ExprTree → ExprTree
+    Cast : ℕ → TypeTree → ExprTree → ExprTree
+    Binary : ℕ → BinaryOperator → ExprTree → ExprTree → ExprTree
+    Arrow : ℕ → ℕ → ExprTree → List ℕ → ExprTree
     Assign : ℕ → ℕ → ExprTree → ExprTree → ExprTree
-    Send : ℕ → ℕ → ReceiverTree → List ℕ → ExprTrees → ExprTree
+    Send : ℕ → ℕ → ExprTree → List ℕ → ExprTrees → ExprTree
+    SendSuper : ℕ → ℕ → ℕ → List ℕ → ExprTrees → ExprTree
 
   pub data ExprTrees : Type 0 where
     no_exprs : ExprTrees
@@ -56,7 +64,7 @@ mutual
     Empty : ℕ → StmtTree
     Simple : ExprTree → StmtTree
     Return : ℕ → Option ExprTree → StmtTree
-    Variables : ℕ → List VariableTree → StmtTree
+    Variables : ℕ → TypeTree → List VariableTree → StmtTree
     If : ℕ → ExprTree → StmtTree → StmtTree
     IfElse : ℕ → ExprTree → StmtTree → StmtTree → StmtTree
     While : ℕ → ExprTree → StmtTree → StmtTree
@@ -82,9 +90,10 @@ pub record FunctionTree : Type 0 where
   pub parameters : ParametersTree
   pub body : Option StmtTrees
 
--- a class method's declaration, with the place of its `+` (OPL, "Defining a Class")
+-- a method's declaration, with the place of its `+` or `-` (OPL, "Defining a Class")
 pub record HeadTree : Type 0 where
   pub at : ℕ
+  pub sign : Sign
   pub selector : List ℕ
   pub result : Kind
   pub parameters : List ParameterTree
@@ -93,18 +102,26 @@ pub record MethodTree : Type 0 where
   pub head : HeadTree
   pub body : StmtTrees
 
+-- an int field, with the place of its name (OPL, "Instance Variables")
+pub record FieldTree : Type 0 where
+  pub at : ℕ
+  pub name : List ℕ
+  pub visibility : Visibility
+
 -- a class's interface, with the places of its name and of its superclass's name
 pub record InterfaceTree : Type 0 where
   pub at : ℕ
   pub name : List ℕ
   pub superclass_at : ℕ
   pub superclass : List ℕ
+  pub fields : List FieldTree
   pub methods : List HeadTree
 
 -- a class's implementation, with the place of its name
 pub record ImplementationTree : Type 0 where
   pub at : ℕ
   pub name : List ℕ
+  pub fields : List FieldTree
   pub methods : List MethodTree
 
 -- what a source declares and defines
@@ -119,28 +136,39 @@ begins (Integer at _) = at
 begins (Text at _) = at
 begins (Paren at _) = at
 begins (Call at _ _) = at
-begins (Negate at _) = at
-begins (Binary at _ _ _) = at
+begins (Nil at) = at
+begins (Itself at) = at
 begins (Name at _) = at
+begins (Negate at _) = at
+begins (Cast at _ _) = at
+begins (Binary at _ _ _) = at
+begins (Arrow at _ _ _) = at
 begins (Assign at _ _ _) = at
 begins (Send at _ _ _ _) = at
+begins (SendSuper at _ _ _ _) = at
 
--- the place at which an expression is told that breaks a rule: an assignment's `=`, a message's first selector part, and else the first byte (this project's own choice)
+-- the place at which an expression is told that breaks a rule: an assignment's `=`, a field's name, a message's first selector part, and else the first byte
+-- (this project's own choice)
 abbrev pub place : ExprTree → ℕ
 place (Integer at _) = at
 place (Text at _) = at
 place (Paren at _) = at
 place (Call at _ _) = at
-place (Negate at _) = at
-place (Binary at _ _ _) = at
+place (Nil at) = at
+place (Itself at) = at
 place (Name at _) = at
+place (Negate at _) = at
+place (Cast at _ _) = at
+place (Binary at _ _ _) = at
+place (Arrow _ name _ _) = name
 place (Assign _ sign _ _) = sign
 place (Send _ part _ _ _) = part
+place (SendSuper _ part _ _ _) = part
 
-abbrev pub receiver_tree : Receiver → ReceiverTree
-receiver_tree (r.Named at name) = Named at name.items
-receiver_tree (r.Itself at) = Itself at
-receiver_tree (r.Super at) = Super at
+abbrev pub type_tree : TypeName → TypeTree
+type_tree t.Int = Int
+type_tree t.Id = Id
+type_tree (t.Object at name) = Object at name.items
 
 abbrev mutual
   pub expr_tree : Expr → ExprTree
@@ -148,11 +176,16 @@ abbrev mutual
   expr_tree (e.Text at bytes) = Text at bytes.items
   expr_tree (e.Paren' at q a) = Paren at (expr_tree a)
   expr_tree (e.Call' at name shape args) = Call at name.items (row_exprs args)
-  expr_tree (e.Negate' at q a) = Negate at (expr_tree a)
-  expr_tree (e.Binary' at operator q a r b) = Binary at operator (expr_tree a) (expr_tree b)
+  expr_tree (e.Nil at) = Nil at
+  expr_tree (e.Itself at) = Itself at
   expr_tree (e.Name at name) = Name at name.items
+  expr_tree (e.Negate' at q a) = Negate at (expr_tree a)
+  expr_tree (e.Cast' at type q a) = Cast at (type_tree type) (expr_tree a)
+  expr_tree (e.Binary' at operator q a r b) = Binary at operator (expr_tree a) (expr_tree b)
+  expr_tree (e.Arrow' at name_at q a name) = Arrow at name_at (expr_tree a) name.items
   expr_tree (e.Assign' at sign q a r b) = Assign at sign (expr_tree a) (expr_tree b)
-  expr_tree (e.Send' at part receiver selector shape args) = Send at part (receiver_tree receiver) selector.items (row_exprs args)
+  expr_tree (e.Send' at part q a selector shape args) = Send at part (expr_tree a) selector.items (row_exprs args)
+  expr_tree (e.SendSuper' at part super_at selector shape args) = SendSuper at part super_at selector.items (row_exprs args)
 
   pub row_exprs : {n : _} → Row_of-Expr n → ExprTrees
   row_exprs end_of-Expr = no_exprs
@@ -175,7 +208,7 @@ abbrev mutual
   stmt_tree (s.Empty at) = Empty at
   stmt_tree (s.Expr a) = Simple (expr_tree a)
   stmt_tree (s.Return at a) = Return at (option_map expr_tree a)
-  stmt_tree (s.Variables at all) = Variables at (variable_trees all.items)
+  stmt_tree (s.Variables at type all) = Variables at (type_tree type) (variable_trees all.items)
   stmt_tree (s.If' at c q a) = If at (expr_tree c) (stmt_tree a)
   stmt_tree (s.IfElse' at c q a r b) = IfElse at (expr_tree c) (stmt_tree a) (stmt_tree b)
   stmt_tree (s.While' at c q a) = While at (expr_tree c) (stmt_tree a)
@@ -205,7 +238,7 @@ function_trees [] = []
 function_trees (f ∷ others) = function_tree f ∷ function_trees others
 
 abbrev pub head_tree : MethodHead → HeadTree
-head_tree h = record { at = h.at; selector = h.selector.items; result = h.result; parameters = parameter_trees h.parameters.items }
+head_tree h = record { at = h.at; sign = h.sign; selector = h.selector.items; result = h.result; parameters = parameter_trees h.parameters.items }
 
 abbrev pub head_trees : List MethodHead → List HeadTree
 head_trees [] = []
@@ -218,16 +251,20 @@ abbrev pub method_trees : List Method → List MethodTree
 method_trees [] = []
 method_trees (m ∷ others) = method_tree m ∷ method_trees others
 
+abbrev pub field_trees : List Field → List FieldTree
+field_trees [] = []
+field_trees (f ∷ others) = record { at = f.at; name = f.name.items; visibility = f.visibility } ∷ field_trees others
+
 abbrev pub interface_tree : Interface → InterfaceTree
 interface_tree i =
-    record { at = i.at; name = i.name.items; superclass_at = i.superclass_at; superclass = i.superclass.items; methods = head_trees i.methods.items }
+    record { at = i.at; name = i.name.items; superclass_at = i.superclass_at; superclass = i.superclass.items; fields = field_trees i.fields.items; methods = head_trees i.methods.items }
 
 abbrev pub interface_trees : List Interface → List InterfaceTree
 interface_trees [] = []
 interface_trees (i ∷ others) = interface_tree i ∷ interface_trees others
 
 abbrev pub implementation_tree : Implementation → ImplementationTree
-implementation_tree i = record { at = i.at; name = i.name.items; methods = method_trees i.methods.items }
+implementation_tree i = record { at = i.at; name = i.name.items; fields = field_trees i.fields.items; methods = method_trees i.methods.items }
 
 abbrev pub implementation_trees : List Implementation → List ImplementationTree
 implementation_trees [] = []

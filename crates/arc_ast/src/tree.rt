@@ -19,14 +19,34 @@ pub enum BinaryOperator {
     NotEqual,
 }
 
-/// What a message is sent to, with the place of its first byte.
+/// Whether a method is sent to a class or to an object (OPL, "Defining a Class").
+#[derive(Clone, Copy, Debug, PartialEq, Eq)]
+pub enum Sign {
+    /// `+`
+    Class,
+    /// `-`
+    Instance,
+}
+
+/// Where a field may be named (OPL, "The Scope of Instance Variables").
+#[derive(Clone, Copy, Debug, PartialEq, Eq)]
+pub enum Visibility {
+    /// In the implementation of its own class.
+    Private,
+    /// There, and in those of its subclasses.
+    Protected,
+    /// Everywhere.
+    Public,
+}
+
+/// A type, as it is written of a variable or in a cast.
 #[derive(Debug, Drop)]
-pub enum Receiver {
-    Named(usize, Vec<u8>),
-    /// `self`
-    Itself(usize),
-    /// `super`
-    Super(usize),
+pub enum TypeName {
+    Int,
+    /// `id`
+    Id,
+    /// A reference to an object of a class: the place of the class's name, and the name.
+    Object(usize, Vec<u8>),
 }
 
 /// An expression, with the place of its first byte; a call has that of its function's name.
@@ -38,15 +58,25 @@ pub enum Expr {
     Paren(usize, Box<Expr>),
     /// The name of a function, and the arguments.
     Call(usize, Vec<u8>, Vec<Expr>),
-    Negate(usize, Box<Expr>),
-    Binary(usize, BinaryOperator, Box<Expr>, Box<Expr>),
-    /// A variable's name.
+    /// `nil`
+    Nil(usize),
+    /// `self`
+    Itself(usize),
+    /// The name of a variable or a field or, as a receiver, of a class.
     Name(usize, Vec<u8>),
+    Negate(usize, Box<Expr>),
+    Cast(usize, TypeName, Box<Expr>),
+    Binary(usize, BinaryOperator, Box<Expr>, Box<Expr>),
+    /// A field of an object: the place of its first byte and that of the field's name, the object, and
+    /// the name.
+    Arrow(usize, usize, Box<Expr>, Vec<u8>),
     /// An assignment: the place of its first byte and that of its `=`, the left side and the right one.
     Assign(usize, usize, Box<Expr>, Box<Expr>),
     /// A message: the place of its `[` and that of its selector's first part, what it is sent to, its
     /// selector with all colons, and the arguments.
-    Send(usize, usize, Receiver, Vec<u8>, Vec<Expr>),
+    Send(usize, usize, Box<Expr>, Vec<u8>, Vec<Expr>),
+    /// A message to `super`: the same, with the place of `super`.
+    SendSuper(usize, usize, usize, Vec<u8>, Vec<Expr>),
 }
 
 /// A variable that a declaration makes, with the place of its name.
@@ -65,7 +95,8 @@ pub enum Stmt {
     Empty(usize),
     Expr(Expr),
     Return(usize, Option<Expr>),
-    Variables(usize, Vec<Variable>),
+    /// Variables of one type.
+    Variables(usize, TypeName, Vec<Variable>),
     If(usize, Expr, Box<Stmt>),
     IfElse(usize, Expr, Box<Stmt>, Box<Stmt>),
     While(usize, Expr, Box<Stmt>),
@@ -96,21 +127,30 @@ pub struct Function {
     pub body: Option<Vec<Stmt>>,
 }
 
-/// A class method as it is declared, with the place of its `+` and its selector with all colons. The
+/// A method as it is declared, with the place of its `+` or `-` and its selector with all colons. The
 /// result is Int or Void.
 #[derive(Debug, Drop)]
 pub struct MethodHead {
     pub at: usize,
+    pub sign: Sign,
     pub selector: Vec<u8>,
     pub result: Kind,
     pub parameters: Vec<Parameter>,
 }
 
-/// A class method that an implementation defines.
+/// A method that an implementation defines.
 #[derive(Debug, Drop)]
 pub struct Method {
     pub head: MethodHead,
     pub body: Vec<Stmt>,
+}
+
+/// An `int` field that each object of a class has, with the place of its name.
+#[derive(Debug, Drop)]
+pub struct Field {
+    pub at: usize,
+    pub name: Vec<u8>,
+    pub visibility: Visibility,
 }
 
 /// A class's interface, with the place of its name and that of its superclass's.
@@ -120,6 +160,7 @@ pub struct Interface {
     pub name: Vec<u8>,
     pub superclass_at: usize,
     pub superclass: Vec<u8>,
+    pub fields: Vec<Field>,
     pub methods: Vec<MethodHead>,
 }
 
@@ -128,6 +169,7 @@ pub struct Interface {
 pub struct Implementation {
     pub at: usize,
     pub name: Vec<u8>,
+    pub fields: Vec<Field>,
     pub methods: Vec<Method>,
 }
 

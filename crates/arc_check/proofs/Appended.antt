@@ -24,11 +24,11 @@ functions_ahead-append (a ∷ all) others = ap (λ us. function_of a ∷ us) (fu
 
 -- one method more
 pub method_turn : (known : Known) (class : Option ℕ) (xs : List Method) (i : ℕ) (x : Method) (named : List Parameter) (body : List Stmt) (s : Scope) (a : CheckedFunction) (old new : List CheckedFunction) (others whole : List resolved.Function) → i < length xs → x ≡ get_or xs i x
-    → s ≡ in_method known class → named ≡ x.head.parameters.items → body ≡ x.body.items → function_of a ≡ resolved_body (with_parameters s (parameter_trees named)) (stmt_trees body) → new ≡ old ++ a ∷ []
+    → s ≡ in_method known class x.head.sign → named ≡ x.head.parameters.items → body ≡ x.body.items → function_of a ≡ resolved_body (with_parameters s (parameter_trees named)) (stmt_trees body) → new ≡ old ++ a ∷ []
     → whole ≡ functions_ahead old (with_methods known class (method_trees (drop i xs)) others) → whole ≡ functions_ahead new (with_methods known class (method_trees (drop (i + 1) xs)) others)
 method_turn known class xs i x named body s a old new others whole l e p m b h n w =
     let rest = with_methods known class (method_trees (drop (i + 1) xs)) others in
-    let start = in_method known class in
+    let start = in_method known class x.head.sign in
     let own : function_of a ≡ resolved_body (with_parameters start (parameter_trees x.head.parameters.items)) (stmt_trees x.body.items) =
     h ∙ ap (λ q. resolved_body (with_parameters q (parameter_trees named)) (stmt_trees body)) p ∙ ap (λ us. resolved_body (with_parameters start (parameter_trees us)) (stmt_trees body)) m
     ∙ ap (λ us. resolved_body (with_parameters start (parameter_trees x.head.parameters.items)) (stmt_trees us)) b in

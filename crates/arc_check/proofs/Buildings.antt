@@ -1,20 +1,23 @@
 -- What is built of expressions and statements.
-use Rattle.std.proofs.Common.{◌≡◌, ℕ, ◌+◌, ◌<◌, ◌≤◌, Bool, true, false, List, [], ◌∷◌, ◌++◌, length, get_or, drop, refl, sym, ap, ◌∙◌, arith}
+use Rattle.std.proofs.Common.{◌≡◌, ℕ, ◌+◌, ◌<◌, ◌≤◌, Bool, true, false, List, [], ◌∷◌, ◌++◌, length, get_or, drop, None, option_map, refl, sym, ap, ◌∙◌, arith}
 use Rattle.arc_ast.specs.declared.tree.Expr.{Expr}
-use Rattle.arc_ast.specs.Tree.{ExprTrees, ReceiverTree, Call, Send, expr_tree, expr_trees}
+use Rattle.arc_ast.specs.declared.tree.Kind.{Kind}
+use Rattle.arc_ast.specs.Tree.{ExprTrees, Call, expr_tree, expr_trees}
+use Rattle.arc_class.specs.Table.{number_of_class}
 use Rattle.arc_spec.specs.Resolved as resolved
 use Rattle.arc_check.specs.declared.checked.Piece.{Piece}
 use Rattle.arc_check.specs.declared.format.Begun.TheVariants.{Nothing}
 use Rattle.arc_check.specs.Formats.{parts, printed}
-use Rattle.arc_spec.specs.Resolved.{Values, no_values, and_value, Commands, no_commands, and_command}
+use Rattle.arc_spec.specs.Resolved.{Values, no_values, and_value}
 use Rattle.arc_check.specs.declared.checked.Value.{Value}
 use Rattle.arc_check.specs.Checked as checked
-use Rattle.arc_check.specs.Building.{Resolves, in_front, printing}
+use Rattle.arc_check.specs.Building.{Resolves, resolution, in_front, printing}
 use Rattle.arc_check.specs.declared.callee.Callee.{Callee}
+use Rattle.arc_check.specs.declared.resolve.Resolution.TheVariants as b
 use Rattle.arc_check.specs.declared.resolve.Typed.{Typed}
 use Rattle.arc_check.specs.Resolving as resolving
-use Rattle.arc_check.specs.Resolving.{kind, kind_or_int, number, argument, called, sent, resolved_all, text_of}
-use Rattle.arc_check.specs.Scopes.{Scope, callee, result_kind, is_printf, receiving, sent_kind}
+use Rattle.arc_check.specs.Resolving.{Gives, argument, called, resolved_all, text_of}
+use Rattle.arc_check.specs.Scopes.{Scope, callee, result_kind, is_printf}
 use Rattle.arc_check.proofs.Lists.{drop_turn, drop_end}
 
 in_front-push : (all : List Value) (a : Value) (others : Values) → in_front (all ++ a ∷ []) others ≡ in_front all (and_value (checked.value a) others)
@@ -27,7 +30,7 @@ in_front-none (b ∷ all) = ap (and_value (checked.value b)) (in_front-none all)
 
 -- one argument more
 pub values_turn : (s : Scope) (p : Bool) (xs : List Expr) (i : ℕ) (x : Expr) (old new : List Value) (a : Value) (whole : Values) → i < length xs → x ≡ get_or xs i x
-    → whole ≡ in_front old (resolved_all s p (expr_trees (drop i xs))) → new ≡ old ++ a ∷ [] → checked.value a ≡ argument p (kind s (expr_tree x)) (resolving.resolved s (expr_tree x)) → whole ≡ in_front new (resolved_all s p (expr_trees (drop (i + 1) xs)))
+    → whole ≡ in_front old (resolved_all s p (expr_trees (drop i xs))) → new ≡ old ++ a ∷ [] → checked.value a ≡ argument p (resolving.resolved s (expr_tree x)) → whole ≡ in_front new (resolved_all s p (expr_trees (drop (i + 1) xs)))
 values_turn s p xs i x old new a whole l e w n h =
     let rest = resolved_all s p (expr_trees (drop (i + 1) xs)) in
     w ∙ ap (λ us. in_front old (resolved_all s p (expr_trees us))) (drop_turn xs i x l e) ∙ ap (λ v. in_front old (and_value v rest)) (sym h) ∙ sym (in_front-push old a rest) ∙ ap (λ us. in_front us rest) (sym n)
@@ -48,12 +51,9 @@ printing_none s (a ∷ all) pieces values l p v = absurd (omega arith)
 
 -- ---- calls
 
-pub resolves_call : (s : Scope) (at : ℕ) (name : List ℕ) (arguments : ExprTrees) (function : Callee) (typed : Typed) → callee s.known name ≡ function → typed.kind ≡ result_kind function
-    → checked.value typed.value ≡ called function arguments (resolved_all s (is_printf function) arguments) → Resolves s (Call at name arguments) typed
-resolves_call s at name arguments function typed e k v = record { kind = k ∙ ap result_kind (sym e); value = v ∙ ap (λ f. called f arguments (resolved_all s (is_printf f) arguments)) (sym e) }
-
--- ---- messages
-
-pub resolves_send : (s : Scope) (at part : ℕ) (receiver : ReceiverTree) (selector : List ℕ) (arguments : ExprTrees) (n : ℕ) (all : Values) (typed : Typed) → typed.kind ≡ kind_or_int (sent_kind s.known (receiving s receiver) selector)
-    → n ≡ number (s.known.selector selector) → all ≡ resolved_all s false arguments → checked.value typed.value ≡ sent s receiver n all → Resolves s (Send at part receiver selector arguments) typed
-resolves_send s at part receiver selector arguments n all typed k m a v = record { kind = k; value = v ∙ ap (λ i. sent s receiver i all) m ∙ ap (sent s receiver (number (s.known.selector selector))) a }
+pub resolves_call : (s : Scope) (at : ℕ) (name : List ℕ) (arguments : ExprTrees) (function : Callee) (kind : Kind) (value : Value) (typed : Typed) → callee s.known name ≡ function → kind ≡ result_kind function
+    → checked.value value ≡ called function arguments (resolved_all s (is_printf function) arguments) → typed.class ≡ None → typed.value ≡ b.Gives kind value → Resolves s (Call at name arguments) typed
+resolves_call s at name arguments function kind value typed e k v c w = record {
+  class = ap (option_map number_of_class) c;
+  value = ap resolution w ∙ ap (λ x. Gives x (checked.value value)) k ∙ ap (Gives (result_kind function)) v ∙ ap (λ f. Gives (result_kind f) (called f arguments (resolved_all s (is_printf f) arguments))) (sym e);
+}

@@ -1,20 +1,21 @@
 -- What is built of lists of statements, and one more.
-use Rattle.std.proofs.Common.{◌≡◌, ℕ, ◌+◌, ◌<◌, ◌≤◌, List, [], ◌∷◌, ◌++◌, length, get_or, drop, Some, None, Vec, Global, option_map, refl, sym, ap, ◌∙◌}
+use Rattle.std.proofs.Common.{◌≡◌, ℕ, ◌+◌, ◌-◌, ◌<◌, ◌≤◌, List, [], ◌∷◌, ◌++◌, length, get_or, drop, Option, Some, None, Vec, Global, option_map, refl, sym, ap, ◌∙◌}
 use Rattle.arc_ast.specs.declared.tree.Function.{Function}
 use Rattle.arc_ast.specs.declared.tree.Parameter.{Parameter}
 use Rattle.arc_ast.specs.declared.tree.Stmt as stmt
 use Rattle.arc_ast.specs.declared.tree.Stmt.{Stmt}
+use Rattle.arc_ast.specs.declared.tree.TypeName.{TypeName}
 use Rattle.arc_ast.specs.declared.tree.Variable.{Variable}
-use Rattle.arc_ast.specs.Tree.{StmtTrees, ParameterTree, expr_tree, stmt_tree, stmt_trees, variable_trees, parameter_trees, parameters_tree, function_trees}
+use Rattle.arc_ast.specs.Tree.{TypeTree, StmtTrees, ParameterTree, type_tree, expr_tree, stmt_tree, stmt_trees, variable_trees, parameter_trees, parameters_tree, function_trees}
 use Rattle.arc_spec.specs.Resolved as resolved
-use Rattle.arc_spec.specs.Resolved.{Commands, no_commands, and_command, Evaluate, Assigned}
+use Rattle.arc_spec.specs.Resolved.{Commands, no_commands, and_command}
 use Rattle.arc_class.specs.Bodies.{named_parameters}
 use Rattle.arc_check.specs.declared.checked.Command as command
 use Rattle.arc_check.specs.declared.checked.Command.{Command}
 use Rattle.arc_check.specs.declared.checked.CheckedFunction.{CheckedFunction}
-use Rattle.arc_check.specs.Building.{ahead_of, function_of, functions_ahead}
+use Rattle.arc_check.specs.Building.{ahead_of, in_front_of, function_of, functions_ahead}
 use Rattle.arc_check.specs.Checked as checked
-use Rattle.arc_check.specs.Resolving.{initial, resolved_variables, resolved_stmt, resolved_stmts, resolved_body, with_function, resolved_functions}
+use Rattle.arc_check.specs.Resolving.{declared, resolved_variables, resolved_stmt, resolved_stmts, resolved_body, with_function, resolved_functions}
 use Rattle.arc_check.specs.Scopes.{Known, Scope, declare, with_parameters, leave, behind, behind_all, outermost}
 use Rattle.arc_check.proofs.Lists.{drop_turn, drop_end}
 use Rattle.arc_check.proofs.Trees.{block_tree, sequence_command}
@@ -33,15 +34,26 @@ command_turn old new a one rest whole w n h = w ∙ ap (λ v. ahead_of old (and_
 
 -- ---- declarations
 
-pub assigned_turn : (s after : Scope) (xs : List Variable) (i : ℕ) (x : Variable) (old new : List Command) (a : Command) (whole : Commands) → i < length xs → x ≡ get_or xs i x → after ≡ declare x.name.items s
-    → checked.command a ≡ Evaluate (Assigned s.next (initial after (option_map expr_tree x.initial))) → new ≡ old ++ a ∷ [] → whole ≡ ahead_of old (resolved_variables s (variable_trees (drop i xs))) → whole ≡ ahead_of new (resolved_variables after (variable_trees (drop (i + 1) xs)))
-assigned_turn s after xs i x old new a whole l e d h n w =
-    command_turn old new a (Evaluate (Assigned s.next (initial after (option_map expr_tree x.initial)))) (resolved_variables after (variable_trees (drop (i + 1) xs))) whole
-    (w ∙ ap (λ us. ahead_of old (resolved_variables s (variable_trees us))) (drop_turn xs i x l e)
-    ∙ ap (λ p. ahead_of old (and_command (Evaluate (Assigned s.next (initial p (option_map expr_tree x.initial)))) (resolved_variables p (variable_trees (drop (i + 1) xs))))) (sym d)) n h
+-- a command more, if there is one
+abbrev pub Adds : List Command → Option Command → List Command → Type 0
+Adds old None new = new ≡ old
+Adds old (Some a) new = new ≡ old ++ a ∷ []
 
-pub assigned_end : (s : Scope) (xs : List Variable) (i : ℕ) (all : List Command) (whole : Commands) → length xs ≤ i → whole ≡ ahead_of all (resolved_variables s (variable_trees (drop i xs))) → checked.commands all ≡ whole
-assigned_end s xs i all whole l w = sym (w ∙ ap (λ us. ahead_of all (resolved_variables s (variable_trees us))) (drop_end xs i l) ∙ ahead_of-none all)
+maybe_turn : (old new : List Command) (one : Option Command) (rest whole : Commands) → whole ≡ ahead_of old (in_front_of one rest) → Adds old one new → whole ≡ ahead_of new rest
+maybe_turn old new None rest whole w n = w ∙ ap (λ us. ahead_of us rest) (sym n)
+maybe_turn old new (Some a) rest whole w n = w ∙ sym (ahead_of-push old a rest) ∙ ap (λ us. ahead_of us rest) (sym n)
+
+pub declared_turn : (type : TypeTree) (s after : Scope) (xs : List Variable) (i : ℕ) (x : Variable) (old new : List Command) (one : Option Command) (whole : Commands) → i < length xs → x ≡ get_or xs i x → after ≡ declare x.name.items type s
+    → ((others : Commands) → declared type s after (option_map expr_tree x.initial) others ≡ in_front_of one others) → Adds old one new
+    → whole ≡ ahead_of old (resolved_variables type s (variable_trees (drop i xs))) → whole ≡ ahead_of new (resolved_variables type after (variable_trees (drop (i + 1) xs)))
+declared_turn type s after xs i x old new one whole l e d h n w =
+    let rest = resolved_variables type after (variable_trees (drop (i + 1) xs)) in
+    maybe_turn old new one rest whole
+    (w ∙ ap (λ us. ahead_of old (resolved_variables type s (variable_trees us))) (drop_turn xs i x l e)
+    ∙ ap (λ p. ahead_of old (declared type s p (option_map expr_tree x.initial) (resolved_variables type p (variable_trees (drop (i + 1) xs))))) (sym d) ∙ ap (ahead_of old) (h rest)) n
+
+pub declared_end : (type : TypeTree) (s : Scope) (xs : List Variable) (i : ℕ) (all : List Command) (whole : Commands) → length xs ≤ i → whole ≡ ahead_of all (resolved_variables type s (variable_trees (drop i xs))) → checked.commands all ≡ whole
+declared_end type s xs i all whole l w = sym (w ∙ ap (λ us. ahead_of all (resolved_variables type s (variable_trees us))) (drop_end xs i l) ∙ ahead_of-none all)
 
 -- ---- statements
 
@@ -58,33 +70,35 @@ commands_end s xs i all whole l w = sym (w ∙ ap (λ us. ahead_of all (resolved
 pub behind_turn : (s after whole : Scope) (xs : List Stmt) (i : ℕ) (x : Stmt) → i < length xs → x ≡ get_or xs i x → after ≡ behind s (stmt_tree x) → whole ≡ behind_all s (stmt_trees (drop i xs)) → whole ≡ behind_all after (stmt_trees (drop (i + 1) xs))
 behind_turn s after whole xs i x l e a w = w ∙ ap (λ us. behind_all s (stmt_trees us)) (drop_turn xs i x l e) ∙ ap (λ p. behind_all p (stmt_trees (drop (i + 1) xs))) (sym a)
 
-pub block_command : (s : Scope) (a : Stmt) (at : ℕ) (all : Vec Stmt Global) (items : List Stmt) → a ≡ stmt.Block at all → items ≡ all.items → resolved.Sequence (resolved_stmts s (stmt_trees items)) ≡ resolved_stmt s (stmt_tree a)
-block_command s a at all items e m = ap (λ us. resolved.Sequence (resolved_stmts s (stmt_trees us))) m ∙ sym (ap (resolved_stmt s) (ap stmt_tree e ∙ block_tree at all))
+-- a block, with its own variables that name objects
+abbrev pub block_of : Scope → StmtTrees → resolved.Command
+block_of s all = resolved.Sequence s.names ((behind_all s all).names - s.names) (resolved_stmts s all)
+
+pub block_command : (s : Scope) (a : Stmt) (at : ℕ) (all : Vec Stmt Global) (items : List Stmt) → a ≡ stmt.Block at all → items ≡ all.items → block_of s (stmt_trees items) ≡ resolved_stmt s (stmt_tree a)
+block_command s a at all items e m = ap (λ us. block_of s (stmt_trees us)) m ∙ sym (ap (resolved_stmt s) (ap stmt_tree e ∙ block_tree at all))
 
 pub block_scope : (s : Scope) (a : Stmt) (at : ℕ) (all : Vec Stmt Global) (items : List Stmt) → a ≡ stmt.Block at all → items ≡ all.items → leave s (behind_all s (stmt_trees items)) ≡ behind s (stmt_tree a)
 block_scope s a at all items e m = ap (λ us. leave s (behind_all s (stmt_trees us))) m ∙ sym (ap (behind s) (ap stmt_tree e ∙ block_tree at all))
 
-pub declaration_command : (s : Scope) (a : Stmt) (at : ℕ) (all : Vec Variable Global) (items : List Variable) (made : Vec Command Global) → a ≡ stmt.Variables at all → items ≡ all.items → checked.commands made.items ≡ resolved_variables s (variable_trees items)
-    → checked.command (command.Sequence made) ≡ resolved_stmt s (stmt_tree a)
-declaration_command s a at all items made e m h = sequence_command made ∙ rw (e, h, m) refl
+pub declaration_command : (s : Scope) (a : Stmt) (at : ℕ) (type : TypeName) (all : Vec Variable Global) (items : List Variable) (made : Vec Command Global) → a ≡ stmt.Variables at type all → items ≡ all.items
+    → checked.commands made.items ≡ resolved_variables (type_tree type) s (variable_trees items) → checked.command (command.Sequence 0 0 made) ≡ resolved_stmt s (stmt_tree a)
+declaration_command s a at type all items made e m h = sequence_command 0 0 made ∙ rw (e, h, m) refl
 
 pub choose_is : (test other : resolved.Value) (a b c d : resolved.Command) → test ≡ other → a ≡ b → c ≡ d → resolved.Choose test a c ≡ resolved.Choose other b d
 choose_is test other a b c d t e f = rw (t, e, f) refl
 
--- a sequence of nothing
-pub nothing : (all : Vec Command Global) → all.items ≡ [] → checked.command (command.Sequence all) ≡ resolved.Sequence no_commands
-nothing all e = sequence_command all ∙ ap (λ us. resolved.Sequence (checked.commands us)) e
-
 -- ---- functions
 
-abbrev function : ℕ → Commands → resolved.Function
-function slots body = record { slots = slots; body = body }
+abbrev function : ℕ → ℕ → Commands → resolved.Function
+function slots names body = record { slots = slots; names = names; body = body }
 
 pub function_is : (parameters : List ParameterTree) (body : StmtTrees) (f : CheckedFunction) (empty before after : Scope) → before ≡ with_parameters empty parameters → after ≡ behind_all before body
-    → checked.commands f.body.items ≡ resolved_stmts before body → f.slots ≡ after.next → function_of f ≡ resolved_body (with_parameters empty parameters) body
-function_is parameters body f empty before after b a c n =
-    ap (λ slots. function slots (checked.commands f.body.items)) (n ∙ ap (λ s. s.next) a ∙ ap (λ s. (behind_all s body).next) b)
-    ∙ ap (function (behind_all (with_parameters empty parameters) body).next) (c ∙ ap (λ s. resolved_stmts s body) b)
+    → checked.commands f.body.items ≡ resolved_stmts before body → f.slots ≡ after.next → f.names ≡ after.names → function_of f ≡ resolved_body (with_parameters empty parameters) body
+function_is parameters body f empty before after b a c n m =
+    let end = behind_all (with_parameters empty parameters) body in
+    let same : after ≡ end = a ∙ ap (λ s. behind_all s body) b in
+    ap (λ slots. function slots f.names (checked.commands f.body.items)) (n ∙ ap (λ s. s.next) same) ∙ ap (λ names. function end.next names (checked.commands f.body.items)) (m ∙ ap (λ s. s.names) same)
+    ∙ ap (function end.next end.names) (c ∙ ap (λ s. resolved_stmts s body) b)
 
 pub functions_ahead-push : (all : List CheckedFunction) (a : CheckedFunction) (others : List resolved.Function) → functions_ahead (all ++ a ∷ []) others ≡ functions_ahead all (function_of a ∷ others)
 functions_ahead-push [] a others = refl

@@ -1,54 +1,222 @@
 -- What is told of expressions.
-use Rattle.std.proofs.Common.{◌≡◌, ℕ, ◌+◌, ◌<◌, Bool, true, false, ◌&&◌, ◌++◌, List, [], ◌∷◌, length, cond, not, get_or, drop, Vec, Global, Option, Some, None, option_map, is_none, refl, sym, ap, ◌∙◌}
+use Rattle.std.proofs.Common.{◌≡◌, ℕ, ◌+◌, ◌<◌, Bool, true, false, ◌&&◌, ◌++◌, List, [], ◌∷◌, length, cond, not, get_or, drop, Vec, Box, Global, Option, Some, None, option_map, is_some, is_none, slice_get, refl, sym, ap, ◌∙◌}
 use Rattle.arc_ast.specs.declared.tree.Kind.{Kind}
+use Rattle.arc_ast.specs.declared.tree.Kind.TheVariants as kinds_of
 use Rattle.arc_ast.specs.declared.tree.Expr as ast
 use Rattle.arc_ast.specs.declared.tree.Expr.{Expr}
 use Rattle.arc_ast.specs.declared.tree.BinaryOperator.{BinaryOperator}
-use Rattle.arc_ast.specs.declared.tree.Receiver.{Receiver}
-use Rattle.arc_ast.specs.Tree.{ExprTree, ExprTrees, ReceiverTree, Binary, Assign, Send, expr_tree, expr_trees, receiver_tree, place}
+use Rattle.arc_ast.specs.Tree.{ExprTree, ExprTrees, Arrow, Assign, Binary, Cast, Itself, Negate, Send, SendSuper, TypeTree, expr_tree, expr_trees, place}
 use Rattle.arc_class.specs.Bodies.{broken_if}
 use Rattle.arc_class.specs.Broken.{Broken, first, earlier_of}
+use Rattle.arc_class.specs.Table.{number_of_class}
+use Rattle.arc_class.specs.declared.table.ClassId.{ClassId}
 use Rattle.arc_class.proofs.Firsts.{first_turn, first_both, first-append}
 use Rattle.arc_check.specs.declared.callee.Callee.{Callee}
 use Rattle.arc_check.specs.declared.callee.Callee.TheVariants.{Printf, GetChar, Defined, Unknown}
 use Rattle.arc_check.specs.declared.fault.CheckFault.{CheckFault}
 use Rattle.arc_check.specs.declared.format.Part.{Part}
+use Rattle.arc_check.specs.declared.judge.Arguments.{Arguments}
 use Rattle.arc_check.specs.declared.judge.Judged.{Judged}
+use Rattle.arc_check.specs.declared.taken.Taken.{Taken}
 use Rattle.arc_check.specs.Fault.{told}
 use Rattle.arc_check.specs.Formats.{fits}
-use Rattle.arc_check.specs.Judging.{Judges, JudgesNumber, JudgesTest, JudgesCall}
-use Rattle.arc_check.specs.Rules.{kind_if, kind_of, kinds, binary_kind, is_variable, no_value, no_number, no_left, no_right, unless, broken, broken_at, broken_receiver, no_method, broken_number, broken_arguments, call_rule, other_rule, count}
-use Rattle.arc_check.specs.Scopes.{Scope, callee, result_kind, is_printf, receiving, sent_kind}
+use Rattle.arc_check.specs.Judging.{Judges, JudgesAll, JudgesCall, JudgesWhole, counted, none_counted}
+use Rattle.arc_check.specs.Rules.{all_taken, arrow_kind, at_if, binary_kind, broken, broken_arguments, broken_at, broken_field, broken_whole, call_rule, count, is_assignable, is_object, is_unread, kind_if, kind_of, kinds, message_kind, most_taken, no_left, no_method, no_number, no_object, no_right, no_such, number_kind, one_too_many, other_rule, taken, unless}
+use Rattle.arc_check.specs.Scopes.{Scope, callee, class_of, class_receiver, is_printf, own_class, result_kind, sent_class, static_class, super_class, super_kind}
+use Rattle.arc_check.proofs.Counting.{counted_both, past_is}
 use Rattle.arc_check.proofs.Lists.{drop_turn}
-use Rattle.arc_check.proofs.Trees.{call_tree, send_tree}
+use Rattle.arc_check.proofs.Trees.{call_tree, send_tree, super_tree}
 
 -- what is told of an expression, and then one rule more of its kind
-with_rule : (s : Scope) (a : ExprTree) (rule : Option Kind → ℕ → List Broken) (judged : Judged) (new : Option Broken) → Judges s a judged → new ≡ earlier_of (option_map told judged.fault) (first (rule judged.kind (place a)))
-    → new ≡ first (broken s a ++ rule (kind_of s a) (place a))
-with_rule s a rule judged new j f =
-    f ∙ ap (λ o. earlier_of o (first (rule judged.kind (place a)))) j.fault ∙ ap (λ o. earlier_of (first (broken s a)) (first (rule o (place a)))) j.kind ∙ sym (first-append (broken s a) (rule (kind_of s a) (place a)))
+pub with_rule : (s : Scope) (all : List Broken) (a : ExprTree) (rule : Option Kind → ℕ → List Broken) (fault new : Option Broken) (kind : Option Kind) (at : ℕ) → fault ≡ first all → kind ≡ kind_of s a → at ≡ place a
+    → new ≡ earlier_of fault (first (rule kind at)) → new ≡ first (all ++ rule (kind_of s a) (place a))
+with_rule s all a rule fault new kind at f k p n =
+    n ∙ ap (λ o. earlier_of o (first (rule kind at))) f ∙ ap (λ o. earlier_of (first all) (first (rule o at))) k ∙ ap (λ i. earlier_of (first all) (first (rule (kind_of s a) i))) p ∙ sym (first-append all (rule (kind_of s a) (place a)))
 
-pub judges_number : (s : Scope) (a : ExprTree) (judged new : Judged) → Judges s a judged → new.kind ≡ judged.kind → option_map told new.fault ≡ earlier_of (option_map told judged.fault) (first (no_number judged.kind (place a))) → JudgesNumber s a new
-judges_number s a judged new j k f = record { kind = k ∙ j.kind; fault = with_rule s a no_number judged (option_map told new.fault) j f }
+-- what is told of a full-expression
+pub judges_whole : (s : Scope) (a : ExprTree) (judged new : Judged) (past : Option Broken) → Judges s none_counted a judged → new.kind ≡ judged.kind → past ≡ first (one_too_many judged.taken.past)
+    → option_map told new.fault ≡ earlier_of (option_map told judged.fault) past → JudgesWhole s a new
+judges_whole s a judged new past j k p f =
+    let over = one_too_many (slice_get (taken s a) most_taken) in
+    record {
+      kind = k ∙ j.kind;
+      fault = first_both (broken s a) over (option_map told judged.fault) past (option_map told new.fault) j.fault
+          (p ∙ ap (λ t. first (one_too_many t.past)) j.taken ∙ ap (λ o. first (one_too_many o)) (past_is most_taken (taken s a))) f;
+    }
 
-pub judges_test : (s : Scope) (a : ExprTree) (judged new : Judged) → Judges s a judged → new.kind ≡ judged.kind → option_map told new.fault ≡ earlier_of (option_map told judged.fault) (first (no_value judged.kind (place a))) → JudgesTest s a new
-judges_test s a judged new j k f = record { kind = k ∙ j.kind; fault = with_rule s a no_value judged (option_map told new.fault) j f }
+pub judges_call : (s : Scope) (before : Taken) (a : Expr) (at : ℕ) (name : Vec ℕ Global) (arguments : Vec Expr Global) (bytes : List ℕ) (all : List Expr) (judged : Judged) → a ≡ ast.Call at name arguments
+    → bytes ≡ name.items → all ≡ arguments.items → JudgesCall s before at (callee s.known bytes) (expr_trees all) judged → Judges s before (expr_tree a) judged
+judges_call s before a at name arguments bytes all judged e n m h =
+    rw (e, call_tree at name arguments, sym n, sym m) (record { kind = h.kind; class = ap (option_map number_of_class) h.class; fault = h.fault; taken = h.taken })
 
-pub judges_call : (s : Scope) (a : Expr) (at : ℕ) (name : Vec ℕ Global) (arguments : Vec Expr Global) (bytes : List ℕ) (all : List Expr) (judged : Judged) → a ≡ ast.Call at name arguments
-    → bytes ≡ name.items → all ≡ arguments.items → JudgesCall s at (callee s.known bytes) (expr_trees all) judged → Judges s (expr_tree a) judged
-judges_call s a at name arguments bytes all judged e n m h = rw (e, call_tree at name arguments, sym n, sym m) (record { kind = h.kind; fault = h.fault })
+pub judges_send : (s : Scope) (before : Taken) (a : Expr) (at part : ℕ) (receiver : Box Expr Global) (r : Expr) (selector : Vec ℕ Global) (arguments : Vec Expr Global) (bytes : List ℕ) (all : List Expr) (judged : Judged) → a ≡ ast.Send at part receiver selector arguments
+    → r ≡ receiver.value → bytes ≡ selector.items → all ≡ arguments.items → ((at : ℕ) → Judges s before (Send at part (expr_tree r) bytes (expr_trees all)) judged) → Judges s before (expr_tree a) judged
+judges_send s before a at part receiver r selector arguments bytes all judged e q n m h = rw (e, send_tree at part receiver selector arguments, sym q, sym n, sym m) (h at)
 
-pub judges_send : (s : Scope) (a : Expr) (at part : ℕ) (receiver : Receiver) (selector : Vec ℕ Global) (arguments : Vec Expr Global) (bytes : List ℕ) (all : List Expr) (judged : Judged) → a ≡ ast.Send at part receiver selector arguments
-    → bytes ≡ selector.items → all ≡ arguments.items → ((at : ℕ) → Judges s (Send at part (receiver_tree receiver) bytes (expr_trees all)) judged) → Judges s (expr_tree a) judged
-judges_send s a at part receiver selector arguments bytes all judged e n m h = rw (e, send_tree at part receiver selector arguments, sym n, sym m) (h at)
+pub judges_super : (s : Scope) (before : Taken) (a : Expr) (at part super_at : ℕ) (selector : Vec ℕ Global) (arguments : Vec Expr Global) (bytes : List ℕ) (all : List Expr) (judged : Judged) → a ≡ ast.SendSuper at part super_at selector arguments
+    → bytes ≡ selector.items → all ≡ arguments.items → ((at : ℕ) → Judges s before (SendSuper at part super_at bytes (expr_trees all)) judged) → Judges s before (expr_tree a) judged
+judges_super s before a at part super_at selector arguments bytes all judged e n m h = rw (e, super_tree at part super_at selector arguments, sym n, sym m) (h at)
 
--- a message, from what it breaks itself and what is told of its arguments
-pub judges_message : (s : Scope) (at part : ℕ) (receiver : ReceiverTree) (selector : List ℕ) (arguments : ExprTrees) (own inside : Option Broken) (judged : Judged) → own ≡ first (broken_receiver s receiver ++ no_method s receiver selector part)
-    → inside ≡ first (broken_arguments s false false arguments) → judged.kind ≡ sent_kind s.known (receiving s receiver) selector → option_map told judged.fault ≡ earlier_of own inside → Judges s (Send at part receiver selector arguments) judged
-judges_message s at part receiver selector arguments own inside judged o i k f = record {
-  kind = k;
-  fault = first_both (broken_receiver s receiver ++ no_method s receiver selector part) (broken_arguments s false false arguments) own inside (option_map told judged.fault) o i f;
+-- ---- `self`
+
+abbrev broken_rule : ℕ → ℕ → Broken
+broken_rule at number = record { at = at; number = number }
+
+pub is_some-class : (o : Option ClassId) → is_some (option_map number_of_class o) ≡ is_some o
+is_some-class None = refl
+is_some-class (Some class) = refl
+
+none_of : (o : Option ℕ) → is_some o ≡ false → o ≡ None
+none_of None e = refl
+none_of (Some n) e = absurd (cc)
+
+pub itself_object : (s : Scope) (before : Taken) (at : ℕ) (judged : Judged) → is_some (own_class s) ≡ true → judged.kind ≡ Some kinds_of.Object → option_map number_of_class judged.class ≡ own_class s → option_map told judged.fault ≡ None → judged.taken ≡ counted before (at ∷ [])
+    → Judges s before (Itself at) judged
+itself_object s before at judged e n c f t = record {
+  kind = n ∙ sym (ap (λ b. kind_if b kinds_of.Object) e);
+  class = c;
+  fault = f ∙ sym (ap (λ b. first (cond b [] (broken_rule at (cond (is_some s.class) 43 41) ∷ []))) e);
+  taken = t ∙ sym (ap (λ b. counted before (at_if b at)) e);
 }
+
+pub itself_refused : (s : Scope) (before : Taken) (at : ℕ) (judged : Judged) (number : ℕ) → is_some (own_class s) ≡ false → cond (is_some s.class) 43 41 ≡ number → judged.kind ≡ None → judged.class ≡ None → option_map told judged.fault ≡ Some (broken_rule at number)
+    → judged.taken ≡ before → Judges s before (Itself at) judged
+itself_refused s before at judged number e m n c f t = record {
+  kind = n ∙ sym (ap (λ b. kind_if b kinds_of.Object) e);
+  class = ap (option_map number_of_class) c ∙ sym (none_of (own_class s) e);
+  fault = f ∙ sym (ap (λ i. Some (broken_rule at i)) m) ∙ sym (ap (λ b. first (cond b [] (broken_rule at (cond (is_some s.class) 43 41) ∷ []))) e);
+  taken = t ∙ sym (ap (λ b. counted before (at_if b at)) e);
+}
+
+-- ---- operators, casts and fields
+
+pub judges_negation : (s : Scope) (before : Taken) (at : ℕ) (a : ExprTree) (judged new : Judged) (here : ℕ) → Judges s before a judged → here ≡ place a → new.kind ≡ number_kind judged.kind → new.class ≡ None
+    → option_map told new.fault ≡ earlier_of (option_map told judged.fault) (first (no_number judged.kind here)) → new.taken ≡ judged.taken → Judges s before (Negate at a) new
+judges_negation s before at a judged new here j p k c f t = record {
+  kind = k ∙ ap number_kind j.kind;
+  class = ap (option_map number_of_class) c;
+  fault = with_rule s (broken s a) a no_number (option_map told judged.fault) (option_map told new.fault) judged.kind here j.fault j.kind p f;
+  taken = t ∙ j.taken;
+}
+
+pub judges_cast : (s : Scope) (before : Taken) (at : ℕ) (type : TypeTree) (a : ExprTree) (judged new : Judged) (here : ℕ) → Judges s before a judged → here ≡ place a → new.kind ≡ kind_of s (Cast at type a)
+    → option_map number_of_class new.class ≡ static_class s.known type → option_map told new.fault ≡ earlier_of (option_map told judged.fault) (first (no_object judged.kind here)) → new.taken ≡ judged.taken → Judges s before (Cast at type a) new
+judges_cast s before at type a judged new here j p k c f t = record {
+  kind = k;
+  class = c;
+  fault = with_rule s (broken s a) a no_object (option_map told judged.fault) (option_map told new.fault) judged.kind here j.fault j.kind p f;
+  taken = t ∙ j.taken;
+}
+
+pub judges_arrow : (s : Scope) (before : Taken) (at name_at : ℕ) (a : ExprTree) (name : List ℕ) (judged new : Judged) (here : ℕ) (found : _) → Judges s before a judged → here ≡ place a → found ≡ s.known.field (option_map number_of_class judged.class) name
+    → new.kind ≡ arrow_kind s judged.kind found → new.class ≡ None
+    → option_map told new.fault ≡ earlier_of (earlier_of (option_map told judged.fault) (first (no_object judged.kind here))) (first (broken_field s judged.kind found name_at)) → new.taken ≡ judged.taken → Judges s before (Arrow at name_at a name) new
+judges_arrow s before at name_at a name judged new here found j p w k c f t =
+    let is = w ∙ ap (λ o. s.known.field o name) j.class in
+    let own = s.known.field (class_of s a) name in
+    record {
+      kind = k ∙ ap (λ o. arrow_kind s o found) j.kind ∙ ap (arrow_kind s (kind_of s a)) is;
+      class = ap (option_map number_of_class) c;
+      fault = first_both (broken s a ++ no_object (kind_of s a) (place a)) (broken_field s (kind_of s a) own name_at) (earlier_of (option_map told judged.fault) (first (no_object judged.kind here))) (first (broken_field s judged.kind found name_at)) (option_map told new.fault)
+          (with_rule s (broken s a) a no_object (option_map told judged.fault) _ judged.kind here j.fault j.kind p refl)
+          (ap (λ o. first (broken_field s o found name_at)) j.kind ∙ ap (λ o. first (broken_field s (kind_of s a) o name_at)) is) f;
+      taken = t ∙ j.taken;
+    }
+
+pub judges_binary : (s : Scope) (before : Taken) (at : ℕ) (operator : BinaryOperator) (a b : ExprTree) (left right both : Judged) (left_at right_at : ℕ) → Judges s before a left → Judges s left.taken b right → left_at ≡ place a → right_at ≡ place b → both.kind ≡ binary_kind operator left.kind right.kind → both.class ≡ None
+    → option_map told both.fault ≡ earlier_of (earlier_of (option_map told left.fault) (first (no_left operator left.kind left_at))) (earlier_of (option_map told right.fault) (first (no_right operator left.kind right.kind right_at))) → both.taken ≡ right.taken
+    → Judges s before (Binary at operator a b) both
+judges_binary s before at operator a b left right both left_at right_at l r p q k c f t =
+    let one = earlier_of (option_map told left.fault) (first (no_left operator left.kind left_at)) in
+    let two = earlier_of (option_map told right.fault) (first (no_right operator left.kind right.kind right_at)) in
+    record {
+      kind = k ∙ ap (λ o. binary_kind operator o right.kind) l.kind ∙ ap (binary_kind operator (kind_of s a)) r.kind;
+      class = ap (option_map number_of_class) c;
+      fault = first_both (broken s a ++ no_left operator (kind_of s a) (place a)) (broken s b ++ no_right operator (kind_of s a) (kind_of s b) (place b)) one two (option_map told both.fault)
+          (with_rule s (broken s a) a (no_left operator) (option_map told left.fault) one left.kind left_at l.fault l.kind p refl)
+          (with_rule s (broken s b) b (no_right operator (kind_of s a)) (option_map told right.fault) two right.kind right_at r.fault r.kind q (ap (λ o. earlier_of (option_map told right.fault) (first (no_right operator o right.kind right_at))) l.kind)) f;
+      taken = t ∙ counted_both before left.taken right.taken (taken s a) (taken s b) l.taken r.taken;
+    }
+
+-- ---- assignments
+
+taken_read : (unread : Bool) (before after : Taken) (places : List ℕ) → after ≡ counted before places → cond unread before after ≡ counted before (cond unread [] places)
+taken_read true before after places e = refl
+taken_read false before after places e = e
+
+pub judges_assign : (s : Scope) (before between : Taken) (at sign : ℕ) (a b : ExprTree) (assignable : Bool) (left right both : Judged) (right_at : ℕ) → Judges s before a left → between ≡ counted (cond (is_unread s a) before left.taken) (at_if (is_object left.kind) sign)
+    → Judges s between b right → assignable ≡ is_assignable a → right_at ≡ place b → both.kind ≡ cond assignable left.kind None → both.class ≡ left.class
+    → option_map told both.fault ≡ earlier_of (earlier_of (option_map told left.fault) (first (broken_if (not assignable) sign 44))) (earlier_of (option_map told right.fault) (first (no_such left.kind right.kind right_at))) → both.taken ≡ right.taken
+    → Judges s before (Assign at sign a b) both
+judges_assign s before between at sign a b assignable left right both right_at l g r v p k c f t =
+    let own = broken_if (not (is_assignable a)) sign 44 in
+    let two = earlier_of (option_map told right.fault) (first (no_such left.kind right.kind right_at)) in
+    let reads = cond (is_unread s a) [] (taken s a) in
+    let read = cond (is_unread s a) before left.taken in
+    let sets = at_if (is_object (kind_of s a)) sign in
+    record {
+      kind = k ∙ ap (λ o. cond assignable o None) l.kind ∙ ap (λ p. cond p (kind_of s a) None) v;
+      class = ap (option_map number_of_class) c ∙ l.class;
+      fault = first_both (broken s a ++ own) (broken s b ++ no_such (kind_of s a) (kind_of s b) (place b)) (earlier_of (option_map told left.fault) (first (broken_if (not assignable) sign 44))) two (option_map told both.fault)
+          (first_both (broken s a) own (option_map told left.fault) (first (broken_if (not assignable) sign 44)) _ l.fault (ap (λ p. first (broken_if (not p) sign 44)) v) refl)
+          (with_rule s (broken s b) b (no_such (kind_of s a)) (option_map told right.fault) two right.kind right_at r.fault r.kind p (ap (λ o. earlier_of (option_map told right.fault) (first (no_such o right.kind right_at))) l.kind)) f;
+      taken = t ∙ counted_both before between right.taken (reads ++ sets) (taken s b)
+          (counted_both before read between reads sets (taken_read (is_unread s a) before left.taken (taken s a) l.taken) (g ∙ ap (λ o. counted read (at_if (is_object o) sign)) l.kind)) r.taken;
+    }
+
+-- ---- messages
+
+unless_class : (some : Bool) (own : List Broken) (fault : Option Broken) → fault ≡ first own → cond some None fault ≡ first (unless some own)
+unless_class true own fault e = refl
+unless_class false own fault e = e
+
+pub judges_message : (s : Scope) (before between : Taken) (at part : ℕ) (r : ExprTree) (selector : List ℕ) (arguments : ExprTrees) (class : Option ℕ) (judged new : Judged) (passed : Arguments) (here : ℕ) (own unknown : Option Broken) → class ≡ class_receiver s r → Judges s before r judged → here ≡ place r
+    → new.kind ≡ message_kind s class judged.kind (option_map number_of_class judged.class) selector → own ≡ cond (is_some class) None (earlier_of (option_map told judged.fault) (first (no_object judged.kind here)))
+    → unknown ≡ first (no_method s class judged.kind (option_map number_of_class judged.class) selector part) → between ≡ counted judged.taken (at_if (is_object new.kind) part)
+    → option_map told passed.fault ≡ first (broken_arguments s false false arguments) → passed.taken ≡ counted between (all_taken s arguments) → option_map number_of_class new.class ≡ sent_class class (option_map number_of_class judged.class) selector
+    → option_map told new.fault ≡ earlier_of (earlier_of own unknown) (option_map told passed.fault) → new.taken ≡ passed.taken → Judges s before (Send at part r selector arguments) new
+judges_message s before between at part r selector arguments class judged new passed here own unknown e j p k o u b i t c f n =
+    let kind = message_kind s (class_receiver s r) (kind_of s r) (class_of s r) selector in
+    let is : new.kind ≡ kind = k ∙ ap (λ x. message_kind s x judged.kind (option_map number_of_class judged.class) selector) e ∙ ap (λ x. message_kind s (class_receiver s r) x (option_map number_of_class judged.class) selector) j.kind
+    ∙ ap (λ x. message_kind s (class_receiver s r) (kind_of s r) x selector) j.class in
+    let one = unless (is_some (class_receiver s r)) (broken s r ++ no_object (kind_of s r) (place r)) in
+    let two = no_method s (class_receiver s r) (kind_of s r) (class_of s r) selector part in
+    let gives = at_if (is_object kind) part in
+    record {
+      kind = is;
+      class = c ∙ ap (λ x. sent_class x (option_map number_of_class judged.class) selector) e ∙ ap (λ x. sent_class (class_receiver s r) x selector) j.class;
+      fault = first_both (one ++ two) (broken_arguments s false false arguments) (earlier_of own unknown) (option_map told passed.fault) (option_map told new.fault)
+          (first_both one two own unknown _
+          (o ∙ ap (λ x. cond (is_some x) None (earlier_of (option_map told judged.fault) (first (no_object judged.kind here)))) e
+          ∙ unless_class (is_some (class_receiver s r)) (broken s r ++ no_object (kind_of s r) (place r)) _ (with_rule s (broken s r) r no_object (option_map told judged.fault) _ judged.kind here j.fault j.kind p refl))
+          (u ∙ ap (λ x. first (no_method s x judged.kind (option_map number_of_class judged.class) selector part)) e ∙ ap (λ x. first (no_method s (class_receiver s r) x (option_map number_of_class judged.class) selector part)) j.kind
+          ∙ ap (λ x. first (no_method s (class_receiver s r) (kind_of s r) x selector part)) j.class) refl) i f;
+      taken = n ∙ counted_both before between passed.taken (taken s r ++ gives) (all_taken s arguments)
+          (counted_both before judged.taken between (taken s r) gives j.taken (b ∙ ap (λ x. counted judged.taken (at_if (is_object x) part)) is)) t;
+    }
+
+pub judges_super_message : (s : Scope) (before between : Taken) (at part super_at : ℕ) (selector : List ℕ) (arguments : ExprTrees) (new : Judged) (passed : Arguments) (unknown : Option Broken) → new.kind ≡ super_kind s selector → option_map number_of_class new.class ≡ super_class s selector
+    → unknown ≡ first (broken_if (is_none new.kind) part 42) → between ≡ counted (counted before (at_if (is_some (own_class s)) super_at)) (at_if (is_object new.kind) part)
+    → option_map told passed.fault ≡ first (broken_arguments s false false arguments) → passed.taken ≡ counted between (all_taken s arguments)
+    → option_map told new.fault ≡ earlier_of unknown (option_map told passed.fault) → new.taken ≡ passed.taken → Judges s before (SendSuper at part super_at selector arguments) new
+judges_super_message s before between at part super_at selector arguments new passed unknown k c u b i t f n =
+    let reads = at_if (is_some (own_class s)) super_at in
+    let gives = at_if (is_object (super_kind s selector)) part in
+    record {
+      kind = k;
+      class = c;
+      fault = first_both (broken_if (is_none (super_kind s selector)) part 42) (broken_arguments s false false arguments) unknown (option_map told passed.fault) (option_map told new.fault) (u ∙ ap (λ x. first (broken_if (is_none x) part 42)) k) i f;
+      taken = n ∙ counted_both before between passed.taken (reads ++ gives) (all_taken s arguments)
+          (counted_both before (counted before reads) between reads gives refl (b ∙ ap (λ x. counted (counted before reads) (at_if (is_object x) part)) k)) t;
+    }
+
+-- ---- arguments
+
+pub taken_turn : (s : Scope) (xs : List Expr) (i : ℕ) (x : Expr) (so_far one whole : Taken) → i < length xs → x ≡ get_or xs i x → one ≡ counted so_far (taken s (expr_tree x)) → whole ≡ counted so_far (all_taken s (expr_trees (drop i xs)))
+    → whole ≡ counted one (all_taken s (expr_trees (drop (i + 1) xs)))
+taken_turn s xs i x so_far one whole l e o w =
+    let rest = all_taken s (expr_trees (drop (i + 1) xs)) in
+    w ∙ ap (λ us. counted so_far (all_taken s (expr_trees us))) (drop_turn xs i x l e) ∙ sym (counted_both so_far one (counted one rest) (taken s (expr_tree x)) rest o refl)
 
 pub count-expr_trees : (all : List Expr) → count (expr_trees all) ≡ length all
 count-expr_trees [] = refl
@@ -76,29 +244,6 @@ fault_turn s printed xs i x so_far one now whole l e o n w =
     first_turn (own ++ kind) (broken_arguments s printed false (expr_trees (drop (i + 1) xs))) so_far one now whole (o ∙ sym (first-append own kind)) n
     (w ∙ ap (λ us. earlier_of so_far (first (broken_arguments s printed false (expr_trees us)))) (drop_turn xs i x l e))
 
-pub judges_binary : (s : Scope) (at : ℕ) (operator : BinaryOperator) (a b : ExprTree) (left right both : Judged) (left_at right_at : ℕ) → Judges s a left → Judges s b right → left_at ≡ place a → right_at ≡ place b → both.kind ≡ binary_kind operator left.kind right.kind
-    → option_map told both.fault ≡ earlier_of (earlier_of (option_map told left.fault) (first (no_left operator left.kind left_at))) (earlier_of (option_map told right.fault) (first (no_right operator left.kind right.kind right_at))) → Judges s (Binary at operator a b) both
-judges_binary s at operator a b left right both left_at right_at l r p q k f =
-    let one = earlier_of (option_map told left.fault) (first (no_left operator left.kind left_at)) in
-    let two = earlier_of (option_map told right.fault) (first (no_right operator left.kind right.kind right_at)) in
-    record {
-      kind = k ∙ ap (λ o. binary_kind operator o right.kind) l.kind ∙ ap (binary_kind operator (kind_of s a)) r.kind;
-      fault = first_both (broken s a ++ no_left operator (kind_of s a) (place a)) (broken s b ++ no_right operator (kind_of s a) (kind_of s b) (place b)) one two (option_map told both.fault)
-          (with_rule s a (no_left operator) left one l (ap (λ n. earlier_of (option_map told left.fault) (first (no_left operator left.kind n))) p))
-          (with_rule s b (no_right operator (kind_of s a)) right two r (ap (λ n. earlier_of (option_map told right.fault) (first (no_right operator left.kind right.kind n))) q ∙ ap (λ o. earlier_of (option_map told right.fault) (first (no_right operator o right.kind (place b)))) l.kind)) f;
-    }
-
-pub judges_assign : (s : Scope) (at sign : ℕ) (a b : ExprTree) (variable : Bool) (left right both : Judged) → Judges s a left → JudgesNumber s b right → variable ≡ is_variable a → both.kind ≡ cond variable left.kind None
-    → option_map told both.fault ≡ earlier_of (earlier_of (option_map told left.fault) (first (broken_if (not variable) sign 44))) (option_map told right.fault) → Judges s (Assign at sign a b) both
-judges_assign s at sign a b variable left right both l r v k f =
-    let own = broken_if (not (is_variable a)) sign 44 in
-    record {
-      kind = k ∙ ap (λ o. cond variable o None) l.kind ∙ ap (λ p. cond p (kind_of s a) None) v;
-      fault = first_both (broken s a ++ own) (broken_number s b) (earlier_of (option_map told left.fault) (first own)) (option_map told right.fault) (option_map told both.fault)
-          (ap (λ o. earlier_of o (first own)) l.fault ∙ sym (first-append (broken s a) own)) r.fault
-          (f ∙ ap (λ p. earlier_of (earlier_of (option_map told left.fault) (first (broken_if (not p) sign 44))) (option_map told right.fault)) v);
-    }
-
 is_none-told : (o : Option CheckFault) → is_none (option_map told o) ≡ is_none o
 is_none-told None = refl
 is_none-told (Some f) = refl
@@ -107,25 +252,26 @@ is_none-broken_at : (at : ℕ) (rule : Option ℕ) → is_none (first (broken_at
 is_none-broken_at at None = refl
 is_none-broken_at at (Some n) = refl
 
-other_is : (s : Scope) (at : ℕ) (callee : Callee) (all : List Expr) (own inside : Option CheckFault) (judged : Judged) → is_printf callee ≡ false → call_rule callee (expr_trees all) (kinds s (expr_trees all)) ≡ other_rule callee (count (expr_trees all))
-    → option_map told own ≡ first (broken_at at (other_rule callee (length all)))
-    → judged.kind ≡ kind_if (is_none own) (result_kind callee) → option_map told judged.fault ≡ earlier_of (option_map told own) (option_map told inside) → option_map told inside ≡ first (broken_arguments s false false (expr_trees all))
-    → JudgesCall s at callee (expr_trees all) judged
-other_is s at callee all own inside judged p r o k f i =
+other_is : (s : Scope) (before : Taken) (at : ℕ) (callee : Callee) (all : List Expr) (own : Option CheckFault) (inside : Arguments) (judged : Judged) → is_printf callee ≡ false → call_rule callee (expr_trees all) (kinds s (expr_trees all)) ≡ other_rule callee (count (expr_trees all))
+    → option_map told own ≡ first (broken_at at (other_rule callee (length all))) → judged.kind ≡ kind_if (is_none own) (result_kind callee) → judged.class ≡ None → option_map told judged.fault ≡ earlier_of (option_map told own) (option_map told inside.fault) → judged.taken ≡ inside.taken
+    → option_map told inside.fault ≡ first (broken_arguments s false false (expr_trees all)) → inside.taken ≡ counted before (all_taken s (expr_trees all)) → JudgesCall s before at callee (expr_trees all) judged
+other_is s before at callee all own inside judged p r o k c f t i n =
     let rule = call_rule callee (expr_trees all) (kinds s (expr_trees all)) in
     let same : other_rule callee (length all) ≡ rule = ap (other_rule callee) (sym (count-expr_trees all)) ∙ sym r in
     let told_own : option_map told own ≡ first (broken_at at rule) = o ∙ ap (λ x. first (broken_at at x)) same in
     record {
       kind = k ∙ ap (λ b. kind_if b (result_kind callee)) (sym (is_none-told own) ∙ ap is_none told_own ∙ is_none-broken_at at rule);
-      fault = first_both (broken_at at rule) (broken_arguments s (is_printf callee) (is_printf callee) (expr_trees all)) (option_map told own) (option_map told inside) (option_map told judged.fault) told_own
+      class = c;
+      fault = first_both (broken_at at rule) (broken_arguments s (is_printf callee) (is_printf callee) (expr_trees all)) (option_map told own) (option_map told inside.fault) (option_map told judged.fault) told_own
           (i ∙ ap (λ b. first (broken_arguments s b b (expr_trees all))) (sym p)) f;
+      taken = t ∙ n;
     }
 
 -- a call of another function than printf
-pub judges_other : (s : Scope) (at : ℕ) (callee : Callee) (all : List Expr) (own inside : Option CheckFault) (judged : Judged) → (callee ≡ Printf → ⊥) → option_map told own ≡ first (broken_at at (other_rule callee (length all)))
-    → judged.kind ≡ kind_if (is_none own) (result_kind callee) → option_map told judged.fault ≡ earlier_of (option_map told own) (option_map told inside) → option_map told inside ≡ first (broken_arguments s false false (expr_trees all))
-    → JudgesCall s at callee (expr_trees all) judged
-judges_other s at Printf all own inside judged n o k f i = absurd (n refl)
-judges_other s at GetChar all own inside judged n o k f i = other_is s at GetChar all own inside judged refl refl o k f i
-judges_other s at (Defined result wanted body) all own inside judged n o k f i = other_is s at (Defined result wanted body) all own inside judged refl refl o k f i
-judges_other s at Unknown all own inside judged n o k f i = other_is s at Unknown all own inside judged refl refl o k f i
+pub judges_other : (s : Scope) (before : Taken) (at : ℕ) (callee : Callee) (all : List Expr) (own : Option CheckFault) (inside : Arguments) (judged : Judged) → (callee ≡ Printf → ⊥) → option_map told own ≡ first (broken_at at (other_rule callee (length all)))
+    → judged.kind ≡ kind_if (is_none own) (result_kind callee) → judged.class ≡ None → option_map told judged.fault ≡ earlier_of (option_map told own) (option_map told inside.fault) → judged.taken ≡ inside.taken
+    → option_map told inside.fault ≡ first (broken_arguments s false false (expr_trees all)) → inside.taken ≡ counted before (all_taken s (expr_trees all)) → JudgesCall s before at callee (expr_trees all) judged
+judges_other s before at Printf all own inside judged n o k c f t i m = absurd (n refl)
+judges_other s before at GetChar all own inside judged n o k c f t i m = other_is s before at GetChar all own inside judged refl refl o k c f t i m
+judges_other s before at (Defined result wanted body) all own inside judged n o k c f t i m = other_is s before at (Defined result wanted body) all own inside judged refl refl o k c f t i m
+judges_other s before at Unknown all own inside judged n o k c f t i m = other_is s before at Unknown all own inside judged refl refl o k c f t i m

@@ -3,8 +3,10 @@ pub mod Trees
 pub mod Scoping
 pub mod Readings
 pub mod Printing
+pub mod Counting
 pub mod Judgements
 pub mod Buildings
+pub mod Messages
 pub mod Walks
 pub mod Commands
 pub mod Leaving

@@ -25,11 +25,11 @@ interfaces_turn xs i x items so_far one now whole l e m o n w =
     (w ∙ ap (λ us. earlier_of so_far (first (broken_interfaces (interface_trees us)))) (drop_turn xs i x l e))
 
 -- a method's parameters and its body stand in Vecs
-pub method_is : (known : Known) (class : Option ℕ) (m : Method) (s : Scope) (gives_nothing : Bool) (named : List Parameter) (body : List Stmt) (own inside both : Option Broken) → own ≡ first (broken_head (head_tree m.head)) → s ≡ in_method known class → gives_nothing ≡ is_void m.head.result
+pub method_is : (known : Known) (class : Option ℕ) (m : Method) (s : Scope) (gives_nothing : Bool) (named : List Parameter) (body : List Stmt) (own inside both : Option Broken) → own ≡ first (broken_head (head_tree m.head)) → s ≡ in_method known class m.head.sign → gives_nothing ≡ is_void m.head.result
     → named ≡ m.head.parameters.items → body ≡ m.body.items → inside ≡ first (broken_parameters s (parameter_trees named) ++ broken_stmts gives_nothing (with_parameters s (parameter_trees named)) (stmt_trees body)) → both ≡ earlier_of own inside
     → both ≡ first (broken_method known class (method_tree m))
 method_is known class m s gives_nothing named body own inside both o p g n b h e =
-    let start = in_method known class in
+    let start = in_method known class m.head.sign in
     let ps = parameter_trees m.head.parameters.items in
     first_both (broken_head (head_tree m.head)) (broken_parameters start ps ++ broken_stmts (is_void m.head.result) (with_parameters start ps) (stmt_trees m.body.items)) own inside both o (h ∙ rw (p, g, n, b) refl) e
 

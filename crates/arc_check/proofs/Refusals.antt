@@ -1,10 +1,12 @@
 -- From what is told of a source and what is built of it to an answer.
-use Rattle.std.proofs.Common.{◌≡◌, ℕ, List, [], ◌++◌, Option, Some, None, option_map, refl, sym, ap, ◌∙◌}
+use Rattle.std.proofs.Common.{◌≡◌, ℕ, Bool, List, [], ◌++◌, Option, Some, None, option_map, refl, sym, ap, ◌∙◌}
 use Rattle.std.proofs.Math.Path.{fun_ext}
 use Rattle.arc_ast.specs.declared.tree.Kind.{Kind}
+use Rattle.arc_ast.specs.declared.tree.Sign.{Sign}
 use Rattle.arc_ast.specs.Tree.{FunctionTree, InterfaceTree, ImplementationTree, UnitTree}
 use Rattle.arc_class.specs.declared.table.ClassTable.{ClassTable}
 use Rattle.arc_class.specs.declared.table.Declared.{Declared}
+use Rattle.arc_class.specs.declared.table.FoundField.{FoundField}
 use Rattle.arc_class.specs.Broken.{Broken, first, earlier_of}
 use Rattle.arc_class.specs.Table.{IsTableOf}
 use Rattle.arc_class.proofs.Firsts.{none_broken, first_both}
@@ -18,7 +20,7 @@ use Rattle.arc_check.specs.Resolving.{number, resolved_functions, resolved_metho
 use Rattle.arc_check.specs.Rules.{broken_functions, broken_interfaces, broken_implementations, broken_unit, known_of}
 use Rattle.arc_check.specs.Scopes.{Known}
 use Rattle.arc_check.specs.Views.{known_in}
-use Rattle.arc_spec.specs.Classes.{Class, classes_of}
+use Rattle.arc_spec.specs.Classes.{Class, classes_of, descends}
 use Rattle.arc_spec.specs.Resolved as resolved
 
 refuses : (all : List Broken) (fault : CheckFault) → first all ≡ Some (told fault) → Refuses all fault
@@ -28,6 +30,7 @@ refuses all (f.KindMismatch at) h = h
 refuses all (f.NotAssignable at) h = h
 refuses all (f.ArgumentCount at) h = h
 refuses all (f.Format at) h = h
+refuses all (f.FieldHidden at) h = h
 refuses all (f.TooManyLocals at) h = h
 refuses all f.Memory h = tt
 
@@ -39,14 +42,18 @@ refused all fault one e n = refuses all one (sym e ∙ ap (option_map told) n)
 
 -- ---- what a table of a source knows of names
 
-abbrev names : (List ℕ → Option Declared) → (List ℕ → Option ℕ) → (ℕ → Option ℕ) → (Option ℕ → List ℕ → Option Kind) → (List ℕ → Option ℕ) → Known
-names function class superclass result selector = record { function = function; class = class; superclass = superclass; result = result; selector = selector }
+abbrev names : (List ℕ → Option Declared) → (List ℕ → Option ℕ) → (ℕ → Option ℕ) → (Option ℕ → ℕ → Bool) → (Option ℕ → Sign → List ℕ → Option Kind) → (List ℕ → Option Kind) → (List ℕ → Option ℕ) → (Option ℕ → List ℕ → Option FoundField) → Known
+names function class superclass descends result any selector field =
+    record { function = function; class = class; superclass = superclass; descends = descends; result = result; result_of_any = any; selector = selector; field = field }
 
-names_are : (f g : List ℕ → Option Declared) (c d : List ℕ → Option ℕ) (s t : ℕ → Option ℕ) (r q : Option ℕ → List ℕ → Option Kind) (m n : List ℕ → Option ℕ) → f ≡ g → c ≡ d → s ≡ t → r ≡ q → m ≡ n → names f c s r m ≡ names g d t q n
-names_are f g c d s t r q m n a b e h i = rw (a, b, e, h, i) refl
+names_are : (f g : List ℕ → Option Declared) (c d : List ℕ → Option ℕ) (s t : ℕ → Option ℕ) (x y : Option ℕ → ℕ → Bool) (r q : Option ℕ → Sign → List ℕ → Option Kind) (a b : List ℕ → Option Kind) (m n : List ℕ → Option ℕ) (v w : Option ℕ → List ℕ → Option FoundField)
+    → f ≡ g → c ≡ d → s ≡ t → x ≡ y → r ≡ q → a ≡ b → m ≡ n → v ≡ w → names f c s x r a m v ≡ names g d t y q b n w
+names_are f g c d s t x y r q a b m n v w e1 e2 e3 e4 e5 e6 e7 e8 = rw (e1, e2, e3, e4, e5, e6, e7, e8) refl
 
 pub known_is : (u : UnitTree) (table : ClassTable) → IsTableOf u table → known_in table ≡ known_of u
-known_is u table t = names_are _ _ _ _ _ _ _ _ _ _ (fun_ext t.knows) (fun_ext t.numbers) (fun_ext t.superclasses) (fun_ext (λ from. fun_ext (t.results from))) (fun_ext t.selectors)
+known_is u table t =
+    names_are _ _ _ _ _ _ _ _ _ _ _ _ _ _ _ _ (fun_ext t.knows) (fun_ext t.numbers) (fun_ext t.superclasses) (ap descends t.classes) (fun_ext (λ from. fun_ext (λ sign. fun_ext (t.results from sign)))) (fun_ext t.any_results) (fun_ext t.selectors)
+    (fun_ext (λ class. fun_ext (t.named class)))
 
 -- ---- what is told of a source
 

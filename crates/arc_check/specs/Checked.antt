@@ -4,13 +4,15 @@ use Rattle.arc_check.specs.declared.checked.Piece.{Piece}
 use Rattle.arc_check.specs.declared.checked.Piece.TheVariants as p
 use Rattle.arc_check.specs.declared.checked.Value.{Value, Row_of-Value, end_of-Value, more_of-Value}
 use Rattle.arc_check.specs.declared.checked.Value.TheVariants as v
+use Rattle.arc_check.specs.declared.checked.Reference.{Reference}
+use Rattle.arc_check.specs.declared.checked.Reference.TheVariants as r
 use Rattle.arc_check.specs.declared.checked.Command.{Command, Row_of-Command, end_of-Command, more_of-Command}
 use Rattle.arc_check.specs.declared.checked.Command.TheVariants as c
 use Rattle.arc_check.specs.declared.checked.CheckedFunction.{CheckedFunction}
 use Rattle.arc_check.specs.declared.checked.Checked.{Checked}
 use Rattle.arc_spec.specs.Classes.{classes_of}
 use Rattle.arc_spec.specs.Resolved as resolved
-use Rattle.arc_spec.specs.Resolved.{Number, ReadByte, Print, Negated, Combined, Converted, Local, Assigned, Invoked, Sent, SentSuper, no_values, and_value, Sequence, Evaluate, Return, Choose, Repeat, no_commands, and_command, Bytes, Decimal, Character}
+use Rattle.arc_spec.specs.Resolved.{Number, ReadByte, Print, Negated, Combined, Converted, Local, Assigned, Invoked, Sent, SentSuper, SentTo, SentToSuper, Field, FieldAssigned, Differ, IsObject, Nil, Itself, Variable, Stored, Made, Initialized, no_values, and_value, Sequence, Evaluate, EvaluateReference, Begin, Return, Choose, Repeat, no_commands, and_command, Bytes, Decimal, Character}
 
 abbrev pub piece : Piece → resolved.Piece
 piece (p.Bytes bytes) = Bytes bytes.items
@@ -34,6 +36,20 @@ abbrev mutual
   value (v.Invoked' f shape arguments) = Invoked f (row_values arguments)
   value (v.Sent' q a selector shape arguments) = Sent (value a) selector (row_values arguments)
   value (v.SentSuper' from selector shape arguments) = SentSuper from selector (row_values arguments)
+  value (v.SentTo' q a selector shape arguments) = SentTo (reference a) selector (row_values arguments)
+  value (v.SentToSuper' from selector shape arguments) = SentToSuper from selector (row_values arguments)
+  value (v.Field' q a class index) = Field (reference a) class index
+  value (v.FieldAssigned' q a class index s b) = FieldAssigned (reference a) class index (value b)
+  value (v.Differ' q a s b) = Differ (reference a) (reference b)
+  value (v.IsObject' q a) = IsObject (reference a)
+
+  pub reference : Reference → resolved.Reference
+  reference r.Nil = Nil
+  reference r.Itself = Itself
+  reference (r.Variable i) = Variable i
+  reference (r.Stored' i q a) = Stored i (reference a)
+  reference (r.Made' q a) = Made (value a)
+  reference (r.Initialized' q a) = Initialized (reference a)
 
   pub row_values : {n : _} → Row_of-Value n → resolved.Values
   row_values end_of-Value = no_values
@@ -45,8 +61,10 @@ values (a ∷ others) = and_value (value a) (values others)
 
 abbrev mutual
   pub command : Command → resolved.Command
-  command (c.Sequence' shape all) = Sequence (row_commands all)
+  command (c.Sequence' first count shape all) = Sequence first count (row_commands all)
   command (c.Evaluate a) = Evaluate (value a)
+  command (c.EvaluateReference a) = EvaluateReference (reference a)
+  command (c.Begin i a) = Begin i (reference a)
   command (c.Return a) = Return (option_map value a)
   command (c.Choose' test q a r b) = Choose (value test) (command a) (command b)
   command (c.Repeat' test q a) = Repeat (value test) (command a)
@@ -61,7 +79,7 @@ commands (a ∷ others) = and_command (command a) (commands others)
 
 abbrev pub functions : List CheckedFunction → List resolved.Function
 functions [] = []
-functions (f ∷ others) = record { slots = f.slots; body = commands f.body.items } ∷ functions others
+functions (f ∷ others) = record { slots = f.slots; names = f.names; body = commands f.body.items } ∷ functions others
 
 abbrev pub program_of : Checked → resolved.Program
 program_of c = record { functions = functions c.functions.items; main = c.main; classes = classes_of c.classes.items }

@@ -12,6 +12,7 @@ fault_number (f.KindMismatch at) = 43
 fault_number (f.NotAssignable at) = 44
 fault_number (f.ArgumentCount at) = 45
 fault_number (f.Format at) = 46
+fault_number (f.FieldHidden at) = 49
 fault_number (f.TooManyLocals at) = 50
 fault_number f.Memory = 51
 
@@ -22,6 +23,7 @@ fault_name (f.KindMismatch at) = codes "KindMismatch"
 fault_name (f.NotAssignable at) = codes "NotAssignable"
 fault_name (f.ArgumentCount at) = codes "ArgumentCount"
 fault_name (f.Format at) = codes "Format"
+fault_name (f.FieldHidden at) = codes "FieldHidden"
 fault_name (f.TooManyLocals at) = codes "TooManyLocals"
 fault_name f.Memory = codes "Memory"
 
@@ -33,6 +35,7 @@ fault_at (f.KindMismatch at) = at
 fault_at (f.NotAssignable at) = at
 fault_at (f.ArgumentCount at) = at
 fault_at (f.Format at) = at
+fault_at (f.FieldHidden at) = at
 fault_at (f.TooManyLocals at) = at
 fault_at f.Memory = 0
 
@@ -49,4 +52,5 @@ Refuses all (f.KindMismatch at) = first all ≡ Some (told (f.KindMismatch at))
 Refuses all (f.ArgumentCount at) = first all ≡ Some (told (f.ArgumentCount at))
 Refuses all (f.Format at) = first all ≡ Some (told (f.Format at))
 Refuses all (f.NotAssignable at) = first all ≡ Some (told (f.NotAssignable at))
+Refuses all (f.FieldHidden at) = first all ≡ Some (told (f.FieldHidden at))
 Refuses all (f.TooManyLocals at) = first all ≡ Some (told (f.TooManyLocals at))

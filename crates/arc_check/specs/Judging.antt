@@ -1,38 +1,61 @@
 -- What is told of expressions, statements and functions.
-use Rattle.std.specs.Prelude.{◌≡◌, ℕ, Bool, List, ◌++◌, false, is_none, option_map}
+use Rattle.std.specs.Prelude.{◌≡◌, ℕ, zero, suc, Bool, List, [], ◌∷◌, ◌++◌, Option, Some, None, false, is_none, option_map}
 use Rattle.arc_ast.specs.Tree.{ExprTree, ExprTrees}
 use Rattle.arc_class.specs.Broken.{first}
+use Rattle.arc_class.specs.Table.{number_of_class}
 use Rattle.arc_check.specs.declared.callee.Callee.{Callee}
 use Rattle.arc_check.specs.declared.format.Part.{Part}
 use Rattle.arc_check.specs.declared.judge.Judged.{Judged}
 use Rattle.arc_check.specs.declared.judge.Arguments.{Arguments}
+use Rattle.arc_check.specs.declared.taken.Taken.{Taken}
 use Rattle.arc_check.specs.Fault.{told}
 use Rattle.arc_check.specs.Formats.{fits}
-use Rattle.arc_check.specs.Rules.{call_rule, kind_if, kind_of, kinds, broken_at, broken, broken_number, broken_test, broken_arguments}
-use Rattle.arc_check.specs.Scopes.{Scope, result_kind, is_printf}
+use Rattle.arc_check.specs.Rules.{call_rule, kind_if, kind_of, kinds, broken_at, broken, broken_whole, broken_arguments, taken, all_taken, most_taken}
+use Rattle.arc_check.specs.Scopes.{Scope, result_kind, is_printf, class_of}
 
--- an expression's kind, where it has one, and the first rule that is broken in it
-pub record Judges (s : Scope) (a : ExprTree) (judged : Judged) : Type 0 where
+-- ---- counts of objects that are taken
+
+-- one place more is counted: as one of those that are left, or else as the first past them
+abbrev pub counted_by : (left : ℕ) → (past : Option ℕ) → ℕ → Taken
+counted_by (suc n) past at = record { left = n; past = past }
+counted_by zero None at = record { left = zero; past = Some at }
+counted_by zero (Some p) at = record { left = zero; past = Some p }
+
+abbrev pub one_counted : Taken → ℕ → Taken
+one_counted t at = counted_by t.left t.past at
+
+-- places are counted, in their order
+abbrev pub counted : Taken → List ℕ → Taken
+counted t [] = t
+counted t (at ∷ others) = counted (one_counted t at) others
+
+abbrev pub none_counted : Taken
+none_counted = record { left = most_taken; past = None }
+
+-- ---- expressions
+
+-- an expression's kind, where it has one, its static class, the first rule that is broken in it, and how many objects are taken behind it
+pub record Judges (s : Scope) (before : Taken) (a : ExprTree) (judged : Judged) : Type 0 where
   pub kind : judged.kind ≡ kind_of s a
+  pub class : option_map number_of_class judged.class ≡ class_of s a
   pub fault : option_map told judged.fault ≡ first (broken s a)
+  pub taken : judged.taken ≡ counted before (taken s a)
 
--- the same of an expression that has to give a number
-pub record JudgesNumber (s : Scope) (a : ExprTree) (judged : Judged) : Type 0 where
+-- the kind of a full-expression, and the first rule that is broken in it
+pub record JudgesWhole (s : Scope) (a : ExprTree) (judged : Judged) : Type 0 where
   pub kind : judged.kind ≡ kind_of s a
-  pub fault : option_map told judged.fault ≡ first (broken_number s a)
+  pub fault : option_map told judged.fault ≡ first (broken_whole s a)
 
--- the same of a test
-pub record JudgesTest (s : Scope) (a : ExprTree) (judged : Judged) : Type 0 where
-  pub kind : judged.kind ≡ kind_of s a
-  pub fault : option_map told judged.fault ≡ first (broken_test s a)
-
--- whether arguments suit these conversions, and the first rule that is broken in them, where none may be a text
-pub record JudgesAll (s : Scope) (printed : Bool) (wanted : List Part) (all : ExprTrees) (judged : Arguments) : Type 0 where
+-- whether arguments suit these conversions, the first rule that is broken in them, where none may be a text, and how many objects are taken behind them
+pub record JudgesAll (s : Scope) (before : Taken) (printed : Bool) (wanted : List Part) (all : ExprTrees) (judged : Arguments) : Type 0 where
   pub fit : judged.fit ≡ fits wanted (kinds s all)
   pub fault : option_map told judged.fault ≡ first (broken_arguments s printed false all)
+  pub taken : judged.taken ≡ counted before (all_taken s all)
 
 -- the same of a call
-pub record JudgesCall (s : Scope) (at : ℕ) (callee : Callee) (arguments : ExprTrees) (judged : Judged) : Type 0 where
+pub record JudgesCall (s : Scope) (before : Taken) (at : ℕ) (callee : Callee) (arguments : ExprTrees) (judged : Judged) : Type 0 where
   pub kind : judged.kind ≡ kind_if (is_none (call_rule callee arguments (kinds s arguments))) (result_kind callee)
+  pub class : judged.class ≡ None
   pub fault : option_map told judged.fault
       ≡ first (broken_at at (call_rule callee arguments (kinds s arguments)) ++ broken_arguments s (is_printf callee) (is_printf callee) arguments)
+  pub taken : judged.taken ≡ counted before (all_taken s arguments)

@@ -1,36 +1,49 @@
 -- The resolved program of a source that breaks no rule.
-use Rattle.std.specs.Prelude.{ℕ, pos, Bool, false, List, [], ◌∷◌, ◌++◌, Option, Some, None, option_map, if◌then◌else◌}
+use Rattle.std.specs.Prelude.{ℕ, ◌-◌, pos, Bool, false, List, [], ◌∷◌, ◌++◌, Option, Some, None, option_map, if◌then◌else◌}
+use Rattle.arc_ast.specs.declared.tree.BinaryOperator.{BinaryOperator}
+use Rattle.arc_ast.specs.declared.tree.BinaryOperator.TheVariants as o
 use Rattle.arc_ast.specs.declared.tree.Kind.{Kind}
 use Rattle.arc_ast.specs.declared.tree.Kind.TheVariants as k
+use Rattle.arc_ast.specs.declared.tree.Sign.{Sign}
+use Rattle.arc_ast.specs.declared.tree.Sign.TheVariants as signs
 use Rattle.arc_ast.specs.Tree as tree
-use Rattle.arc_ast.specs.Tree.{ExprTree, ExprTrees, Integer, Text, Paren, Call, Negate, Binary, Name, Assign, Send, ReceiverTree, Named, Itself, Super, no_exprs, and_expr, VariableTree, StmtTree, StmtTrees, Block, Empty, Simple, Variables, If, IfElse, While, no_stmts, and_stmt, ParameterTree, FunctionTree, MethodTree, ImplementationTree, UnitTree}
-use Rattle.arc_spec.specs.Resolved.{Value, Number, ReadByte, Print, Negated, Combined, Converted, Local, Assigned, Invoked, Sent, SentSuper, Values, no_values, and_value, Command, Sequence, Evaluate, Return, Choose, Repeat, Commands, no_commands, and_command, Function, Program}
+use Rattle.arc_ast.specs.Tree.{TypeTree, ExprTree, ExprTrees, Integer, Text, Paren, Call, Name, Negate, Cast, Binary, Arrow, Assign, Send, SendSuper, no_exprs, and_expr, VariableTree, StmtTree, StmtTrees, Block, Empty, Simple, Variables, If, IfElse, While, no_stmts, and_stmt, ParameterTree, FunctionTree, MethodTree, ImplementationTree, UnitTree}
+use Rattle.arc_spec.specs.Resolved.{Value, Reference, Number, ReadByte, Print, Negated, Combined, Converted, Local, Assigned, Invoked, Sent, SentSuper, SentTo, SentToSuper, Field, FieldAssigned, Differ, IsObject, Nil, Itself, Variable, Stored, Made, Initialized, Values, no_values, and_value, Command, Sequence, Evaluate, EvaluateReference, Begin, Return, Choose, Repeat, Commands, no_commands, and_command, Function, Program}
 use Rattle.arc_class.specs.Bodies.{named_parameters}
-use Rattle.arc_class.specs.Classes.{classes}
+use Rattle.arc_class.specs.Running.{classes}
 use Rattle.arc_class.specs.Names.{number_of, is_main}
+use Rattle.arc_class.specs.Table.{number_of_class}
+use Rattle.arc_class.specs.declared.table.FoundField.{FoundField}
 use Rattle.arc_check.specs.declared.callee.Callee.{Callee}
 use Rattle.arc_check.specs.declared.callee.Callee.TheVariants.{Printf, GetChar, Defined, Unknown}
 use Rattle.arc_check.specs.declared.format.Begun.TheVariants.{Nothing}
 use Rattle.arc_check.specs.Kinds.{literal_kind, wider, given_kind}
 use Rattle.arc_check.specs.Formats.{parts, printed}
-use Rattle.arc_check.specs.Scopes.{Known, Scope, declare, with_parameters, leave, behind, behind_all, outermost, in_method, callee, result_kind, is_printf, above, receiving, sent_kind}
-use Rattle.arc_check.specs.Rules.{known_of}
+use Rattle.arc_check.specs.Scopes as scopes
+use Rattle.arc_check.specs.Scopes.{Known, Scope, declare, with_parameters, leave, behind, behind_all, outermost, in_method, callee, result_kind, is_printf, own_field, above, class_receiver, object_result, super_kind, class_of}
+use Rattle.arc_check.specs.Rules.{is_object, known_of}
+
+-- What an expression is resolved to, which breaks no rule: a number of a kind, or an object. What stands below for one that breaks a rule is never asked for.
+pub data Resolution : Type 0 where
+  Gives : Kind → Value → Resolution
+  Refers : Reference → Resolution
+
+abbrev pub kind_in : Resolution → Kind
+kind_in (Gives kind a) = kind
+kind_in (Refers r) = k.Object
+
+-- the number, and of an object whether it is one: so tests are resolved (C99, section 6.8.4.1)
+abbrev pub number_in : Resolution → Value
+number_in (Gives kind a) = a
+number_in (Refers r) = IsObject r
+
+abbrev pub object_in : Resolution → Reference
+object_in (Gives kind a) = Nil
+object_in (Refers r) = r
 
 abbrev pub kind_or_int : Option Kind → Kind
 kind_or_int None = k.Int
 kind_or_int (Some kind) = kind
-
--- the kind of an expression that breaks no rule; a text has none, and its kind here is never asked for
-abbrev pub kind : Scope → ExprTree → Kind
-kind s (Integer at n) = literal_kind n
-kind s (Text at bytes) = k.Int
-kind s (Paren at a) = kind s a
-kind s (Call at name arguments) = result_kind (callee s.known name)
-kind s (Negate at a) = kind s a
-kind s (Binary at operator a b) = given_kind operator (wider (kind s a) (kind s b))
-kind s (Name at name) = k.Int
-kind s (Assign at sign a b) = kind s a
-kind s (Send at part receiver selector arguments) = kind_or_int (sent_kind s.known (receiving s receiver) selector)
 
 -- a value of one kind as one of another (C99, section 6.3.1.8; for an assignment section 6.5.16.1, and for a returned value section 6.8.6.4)
 abbrev pub as_kind : Kind → Kind → Value → Value
@@ -38,17 +51,38 @@ as_kind k.Long k.Int a = Converted k.Long a
 as_kind k.Int k.Long a = Converted k.Int a
 as_kind _ _ a = a
 
--- a number that there is; without one a rule is broken, and what stands here is never asked for
+-- a number as one of a kind, and as an int
+abbrev pub converted : Kind → Resolution → Value
+converted kind a = as_kind kind (kind_in a) (number_in a)
+
+abbrev pub int_in : Resolution → Value
+int_in = converted k.Int
+
+-- a number that there is
 abbrev pub number : Option ℕ → ℕ
 number None = 0
 number (Some n) = n
+
+-- ---- operators and calls
+
+abbrev pub negated : Resolution → Resolution
+negated a = Gives (kind_in a) (Negated (kind_in a) (number_in a))
+
+-- an operator computes in the wider kind of its operands
+abbrev pub combined : BinaryOperator → Kind → Resolution → Resolution → Resolution
+combined operator kind a b = Gives (given_kind operator kind) (Combined operator kind (converted kind a) (converted kind b))
+
+-- `!=` compares numbers, or objects
+abbrev pub binary : BinaryOperator → Resolution → Resolution → Resolution
+binary o.NotEqual (Refers a) (Refers b) = Gives k.Int (Differ a b)
+binary operator a b = combined operator (wider (kind_in a) (kind_in b)) a b
 
 -- the bytes of a text
 abbrev pub text_of : ExprTree → List ℕ
 text_of (Text at bytes) = bytes
 text_of _ = []
 
--- the format of a call of printf, its first argument; without one the call breaks a rule, and what stands here is never asked for
+-- the format of a call of printf, its first argument
 abbrev pub format : ExprTrees → List ℕ
 format no_exprs = []
 format (and_expr a others) = text_of a
@@ -64,66 +98,146 @@ called GetChar arguments all = ReadByte
 called (Defined result count body) arguments all = Invoked (number body) all
 called Unknown arguments all = ReadByte
 
--- A message to a class or to `self`, which is the first variable of a method, is looked up from the class that gets it, and one to `super` from the superclass
--- of the class whose method has it (OPL, "Messages to self and super").
-abbrev pub sent : Scope → ReceiverTree → (selector : ℕ) → Values → Value
-sent s (Named at name) selector all = Sent (Number (pos (number (s.known.class name)))) selector all
-sent s (Itself at) selector all = Sent (Local 0) selector all
-sent s (Super at) selector all = SentSuper (number (above s.known s.class)) selector all
-
--- the number of the variable that an assignment's left side names
-abbrev pub variable : Scope → ExprTree → ℕ
-variable s (Paren at a) = variable s a
-variable s (Name at name) = number (s.variables name)
-variable s _ = 0
-
 -- a value that printf prints keeps its kind, and any other argument is an int
-abbrev pub argument : (printed : Bool) → Kind → Value → Value
-argument printed kind a = if printed then a else as_kind k.Int kind a
+abbrev pub argument : (printed : Bool) → Resolution → Value
+argument printed a = if printed then number_in a else int_in a
 
--- an expression; a text is resolved with its call, and what stands here for one alone is never asked for
+-- ---- names, fields and assignments
+
+-- a field of an object, and an assignment to it
+abbrev pub field : Reference → Option FoundField → Resolution
+field r None = Gives k.Int (Number (pos 0))
+field r (Some f) = Gives k.Int (Field r (number_of_class f.owner) f.index)
+
+abbrev pub field_assigned : Reference → Option FoundField → Resolution → Resolution
+field_assigned r None a = a
+field_assigned r (Some f) a = Gives k.Int (FieldAssigned r (number_of_class f.owner) f.index (int_in a))
+
+-- what a name means: a variable, or else a field of `self`; and an assignment to it
+abbrev pub named : Option scopes.Local → Option FoundField → Resolution
+named None own = field Itself own
+named (Some (scopes.Int n)) own = Gives k.Int (Local n)
+named (Some (scopes.Object n class)) own = Refers (Variable n)
+
+abbrev pub name_assigned : Option scopes.Local → Option FoundField → Resolution → Resolution
+name_assigned None own a = field_assigned Itself own a
+name_assigned (Some (scopes.Int n)) own a = Gives k.Int (Assigned n (int_in a))
+name_assigned (Some (scopes.Object n class)) own a = Refers (Stored n (object_in a))
+
+-- ---- messages
+
+-- the value of a receiver that is the class of a number: `self` is the first int of a class method
+abbrev pub class_value : ExprTree → (class : ℕ) → Value
+class_value (tree.Itself at) class = Local 0
+class_value _ class = Number (pos class)
+
+-- What gives an object is built in: `alloc` and `new` of classes, and `init` of objects. (What else gives the object that gets it is refused by the rules of
+-- ownership, and stands here as `init`.)
+abbrev pub to_class : Option Kind → Value → (selector : ℕ) → Values → Resolution
+to_class kind class selector all = if is_object kind then Refers (Made class) else Gives (kind_or_int kind) (Sent class selector all)
+
+abbrev pub to_object : Option Kind → Reference → (selector : ℕ) → Values → Resolution
+to_object kind r selector all = if is_object kind then Refers (Initialized r) else Gives (kind_or_int kind) (SentTo r selector all)
+
+-- a message to a class, or else to an object with a static class (OPL, "Messages to self and super")
+abbrev pub sent : Scope → ExprTree → (class static : Option ℕ) → Resolution → List ℕ → Values → Resolution
+sent s receiver (Some class) static a name all =
+    to_class (s.known.result (Some class) signs.Class name) (class_value receiver class) (number (s.known.selector name)) all
+sent s receiver None static a name all = to_object (object_result s.known static name) (object_in a) (number (s.known.selector name)) all
+
+-- a message to `super`: it goes to `self`, and its method is looked up from the superclass of the class whose method has it
+abbrev pub made_by_super : Sign → Resolution
+made_by_super signs.Class = Refers (Made (Local 0))
+made_by_super signs.Instance = Refers (Initialized Itself)
+
+abbrev pub super_value : Sign → (from selector : ℕ) → Values → Value
+super_value signs.Class from selector all = SentSuper from selector all
+super_value signs.Instance from selector all = SentToSuper from selector all
+
+abbrev pub to_super : Sign → Option Kind → (from selector : ℕ) → Values → Resolution
+to_super sign kind from selector all = if is_object kind then made_by_super sign else Gives (kind_or_int kind) (super_value sign from selector all)
+
+abbrev pub sent_super : Scope → List ℕ → Values → Resolution
+sent_super s name all = to_super s.sign (super_kind s name) (number (above s.known s.class)) (number (s.known.selector name)) all
+
+-- ---- expressions
+
+-- an expression; a text is resolved with its call, and casts and parentheses vanish
 abbrev mutual
-  pub resolved : Scope → ExprTree → Value
-  resolved s (Integer at n) = Number n
-  resolved s (Text at bytes) = Number (pos 0)
+  pub resolved : Scope → ExprTree → Resolution
+  resolved s (Integer at n) = Gives (literal_kind n) (Number n)
+  resolved s (Text at bytes) = Gives k.Int (Number (pos 0))
   resolved s (Paren at a) = resolved s a
-  resolved s (Call at name arguments) = called (callee s.known name) arguments (resolved_all s (is_printf (callee s.known name)) arguments)
-  resolved s (Negate at a) = Negated (kind s a) (resolved s a)
-  resolved s (Binary at operator a b) =
-      let both = wider (kind s a) (kind s b) in Combined operator both (as_kind both (kind s a) (resolved s a)) (as_kind both (kind s b) (resolved s b))
-  resolved s (Name at name) = Local (number (s.variables name))
-  resolved s (Assign at sign a b) = Assigned (variable s a) (as_kind k.Int (kind s b) (resolved s b))
-  resolved s (Send at part receiver selector arguments) = sent s receiver (number (s.known.selector selector)) (resolved_all s false arguments)
+  resolved s (Call at name arguments) =
+      Gives (result_kind (callee s.known name)) (called (callee s.known name) arguments (resolved_all s (is_printf (callee s.known name)) arguments))
+  resolved s (tree.Nil at) = Refers Nil
+  resolved s (tree.Itself at) = Refers Itself
+  resolved s (Name at name) = named (s.variables name) (own_field s name)
+  resolved s (Negate at a) = negated (resolved s a)
+  resolved s (Cast at type a) = resolved s a
+  resolved s (Binary at operator a b) = binary operator (resolved s a) (resolved s b)
+  resolved s (Arrow at name_at a name) = field (object_in (resolved s a)) (s.known.field (class_of s a) name)
+  resolved s (Assign at sign a b) = assigned s a (resolved s b)
+  resolved s (Send at part receiver selector arguments) =
+      sent s receiver (class_receiver s receiver) (class_of s receiver) (resolved s receiver) selector (resolved_all s false arguments)
+  resolved s (SendSuper at part super_at selector arguments) = sent_super s selector (resolved_all s false arguments)
+
+  -- An assignment to its left side; to `self` it is refused by the rules of ownership, and stands here as what is assigned.
+  pub assigned : Scope → ExprTree → Resolution → Resolution
+  assigned s (Paren at a) b = assigned s a b
+  assigned s (Name at name) b = name_assigned (s.variables name) (own_field s name) b
+  assigned s (Arrow at name_at a name) b = field_assigned (object_in (resolved s a)) (s.known.field (class_of s a) name) b
+  assigned s _ b = b
 
   pub resolved_all : Scope → (printed : Bool) → ExprTrees → Values
   resolved_all s printed no_exprs = no_values
-  resolved_all s printed (and_expr a others) = and_value (argument printed (kind s a) (resolved s a)) (resolved_all s printed others)
+  resolved_all s printed (and_expr a others) = and_value (argument printed (resolved s a)) (resolved_all s printed others)
+
+-- ---- statements
+
+abbrev pub nothing : Command
+nothing = Sequence 0 0 no_commands
+
+abbrev pub evaluated : Resolution → Command
+evaluated (Gives kind a) = Evaluate a
+evaluated (Refers r) = EvaluateReference r
 
 -- an expression's value, as an int
 abbrev pub as_int : Scope → ExprTree → Value
-as_int s a = as_kind k.Int (kind s a) (resolved s a)
+as_int s a = int_in (resolved s a)
 
--- what a variable begins with (this project's own choice where nothing is written: 0)
+-- what an int begins with (this project's own choice where nothing is written: 0)
 abbrev pub initial : Scope → Option ExprTree → Value
 initial s None = Number (pos 0)
 initial s (Some a) = as_int s a
 
--- a declaration assigns to its variables in turn, each time that it runs
-abbrev pub resolved_variables : Scope → List VariableTree → Commands
-resolved_variables s [] = no_commands
-resolved_variables s (v ∷ others) = and_command (Evaluate (Assigned s.next (initial (declare v.name s) v.initial))) (resolved_variables (declare v.name s) others)
+-- a variable that names objects begins with nil, and then names what is written (ARC, "Ownership qualification")
+abbrev pub begun : Scope → (n : ℕ) → Option ExprTree → Commands → Commands
+begun s n None others = others
+begun s n (Some a) others = and_command (Begin n (object_in (resolved s a))) others
 
--- a statement
+-- a declared variable, from the scope before it and the one behind it
+abbrev pub declared : TypeTree → (before after : Scope) → Option ExprTree → Commands → Commands
+declared tree.Int before after a others = and_command (Evaluate (Assigned before.next (initial after a))) others
+declared tree.Id before after a others = begun after before.names a others
+declared (tree.Object at class) before after a others = begun after before.names a others
+
+-- a declaration gives its variables their values in turn, each time that it runs
+abbrev pub resolved_variables : TypeTree → Scope → List VariableTree → Commands
+resolved_variables type s [] = no_commands
+resolved_variables type s (v ∷ others) = declared type s (declare v.name type s) v.initial (resolved_variables type (declare v.name type s) others)
+
+-- A statement. A block's own variables that name objects are those that got their numbers in it.
 abbrev mutual
   pub resolved_stmt : Scope → StmtTree → Command
-  resolved_stmt s (Block at all) = Sequence (resolved_stmts s all)
-  resolved_stmt s (Empty at) = Sequence no_commands
-  resolved_stmt s (Simple a) = Evaluate (resolved s a)
+  resolved_stmt s (Block at all) = Sequence s.names ((behind_all s all).names - s.names) (resolved_stmts s all)
+  resolved_stmt s (Empty at) = nothing
+  resolved_stmt s (Simple a) = evaluated (resolved s a)
   resolved_stmt s (tree.Return at a) = Return (option_map (as_int s) a)
-  resolved_stmt s (Variables at all) = Sequence (resolved_variables s all)
-  resolved_stmt s (If at c a) = Choose (resolved s c) (resolved_stmt s a) (Sequence no_commands)
-  resolved_stmt s (IfElse at c a b) = Choose (resolved s c) (resolved_stmt s a) (resolved_stmt (leave s (behind s a)) b)
-  resolved_stmt s (While at c a) = Repeat (resolved s c) (resolved_stmt s a)
+  resolved_stmt s (Variables at type all) = Sequence 0 0 (resolved_variables type s all)
+  resolved_stmt s (If at c a) = Choose (number_in (resolved s c)) (resolved_stmt s a) nothing
+  resolved_stmt s (IfElse at c a b) = Choose (number_in (resolved s c)) (resolved_stmt s a) (resolved_stmt (leave s (behind s a)) b)
+  resolved_stmt s (While at c a) = Repeat (number_in (resolved s c)) (resolved_stmt s a)
 
   pub resolved_stmts : Scope → StmtTrees → Commands
   resolved_stmts s no_stmts = no_commands
@@ -131,7 +245,7 @@ abbrev mutual
 
 -- a function, in whose scope its parameters are; it has as many variables as have got numbers
 abbrev pub resolved_body : Scope → StmtTrees → Function
-resolved_body s body = record { slots = (behind_all s body).next; body = resolved_stmts s body }
+resolved_body s body = record { slots = (behind_all s body).next; names = (behind_all s body).names; body = resolved_stmts s body }
 
 abbrev pub with_function : Known → List ParameterTree → Option StmtTrees → List Function → List Function
 with_function known parameters None others = others
@@ -146,7 +260,7 @@ resolved_functions known (f ∷ others) = with_function known (named_parameters 
 abbrev pub with_methods : Known → (class : Option ℕ) → List MethodTree → List Function → List Function
 with_methods known class [] others = others
 with_methods known class (m ∷ rest) others =
-    resolved_body (with_parameters (in_method known class) m.head.parameters) m.body ∷ with_methods known class rest others
+    resolved_body (with_parameters (in_method known class m.head.sign) m.head.parameters) m.body ∷ with_methods known class rest others
 
 -- the methods of all implementations, in their order
 abbrev pub resolved_methods : Known → List ImplementationTree → List Function

@@ -1,19 +1,25 @@
 -- The rules for functions and methods: names, kinds, counts of arguments, formats, and the number of variables.
-use Rattle.std.specs.Prelude.{ℕ, suc, Bool, true, false, ◌&&◌, not, List, [], ◌∷◌, ◌++◌, length, Option, Some, None, is_some, is_none, nat_lt, nat_eq, if◌then◌else◌}
+use Rattle.std.specs.Prelude.{ℕ, suc, Bool, true, false, ◌&&◌, ◌||◌, not, List, [], ◌∷◌, ◌++◌, length, Option, Some, None, is_some, is_none, nat_lt, nat_eq, slice_get, if◌then◌else◌}
 use Rattle.arc_ast.specs.declared.tree.Kind.{Kind}
 use Rattle.arc_ast.specs.declared.tree.Kind.TheVariants as k
 use Rattle.arc_ast.specs.declared.tree.BinaryOperator.{BinaryOperator}
 use Rattle.arc_ast.specs.declared.tree.BinaryOperator.TheVariants as o
-use Rattle.arc_ast.specs.Tree.{ExprTree, ExprTrees, Integer, Text, Paren, Call, Negate, Binary, Name, Assign, Send, ReceiverTree, Named, Itself, Super, no_exprs, and_expr, place, VariableTree, StmtTree, StmtTrees, Block, Empty, Simple, Return, Variables, If, IfElse, While, no_stmts, and_stmt, ParameterTree, FunctionTree, HeadTree, MethodTree, InterfaceTree, ImplementationTree, UnitTree}
+use Rattle.arc_ast.specs.Tree as tree
+use Rattle.arc_ast.specs.Tree.{TypeTree, ExprTree, ExprTrees, Integer, Text, Paren, Call, Nil, Itself, Name, Negate, Cast, Binary, Arrow, Assign, Send, SendSuper, no_exprs, and_expr, place, VariableTree, StmtTree, StmtTrees, Block, Empty, Simple, Return, Variables, If, IfElse, While, no_stmts, and_stmt, ParameterTree, FunctionTree, HeadTree, MethodTree, InterfaceTree, ImplementationTree, UnitTree}
 use Rattle.arc_class.specs.Bodies.{broken_if, named_parameters}
 use Rattle.arc_class.specs.Broken.{Broken}
-use Rattle.arc_class.specs.Classes.{class_number, superclass, known_result, selector_number}
+use Rattle.arc_class.specs.Classes.{class_number, superclass, known_result, any_result, selector_number}
+use Rattle.arc_class.specs.Fields.{known_field}
+use Rattle.arc_class.specs.Running.{classes}
+use Rattle.arc_class.specs.declared.table.FoundField.{FoundField}
 use Rattle.arc_class.specs.Names.{known}
+use Rattle.arc_spec.specs.Classes.{descends}
 use Rattle.arc_check.specs.declared.callee.Callee.{Callee}
 use Rattle.arc_check.specs.declared.callee.Callee.TheVariants.{Printf, GetChar, Defined, Unknown}
 use Rattle.arc_check.specs.Formats.{wanted, fits}
 use Rattle.arc_check.specs.Kinds.{literal_kind, wider}
-use Rattle.arc_check.specs.Scopes.{Known, Scope, is_full, declare, with_parameters, leave, behind, outermost, in_method, callee, result_kind, is_printf, receiving, sent_kind}
+use Rattle.arc_check.specs.Scopes.{Known, Local, Scope, is_full, declare, with_parameters, leave, behind, outermost, in_method, callee, result_kind, is_printf, own_class, own_field, is_visible, class_receiver, sent_kind, super_kind, class_of}
+use Rattle.arc_check.specs.Scopes as scopes
 
 abbrev pub count : ExprTrees → ℕ
 count no_exprs = 0
@@ -47,11 +53,7 @@ call_rule GetChar arguments kinds = other_rule GetChar (count arguments)
 call_rule (Defined result wanted body) arguments kinds = other_rule (Defined result wanted body) (count arguments)
 call_rule Unknown arguments kinds = Some 41
 
--- whether an assignment's left side is a variable's name, parentheses aside
-abbrev pub is_variable : ExprTree → Bool
-is_variable (Paren at a) = is_variable a
-is_variable (Name at name) = true
-is_variable _ = false
+-- ---- kinds
 
 abbrev pub kind_if : Bool → Kind → Option Kind
 kind_if true kind = Some kind
@@ -74,19 +76,55 @@ abbrev pub binary_kind : BinaryOperator → Option Kind → Option Kind → Opti
 binary_kind o.NotEqual a b = Some k.Int
 binary_kind _ a b = both_kinds (number_kind a) (number_kind b)
 
--- The kind of an expression, where it has one: it breaks no rule itself, and those have one on whose kinds its own rests. A variable is an int, and an
--- assignment has its left side's kind (C99, section 6.5.16).
+abbrev pub is_object : Option Kind → Bool
+is_object (Some k.Object) = true
+is_object _ = false
+
+-- fields are ints
+abbrev pub field_kind : Scope → Option FoundField → Option Kind
+field_kind s None = None
+field_kind s (Some f) = kind_if (is_visible s f) k.Int
+
+-- the kind of what a name means: a variable, or else a field of `self`
+abbrev pub name_kind : Scope → Option Local → List ℕ → Option Kind
+name_kind s None name = field_kind s (own_field s name)
+name_kind s (Some (scopes.Int n)) name = Some k.Int
+name_kind s (Some (scopes.Object n class)) name = Some k.Object
+
+-- the kind of a field of an expression of a kind, which has to be an object
+abbrev pub arrow_kind : Scope → Option Kind → Option FoundField → Option Kind
+arrow_kind s kind f = if is_object kind then field_kind s f else None
+
+-- the kind of a message to a class, or else to what has a kind and a static class
+abbrev pub message_kind : Scope → (class : Option ℕ) → Option Kind → (static : Option ℕ) → List ℕ → Option Kind
+message_kind s class kind static selector = if is_some class || is_object kind then sent_kind s.known class static selector else None
+
+-- whether an assignment's left side is a name, a field or `self`, parentheses aside
+abbrev pub is_assignable : ExprTree → Bool
+is_assignable (Paren at a) = is_assignable a
+is_assignable (Itself at) = true
+is_assignable (Name at name) = true
+is_assignable (Arrow at name_at a name) = true
+is_assignable _ = false
+
+-- The kind of an expression, where it has one: it breaks no rule itself, and those have one on whose kinds its own rests. An assignment has its left side's
+-- kind (C99, section 6.5.16).
 abbrev mutual
   pub kind_of : Scope → ExprTree → Option Kind
   kind_of s (Integer at n) = Some (literal_kind n)
   kind_of s (Text at bytes) = None
   kind_of s (Paren at a) = kind_of s a
   kind_of s (Call at name arguments) = kind_if (is_none (call_rule (callee s.known name) arguments (kinds s arguments))) (result_kind (callee s.known name))
+  kind_of s (Nil at) = Some k.Object
+  kind_of s (Itself at) = kind_if (is_some (own_class s)) k.Object
+  kind_of s (Name at name) = name_kind s (s.variables name) name
   kind_of s (Negate at a) = number_kind (kind_of s a)
+  kind_of s (Cast at type a) = Some k.Object
   kind_of s (Binary at operator a b) = binary_kind operator (kind_of s a) (kind_of s b)
-  kind_of s (Name at name) = kind_if (is_some (s.variables name)) k.Int
-  kind_of s (Assign at sign a b) = if is_variable a then kind_of s a else None
-  kind_of s (Send at part receiver selector arguments) = sent_kind s.known (receiving s receiver) selector
+  kind_of s (Arrow at name_at a name) = arrow_kind s (kind_of s a) (s.known.field (class_of s a) name)
+  kind_of s (Assign at sign a b) = if is_assignable a then kind_of s a else None
+  kind_of s (Send at part receiver selector arguments) = message_kind s (class_receiver s receiver) (kind_of s receiver) (class_of s receiver) selector
+  kind_of s (SendSuper at part super_at selector arguments) = super_kind s selector
 
   pub kinds : Scope → ExprTrees → List (Option Kind)
   kinds s no_exprs = []
@@ -97,11 +135,23 @@ abbrev pub no_value : Option Kind → ℕ → List Broken
 no_value (Some k.Void) at = record { at = at; number = 43 } ∷ []
 no_value _ at = []
 
--- 43 KindMismatch, at an expression's place: it gives no number where one is needed
+-- the same where it gives no number and one is needed
 abbrev pub no_number : Option Kind → ℕ → List Broken
 no_number (Some k.Void) at = record { at = at; number = 43 } ∷ []
 no_number (Some k.Object) at = record { at = at; number = 43 } ∷ []
 no_number _ at = []
+
+-- and where it gives no object and one is needed
+abbrev pub no_object : Option Kind → ℕ → List Broken
+no_object None at = []
+no_object (Some k.Object) at = []
+no_object (Some _) at = record { at = at; number = 43 } ∷ []
+
+-- An object is assigned to what names objects, and a number to an int (C99, section 6.5.16.1); what has no kind breaks another rule.
+abbrev pub no_such : (wanted given : Option Kind) → ℕ → List Broken
+no_such None given at = []
+no_such (Some k.Object) given at = no_object given at
+no_such (Some _) given at = no_number given at
 
 -- An operator computes with numbers; `!=` compares two numbers or two objects, and tells an object and a number at the second (C99, section 6.5.9).
 abbrev pub no_left : BinaryOperator → Option Kind → ℕ → List Broken
@@ -118,28 +168,35 @@ abbrev pub broken_at : ℕ → Option ℕ → List Broken
 broken_at at None = []
 broken_at at (Some number) = record { at = at; number = number } ∷ []
 
-abbrev pub is_empty : List Broken → Bool
-is_empty [] = true
-is_empty (a ∷ others) = false
-
 abbrev pub unless : Bool → List Broken → List Broken
 unless true all = []
 unless false all = all
 
--- the rule that a receiver breaks, at its place: 43 KindMismatch for a number's variable, 41 UnknownName for a name that is neither a variable's nor a class's, and
--- for `self` outside methods
-abbrev pub broken_receiver : Scope → ReceiverTree → List Broken
-broken_receiver s (Named at name) = if is_some (s.variables name) then record { at = at; number = 43 } ∷ [] else broken_if (is_none (s.known.class name)) at 41
-broken_receiver s (Itself at) = broken_if (is_none s.class) at 41
-broken_receiver s (Super at) = []
+-- 41 UnknownName, at a field's name: there is no such field. 49 FieldHidden, there too: it may not be named here (OPL, "The Scope of Instance Variables").
+abbrev pub no_field : Scope → Option FoundField → ℕ → List Broken
+no_field s None at = record { at = at; number = 41 } ∷ []
+no_field s (Some f) at = broken_if (not (is_visible s f)) at 49
 
--- 42 NoSuchMethod, at the first part of the selector: no method is known for a message whose receiver breaks no rule
-abbrev pub no_method : Scope → ReceiverTree → List ℕ → ℕ → List Broken
-no_method s receiver selector part =
-    broken_if (is_empty (broken_receiver s receiver) && is_none (sent_kind s.known (receiving s receiver) selector)) part 42
+-- 41 UnknownName: a name that means neither a variable nor a field of `self` (C99, section 6.5.1)
+abbrev pub broken_name : Scope → Option Local → List ℕ → ℕ → List Broken
+broken_name s None name at = no_field s (own_field s name) at
+broken_name s (Some local) name at = []
 
--- All that is wrong with an expression. 41 UnknownName: a variable that isn't in scope (C99, section 6.5.1). 43 KindMismatch: a text stands anywhere but as the
--- first argument of printf. 44 NotAssignable, at the `=`: the left side is no variable (section 6.5.16).
+-- `self` is known in methods alone, and in a class method it is only sent messages: 41 UnknownName, and 43 KindMismatch
+abbrev pub broken_itself : Scope → ℕ → List Broken
+broken_itself s at = if is_some (own_class s) then [] else record { at = at; number = if is_some s.class then 43 else 41 } ∷ []
+
+-- the field of an expression of a kind, which has to be an object
+abbrev pub broken_field : Scope → Option Kind → Option FoundField → ℕ → List Broken
+broken_field s kind f at = if is_object kind then no_field s f at else []
+
+-- 42 NoSuchMethod, at the first part of the selector: no method is known for a message to a class, or else to what has a kind and a static class
+abbrev pub no_method : Scope → (class : Option ℕ) → Option Kind → (static : Option ℕ) → List ℕ → ℕ → List Broken
+no_method s class kind static selector part =
+    broken_if ((is_some class || is_object kind) && is_none (sent_kind s.known class static selector)) part 42
+
+-- All that is wrong with an expression but for the number of objects that it takes. 43 KindMismatch: a text stands anywhere but as the first argument of printf.
+-- 44 NotAssignable, at the `=`: the left side is no variable, no field and not `self` (C99, section 6.5.16). A receiver is a class or has to be an object.
 abbrev mutual
   pub broken : Scope → ExprTree → List Broken
   broken s (Integer at n) = []
@@ -147,13 +204,21 @@ abbrev mutual
   broken s (Paren at a) = broken s a
   broken s (Call at name arguments) =
       broken_at at (call_rule (callee s.known name) arguments (kinds s arguments)) ++ broken_arguments s (is_printf (callee s.known name)) (is_printf (callee s.known name)) arguments
+  broken s (Nil at) = []
+  broken s (Itself at) = broken_itself s at
+  broken s (Name at name) = broken_name s (s.variables name) name at
   broken s (Negate at a) = broken s a ++ no_number (kind_of s a) (place a)
+  broken s (Cast at type a) = broken s a ++ no_object (kind_of s a) (place a)
   broken s (Binary at operator a b) =
       (broken s a ++ no_left operator (kind_of s a) (place a)) ++ (broken s b ++ no_right operator (kind_of s a) (kind_of s b) (place b))
-  broken s (Name at name) = broken_if (is_none (s.variables name)) at 41
-  broken s (Assign at sign a b) = (broken s a ++ broken_if (not (is_variable a)) sign 44) ++ (broken s b ++ no_number (kind_of s b) (place b))
+  broken s (Arrow at name_at a name) =
+      (broken s a ++ no_object (kind_of s a) (place a)) ++ broken_field s (kind_of s a) (s.known.field (class_of s a) name) name_at
+  broken s (Assign at sign a b) = (broken s a ++ broken_if (not (is_assignable a)) sign 44) ++ (broken s b ++ no_such (kind_of s a) (kind_of s b) (place b))
   broken s (Send at part receiver selector arguments) =
-      (broken_receiver s receiver ++ no_method s receiver selector part) ++ broken_arguments s false false arguments
+      (unless (is_some (class_receiver s receiver)) (broken s receiver ++ no_object (kind_of s receiver) (place receiver))
+      ++ no_method s (class_receiver s receiver) (kind_of s receiver) (class_of s receiver) selector part)
+      ++ broken_arguments s false false arguments
+  broken s (SendSuper at part super_at selector arguments) = broken_if (is_none (super_kind s selector)) part 42 ++ broken_arguments s false false arguments
 
   -- what printf prints may be of any kind here, since a wrong one breaks the rule of formats
   pub broken_arguments : Scope → (printed text_may_begin : Bool) → ExprTrees → List Broken
@@ -161,32 +226,97 @@ abbrev mutual
   broken_arguments s printed text_may_begin (and_expr a others) =
       (unless (text_may_begin && is_text a) (broken s a) ++ unless printed (no_number (kind_of s a) (place a))) ++ broken_arguments s printed false others
 
--- all that is wrong with an expression that has to give a number
+-- ---- how many objects an expression takes
+
+abbrev pub at_if : Bool → ℕ → List ℕ
+at_if so at = if so then at ∷ [] else []
+
+-- a name reads the variable that it means, or `self`, whose field it means
+abbrev pub name_takes : Scope → Option Local → List ℕ → Bool
+name_takes s None name = is_some (own_field s name)
+name_takes s (Some (scopes.Int n)) name = false
+name_takes s (Some (scopes.Object n class)) name = true
+
+-- whether an assignment's left side is a variable or `self`, which it doesn't read
+abbrev pub is_unread : Scope → ExprTree → Bool
+is_unread s (Paren at a) = is_unread s a
+is_unread s (Itself at) = true
+is_unread s (Name at name) = is_some (s.variables name)
+is_unread s _ = false
+
+-- The places at which an expression takes an object, in the order of the source: each read of a variable that names objects, and of `self` (by `super` and by the
+-- name of a field too), each message that gives an object, at its selector's first part, and each assignment of one, at its `=` (this project's own choice).
+abbrev mutual
+  pub taken : Scope → ExprTree → List ℕ
+  taken s (Integer at n) = []
+  taken s (Text at bytes) = []
+  taken s (Paren at a) = taken s a
+  taken s (Call at name arguments) = all_taken s arguments
+  taken s (Nil at) = []
+  taken s (Itself at) = at_if (is_some (own_class s)) at
+  taken s (Name at name) = at_if (name_takes s (s.variables name) name) at
+  taken s (Negate at a) = taken s a
+  taken s (Cast at type a) = taken s a
+  taken s (Binary at operator a b) = taken s a ++ taken s b
+  taken s (Arrow at name_at a name) = taken s a
+  taken s (Assign at sign a b) = ((if is_unread s a then [] else taken s a) ++ at_if (is_object (kind_of s a)) sign) ++ taken s b
+  taken s (Send at part receiver selector arguments) =
+      (taken s receiver ++ at_if (is_object (message_kind s (class_receiver s receiver) (kind_of s receiver) (class_of s receiver) selector)) part) ++ all_taken s arguments
+  taken s (SendSuper at part super_at selector arguments) =
+      (at_if (is_some (own_class s)) super_at ++ at_if (is_object (super_kind s selector)) part) ++ all_taken s arguments
+
+  pub all_taken : Scope → ExprTrees → List ℕ
+  all_taken s no_exprs = []
+  all_taken s (and_expr a others) = taken s a ++ all_taken s others
+
+-- how many objects a full-expression takes at most (this project's own choice)
+abbrev pub most_taken : ℕ
+most_taken = 200
+
+-- 50 TooManyLocals, at the place at which one more is taken
+abbrev pub one_too_many : Option ℕ → List Broken
+one_too_many None = []
+one_too_many (Some at) = record { at = at; number = 50 } ∷ []
+
+-- all that is wrong with a full-expression (C99, section 6.8)
+abbrev pub broken_whole : Scope → ExprTree → List Broken
+broken_whole s a = broken s a ++ one_too_many (slice_get (taken s a) most_taken)
+
+-- and with one that has to give a number
 abbrev pub broken_number : Scope → ExprTree → List Broken
-broken_number s a = broken s a ++ no_number (kind_of s a) (place a)
+broken_number s a = broken_whole s a ++ no_number (kind_of s a) (place a)
+
+-- ---- statements
 
 -- all that is wrong with a test, which is a number or an object (C99, section 6.8.4.1)
 abbrev pub broken_test : Scope → ExprTree → List Broken
-broken_test s a = broken s a ++ no_value (kind_of s a) (place a)
+broken_test s a = broken_whole s a ++ no_value (kind_of s a) (place a)
 
-abbrev pub broken_initial : Scope → Option ExprTree → List Broken
-broken_initial s None = []
-broken_initial s (Some a) = broken_number s a
+-- the kind of what a variable of a type holds
+abbrev pub type_kind : TypeTree → Kind
+type_kind tree.Int = k.Int
+type_kind tree.Id = k.Object
+type_kind (tree.Object at name) = k.Object
 
--- 50 TooManyLocals: a variable past the 200th, at its name; a variable is in scope in its own initializer (C99, section 6.2.1)
-abbrev pub broken_variables : Scope → List VariableTree → List Broken
-broken_variables s [] = []
-broken_variables s (v ∷ others) = broken_if (is_full s) v.at 50 ++ (broken_initial (declare v.name s) v.initial ++ broken_variables (declare v.name s) others)
+abbrev pub broken_initial : Scope → TypeTree → Option ExprTree → List Broken
+broken_initial s type None = []
+broken_initial s type (Some a) = broken_whole s a ++ no_such (Some (type_kind type)) (kind_of s a) (place a)
+
+-- 50 TooManyLocals too: a variable past the 200th, at its name; a variable is in scope in its own initializer (C99, section 6.2.1)
+abbrev pub broken_variables : TypeTree → Scope → List VariableTree → List Broken
+broken_variables type s [] = []
+broken_variables type s (v ∷ others) =
+    broken_if (is_full s) v.at 50 ++ (broken_initial (declare v.name type s) type v.initial ++ broken_variables type (declare v.name type s) others)
 
 -- the same of parameters
 abbrev pub broken_parameters : Scope → List ParameterTree → List Broken
 broken_parameters s [] = []
-broken_parameters s (p ∷ others) = broken_if (is_full s) p.at 50 ++ broken_parameters (declare p.name s) others
+broken_parameters s (p ∷ others) = broken_if (is_full s) p.at 50 ++ broken_parameters (declare p.name tree.Int s) others
 
 -- 43 KindMismatch too: a value that a function without a result returns, at the value (C99, section 6.8.6.4)
 abbrev pub broken_result : (gives_nothing : Bool) → Scope → Option ExprTree → List Broken
 broken_result gives_nothing s None = []
-broken_result true s (Some a) = broken s a ++ record { at = place a; number = 43 } ∷ []
+broken_result true s (Some a) = broken_whole s a ++ record { at = place a; number = 43 } ∷ []
 broken_result false s (Some a) = broken_number s a
 
 -- all that is wrong with a statement
@@ -194,9 +324,9 @@ abbrev mutual
   pub broken_stmt : (gives_nothing : Bool) → Scope → StmtTree → List Broken
   broken_stmt gives_nothing s (Block at all) = broken_stmts gives_nothing s all
   broken_stmt gives_nothing s (Empty at) = []
-  broken_stmt gives_nothing s (Simple a) = broken s a
+  broken_stmt gives_nothing s (Simple a) = broken_whole s a
   broken_stmt gives_nothing s (Return at a) = broken_result gives_nothing s a
-  broken_stmt gives_nothing s (Variables at all) = broken_variables s all
+  broken_stmt gives_nothing s (Variables at type all) = broken_variables type s all
   broken_stmt gives_nothing s (If at c a) = broken_test s c ++ broken_stmt gives_nothing s a
   broken_stmt gives_nothing s (IfElse at c a b) = broken_test s c ++ (broken_stmt gives_nothing s a ++ broken_stmt gives_nothing (leave s (behind s a)) b)
   broken_stmt gives_nothing s (While at c a) = broken_test s c ++ broken_stmt gives_nothing s a
@@ -228,7 +358,7 @@ abbrev pub broken_functions : Known → List FunctionTree → List Broken
 broken_functions known [] = []
 broken_functions known (f ∷ others) = broken_function known f ++ broken_functions known others
 
--- 45 ArgumentCount too: a method with more parameters, declared or defined, at its `+`
+-- 45 ArgumentCount too: a method with more parameters, declared or defined, at its sign
 abbrev pub broken_head : HeadTree → List Broken
 broken_head h = broken_if (nat_lt most_parameters (length h.parameters)) h.at 45
 
@@ -242,7 +372,8 @@ broken_interfaces (i ∷ others) = broken_heads i.methods ++ broken_interfaces o
 
 abbrev pub broken_method : Known → (class : Option ℕ) → MethodTree → List Broken
 broken_method known class m = broken_head m.head
-    ++ (broken_parameters (in_method known class) m.head.parameters ++ broken_stmts (is_void m.head.result) (with_parameters (in_method known class) m.head.parameters) m.body)
+    ++ (broken_parameters (in_method known class m.head.sign) m.head.parameters
+    ++ broken_stmts (is_void m.head.result) (with_parameters (in_method known class m.head.sign) m.head.parameters) m.body)
 
 abbrev pub broken_methods : Known → (class : Option ℕ) → List MethodTree → List Broken
 broken_methods known class [] = []
@@ -258,8 +389,11 @@ known_of u = record {
   function = known u.functions;
   class = class_number u.interfaces;
   superclass = superclass u.interfaces;
+  descends = descends (classes u);
   result = known_result u;
+  result_of_any = any_result u;
   selector = selector_number u;
+  field = known_field u;
 }
 
 -- all that is wrong in the functions and the methods of a source

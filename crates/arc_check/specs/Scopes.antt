@@ -1,59 +1,100 @@
 -- What names mean at a place of a body.
-use Rattle.std.specs.Prelude.{ℕ, suc, ◌+◌, Bool, true, false, ◌||◌, nat_lt, List, [], ◌∷◌, Option, Some, None, is_some, codes, if◌then◌else◌}
+use Rattle.std.specs.Prelude.{ℕ, suc, ◌+◌, Bool, true, false, ◌||◌, not, nat_lt, nat_eq, List, [], ◌∷◌, Option, Some, None, is_some, codes, if◌then◌else◌}
 use Rattle.std.specs.Str.{bytes_eq}
 use Rattle.arc_ast.specs.declared.tree.Kind.{Kind}
 use Rattle.arc_ast.specs.declared.tree.Kind.TheVariants as k
-use Rattle.arc_ast.specs.Tree.{ReceiverTree, Named, Itself, Super, VariableTree, StmtTree, StmtTrees, Block, Empty, Simple, Return, Variables, If, IfElse, While, no_stmts, and_stmt, ParameterTree}
+use Rattle.arc_ast.specs.declared.tree.Sign.{Sign}
+use Rattle.arc_ast.specs.declared.tree.Sign.TheVariants as signs
+use Rattle.arc_ast.specs.declared.tree.Visibility.{Visibility}
+use Rattle.arc_ast.specs.declared.tree.Visibility.TheVariants as v
+use Rattle.arc_ast.specs.Tree as tree
+use Rattle.arc_ast.specs.Tree.{TypeTree, ExprTree, Paren, Cast, Itself, Name, Assign, Send, SendSuper, VariableTree, StmtTree, StmtTrees, Block, Empty, Simple, Return, Variables, If, IfElse, While, no_stmts, and_stmt, ParameterTree}
 use Rattle.arc_class.specs.declared.table.Declared.{Declared}
+use Rattle.arc_class.specs.declared.table.FoundField.{FoundField}
+use Rattle.arc_class.specs.Table.{number_of_class}
 use Rattle.arc_check.specs.declared.callee.Callee.{Callee}
 use Rattle.arc_check.specs.declared.callee.Callee.TheVariants.{Printf, GetChar, Defined, Unknown}
 
--- What is known of a source's names: its functions, the numbers of its classes, their superclasses, what the method gives that a class or one above it has for a
--- selector, and the numbers of its selectors.
+-- What is known of a source's names: its functions, the numbers of its classes, their superclasses, which class comes from which, what the method gives that is
+-- known for a message of a sign to a class, and to objects of any class, the numbers of its selectors, and the fields that the objects of a class have.
 pub record Known : Type 0 where
   pub function : List ℕ → Option Declared
   pub class : List ℕ → Option ℕ
   pub superclass : ℕ → Option ℕ
-  pub result : Option ℕ → List ℕ → Option Kind
+  pub descends : Option ℕ → ℕ → Bool
+  pub result : Option ℕ → Sign → List ℕ → Option Kind
+  pub result_of_any : List ℕ → Option Kind
   pub selector : List ℕ → Option ℕ
+  pub field : Option ℕ → List ℕ → Option FoundField
 
--- What names mean at a place: what is known of the source; the class in whose method the place is; how many variables come before all others, which is one in a
--- method, `self`; the numbers of the variables in scope; and the number that the next variable gets.
+-- A variable: an int, by its number among the ints of its function, or one that names objects, by its number among those, and with its static class, of which `id`
+-- has none (OPL, "Static Typing").
+pub data Local : Type 0 where
+  Int : ℕ → Local
+  Object : ℕ → (class : Option ℕ) → Local
+
+-- What names mean at a place: what is known of the source; the class in whose method the place is, if it is in one, and the method's sign; how many ints come before
+-- all others, which is one in a class method, `self`; the variables in scope; and the numbers that the next int and the next name of objects get.
 pub record Scope : Type 0 where
   pub known : Known
   pub class : Option ℕ
+  pub sign : Sign
   pub hidden : ℕ
-  pub variables : List ℕ → Option ℕ
+  pub variables : List ℕ → Option Local
   pub next : ℕ
+  pub names : ℕ
 
--- how many parameters and variables a body has at most (this project's own choice)
+-- how many parameters and variables, of both sorts together, a body has at most (this project's own choice)
 abbrev pub most_variables : ℕ
 most_variables = 200
 
--- whether there is no place for one variable more
-abbrev pub is_full : Scope → Bool
-is_full s = if nat_lt s.next (most_variables + s.hidden) then false else true
+-- whether there is place for one variable more
+abbrev pub has_place : Scope → Bool
+has_place s = nat_lt (s.next + s.names) (most_variables + s.hidden)
 
-abbrev pub bound : List ℕ → ℕ → (List ℕ → Option ℕ) → List ℕ → Option ℕ
-bound one number variables name = if bytes_eq one name then Some number else variables name
+-- whether there is none
+abbrev pub is_full : Scope → Bool
+is_full s = not (has_place s)
+
+abbrev pub bound : List ℕ → Local → (List ℕ → Option Local) → List ℕ → Option Local
+bound one local variables name = if bytes_eq one name then Some local else variables name
+
+abbrev pub with_int : List ℕ → Scope → Scope
+with_int name s =
+    record { known = s.known; class = s.class; sign = s.sign; hidden = s.hidden; variables = bound name (Int s.next) s.variables; next = suc s.next; names = s.names }
+
+abbrev pub with_object : List ℕ → (class : Option ℕ) → Scope → Scope
+with_object name class s =
+    record { known = s.known; class = s.class; sign = s.sign; hidden = s.hidden; variables = bound name (Object s.names class) s.variables; next = s.next; names = suc s.names }
+
+-- the class of a type, of which `id` has none
+abbrev pub static_class : Known → TypeTree → Option ℕ
+static_class known tree.Int = None
+static_class known tree.Id = None
+static_class known (tree.Object at name) = known.class name
+
+abbrev pub with_variable : List ℕ → TypeTree → Scope → Scope
+with_variable name tree.Int s = with_int name s
+with_variable name tree.Id s = with_object name None s
+with_variable name (tree.Object at class) s = with_object name (s.known.class class) s
 
 -- A variable more, which hides an outer one of its name (C99, section 6.2.1). One past the 200th, which breaks a rule, gets no number and isn't in scope.
-abbrev pub declare : List ℕ → Scope → Scope
-declare name s =
-    if nat_lt s.next (most_variables + s.hidden)
-    then record { known = s.known; class = s.class; hidden = s.hidden; variables = bound name s.next s.variables; next = suc s.next } else s
+abbrev pub declare : List ℕ → TypeTree → Scope → Scope
+declare name type s = if has_place s then with_variable name type s else s
 
-abbrev pub with_variables : Scope → List VariableTree → Scope
-with_variables s [] = s
-with_variables s (v ∷ others) = with_variables (declare v.name s) others
+abbrev pub with_variables : TypeTree → Scope → List VariableTree → Scope
+with_variables type s [] = s
+with_variables type s (v ∷ others) = with_variables type (declare v.name type s) others
 
+-- parameters are ints
 abbrev pub with_parameters : Scope → List ParameterTree → Scope
 with_parameters s [] = s
-with_parameters s (p ∷ others) = with_parameters (declare p.name s) others
+with_parameters s (p ∷ others) = with_parameters (declare p.name tree.Int s) others
 
 -- behind an inner scope: the names mean what they meant before it, and the numbers that it gave aren't given again
 abbrev pub leave : (outer inner : Scope) → Scope
-leave outer inner = record { known = outer.known; class = outer.class; hidden = outer.hidden; variables = outer.variables; next = inner.next }
+leave outer inner =
+    record { known = outer.known; class = outer.class; sign = outer.sign; hidden = outer.hidden; variables = outer.variables; next = inner.next; names = inner.names }
 
 -- what names mean behind a statement
 abbrev mutual
@@ -62,7 +103,7 @@ abbrev mutual
   behind s (Empty at) = s
   behind s (Simple a) = s
   behind s (Return at a) = s
-  behind s (Variables at all) = with_variables s all
+  behind s (Variables at type all) = with_variables type s all
   behind s (If at c a) = leave s (behind s a)
   behind s (IfElse at c a b) = leave s (behind (leave s (behind s a)) b)
   behind s (While at c a) = leave s (behind s a)
@@ -73,11 +114,19 @@ abbrev mutual
 
 -- before the parameters of a function
 abbrev pub outermost : Known → Scope
-outermost known = record { known = known; class = None; hidden = 0; variables = λ name. None; next = 0 }
+outermost known = record { known = known; class = None; sign = signs.Class; hidden = 0; variables = λ name. None; next = 0; names = 0 }
 
--- before the parameters of a method of a class, whose first variable is `self`
-abbrev pub in_method : Known → Option ℕ → Scope
-in_method known class = record { known = known; class = class; hidden = 1; variables = λ name. None; next = 1 }
+-- the first int of a class method is `self`
+abbrev pub hidden_in : Sign → ℕ
+hidden_in signs.Class = 1
+hidden_in signs.Instance = 0
+
+-- before the parameters of a method of a class
+abbrev pub in_method : Known → Option ℕ → Sign → Scope
+in_method known class sign =
+    record { known = known; class = class; sign = sign; hidden = hidden_in sign; variables = λ name. None; next = hidden_in sign; names = 0 }
+
+-- ---- functions
 
 -- a function that takes numbers; a count and texts are `main`'s alone
 abbrev pub callee_taking : Kind → Option ℕ → Option ℕ → Callee
@@ -106,29 +155,113 @@ is_printf GetChar = false
 is_printf (Defined result count body) = false
 is_printf Unknown = false
 
--- The class whose methods a message may have: that of a name which is no variable's, or of the method that has the `self`; a message to `super` has those of the
--- superclass of the class whose method has it (OPL, "Messages to self and super").
+-- ---- classes and fields
+
+-- the class of the objects that a method is sent to; None in class methods, and outside methods
+abbrev pub own_class : Scope → Option ℕ
+own_class s = class_of_objects s.sign s.class
+  where
+    class_of_objects : Sign → Option ℕ → Option ℕ
+    class_of_objects signs.Class class = None
+    class_of_objects signs.Instance class = class
+
+-- the class whose method this is, in a class method: there it is `self`
+abbrev pub class_itself : Scope → Option ℕ
+class_itself s = class_of_classes s.sign s.class
+  where
+    class_of_classes : Sign → Option ℕ → Option ℕ
+    class_of_classes signs.Class class = class
+    class_of_classes signs.Instance class = None
+
+-- the field of `self` that a name means which is no variable's, in a method of objects
+abbrev pub own_field : Scope → List ℕ → Option FoundField
+own_field s name = s.known.field (own_class s) name
+
+-- whether a name means a variable or a field of `self`
+abbrev pub is_variable : Scope → List ℕ → Bool
+is_variable s name = is_some (s.variables name) || is_some (own_field s name)
+
+-- Where a field may be named (OPL, "The Scope of Instance Variables"): public ones everywhere, private ones in the methods of the class whose own they are, and
+-- protected ones in those of classes that come from it, too.
+abbrev pub is_class : Option ℕ → ℕ → Bool
+is_class None other = false
+is_class (Some class) other = nat_eq class other
+
+abbrev pub may_name : Visibility → Scope → (owner : ℕ) → Bool
+may_name v.Public s owner = true
+may_name v.Protected s owner = s.known.descends s.class owner
+may_name v.Private s owner = is_class s.class owner
+
+abbrev pub is_visible : Scope → FoundField → Bool
+is_visible s f = may_name f.visibility s (number_of_class f.owner)
+
+-- ---- messages
+
+-- The class that a receiver is, where it is one: a name that means no variable and no field, or `self` in a class method (OPL, "Class Names in Source Code").
+abbrev pub class_receiver : Scope → ExprTree → Option ℕ
+class_receiver s (Name at name) = if is_variable s name then None else s.known.class name
+class_receiver s (Itself at) = class_itself s
+class_receiver s _ = None
+
 abbrev pub above : Known → Option ℕ → Option ℕ
 above known None = None
 above known (Some class) = known.superclass class
 
-abbrev pub receiving : Scope → ReceiverTree → Option ℕ
-receiving s (Named at name) = if is_some (s.variables name) then None else s.known.class name
-receiving s (Itself at) = s.class
-receiving s (Super at) = above s.known s.class
+-- what a method of objects gives that is known for a static class, of which `id` has none and knows all
+abbrev pub object_result : Known → (static : Option ℕ) → List ℕ → Option Kind
+object_result known None selector = known.result_of_any selector
+object_result known (Some class) selector = known.result (Some class) signs.Instance selector
 
--- what the methods give by which memory is managed by hand; they are known to all classes, and the rules of ownership refuse them (ARC, "Retain count semantics")
-abbrev pub memory_result : List ℕ → Option Kind
-memory_result selector =
-    if bytes_eq selector (codes "retain") || bytes_eq selector (codes "autorelease") then Some k.Object
-    else (if bytes_eq selector (codes "retainCount") then Some k.Long
-    else (if bytes_eq selector (codes "release") || bytes_eq selector (codes "dealloc") then Some k.Void else None))
+-- what a message gives, where a method is known for it: to a class, or else to an object with a static class
+abbrev pub sent_kind : Known → (class static : Option ℕ) → List ℕ → Option Kind
+sent_kind known (Some class) static selector = known.result (Some class) signs.Class selector
+sent_kind known None static selector = object_result known static selector
 
-abbrev pub or_memory : Option Kind → List ℕ → Option Kind
-or_memory None selector = memory_result selector
-or_memory (Some kind) selector = Some kind
+-- the same of a message to `super`, which has the methods of the superclass of the class whose method has it (OPL, "Messages to self and super")
+abbrev pub super_kind : Scope → List ℕ → Option Kind
+super_kind s selector = known_above (above s.known s.class)
+  where
+    known_above : Option ℕ → Option Kind
+    known_above None = None
+    known_above (Some class) = s.known.result (Some class) s.sign selector
 
--- what a message gives, where a method is known for it
-abbrev pub sent_kind : Known → Option ℕ → List ℕ → Option Kind
-sent_kind known None selector = None
-sent_kind known (Some class) selector = or_memory (known.result (Some class) selector) selector
+-- ---- static classes
+
+-- `alloc` and `new` give an object of the class that gets them, and `init` the object that gets it (OPL, "Allocating and Initializing Objects")
+abbrev pub makes : List ℕ → Bool
+makes selector = bytes_eq selector (codes "alloc") || bytes_eq selector (codes "new")
+
+abbrev pub is_init : List ℕ → Bool
+is_init selector = bytes_eq selector (codes "init")
+
+abbrev pub if_class : Bool → Option ℕ → Option ℕ
+if_class so class = if so then class else None
+
+-- the static class of what a message gives, to a class, or else to an object with a static class
+abbrev pub sent_class : (class static : Option ℕ) → List ℕ → Option ℕ
+sent_class (Some class) static selector = if_class (makes selector) (Some class)
+sent_class None static selector = if_class (is_init selector) static
+
+-- the same of a message to `super`
+abbrev pub super_class : Scope → List ℕ → Option ℕ
+super_class s selector = by_sign s.sign
+  where
+    by_sign : Sign → Option ℕ
+    by_sign signs.Class = if_class (makes selector) s.class
+    by_sign signs.Instance = if_class (is_init selector) s.class
+
+abbrev pub local_class : Option Local → Option ℕ
+local_class None = None
+local_class (Some (Int n)) = None
+local_class (Some (Object n class)) = class
+
+-- The static class of an expression; what has none, or gives no object, is as `id`.
+abbrev pub class_of : Scope → ExprTree → Option ℕ
+class_of s (Paren at a) = class_of s a
+class_of s (Itself at) = own_class s
+class_of s (Name at name) = local_class (s.variables name)
+class_of s (Cast at type a) = static_class s.known type
+class_of s (Assign at sign a b) = class_of s a
+class_of s (Send at part receiver selector arguments) = sent_class (class_receiver s receiver) (class_of s receiver) selector
+class_of s (SendSuper at part super_at selector arguments) = super_class s selector
+class_of s _ = None

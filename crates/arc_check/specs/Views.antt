@@ -2,23 +2,31 @@
 use Rattle.std.specs.Prelude.{ℕ, List, [], ◌∷◌, Option, Some, None, option_map, if◌then◌else◌}
 use Rattle.std.specs.Str.{bytes_eq}
 use Rattle.arc_class.specs.declared.table.ClassTable.{ClassTable}
-use Rattle.arc_class.specs.Table.{function_in, class_in, superclass_in, result_in_table, selector_in, number_of_class}
+use Rattle.arc_class.specs.Table.{function_in, class_in, superclass_in, result_in_table, any_result_in, field_in_table, selector_in, number_of_class}
+use Rattle.arc_spec.specs.Classes.{classes_of, descends}
 use Rattle.arc_check.specs.declared.scope.Bound.{Bound}
+use Rattle.arc_check.specs.declared.scope.Local as declared
+use Rattle.arc_check.specs.declared.scope.Local.TheVariants as l
 use Rattle.arc_check.specs.declared.scope.Visible.{Visible}
-use Rattle.arc_check.specs.Scopes.{Known, Scope}
+use Rattle.arc_check.specs.Scopes.{Known, Local, Int, Object, Scope}
+
+-- a variable, by the number of its class
+abbrev pub local_of : declared.Local → Local
+local_of (l.Int n) = Int n
+local_of (l.Object n class) = Object n (option_map number_of_class class)
 
 -- the last that there is of two
-abbrev pub later : Option ℕ → Option ℕ → Option ℕ
+abbrev pub later : Option Local → Option Local → Option Local
 later a None = a
 later a (Some b) = Some b
 
-abbrev pub number_at : Bound → List ℕ → Option ℕ
-number_at b name = if bytes_eq b.name.now name then Some b.number else None
+abbrev pub local_at : Bound → List ℕ → Option Local
+local_at b name = if bytes_eq b.name.now name then Some (local_of b.local) else None
 
--- the number of the last variable with a name
-abbrev pub number_in : List Bound → List ℕ → Option ℕ
-number_in [] name = None
-number_in (b ∷ others) name = later (number_at b name) (number_in others name)
+-- the last variable with a name
+abbrev pub local_in : List Bound → List ℕ → Option Local
+local_in [] name = None
+local_in (b ∷ others) name = later (local_at b name) (local_in others name)
 
 -- what a table knows of a source's names
 abbrev pub known_in : ClassTable → Known
@@ -26,8 +34,11 @@ known_in table = record {
   function = function_in table;
   class = class_in table;
   superclass = superclass_in table;
+  descends = descends (classes_of table.classes.items);
   result = result_in_table table;
+  result_of_any = any_result_in table;
   selector = selector_in table;
+  field = field_in_table table;
 }
 
 -- what names mean where these variables are visible
@@ -35,7 +46,9 @@ abbrev pub seen : ClassTable → Visible → Scope
 seen table visible = record {
   known = known_in table;
   class = option_map number_of_class visible.class;
+  sign = visible.sign;
   hidden = visible.hidden;
-  variables = number_in visible.bound.items;
+  variables = local_in visible.bound.items;
   next = visible.next;
+  names = visible.names;
 }

@@ -1,33 +1,35 @@
 //! Finds the first rule that is broken in the functions of a source.
 ghost use Rattle.std.specs.Prelude.{◌≡◌, ◌++◌, IfOk, OnOk, nat_lt, option_map, take, length};
-ghost use Rattle.arc_ast.specs.Tree.{expr_tree, variable_trees, parameter_trees, parameters_tree, stmt_tree, stmt_trees, function_tree, function_trees};
+ghost use Rattle.arc_ast.specs.Tree.{Int, expr_tree, type_tree, variable_trees, parameter_trees, parameters_tree, stmt_tree, stmt_trees, function_tree, function_trees};
 ghost use Rattle.arc_class.specs.Bodies as bodies;
 ghost use Rattle.arc_class.specs.Broken.{first};
 ghost use Rattle.arc_class.specs.declared.table.ClassTable.{ClassTable};
 ghost use Rattle.arc_check.specs.Fault.{told};
 ghost use Rattle.arc_check.specs.Rules as rules;
 ghost use Rattle.arc_check.specs.Rules.{broken_initial, broken_variables, broken_parameters, broken_result, broken_stmt, broken_stmts, broken_body, most_parameters, broken_function, broken_functions};
-ghost use Rattle.arc_check.specs.Scopes.{is_full, leave, behind, behind_all, declare, with_variables, with_parameters};
+ghost use Rattle.arc_check.specs.Scopes.{is_full, leave, behind, behind_all, with_variables, with_parameters};
 ghost use Rattle.arc_check.specs.Views.{known_in, seen};
 
 use crate::fault::{CheckFault, earlier};
-use crate::judge::{judge, judge_number, judge_test, place};
+use crate::judge::{initial_fault, judge_whole, number_fault, test_fault};
+use crate::rule::place;
 use crate::scope::Visible;
-use arc_ast::tree::{Expr, Function, Kind, Parameter, Parameters, Stmt, Variable};
+use arc_ast::tree::{Expr, Function, Kind, Parameter, Parameters, Stmt, TypeName, Variable};
 use arc_class::table::ClassTable;
 use std::alloc::{AllocError, Global};
 
-/// The first rule that is broken in what a variable begins with.
+/// The first rule that is broken in what a variable of the type begins with.
 fn initial<'a>(
     table: &ClassTable<'a>,
     visible: &Visible<'a>,
+    type_name: &TypeName,
     expr: &'a Option<Expr>,
 ) -> Option<CheckFault>
-    ensures { option_map told result ≡ first (broken_initial (seen table.now visible.now) (option_map expr_tree expr.now)) }
+    ensures { option_map told result ≡ first (broken_initial (seen table.now visible.now) (type_tree type_name.now) (option_map expr_tree expr.now)) }
 {
     match expr {
         None => None,
-        Some(expr) => judge_number(table, visible, expr).fault,
+        Some(expr) => initial_fault(table, visible, type_name, expr),
     }
 }
 
@@ -44,46 +46,40 @@ fn returned<'a>(
         return None;
     };
     if gives_nothing {
-        let judged = judge(table, visible, expr);
+        let judged = judge_whole(table, visible, expr);
         earlier(judged.fault, Some(CheckFault::KindMismatch(place(expr))))
     } else {
-        judge_number(table, visible, expr).fault
+        number_fault(table, visible, expr)
     }
 }
 
-/// Declares a variable, and tells the rule that this breaks.
-fn declared<'a>(
-    visible: &mut Visible<'a>,
-    at: usize,
-    name: &'a [u8],
-) -> Result<Option<CheckFault>, AllocError>
-    ensures fault { IfOk result (λ fault. (table : ClassTable) → option_map told fault ≡ first (bodies.broken_if (is_full (seen table visible.old)) at 50)) }
-    ensures scope { OnOk result ((table : ClassTable) → seen table visible.new ≡ declare name.now (seen table visible.old)) }
-    ensures keeps { OnOk result (take (length visible.old.bound.items) visible.new.bound.items ≡ visible.old.bound.items) }
+/// The rule that one variable more breaks, whose name is at this place.
+fn place_fault(visible: &Visible, at: usize) -> Option<CheckFault>
+    ensures { (table : ClassTable) → option_map told result ≡ first (bodies.broken_if (is_full (seen table visible.now)) at 50) }
 {
-    let fault = if visible.is_full() {
+    if visible.is_full() {
         Some(CheckFault::TooManyLocals(at))
     } else {
         None
-    };
-    visible.declare(name)?;
-    Ok(fault)
+    }
 }
 
-/// The first rule that a declaration of variables breaks.
+/// The first rule that a declaration of variables of the type breaks.
 fn variables<'a>(
     table: &ClassTable<'a>,
     visible: &mut Visible<'a>,
+    type_name: &'a TypeName,
     all: &'a [Variable],
 ) -> Result<Option<CheckFault>, AllocError>
-    ensures fault { IfOk result (λ fault. option_map told fault ≡ first (broken_variables (seen table.now visible.old) (variable_trees all.now))) }
-    ensures scope { OnOk result (seen table.now visible.new ≡ with_variables (seen table.now visible.old) (variable_trees all.now)) }
+    ensures fault { IfOk result (λ fault. option_map told fault ≡ first (broken_variables (type_tree type_name.now) (seen table.now visible.old) (variable_trees all.now))) }
+    ensures scope { OnOk result (seen table.now visible.new ≡ with_variables (type_tree type_name.now) (seen table.now visible.old) (variable_trees all.now)) }
     ensures keeps { OnOk result (take (length visible.old.bound.items) visible.new.bound.items ≡ visible.old.bound.items) }
 {
     let mut fault = None;
     for variable in all {
-        fault = earlier(fault, declared(visible, variable.at, &variable.name)?);
-        fault = earlier(fault, initial(table, visible, &variable.initial));
+        fault = earlier(fault, place_fault(visible, variable.at));
+        visible.declare(table, type_name, &variable.name)?;
+        fault = earlier(fault, initial(table, visible, type_name, &variable.initial));
     }
     Ok(fault)
 }
@@ -99,7 +95,8 @@ fn parameters<'a>(
 {
     let mut fault = None;
     for parameter in all {
-        fault = earlier(fault, declared(visible, parameter.at, &parameter.name)?);
+        fault = earlier(fault, place_fault(visible, parameter.at));
+        visible.declare_int(&parameter.name)?;
     }
     Ok(fault)
 }
@@ -155,22 +152,22 @@ fn statement<'a>(
     match statement {
         Stmt::Block(_, all) => block(table, gives_nothing, visible, all),
         Stmt::Empty(_) => Ok(None),
-        Stmt::Expr(expr) => Ok(judge(table, visible, expr).fault),
+        Stmt::Expr(expr) => Ok(judge_whole(table, visible, expr).fault),
         Stmt::Return(_, expr) => Ok(returned(table, gives_nothing, visible, expr)),
-        Stmt::Variables(_, all) => variables(table, visible, all),
+        Stmt::Variables(_, type_name, all) => variables(table, visible, type_name, all),
         Stmt::If(_, test, then) => {
-            let fault = judge_test(table, visible, test).fault;
+            let fault = test_fault(table, visible, test);
             let inside = scoped(table, gives_nothing, visible, then)?;
             Ok(earlier(fault, inside))
         }
         Stmt::IfElse(_, test, then, other) => {
-            let fault = judge_test(table, visible, test).fault;
+            let fault = test_fault(table, visible, test);
             let first = scoped(table, gives_nothing, visible, then)?;
             let second = scoped(table, gives_nothing, visible, other)?;
             Ok(earlier(fault, earlier(first, second)))
         }
         Stmt::While(_, test, body) => {
-            let fault = judge_test(table, visible, test).fault;
+            let fault = test_fault(table, visible, test);
             let inside = scoped(table, gives_nothing, visible, body)?;
             Ok(earlier(fault, inside))
         }

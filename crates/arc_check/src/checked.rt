@@ -14,7 +14,8 @@ pub enum Piece {
     Character,
 }
 
-/// An expression, which gives a number; an operator has the kind in which it computes.
+/// An expression that gives a number; an operator has the kind in which it computes.
+#[cycle(expression)]
 #[derive(Debug, Drop)]
 pub enum Value {
     Number(i64),
@@ -36,13 +37,48 @@ pub enum Value {
     /// A message to `super`: the number of the class from which the method is looked up, the
     /// selector's number, and the arguments.
     SentSuper(usize, usize, Vec<Value>),
+    /// A message to an object: the object, the selector's number, and the arguments.
+    SentTo(Box<Reference>, usize, Vec<Value>),
+    /// A message to `super` in a method of objects: the number of the class from which the method is
+    /// looked up, the selector's number, and the arguments.
+    SentToSuper(usize, usize, Vec<Value>),
+    /// A field: the object, the class whose own field it is, and the field's number in the objects.
+    Field(Box<Reference>, usize, usize),
+    /// The same, and what is assigned to the field.
+    FieldAssigned(Box<Reference>, usize, usize, Box<Value>),
+    /// 1 where the two differ, else 0.
+    Differ(Box<Reference>, Box<Reference>),
+    /// 1 where it isn't nil, else 0.
+    IsObject(Box<Reference>),
+}
+
+/// An expression that gives an object or nil.
+#[cycle(expression)]
+#[derive(Debug, Drop)]
+pub enum Reference {
+    Nil,
+    /// `self`
+    Itself,
+    /// The variable of the running function with this number among those that name objects.
+    Variable(usize),
+    /// An assignment to such a variable.
+    Stored(usize, Box<Reference>),
+    /// `alloc` or `new`: what gives the class's number.
+    Made(Box<Value>),
+    /// `init` of an object.
+    Initialized(Box<Reference>),
 }
 
 /// A statement.
 #[derive(Debug, Drop)]
 pub enum Command {
-    Sequence(Vec<Command>),
+    /// Statements, and how many variables of their own that name objects they have, from the first of
+    /// these on.
+    Sequence(usize, usize, Vec<Command>),
     Evaluate(Value),
+    EvaluateReference(Reference),
+    /// What a variable names first.
+    Begin(usize, Reference),
     Return(Option<Value>),
     /// The first where the value isn't 0, else the second.
     Choose(Value, Box<Command>, Box<Command>),
@@ -50,11 +86,12 @@ pub enum Command {
     Repeat(Value, Box<Command>),
 }
 
-/// A function with how many variables it has, of which the first are its parameters; the first variable
-/// of a method is `self`.
+/// A function with how many variables it has that hold numbers, of which the first are its parameters,
+/// and how many that name objects; the first number of a class method is `self`.
 #[derive(Debug, Drop)]
 pub struct CheckedFunction {
     pub slots: usize,
+    pub names: usize,
     pub body: Vec<Command>,
 }
 

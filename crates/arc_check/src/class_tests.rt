@@ -2,7 +2,7 @@
 use crate::check::check;
 use arc_ast::tree::{
     Expr, Function, Implementation, Interface, Kind, Method, MethodHead, Parameter, Parameters,
-    Receiver, Stmt, TranslationUnit, Variable,
+    Sign, Stmt, TranslationUnit, TypeName, Variable,
 };
 use arc_class::table::ClassTable;
 use std::alloc::{AllocError, Global};
@@ -18,10 +18,11 @@ fn name(alloc: Global, at: usize, bytes: &[u8]) -> Result<Expr, AllocError> {
 /// A message with its `[` at 90 and its selector at 91.
 fn message(
     alloc: Global,
-    receiver: Receiver,
+    receiver: Expr,
     selector: &[u8],
     arguments: Vec<Expr>,
 ) -> Result<Expr, AllocError> {
+    let receiver = Box::new(alloc, receiver)?;
     let selector = Vec::from_slice(alloc, selector)?;
     Ok(Expr::Send(90, 91, receiver, selector, arguments))
 }
@@ -33,7 +34,7 @@ fn declared(alloc: Global, at: usize, name: &[u8]) -> Result<Stmt, AllocError> {
         name: Vec::from_slice(alloc, name)?,
         initial: None,
     };
-    Ok(Stmt::Variables(90, vec![in alloc; variable]?))
+    Ok(Stmt::Variables(90, TypeName::Int, vec![in alloc; variable]?))
 }
 
 /// So many parameters, of which each has a name of its own.
@@ -58,6 +59,7 @@ fn head(
 ) -> Result<MethodHead, AllocError> {
     Ok(MethodHead {
         at,
+        sign: Sign::Class,
         selector: Vec::from_slice(alloc, selector)?,
         result: kind,
         parameters: parameters(alloc, count)?,
@@ -75,6 +77,7 @@ fn interface(
         name: Vec::from_slice(alloc, name)?,
         superclass_at: 32,
         superclass: Vec::from_slice(alloc, superclass)?,
+        fields: Vec::new(alloc),
         methods,
     })
 }
@@ -87,6 +90,7 @@ fn implementation(
     Ok(Implementation {
         at: 33,
         name: Vec::from_slice(alloc, name)?,
+        fields: Vec::new(alloc),
         methods,
     })
 }
@@ -127,15 +131,15 @@ fn gives_a(alloc: Global) -> Result<Vec<Stmt>, AllocError> {
 
 /// `{ int b; [self twice:b]; [super twice:1]; }`
 fn asks(alloc: Global) -> Result<Vec<Stmt>, AllocError> {
-    let itself = Receiver::Itself(90);
+    let itself = Expr::Itself(90);
     let inner = message(
         alloc,
         itself,
         b"twice:",
         vec![in alloc; name(alloc, 90, b"b")?]?,
     )?;
-    let above = Receiver::Super(90);
-    let upper = message(alloc, above, b"twice:", vec![in alloc; number(1)]?)?;
+    let selector = Vec::from_slice(alloc, b"twice:")?;
+    let upper = Expr::SendSuper(90, 91, 90, selector, vec![in alloc; number(1)]?);
     Ok(vec![in alloc;
         declared(alloc, 90, b"b")?,
         Stmt::Expr(inner),
@@ -155,7 +159,7 @@ fn two_classes(alloc: Global) -> Result<TranslationUnit, AllocError> {
     };
     let above = vec![in alloc; head(alloc, 34, b"twice:", Kind::Int, 1)?]?;
     let below = vec![in alloc; head(alloc, 35, b"run", Kind::Void, 0)?]?;
-    let class = Receiver::Named(90, Vec::from_slice(alloc, b"B")?);
+    let class = Expr::Name(90, Vec::from_slice(alloc, b"B")?);
     let sent = Stmt::Expr(message(alloc, class, b"run", Vec::new(alloc))?);
     Ok(TranslationUnit {
         functions: main_of(alloc, vec![in alloc; sent]?)?,
@@ -179,13 +183,13 @@ fn both(alloc: Global) -> Result<String, AllocError> {
 #[test]
 fn resolves_methods(rt: HostRuntime) {
     let found = both(rt.alloc()).expect(&rt, "no memory");
-    let wanted = "[CheckedFunction { slots: 0, body: [Evaluate(Sent(Number(2), 1, []))] }, \
-                  CheckedFunction { slots: 2, body: [Return(Some(Local(1)))] }, \
-                  CheckedFunction { slots: 2, body: [Sequence([Evaluate(Assigned(1, Number(0)))]), \
+    let wanted = "[CheckedFunction { slots: 0, names: 0, body: [Evaluate(Sent(Number(2), 1, []))] }, \
+                  CheckedFunction { slots: 2, names: 0, body: [Return(Some(Local(1)))] }, \
+                  CheckedFunction { slots: 2, names: 0, body: [Sequence(0, 0, [Evaluate(Assigned(1, Number(0)))]), \
                   Evaluate(Sent(Local(0), 0, [Local(1)])), Evaluate(SentSuper(1, 0, [Number(1)]))] }] main 0 \
-                  [Class { superclass: None, methods: [] }, \
-                  Class { superclass: Some(0), methods: [Method { selector: 0, takes: 1, runs: 1 }] }, \
-                  Class { superclass: Some(1), methods: [Method { selector: 1, takes: 0, runs: 2 }] }]";
+                  [Class { superclass: None, methods: [], dealloc: None, fields: 0 }, \
+                  Class { superclass: Some(0), methods: [Method { sign: Class, selector: 0, takes: 1, runs: 1 }], dealloc: None, fields: 0 }, \
+                  Class { superclass: Some(1), methods: [Method { sign: Class, selector: 1, takes: 0, runs: 2 }], dealloc: None, fields: 0 }]";
     assert_eq!(rt; found.as_str(), wanted);
 }
 
@@ -220,7 +224,7 @@ fn unknown_name(alloc: Global) -> Result<String, AllocError> {
 
 /// `[self walk];` in a method, with the selector at 91.
 fn unknown_method(alloc: Global) -> Result<String, AllocError> {
-    let sent = message(alloc, Receiver::Itself(90), b"walk", Vec::new(alloc))?;
+    let sent = message(alloc, Expr::Itself(90), b"walk", Vec::new(alloc))?;
     one_statement(alloc, Stmt::Expr(sent))
 }
 
@@ -269,12 +273,12 @@ fn defining(alloc: Global, count: u8) -> Result<String, AllocError> {
 fn refuses_counts_of_methods(rt: HostRuntime) {
     let alloc = rt.alloc();
     let found = declaring(alloc, 16).expect(&rt, "no memory");
-    assert!(rt; found.starts_with("[CheckedFunction { slots: 0, body: [] }] main 0"));
+    assert!(rt; found.starts_with("[CheckedFunction { slots: 0, names: 0, body: [] }] main 0"));
     let found = declaring(alloc, 17).expect(&rt, "no memory");
     assert_eq!(rt; found.as_str(), "45 ArgumentCount at 50");
     let found = defining(alloc, 16).expect(&rt, "no memory");
     let slots =
-        "[CheckedFunction { slots: 0, body: [] }, CheckedFunction { slots: 17, body: [] }] main 0";
+        "[CheckedFunction { slots: 0, names: 0, body: [] }, CheckedFunction { slots: 17, names: 0, body: [] }] main 0";
     assert!(rt; found.starts_with(slots));
     let found = defining(alloc, 17).expect(&rt, "no memory");
     assert_eq!(rt; found.as_str(), "45 ArgumentCount at 60");
@@ -294,7 +298,7 @@ fn with_variables(alloc: Global, count: u8) -> Result<String, AllocError> {
 fn refuses_many_in_methods(rt: HostRuntime) {
     let alloc = rt.alloc();
     let found = with_variables(alloc, 200).expect(&rt, "no memory");
-    let slots = "[CheckedFunction { slots: 0, body: [] }, CheckedFunction { slots: 201,";
+    let slots = "[CheckedFunction { slots: 0, names: 0, body: [] }, CheckedFunction { slots: 201,";
     assert!(rt; found.starts_with(slots));
     let found = with_variables(alloc, 201).expect(&rt, "no memory");
     assert_eq!(rt; found.as_str(), "50 TooManyLocals at 1200");

@@ -14,6 +14,8 @@ pub fn copied(alloc: Global, given: &[Class]) -> Result<Vec<Class>, AllocError>
         all.push(Class {
             superclass: class.superclass,
             methods: Vec::from_slice(alloc, &class.methods)?,
+            dealloc: class.dealloc,
+            fields: class.fields,
         })?;
     }
     Ok(all)

@@ -10,18 +10,18 @@ use thiserror::Error;
 /// Why a source is refused: the first rule that its functions break, or no memory.
 #[derive(Clone, Copy, Debug, Drop, PartialEq, Eq, Error)]
 pub enum CheckFault {
-    /// A variable that is not in scope, a call of a function that is not known or of `main`, or a message to a name that is not known or to a `self` outside
-    /// methods; the place is that of the name.
+    /// A name that means neither a variable nor a field, a field that the object's class hasn't, a call of a function that is not known or of `main`, or a `self`
+    /// outside methods; the place is that of the name.
     #[error("the name at {0} is not known")]
     UnknownName(usize),
     /// A message for which no method is known; the place is that of its selector's first part.
     #[error("no method is known for the message at {0}")]
     NoSuchMethod(usize),
-    /// A text that is no format of a printf, no number where one is needed, a value where none is, or a message to a number; the place is that of the
-    /// expression.
+    /// A text that is no format of a printf, no number or no object where one is needed, a value where none is, or a `self` of a class method that gets no
+    /// message; the place is that of the expression.
     #[error("the expression at {0} is of the wrong kind")]
     KindMismatch(usize),
-    /// The left side of an assignment is no variable; the place is that of its `=`.
+    /// The left side of an assignment is no variable, no field and not `self`; the place is that of its `=`.
     #[error("the left side of the assignment at {0} is no variable")]
     NotAssignable(usize),
     /// A call with another number of arguments than its function takes, or a function with more than 16 parameters; the place is that of the name.
@@ -30,8 +30,12 @@ pub enum CheckFault {
     /// A call of `printf` without a format, with an unknown conversion, or with values that do not fit; the place is that of its name.
     #[error("the format and the values of the printf at {0} do not fit")]
     Format(usize),
-    /// The 201st parameter or variable of a body, or a later one; the place is that of its name.
-    #[error("the variable at {0} is one too many")]
+    /// A field that may not be named there; the place is that of its name.
+    #[error("the field at {0} is hidden")]
+    FieldHidden(usize),
+    /// The 201st parameter or variable of a body, or a later one; the place is that of its name. Or the
+    /// 201st place of a full-expression at which it takes an object.
+    #[error("the variable or object at {0} is one too many")]
     TooManyLocals(usize),
     /// There was no memory for the checked program.
     #[error("no memory")]
@@ -50,6 +54,7 @@ impl CheckFault {
             CheckFault::NotAssignable(_) => 44,
             CheckFault::ArgumentCount(_) => 45,
             CheckFault::Format(_) => 46,
+            CheckFault::FieldHidden(_) => 49,
             CheckFault::TooManyLocals(_) => 50,
             CheckFault::Memory => 51,
         }
@@ -66,6 +71,7 @@ impl CheckFault {
             CheckFault::NotAssignable(_) => "NotAssignable",
             CheckFault::ArgumentCount(_) => "ArgumentCount",
             CheckFault::Format(_) => "Format",
+            CheckFault::FieldHidden(_) => "FieldHidden",
             CheckFault::TooManyLocals(_) => "TooManyLocals",
             CheckFault::Memory => "Memory",
         }
@@ -82,6 +88,7 @@ impl CheckFault {
             CheckFault::NotAssignable(at) => *at,
             CheckFault::ArgumentCount(at) => *at,
             CheckFault::Format(at) => *at,
+            CheckFault::FieldHidden(at) => *at,
             CheckFault::TooManyLocals(at) => *at,
             CheckFault::Memory => 0,
         }

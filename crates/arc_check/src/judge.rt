@@ -1,185 +1,71 @@
 //! Finds the first rule that is broken in an expression.
-ghost use Rattle.std.specs.Prelude.{◌≡◌, ◌++◌, ℕ, not, None, is_none, is_some, option_map, if◌then◌else◌};
+ghost use Rattle.std.specs.Prelude.{◌≡◌, ℕ, None, Some, not, is_none, is_some, option_map, if◌then◌else◌};
 ghost use Rattle.arc_ast.specs.Tree as tree;
-ghost use Rattle.arc_ast.specs.Tree.{Send, expr_tree, expr_trees, receiver_tree};
+ghost use Rattle.arc_ast.specs.Tree.{Arrow, Assign, Cast, Itself, Name, Send, SendSuper, expr_tree, expr_trees, type_tree};
 ghost use Rattle.arc_class.specs.Bodies.{broken_if};
 ghost use Rattle.arc_class.specs.Broken.{earlier_of, first};
+ghost use Rattle.arc_class.specs.declared.table.ClassTable.{ClassTable};
+ghost use Rattle.arc_class.specs.Table.{number_of_class};
 ghost use Rattle.arc_check.specs.Fault.{told};
 ghost use Rattle.arc_check.specs.Formats.{wanted};
-ghost use Rattle.arc_check.specs.Judging.{Judges, JudgesNumber, JudgesTest, JudgesAll, JudgesCall};
-ghost use Rattle.arc_check.specs.Kinds as kinds;
+ghost use Rattle.arc_check.specs.Judging.{Judges, JudgesWhole, JudgesAll, JudgesCall, counted};
 ghost use Rattle.arc_check.specs.Rules as rules;
-ghost use Rattle.arc_check.specs.Rules.{broken_at, broken_receiver, kind_if, no_left, no_method, no_number, no_right, no_value, number_kind, other_rule, unless};
+ghost use Rattle.arc_check.specs.Rules.{broken_whole, kind_if, no_left, no_number, no_right, no_value, unless};
 ghost use Rattle.arc_check.specs.Scopes as scopes;
-ghost use Rattle.arc_check.specs.Views.{known_in, number_in, seen};
+ghost use Rattle.arc_check.specs.declared.scope.Visible.{Visible};
+ghost use Rattle.arc_check.specs.Views.{known_in, seen};
 
 use crate::callee::{Callee, callee_of, result_kind};
 use crate::fault::{CheckFault, earlier};
+use crate::field::{field_fault, field_kind, own_field};
 use crate::format::{next_conversion, take_conversion};
-use crate::message::{receiving, sent_kind};
-use crate::scope::Visible;
-use arc_ast::tree::{BinaryOperator, Expr, Kind, Receiver};
-use arc_class::table::ClassTable;
+use crate::message::{class_receiver, sent_class, sent_kind, static_class, super_class, super_kind};
+use crate::rule::{binary_kind, call_fault, is_assignable, is_object, is_unread, literal_kind, no_left, no_number, no_object, no_right, no_such, no_value, number_kind, place};
+use crate::scope::{Local, Visible};
+use crate::taken::Taken;
+use arc_ast::tree::{BinaryOperator, Expr, Kind, TypeName};
+use arc_class::table::{ClassId, ClassTable, FoundField};
 
-/// What is told of an expression: its kind, where it has one, and the first rule that is broken in it.
+/// What is told of an expression: its kind, where it has one, its static class, the first rule that is broken in it, and how many objects the full-expression has
+/// taken behind it.
 #[derive(Clone, Copy, Debug, PartialEq, Eq)]
 pub struct Judged {
     pub kind: Option<Kind>,
+    pub class: Option<ClassId>,
     pub fault: Option<CheckFault>,
+    pub taken: Taken,
 }
 
-/// What is told of a call's arguments: whether they suit a format, and the first rule that is broken in them.
+/// What is told of a call's arguments: whether they suit a format, the first rule that is broken in them, and how many objects the full-expression has taken
+/// behind them.
 #[derive(Clone, Copy, Debug, PartialEq, Eq)]
 pub struct Arguments {
     pub fit: bool,
     pub fault: Option<CheckFault>,
+    pub taken: Taken,
 }
 
-/// The largest int.
-const LARGEST_INT: i64 = 2147483647;
-
-/// The kind of an integer literal.
-pub fn literal_kind(number: i64) -> Kind
-    ensures { result ≡ kinds.literal_kind number }
+/// A number, where one has a kind, in which this is broken.
+fn number(kind: Option<Kind>, fault: Option<CheckFault>, taken: Taken) -> Judged
+    ensures { result ≡ (record { kind = kind; class = None; fault = fault; taken = taken }) }
 {
-    if number <= LARGEST_INT {
-        Kind::Int
-    } else {
-        Kind::Long
+    Judged {
+        kind,
+        class: None,
+        fault,
+        taken,
     }
 }
 
-/// The kind in which an operator computes.
-pub fn wider(a: Kind, b: Kind) -> Kind
-    ensures { result ≡ kinds.wider a b }
+/// An object, of a static class, in which this is broken.
+fn object(class: Option<ClassId>, fault: Option<CheckFault>, taken: Taken) -> Judged
+    ensures { result ≡ (record { kind = Some Kind.Object; class = class; fault = fault; taken = taken }) }
 {
-    match (a, b) {
-        (Kind::Long, _) | (_, Kind::Long) => Kind::Long,
-        _ => Kind::Int,
-    }
-}
-
-/// The place at which an expression is told: an assignment's `=`, a message's first selector part, and else the first byte.
-pub fn place(expr: &Expr) -> usize
-    ensures { result ≡ tree.place (expr_tree expr.now) }
-{
-    match expr {
-        Expr::Integer(at, _)
-        | Expr::Text(at, _)
-        | Expr::Paren(at, _)
-        | Expr::Call(at, _, _)
-        | Expr::Negate(at, _)
-        | Expr::Binary(at, _, _, _)
-        | Expr::Name(at, _)
-        | Expr::Assign(_, at, _, _)
-        | Expr::Send(_, at, _, _, _) => *at,
-    }
-}
-
-/// Whether an assignment's left side is a variable's name, parentheses aside.
-fn is_variable(expr: &Expr) -> bool
-    ensures { result ≡ rules.is_variable (expr_tree expr.now) }
-{
-    match expr {
-        Expr::Paren(_, inside) => is_variable(inside),
-        Expr::Name(_, _) => true,
-        _ => false,
-    }
-}
-
-/// The kind of an operand with which an operator computes.
-fn number_kind(kind: Option<Kind>) -> Option<Kind>
-    ensures { result ≡ number_kind kind }
-{
-    match kind {
-        Some(Kind::Int) => Some(Kind::Int),
-        Some(Kind::Long) => Some(Kind::Long),
-        _ => None,
-    }
-}
-
-/// The kind of a sum, from those of its operands.
-fn both_kinds(a: Option<Kind>, b: Option<Kind>) -> Option<Kind>
-    ensures { result ≡ rules.both_kinds a b }
-{
-    match (a, b) {
-        (Some(a), Some(b)) => Some(wider(a, b)),
-        _ => None,
-    }
-}
-
-/// The kind of an operator's expression, from those of its operands.
-fn binary_kind(operator: BinaryOperator, a: Option<Kind>, b: Option<Kind>) -> Option<Kind>
-    ensures { result ≡ rules.binary_kind operator a b }
-{
-    match operator {
-        BinaryOperator::NotEqual => Some(Kind::Int),
-        BinaryOperator::Add
-        | BinaryOperator::Subtract
-        | BinaryOperator::Multiply
-        | BinaryOperator::Divide => both_kinds(number_kind(a), number_kind(b)),
-    }
-}
-
-/// The rule that an expression of the kind breaks where a value is needed.
-fn no_value(kind: Option<Kind>, at: usize) -> Option<CheckFault>
-    ensures { option_map told result ≡ first (no_value kind at) }
-{
-    match kind {
-        Some(Kind::Void) => Some(CheckFault::KindMismatch(at)),
-        _ => None,
-    }
-}
-
-/// The rule that an expression of the kind breaks where a number is needed.
-fn no_number(kind: Option<Kind>, at: usize) -> Option<CheckFault>
-    ensures { option_map told result ≡ first (no_number kind at) }
-{
-    match kind {
-        Some(Kind::Void) | Some(Kind::Object) => Some(CheckFault::KindMismatch(at)),
-        _ => None,
-    }
-}
-
-/// The rule that a left operand of the kind breaks.
-fn no_left(operator: BinaryOperator, kind: Option<Kind>, at: usize) -> Option<CheckFault>
-    ensures { option_map told result ≡ first (no_left operator kind at) }
-{
-    match operator {
-        BinaryOperator::NotEqual => no_value(kind, at),
-        BinaryOperator::Add
-        | BinaryOperator::Subtract
-        | BinaryOperator::Multiply
-        | BinaryOperator::Divide => no_number(kind, at),
-    }
-}
-
-/// The rule that the second of two things breaks, of these kinds, that are compared.
-fn no_other(left: Option<Kind>, right: Option<Kind>, at: usize) -> Option<CheckFault>
-    ensures { option_map told result ≡ first (no_right BinaryOperator.NotEqual left right at) }
-{
-    match (left, right) {
-        (Some(Kind::Object), Some(Kind::Object)) => None,
-        (Some(Kind::Object), Some(_)) => Some(CheckFault::KindMismatch(at)),
-        _ => no_number(right, at),
-    }
-}
-
-/// The rule that a right operand breaks, from the kinds of both.
-fn no_right(
-    operator: BinaryOperator,
-    left: Option<Kind>,
-    right: Option<Kind>,
-    at: usize,
-) -> Option<CheckFault>
-    ensures { option_map told result ≡ first (no_right operator left right at) }
-{
-    match operator {
-        BinaryOperator::NotEqual => no_other(left, right, at),
-        BinaryOperator::Add
-        | BinaryOperator::Subtract
-        | BinaryOperator::Multiply
-        | BinaryOperator::Divide => no_number(right, at),
+    Judged {
+        kind: Some(Kind::Object),
+        class,
+        fault,
+        taken,
     }
 }
 
@@ -192,6 +78,8 @@ fn combined(
     right_at: usize,
 ) -> Judged
     ensures kind { result.kind ≡ rules.binary_kind operator left.kind right.kind }
+    ensures class { result.class ≡ None }
+    ensures taken { result.taken ≡ right.taken }
     ensures fault { option_map told result.fault
         ≡ earlier_of (earlier_of (option_map told left.fault) (first (no_left operator left.kind left_at)))
         (earlier_of (option_map told right.fault) (first (no_right operator left.kind right.kind right_at))) }
@@ -201,186 +89,303 @@ fn combined(
         right.fault,
         no_right(operator, left.kind, right.kind, right_at),
     );
-    Judged {
-        kind: binary_kind(operator, left.kind, right.kind),
-        fault: earlier(first, second),
-    }
+    number(
+        binary_kind(operator, left.kind, right.kind),
+        earlier(first, second),
+        right.taken,
+    )
 }
 
-/// The rule that a call of a function other than printf breaks at its name.
-fn call_fault(callee: Callee, at: usize, count: usize) -> Option<CheckFault>
-    ensures { option_map told result ≡ first (broken_at at (other_rule callee count)) }
-{
-    let wanted = match callee {
-        Callee::Unknown => return Some(CheckFault::UnknownName(at)),
-        Callee::Defined(_, wanted, _) => wanted,
-        Callee::Printf | Callee::GetChar => 0,
-    };
-    if count == wanted {
-        None
-    } else {
-        Some(CheckFault::ArgumentCount(at))
-    }
-}
-
-/// What is told of a call, from its function's kind, the rule that it breaks at its name, if it breaks one, and what is broken in its arguments.
-fn called(kind: Kind, own: Option<CheckFault>, inside: Option<CheckFault>) -> Judged
+/// What is told of a call, from its function's kind, the rule that it breaks at its name, if it breaks one, and what is told of its arguments.
+fn called(kind: Kind, own: Option<CheckFault>, inside: Arguments) -> Judged
     ensures kind { result.kind ≡ kind_if (is_none own) kind }
-    ensures fault { option_map told result.fault ≡ earlier_of (option_map told own) (option_map told inside) }
+    ensures class { result.class ≡ None }
+    ensures fault { option_map told result.fault ≡ earlier_of (option_map told own) (option_map told inside.fault) }
+    ensures taken { result.taken ≡ inside.taken }
 {
     let kind = if own.is_none() { Some(kind) } else { None };
-    Judged {
-        kind,
-        fault: earlier(own, inside),
-    }
+    number(kind, earlier(own, inside.fault), inside.taken)
 }
 
-/// What is told of a variable's name.
-fn judge_name(visible: &Visible, at: usize, name: &[u8]) -> Judged
-    ensures kind { result.kind ≡ kind_if (is_some (number_in visible.now.bound.items name.now)) Kind.Int }
-    ensures fault { option_map told result.fault ≡ first (broken_if (is_none (number_in visible.now.bound.items name.now)) at 41) }
+/// What is told of `self`, which isn't sent a message as a class.
+fn judge_itself(visible: &Visible, before: Taken, at: usize) -> Judged
+    ensures { (table : ClassTable) → Judges (seen table visible.now) before (Itself at) result }
 {
-    match visible.number(name) {
-        Some(_) => Judged {
-            kind: Some(Kind::Int),
-            fault: None,
-        },
-        None => Judged {
-            kind: None,
-            fault: Some(CheckFault::UnknownName(at)),
-        },
-    }
-}
-
-/// What is told of an assignment, from its sides.
-fn assigned(is_variable: bool, sign: usize, left: Judged, right: Judged) -> Judged
-    ensures kind { result.kind ≡ (if is_variable then left.kind else None) }
-    ensures fault { option_map told result.fault
-        ≡ earlier_of (earlier_of (option_map told left.fault) (first (broken_if (not is_variable) sign 44))) (option_map told right.fault) }
-{
-    if is_variable {
-        Judged {
-            kind: left.kind,
-            fault: earlier(left.fault, right.fault),
-        }
+    let class = visible.own_class();
+    if class.is_some() {
+        object(class, None, before.one_if(true, at))
+    } else if visible.class.is_some() {
+        number(None, Some(CheckFault::KindMismatch(at)), before)
     } else {
-        let own = earlier(left.fault, Some(CheckFault::NotAssignable(sign)));
-        Judged {
-            kind: None,
-            fault: earlier(own, right.fault),
-        }
+        number(None, Some(CheckFault::UnknownName(at)), before)
     }
 }
 
-/// The rule that a message's receiver breaks.
-fn receiver_fault<'a>(
-    table: &ClassTable<'a>,
-    visible: &Visible<'a>,
-    receiver: &'a Receiver,
-) -> Option<CheckFault>
-    ensures { option_map told result ≡ first (broken_receiver (seen table.now visible.now) (receiver_tree receiver.now)) }
+/// What is told of a name that means no variable.
+fn judge_own_field(
+    table: &ClassTable,
+    visible: &Visible,
+    before: Taken,
+    at: usize,
+    own: Option<FoundField>,
+) -> Judged
+    ensures kind { result.kind ≡ rules.field_kind (seen table.now visible.now) own }
+    ensures class { result.class ≡ None }
+    ensures fault { option_map told result.fault ≡ first (rules.no_field (seen table.now visible.now) own at) }
+    ensures taken { result.taken ≡ counted before (rules.at_if (is_some own) at) }
 {
-    match receiver {
-        Receiver::Named(at, name) => {
-            if visible.number(name).is_some() {
-                Some(CheckFault::KindMismatch(*at))
-            } else if table.objc_get_class(name).is_none() {
-                Some(CheckFault::UnknownName(*at))
-            } else {
-                None
-            }
-        }
-        Receiver::Itself(at) => {
-            if visible.class.is_none() {
-                Some(CheckFault::UnknownName(*at))
-            } else {
-                None
-            }
-        }
-        Receiver::Super(_) => None,
-    }
+    number(
+        field_kind(table, visible, own),
+        field_fault(table, visible, own, at),
+        before.one_if(own.is_some(), at),
+    )
 }
 
-/// The rule that a message breaks beside its arguments: its receiver's, or that no method is known for it.
-fn message_fault<'a>(
+/// What is told of a name.
+fn judge_name<'a>(
     table: &ClassTable<'a>,
     visible: &Visible<'a>,
-    part: usize,
-    receiver: &'a Receiver,
-    selector: &'a [u8],
-) -> Option<CheckFault>
-    ensures { option_map told result
-        ≡ first (broken_receiver (seen table.now visible.now) (receiver_tree receiver.now) ++ no_method (seen table.now visible.now) (receiver_tree receiver.now) selector.now part) }
+    before: Taken,
+    at: usize,
+    name: &'a [u8],
+) -> Judged
+    ensures { Judges (seen table.now visible.now) before (Name at name.now) result }
 {
-    let own = receiver_fault(table, visible, receiver);
-    if own.is_some() {
-        return own;
-    }
-    match sent_kind(table, receiving(table, visible, receiver), selector) {
-        Some(_) => None,
-        None => Some(CheckFault::NoSuchMethod(part)),
+    match visible.local(name) {
+        Some(Local::Int(_)) => number(Some(Kind::Int), None, before),
+        Some(Local::Object(_, class)) => object(class, None, before.one_if(true, at)),
+        None => judge_own_field(table, visible, before, at, own_field(table, visible, name)),
     }
 }
 
 /// What is told of an expression.
 #[cycle(judge)]
-pub fn judge<'a>(table: &ClassTable<'a>, visible: &Visible<'a>, expr: &'a Expr) -> Judged
-    ensures { Judges (seen table.now visible.now) (expr_tree expr.now) result }
+pub fn judge<'a>(
+    table: &ClassTable<'a>,
+    visible: &Visible<'a>,
+    before: Taken,
+    expr: &'a Expr,
+) -> Judged
+    ensures { Judges (seen table.now visible.now) before (expr_tree expr.now) result }
 {
     match expr {
-        Expr::Integer(_, number) => Judged {
-            kind: Some(literal_kind(*number)),
-            fault: None,
-        },
-        Expr::Text(at, _) => Judged {
-            kind: None,
-            fault: Some(CheckFault::KindMismatch(*at)),
-        },
-        Expr::Paren(_, inside) => judge(table, visible, inside),
-        Expr::Call(at, name, arguments) => judge_call(table, visible, *at, name, arguments),
-        Expr::Negate(_, operand) => {
-            let operand = judge_number(table, visible, operand);
-            Judged {
-                kind: number_kind(operand.kind),
-                fault: operand.fault,
-            }
+        Expr::Integer(_, value) => number(Some(literal_kind(*value)), None, before),
+        Expr::Text(at, _) => number(None, Some(CheckFault::KindMismatch(*at)), before),
+        Expr::Paren(_, inside) => judge(table, visible, before, inside),
+        Expr::Call(at, name, arguments) => judge_call(table, visible, before, *at, name, arguments),
+        Expr::Nil(_) => object(None, None, before),
+        Expr::Itself(at) => judge_itself(visible, before, *at),
+        Expr::Name(at, name) => judge_name(table, visible, before, *at, name),
+        Expr::Negate(_, operand) => judge_negation(table, visible, before, operand),
+        Expr::Cast(_, type_name, operand) => {
+            judge_cast(table, visible, before, type_name, operand)
         }
         Expr::Binary(_, operator, left, right) => {
-            let first = judge(table, visible, left);
-            let second = judge(table, visible, right);
+            let first = judge(table, visible, before, left);
+            let second = judge(table, visible, first.taken, right);
             combined(*operator, first, place(left), second, place(right))
         }
-        Expr::Name(at, name) => judge_name(visible, *at, name),
+        Expr::Arrow(_, name_at, base, name) => {
+            judge_arrow(table, visible, before, *name_at, base, name)
+        }
         Expr::Assign(_, sign, left, right) => {
-            let value = judge_number(table, visible, right);
-            assigned(is_variable(left), *sign, judge(table, visible, left), value)
+            judge_assignment(table, visible, before, *sign, left, right)
         }
         Expr::Send(_, part, receiver, selector, arguments) => {
-            judge_send(table, visible, *part, receiver, selector, arguments)
+            judge_send(table, visible, before, *part, receiver, selector, arguments)
+        }
+        Expr::SendSuper(_, part, at, selector, arguments) => {
+            judge_super(table, visible, before, *part, *at, selector, arguments)
         }
     }
 }
 
-/// What is told of an expression that has to give a number.
+/// What is told of a negation, from its operand.
 #[cycle(judge)]
-pub fn judge_number<'a>(table: &ClassTable<'a>, visible: &Visible<'a>, expr: &'a Expr) -> Judged
-    ensures { JudgesNumber (seen table.now visible.now) (expr_tree expr.now) result }
+fn judge_negation<'a>(
+    table: &ClassTable<'a>,
+    visible: &Visible<'a>,
+    before: Taken,
+    operand: &'a Expr,
+) -> Judged
+    ensures { (at : ℕ) → Judges (seen table.now visible.now) before (tree.Negate at (expr_tree operand.now)) result }
 {
-    let judged = judge(table, visible, expr);
-    Judged {
-        kind: judged.kind,
-        fault: earlier(judged.fault, no_number(judged.kind, place(expr))),
+    let judged = judge(table, visible, before, operand);
+    number(
+        number_kind(judged.kind),
+        earlier(judged.fault, no_number(judged.kind, place(operand))),
+        judged.taken,
+    )
+}
+
+/// What is told of a cast, from its type and its operand.
+#[cycle(judge)]
+fn judge_cast<'a>(
+    table: &ClassTable<'a>,
+    visible: &Visible<'a>,
+    before: Taken,
+    type_name: &'a TypeName,
+    operand: &'a Expr,
+) -> Judged
+    ensures { (at : ℕ) → Judges (seen table.now visible.now) before (Cast at (type_tree type_name.now) (expr_tree operand.now)) result }
+{
+    let judged = judge(table, visible, before, operand);
+    object(
+        static_class(table, type_name),
+        earlier(judged.fault, no_object(judged.kind, place(operand))),
+        judged.taken,
+    )
+}
+
+/// What is told of a field, from the expression that gives its object.
+fn field_of(
+    table: &ClassTable,
+    visible: &Visible,
+    base: Judged,
+    base_at: usize,
+    found: Option<FoundField>,
+    name_at: usize,
+) -> Judged
+    ensures kind { result.kind ≡ rules.arrow_kind (seen table.now visible.now) base.kind found }
+    ensures class { result.class ≡ None }
+    ensures fault { option_map told result.fault
+        ≡ earlier_of (earlier_of (option_map told base.fault) (first (rules.no_object base.kind base_at)))
+        (first (rules.broken_field (seen table.now visible.now) base.kind found name_at)) }
+    ensures taken { result.taken ≡ base.taken }
+{
+    let own = earlier(base.fault, no_object(base.kind, base_at));
+    if is_object(base.kind) {
+        let kind = field_kind(table, visible, found);
+        let fault = field_fault(table, visible, found, name_at);
+        number(kind, earlier(own, fault), base.taken)
+    } else {
+        number(None, own, base.taken)
     }
 }
 
-/// What is told of a test.
-pub fn judge_test<'a>(table: &ClassTable<'a>, visible: &Visible<'a>, expr: &'a Expr) -> Judged
-    ensures { JudgesTest (seen table.now visible.now) (expr_tree expr.now) result }
+/// What is told of a field of an object.
+#[cycle(judge)]
+fn judge_arrow<'a>(
+    table: &ClassTable<'a>,
+    visible: &Visible<'a>,
+    before: Taken,
+    name_at: usize,
+    base: &'a Expr,
+    name: &'a [u8],
+) -> Judged
+    ensures { (at : ℕ) → Judges (seen table.now visible.now) before (Arrow at name_at (expr_tree base.now) name.now) result }
 {
-    let judged = judge(table, visible, expr);
+    let judged = judge(table, visible, before, base);
+    let found = table.field(judged.class, name);
+    field_of(table, visible, judged, place(base), found, name_at)
+}
+
+/// What an assignment has taken behind its `=`, from what its left side tells.
+fn taken_by_left(
+    visible: &Visible,
+    before: Taken,
+    left: &Expr,
+    judged: Judged,
+    sign: usize,
+) -> Taken
+    ensures { (table : ClassTable) → result
+        ≡ counted (if rules.is_unread (seen table visible.now) (expr_tree left.now) then before else judged.taken) (rules.at_if (rules.is_object judged.kind) sign) }
+{
+    let read = if is_unread(visible, left) {
+        before
+    } else {
+        judged.taken
+    };
+    read.one_if(is_object(judged.kind), sign)
+}
+
+/// What is told of an assignment, from its sides.
+fn assigned(is_assignable: bool, sign: usize, left: Judged, right: Judged, right_at: usize) -> Judged
+    ensures kind { result.kind ≡ (if is_assignable then left.kind else None) }
+    ensures class { result.class ≡ left.class }
+    ensures fault { option_map told result.fault
+        ≡ earlier_of (earlier_of (option_map told left.fault) (first (broken_if (not is_assignable) sign 44)))
+        (earlier_of (option_map told right.fault) (first (rules.no_such left.kind right.kind right_at))) }
+    ensures taken { result.taken ≡ right.taken }
+{
+    let other = earlier(right.fault, no_such(left.kind, right.kind, right_at));
+    let kind = if is_assignable { left.kind } else { None };
+    let own = if is_assignable {
+        None
+    } else {
+        Some(CheckFault::NotAssignable(sign))
+    };
     Judged {
-        kind: judged.kind,
-        fault: earlier(judged.fault, no_value(judged.kind, place(expr))),
+        kind,
+        class: left.class,
+        fault: earlier(earlier(left.fault, own), other),
+        taken: right.taken,
+    }
+}
+
+/// What is told of an assignment.
+#[cycle(judge)]
+fn judge_assignment<'a>(
+    table: &ClassTable<'a>,
+    visible: &Visible<'a>,
+    before: Taken,
+    sign: usize,
+    left: &'a Expr,
+    right: &'a Expr,
+) -> Judged
+    ensures { (at : ℕ) → Judges (seen table.now visible.now) before (Assign at sign (expr_tree left.now) (expr_tree right.now)) result }
+{
+    let first = judge(table, visible, before, left);
+    let between = taken_by_left(visible, before, left, first, sign);
+    let second = judge(table, visible, between, right);
+    assigned(is_assignable(left), sign, first, second, place(right))
+}
+
+/// The kind of a message to the class or, with none, to what this is told of.
+fn message_kind<'a>(
+    table: &ClassTable<'a>,
+    class: Option<ClassId>,
+    receiver: Judged,
+    selector: &'a [u8],
+) -> Option<Kind>
+    ensures { (visible : Visible) → result
+        ≡ rules.message_kind (seen table.now visible) (option_map number_of_class class) receiver.kind (option_map number_of_class receiver.class) selector.now }
+{
+    if class.is_some() || is_object(receiver.kind) {
+        sent_kind(table, class, receiver.class, selector)
+    } else {
+        None
+    }
+}
+
+/// The rule that a receiver breaks which is the class or, with none, of which this is told.
+fn receiver_fault(class: Option<ClassId>, receiver: Judged, at: usize) -> Option<CheckFault>
+    ensures { option_map told result
+        ≡ (if is_some (option_map number_of_class class) then None else earlier_of (option_map told receiver.fault) (first (rules.no_object receiver.kind at))) }
+{
+    match class {
+        Some(_) => None,
+        None => earlier(receiver.fault, no_object(receiver.kind, at)),
+    }
+}
+
+/// The rule that a message breaks for which no method is known: to the class or, with none, to what this is told of.
+fn method_fault<'a>(
+    table: &ClassTable<'a>,
+    class: Option<ClassId>,
+    receiver: Judged,
+    selector: &'a [u8],
+    part: usize,
+) -> Option<CheckFault>
+    ensures { (visible : Visible) → option_map told result
+        ≡ first (rules.no_method (seen table.now visible) (option_map number_of_class class) receiver.kind (option_map number_of_class receiver.class) selector.now part) }
+{
+    if class.is_none() && !is_object(receiver.kind) {
+        return None;
+    }
+    match sent_kind(table, class, receiver.class, selector) {
+        Some(_) => None,
+        None => Some(CheckFault::NoSuchMethod(part)),
     }
 }
 
@@ -389,18 +394,75 @@ pub fn judge_test<'a>(table: &ClassTable<'a>, visible: &Visible<'a>, expr: &'a E
 fn judge_send<'a>(
     table: &ClassTable<'a>,
     visible: &Visible<'a>,
+    before: Taken,
     part: usize,
-    receiver: &'a Receiver,
+    receiver: &'a Expr,
     selector: &'a [u8],
     arguments: &'a [Expr],
 ) -> Judged
-    ensures { (at : ℕ) → Judges (seen table.now visible.now) (Send at part (receiver_tree receiver.now) selector.now (expr_trees arguments.now)) result }
+    ensures { (at : ℕ) → Judges (seen table.now visible.now) before (Send at part (expr_tree receiver.now) selector.now (expr_trees arguments.now)) result }
 {
-    let own = message_fault(table, visible, part, receiver, selector);
-    let passed = judge_arguments(table, visible, false, b"", arguments);
+    let class = class_receiver(table, visible, receiver);
+    let judged = judge(table, visible, before, receiver);
+    let kind = message_kind(table, class, judged, selector);
+    let own = receiver_fault(class, judged, place(receiver));
+    let unknown = method_fault(table, class, judged, selector, part);
+    let between = judged.taken.one_if(is_object(kind), part);
+    let passed = judge_arguments(table, visible, between, false, b"", arguments);
     Judged {
-        kind: sent_kind(table, receiving(table, visible, receiver), selector),
-        fault: earlier(own, passed.fault),
+        kind,
+        class: sent_class(class, judged.class, selector),
+        fault: earlier(earlier(own, unknown), passed.fault),
+        taken: passed.taken,
+    }
+}
+
+/// The rule that a message of no kind breaks.
+fn unknown_method(kind: Option<Kind>, part: usize) -> Option<CheckFault>
+    ensures { option_map told result ≡ first (broken_if (is_none kind) part 42) }
+{
+    match kind {
+        Some(_) => None,
+        None => Some(CheckFault::NoSuchMethod(part)),
+    }
+}
+
+/// What a message to `super` has taken behind its selector's first part.
+fn taken_by_super(
+    visible: &Visible,
+    before: Taken,
+    super_at: usize,
+    kind: Option<Kind>,
+    part: usize,
+) -> Taken
+    ensures { (table : ClassTable) → result
+        ≡ counted (counted before (rules.at_if (is_some (scopes.own_class (seen table visible.now))) super_at)) (rules.at_if (rules.is_object kind) part) }
+{
+    let read = before.one_if(visible.own_class().is_some(), super_at);
+    read.one_if(is_object(kind), part)
+}
+
+/// What is told of a message to `super`.
+#[cycle(judge)]
+fn judge_super<'a>(
+    table: &ClassTable<'a>,
+    visible: &Visible<'a>,
+    before: Taken,
+    part: usize,
+    super_at: usize,
+    selector: &'a [u8],
+    arguments: &'a [Expr],
+) -> Judged
+    ensures { (at : ℕ) → Judges (seen table.now visible.now) before (SendSuper at part super_at selector.now (expr_trees arguments.now)) result }
+{
+    let kind = super_kind(table, visible, selector);
+    let between = taken_by_super(visible, before, super_at, kind, part);
+    let passed = judge_arguments(table, visible, between, false, b"", arguments);
+    Judged {
+        kind,
+        class: super_class(visible, selector),
+        fault: earlier(unknown_method(kind, part), passed.fault),
+        taken: passed.taken,
     }
 }
 
@@ -409,19 +471,20 @@ fn judge_send<'a>(
 fn judge_call<'a>(
     table: &ClassTable<'a>,
     visible: &Visible<'a>,
+    before: Taken,
     at: usize,
     name: &'a [u8],
     arguments: &'a [Expr],
 ) -> Judged
-    ensures { JudgesCall (seen table.now visible.now) at (scopes.callee (known_in table.now) name.now) (expr_trees arguments.now) result }
+    ensures { JudgesCall (seen table.now visible.now) before at (scopes.callee (known_in table.now) name.now) (expr_trees arguments.now) result }
 {
     let callee = callee_of(table, name);
     match callee {
-        Callee::Printf => judge_print(table, visible, at, arguments),
+        Callee::Printf => judge_print(table, visible, before, at, arguments),
         _ => {
-            let inside = judge_arguments(table, visible, false, b"", arguments);
+            let inside = judge_arguments(table, visible, before, false, b"", arguments);
             let own = call_fault(callee, at, arguments.len());
-            called(result_kind(callee), own, inside.fault)
+            called(result_kind(callee), own, inside)
         }
     }
 }
@@ -431,24 +494,25 @@ fn judge_call<'a>(
 fn judge_print<'a>(
     table: &ClassTable<'a>,
     visible: &Visible<'a>,
+    before: Taken,
     at: usize,
     arguments: &'a [Expr],
 ) -> Judged
-    ensures { JudgesCall (seen table.now visible.now) at Callee.Printf (expr_trees arguments.now) result }
+    ensures { JudgesCall (seen table.now visible.now) before at Callee.Printf (expr_trees arguments.now) result }
 {
     match arguments.split_first() {
         Some((Expr::Text(_, format), values)) => {
-            let inside = judge_arguments(table, visible, true, format, values);
+            let inside = judge_arguments(table, visible, before, true, format, values);
             let own = if inside.fit {
                 None
             } else {
                 Some(CheckFault::Format(at))
             };
-            called(Kind::Int, own, inside.fault)
+            called(Kind::Int, own, inside)
         }
         _ => {
-            let inside = judge_arguments(table, visible, true, b"", arguments);
-            called(Kind::Int, Some(CheckFault::Format(at)), inside.fault)
+            let inside = judge_arguments(table, visible, before, true, b"", arguments);
+            called(Kind::Int, Some(CheckFault::Format(at)), inside)
         }
     }
 }
@@ -458,18 +522,24 @@ fn judge_print<'a>(
 fn judge_argument<'a>(
     table: &ClassTable<'a>,
     visible: &Visible<'a>,
+    before: Taken,
     printed: bool,
     argument: &'a Expr,
 ) -> Judged
     ensures kind { result.kind ≡ rules.kind_of (seen table.now visible.now) (expr_tree argument.now) }
     ensures fault { option_map told result.fault
         ≡ earlier_of (first (rules.broken (seen table.now visible.now) (expr_tree argument.now))) (first (unless printed (no_number (rules.kind_of (seen table.now visible.now) (expr_tree argument.now)) (tree.place (expr_tree argument.now))))) }
+    ensures taken { result.taken ≡ counted before (rules.taken (seen table.now visible.now) (expr_tree argument.now)) }
 {
+    let judged = judge(table, visible, before, argument);
     if printed {
-        judge(table, visible, argument)
-    } else {
-        judge_number(table, visible, argument)
+        return judged;
     }
+    number(
+        judged.kind,
+        earlier(judged.fault, no_number(judged.kind, place(argument))),
+        judged.taken,
+    )
 }
 
 /// What is told of arguments behind a format.
@@ -477,28 +547,90 @@ fn judge_argument<'a>(
 fn judge_arguments<'a>(
     table: &ClassTable<'a>,
     visible: &Visible<'a>,
+    before: Taken,
     printed: bool,
     format: &[u8],
     arguments: &'a [Expr],
 ) -> Arguments
-    ensures { JudgesAll (seen table.now visible.now) printed (wanted format.now) (expr_trees arguments.now) result }
+    ensures { JudgesAll (seen table.now visible.now) before printed (wanted format.now) (expr_trees arguments.now) result }
 {
     let mut rest = format;
     let mut told = Arguments {
         fit: true,
         fault: None,
+        taken: before,
     };
     for argument in arguments {
-        let judged = judge_argument(table, visible, printed, argument);
+        let judged = judge_argument(table, visible, told.taken, printed, argument);
         let (fit, behind) = take_conversion(rest, judged.kind);
         rest = behind;
         told = Arguments {
             fit: told.fit && fit,
             fault: earlier(told.fault, judged.fault),
+            taken: judged.taken,
         };
     }
     Arguments {
         fit: told.fit && next_conversion(rest).is_none(),
         ..told
     }
+}
+
+/// What is told of a full-expression.
+pub fn judge_whole<'a>(table: &ClassTable<'a>, visible: &Visible<'a>, expr: &'a Expr) -> Judged
+    ensures { JudgesWhole (seen table.now visible.now) (expr_tree expr.now) result }
+{
+    let judged = judge(table, visible, Taken::none(), expr);
+    Judged {
+        fault: earlier(judged.fault, judged.taken.fault()),
+        ..judged
+    }
+}
+
+/// The first rule that is broken in a full-expression that has to give a number.
+pub fn number_fault<'a>(
+    table: &ClassTable<'a>,
+    visible: &Visible<'a>,
+    expr: &'a Expr,
+) -> Option<CheckFault>
+    ensures { option_map told result ≡ first (rules.broken_number (seen table.now visible.now) (expr_tree expr.now)) }
+{
+    let judged = judge_whole(table, visible, expr);
+    earlier(judged.fault, no_number(judged.kind, place(expr)))
+}
+
+/// The first rule that is broken in a test.
+pub fn test_fault<'a>(
+    table: &ClassTable<'a>,
+    visible: &Visible<'a>,
+    expr: &'a Expr,
+) -> Option<CheckFault>
+    ensures { option_map told result ≡ first (rules.broken_test (seen table.now visible.now) (expr_tree expr.now)) }
+{
+    let judged = judge_whole(table, visible, expr);
+    earlier(judged.fault, no_value(judged.kind, place(expr)))
+}
+
+/// The kind of what a variable of the type holds.
+fn type_kind(type_name: &TypeName) -> Kind
+    ensures { result ≡ rules.type_kind (type_tree type_name.now) }
+{
+    match type_name {
+        TypeName::Int => Kind::Int,
+        TypeName::Id | TypeName::Object(_, _) => Kind::Object,
+    }
+}
+
+/// The first rule that is broken in what a variable of the type begins with.
+pub fn initial_fault<'a>(
+    table: &ClassTable<'a>,
+    visible: &Visible<'a>,
+    type_name: &TypeName,
+    expr: &'a Expr,
+) -> Option<CheckFault>
+    ensures { option_map told result ≡ first (rules.broken_initial (seen table.now visible.now) (type_tree type_name.now) (Some (expr_tree expr.now))) }
+{
+    let judged = judge_whole(table, visible, expr);
+    let wanted = Some(type_kind(type_name));
+    earlier(judged.fault, no_such(wanted, judged.kind, place(expr)))
 }

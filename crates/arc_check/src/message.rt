@@ -1,13 +1,46 @@
-//! The methods that messages may have.
+//! The methods that messages may have, and the static classes of what they give.
 ghost use Rattle.std.specs.Prelude.{◌≡◌, option_map};
-ghost use Rattle.arc_ast.specs.Tree.{receiver_tree};
+ghost use Rattle.arc_ast.specs.Tree.{expr_tree, type_tree};
+ghost use Rattle.arc_class.specs.declared.table.ClassTable.{ClassTable};
 ghost use Rattle.arc_class.specs.Table.{number_of_class};
 ghost use Rattle.arc_check.specs.Scopes as scopes;
 ghost use Rattle.arc_check.specs.Views.{known_in, seen};
 
+use crate::field::is_variable;
 use crate::scope::Visible;
-use arc_ast::tree::{Kind, Receiver};
+use arc_ast::tree::{Expr, Kind, Sign, TypeName};
 use arc_class::table::{ClassId, ClassTable};
+
+/// The class of the type, of which `id` has none.
+pub fn static_class<'a>(table: &ClassTable<'a>, type_name: &'a TypeName) -> Option<ClassId>
+    ensures { option_map number_of_class result ≡ scopes.static_class (known_in table.now) (type_tree type_name.now) }
+{
+    match type_name {
+        TypeName::Int | TypeName::Id => None,
+        TypeName::Object(_, class) => table.objc_get_class(class),
+    }
+}
+
+/// The class that the receiver is, where it is one.
+pub fn class_receiver<'a>(
+    table: &ClassTable<'a>,
+    visible: &Visible<'a>,
+    receiver: &'a Expr,
+) -> Option<ClassId>
+    ensures { option_map number_of_class result ≡ scopes.class_receiver (seen table.now visible.now) (expr_tree receiver.now) }
+{
+    match receiver {
+        Expr::Name(_, name) => {
+            if is_variable(table, visible, name) {
+                None
+            } else {
+                table.objc_get_class(name)
+            }
+        }
+        Expr::Itself(_) => visible.class_itself(),
+        _ => None,
+    }
+}
 
 /// The superclass of the class, if there is one.
 pub fn above(table: &ClassTable, class: Option<ClassId>) -> Option<ClassId>
@@ -19,55 +52,90 @@ pub fn above(table: &ClassTable, class: Option<ClassId>) -> Option<ClassId>
     }
 }
 
-/// The class whose methods a message to the receiver may have.
-pub fn receiving<'a>(
+/// What the method of objects gives that is known for the static class, of which `id` has none.
+pub fn object_result<'a>(
     table: &ClassTable<'a>,
-    visible: &Visible<'a>,
-    receiver: &'a Receiver,
-) -> Option<ClassId>
-    ensures { option_map number_of_class result ≡ scopes.receiving (seen table.now visible.now) (receiver_tree receiver.now) }
+    static_class: Option<ClassId>,
+    selector: &'a [u8],
+) -> Option<Kind>
+    ensures { result ≡ scopes.object_result (known_in table.now) (option_map number_of_class static_class) selector.now }
 {
-    match receiver {
-        Receiver::Named(_, name) => {
-            if visible.number(name).is_some() {
-                None
-            } else {
-                table.objc_get_class(name)
-            }
-        }
-        Receiver::Itself(_) => visible.class,
-        Receiver::Super(_) => above(table, visible.class),
+    match static_class {
+        None => table.result_of_any(selector),
+        Some(class) => table.result(Some(class), Sign::Instance, selector),
     }
 }
 
-/// What the methods give by which memory is managed by hand.
-fn memory_result(selector: &[u8]) -> Option<Kind>
-    ensures { result ≡ scopes.memory_result selector.now }
-{
-    if selector == b"retain".as_slice() || selector == b"autorelease".as_slice() {
-        Some(Kind::Object)
-    } else if selector == b"retainCount".as_slice() {
-        Some(Kind::Long)
-    } else if selector == b"release".as_slice() || selector == b"dealloc".as_slice() {
-        Some(Kind::Void)
-    } else {
-        None
-    }
-}
-
-/// What a message gives whose methods are those of the class, where a method is known for it.
+/// What a message gives, where a method is known for it: to the class or, with none, to an object with the static class.
 pub fn sent_kind<'a>(
     table: &ClassTable<'a>,
     class: Option<ClassId>,
+    static_class: Option<ClassId>,
     selector: &'a [u8],
 ) -> Option<Kind>
-    ensures { result ≡ scopes.sent_kind (known_in table.now) (option_map number_of_class class) selector.now }
+    ensures { result ≡ scopes.sent_kind (known_in table.now) (option_map number_of_class class) (option_map number_of_class static_class) selector.now }
 {
-    if class.is_none() {
-        return None;
+    match class {
+        Some(class) => table.result(Some(class), Sign::Class, selector),
+        None => object_result(table, static_class, selector),
     }
-    match table.result(class, selector) {
-        Some(kind) => Some(kind),
-        None => memory_result(selector),
+}
+
+/// What a message to `super` gives, where a method is known for it.
+pub fn super_kind<'a>(
+    table: &ClassTable<'a>,
+    visible: &Visible<'a>,
+    selector: &'a [u8],
+) -> Option<Kind>
+    ensures { result ≡ scopes.super_kind (seen table.now visible.now) selector.now }
+{
+    match above(table, visible.class) {
+        None => None,
+        Some(class) => table.result(Some(class), visible.sign, selector),
+    }
+}
+
+/// Whether a class answers the selector by a new object of its own.
+fn makes(selector: &[u8]) -> bool
+    ensures { result ≡ scopes.makes selector.now }
+{
+    selector == b"alloc".as_slice() || selector == b"new".as_slice()
+}
+
+/// Whether an object answers the selector by itself.
+fn is_init(selector: &[u8]) -> bool
+    ensures { result ≡ scopes.is_init selector.now }
+{
+    selector == b"init".as_slice()
+}
+
+/// The class, if it is so.
+fn if_class(so: bool, class: Option<ClassId>) -> Option<ClassId>
+    ensures { option_map number_of_class result ≡ scopes.if_class so (option_map number_of_class class) }
+{
+    if so { class } else { None }
+}
+
+/// The static class of what a message gives: to the class or, with none, to an object with the static class.
+pub fn sent_class(
+    class: Option<ClassId>,
+    static_class: Option<ClassId>,
+    selector: &[u8],
+) -> Option<ClassId>
+    ensures { option_map number_of_class result ≡ scopes.sent_class (option_map number_of_class class) (option_map number_of_class static_class) selector.now }
+{
+    match class {
+        Some(class) => if_class(makes(selector), Some(class)),
+        None => if_class(is_init(selector), static_class),
+    }
+}
+
+/// The static class of what a message to `super` gives.
+pub fn super_class(visible: &Visible, selector: &[u8]) -> Option<ClassId>
+    ensures { (table : ClassTable) → option_map number_of_class result ≡ scopes.super_class (seen table visible.now) selector.now }
+{
+    match visible.sign {
+        Sign::Class => if_class(makes(selector), visible.class),
+        Sign::Instance => if_class(is_init(selector), visible.class),
     }
 }

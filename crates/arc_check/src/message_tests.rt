@@ -1,10 +1,10 @@
 //! Messages by hand, and what is told of them.
-use crate::judge::{judge, judge_test};
+use crate::judge::{judge_whole, test_fault};
 use crate::resolve::expression;
 use crate::scope::Visible;
 use arc_ast::tree::{
     BinaryOperator, Expr, Function, Implementation, Interface, Kind, MethodHead, Parameter,
-    Parameters, Receiver, TranslationUnit,
+    Parameters, Sign, TranslationUnit,
 };
 use arc_class::table::ClassTable;
 use std::alloc::{AllocError, Global};
@@ -17,6 +17,7 @@ fn head(
 ) -> Result<MethodHead, AllocError> {
     Ok(MethodHead {
         at: 30,
+        sign: Sign::Class,
         selector: Vec::from_slice(alloc, selector)?,
         result: kind,
         parameters,
@@ -34,6 +35,7 @@ fn interface(
         name: Vec::from_slice(alloc, name)?,
         superclass_at: 32,
         superclass: Vec::from_slice(alloc, superclass)?,
+        fields: Vec::new(alloc),
         methods,
     })
 }
@@ -42,6 +44,7 @@ fn implementation(alloc: Global, name: &[u8]) -> Result<Implementation, AllocErr
     Ok(Implementation {
         at: 33,
         name: Vec::from_slice(alloc, name)?,
+        fields: Vec::new(alloc),
         methods: Vec::new(alloc),
     })
 }
@@ -85,12 +88,12 @@ fn told<'a>(
     visible: &Visible<'a>,
     expr: &'a Expr,
 ) -> Result<String, AllocError> {
-    if let Some(fault) = judge(table, visible, expr).fault {
+    if let Some(fault) = judge_whole(table, visible, expr).fault {
         return format!(in alloc; "{} {} at {}", fault.number(), fault.name(), fault.at());
     }
-    let is_test = judge_test(table, visible, expr).fault.is_none();
+    let is_test = test_fault(table, visible, expr).is_none();
     let typed = expression(alloc, table, visible, expr)?;
-    format!(in alloc; "{:?} {:?} {}", typed.kind, typed.value, is_test)
+    format!(in alloc; "{:?} {}", typed.value, is_test)
 }
 
 /// What is told of the expression in a method of the class, or else in a function; `v` is a variable there.
@@ -101,10 +104,10 @@ fn answer(alloc: Global, class: Option<&[u8]>, expr: Expr) -> Result<String, All
         Err(fault) => return format!(in alloc; "{fault}"),
     };
     let mut visible = match class {
-        Some(name) => Visible::in_method(alloc, table.objc_get_class(name)),
+        Some(name) => Visible::in_method(alloc, table.objc_get_class(name), Sign::Class),
         None => Visible::new(alloc),
     };
-    visible.declare(b"v")?;
+    visible.declare_int(b"v")?;
     told(alloc, &table, &visible, &expr)
 }
 
@@ -112,14 +115,14 @@ fn answer(alloc: Global, class: Option<&[u8]>, expr: Expr) -> Result<String, All
 fn message(
     alloc: Global,
     part: usize,
-    receiver: Receiver,
+    receiver: Expr,
     selector: &[u8],
     arguments: Vec<Expr>,
 ) -> Result<Expr, AllocError> {
     Ok(Expr::Send(
         9,
         part,
-        receiver,
+        Box::new(alloc, receiver)?,
         Vec::from_slice(alloc, selector)?,
         arguments,
     ))
@@ -127,7 +130,7 @@ fn message(
 
 /// A message without arguments to a name at 10, with its selector at `part`.
 fn to_name(alloc: Global, part: usize, name: &[u8], selector: &[u8]) -> Result<Expr, AllocError> {
-    let receiver = Receiver::Named(10, Vec::from_slice(alloc, name)?);
+    let receiver = Expr::Name(10, Vec::from_slice(alloc, name)?);
     message(alloc, part, receiver, selector, Vec::new(alloc))
 }
 
@@ -140,7 +143,7 @@ fn named(alloc: Global, name: &[u8], selector: &[u8]) -> Result<String, AllocErr
 fn inside(
     alloc: Global,
     class: Option<&[u8]>,
-    receiver: Receiver,
+    receiver: Expr,
     selector: &[u8],
 ) -> Result<String, AllocError> {
     let expr = message(alloc, 20, receiver, selector, Vec::new(alloc))?;
@@ -151,13 +154,13 @@ fn inside(
 fn sends_to_classes(rt: HostRuntime) {
     let alloc = rt.alloc();
     let found = named(alloc, b"A", b"count").expect(&rt, "no memory");
-    assert_eq!(rt; found.as_str(), "Int Sent(Number(1), 1, []) true");
+    assert_eq!(rt; found.as_str(), "Gives(Int, Sent(Number(1), 1, [])) true");
     let found = named(alloc, b"B", b"count").expect(&rt, "no memory");
-    assert_eq!(rt; found.as_str(), "Int Sent(Number(2), 1, []) true");
+    assert_eq!(rt; found.as_str(), "Gives(Int, Sent(Number(2), 1, [])) true");
     let found = named(alloc, b"B", b"own").expect(&rt, "no memory");
-    assert_eq!(rt; found.as_str(), "Int Sent(Number(2), 3, []) true");
+    assert_eq!(rt; found.as_str(), "Gives(Int, Sent(Number(2), 3, [])) true");
     let found = named(alloc, b"A", b"run").expect(&rt, "no memory");
-    assert_eq!(rt; found.as_str(), "Void Sent(Number(1), 0, []) false");
+    assert_eq!(rt; found.as_str(), "Gives(Void, Sent(Number(1), 0, [])) false");
     let found = named(alloc, b"v", b"count").expect(&rt, "no memory");
     assert_eq!(rt; found.as_str(), "43 KindMismatch at 10");
     let found = named(alloc, b"C", b"count").expect(&rt, "no memory");
@@ -169,28 +172,31 @@ fn sends_to_classes(rt: HostRuntime) {
 #[test]
 fn sends_to_self(rt: HostRuntime) {
     let alloc = rt.alloc();
-    let itself = Receiver::Itself(10);
+    let itself = Expr::Itself(10);
     let found = inside(alloc, Some(b"B"), itself, b"count").expect(&rt, "no memory");
-    assert_eq!(rt; found.as_str(), "Int Sent(Local(0), 1, []) true");
-    let itself = Receiver::Itself(10);
+    assert_eq!(rt; found.as_str(), "Gives(Int, Sent(Local(0), 1, [])) true");
+    let itself = Expr::Itself(10);
     let found = inside(alloc, Some(b"A"), itself, b"own").expect(&rt, "no memory");
     assert_eq!(rt; found.as_str(), "42 NoSuchMethod at 20");
-    let itself = Receiver::Itself(10);
+    let itself = Expr::Itself(10);
     let found = inside(alloc, None, itself, b"count").expect(&rt, "no memory");
     assert_eq!(rt; found.as_str(), "41 UnknownName at 10");
+}
+
+/// What is told of a message to `super` without arguments in a method of the class, or else in a function.
+fn upward(alloc: Global, class: Option<&[u8]>, selector: &[u8]) -> Result<String, AllocError> {
+    let selector = Vec::from_slice(alloc, selector)?;
+    answer(alloc, class, Expr::SendSuper(9, 20, 10, selector, Vec::new(alloc)))
 }
 
 #[test]
 fn sends_to_super(rt: HostRuntime) {
     let alloc = rt.alloc();
-    let above = Receiver::Super(10);
-    let found = inside(alloc, Some(b"B"), above, b"count").expect(&rt, "no memory");
-    assert_eq!(rt; found.as_str(), "Int SentSuper(1, 1, []) true");
-    let above = Receiver::Super(10);
-    let found = inside(alloc, Some(b"B"), above, b"own").expect(&rt, "no memory");
+    let found = upward(alloc, Some(b"B"), b"count").expect(&rt, "no memory");
+    assert_eq!(rt; found.as_str(), "Gives(Int, SentSuper(1, 1, [])) true");
+    let found = upward(alloc, Some(b"B"), b"own").expect(&rt, "no memory");
     assert_eq!(rt; found.as_str(), "42 NoSuchMethod at 20");
-    let above = Receiver::Super(10);
-    let found = inside(alloc, None, above, b"count").expect(&rt, "no memory");
+    let found = upward(alloc, None, b"count").expect(&rt, "no memory");
     assert_eq!(rt; found.as_str(), "42 NoSuchMethod at 20");
 }
 
@@ -212,22 +218,22 @@ fn void_added(alloc: Global) -> Result<String, AllocError> {
     operator(alloc, BinaryOperator::Add, left, Expr::Integer(25, 1))
 }
 
-/// `[A retain] != 1`
+/// `[A alloc] != 1`
 fn object_and_number(alloc: Global) -> Result<String, AllocError> {
-    let left = to_name(alloc, 20, b"A", b"retain")?;
+    let left = to_name(alloc, 20, b"A", b"alloc")?;
     operator(alloc, BinaryOperator::NotEqual, left, Expr::Integer(25, 1))
 }
 
-/// `1 != [A retain]`
+/// `1 != [A alloc]`
 fn number_and_object(alloc: Global) -> Result<String, AllocError> {
-    let right = to_name(alloc, 20, b"A", b"retain")?;
+    let right = to_name(alloc, 20, b"A", b"alloc")?;
     operator(alloc, BinaryOperator::NotEqual, Expr::Integer(5, 1), right)
 }
 
-/// `[A retain] != [A autorelease]`
+/// `[A alloc] != [A new]`
 fn objects(alloc: Global) -> Result<String, AllocError> {
-    let left = to_name(alloc, 20, b"A", b"retain")?;
-    let right = to_name(alloc, 25, b"A", b"autorelease")?;
+    let left = to_name(alloc, 20, b"A", b"alloc")?;
+    let right = to_name(alloc, 25, b"A", b"new")?;
     operator(alloc, BinaryOperator::NotEqual, left, right)
 }
 
@@ -241,14 +247,13 @@ fn computes_with_numbers(rt: HostRuntime) {
     let found = number_and_object(alloc).expect(&rt, "no memory");
     assert_eq!(rt; found.as_str(), "43 KindMismatch at 20");
     let found = objects(alloc).expect(&rt, "no memory");
-    let compared =
-        "Int Combined(NotEqual, Int, Sent(Number(1), 0, []), Sent(Number(1), 0, [])) true";
+    let compared = "Gives(Int, Differ(Made(Number(1)), Made(Number(1)))) true";
     assert_eq!(rt; found.as_str(), compared);
 }
 
 /// `[A add:value]` in a function
 fn added(alloc: Global, value: Expr) -> Result<String, AllocError> {
-    let receiver = Receiver::Named(10, Vec::from_slice(alloc, b"A")?);
+    let receiver = Expr::Name(10, Vec::from_slice(alloc, b"A")?);
     let expr = message(alloc, 12, receiver, b"add:", vec![in alloc; value]?)?;
     answer(alloc, None, expr)
 }
@@ -262,7 +267,7 @@ fn void_passed(alloc: Global) -> Result<String, AllocError> {
 fn passes_numbers(rt: HostRuntime) {
     let alloc = rt.alloc();
     let found = added(alloc, Expr::Integer(20, 3000000000)).expect(&rt, "no memory");
-    let sent = "Int Sent(Number(1), 2, [Converted(Int, Number(3000000000))]) true";
+    let sent = "Gives(Int, Sent(Number(1), 2, [Converted(Int, Number(3000000000))])) true";
     assert_eq!(rt; found.as_str(), sent);
     let found = void_passed(alloc).expect(&rt, "no memory");
     assert_eq!(rt; found.as_str(), "43 KindMismatch at 20");

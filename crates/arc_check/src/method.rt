@@ -54,7 +54,7 @@ fn method<'a>(
         ≡ first (broken_method (known_in table.now) (option_map number_of_class class) (method_tree method.now))) }
 {
     let gives_nothing = is_void(method.head.result);
-    let visible = Visible::in_method(alloc, class);
+    let visible = Visible::in_method(alloc, class, method.head.sign);
     let inside = inside(
         table,
         gives_nothing,

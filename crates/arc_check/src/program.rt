@@ -1,21 +1,21 @@
 //! Builds the resolved functions and methods of a source that breaks no rule.
-ghost use Rattle.std.specs.Prelude.{◌≡◌, List, ◌++◌, IfOk, OnOk, option_map, take, length};
-ghost use Rattle.arc_ast.specs.Tree.{expr_tree, variable_trees, parameter_trees, stmt_tree, stmt_trees, function_trees, method_trees, implementation_trees};
+ghost use Rattle.std.specs.Prelude.{◌≡◌, ◌-◌, List, ◌++◌, IfOk, OnOk, option_map, take, length};
+ghost use Rattle.arc_ast.specs.Tree.{expr_tree, type_tree, variable_trees, parameter_trees, stmt_tree, stmt_trees, function_trees, method_trees, implementation_trees};
 ghost use Rattle.arc_class.specs.Table.{number_of_class};
 ghost use Rattle.arc_spec.specs.Resolved.{Sequence};
 ghost use Rattle.arc_spec.specs.Resolved as spec;
-ghost use Rattle.arc_check.specs.Building.{function_of, functions_ahead};
+ghost use Rattle.arc_check.specs.Building.{function_of, functions_ahead, in_front_of, resolution};
 ghost use Rattle.arc_check.specs.Checked as checked;
 ghost use Rattle.arc_check.specs.Resolving as resolving;
 ghost use Rattle.arc_check.specs.Resolving.{as_int, resolved_variables, resolved_stmt, resolved_stmts, resolved_body, resolved_functions, with_methods, resolved_methods};
-ghost use Rattle.arc_check.specs.Scopes.{leave, behind, behind_all, with_parameters, with_variables};
+ghost use Rattle.arc_check.specs.Scopes.{Scope, leave, behind, behind_all, with_parameters, with_variables};
 ghost use Rattle.arc_check.specs.Views.{known_in, seen};
 
 use crate::body::named_parameters;
 use crate::checked::{CheckedFunction, Command, Value};
-use crate::resolve::{expression, int};
+use crate::resolve::{Resolution, expression, int, number_in, object};
 use crate::scope::Visible;
-use arc_ast::tree::{Expr, Function, Implementation, Method, Parameter, Stmt, Variable};
+use arc_ast::tree::{Expr, Function, Implementation, Method, Parameter, Stmt, TypeName, Variable};
 use arc_class::table::{ClassId, ClassTable};
 use std::alloc::{AllocError, Global};
 
@@ -49,25 +49,93 @@ fn returned<'a>(
     }
 }
 
+/// What the declared variable's beginning runs, if it runs something; it is declared from what was visible before to what is visible now, where these are
+/// the numbers that were next.
+fn beginning<'a>(
+    alloc: Global,
+    table: &ClassTable<'a>,
+    visible: &Visible<'a>,
+    type_name: &TypeName,
+    next: u16,
+    names: u16,
+    expr: &'a Option<Expr>,
+) -> Result<Option<Command>, AllocError>
+    ensures { IfOk result (λ new. (before : Scope) (others : spec.Commands) → before.next ≡ next → before.names ≡ names
+        → resolving.declared (type_tree type_name.now) before (seen table.now visible.now) (option_map expr_tree expr.now) others ≡ in_front_of new others) }
+{
+    match (type_name, expr) {
+        (TypeName::Int, _) => {
+            let value = Box::new(alloc, initial(alloc, table, visible, expr)?)?;
+            Ok(Some(Command::Evaluate(Value::Assigned(usize::from(next), value))))
+        }
+        (TypeName::Id | TypeName::Object(_, _), Some(expr)) => {
+            let object = object(alloc, table, visible, expr)?;
+            Ok(Some(Command::Begin(usize::from(names), object)))
+        }
+        (TypeName::Id | TypeName::Object(_, _), None) => Ok(None),
+    }
+}
+
 /// A resolved declaration.
 fn variables<'a>(
     alloc: Global,
     table: &ClassTable<'a>,
     visible: &mut Visible<'a>,
+    type_name: &'a TypeName,
     declared: &'a [Variable],
 ) -> Result<Vec<Command>, AllocError>
-    ensures commands { IfOk result (λ all. checked.commands all.items ≡ resolved_variables (seen table.now visible.old) (variable_trees declared.now)) }
-    ensures scope { OnOk result (seen table.now visible.new ≡ with_variables (seen table.now visible.old) (variable_trees declared.now)) }
+    ensures commands { IfOk result (λ all. checked.commands all.items ≡ resolved_variables (type_tree type_name.now) (seen table.now visible.old) (variable_trees declared.now)) }
+    ensures scope { OnOk result (seen table.now visible.new ≡ with_variables (type_tree type_name.now) (seen table.now visible.old) (variable_trees declared.now)) }
     ensures keeps { OnOk result (take (length visible.old.bound.items) visible.new.bound.items ≡ visible.old.bound.items) }
 {
     let mut all = Vec::new(alloc);
     for variable in declared {
-        let number = visible.next;
-        visible.declare(&variable.name)?;
-        let value = Box::new(alloc, initial(alloc, table, visible, &variable.initial)?)?;
-        all.push(Command::Evaluate(Value::Assigned(number, value)))?;
+        let (next, names) = (visible.next, visible.names);
+        visible.declare(table, type_name, &variable.name)?;
+        let new = beginning(
+            alloc,
+            table,
+            visible,
+            type_name,
+            next,
+            names,
+            &variable.initial,
+        )?;
+        if let Some(command) = new {
+            all.push(command)?;
+        }
     }
     Ok(all)
+}
+
+/// A statement that is an expression.
+fn evaluated(of: Resolution) -> Command
+    ensures { checked.command result ≡ resolving.evaluated (resolution of) }
+{
+    match of {
+        Resolution::Gives(_, value) => Command::Evaluate(value),
+        Resolution::Refers(object) => Command::EvaluateReference(object),
+    }
+}
+
+/// A resolved test.
+fn test<'a>(
+    alloc: Global,
+    table: &ClassTable<'a>,
+    visible: &Visible<'a>,
+    expr: &'a Expr,
+) -> Result<Value, AllocError>
+    ensures { IfOk result (λ new. checked.value new ≡ resolving.number_in (resolving.resolved (seen table.now visible.now) (expr_tree expr.now))) }
+{
+    let typed = expression(alloc, table, visible, expr)?;
+    number_in(alloc, typed.value)
+}
+
+/// A statement that does nothing.
+fn nothing(alloc: Global) -> Command
+    ensures { checked.command result ≡ resolving.nothing }
+{
+    Command::Sequence(0, 0, Vec::new(alloc))
 }
 
 /// A resolved statement that is a scope of its own.
@@ -96,14 +164,17 @@ fn block<'a>(
     visible: &mut Visible<'a>,
     statements: &'a [Stmt],
 ) -> Result<Command, AllocError>
-    ensures command { IfOk result (λ new. checked.command new ≡ Sequence (resolved_stmts (seen table.now visible.old) (stmt_trees statements.now))) }
+    ensures command { IfOk result (λ new. checked.command new
+        ≡ Sequence (seen table.now visible.old).names ((behind_all (seen table.now visible.old) (stmt_trees statements.now)).names - (seen table.now visible.old).names) (resolved_stmts (seen table.now visible.old) (stmt_trees statements.now))) }
     ensures scope { OnOk result (seen table.now visible.new ≡ leave (seen table.now visible.old) (behind_all (seen table.now visible.old) (stmt_trees statements.now))) }
     ensures keeps { OnOk result (visible.new.bound.items ≡ visible.old.bound.items) }
 {
     let count = visible.bound.len();
+    let first = usize::from(visible.names);
     let all = commands(alloc, table, visible, statements)?;
     visible.leave(count);
-    Ok(Command::Sequence(all))
+    let own = usize::from(visible.names).saturating_sub(first);
+    Ok(Command::Sequence(first, own, all))
 }
 
 /// A resolved statement.
@@ -120,24 +191,26 @@ fn command<'a>(
 {
     match statement {
         Stmt::Block(_, all) => block(alloc, table, visible, all),
-        Stmt::Empty(_) => Ok(Command::Sequence(Vec::new(alloc))),
-        Stmt::Expr(expr) => Ok(Command::Evaluate(expression(alloc, table, visible, expr)?.value)),
+        Stmt::Empty(_) => Ok(nothing(alloc)),
+        Stmt::Expr(expr) => Ok(evaluated(expression(alloc, table, visible, expr)?.value)),
         Stmt::Return(_, expr) => Ok(Command::Return(returned(alloc, table, visible, expr)?)),
-        Stmt::Variables(_, all) => Ok(Command::Sequence(variables(alloc, table, visible, all)?)),
-        Stmt::If(_, test, then) => {
-            let test = expression(alloc, table, visible, test)?.value;
+        Stmt::Variables(_, type_name, all) => {
+            Ok(Command::Sequence(0, 0, variables(alloc, table, visible, type_name, all)?))
+        }
+        Stmt::If(_, condition, then) => {
+            let test = test(alloc, table, visible, condition)?;
             let then = scoped(alloc, table, visible, then)?;
-            let nothing = Box::new(alloc, Command::Sequence(Vec::new(alloc)))?;
+            let nothing = Box::new(alloc, nothing(alloc))?;
             Ok(Command::Choose(test, then, nothing))
         }
-        Stmt::IfElse(_, test, then, other) => {
-            let test = expression(alloc, table, visible, test)?.value;
+        Stmt::IfElse(_, condition, then, other) => {
+            let test = test(alloc, table, visible, condition)?;
             let then = scoped(alloc, table, visible, then)?;
             let other = scoped(alloc, table, visible, other)?;
             Ok(Command::Choose(test, then, other))
         }
-        Stmt::While(_, test, body) => {
-            let test = expression(alloc, table, visible, test)?.value;
+        Stmt::While(_, condition, body) => {
+            let test = test(alloc, table, visible, condition)?;
             let body = scoped(alloc, table, visible, body)?;
             Ok(Command::Repeat(test, body))
         }
@@ -177,7 +250,8 @@ fn function<'a>(
     visible.declare_parameters(named)?;
     let body = commands(alloc, table, &mut visible, body)?;
     Ok(CheckedFunction {
-        slots: visible.next,
+        slots: usize::from(visible.next),
+        names: usize::from(visible.names),
         body,
     })
 }
@@ -212,7 +286,7 @@ fn add_methods<'a>(
         ≡ functions_ahead all.old.items (with_methods (known_in table.now) (option_map number_of_class class) (method_trees methods.now) others)) }
 {
     for one in methods {
-        let visible = Visible::in_method(alloc, class);
+        let visible = Visible::in_method(alloc, class, one.head.sign);
         all.push(function(alloc, table, visible, &one.head.parameters, &one.body)?)?;
     }
     Ok(())

@@ -1,42 +1,90 @@
 //! Builds the resolved expressions of a source that breaks no rule.
-ghost use Rattle.std.specs.Prelude.{◌≡◌, ℕ, pos, option_map, IfOk};
-ghost use Rattle.arc_ast.specs.Tree.{expr_tree, expr_trees, receiver_tree, Call, Send};
+ghost use Rattle.std.specs.Prelude.{◌≡◌, ℕ, Option, Some, None, option_map, IfOk};
+ghost use Rattle.arc_ast.specs.Tree.{ExprTree, expr_tree, expr_trees, Call, Send, SendSuper};
 ghost use Rattle.arc_class.specs.Table.{number_of_class, number_of_selector};
-ghost use Rattle.arc_spec.specs.Resolved.{Number};
-ghost use Rattle.arc_check.specs.Building.{Resolves, Combines, printing};
+ghost use Rattle.arc_check.specs.Building.{Resolves, printing, resolution};
 ghost use Rattle.arc_check.specs.Checked as checked;
 ghost use Rattle.arc_check.specs.Kinds as kinds;
 ghost use Rattle.arc_check.specs.Resolving as resolving;
-ghost use Rattle.arc_check.specs.Resolving.{as_kind, as_int, resolved, resolved_all};
-ghost use Rattle.arc_check.specs.Views.{seen};
+ghost use Rattle.arc_check.specs.Resolving.{as_int, resolved, resolved_all};
+ghost use Rattle.arc_check.specs.Scopes as scopes;
+ghost use Rattle.arc_check.specs.declared.scope.Visible.{Visible};
+ghost use Rattle.arc_check.specs.Views.{local_of, seen};
 
 use crate::callee::{Callee, callee_of, result_kind};
-use crate::checked::Value;
+use crate::checked::{Reference, Value};
+use crate::field::own_field;
 use crate::format::pieces;
-use crate::judge::{literal_kind, wider};
-use crate::message::{above, receiving, sent_kind};
-use crate::scope::Visible;
-use arc_ast::tree::{BinaryOperator, Expr, Kind, Receiver};
-use arc_class::table::{ClassId, ClassTable, Sel};
+use crate::message::{above, class_receiver, sent_class, sent_kind, static_class, super_class, super_kind};
+use crate::rule::{is_object, literal_kind, wider};
+use crate::scope::{Local, Visible};
+use arc_ast::tree::{BinaryOperator, Expr, Kind, Sign};
+use arc_class::table::{ClassId, ClassTable, FoundField, Sel};
 use std::alloc::{AllocError, Global};
 
-/// A resolved expression, and its kind.
+/// What an expression is resolved to: a number of a kind, or an object.
 #[derive(Debug, Drop)]
-pub struct Typed {
-    pub kind: Kind,
-    pub value: Value,
+pub enum Resolution {
+    Gives(Kind, Value),
+    Refers(Reference),
 }
 
-/// The value as one of the kind.
-fn converted(alloc: Global, kind: Kind, typed: Typed) -> Result<Value, AllocError>
-    ensures { IfOk result (λ new. checked.value new ≡ as_kind kind typed.kind (checked.value typed.value)) }
+/// What an expression is resolved to, and its static class.
+#[derive(Debug, Drop)]
+pub struct Typed {
+    pub class: Option<ClassId>,
+    pub value: Resolution,
+}
+
+/// The kind of what is resolved.
+fn kind_in(of: &Resolution) -> Kind
+    ensures { result ≡ resolving.kind_in (resolution of.now) }
 {
-    match (kind, typed.kind) {
-        (Kind::Long, Kind::Int) | (Kind::Int, Kind::Long) => {
-            Ok(Value::Converted(kind, Box::new(alloc, typed.value)?))
-        }
-        _ => Ok(typed.value),
+    match of {
+        Resolution::Gives(kind, _) => *kind,
+        Resolution::Refers(_) => Kind::Object,
     }
+}
+
+/// The number, and of an object whether it is one.
+pub fn number_in(alloc: Global, of: Resolution) -> Result<Value, AllocError>
+    ensures { IfOk result (λ new. checked.value new ≡ resolving.number_in (resolution of)) }
+{
+    match of {
+        Resolution::Gives(_, value) => Ok(value),
+        Resolution::Refers(object) => Ok(Value::IsObject(Box::new(alloc, object)?)),
+    }
+}
+
+/// The object, and nil of a number.
+fn object_in(of: Resolution) -> Reference
+    ensures { checked.reference result ≡ resolving.object_in (resolution of) }
+{
+    match of {
+        Resolution::Gives(_, _) => Reference::Nil,
+        Resolution::Refers(object) => object,
+    }
+}
+
+/// The value of one kind as one of the wanted kind.
+fn as_kind(alloc: Global, wanted: Kind, kind: Kind, value: Value) -> Result<Value, AllocError>
+    ensures { IfOk result (λ new. checked.value new ≡ resolving.as_kind wanted kind (checked.value value)) }
+{
+    match (wanted, kind) {
+        (Kind::Long, Kind::Int) | (Kind::Int, Kind::Long) => {
+            Ok(Value::Converted(wanted, Box::new(alloc, value)?))
+        }
+        _ => Ok(value),
+    }
+}
+
+/// The number as one of the kind.
+fn converted(alloc: Global, wanted: Kind, of: Resolution) -> Result<Value, AllocError>
+    ensures { IfOk result (λ new. checked.value new ≡ resolving.converted wanted (resolution of)) }
+{
+    let kind = kind_in(&of);
+    let value = number_in(alloc, of)?;
+    as_kind(alloc, wanted, kind, value)
 }
 
 /// The kind of what an operator gives that computes in the kind.
@@ -52,22 +100,51 @@ fn given_kind(operator: BinaryOperator, kind: Kind) -> Kind
     }
 }
 
-/// An operator's expression, from its operands.
+/// A negation, from its operand.
+fn negated(alloc: Global, of: Resolution) -> Result<Resolution, AllocError>
+    ensures { IfOk result (λ new. resolution new ≡ resolving.negated (resolution of)) }
+{
+    let kind = kind_in(&of);
+    let value = Box::new(alloc, number_in(alloc, of)?)?;
+    Ok(Resolution::Gives(kind, Value::Negated(kind, value)))
+}
+
+/// An operator's expression that computes in the kind, from its operands.
 fn combined(
     alloc: Global,
     operator: BinaryOperator,
-    left: Typed,
-    right: Typed,
-) -> Result<Typed, AllocError>
-    ensures { IfOk result (λ new. Combines operator left right new) }
+    kind: Kind,
+    left: Resolution,
+    right: Resolution,
+) -> Result<Resolution, AllocError>
+    ensures { IfOk result (λ new. resolution new ≡ resolving.combined operator kind (resolution left) (resolution right)) }
 {
-    let kind = wider(left.kind, right.kind);
     let left = Box::new(alloc, converted(alloc, kind, left)?)?;
     let right = Box::new(alloc, converted(alloc, kind, right)?)?;
-    Ok(Typed {
-        kind: given_kind(operator, kind),
-        value: Value::Combined(operator, kind, left, right),
-    })
+    let value = Value::Combined(operator, kind, left, right);
+    Ok(Resolution::Gives(given_kind(operator, kind), value))
+}
+
+/// An operator's expression, from its operands.
+fn binary(
+    alloc: Global,
+    operator: BinaryOperator,
+    left: Resolution,
+    right: Resolution,
+) -> Result<Resolution, AllocError>
+    ensures { IfOk result (λ new. resolution new ≡ resolving.binary operator (resolution left) (resolution right)) }
+{
+    match (operator, left, right) {
+        (BinaryOperator::NotEqual, Resolution::Refers(left), Resolution::Refers(right)) => {
+            let left = Box::new(alloc, left)?;
+            let right = Box::new(alloc, right)?;
+            Ok(Resolution::Gives(Kind::Int, Value::Differ(left, right)))
+        }
+        (operator, left, right) => {
+            let kind = wider(kind_in(&left), kind_in(&right));
+            combined(alloc, operator, kind, left, right)
+        }
+    }
 }
 
 /// The number, or 0 where there is none.
@@ -104,52 +181,181 @@ fn kind_or_int(kind: Option<Kind>) -> Kind
     kind.unwrap_or(Kind::Int)
 }
 
-/// The class with the number, as a value. AllocError: an i64 can't hold the number, of which no source has so many classes.
-fn class_value(number: usize) -> Result<Value, AllocError>
-    ensures { IfOk result (λ new. checked.value new ≡ Number (pos number)) }
+/// The field of the object.
+fn field(
+    alloc: Global,
+    object: Reference,
+    found: Option<FoundField>,
+) -> Result<Resolution, AllocError>
+    ensures { IfOk result (λ new. resolution new ≡ resolving.field (checked.reference object) found) }
 {
+    let Some(field) = found else {
+        return Ok(Resolution::Gives(Kind::Int, Value::Number(0)));
+    };
+    let object = Box::new(alloc, object)?;
+    let value = Value::Field(object, field.owner.0, field.index);
+    Ok(Resolution::Gives(Kind::Int, value))
+}
+
+/// An assignment to the field of the object.
+fn field_assigned(
+    alloc: Global,
+    object: Reference,
+    found: Option<FoundField>,
+    of: Resolution,
+) -> Result<Resolution, AllocError>
+    ensures { IfOk result (λ new. resolution new ≡ resolving.field_assigned (checked.reference object) found (resolution of)) }
+{
+    let Some(field) = found else {
+        return Ok(of);
+    };
+    let object = Box::new(alloc, object)?;
+    let value = Box::new(alloc, converted(alloc, Kind::Int, of)?)?;
+    let value = Value::FieldAssigned(object, field.owner.0, field.index, value);
+    Ok(Resolution::Gives(Kind::Int, value))
+}
+
+/// What a name means: the variable, or else the field of `self`.
+fn named(
+    alloc: Global,
+    local: Option<Local>,
+    own: Option<FoundField>,
+) -> Result<Resolution, AllocError>
+    ensures { IfOk result (λ new. resolution new ≡ resolving.named (option_map local_of local) own) }
+{
+    match local {
+        None => field(alloc, Reference::Itself, own),
+        Some(Local::Int(number)) => Ok(Resolution::Gives(Kind::Int, Value::Local(number))),
+        Some(Local::Object(number, _)) => Ok(Resolution::Refers(Reference::Variable(number))),
+    }
+}
+
+/// An assignment to the variable, or else to the field of `self`.
+fn name_assigned(
+    alloc: Global,
+    local: Option<Local>,
+    own: Option<FoundField>,
+    of: Resolution,
+) -> Result<Resolution, AllocError>
+    ensures { IfOk result (λ new. resolution new ≡ resolving.name_assigned (option_map local_of local) own (resolution of)) }
+{
+    match local {
+        None => field_assigned(alloc, Reference::Itself, own, of),
+        Some(Local::Int(number)) => {
+            let value = Box::new(alloc, converted(alloc, Kind::Int, of)?)?;
+            Ok(Resolution::Gives(Kind::Int, Value::Assigned(number, value)))
+        }
+        Some(Local::Object(number, _)) => {
+            let object = Box::new(alloc, object_in(of))?;
+            Ok(Resolution::Refers(Reference::Stored(number, object)))
+        }
+    }
+}
+
+/// The value of a receiver that is the class with the number. AllocError: an i64 can't hold the number, of which no source has so many classes.
+fn class_value(receiver: &Expr, number: usize) -> Result<Value, AllocError>
+    ensures { IfOk result (λ new. checked.value new ≡ resolving.class_value (expr_tree receiver.now) number) }
+{
+    if let Expr::Itself(_) = receiver {
+        return Ok(Value::Local(0));
+    }
     match i64::try_from(number) {
         Ok(number) => Ok(Value::Number(number)),
         Err(_) => Err(AllocError),
     }
 }
 
-/// A message to the receiver, from its selector's number and its arguments.
-fn sent<'a>(
+/// A message to a class that gives a value of the kind.
+fn to_class(
     alloc: Global,
-    table: &ClassTable<'a>,
-    visible: &Visible<'a>,
-    receiver: &'a Receiver,
+    kind: Option<Kind>,
+    class: Value,
     selector: usize,
-    arguments: Vec<Value>,
-) -> Result<Value, AllocError>
-    ensures { IfOk result (λ new. checked.value new
-        ≡ resolving.sent (seen table.now visible.now) (receiver_tree receiver.now) selector (checked.values arguments.items)) }
+    all: Vec<Value>,
+) -> Result<Resolution, AllocError>
+    ensures { IfOk result (λ new. resolution new ≡ resolving.to_class kind (checked.value class) selector (checked.values all.items)) }
 {
-    match receiver {
-        Receiver::Named(_, name) => {
-            let class = class_value(class_number(table.objc_get_class(name)))?;
-            Ok(Value::Sent(Box::new(alloc, class)?, selector, arguments))
+    let class = Box::new(alloc, class)?;
+    if is_object(kind) {
+        Ok(Resolution::Refers(Reference::Made(class)))
+    } else {
+        let value = Value::Sent(class, selector, all);
+        Ok(Resolution::Gives(kind_or_int(kind), value))
+    }
+}
+
+/// A message to an object that gives a value of the kind.
+fn to_object(
+    alloc: Global,
+    kind: Option<Kind>,
+    object: Reference,
+    selector: usize,
+    all: Vec<Value>,
+) -> Result<Resolution, AllocError>
+    ensures { IfOk result (λ new. resolution new ≡ resolving.to_object kind (checked.reference object) selector (checked.values all.items)) }
+{
+    let object = Box::new(alloc, object)?;
+    if is_object(kind) {
+        Ok(Resolution::Refers(Reference::Initialized(object)))
+    } else {
+        let value = Value::SentTo(object, selector, all);
+        Ok(Resolution::Gives(kind_or_int(kind), value))
+    }
+}
+
+/// A message to `super` that gives an object, in a method of the sign.
+fn made_by_super(alloc: Global, sign: Sign) -> Result<Resolution, AllocError>
+    ensures { IfOk result (λ new. resolution new ≡ resolving.made_by_super sign) }
+{
+    match sign {
+        Sign::Class => {
+            let class = Box::new(alloc, Value::Local(0))?;
+            Ok(Resolution::Refers(Reference::Made(class)))
         }
-        Receiver::Itself(_) => {
-            let itself = Box::new(alloc, Value::Local(0))?;
-            Ok(Value::Sent(itself, selector, arguments))
-        }
-        Receiver::Super(_) => {
-            let from = class_number(above(table, visible.class));
-            Ok(Value::SentSuper(from, selector, arguments))
+        Sign::Instance => {
+            let itself = Box::new(alloc, Reference::Itself)?;
+            Ok(Resolution::Refers(Reference::Initialized(itself)))
         }
     }
 }
 
-/// The number of the variable that an assignment's left side names.
-fn variable(visible: &Visible, expr: &Expr) -> usize
-    ensures { (table : ClassTable) → result ≡ resolving.variable (seen table visible.now) (expr_tree expr.now) }
+/// A message to `super` that gives a number, in a method of the sign; the method is looked up from the class with the number.
+fn super_value(sign: Sign, from: usize, selector: usize, all: Vec<Value>) -> Value
+    ensures { checked.value result ≡ resolving.super_value sign from selector (checked.values all.items) }
 {
-    match expr {
-        Expr::Paren(_, inside) => variable(visible, inside),
-        Expr::Name(_, name) => number(visible.number(name)),
-        _ => 0,
+    match sign {
+        Sign::Class => Value::SentSuper(from, selector, all),
+        Sign::Instance => Value::SentToSuper(from, selector, all),
+    }
+}
+
+/// A message to `super` that gives a value of the kind, in a method of the sign; the method is looked up from the class with the number.
+fn to_super(
+    alloc: Global,
+    sign: Sign,
+    kind: Option<Kind>,
+    from: usize,
+    selector: usize,
+    all: Vec<Value>,
+) -> Result<Resolution, AllocError>
+    ensures { IfOk result (λ new. resolution new ≡ resolving.to_super sign kind from selector (checked.values all.items)) }
+{
+    if is_object(kind) {
+        made_by_super(alloc, sign)
+    } else {
+        let value = super_value(sign, from, selector, all);
+        Ok(Resolution::Gives(kind_or_int(kind), value))
+    }
+}
+
+/// A resolved number, which has no static class.
+fn gives(kind: Kind, value: Value) -> Typed
+    ensures class { result.class ≡ None }
+    ensures value { result.value ≡ Resolution.Gives kind value }
+{
+    Typed {
+        class: None,
+        value: Resolution::Gives(kind, value),
     }
 }
 
@@ -164,55 +370,114 @@ pub fn expression<'a>(
     ensures { IfOk result (λ typed. Resolves (seen table.now visible.now) (expr_tree expr.now) typed) }
 {
     match expr {
-        Expr::Integer(_, number) => {
-            Ok(Typed {
-                kind: literal_kind(*number),
-                value: Value::Number(*number),
-            })
-        }
-        Expr::Text(_, _) => Ok(Typed {
-            kind: Kind::Int,
-            value: Value::Number(0),
-        }),
+        Expr::Integer(_, number) => Ok(gives(literal_kind(*number), Value::Number(*number))),
+        Expr::Text(_, _) => Ok(gives(Kind::Int, Value::Number(0))),
         Expr::Paren(_, inside) => expression(alloc, table, visible, inside),
         Expr::Call(_, name, arguments) => {
             let typed = call(alloc, table, visible, name, arguments)?;
             Ok(typed)
         }
+        Expr::Nil(_) => Ok(Typed {
+            class: None,
+            value: Resolution::Refers(Reference::Nil),
+        }),
+        Expr::Itself(_) => Ok(Typed {
+            class: visible.own_class(),
+            value: Resolution::Refers(Reference::Itself),
+        }),
+        Expr::Name(_, name) => Ok(Typed {
+            class: local_class(visible.local(name)),
+            value: named(alloc, visible.local(name), own_field(table, visible, name))?,
+        }),
         Expr::Negate(_, operand) => {
             let operand = expression(alloc, table, visible, operand)?;
-            let kind = operand.kind;
             Ok(Typed {
-                kind,
-                value: Value::Negated(kind, Box::new(alloc, operand.value)?),
+                class: None,
+                value: negated(alloc, operand.value)?,
             })
         }
+        Expr::Cast(_, type_name, operand) => Ok(Typed {
+            class: static_class(table, type_name),
+            value: expression(alloc, table, visible, operand)?.value,
+        }),
         Expr::Binary(_, operator, left, right) => {
             let left = expression(alloc, table, visible, left)?;
             let right = expression(alloc, table, visible, right)?;
-            combined(alloc, *operator, left, right)
-        }
-        Expr::Name(_, name) => Ok(Typed {
-            kind: Kind::Int,
-            value: Value::Local(number(visible.number(name))),
-        }),
-        Expr::Assign(_, _, left, right) => {
-            let kind = expression(alloc, table, visible, left)?.kind;
-            let value = Box::new(alloc, int(alloc, table, visible, right)?)?;
             Ok(Typed {
-                kind,
-                value: Value::Assigned(variable(visible, left), value),
+                class: None,
+                value: binary(alloc, *operator, left.value, right.value)?,
             })
+        }
+        Expr::Arrow(_, _, base, name) => {
+            let base = expression(alloc, table, visible, base)?;
+            let found = table.field(base.class, name);
+            Ok(Typed {
+                class: None,
+                value: field(alloc, object_in(base.value), found)?,
+            })
+        }
+        Expr::Assign(_, _, left, right) => {
+            let right = expression(alloc, table, visible, right)?;
+            assigned(alloc, table, visible, left, right.value)
         }
         Expr::Send(_, _, receiver, selector, arguments) => {
             let typed = message(alloc, table, visible, receiver, selector, arguments)?;
             Ok(typed)
         }
+        Expr::SendSuper(_, _, _, selector, arguments) => {
+            let typed = super_message(alloc, table, visible, selector, arguments)?;
+            Ok(typed)
+        }
+    }
+}
+
+/// The static class of the variable, if there is one.
+fn local_class(local: Option<Local>) -> Option<ClassId>
+    ensures { option_map number_of_class result ≡ scopes.local_class (option_map local_of local) }
+{
+    match local {
+        None | Some(Local::Int(_)) => None,
+        Some(Local::Object(_, class)) => class,
+    }
+}
+
+/// An assignment to the left side, of what is resolved, with the left side's static class.
+#[cycle(resolve)]
+fn assigned<'a>(
+    alloc: Global,
+    table: &ClassTable<'a>,
+    visible: &Visible<'a>,
+    left: &'a Expr,
+    of: Resolution,
+) -> Result<Typed, AllocError>
+    ensures class { IfOk result (λ typed. option_map number_of_class typed.class ≡ scopes.class_of (seen table.now visible.now) (expr_tree left.now)) }
+    ensures value { IfOk result (λ typed. resolution typed.value ≡ resolving.assigned (seen table.now visible.now) (expr_tree left.now) (resolution of)) }
+{
+    match left {
+        Expr::Paren(_, inside) => assigned(alloc, table, visible, inside, of),
+        Expr::Name(_, name) => {
+            let local = visible.local(name);
+            Ok(Typed {
+                class: local_class(local),
+                value: name_assigned(alloc, local, own_field(table, visible, name), of)?,
+            })
+        }
+        Expr::Arrow(_, _, base, name) => {
+            let base = expression(alloc, table, visible, base)?;
+            let found = table.field(base.class, name);
+            Ok(Typed {
+                class: None,
+                value: field_assigned(alloc, object_in(base.value), found, of)?,
+            })
+        }
+        _ => Ok(Typed {
+            class: expression(alloc, table, visible, left)?.class,
+            value: of,
+        }),
     }
 }
 
 /// The resolved expression, as an int.
-#[cycle(resolve)]
 pub fn int<'a>(
     alloc: Global,
     table: &ClassTable<'a>,
@@ -222,7 +487,20 @@ pub fn int<'a>(
     ensures { IfOk result (λ value. checked.value value ≡ as_int (seen table.now visible.now) (expr_tree expr.now)) }
 {
     let typed = expression(alloc, table, visible, expr)?;
-    converted(alloc, Kind::Int, typed)
+    converted(alloc, Kind::Int, typed.value)
+}
+
+/// The resolved expression, as an object.
+pub fn object<'a>(
+    alloc: Global,
+    table: &ClassTable<'a>,
+    visible: &Visible<'a>,
+    expr: &'a Expr,
+) -> Result<Reference, AllocError>
+    ensures { IfOk result (λ object. checked.reference object ≡ resolving.object_in (resolved (seen table.now visible.now) (expr_tree expr.now))) }
+{
+    let typed = expression(alloc, table, visible, expr)?;
+    Ok(object_in(typed.value))
 }
 
 /// A call.
@@ -248,10 +526,41 @@ fn call<'a>(
         Callee::GetChar => Value::ReadByte,
         Callee::Unknown => Value::ReadByte,
     };
-    Ok(Typed {
-        kind: result_kind(callee),
-        value,
-    })
+    Ok(gives(result_kind(callee), value))
+}
+
+/// A message to the class, which the receiver is.
+fn class_message<'a>(
+    alloc: Global,
+    table: &ClassTable<'a>,
+    receiver: &'a Expr,
+    class: ClassId,
+    selector: &'a [u8],
+    all: Vec<Value>,
+) -> Result<Resolution, AllocError>
+    ensures { IfOk result (λ new. (visible : Visible) (static_class : Option ℕ) (of : resolving.Resolution) → resolution new
+        ≡ resolving.sent (seen table.now visible) (expr_tree receiver.now) (Some (number_of_class class)) static_class of selector.now (checked.values all.items)) }
+{
+    let kind = sent_kind(table, Some(class), None, selector);
+    let number = selector_number(table.selector(selector));
+    let value = class_value(receiver, class.0)?;
+    to_class(alloc, kind, value, number, all)
+}
+
+/// A message to the object of a static class, which the receiver gives.
+fn object_message<'a>(
+    alloc: Global,
+    table: &ClassTable<'a>,
+    receiver: Typed,
+    selector: &'a [u8],
+    all: Vec<Value>,
+) -> Result<Resolution, AllocError>
+    ensures { IfOk result (λ new. (visible : Visible) (a : ExprTree) → resolution new
+        ≡ resolving.sent (seen table.now visible) a None (option_map number_of_class receiver.class) (resolution receiver.value) selector.now (checked.values all.items)) }
+{
+    let kind = sent_kind(table, None, receiver.class, selector);
+    let number = selector_number(table.selector(selector));
+    to_object(alloc, kind, object_in(receiver.value), number, all)
 }
 
 /// A message.
@@ -260,18 +569,46 @@ fn message<'a>(
     alloc: Global,
     table: &ClassTable<'a>,
     visible: &Visible<'a>,
-    receiver: &'a Receiver,
+    receiver: &'a Expr,
     selector: &'a [u8],
     arguments: &'a [Expr],
 ) -> Result<Typed, AllocError>
-    ensures { IfOk result (λ typed. (at part : ℕ) → Resolves (seen table.now visible.now) (Send at part (receiver_tree receiver.now) selector.now (expr_trees arguments.now)) typed) }
+    ensures { IfOk result (λ typed. (at part : ℕ) → Resolves (seen table.now visible.now) (Send at part (expr_tree receiver.now) selector.now (expr_trees arguments.now)) typed) }
 {
-    let kind = sent_kind(table, receiving(table, visible, receiver), selector);
     let all = values(alloc, table, visible, false, arguments)?;
-    let selector = selector_number(table.selector(selector));
+    match class_receiver(table, visible, receiver) {
+        Some(class) => Ok(Typed {
+            class: sent_class(Some(class), None, selector),
+            value: class_message(alloc, table, receiver, class, selector, all)?,
+        }),
+        None => {
+            let object = expression(alloc, table, visible, receiver)?;
+            Ok(Typed {
+                class: sent_class(None, object.class, selector),
+                value: object_message(alloc, table, object, selector, all)?,
+            })
+        }
+    }
+}
+
+/// A message to `super`.
+#[cycle(resolve)]
+fn super_message<'a>(
+    alloc: Global,
+    table: &ClassTable<'a>,
+    visible: &Visible<'a>,
+    selector: &'a [u8],
+    arguments: &'a [Expr],
+) -> Result<Typed, AllocError>
+    ensures { IfOk result (λ typed. (at part super_at : ℕ) → Resolves (seen table.now visible.now) (SendSuper at part super_at selector.now (expr_trees arguments.now)) typed) }
+{
+    let all = values(alloc, table, visible, false, arguments)?;
+    let kind = super_kind(table, visible, selector);
+    let from = class_number(above(table, visible.class));
+    let number = selector_number(table.selector(selector));
     Ok(Typed {
-        kind: kind_or_int(kind),
-        value: sent(alloc, table, visible, receiver, selector, all)?,
+        class: super_class(visible, selector),
+        value: to_super(alloc, visible.sign, kind, from, number, all)?,
     })
 }
 
@@ -317,14 +654,13 @@ fn argument<'a>(
     printed: bool,
     expr: &'a Expr,
 ) -> Result<Value, AllocError>
-    ensures { IfOk result (λ new. checked.value new
-        ≡ resolving.argument printed (resolving.kind (seen table.now visible.now) (expr_tree expr.now)) (resolved (seen table.now visible.now) (expr_tree expr.now))) }
+    ensures { IfOk result (λ new. checked.value new ≡ resolving.argument printed (resolved (seen table.now visible.now) (expr_tree expr.now))) }
 {
     let typed = expression(alloc, table, visible, expr)?;
     if printed {
-        Ok(typed.value)
+        number_in(alloc, typed.value)
     } else {
-        converted(alloc, Kind::Int, typed)
+        converted(alloc, Kind::Int, typed.value)
     }
 }
 

@@ -1,35 +1,47 @@
 //! The variables that are visible at a place of a body.
-ghost use Rattle.std.specs.Prelude.{◌≡◌, ◌+◌, [], option_map, IfOk, OnOk, take, length};
+ghost use Rattle.std.specs.Prelude.{◌≡◌, ◌+◌, ◌<◌, true, [], option_map, IfOk, OnOk, take, length, if◌then◌else◌};
 ghost use Rattle.arc_class.specs.declared.table.ClassTable.{ClassTable};
 ghost use Rattle.arc_class.specs.Table.{number_of_class};
-ghost use Rattle.arc_ast.specs.Tree.{variable_trees, parameter_trees};
+ghost use Rattle.arc_ast.specs.Tree.{Int, type_tree, parameter_trees};
 ghost use Rattle.arc_check.specs.Scopes as scopes;
-ghost use Rattle.arc_check.specs.Views.{number_in, known_in, seen};
+ghost use Rattle.arc_check.specs.Views.{local_of, local_in, known_in, seen};
 
-use arc_ast::tree::Parameter;
-use arc_class::table::ClassId;
+use arc_ast::tree::{Parameter, Sign, TypeName};
+use arc_class::table::{ClassId, ClassTable};
 use std::alloc::{AllocError, Global};
 
-/// A variable that is visible: its name, and its number in its function.
+/// A variable, by its number among those of its sort in its function.
+#[derive(Clone, Copy, Debug, PartialEq, Eq)]
+pub enum Local {
+    Int(usize),
+    /// One that names objects, with its static class, of which `id` has none.
+    Object(usize, Option<ClassId>),
+}
+
+/// A variable that is visible, and its name.
 #[derive(Clone, Copy, Debug)]
 pub struct Bound<'a> {
     pub name: &'a [u8],
-    pub number: usize,
+    pub local: Local,
 }
 
-/// How many parameters and variables a body has at most.
-const MOST_VARIABLES: usize = 200;
+/// How many parameters and variables of both sorts a body has at most.
+const MOST_VARIABLES: u32 = 200;
 
 /// The visible variables, outer ones first.
 #[derive(Debug, Drop)]
 pub struct Visible<'a> {
     /// The class in whose method they are.
     pub class: Option<ClassId>,
-    /// How many variables without a name come before all others: 1 in a method, `self`, and else 0.
+    /// The sign of that method.
+    pub sign: Sign,
+    /// How many ints without a name come before all others: 1 in a class method, `self`, and else 0.
     pub hidden: u8,
     pub bound: Vec<Bound<'a>>,
-    /// The number that the next variable gets.
-    pub next: usize,
+    /// The number that the next int gets.
+    pub next: u16,
+    /// The number that the next variable gets that names objects.
+    pub names: u16,
 }
 
 impl<'a> Visible<'a> {
@@ -39,64 +51,125 @@ impl<'a> Visible<'a> {
     {
         Visible {
             class: None,
+            sign: Sign::Class,
             hidden: 0,
             bound: Vec::new(alloc),
             next: 0,
+            names: 0,
         }
     }
 
-    /// Before the parameters of a method of the class, whose first variable is `self`.
-    pub fn in_method(alloc: Global, class: Option<ClassId>) -> Visible<'a>
-        ensures { (table : ClassTable) → seen table result ≡ scopes.in_method (known_in table) (option_map number_of_class class) }
+    /// Before the parameters of a method of the class; the first int of a class method is `self`.
+    pub fn in_method(alloc: Global, class: Option<ClassId>, sign: Sign) -> Visible<'a>
+        ensures { (table : ClassTable) → seen table result ≡ scopes.in_method (known_in table) (option_map number_of_class class) sign }
     {
+        let hidden = hidden_in(sign);
         Visible {
             class,
-            hidden: 1,
+            sign,
+            hidden,
             bound: Vec::new(alloc),
-            next: 1,
+            next: u16::from(hidden),
+            names: 0,
         }
     }
 
-    /// How many variables there are at most.
-    fn most(&self) -> usize
-        ensures { result ≡ scopes.most_variables + self.now.hidden }
+    /// The class of the objects that the method is sent to; None in class methods, and outside
+    /// methods.
+    pub fn own_class(&self) -> Option<ClassId>
+        ensures { (table : ClassTable) → option_map number_of_class result ≡ scopes.own_class (seen table self.now) }
     {
-        MOST_VARIABLES + usize::from(self.hidden)
+        match self.sign {
+            Sign::Class => None,
+            Sign::Instance => self.class,
+        }
     }
 
-    /// Whether there is no place for one variable more.
+    /// The class that `self` is in a class method.
+    pub fn class_itself(&self) -> Option<ClassId>
+        ensures { (table : ClassTable) → option_map number_of_class result ≡ scopes.class_itself (seen table self.now) }
+    {
+        match self.sign {
+            Sign::Class => self.class,
+            Sign::Instance => None,
+        }
+    }
+
+    /// Whether there is place for one variable more.
+    fn has_place(&self) -> bool
+        ensures scope { (table : ClassTable) → result ≡ scopes.has_place (seen table self.now) }
+        ensures small { result ≡ true → self.now.next + self.now.names < 455 }
+    {
+        let (next, names, hidden) = (self.next, self.names, self.hidden);
+        u32::from(next) + u32::from(names) < MOST_VARIABLES + u32::from(hidden)
+    }
+
+    /// Whether there is none.
     pub fn is_full(&self) -> bool
         ensures { (table : ClassTable) → result ≡ scopes.is_full (seen table self.now) }
     {
-        self.next >= self.most()
+        !self.has_place()
     }
 
-    /// The number of the variable that the name means.
-    pub fn number(&self, name: &[u8]) -> Option<usize>
-        ensures { result ≡ number_in self.now.bound.items name.now }
+    /// The variable that the name means.
+    pub fn local(&self, name: &[u8]) -> Option<Local>
+        ensures { option_map local_of result ≡ local_in self.now.bound.items name.now }
     {
-        let mut number = None;
+        let mut local = None;
         for one in &self.bound {
             if one.name == name {
-                number = Some(one.number);
+                local = Some(one.local);
             }
         }
-        number
+        local
     }
 
-    /// A variable more.
-    pub fn declare(&mut self, name: &'a [u8]) -> Result<(), AllocError>
-        ensures scope { OnOk result ((table : ClassTable) → seen table self.new ≡ scopes.declare name.now (seen table self.old)) }
+    /// An int more.
+    pub fn declare_int(&mut self, name: &'a [u8]) -> Result<(), AllocError>
+        ensures scope { OnOk result ((table : ClassTable) → seen table self.new ≡ scopes.declare name.now Int (seen table self.old)) }
         ensures keeps { OnOk result (take (length self.old.bound.items) self.new.bound.items ≡ self.old.bound.items) }
     {
-        if self.next < self.most() {
+        if self.has_place() {
             self.bound.push(Bound {
                 name,
-                number: self.next,
+                local: Local::Int(usize::from(self.next)),
             })?;
             self.next += 1;
         }
         Ok(())
+    }
+
+    /// A variable more that names objects of the class, or of any.
+    fn declare_object(&mut self, name: &'a [u8], class: Option<ClassId>) -> Result<(), AllocError>
+        ensures scope { OnOk result ((table : ClassTable) → seen table self.new
+            ≡ (if scopes.has_place (seen table self.old) then scopes.with_object name.now (option_map number_of_class class) (seen table self.old) else seen table self.old)) }
+        ensures keeps { OnOk result (take (length self.old.bound.items) self.new.bound.items ≡ self.old.bound.items) }
+    {
+        if self.has_place() {
+            self.bound.push(Bound {
+                name,
+                local: Local::Object(usize::from(self.names), class),
+            })?;
+            self.names += 1;
+        }
+        Ok(())
+    }
+
+    /// A variable more, of the type.
+    pub fn declare(
+        &mut self,
+        table: &ClassTable<'a>,
+        type_name: &'a TypeName,
+        name: &'a [u8],
+    ) -> Result<(), AllocError>
+        ensures scope { OnOk result (seen table.now self.new ≡ scopes.declare name.now (type_tree type_name.now) (seen table.now self.old)) }
+        ensures keeps { OnOk result (take (length self.old.bound.items) self.new.bound.items ≡ self.old.bound.items) }
+    {
+        match type_name {
+            TypeName::Int => self.declare_int(name),
+            TypeName::Id => self.declare_object(name, None),
+            TypeName::Object(_, class) => self.declare_object(name, table.objc_get_class(class)),
+        }
     }
 
     /// Some parameters more.
@@ -104,7 +177,7 @@ impl<'a> Visible<'a> {
         ensures { OnOk result ((table : ClassTable) → seen table self.new ≡ scopes.with_parameters (seen table self.old) (parameter_trees all.now)) }
     {
         for parameter in all {
-            self.declare(&parameter.name)?;
+            self.declare_int(&parameter.name)?;
         }
         Ok(())
     }
@@ -113,9 +186,21 @@ impl<'a> Visible<'a> {
     pub fn leave(&mut self, count: usize)
         ensures bound { self.new.bound.items ≡ take count self.old.bound.items }
         ensures next { self.new.next ≡ self.old.next }
+        ensures names { self.new.names ≡ self.old.names }
         ensures class { self.new.class ≡ self.old.class }
+        ensures sign { self.new.sign ≡ self.old.sign }
         ensures hidden { self.new.hidden ≡ self.old.hidden }
     {
         self.bound.truncate(count);
+    }
+}
+
+/// How many ints without a name a method of the sign has.
+fn hidden_in(sign: Sign) -> u8
+    ensures { result ≡ scopes.hidden_in sign }
+{
+    match sign {
+        Sign::Class => 1,
+        Sign::Instance => 0,
     }
 }

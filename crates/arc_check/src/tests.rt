@@ -2,7 +2,8 @@
 use crate::check::check;
 use crate::fault::CheckFault;
 use arc_ast::tree::{
-    BinaryOperator, Expr, Function, Kind, Parameter, Parameters, Stmt, TranslationUnit, Variable,
+    BinaryOperator, Expr, Function, Kind, Parameter, Parameters, Stmt, TranslationUnit, TypeName,
+    Variable,
 };
 use arc_class::table::ClassTable;
 use std::alloc::{AllocError, Global};
@@ -58,7 +59,7 @@ fn declared(
         name: Vec::from_slice(alloc, name)?,
         initial,
     };
-    Ok(Stmt::Variables(90, vec![in alloc; variable]?))
+    Ok(Stmt::Variables(90, TypeName::Int, vec![in alloc; variable]?))
 }
 
 fn parameter(alloc: Global, name: &[u8]) -> Result<Parameter, AllocError> {
@@ -137,7 +138,7 @@ fn sums(alloc: Global) -> Result<String, AllocError> {
 fn resolves_sums(rt: HostRuntime) {
     let found = sums(rt.alloc()).expect(&rt, "no memory");
     let wanted =
-        "[CheckedFunction { slots: 0, body: [Evaluate(Print([Decimal, Decimal], [Combined(Add, Int, Number(2), Combined(Multiply, Int, Number(3), Number(4))), \
+        "[CheckedFunction { slots: 0, names: 0, body: [Evaluate(Print([Decimal, Decimal], [Combined(Add, Int, Number(2), Combined(Multiply, Int, Number(3), Number(4))), \
                   Combined(Divide, Int, Negated(Int, Number(7)), Number(2))])), Return(Some(Combined(Divide, Int, Number(1), Number(0))))] }] main 0";
     assert_eq!(rt; found.as_str(), wanted);
 }
@@ -152,7 +153,7 @@ fn long_sum(alloc: Global) -> Result<String, AllocError> {
 fn converts(rt: HostRuntime) {
     let found = long_sum(rt.alloc()).expect(&rt, "no memory");
     let wanted =
-        "[CheckedFunction { slots: 0, body: [Return(Some(Converted(Int, Combined(Add, Long, Converted(Long, Number(1)), Number(3000000000)))))] }] main 0";
+        "[CheckedFunction { slots: 0, names: 0, body: [Return(Some(Converted(Int, Combined(Add, Long, Converted(Long, Number(1)), Number(3000000000)))))] }] main 0";
     assert_eq!(rt; found.as_str(), wanted);
 }
 
@@ -201,9 +202,9 @@ fn loops(alloc: Global) -> Result<String, AllocError> {
 fn resolves_variables(rt: HostRuntime) {
     let found = loops(rt.alloc()).expect(&rt, "no memory");
     let wanted =
-        "[CheckedFunction { slots: 1, body: [Return(Some(Local(0)))] }, CheckedFunction { slots: 2, body: [Sequence([Evaluate(Assigned(0, Number(1)))]), \
-                  Repeat(Combined(NotEqual, Long, Converted(Long, Local(0)), Number(3000000000)), Sequence([Evaluate(Assigned(0, Invoked(0, [Local(0)])))])), \
-                  Choose(Local(0), Sequence([]), Sequence([Sequence([Evaluate(Assigned(1, Number(0)))])])), Return(Some(Local(0)))] }] main 1";
+        "[CheckedFunction { slots: 1, names: 0, body: [Return(Some(Local(0)))] }, CheckedFunction { slots: 2, names: 0, body: [Sequence(0, 0, [Evaluate(Assigned(0, Number(1)))]), \
+                  Repeat(Combined(NotEqual, Long, Converted(Long, Local(0)), Number(3000000000)), Sequence(0, 0, [Evaluate(Assigned(0, Invoked(0, [Local(0)])))])), \
+                  Choose(Local(0), Sequence(0, 0, []), Sequence(0, 0, [Sequence(0, 0, [Evaluate(Assigned(1, Number(0)))])])), Return(Some(Local(0)))] }] main 1";
     assert_eq!(rt; found.as_str(), wanted);
 }
 
@@ -236,7 +237,7 @@ fn formats(alloc: Global) -> Result<String, AllocError> {
 fn reads_formats(rt: HostRuntime) {
     let found = formats(rt.alloc()).expect(&rt, "no memory");
     let wanted =
-        "[CheckedFunction { slots: 0, body: [Sequence([Sequence([])]), Return(None), Evaluate(Print([Bytes([49, 48, 48, 37])], [])), \
+        "[CheckedFunction { slots: 0, names: 0, body: [Sequence(0, 0, [Sequence(0, 0, [])]), Return(None), Evaluate(Print([Bytes([49, 48, 48, 37])], [])), \
                   Evaluate(Print([Bytes([97]), Character, Bytes([98])], [ReadByte]))] }] main 0";
     assert_eq!(rt; found.as_str(), wanted);
 }

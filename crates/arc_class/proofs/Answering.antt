@@ -1,44 +1,57 @@
 -- From what is known of all functions of a source to an answer.
-use Rattle.std.proofs.Common.{◌≡◌, List, [], ◌++◌, Option, Some, None, option_map, sym, ap, ◌∙◌}
+use Rattle.std.proofs.Common.{◌≡◌, ℕ, Bool, List, [], ◌++◌, Option, Some, None, is_none, option_map, append_assoc, sym, ap, ◌∙◌}
 use Rattle.std.proofs.Math.Path.{fun_ext}
 use Rattle.arc_ast.specs.Tree.{FunctionTree, UnitTree}
 use Rattle.arc_class.specs.declared.fault.ClassFault.{ClassFault}
 use Rattle.arc_class.specs.declared.fault.ClassFault.TheVariants as f
+use Rattle.arc_class.specs.declared.kept.Source.{Source}
 use Rattle.arc_class.specs.declared.look.Seen.{Seen}
 use Rattle.arc_class.specs.Broken.{Broken, first, earlier_of}
-use Rattle.arc_class.specs.Bodies.{lacks_body}
-use Rattle.arc_class.specs.ClassRules.{named_as_classes, broken_interfaces, broken_implementations, broken}
+use Rattle.arc_class.specs.Bodies.{Missing, lacks_body}
+use Rattle.arc_class.specs.ClassRules.{named_as_classes, broken_interfaces, broken_implementations, missing_of, broken}
 use Rattle.arc_class.specs.Fault.{told, Refuses}
 use Rattle.arc_class.specs.Functions.{duplicates, missing_main, no_main, broken_functions, lacks_body_in, broken_in_functions}
+use Rattle.arc_class.specs.Kept.{Knows}
 use Rattle.arc_class.specs.Look.{Sums}
-use Rattle.arc_class.specs.Walk.{lacks}
+use Rattle.arc_class.specs.Table.{class_number_in}
+use Rattle.arc_class.specs.Walk.{missing_in}
 use Rattle.arc_class.proofs.Firsts.{first_both, none_broken}
+use Rattle.arc_class.proofs.Rules.{class_number_kept}
 
 pub refuses : (all : List Broken) (fault : ClassFault) → first all ≡ Some (told fault) → Refuses all fault
 refuses all (f.Duplicate at) h = h
 refuses all (f.UnknownClass at) h = h
 refuses all (f.SelectorKinds at) h = h
 refuses all (f.NoImplementation at) h = h
+refuses all (f.TooManyFields at) h = h
 refuses all (f.HookMethod at) h = h
 refuses all f.NoMain h = h
 refuses all (f.UndefinedFunction at) h = h
 refuses all f.Memory h = tt
 
+abbrev missing_with : (List ℕ → Bool) → (List ℕ → Bool) → Missing
+missing_with bodies classes = record { bodies = bodies; classes = classes }
+
+-- what isn't there, by what is kept
+pub missing_kept : (u : UnitTree) (source : Source) → Knows u source → missing_in source ≡ missing_of u
+missing_kept u source h =
+    ap (λ f. missing_with f (λ name. is_none (class_number_in source.names name))) (fun_ext (λ name. ap lacks_body (h.knows name)))
+    ∙ ap (missing_with (lacks_body_in u.functions)) (fun_ext (λ name. ap is_none (class_number_kept source.names u.interfaces name (h.class_places name))))
+
 -- the first of all broken rules, from those of the names, a missing main's and those of the bodies
-pub first_known : (fs : List FunctionTree) (seen : Seen) (inside gone two all : Option Broken) → Sums fs seen → inside ≡ first (broken_functions (lacks seen.known) fs) → gone ≡ first (missing_main seen.main) → two ≡ earlier_of gone inside
-    → all ≡ earlier_of (option_map told seen.fault) two → all ≡ first (broken_in_functions fs)
-first_known fs seen inside gone two all h i m t a =
-    let same : lacks seen.known ≡ lacks_body_in fs = fun_ext (λ name. ap lacks_body (h.knows name)) in
-    first_both (duplicates [] fs) (no_main fs ++ broken_functions (lacks_body_in fs) fs) (option_map told seen.fault) two all h.fault
-    (first_both (no_main fs) (broken_functions (lacks_body_in fs) fs) gone inside two (m ∙ ap (λ o. first (missing_main o)) h.main) (i ∙ ap (λ l. first (broken_functions l fs)) same) t) a
+pub first_known : (fs : List FunctionTree) (L : Missing) (seen : Seen) (own inside gone all : Option Broken) → Sums fs seen → gone ≡ first (missing_main seen.main) → own ≡ earlier_of (option_map told seen.fault) gone
+    → inside ≡ first (broken_functions L fs) → all ≡ earlier_of own inside → all ≡ first (broken_in_functions L fs)
+first_known fs L seen own inside gone all h m o i a =
+    let both : own ≡ first (duplicates [] fs ++ no_main fs) = first_both (duplicates [] fs) (no_main fs) (option_map told seen.fault) gone own h.fault (m ∙ ap (λ o. first (missing_main o)) h.main) o in
+    first_both (duplicates [] fs ++ no_main fs) (broken_functions L fs) own inside all both i a ∙ ap first (append_assoc (duplicates [] fs) (no_main fs) (broken_functions L fs))
 
 abbrev pub in_classes : UnitTree → List Broken
-in_classes u = named_as_classes u.interfaces u.functions ++ (broken_interfaces u [] u.interfaces ++ broken_implementations u (lacks_body_in u.functions) [] u.implementations)
+in_classes u = named_as_classes u.interfaces u.functions ++ (broken_interfaces u [] u.interfaces ++ broken_implementations u (missing_of u) [] u.implementations)
 
-pub whole_known : (u : UnitTree) (seen : Seen) (inside gone two functions classes all : Option Broken) → Sums u.functions seen → inside ≡ first (broken_functions (lacks seen.known) u.functions) → gone ≡ first (missing_main seen.main)
-    → two ≡ earlier_of gone inside → functions ≡ earlier_of (option_map told seen.fault) two → classes ≡ first (in_classes u) → all ≡ earlier_of functions classes → all ≡ first (broken u)
-whole_known u seen inside gone two functions classes all h i m t f k a =
-    first_both (broken_in_functions u.functions) (in_classes u) functions classes all (first_known u.functions seen inside gone two functions h i m t f) k a
+pub whole_known : (u : UnitTree) (seen : Seen) (own inside gone functions classes all : Option Broken) → Sums u.functions seen → gone ≡ first (missing_main seen.main) → own ≡ earlier_of (option_map told seen.fault) gone
+    → inside ≡ first (broken_functions (missing_of u) u.functions) → functions ≡ earlier_of own inside → classes ≡ first (in_classes u) → all ≡ earlier_of functions classes → all ≡ first (broken u)
+whole_known u seen own inside gone functions classes all h m o i f k a =
+    first_both (broken_in_functions (missing_of u) u.functions) (in_classes u) functions classes all (first_known u.functions (missing_of u) seen own inside gone functions h m o i f) k a
 
 pub nothing : (all : List Broken) → None ≡ first all → all ≡ []
 nothing all e = none_broken all (sym e)

@@ -1,11 +1,13 @@
 -- The first that a name is declared with.
-use Rattle.std.proofs.Common.{◌≡◌, ℕ, Bool, true, false, cond, List, [], ◌∷◌, ◌++◌, Option, Some, None, is_some, option_map, if◌then◌else◌, refl, sym, ap, ◌∙◌, true≢false}
+use Rattle.std.proofs.Common.{◌≡◌, ℕ, suc, ◌+◌, ◌<◌, Bool, true, false, cond, List, [], ◌∷◌, ◌++◌, length, Option, Some, None, is_some, option_map, if◌then◌else◌, refl, sym, ap, subst, ◌∙◌, true≢false, drop, get_or}
 use Rattle.std.specs.Str.{bytes_eq}
 use Rattle.std.specs.Map.{update}
 use Rattle.std.proofs.lemmas.Slice.Eq.{bytes_eq-Decides}
-use Rattle.arc_ast.specs.Tree.{HeadTree}
-use Rattle.arc_class.specs.Classes.{first_head}
-use Rattle.arc_class.specs.Kept.{or_then, one_at}
+use Rattle.arc_ast.specs.declared.tree.Sign.{Sign}
+use Rattle.arc_ast.specs.Tree.{HeadTree, InterfaceTree, ImplementationTree}
+use Rattle.arc_class.specs.Classes.{is_method, first_head}
+use Rattle.arc_class.specs.Kept.{one_at}
+use Rattle.arc_class.specs.Classes.{or_then}
 use Rattle.arc_class.proofs.Names.{eq_turned}
 
 pub or_none : {X : Type 0} (a : Option X) → or_then a None ≡ a
@@ -58,11 +60,11 @@ put_first {X} old name value sought none = go (bytes_eq name sought) refl
         sym (ap (λ o. or_then o (one_at name value sought)) (ap old (sym same) ∙ none) ∙ ap (λ b. if b then Some value else None) turned)
     go false e = sym (ap (λ b. or_then (old sought) (if b then Some value else None)) (eq_turned sought name ∙ e) ∙ or_none (old sought))
 
-pub first_head-append : (selector : List ℕ) (xs ys : List HeadTree) → first_head selector (xs ++ ys) ≡ or_then (first_head selector xs) (first_head selector ys)
-first_head-append selector [] ys = refl
-first_head-append selector (x ∷ xs) ys = go (bytes_eq selector x.selector) (first_head-append selector xs ys)
+pub first_head-append : (sign : Sign) (selector : List ℕ) (xs ys : List HeadTree) → first_head sign selector (xs ++ ys) ≡ or_then (first_head sign selector xs) (first_head sign selector ys)
+first_head-append sign selector [] ys = refl
+first_head-append sign selector (x ∷ xs) ys = go (is_method sign selector x) (first_head-append sign selector xs ys)
   where
-    go : (b : Bool) → first_head selector (xs ++ ys) ≡ or_then (first_head selector xs) (first_head selector ys)
-        → (if b then Some x else first_head selector (xs ++ ys)) ≡ or_then (if b then Some x else first_head selector xs) (first_head selector ys)
+    go : (b : Bool) → first_head sign selector (xs ++ ys) ≡ or_then (first_head sign selector xs) (first_head sign selector ys)
+        → (if b then Some x else first_head sign selector (xs ++ ys)) ≡ or_then (if b then Some x else first_head sign selector xs) (first_head sign selector ys)
     go true h = refl
     go false h = h

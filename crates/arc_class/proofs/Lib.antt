@@ -11,3 +11,5 @@ pub mod Keeping
 pub mod Rules
 pub mod Parts
 pub mod Tables
+pub mod FieldLists
+pub mod Runnings

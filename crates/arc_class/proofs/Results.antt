@@ -1,71 +1,54 @@
--- What methods give, a class at a time.
-use Rattle.std.proofs.Common.{◌≡◌, ℕ, zero, suc, ◌-◌, ◌+◌, ◌<◌, Option, Some, None, List, [], ◌∷◌, length, slice_get, refl, sym, ap, ◌∙◌, arith}
-use Rattle.arc_ast.specs.declared.tree.Kind.{Kind}
-use Rattle.arc_class.specs.declared.table.ClassTable.{ClassTable}
-use Rattle.arc_class.specs.declared.table.Entry.{Entry}
-use Rattle.arc_class.specs.Classes.{or_result}
-use Rattle.arc_class.specs.Table.{own_result_in, superclass_in, results_up, result_in_table}
+-- What is nearest from a class upwards, a class at a time.
+use Rattle.std.proofs.Common.{◌≡◌, ℕ, zero, suc, ◌-◌, ◌+◌, ◌<◌, Option, Some, None, refl, sym, ap, ◌∙◌, arith}
+use Rattle.arc_class.specs.Classes.{or_then, nearest}
+use Rattle.arc_class.proofs.Keeping.{or_none}
 
 -- the same of n classes
-abbrev pub results_left : (n : ℕ) → ClassTable → Option ℕ → List ℕ → Option Kind
-results_left zero table class selector = None
-results_left (suc n) table class selector = results_up n table class selector
+abbrev pub left : {X : Type 0} → (n : ℕ) → (above : ℕ → Option ℕ) → (own : ℕ → Option X) → Option ℕ → Option X
+left zero above own class = None
+left (suc n) above own class = nearest n above own class
 
-pub all_left : (table : ClassTable) (class : Option ℕ) (selector : List ℕ) → result_in_table table class selector ≡ results_left (length table.entries.items - 0) table class selector
-all_left table class selector = go table.entries.items refl class
-  where
-    no_entry : (class : Option ℕ) (selector : List ℕ) → table.entries.items ≡ [] → results_up 0 table class selector ≡ None
-    no_entry None selector e = refl
-    no_entry (Some class) selector e = ap (λ es. own_result_in (slice_get es class) selector) e
+module _ {X : Type 0} (above : ℕ → Option ℕ) (own : ℕ → Option X) where
+  pub all_left : (n : ℕ) (class : Option ℕ) → (n ≡ 0 → (c : ℕ) → own c ≡ None) → nearest (n - 1) above own class ≡ left (n - 0) above own class
+  all_left n class empty = go n refl class
+    where
+      go : (m : ℕ) → n ≡ m → (class : Option ℕ) → nearest (m - 1) above own class ≡ left (m - 0) above own class
+      go zero e None = refl
+      go zero e (Some c) = empty e c
+      go (suc m) e class =
+          let less : suc m - 1 ≡ m = omega arith in
+          let same : suc m - 0 ≡ suc m = omega arith in
+          ap (λ k. nearest k above own class) less ∙ sym (ap (λ k. left k above own class) same)
 
-    go : (es : List Entry) → table.entries.items ≡ es → (class : Option ℕ) → results_up (length es - 1) table class selector ≡ results_left (length es - 0) table class selector
-    go [] e class = no_entry class selector e
-    go (x ∷ es) e class =
-        let less : length (x ∷ es) - 1 ≡ length es = omega arith in
-        let same : length (x ∷ es) - 0 ≡ suc (length es) = omega arith in
-        ap (λ n. results_up n table class selector) less ∙ sym (ap (λ n. results_left n table class selector) same)
+  pub none_left : (n : ℕ) → left n above own None ≡ None
+  none_left zero = refl
+  none_left (suc zero) = refl
+  none_left (suc (suc n)) = refl
 
-pub none_left : (n : ℕ) (table : ClassTable) (selector : List ℕ) → results_left n table None selector ≡ None
-none_left zero table selector = refl
-none_left (suc zero) table selector = refl
-none_left (suc (suc n)) table selector = refl
+  -- one class further up
+  step : (n : ℕ) (c : ℕ) → left (suc n) above own (Some c) ≡ or_then (own c) (left n above own (above c))
+  step zero c = sym (or_none (own c))
+  step (suc n) c = refl
 
--- one class further up
-step : (n : ℕ) (table : ClassTable) (class : ℕ) (selector : List ℕ)
-    → results_left (suc n) table (Some class) selector ≡ or_result (own_result_in (slice_get table.entries.items class) selector) (results_left n table (superclass_in table class) selector)
-step zero table class selector = go (own_result_in (slice_get table.entries.items class) selector)
-  where
-    go : (own : Option Kind) → own ≡ or_result own None
-    go None = refl
-    go (Some k) = refl
-step (suc n) table class selector = refl
+  further : (n k : ℕ) (c : ℕ) → k < n → left (n - k) above own (Some c) ≡ or_then (own c) (left (n - (k + 1)) above own (above c))
+  further n k c lt =
+      let e : n - k ≡ suc (n - (k + 1)) = omega (arith, lt) in
+      ap (λ m. left m above own (Some c)) e ∙ step (n - (k + 1)) c
 
-further : (n k : ℕ) (table : ClassTable) (class : ℕ) (selector : List ℕ) → k < n
-    → results_left (n - k) table (Some class) selector ≡ or_result (own_result_in (slice_get table.entries.items class) selector) (results_left (n - (k + 1)) table (superclass_in table class) selector)
-further n k table class selector lt =
-    let e : n - k ≡ suc (n - (k + 1)) = omega (arith, lt) in
-    ap (λ m. results_left m table (Some class) selector) e ∙ step (n - (k + 1)) table class selector
+  pub in_class : (n k : ℕ) (c : ℕ) (mine : Option X) (next : Option ℕ) → k < n → own c ≡ mine → above c ≡ next
+      → left (n - k) above own (Some c) ≡ or_then mine (left (n - (k + 1)) above own next)
+  in_class n k c mine next lt o a = further n k c lt ∙ ap (λ m. or_then m (left (n - (k + 1)) above own (above c))) o ∙ ap (λ m. or_then mine (left (n - (k + 1)) above own m)) a
 
-pub no_class : (n k : ℕ) (table : ClassTable) (class : ℕ) (selector : List ℕ) → k < n → slice_get table.entries.items class ≡ None → results_left (n - k) table (Some class) selector ≡ None
-no_class n k table class selector lt none =
-    further n k table class selector lt ∙ ap (λ e. or_result (own_result_in e selector) (results_left (n - (k + 1)) table (superclass_in table class) selector)) none
-    ∙ ap (λ above. results_left (n - (k + 1)) table above selector) (no_superclass table class none) ∙ none_left (n - (k + 1)) table selector
-  where
-    no_superclass : (table : ClassTable) (class : ℕ) → slice_get table.entries.items class ≡ None → superclass_in table class ≡ None
-    no_superclass table class none = rw none refl
+  pub no_class : (n k : ℕ) (c : ℕ) → k < n → own c ≡ None → above c ≡ None → left (n - k) above own (Some c) ≡ None
+  no_class n k c lt o a = in_class n k c None None lt o a ∙ none_left (n - (k + 1))
 
-pub in_class : (n k : ℕ) (table : ClassTable) (class : ℕ) (selector : List ℕ) (e : Entry) → k < n → slice_get table.entries.items class ≡ Some e
-    → results_left (n - k) table (Some class) selector ≡ or_result (own_result_in (Some e) selector) (results_left (n - (k + 1)) table e.superclass selector)
-in_class n k table class selector e lt some =
-    further n k table class selector lt ∙ ap (λ o. or_result (own_result_in o selector) (results_left (n - (k + 1)) table (superclass_in table class) selector)) some
-    ∙ ap (λ above. or_result (own_result_in (Some e) selector) (results_left (n - (k + 1)) table above selector)) (its_superclass table class e some)
-  where
-    its_superclass : (table : ClassTable) (class : ℕ) (e : Entry) → slice_get table.entries.items class ≡ Some e → superclass_in table class ≡ e.superclass
-    its_superclass table class e some = rw some refl
+-- the own one comes first, and with none the next class is asked
+pub own_first : {X : Type 0} (own : Option X) (x : X) (all above : Option X) → own ≡ Some x → all ≡ or_then own above → Some x ≡ all
+own_first own x all above same is = sym (is ∙ ap (λ o. or_then o above) same)
 
--- the own method comes first, and with none the next class is asked
-pub own_first : (own : Option Kind) (kind : Kind) (all above : Option Kind) → own ≡ Some kind → all ≡ or_result own above → Some kind ≡ all
-own_first own kind all above same is = sym (is ∙ ap (λ o. or_result o above) same)
+pub above_next : {X : Type 0} (own : Option X) (all above : Option X) → own ≡ None → all ≡ or_then own above → all ≡ above
+above_next own all above missing is = is ∙ ap (λ o. or_then o above) missing
 
-pub above_next : (own : Option Kind) (all above : Option Kind) → own ≡ None → all ≡ or_result own above → all ≡ above
-above_next own all above missing is = is ∙ ap (λ o. or_result o above) missing
+-- what is nearest is the same where the classes have the same
+pub nearest_same : {X : Type 0} (n : ℕ) (above above' : ℕ → Option ℕ) (own own' : ℕ → Option X) (from : Option ℕ) → above ≡ above' → own ≡ own' → nearest n above own from ≡ nearest n above' own' from
+nearest_same n above above' own own' from a o = ap (λ f. nearest n f own from) a ∙ ap (λ f. nearest n above' f from) o

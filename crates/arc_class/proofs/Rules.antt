@@ -1,6 +1,6 @@
 -- What is told of methods, interfaces and implementations, and one more.
-use Rattle.std.proofs.Common.{◌≡◌, ℕ, suc, ◌+◌, ◌<◌, Bool, true, false, ◌||◌, List, [], ◌∷◌, ◌++◌, length, not, nat_lt, Option, Some, None, is_some, is_none, option_map, if◌then◌else◌, take, drop, get_or, append_assoc, refl, sym, ap, ◌∙◌, arith}
-use Rattle.std.proofs.lemmas.List.{append-nil, take_more}
+use Rattle.std.proofs.Common.{◌≡◌, ℕ, zero, suc, ◌+◌, ◌<◌, Bool, true, false, ◌||◌, List, [], ◌∷◌, ◌++◌, length, not, nat_lt, Option, Some, None, is_some, is_none, option_map, slice_get, if◌then◌else◌, take, drop, get_or, length-take-le, refl, sym, ap, ◌∙◌, arith}
+use Rattle.std.proofs.lemmas.List.{take_more}
 use Rattle.std.specs.Str.{bytes_eq}
 use Rattle.std.specs.BTreeMap.{BTreeMap}
 use Rattle.std.specs.Borrow.{Bor}
@@ -11,53 +11,29 @@ use Rattle.arc_ast.specs.declared.tree.Stmt.{Stmt}
 use Rattle.arc_ast.specs.declared.tree.Implementation.{Implementation}
 use Rattle.arc_ast.specs.declared.tree.Interface.{Interface}
 use Rattle.arc_ast.specs.declared.tree.Method.{Method}
-use Rattle.arc_ast.specs.Tree.{HeadTree, InterfaceTree, ImplementationTree, UnitTree, head_tree, method_tree, method_trees, interface_tree, interface_trees, implementation_tree, implementation_trees, function_trees, head_trees, parameter_trees, stmt_trees}
+use Rattle.arc_ast.specs.declared.tree.Field.{Field}
+use Rattle.arc_ast.specs.declared.tree.Sign.{Sign}
+use Rattle.arc_ast.specs.Tree.{HeadTree, MethodTree, FieldTree, InterfaceTree, ImplementationTree, UnitTree, head_tree, method_tree, method_trees, field_trees, interface_tree, interface_trees, implementation_tree, implementation_trees, function_trees, head_trees, parameter_trees, stmt_trees}
 use Rattle.arc_class.specs.declared.kept.Implemented.{Implemented}
 use Rattle.arc_class.specs.declared.table.Place.{Place}
-use Rattle.arc_class.specs.Bodies.{and_name, broken_if, no_name, names_taken, broken_parameters, broken_stmts}
+use Rattle.arc_class.specs.Bodies.{Missing, and_name, broken_if, no_name, names_taken, broken_parameters, broken_stmts}
 use Rattle.arc_class.specs.Broken.{Broken, first, earlier_of}
-use Rattle.arc_class.specs.ClassRules.{broken_head, broken_heads, broken_inside, broken_methods, broken_interfaces, broken_implementations, is_implemented, interface_before, named_as_classes}
-use Rattle.arc_class.specs.Classes.{heads, first_head, interface_number, class_number, is_root}
-use Rattle.arc_class.specs.Kept.{place_before, places, implemented, implemented_tree}
+use Rattle.arc_class.specs.ClassRules.{broken_head, broken_heads, broken_inside, broken_method, broken_methods, broken_fields, broken_pair, broken_pairs, field_place, is_earlier, broken_interface, broken_interfaces, broken_implementation, broken_implementations, is_implemented, interface_before, named_as_classes}
+use Rattle.arc_class.specs.Classes.{heads, first_head, interface_number, class_number, is_root, or_then}
+use Rattle.arc_class.specs.Fields.{known_field}
+use Rattle.arc_class.specs.Kept.{place_before, places, implemented_tree}
+use Rattle.arc_class.specs.Running.{implemented}
 use Rattle.arc_class.specs.Table.{at_name, class_number_in}
 use Rattle.arc_class.proofs.Firsts.{first_turn, first_both}
+use Rattle.arc_class.proofs.Keeping.{first_head-append}
 use Rattle.arc_class.proofs.Lists.{drop_turn}
 use Rattle.arc_class.proofs.Names.{eq_turned}
-
--- ---- lists of rules
-
-pub two_apart : (p q r : List Broken) → p ++ (q ++ r) ≡ (p ++ (q ++ [])) ++ r
-two_apart p q r = ap (λ x. p ++ (x ++ r)) (sym (append-nil q)) ∙ sym (append_assoc p (q ++ []) r)
-
-pub three_apart : (p q s r : List Broken) → p ++ (q ++ (s ++ r)) ≡ (p ++ (q ++ (s ++ []))) ++ r
-three_apart p q s r = ap (λ x. p ++ x) (two_apart q s r) ∙ sym (append_assoc p (q ++ (s ++ [])) r)
-
-pub three_told : (P Q R : List Broken) (p q r pq all : Option Broken) → p ≡ first P → q ≡ first Q → r ≡ first R → pq ≡ earlier_of p q → all ≡ earlier_of pq r → all ≡ first ((P ++ Q) ++ (R ++ []))
-three_told P Q R p q r pq all a b c d e = first_both (P ++ Q) (R ++ []) pq r all (first_both P Q p q pq a b d) (c ∙ ap first (sym (append-nil R))) e
-
-pub four_told : (P Q R S : List Broken) (p q r s pq rs all : Option Broken) → p ≡ first P → q ≡ first Q → r ≡ first R → s ≡ first S → pq ≡ earlier_of p q → rs ≡ earlier_of r s → all ≡ earlier_of pq rs
-    → all ≡ first ((P ++ Q) ++ (R ++ (S ++ [])))
-four_told P Q R S p q r s pq rs all a b c d e f g =
-    first_both (P ++ Q) (R ++ (S ++ [])) pq rs all (first_both P Q p q pq a b e) (first_both R (S ++ []) r s rs c (d ∙ ap first (sym (append-nil S))) f) g
 
 -- ---- names that stand before
 
 or_true : (b : Bool) → true ≡ (b || true)
 or_true true = refl
 or_true false = refl
-
-pub method_seen : (sought : List ℕ) (xs : List HeadTree) (x : HeadTree) → is_some (first_head sought (xs ++ x ∷ [])) ≡ (bytes_eq x.selector sought || is_some (first_head sought xs))
-method_seen sought [] x = go (bytes_eq sought x.selector) (eq_turned sought x.selector)
-  where
-    go : (b : Bool) → b ≡ bytes_eq x.selector sought → is_some (if b then Some x else None) ≡ (bytes_eq x.selector sought || false)
-    go true e = ap (λ b. b || false) e
-    go false e = ap (λ b. b || false) e
-method_seen sought (y ∷ xs) x = go (bytes_eq sought y.selector) (method_seen sought xs x)
-  where
-    go : (b : Bool) → is_some (first_head sought (xs ++ x ∷ [])) ≡ (bytes_eq x.selector sought || is_some (first_head sought xs))
-        → is_some (if b then Some y else first_head sought (xs ++ x ∷ [])) ≡ (bytes_eq x.selector sought || is_some (if b then Some y else first_head sought xs))
-    go true h = or_true (bytes_eq x.selector sought)
-    go false h = h
 
 more_there : (o : Option ℕ) → is_some (option_map (λ n. suc n) o) ≡ is_some o
 more_there None = refl
@@ -88,7 +64,7 @@ pub there_none : {X : Type 0} (o : Option X) → not (is_some o) ≡ is_none o
 there_none None = refl
 there_none (Some a) = refl
 
-there_map : {X Y : Type 0} (f : X → Y) (o : Option X) → is_some (option_map f o) ≡ is_some o
+pub there_map : {X Y : Type 0} (f : X → Y) (o : Option X) → is_some (option_map f o) ≡ is_some o
 there_map f None = refl
 there_map f (Some a) = refl
 
@@ -105,7 +81,7 @@ implemented_there : (n : ℕ) (ims : List ImplementationTree) (name : List ℕ) 
 implemented_there n [] name = refl
 implemented_there n (i ∷ ims) name = go (bytes_eq name i.name) (implemented_there (n + length i.methods) ims name)
   where
-    go : (b : Bool) → is_some (implemented (n + length i.methods) ims name) ≡ is_implemented ims name → is_some (if b then Some (n, i.methods) else implemented (n + length i.methods) ims name) ≡ (b || is_implemented ims name)
+    go : (b : Bool) → is_some (implemented (n + length i.methods) ims name) ≡ is_implemented ims name → is_some (if b then Some (n, i) else implemented (n + length i.methods) ims name) ≡ (b || is_implemented ims name)
     go true h = refl
     go false h = h
 
@@ -157,7 +133,7 @@ heads_turn u xs k x so_far one now whole l e o n w =
     first_turn (broken_head u (head_tree x)) (broken_heads u (head_trees (drop (k + 1) xs))) so_far one now whole o n
     (w ∙ ap (λ us. earlier_of so_far (first (broken_heads u (head_trees us)))) (drop_turn xs k x l e))
 
-pub inside_method : (known L : List ℕ → Bool) (m : Method) (ps : List Parameter) (all : List Stmt) → known ≡ L → ps ≡ m.head.parameters.items → all ≡ m.body.items
+pub inside_method : (known L : Missing) (m : Method) (ps : List Parameter) (all : List Stmt) → known ≡ L → ps ≡ m.head.parameters.items → all ≡ m.body.items
     → first (broken_parameters no_name (parameter_trees ps) ++ broken_stmts known (names_taken no_name (parameter_trees ps)) (stmt_trees all)) ≡ first (broken_inside L (method_tree m))
 inside_method known L m ps all e p a =
     ap (λ k. first (broken_parameters no_name (parameter_trees ps) ++ broken_stmts k (names_taken no_name (parameter_trees ps)) (stmt_trees all))) e
@@ -171,22 +147,53 @@ heads_push (y ∷ xs) x = ap (λ us. head_tree y.head ∷ us) (heads_push xs x)
 heads_take : (xs : List Method) (k : ℕ) (x : Method) → k < length xs → x ≡ get_or xs k x → heads (method_trees (take (k + 1) xs)) ≡ heads (method_trees (take k xs)) ++ head_tree x.head ∷ []
 heads_take xs k x l e = ap (λ us. heads (method_trees us)) (take_more xs k x l ∙ ap (λ y. take k xs ++ y ∷ []) (sym e)) ∙ heads_push (take k xs) x
 
-pub methods_turn : (u : UnitTree) (L : List ℕ → Bool) (xs : List Method) (k : ℕ) (x : Method) (so_far one now whole : Option Broken) → k < length xs → x ≡ get_or xs k x
-    → one ≡ first (broken_methods u L (heads (method_trees (take k xs))) (method_tree x ∷ [])) → now ≡ earlier_of so_far one
+pub methods_turn : (u : UnitTree) (L : Missing) (xs : List Method) (k : ℕ) (x : Method) (so_far one now whole : Option Broken) → k < length xs → x ≡ get_or xs k x
+    → one ≡ first (broken_method u L (heads (method_trees (take k xs))) (method_tree x)) → now ≡ earlier_of so_far one
     → whole ≡ earlier_of so_far (first (broken_methods u L (heads (method_trees (take k xs))) (method_trees (drop k xs)))) → whole ≡ earlier_of now (first (broken_methods u L (heads (method_trees (take (k + 1) xs))) (method_trees (drop (k + 1) xs))))
 methods_turn u L xs k x so_far one now whole l e o n w =
     let before = heads (method_trees (take k xs)) in
     let others = method_trees (drop (k + 1) xs) in
-    let rest = broken_methods u L (before ++ head_tree x.head ∷ []) others in
-    first_turn (broken_methods u L before (method_tree x ∷ [])) rest so_far one now whole o n
-    (w ∙ ap (λ us. earlier_of so_far (first (broken_methods u L before (method_trees us)))) (drop_turn xs k x l e)
-    ∙ ap (λ bs. earlier_of so_far (first bs)) (two_apart (broken_if (is_some (first_head (head_tree x.head).selector before)) x.head.at 21 ++ broken_head u (head_tree x.head)) (broken_inside L (method_tree x)) rest))
+    first_turn (broken_method u L before (method_tree x)) (broken_methods u L (before ++ head_tree x.head ∷ []) others) so_far one now whole o n
+    (w ∙ ap (λ us. earlier_of so_far (first (broken_methods u L before (method_trees us)))) (drop_turn xs k x l e))
     ∙ ap (λ b. earlier_of now (first (broken_methods u L b others))) (sym (heads_take xs k x l e))
 
-pub methods_held : (xs : List Method) (k : ℕ) (x : Method) (old new : List ℕ → Bool) → k < length xs → x ≡ get_or xs k x → new ≡ and_name x.head.selector.items old
-    → ((name : List ℕ) → old name ≡ is_some (first_head name (heads (method_trees (take k xs))))) → (name : List ℕ) → new name ≡ is_some (first_head name (heads (method_trees (take (k + 1) xs))))
-methods_held xs k x old new l e n h name =
-    ap (λ f. f name) n ∙ ap (λ b. bytes_eq x.head.selector.items name || b) (h name) ∙ sym (ap (λ us. is_some (first_head name us)) (heads_take xs k x l e) ∙ method_seen name (heads (method_trees (take k xs))) (head_tree x.head))
+pub methods_held : (xs : List Method) (k : ℕ) (x : Method) (old new : Sign → List ℕ → Option HeadTree) → k < length xs → x ≡ get_or xs k x
+    → ((sign : Sign) (selector : List ℕ) → new sign selector ≡ or_then (old sign selector) (first_head sign selector (head_tree x.head ∷ [])))
+    → ((sign : Sign) (selector : List ℕ) → old sign selector ≡ first_head sign selector (heads (method_trees (take k xs)))) → (sign : Sign) (selector : List ℕ) → new sign selector ≡ first_head sign selector (heads (method_trees (take (k + 1) xs)))
+methods_held xs k x old new l e n h sign selector =
+    n sign selector ∙ ap (λ o. or_then o (first_head sign selector (head_tree x.head ∷ []))) (h sign selector)
+    ∙ sym (ap (first_head sign selector) (heads_take xs k x l e) ∙ first_head-append sign selector (heads (method_trees (take k xs))) (head_tree x.head ∷ []))
+
+-- all that is told of a method
+pub method_told : (u : UnitTree) (L : Missing) (before : List HeadTree) (m : MethodTree) (again head own inside all : Option Broken) → again ≡ first (broken_if (is_some (first_head m.head.sign m.head.selector before)) m.head.at 21)
+    → head ≡ first (broken_head u m.head) → own ≡ earlier_of again head → inside ≡ first (broken_inside L m) → all ≡ earlier_of own inside → all ≡ first (broken_method u L before m)
+method_told u L before m again head own inside all a h o i e =
+    first_both (broken_if (is_some (first_head m.head.sign m.head.selector before)) m.head.at 21 ++ broken_head u m.head) (broken_inside L m) own inside all
+    (first_both (broken_if (is_some (first_head m.head.sign m.head.selector before)) m.head.at 21) (broken_head u m.head) again head own a h o) i e
+
+-- ---- fields
+
+abbrev pub field_at : Field → FieldTree
+field_at f = record { at = f.at; name = f.name.items; visibility = f.visibility }
+
+pub fields_turn : (u : UnitTree) (above : Option ℕ) (all : List FieldTree) (xs : List Field) (k : ℕ) (x : Field) (so_far one now whole : Option Broken) → k < length xs → x ≡ get_or xs k x
+    → one ≡ first (broken_if (is_some (known_field u above x.name.items) || is_earlier (field_place x.name.items all) x.at) x.at 21) → now ≡ earlier_of so_far one
+    → whole ≡ earlier_of so_far (first (broken_fields u above all (field_trees (drop k xs)))) → whole ≡ earlier_of now (first (broken_fields u above all (field_trees (drop (k + 1) xs))))
+fields_turn u above all xs k x so_far one now whole l e o n w =
+    first_turn (broken_if (is_some (known_field u above x.name.items) || is_earlier (field_place x.name.items all) x.at) x.at 21) (broken_fields u above all (field_trees (drop (k + 1) xs))) so_far one now whole o n
+    (w ∙ ap (λ us. earlier_of so_far (first (broken_fields u above all (field_trees us)))) (drop_turn xs k x l e))
+
+pub pairs_turn : (all : List FieldTree) (xs : List Field) (k : ℕ) (x : Field) (so_far one now whole : Option Broken) → k < length xs → x ≡ get_or xs k x
+    → one ≡ first (broken_pair (field_place x.name.items all) x.at) → now ≡ earlier_of so_far one
+    → whole ≡ earlier_of so_far (first (broken_pairs all (field_trees (drop k xs)))) → whole ≡ earlier_of now (first (broken_pairs all (field_trees (drop (k + 1) xs))))
+pairs_turn all xs k x so_far one now whole l e o n w =
+    first_turn (broken_pair (field_place x.name.items all) x.at) (broken_pairs all (field_trees (drop (k + 1) xs))) so_far one now whole o n
+    (w ∙ ap (λ us. earlier_of so_far (first (broken_pairs all (field_trees us)))) (drop_turn xs k x l e))
+
+-- no field is told of two where the interface has none
+pub no_pairs : (xs : List FieldTree) → broken_pairs [] xs ≡ []
+no_pairs [] = refl
+no_pairs (x ∷ xs) = no_pairs xs
 
 -- ---- interfaces
 
@@ -197,22 +204,30 @@ interfaces_push (y ∷ xs) x = ap (λ us. interface_tree y ∷ us) (interfaces_p
 interfaces_take : (xs : List Interface) (k : ℕ) (x : Interface) → k < length xs → x ≡ get_or xs k x → interface_trees (take (k + 1) xs) ≡ interface_trees (take k xs) ++ interface_tree x ∷ []
 interfaces_take xs k x l e = ap interface_trees (take_more xs k x l ∙ ap (λ y. take k xs ++ y ∷ []) (sym e)) ∙ interfaces_push (take k xs) x
 
+pub interfaces_count : (xs : List Interface) → length (interface_trees xs) ≡ length xs
+interfaces_count [] = refl
+interfaces_count (x ∷ xs) = ap suc (interfaces_count xs)
+
+-- how many interfaces stand before one
+pub interfaces_before : (xs : List Interface) (k : ℕ) → k < length xs → length (interface_trees (take k xs)) ≡ k
+interfaces_before xs k l = interfaces_count (take k xs) ∙ length-take-le k xs (omega (arith, l))
+
+-- the interface of an index
+pub interface_there : (xs : List Interface) (k : ℕ) (x : Interface) → k < length xs → x ≡ get_or xs k x → slice_get (interface_trees xs) k ≡ Some (interface_tree x)
+interface_there [] k x l e = absurd (omega (arith, l))
+interface_there (y ∷ xs) zero x l e = ap (λ i. Some (interface_tree i)) (sym e)
+interface_there (y ∷ xs) (suc k) x l e = interface_there xs k x (omega (arith, l)) e
+
 pub interfaces_turn : (u : UnitTree) (xs : List Interface) (k : ℕ) (x : Interface) (so_far one now whole : Option Broken) → k < length xs → x ≡ get_or xs k x
-    → one ≡ first (broken_interfaces u (interface_trees (take k xs)) (interface_tree x ∷ [])) → now ≡ earlier_of so_far one
+    → one ≡ first (broken_interface u (interface_trees (take k xs)) (interface_tree x)) → now ≡ earlier_of so_far one
     → whole ≡ earlier_of so_far (first (broken_interfaces u (interface_trees (take k xs)) (interface_trees (drop k xs)))) → whole ≡ earlier_of now (first (broken_interfaces u (interface_trees (take (k + 1) xs)) (interface_trees (drop (k + 1) xs))))
 interfaces_turn u xs k x so_far one now whole l e o n w =
     let before = interface_trees (take k xs) in
     let others = interface_trees (drop (k + 1) xs) in
     let i = interface_tree x in
-    let rest = broken_interfaces u (before ++ i ∷ []) others in
-    first_turn (broken_interfaces u before (i ∷ [])) rest so_far one now whole o n
-    (w ∙ ap (λ us. earlier_of so_far (first (broken_interfaces u before (interface_trees us)))) (drop_turn xs k x l e)
-    ∙ ap (λ bs. earlier_of so_far (first bs)) (interfaces_apart u before i others))
+    first_turn (broken_interface u before i) (broken_interfaces u (before ++ i ∷ []) others) so_far one now whole o n
+    (w ∙ ap (λ us. earlier_of so_far (first (broken_interfaces u before (interface_trees us)))) (drop_turn xs k x l e))
     ∙ ap (λ b. earlier_of now (first (broken_interfaces u b others))) (sym (interfaces_take xs k x l e))
-  where
-    interfaces_apart : (u : UnitTree) (before : List InterfaceTree) (i : InterfaceTree) (others : List InterfaceTree)
-        → broken_interfaces u before (i ∷ others) ≡ broken_interfaces u before (i ∷ []) ++ broken_interfaces u (before ++ i ∷ []) others
-    interfaces_apart u before i others = three_apart _ _ (broken_heads u i.methods) (broken_interfaces u (before ++ i ∷ []) others)
 
 pub interfaces_held : (xs : List Interface) (k : ℕ) (x : Interface) (old new : List ℕ → Bool) → k < length xs → x ≡ get_or xs k x → new ≡ and_name x.name.items old
     → ((name : List ℕ) → old name ≡ is_some (interface_number (interface_trees (take k xs)) name)) → (name : List ℕ) → new name ≡ is_some (interface_number (interface_trees (take (k + 1) xs)) name)
@@ -228,23 +243,17 @@ implementations_push (y ∷ xs) x = ap (λ us. implementation_tree y ∷ us) (im
 implementations_take : (xs : List Implementation) (k : ℕ) (x : Implementation) → k < length xs → x ≡ get_or xs k x → implementation_trees (take (k + 1) xs) ≡ implementation_trees (take k xs) ++ implementation_tree x ∷ []
 implementations_take xs k x l e = ap implementation_trees (take_more xs k x l ∙ ap (λ y. take k xs ++ y ∷ []) (sym e)) ∙ implementations_push (take k xs) x
 
-pub implementations_turn : (u : UnitTree) (L : List ℕ → Bool) (xs : List Implementation) (k : ℕ) (x : Implementation) (so_far one now whole : Option Broken) → k < length xs → x ≡ get_or xs k x
-    → one ≡ first (broken_implementations u L (implementation_trees (take k xs)) (implementation_tree x ∷ [])) → now ≡ earlier_of so_far one
+pub implementations_turn : (u : UnitTree) (L : Missing) (xs : List Implementation) (k : ℕ) (x : Implementation) (so_far one now whole : Option Broken) → k < length xs → x ≡ get_or xs k x
+    → one ≡ first (broken_implementation u L (implementation_trees (take k xs)) (implementation_tree x)) → now ≡ earlier_of so_far one
     → whole ≡ earlier_of so_far (first (broken_implementations u L (implementation_trees (take k xs)) (implementation_trees (drop k xs))))
     → whole ≡ earlier_of now (first (broken_implementations u L (implementation_trees (take (k + 1) xs)) (implementation_trees (drop (k + 1) xs))))
 implementations_turn u L xs k x so_far one now whole l e o n w =
     let before = implementation_trees (take k xs) in
     let others = implementation_trees (drop (k + 1) xs) in
     let i = implementation_tree x in
-    let rest = broken_implementations u L (before ++ i ∷ []) others in
-    first_turn (broken_implementations u L before (i ∷ [])) rest so_far one now whole o n
-    (w ∙ ap (λ us. earlier_of so_far (first (broken_implementations u L before (implementation_trees us)))) (drop_turn xs k x l e)
-    ∙ ap (λ bs. earlier_of so_far (first bs)) (implementations_apart u L before i others))
+    first_turn (broken_implementation u L before i) (broken_implementations u L (before ++ i ∷ []) others) so_far one now whole o n
+    (w ∙ ap (λ us. earlier_of so_far (first (broken_implementations u L before (implementation_trees us)))) (drop_turn xs k x l e))
     ∙ ap (λ b. earlier_of now (first (broken_implementations u L b others))) (sym (implementations_take xs k x l e))
-  where
-    implementations_apart : (u : UnitTree) (L : List ℕ → Bool) (before : List ImplementationTree) (i : ImplementationTree) (others : List ImplementationTree)
-        → broken_implementations u L before (i ∷ others) ≡ broken_implementations u L before (i ∷ []) ++ broken_implementations u L (before ++ i ∷ []) others
-    implementations_apart u L before i others = two_apart _ (broken_methods u L [] i.methods) (broken_implementations u L (before ++ i ∷ []) others)
 
 pub implementations_held : (xs : List Implementation) (k : ℕ) (x : Implementation) (old new : List ℕ → Bool) → k < length xs → x ≡ get_or xs k x → new ≡ and_name x.name.items old
     → ((name : List ℕ) → old name ≡ is_implemented (implementation_trees (take k xs)) name) → (name : List ℕ) → new name ≡ is_implemented (implementation_trees (take (k + 1) xs)) name

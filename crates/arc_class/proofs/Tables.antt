@@ -1,22 +1,29 @@
 -- From the parts of a table to what it is a table of.
-use Rattle.std.proofs.Common.{◌≡◌, ℕ, zero, suc, ◌-◌, List, ◌∷◌, length, map, slice_get, Option, Some, None, option_map, refl, sym, ap, ◌∙◌, arith}
+use Rattle.std.proofs.Common.{◌≡◌, ℕ, zero, suc, ◌-◌, List, [], ◌∷◌, length, map, slice_get, Option, Some, None, option_map, refl, sym, ap, ◌∙◌, arith}
+use Rattle.std.proofs.Math.Path.{fun_ext}
 use Rattle.std.proofs.lemmas.List.{length-map}
 use Rattle.std.proofs.lemmas.Option.{slice_get-map}
 use Rattle.arc_ast.specs.declared.tree.Kind.{Kind}
+use Rattle.arc_ast.specs.declared.tree.Sign.{Sign}
+use Rattle.arc_ast.specs.declared.tree.Sign.TheVariants as signs
 use Rattle.arc_ast.specs.Tree.{InterfaceTree, UnitTree}
 use Rattle.arc_class.specs.declared.table.ClassTable.{ClassTable}
 use Rattle.arc_class.specs.declared.table.Entry.{Entry}
-use Rattle.arc_class.specs.Classes.{superclass, superclass_of, own_result, result_in, result_up, known_result, or_result}
+use Rattle.arc_class.specs.Classes.{superclass, superclass_of, own_result, result_in, result_of, root_result, known_result, any_result, nearest, or_then, first_head, declared, defined}
 use Rattle.arc_class.specs.Entries.{EntryTree, entry_tree, root_entry, class_entry}
-use Rattle.arc_class.specs.Table.{own_result_in, superclass_in, results_up, result_in_table}
+use Rattle.arc_class.specs.Kept.{head_in}
+use Rattle.arc_class.specs.Table.{own_result_in, superclass_among, superclass_in, result_at, result_in_table, any_result_in}
+use Rattle.arc_class.proofs.Parts.{result_kept}
+use Rattle.arc_class.proofs.Results.{nearest_same}
 
 abbrev superclass_said : Option EntryTree → Option ℕ
 superclass_said None = None
 superclass_said (Some e) = e.superclass
 
-abbrev result_said : Option EntryTree → List ℕ → Option Kind
-result_said None selector = None
-result_said (Some e) selector = e.results selector
+abbrev result_said : (class : ℕ) → Option EntryTree → Sign → List ℕ → Option Kind
+result_said class None sign selector = None
+result_said zero (Some e) sign selector = root_result sign selector
+result_said (suc n) (Some e) sign selector = e.results sign selector
 
 entry_at : (u : UnitTree) (entries : List Entry) (class : ℕ) → map entry_tree entries ≡ root_entry ∷ map (class_entry u) u.interfaces
     → option_map entry_tree (slice_get entries class) ≡ slice_get (root_entry ∷ map (class_entry u) u.interfaces) class
@@ -30,11 +37,11 @@ said_superclass u (suc n) = ap superclass_said (slice_get-map (class_entry u) u.
     go None = refl
     go (Some i) = refl
 
-said_result : (u : UnitTree) (class : ℕ) (selector : List ℕ) → result_said (slice_get (root_entry ∷ map (class_entry u) u.interfaces) class) selector ≡ result_in u class selector
-said_result u zero selector = refl
-said_result u (suc n) selector = ap (λ o. result_said o selector) (slice_get-map (class_entry u) u.interfaces n) ∙ go (slice_get u.interfaces n)
+said_result : (u : UnitTree) (class : ℕ) (sign : Sign) (selector : List ℕ) → result_said class (slice_get (root_entry ∷ map (class_entry u) u.interfaces) class) sign selector ≡ result_in u class sign selector
+said_result u zero sign selector = refl
+said_result u (suc n) sign selector = ap (λ o. result_said (suc n) o sign selector) (slice_get-map (class_entry u) u.interfaces n) ∙ go (slice_get u.interfaces n)
   where
-    go : (o : Option InterfaceTree) → result_said (option_map (class_entry u) o) selector ≡ own_result u o selector
+    go : (o : Option InterfaceTree) → result_said (suc n) (option_map (class_entry u) o) sign selector ≡ own_result u o sign selector
     go None = refl
     go (Some i) = refl
 
@@ -45,26 +52,30 @@ superclass_is u table class e = go (slice_get table.entries.items class) refl �
     go None h = rw h refl
     go (Some x) h = rw h refl
 
-own_is : (u : UnitTree) (table : ClassTable) (class : ℕ) (selector : List ℕ) → map entry_tree table.entries.items ≡ root_entry ∷ map (class_entry u) u.interfaces
-    → own_result_in (slice_get table.entries.items class) selector ≡ result_in u class selector
-own_is u table class selector e = go (slice_get table.entries.items class) ∙ ap (λ o. result_said o selector) (entry_at u table.entries.items class e) ∙ said_result u class selector
+own_is : (u : UnitTree) (table : ClassTable) (class : ℕ) (sign : Sign) (selector : List ℕ) → map entry_tree table.entries.items ≡ root_entry ∷ map (class_entry u) u.interfaces
+    → own_result_in class (slice_get table.entries.items class) sign selector ≡ result_in u class sign selector
+own_is u table class sign selector e = go class (slice_get table.entries.items class) ∙ ap (λ o. result_said class o sign selector) (entry_at u table.entries.items class e) ∙ said_result u class sign selector
   where
-    go : (o : Option Entry) → own_result_in o selector ≡ result_said (option_map entry_tree o) selector
-    go None = refl
-    go (Some x) = refl
+    go : (class : ℕ) (o : Option Entry) → own_result_in class o sign selector ≡ result_said class (option_map entry_tree o) sign selector
+    go zero None = refl
+    go (suc n) None = refl
+    go zero (Some x) = refl
+    go (suc n) (Some x) = refl
 
-up_is : (n : ℕ) (u : UnitTree) (table : ClassTable) (from : Option ℕ) (selector : List ℕ) → map entry_tree table.entries.items ≡ root_entry ∷ map (class_entry u) u.interfaces
-    → results_up n table from selector ≡ result_up n u from selector
-up_is zero u table None selector e = refl
-up_is zero u table (Some class) selector e = own_is u table class selector e
-up_is (suc n) u table None selector e = refl
-up_is (suc n) u table (Some class) selector e =
-    ap (λ own. or_result own (results_up n table (superclass_in table class) selector)) (own_is u table class selector e)
-    ∙ ap (or_result (result_in u class selector)) (ap (λ above. results_up n table above selector) (superclass_is u table class e) ∙ up_is n u table (superclass u.interfaces class) selector e)
-
-pub result_is : (u : UnitTree) (table : ClassTable) (from : Option ℕ) (selector : List ℕ) → map entry_tree table.entries.items ≡ root_entry ∷ map (class_entry u) u.interfaces
-    → result_in_table table from selector ≡ known_result u from selector
-result_is u table from selector e =
+pub result_is : (u : UnitTree) (table : ClassTable) (from : Option ℕ) (sign : Sign) (selector : List ℕ) → map entry_tree table.entries.items ≡ root_entry ∷ map (class_entry u) u.interfaces
+    → result_in_table table from sign selector ≡ known_result u from sign selector
+result_is u table from sign selector e =
     let many : length table.entries.items ≡ suc (length u.interfaces) = sym (length-map table.entries.items entry_tree) ∙ ap length e ∙ ap (λ n. suc n) (length-map u.interfaces (class_entry u)) in
     let fewer : length table.entries.items - 1 ≡ length u.interfaces = omega (arith, many) in
-    ap (λ n. results_up n table from selector) fewer ∙ up_is (length u.interfaces) u table from selector e
+    ap (λ n. nearest n (superclass_among table.entries.items) (λ class. own_result_in class (slice_get table.entries.items class) sign selector) from) fewer
+    ∙ nearest_same (length u.interfaces) (superclass_among table.entries.items) (superclass u.interfaces) (λ class. own_result_in class (slice_get table.entries.items class) sign selector) (λ class. result_in u class sign selector) from
+    (fun_ext (λ class. superclass_is u table class e)) (fun_ext (λ class. own_is u table class sign selector e))
+
+-- what any object gives
+pub any_is : (u : UnitTree) (table : ClassTable) (selector : List ℕ) → head_in table.declared signs.Instance selector ≡ first_head signs.Instance selector (declared u.interfaces)
+    → head_in table.defined signs.Instance selector ≡ first_head signs.Instance selector (defined u.implementations) → any_result_in table selector ≡ any_result u selector
+any_is u table selector d e =
+    let one : result_at table.declared signs.Instance selector ≡ option_map result_of (first_head signs.Instance selector (declared u.interfaces)) = sym (result_kept table.declared signs.Instance selector) ∙ ap (option_map result_of) d in
+    let other : result_at table.defined signs.Instance selector ≡ option_map result_of (first_head signs.Instance selector (defined u.implementations)) = sym (result_kept table.defined signs.Instance selector) ∙ ap (option_map result_of) e in
+    ap (λ o. or_then o (or_then (result_at table.defined signs.Instance selector) (root_result signs.Instance selector))) one
+    ∙ ap (λ o. or_then (option_map result_of (first_head signs.Instance selector (declared u.interfaces))) (or_then o (root_result signs.Instance selector))) other

@@ -1,53 +1,110 @@
--- The rules for classes and their methods.
-use Rattle.std.specs.Prelude.{ℕ, Bool, false, ◌&&◌, ◌||◌, not, nat_lt, List, [], ◌∷◌, ◌++◌, Option, Some, None, is_some, is_none, codes, if◌then◌else◌}
+-- The rules for classes, their methods and their fields.
+use Rattle.std.specs.Prelude.{ℕ, zero, suc, Bool, true, false, ◌&&◌, ◌||◌, not, nat_lt, List, [], ◌∷◌, ◌++◌, length, Option, Some, None, is_some, is_none, codes, slice_get, if◌then◌else◌}
 use Rattle.std.specs.Str.{bytes_eq}
-use Rattle.arc_ast.specs.Tree.{FunctionTree, HeadTree, MethodTree, InterfaceTree, ImplementationTree, UnitTree}
-use Rattle.arc_class.specs.Bodies.{broken_if, broken_parameters, broken_stmts, names_taken, no_name}
+use Rattle.arc_ast.specs.declared.tree.Kind.{Kind}
+use Rattle.arc_ast.specs.declared.tree.Sign.TheVariants as signs
+use Rattle.arc_ast.specs.Tree.{FunctionTree, HeadTree, MethodTree, FieldTree, InterfaceTree, ImplementationTree, UnitTree}
+use Rattle.arc_spec.specs.Classes.{same_sign}
+use Rattle.arc_class.specs.Bodies.{Missing, broken_if, broken_parameters, broken_stmts, names_taken, no_name}
 use Rattle.arc_class.specs.Broken.{Broken}
-use Rattle.arc_class.specs.Classes.{is_root, interface_number, class_number, heads, first_head}
+use Rattle.arc_class.specs.Classes.{is_root, interface_number, class_number, superclass, heads, first_head, built_in_result, declared, defined}
+use Rattle.arc_class.specs.Fields.{fields, known_field}
 use Rattle.arc_class.specs.Functions.{is_library, same_kind, lacks_body_in, broken_in_functions}
 use Rattle.arc_class.specs.Names.{first_named}
 
 -- ---- methods
-
--- the methods of all interfaces, and those of all implementations
-abbrev pub declared : List InterfaceTree → List HeadTree
-declared [] = []
-declared (i ∷ others) = i.methods ++ declared others
-
-abbrev pub defined : List ImplementationTree → List HeadTree
-defined [] = []
-defined (i ∷ others) = heads i.methods ++ defined others
 
 -- whether a method stands before another and gives another kind of value
 abbrev pub differs_before : Option HeadTree → HeadTree → Bool
 differs_before None h = false
 differs_before (Some earlier) h = nat_lt earlier.at h.at && not (same_kind earlier.result h.result)
 
--- 24 SelectorKinds: a method whose result is of another kind than that of an earlier method with its selector, at its `+` (this project's own choice)
-abbrev pub changes_kind : UnitTree → HeadTree → Bool
-changes_kind u h = differs_before (first_head h.selector (declared u.interfaces)) h || differs_before (first_head h.selector (defined u.implementations)) h
+-- whether a method that is built in gives another kind of value
+abbrev pub differs_from : Option Kind → HeadTree → Bool
+differs_from None h = false
+differs_from (Some kind) h = not (same_kind kind h.result)
 
--- 28 HookMethod: a class method that would change how classes are loaded or objects are made, at its `+` (this project's own choice)
-abbrev pub is_hook : List ℕ → Bool
-is_hook selector = bytes_eq selector (codes "load") || (bytes_eq selector (codes "initialize") || (bytes_eq selector (codes "alloc") || bytes_eq selector (codes "class")))
+-- 24 SelectorKinds: a method whose result is of another kind than that of an earlier method of its sign with its selector, those of the root being built in, at
+-- its `+` or `-` (this project's own choice)
+abbrev pub changes_kind : UnitTree → HeadTree → Bool
+changes_kind u h = differs_before (first_head h.sign h.selector (declared u.interfaces)) h
+    || (differs_before (first_head h.sign h.selector (defined u.implementations)) h || differs_from (built_in_result h.sign h.selector) h)
+
+-- 28 HookMethod: a class method that would change how classes are loaded or objects are made, or a method that tells of an object's class, at its `+` or `-`
+-- (this project's own choice)
+abbrev pub is_class_hook : List ℕ → Bool
+is_class_hook selector = bytes_eq selector (codes "load") || (bytes_eq selector (codes "initialize") || bytes_eq selector (codes "alloc"))
+
+abbrev pub tells_class : List ℕ → Bool
+tells_class selector = bytes_eq selector (codes "class") || (bytes_eq selector (codes "isKindOfClass:") || (bytes_eq selector (codes "isMemberOfClass:")
+    || (bytes_eq selector (codes "respondsToSelector:") || bytes_eq selector (codes "conformsToProtocol:"))))
+
+abbrev pub is_hook : HeadTree → Bool
+is_hook h = (same_sign h.sign signs.Class && is_class_hook h.selector) || tells_class h.selector
 
 abbrev pub broken_head : UnitTree → HeadTree → List Broken
-broken_head u h = broken_if (changes_kind u h) h.at 24 ++ broken_if (is_hook h.selector) h.at 28
+broken_head u h = broken_if (changes_kind u h) h.at 24 ++ broken_if (is_hook h) h.at 28
 
 abbrev pub broken_heads : UnitTree → List HeadTree → List Broken
 broken_heads u [] = []
 broken_heads u (h ∷ others) = broken_head u h ++ broken_heads u others
 
 -- all that is wrong inside a method; its parameters and the variables of its outermost block are one scope
-abbrev pub broken_inside : (lacks : List ℕ → Bool) → MethodTree → List Broken
-broken_inside lacks m = broken_parameters no_name m.head.parameters ++ broken_stmts lacks (names_taken no_name m.head.parameters) m.body
+abbrev pub broken_inside : Missing → MethodTree → List Broken
+broken_inside missing m = broken_parameters no_name m.head.parameters ++ broken_stmts missing (names_taken no_name m.head.parameters) m.body
 
--- 21 Duplicate: a second method of one implementation with a selector, at its `+`; `before` are those before it
-abbrev pub broken_methods : UnitTree → (lacks : List ℕ → Bool) → (before : List HeadTree) → List MethodTree → List Broken
-broken_methods u lacks before [] = []
-broken_methods u lacks before (m ∷ others) = (broken_if (is_some (first_head m.head.selector before)) m.head.at 21 ++ broken_head u m.head)
-    ++ (broken_inside lacks m ++ broken_methods u lacks (before ++ m.head ∷ []) others)
+-- 21 Duplicate: a second method of one implementation of a sign with a selector, at its `+` or `-`; `before` are those before it
+abbrev pub broken_method : UnitTree → Missing → (before : List HeadTree) → MethodTree → List Broken
+broken_method u missing before m =
+    (broken_if (is_some (first_head m.head.sign m.head.selector before)) m.head.at 21 ++ broken_head u m.head) ++ broken_inside missing m
+
+abbrev pub broken_methods : UnitTree → Missing → (before : List HeadTree) → List MethodTree → List Broken
+broken_methods u missing before [] = []
+broken_methods u missing before (m ∷ others) = broken_method u missing before m ++ broken_methods u missing (before ++ m.head ∷ []) others
+
+-- ---- fields
+
+-- the place of the first field with a name
+abbrev pub field_place : List ℕ → List FieldTree → Option ℕ
+field_place name [] = None
+field_place name (f ∷ others) = if bytes_eq name f.name then Some f.at else field_place name others
+
+abbrev pub is_earlier : Option ℕ → ℕ → Bool
+is_earlier None at = false
+is_earlier (Some other) at = nat_lt other at
+
+-- 21 Duplicate: a field with the name of one that its class inherits, or of an earlier one of these, at its name (OPL, "Instance Variables")
+abbrev pub broken_fields : UnitTree → (above : Option ℕ) → (all : List FieldTree) → List FieldTree → List Broken
+broken_fields u above all [] = []
+broken_fields u above all (f ∷ others) =
+    broken_if (is_some (known_field u above f.name) || is_earlier (field_place f.name all) f.at) f.at 21 ++ broken_fields u above all others
+
+-- the same of a field of an implementation and one of its interface, told at the later one
+abbrev pub broken_pair : Option ℕ → ℕ → List Broken
+broken_pair None at = []
+broken_pair (Some other) at = record { at = if nat_lt at other then other else at; number = 21 } ∷ []
+
+abbrev pub broken_pairs : (declared : List FieldTree) → List FieldTree → List Broken
+broken_pairs declared [] = []
+broken_pairs declared (f ∷ others) = broken_pair (field_place f.name declared) f.at ++ broken_pairs declared others
+
+-- 27 TooManyFields: a class whose objects have more than 120 fields, at its interface's name (this project's own limit)
+abbrev pub most_fields : ℕ
+most_fields = 120
+
+-- the fields in the braces of the interface of a class, and the class above it
+abbrev pub fields_in_braces : Option InterfaceTree → List FieldTree
+fields_in_braces None = []
+fields_in_braces (Some i) = i.fields
+
+abbrev pub fields_of_interface : UnitTree → (class : Option ℕ) → List FieldTree
+fields_of_interface u None = []
+fields_of_interface u (Some zero) = []
+fields_of_interface u (Some (suc n)) = fields_in_braces (slice_get u.interfaces n)
+
+abbrev pub class_above : UnitTree → (class : Option ℕ) → Option ℕ
+class_above u None = None
+class_above u (Some n) = superclass u.interfaces n
 
 -- ---- classes
 
@@ -66,17 +123,36 @@ is_implemented (i ∷ others) name = bytes_eq name i.name || is_implemented othe
 
 -- 22 UnknownClass: a superclass that has no earlier interface, at its name. 26 NoImplementation: a class that has no implementation, at its interface's name
 -- (OPL, "Defining a Class").
+abbrev pub broken_names : UnitTree → (before : List InterfaceTree) → InterfaceTree → List Broken
+broken_names u before i = (broken_if (is_taken u before i) i.at 21 ++ broken_if (not (is_implemented u.implementations i.name)) i.at 26)
+    ++ broken_if (is_none (class_number before i.superclass)) i.superclass_at 22
+
+abbrev pub broken_members : UnitTree → (class : ℕ) → InterfaceTree → List Broken
+broken_members u class i = broken_if (nat_lt most_fields (length (fields u class))) i.at 27
+    ++ (broken_fields u (class_number u.interfaces i.superclass) i.fields i.fields ++ broken_heads u i.methods)
+
+abbrev pub broken_interface : UnitTree → (before : List InterfaceTree) → InterfaceTree → List Broken
+broken_interface u before i = broken_names u before i ++ broken_members u (suc (length before)) i
+
 abbrev pub broken_interfaces : UnitTree → (before : List InterfaceTree) → List InterfaceTree → List Broken
 broken_interfaces u before [] = []
-broken_interfaces u before (i ∷ others) = (broken_if (is_taken u before i) i.at 21 ++ broken_if (not (is_implemented u.implementations i.name)) i.at 26)
-    ++ (broken_if (is_none (class_number before i.superclass)) i.superclass_at 22 ++ (broken_heads u i.methods ++ broken_interfaces u (before ++ i ∷ []) others))
+broken_interfaces u before (i ∷ others) = broken_interface u before i ++ broken_interfaces u (before ++ i ∷ []) others
 
 -- 21 Duplicate: an implementation of the root, or a second one of a class, at its name. 22 UnknownClass: one of a class without an interface, at its name.
-abbrev pub broken_implementations : UnitTree → (lacks : List ℕ → Bool) → (before : List ImplementationTree) → List ImplementationTree → List Broken
-broken_implementations u lacks before [] = []
-broken_implementations u lacks before (i ∷ others) =
-    (broken_if (is_root i.name || is_implemented before i.name) i.at 21 ++ broken_if (is_none (class_number u.interfaces i.name)) i.at 22)
-    ++ (broken_methods u lacks [] i.methods ++ broken_implementations u lacks (before ++ i ∷ []) others)
+abbrev pub broken_own_names : UnitTree → (before : List ImplementationTree) → ImplementationTree → List Broken
+broken_own_names u before i =
+    broken_if (is_root i.name || is_implemented before i.name) i.at 21 ++ broken_if (is_none (class_number u.interfaces i.name)) i.at 22
+
+abbrev pub broken_own_fields : UnitTree → (class : Option ℕ) → ImplementationTree → List Broken
+broken_own_fields u class i = broken_fields u (class_above u class) i.fields i.fields ++ broken_pairs (fields_of_interface u class) i.fields
+
+abbrev pub broken_implementation : UnitTree → Missing → (before : List ImplementationTree) → ImplementationTree → List Broken
+broken_implementation u missing before i =
+    (broken_own_names u before i ++ broken_own_fields u (class_number u.interfaces i.name) i) ++ broken_methods u missing [] i.methods
+
+abbrev pub broken_implementations : UnitTree → Missing → (before : List ImplementationTree) → List ImplementationTree → List Broken
+broken_implementations u missing before [] = []
+broken_implementations u missing before (i ∷ others) = broken_implementation u missing before i ++ broken_implementations u missing (before ++ i ∷ []) others
 
 -- ---- names
 
@@ -89,7 +165,11 @@ abbrev pub named_as_classes : List InterfaceTree → List FunctionTree → List 
 named_as_classes interfaces [] = []
 named_as_classes interfaces (f ∷ others) = broken_if (interface_before interfaces f.name f.at) f.at 21 ++ named_as_classes interfaces others
 
+-- what a source doesn't have
+abbrev pub missing_of : UnitTree → Missing
+missing_of u = record { bodies = lacks_body_in u.functions; classes = λ name. is_none (class_number u.interfaces name) }
+
 -- all that is wrong with what a source declares
 abbrev pub broken : UnitTree → List Broken
-broken u = broken_in_functions u.functions ++ (named_as_classes u.interfaces u.functions
-    ++ (broken_interfaces u [] u.interfaces ++ broken_implementations u (lacks_body_in u.functions) [] u.implementations))
+broken u = broken_in_functions (missing_of u) u.functions ++ (named_as_classes u.interfaces u.functions
+    ++ (broken_interfaces u [] u.interfaces ++ broken_implementations u (missing_of u) [] u.implementations))

@@ -1,10 +1,12 @@
 -- The classes of a source, their methods and their selectors.
-use Rattle.std.specs.Prelude.{ℕ, zero, suc, ◌+◌, Bool, false, ◌||◌, List, [], ◌∷◌, ◌++◌, length, map, Option, Some, None, option_map, slice_get, codes, if◌then◌else◌}
+use Rattle.std.specs.Prelude.{ℕ, zero, suc, ◌+◌, Bool, false, ◌&&◌, ◌||◌, List, [], ◌∷◌, ◌++◌, length, Option, Some, None, option_map, slice_get, codes, if◌then◌else◌}
 use Rattle.std.specs.Str.{bytes_eq}
 use Rattle.arc_ast.specs.declared.tree.Kind.{Kind}
+use Rattle.arc_ast.specs.declared.tree.Kind.TheVariants as k
+use Rattle.arc_ast.specs.declared.tree.Sign.{Sign}
+use Rattle.arc_ast.specs.declared.tree.Sign.TheVariants as signs
 use Rattle.arc_ast.specs.Tree.{FunctionTree, HeadTree, MethodTree, InterfaceTree, ImplementationTree, UnitTree}
-use Rattle.arc_spec.specs.declared.class.Method.{Method}
-use Rattle.arc_spec.specs.Classes.{Class}
+use Rattle.arc_spec.specs.Classes.{same_sign}
 use Rattle.arc_class.specs.Names.{has_body}
 
 -- the one root class, which is built in
@@ -39,37 +41,76 @@ abbrev pub defined_by : List ImplementationTree → List ℕ → List MethodTree
 defined_by [] name = []
 defined_by (i ∷ others) name = if bytes_eq name i.name then i.methods else defined_by others name
 
--- the first method with a selector
-abbrev pub first_head : List ℕ → List HeadTree → Option HeadTree
-first_head selector [] = None
-first_head selector (h ∷ others) = if bytes_eq selector h.selector then Some h else first_head selector others
+-- whether a method is one of this sign with this selector
+abbrev pub is_method : Sign → List ℕ → HeadTree → Bool
+is_method sign selector h = same_sign sign h.sign && bytes_eq selector h.selector
+
+-- the first method of a sign with a selector
+abbrev pub first_head : Sign → List ℕ → List HeadTree → Option HeadTree
+first_head sign selector [] = None
+first_head sign selector (h ∷ others) = if is_method sign selector h then Some h else first_head sign selector others
 
 abbrev pub result_of : HeadTree → Kind
 result_of h = h.result
 
 -- what a class's own method with a selector gives: one that its interface declares, or else one that its implementation defines
-abbrev pub own_result : UnitTree → Option InterfaceTree → List ℕ → Option Kind
-own_result u None selector = None
-own_result u (Some i) selector = option_map result_of (first_head selector (i.methods ++ heads (defined_by u.implementations i.name)))
+abbrev pub own_result : UnitTree → Option InterfaceTree → Sign → List ℕ → Option Kind
+own_result u None sign selector = None
+own_result u (Some i) sign selector = option_map result_of (first_head sign selector (i.methods ++ heads (defined_by u.implementations i.name)))
 
-abbrev pub result_in : UnitTree → (class : ℕ) → List ℕ → Option Kind
-result_in u zero selector = None
-result_in u (suc n) selector = own_result u (slice_get u.interfaces n) selector
+-- What the methods of the root give that are built in: two make objects, and `init` gives the object that it was sent to (OPL, "Allocating and Initializing
+-- Objects"); `dealloc` gives nothing.
+abbrev pub built_in_result : Sign → List ℕ → Option Kind
+built_in_result signs.Class selector = if bytes_eq selector (codes "alloc") || bytes_eq selector (codes "new") then Some k.Object else None
+built_in_result signs.Instance selector =
+    if bytes_eq selector (codes "init") then Some k.Object else if bytes_eq selector (codes "dealloc") then Some k.Void else None
 
-abbrev pub or_result : Option Kind → Option Kind → Option Kind
-or_result (Some a) b = Some a
-or_result None b = b
+-- what the messages to objects give that count their owners (OPL, "Retaining and releasing"; no source may send them under ARC, which a later rule says)
+abbrev pub counting_result : Sign → List ℕ → Option Kind
+counting_result signs.Class selector = None
+counting_result signs.Instance selector =
+    if bytes_eq selector (codes "retain") || bytes_eq selector (codes "autorelease") then Some k.Object
+    else if bytes_eq selector (codes "retainCount") then Some k.Long else if bytes_eq selector (codes "release") then Some k.Void else None
 
--- the same of a class and the next n above it
-abbrev pub result_up : (n : ℕ) → UnitTree → Option ℕ → List ℕ → Option Kind
-result_up n u None selector = None
-result_up zero u (Some class) selector = result_in u class selector
-result_up (suc n) u (Some class) selector = or_result (result_in u class selector) (result_up n u (superclass u.interfaces class) selector)
+-- the first of two, if there is one
+abbrev pub or_then : {X : Type 0} → Option X → Option X → Option X
+or_then (Some a) b = Some a
+or_then None b = b
 
--- What the method gives that is known for a message to a class: the nearest that the class or a class above it declares or defines (OPL, "Messages to self
--- and super"). There are no more classes above one than there are interfaces.
-abbrev pub known_result : UnitTree → Option ℕ → List ℕ → Option Kind
-known_result u = result_up (length u.interfaces) u
+abbrev pub root_result : Sign → List ℕ → Option Kind
+root_result sign selector = or_then (built_in_result sign selector) (counting_result sign selector)
+
+abbrev pub result_in : UnitTree → (class : ℕ) → Sign → List ℕ → Option Kind
+result_in u zero sign selector = root_result sign selector
+result_in u (suc n) sign selector = own_result u (slice_get u.interfaces n) sign selector
+
+-- the nearest that a class or one of the next n above it has of its own
+abbrev pub nearest : {X : Type 0} → (n : ℕ) → (above : ℕ → Option ℕ) → (own : ℕ → Option X) → Option ℕ → Option X
+nearest n above own None = None
+nearest zero above own (Some class) = own class
+nearest (suc n) above own (Some class) = or_then (own class) (nearest n above own (above class))
+
+-- What the method gives that is known for a message to a class or to its objects: the nearest that the class or a class above it declares or defines (OPL,
+-- "Messages to self and super"), those of the root being built in. There are no more classes above one than there are interfaces.
+abbrev pub known_result : UnitTree → Option ℕ → Sign → List ℕ → Option Kind
+known_result u from sign selector = nearest (length u.interfaces) (superclass u.interfaces) (λ class. result_in u class sign selector) from
+
+-- the methods of all interfaces, and those of all implementations
+abbrev pub declared : List InterfaceTree → List HeadTree
+declared [] = []
+declared (i ∷ others) = i.methods ++ declared others
+
+abbrev pub defined : List ImplementationTree → List HeadTree
+defined [] = []
+defined (i ∷ others) = heads i.methods ++ defined others
+
+-- What a message to an object gives of which no class is known (OPL, "Dynamic Typing"): as the first method of objects does that is declared, or else defined, or
+-- built in. All of these give the same.
+abbrev pub any_result : UnitTree → List ℕ → Option Kind
+any_result u selector = or_then (option_map result_of (first_head signs.Instance selector (declared u.interfaces)))
+    (or_then (option_map result_of (first_head signs.Instance selector (defined u.implementations))) (root_result signs.Instance selector))
+
+-- ---- selectors
 
 -- names without those that stand before
 abbrev pub among : List (List ℕ) → List ℕ → Bool
@@ -107,26 +148,21 @@ abbrev pub or_zero : Option ℕ → ℕ
 or_zero None = 0
 or_zero (Some n) = n
 
--- methods with the functions that they run, of which the first has this number
-abbrev pub methods_from : UnitTree → (first : ℕ) → List MethodTree → List Method
-methods_from u first [] = []
-methods_from u first (m ∷ others) =
-    record { selector = or_zero (selector_number u m.head.selector); takes = length m.head.parameters; runs = first } ∷ methods_from u (suc first) others
+-- whether a method ends the objects of its class
+abbrev pub is_dealloc : HeadTree → Bool
+is_dealloc h = is_method signs.Instance (codes "dealloc") h
 
-abbrev pub methods_named : UnitTree → (first : ℕ) → List ImplementationTree → List ℕ → List Method
-methods_named u first [] name = []
-methods_named u first (i ∷ others) name =
-    if bytes_eq name i.name then methods_from u first i.methods else methods_named u (first + length i.methods) others name
+-- ---- functions
 
 -- how many functions have a body
 abbrev pub bodies : List FunctionTree → ℕ
 bodies [] = 0
 bodies (f ∷ others) = if has_body f then suc (bodies others) else bodies others
 
-abbrev pub class_of : UnitTree → InterfaceTree → Class
-class_of u i = record { superclass = class_number u.interfaces i.superclass; methods = methods_named u (bodies u.functions) u.implementations i.name }
+-- Functions are numbered: first those with a body, and then the methods, in the order of the implementations. This is how many there are behind some.
+abbrev pub numbers_after : (first : ℕ) → List ImplementationTree → ℕ
+numbers_after first [] = first
+numbers_after first (i ∷ others) = numbers_after (first + length i.methods) others
 
--- The classes of a source as a running program knows them. The functions that the methods run are numbered behind those with a body, in the order of the
--- implementations.
-abbrev pub classes : UnitTree → List Class
-classes u = record { superclass = None; methods = [] } ∷ map (class_of u) u.interfaces
+abbrev pub function_count : UnitTree → ℕ
+function_count u = numbers_after (bodies u.functions) u.implementations

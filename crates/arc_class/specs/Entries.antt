@@ -1,22 +1,74 @@
 -- What the entries of a table say of classes.
-use Rattle.std.specs.Prelude.{ℕ, List, Option, Some, None}
+use Rattle.std.specs.Prelude.{ℕ, suc, ◌+◌, List, [], ◌∷◌, length, slice_get, Option, Some, None}
 use Rattle.arc_ast.specs.declared.tree.Kind.{Kind}
+use Rattle.arc_ast.specs.declared.tree.Sign.{Sign}
 use Rattle.arc_ast.specs.Tree.{InterfaceTree, UnitTree}
+use Rattle.arc_class.specs.declared.fields.ClassFields.{ClassFields}
 use Rattle.arc_class.specs.declared.table.Entry.{Entry}
+use Rattle.arc_class.specs.declared.table.FoundField.{FoundField}
+use Rattle.arc_class.specs.ClassRules.{field_place}
 use Rattle.arc_class.specs.Classes.{class_number, own_result}
-use Rattle.arc_class.specs.Table.{own_result_in}
+use Rattle.arc_class.specs.Fields.{numbered, fields_declared, inherited_below}
+use Rattle.arc_class.specs.Table.{at_name, result_at}
 
 -- a class's superclass, and what its own methods give
 pub record EntryTree : Type 0 where
   pub superclass : Option ℕ
-  pub results : List ℕ → Option Kind
+  pub results : Sign → List ℕ → Option Kind
 
 abbrev pub entry_tree : Entry → EntryTree
-entry_tree e = record { superclass = e.superclass; results = own_result_in (Some e) }
+entry_tree e = record { superclass = e.superclass; results = result_at e.methods }
 
--- the root has none
+-- the root has none but those that are built in
 abbrev pub root_entry : EntryTree
-root_entry = record { superclass = None; results = λ selector. None }
+root_entry = record { superclass = None; results = λ sign selector. None }
 
 abbrev pub class_entry : UnitTree → InterfaceTree → EntryTree
 class_entry u i = record { superclass = class_number u.interfaces i.superclass; results = own_result u (Some i) }
+
+-- a class's superclass, the places of the fields in its interface's braces, its own fields, and how many its objects have
+pub record FieldsTree : Type 0 where
+  pub superclass : Option ℕ
+  pub places : List ℕ → Option ℕ
+  pub named : List ℕ → Option FoundField
+  pub count : ℕ
+
+abbrev pub fields_tree : ClassFields → FieldsTree
+fields_tree c = record { superclass = c.superclass; places = at_name c.places; named = at_name c.named; count = c.count }
+
+abbrev pub root_fields : FieldsTree
+root_fields = record { superclass = None; places = λ name. None; named = λ name. None; count = 0 }
+
+-- those of a class whose superclass has so many
+abbrev pub class_fields_with : UnitTree → (class inherited : ℕ) → InterfaceTree → FieldsTree
+class_fields_with u class inherited i = record {
+  superclass = class_number u.interfaces i.superclass;
+  places = λ name. field_place name i.fields;
+  named = numbered class inherited (fields_declared u class i);
+  count = inherited + length (fields_declared u class i);
+}
+
+abbrev pub class_fields : UnitTree → (class : ℕ) → InterfaceTree → FieldsTree
+class_fields u class i = class_fields_with u class (length (inherited_below class u (class_number u.interfaces i.superclass))) i
+
+abbrev pub class_fields_from : UnitTree → (class : ℕ) → List InterfaceTree → List FieldsTree
+class_fields_from u class [] = []
+class_fields_from u class (i ∷ others) = class_fields u class i ∷ class_fields_from u (suc class) others
+
+-- the same of all classes
+abbrev pub all_class_fields : UnitTree → List FieldsTree
+all_class_fields u = root_fields ∷ class_fields_from u 1 u.interfaces
+
+-- how many fields the objects of a class have, and 0 where there is no such class yet
+abbrev pub count_at : Option ClassFields → ℕ
+count_at None = 0
+count_at (Some c) = c.count
+
+abbrev pub count_among : List ClassFields → Option ℕ → ℕ
+count_among classes None = 0
+count_among classes (Some class) = count_at (slice_get classes class)
+
+-- what is known of the fields of a class, if there is one
+abbrev pub fields_at : List ClassFields → Option ℕ → Option ClassFields
+fields_at classes None = None
+fields_at classes (Some class) = slice_get classes class

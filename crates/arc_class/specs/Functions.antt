@@ -9,7 +9,7 @@ use Rattle.arc_class.specs.declared.table.Signature.{Signature}
 use Rattle.arc_class.specs.declared.table.Declared.{Declared}
 use Rattle.arc_class.specs.Broken.{Broken}
 use Rattle.arc_class.specs.Names.{has_body, signature, known, number_of, is_main}
-use Rattle.arc_class.specs.Bodies.{lacks_body, broken_function}
+use Rattle.arc_class.specs.Bodies.{Missing, lacks_body, broken_function}
 
 abbrev pub same_kind : Kind → Kind → Bool
 same_kind k.Void k.Void = true
@@ -55,14 +55,14 @@ abbrev pub no_main : List FunctionTree → List Broken
 no_main functions = missing_main (number_of is_main functions)
 
 -- all that is wrong in bodies
-abbrev pub broken_functions : (lacks : List ℕ → Bool) → List FunctionTree → List Broken
-broken_functions lacks [] = []
-broken_functions lacks (f ∷ others) = broken_function lacks f ++ broken_functions lacks others
+abbrev pub broken_functions : Missing → List FunctionTree → List Broken
+broken_functions missing [] = []
+broken_functions missing (f ∷ others) = broken_function missing f ++ broken_functions missing others
 
 -- whether a name is that of a function that is declared, and no function with it has a body
 abbrev pub lacks_body_in : List FunctionTree → List ℕ → Bool
 lacks_body_in functions name = lacks_body (known functions name)
 
 -- all that is wrong with the functions of a source
-abbrev pub broken_in_functions : List FunctionTree → List Broken
-broken_in_functions functions = duplicates [] functions ++ (no_main functions ++ broken_functions (lacks_body_in functions) functions)
+abbrev pub broken_in_functions : Missing → List FunctionTree → List Broken
+broken_in_functions missing functions = duplicates [] functions ++ (no_main functions ++ broken_functions missing functions)

@@ -1,32 +1,29 @@
 -- What maps keep of the names of a source.
-use Rattle.std.specs.Prelude.{◌≡◌, ℕ, suc, ◌+◌, Bool, false, nat_lt, List, [], ◌∷◌, length, Option, Some, None, option_map, if◌then◌else◌}
+use Rattle.std.specs.Prelude.{◌≡◌, ℕ, suc, Bool, false, nat_lt, List, [], ◌∷◌, Option, Some, None, option_map, if◌then◌else◌}
 use Rattle.std.specs.BTreeMap.{BTreeMap}
 use Rattle.std.specs.Borrow.{Bor}
 use Rattle.std.specs.Str.{bytes_eq}
 use Rattle.arc_ast.specs.declared.tree.Function.{Function}
-use Rattle.arc_ast.specs.declared.tree.MethodHead.{MethodHead}
-use Rattle.arc_ast.specs.Tree.{FunctionTree, HeadTree, MethodTree, InterfaceTree, ImplementationTree, UnitTree, function_tree, head_tree, method_trees}
+use Rattle.arc_ast.specs.declared.tree.Sign.{Sign}
+use Rattle.arc_ast.specs.Tree.{FunctionTree, HeadTree, InterfaceTree, ImplementationTree, UnitTree, function_tree, head_tree, implementation_tree}
+use Rattle.arc_class.specs.declared.heads.Heads.{Heads}
 use Rattle.arc_class.specs.declared.kept.Implemented.{Implemented}
 use Rattle.arc_class.specs.declared.kept.Source.{Source}
 use Rattle.arc_class.specs.declared.table.Place.{Place}
-use Rattle.arc_class.specs.Classes.{first_head, bodies}
-use Rattle.arc_class.specs.ClassRules.{declared, defined}
+use Rattle.arc_class.specs.Classes.{first_head, bodies, declared, defined, function_count}
 use Rattle.arc_class.specs.Names.{known, first_named}
-use Rattle.arc_class.specs.Table.{at_name}
-
--- the first of two, if there is one
-abbrev pub or_then : {X : Type 0} → Option X → Option X → Option X
-or_then (Some a) b = Some a
-or_then None b = b
+use Rattle.arc_class.specs.Running.{implemented}
+use Rattle.arc_class.specs.Table.{at_name, head_at}
 
 -- a value at one name alone
 abbrev pub one_at : {X : Type 0} → List ℕ → X → List ℕ → Option X
 one_at name value sought = if bytes_eq sought name then Some value else None
 
--- the methods and the functions that maps keep for names
-abbrev pub head_in : BTreeMap (Bor (List ℕ)) (Bor MethodHead) → List ℕ → Option HeadTree
-head_in kept selector = option_map (λ h. head_tree h.now) (at_name kept selector)
+-- the methods that maps keep for selectors
+abbrev pub head_in : Heads → Sign → List ℕ → Option HeadTree
+head_in kept sign selector = option_map (λ h. head_tree h.now) (head_at kept sign selector)
 
+-- the functions that a map keeps for names
 abbrev pub function_kept : BTreeMap (Bor (List ℕ)) (Bor Function) → List ℕ → Option FunctionTree
 function_kept kept name = option_map (λ f. function_tree f.now) (at_name kept name)
 
@@ -39,15 +36,11 @@ abbrev pub place_before : Option Place → ℕ → Bool
 place_before None at = false
 place_before (Some place) at = nat_lt place.at at
 
--- the methods of the first implementation with a name, and the number of their first function, where the first of all methods has this number
-abbrev pub implemented : (first : ℕ) → List ImplementationTree → List ℕ → Option (ℕ × List MethodTree)
-implemented first [] name = None
-implemented first (i ∷ others) name = if bytes_eq name i.name then Some (first, i.methods) else implemented (first + length i.methods) others name
+-- the first implementation with a name, and the number of its first function
+abbrev pub implemented_tree : Implemented → ℕ × ImplementationTree
+implemented_tree m = (m.first, implementation_tree m.implementation.now)
 
-abbrev pub implemented_tree : Implemented → ℕ × List MethodTree
-implemented_tree m = (m.first, method_trees m.methods.now)
-
-abbrev pub implemented_in : BTreeMap (Bor (List ℕ)) Implemented → List ℕ → Option (ℕ × List MethodTree)
+abbrev pub implemented_in : BTreeMap (Bor (List ℕ)) Implemented → List ℕ → Option (ℕ × ImplementationTree)
 implemented_in kept name = option_map implemented_tree (at_name kept name)
 
 -- what is kept is so of a source
@@ -55,6 +48,7 @@ pub record Knows (u : UnitTree) (source : Source) : Type 0 where
   pub knows : (name : List ℕ) → at_name source.known name ≡ known u.functions name
   pub first_functions : (name : List ℕ) → function_kept source.functions name ≡ first_named name u.functions
   pub class_places : (name : List ℕ) → at_name source.names name ≡ places 1 u.interfaces name
-  pub methods : (name : List ℕ) → implemented_in source.implemented name ≡ implemented (bodies u.functions) u.implementations name
-  pub declared_heads : (selector : List ℕ) → head_in source.declared selector ≡ first_head selector (declared u.interfaces)
-  pub defined_heads : (selector : List ℕ) → head_in source.defined selector ≡ first_head selector (defined u.implementations)
+  pub implementations : (name : List ℕ) → implemented_in source.implemented name ≡ implemented (bodies u.functions) u.implementations name
+  pub counts : source.function_count ≡ function_count u
+  pub declared_heads : (sign : Sign) (selector : List ℕ) → head_in source.declared sign selector ≡ first_head sign selector (declared u.interfaces)
+  pub defined_heads : (sign : Sign) (selector : List ℕ) → head_in source.defined sign selector ≡ first_head sign selector (defined u.implementations)

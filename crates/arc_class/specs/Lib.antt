@@ -3,6 +3,8 @@ pub mod Names
 pub mod Bodies
 pub mod Functions
 pub mod Classes
+pub mod Fields
+pub mod Running
 pub mod ClassRules
 pub mod Table
 pub mod Fault

@@ -1,18 +1,25 @@
 //! The parts of a table: selectors, entries and classes.
 ghost use Rattle.std.specs.Prelude.{◌≡◌, ◌++◌, ◌∷◌, List, ℕ, map, IfOk, IfErr, OnOk};
-ghost use Rattle.arc_ast.specs.Tree.{UnitTree, unit_tree, head_trees, method_trees, interface_trees, implementation_trees, interface_tree};
-ghost use Rattle.arc_spec.specs.Classes.{classes_of};
-ghost use Rattle.arc_class.specs.Classes as rules;
-ghost use Rattle.arc_class.specs.Classes.{heads, first_head, with_selectors, declared_selectors, defined_selectors, selectors, number_among, or_zero, methods_from, methods_named, defined_by, bodies};
+ghost use Rattle.arc_ast.specs.declared.tree.Sign.{Sign};
+ghost use Rattle.arc_ast.specs.Tree.{UnitTree, unit_tree, head_tree, head_trees, method_trees, interface_trees, implementation_trees, interface_tree};
+ghost use Rattle.arc_spec.specs.Classes.{class_of, classes_of};
+ghost use Rattle.arc_class.specs.Classes as classes;
+ghost use Rattle.arc_class.specs.Classes.{heads, first_head, with_selectors, declared_selectors, defined_selectors, selectors, number_among, or_zero, defined_by};
 ghost use Rattle.arc_class.specs.declared.fault.ClassFault.TheVariants.{Memory};
-ghost use Rattle.arc_class.specs.Entries.{entry_tree, root_entry, class_entry};
+ghost use Rattle.arc_class.specs.Entries.{entry_tree, root_entry, class_entry, fields_tree, all_class_fields};
 ghost use Rattle.arc_class.specs.Kept.{head_in, Knows};
+ghost use Rattle.arc_class.specs.Running as running;
+ghost use Rattle.arc_class.specs.Running.{method_made, with_method, methods_from, dealloc_from, class_with};
 ghost use Rattle.arc_class.specs.Table.{names_of};
 
 use crate::fault::ClassFault;
-use crate::kept::{Heads, Source, keep_heads, keep_methods};
+use crate::fields::{ClassFields, count_among};
+use crate::heads::Heads;
+use crate::kept::Source;
 use crate::table::{Entry, at_name, class_number};
-use arc_ast::tree::{Implementation, Interface, Method, MethodHead, Parameter, TranslationUnit};
+use arc_ast::tree::{
+    Implementation, Interface, Method, MethodHead, Parameter, Sign, TranslationUnit,
+};
 use arc_spec::class;
 use arc_spec::class::Class;
 use indexmap::IndexSet;
@@ -87,6 +94,43 @@ fn selector_number<'a>(selectors: &Selectors<'a>, name: &'a [u8]) -> usize
     }
 }
 
+/// Whether the method ends the objects of its class.
+fn is_dealloc(head: &MethodHead) -> bool
+    ensures { result ≡ classes.is_dealloc (head_tree head.now) }
+{
+    let selector: &[u8] = &head.selector;
+    head.sign == Sign::Instance && selector == b"dealloc".as_slice()
+}
+
+/// The method as a running program knows it, which runs this function.
+fn method_of<'a>(selectors: &Selectors<'a>, runs: usize, head: &'a MethodHead) -> class::Method
+    ensures { result ≡ method_made (names_of selectors.now.keys) runs (head_tree head.now) }
+{
+    let parameters: &[Parameter] = &head.parameters;
+    class::Method {
+        sign: head.sign,
+        selector: selector_number(selectors, &head.selector),
+        takes: parameters.len(),
+        runs,
+    }
+}
+
+/// Adds the method, which runs this function, unless it ends objects.
+fn add_method<'a>(
+    all: &mut Vec<class::Method>,
+    selectors: &Selectors<'a>,
+    runs: usize,
+    head: &'a MethodHead,
+) -> Result<(), AllocError>
+    ensures { OnOk result (all.new.items ≡ with_method (names_of selectors.now.keys) runs (head_tree head.now) all.old.items) }
+{
+    if is_dealloc(head) {
+        return Ok(());
+    }
+    all.push(method_of(selectors, runs, head))?;
+    Ok(())
+}
+
 /// The methods as a running program knows them, where the first of them runs the function with
 /// this number. Memory: there was none, or so many methods have no numbers.
 fn methods_from<'a>(
@@ -95,18 +139,13 @@ fn methods_from<'a>(
     first: usize,
     methods: &'a [Method],
 ) -> Result<Vec<class::Method>, ClassFault>
-    ensures made { IfOk result (λ all. (u : UnitTree) → names_of selectors.now.keys ≡ rules.selectors u → all.items ≡ methods_from u first (method_trees methods.now)) }
+    ensures made { IfOk result (λ all. (u : UnitTree) → names_of selectors.now.keys ≡ classes.selectors u → all.items ≡ methods_from u first (method_trees methods.now)) }
     ensures refused { IfErr result (λ fault. fault ≡ Memory) }
 {
     let mut all = Vec::new(alloc);
     let mut runs = first;
     for method in methods {
-        let parameters: &[Parameter] = &method.head.parameters;
-        all.push(class::Method {
-            selector: selector_number(selectors, &method.head.selector),
-            takes: parameters.len(),
-            runs,
-        })?;
+        add_method(&mut all, selectors, runs, &method.head)?;
         if runs == usize::MAX {
             return Err(ClassFault::Memory);
         }
@@ -115,22 +154,64 @@ fn methods_from<'a>(
     Ok(all)
 }
 
+/// The function that the first of the methods runs that ends objects, where the first method runs
+/// the function with this number. Memory: so many methods have no numbers.
+fn dealloc_from(first: usize, methods: &[Method]) -> Result<Option<usize>, ClassFault>
+    ensures found { IfOk result (λ function. function ≡ dealloc_from first (method_trees methods.now)) }
+    ensures refused { IfErr result (λ fault. fault ≡ Memory) }
+{
+    let mut runs = first;
+    for method in methods {
+        if is_dealloc(&method.head) {
+            return Ok(Some(runs));
+        }
+        if runs == usize::MAX {
+            return Err(ClassFault::Memory);
+        }
+        runs += 1;
+    }
+    Ok(None)
+}
+
+/// What a table knows of the root.
+fn root_entry<'a>(alloc: Global) -> Entry<'a>
+    ensures { entry_tree result ≡ root_entry }
+{
+    Entry {
+        superclass: None,
+        methods: Heads::new(alloc),
+    }
+}
+
 impl<'a> Source<'a> {
     /// The methods that a class's interface declares and its implementation defines.
     fn own_methods(&self, alloc: Global, interface: &'a Interface) -> Result<Heads<'a>, AllocError>
         requires { Knows (unit_tree self.now.unit.now) self.now }
-        ensures { IfOk result (λ map. (sought : List ℕ) → head_in map sought
-            ≡ first_head sought ((interface_tree interface.now).methods ++ heads (defined_by (unit_tree self.now.unit.now).implementations (interface_tree interface.now).name))) }
+        ensures { IfOk result (λ map. (sign : Sign) (sought : List ℕ) → head_in map sign sought
+            ≡ first_head sign sought ((interface_tree interface.now).methods ++ heads (defined_by (unit_tree self.now.unit.now).implementations (interface_tree interface.now).name))) }
     {
         let mut map = Heads::new(alloc);
-        keep_heads(&mut map, &interface.methods)?;
+        map.keep_heads(&interface.methods)?;
         match at_name(&self.implemented, &interface.name) {
             None => Ok(map),
             Some(own) => {
-                keep_methods(&mut map, own.methods)?;
+                map.keep_methods(&own.implementation.methods)?;
                 Ok(map)
             }
         }
+    }
+
+    /// What a table knows of the interface's class.
+    fn entry_of(&self, alloc: Global, interface: &'a Interface) -> Result<Entry<'a>, AllocError>
+        requires { Knows (unit_tree self.now.unit.now) self.now }
+        ensures { IfOk result (λ entry. entry_tree entry ≡ class_entry (unit_tree self.now.unit.now) (interface_tree interface.now)) }
+    {
+        let superclass = class_number(&self.names, &interface.superclass);
+        let methods = self.own_methods(alloc, interface)?;
+        Ok(Entry {
+            superclass,
+            methods,
+        })
     }
 
     /// What a table knows of each class.
@@ -139,38 +220,47 @@ impl<'a> Source<'a> {
         ensures { IfOk result (λ entries. map entry_tree entries.items ≡ root_entry ∷ map (class_entry (unit_tree self.now.unit.now)) (unit_tree self.now.unit.now).interfaces) }
     {
         let mut entries = Vec::new(alloc);
-        entries.push(Entry {
-            superclass: None,
-            methods: Heads::new(alloc),
-        })?;
+        entries.push(root_entry(alloc))?;
         for interface in &self.unit.interfaces {
-            let methods = self.own_methods(alloc, interface)?;
-            let superclass = class_number(&self.names, &interface.superclass);
-            entries.push(Entry {
-                superclass,
-                methods,
-            })?;
+            let entry = self.entry_of(alloc, interface)?;
+            entries.push(entry)?;
         }
         Ok(entries)
     }
 
-    /// The methods of the class with the name, as a running program knows them. Memory: there was
-    /// none, or so many methods have no numbers.
-    fn class_methods(
+    /// The interface's class as a running program knows it, whose objects have so many fields.
+    /// Memory: there was none, or so many methods have no numbers.
+    fn class_of(
         &self,
         alloc: Global,
         selectors: &Selectors<'a>,
-        name: &'a [u8],
-    ) -> Result<Vec<class::Method>, ClassFault>
+        fields: usize,
+        interface: &'a Interface,
+    ) -> Result<Class, ClassFault>
         requires knows { Knows (unit_tree self.now.unit.now) self.now }
-        requires selectors { names_of selectors.now.keys ≡ rules.selectors (unit_tree self.now.unit.now) }
-        ensures made { IfOk result (λ all. all.items ≡ methods_named (unit_tree self.now.unit.now) (bodies (unit_tree self.now.unit.now).functions) (unit_tree self.now.unit.now).implementations name.now) }
+        requires selectors { names_of selectors.now.keys ≡ classes.selectors (unit_tree self.now.unit.now) }
+        ensures made { IfOk result (λ class. class_of class ≡ class_with (unit_tree self.now.unit.now) fields (interface_tree interface.now)) }
         ensures refused { IfErr result (λ fault. fault ≡ Memory) }
     {
-        match at_name(&self.implemented, name) {
-            None => Ok(Vec::new(alloc)),
-            Some(own) => methods_from(alloc, selectors, own.first, own.methods),
-        }
+        let superclass = class_number(&self.names, &interface.superclass);
+        let Some(own) = at_name(&self.implemented, &interface.name) else {
+            let methods = Vec::new(alloc);
+            return Ok(Class {
+                superclass,
+                methods,
+                dealloc: None,
+                fields,
+            });
+        };
+        let all: &'a [Method] = &own.implementation.methods;
+        let methods = methods_from(alloc, selectors, own.first, all)?;
+        let dealloc = dealloc_from(own.first, all)?;
+        Ok(Class {
+            superclass,
+            methods,
+            dealloc,
+            fields,
+        })
     }
 
     /// The classes as a running program knows them. Memory: there was none, or so many methods
@@ -179,24 +269,27 @@ impl<'a> Source<'a> {
         &self,
         alloc: Global,
         selectors: &Selectors<'a>,
+        fields: &[ClassFields<'a>],
     ) -> Result<Vec<Class>, ClassFault>
         requires knows { Knows (unit_tree self.now.unit.now) self.now }
-        requires selectors { names_of selectors.now.keys ≡ rules.selectors (unit_tree self.now.unit.now) }
-        ensures made { IfOk result (λ all. classes_of all.items ≡ rules.classes (unit_tree self.now.unit.now)) }
+        requires selectors { names_of selectors.now.keys ≡ classes.selectors (unit_tree self.now.unit.now) }
+        requires fields { map fields_tree fields.now ≡ all_class_fields (unit_tree self.now.unit.now) }
+        ensures made { IfOk result (λ all. classes_of all.items ≡ running.classes (unit_tree self.now.unit.now)) }
         ensures refused { IfErr result (λ fault. fault ≡ Memory) }
     {
         let mut classes = Vec::new(alloc);
         classes.push(Class {
             superclass: None,
             methods: Vec::new(alloc),
+            dealloc: None,
+            fields: 0,
         })?;
+        let mut number = 0;
         for interface in &self.unit.interfaces {
-            let methods = self.class_methods(alloc, selectors, &interface.name)?;
-            let superclass = class_number(&self.names, &interface.superclass);
-            classes.push(Class {
-                superclass,
-                methods,
-            })?;
+            number += 1;
+            let count = count_among(fields, Some(number));
+            let class = self.class_of(alloc, selectors, count, interface)?;
+            classes.push(class)?;
         }
         Ok(classes)
     }

@@ -1,23 +1,27 @@
 //! The rules for classes.
-ghost use Rattle.std.specs.Prelude.{◌≡◌, ◌||◌, List, ℕ, [], ◌∷◌, ◌++◌, option_map, is_some, IfOk};
+ghost use Rattle.std.specs.Prelude.{◌≡◌, ◌≤◌, ◌||◌, List, ℕ, [], ◌++◌, length, map, option_map, is_some, IfOk};
 ghost use Rattle.arc_ast.specs.Tree.{FunctionTree, InterfaceTree, ImplementationTree, unit_tree, function_tree, interface_tree, interface_trees, implementation_tree, implementation_trees};
 ghost use Rattle.arc_class.specs.Broken.{first};
 ghost use Rattle.arc_class.specs.ClassRules as rules;
-ghost use Rattle.arc_class.specs.ClassRules.{broken_interfaces, broken_implementations, named_as_classes};
+ghost use Rattle.arc_class.specs.ClassRules.{broken_names, broken_members, broken_interfaces, broken_own_names, broken_own_fields, broken_implementations, named_as_classes, missing_of};
 ghost use Rattle.arc_class.specs.Classes as classes;
 ghost use Rattle.arc_class.specs.Classes.{interface_number};
+ghost use Rattle.arc_class.specs.Entries.{fields_tree, all_class_fields, fields_at};
 ghost use Rattle.arc_class.specs.Fault.{told};
-ghost use Rattle.arc_class.specs.Functions.{lacks_body_in};
 ghost use Rattle.arc_class.specs.Kept.{Knows, place_before};
 ghost use Rattle.arc_class.specs.Walk.{holds};
 
 use crate::fault::{ClassFault, earlier, fault_if};
+use crate::fields::{ClassFields, count_among, field_places, fields_fault, pairs_fault};
 use crate::kept::Source;
 use crate::look::is_library;
 use crate::table::{Place, at_name, class_number, is_root};
 use crate::walk::{Scope, stands};
 use arc_ast::tree::{Function, Implementation, Interface};
 use std::alloc::{AllocError, Global};
+
+/// How many fields the objects of a class may have.
+const MOST_FIELDS: usize = 120;
 
 /// Whether there is a function, and it stands before the place.
 fn stands_before(function: Option<&Function>, at: usize) -> bool
@@ -44,6 +48,19 @@ fn is_known<'a>(before: &Scope<'a>, name: &'a [u8]) -> bool
     ensures { result ≡ (classes.is_root name.now || holds before.now name.now) }
 {
     is_root(name) || stands(before, name)
+}
+
+/// What is known of the fields of the class, if there is one.
+fn known_fields<'a, 'b>(
+    fields: &'b [ClassFields<'a>],
+    class: Option<usize>,
+) -> Option<&'b ClassFields<'a>>
+    ensures { option_map (λ c. c.now) result ≡ fields_at fields.now class }
+{
+    match class {
+        None => None,
+        Some(number) => fields.get(number),
+    }
 }
 
 impl<'a> Source<'a> {
@@ -73,11 +90,11 @@ impl<'a> Source<'a> {
             || stands_before(at_name(&self.functions, name), interface.at)
     }
 
-    /// The first rule that an interface breaks, behind those whose names stand in `before`.
-    fn interface_fault(&self, before: &Scope<'a>, interface: &'a Interface) -> Option<ClassFault>
+    /// The first rule that the names of an interface break, behind those whose names stand in `before`.
+    fn names_fault(&self, before: &Scope<'a>, interface: &'a Interface) -> Option<ClassFault>
         requires { Knows (unit_tree self.now.unit.now) self.now }
         ensures { (earlier : List InterfaceTree) → ((name : List ℕ) → holds before.now name ≡ is_some (interface_number earlier name))
-            → option_map told result ≡ first (broken_interfaces (unit_tree self.now.unit.now) earlier (interface_tree interface.now ∷ [])) }
+            → option_map told result ≡ first (broken_names (unit_tree self.now.unit.now) earlier (interface_tree interface.now)) }
     {
         let taken = self.is_taken(before, interface);
         let implemented = at_name(&self.implemented, &interface.name).is_some();
@@ -86,74 +103,132 @@ impl<'a> Source<'a> {
             fault_if(taken, ClassFault::Duplicate(interface.at)),
             fault_if(!implemented, ClassFault::NoImplementation(interface.at)),
         );
-        let inside = earlier(
-            fault_if(!known, ClassFault::UnknownClass(interface.superclass_at)),
-            self.heads_fault(&interface.methods),
-        );
-        earlier(name, inside)
+        let above = fault_if(!known, ClassFault::UnknownClass(interface.superclass_at));
+        earlier(name, above)
+    }
+
+    /// The first rule that the members of an interface break, whose class has this number.
+    fn members_fault(
+        &self,
+        alloc: Global,
+        fields: &[ClassFields<'a>],
+        class: usize,
+        interface: &'a Interface,
+    ) -> Result<Option<ClassFault>, AllocError>
+        requires knows { Knows (unit_tree self.now.unit.now) self.now }
+        requires fields { map fields_tree fields.now ≡ all_class_fields (unit_tree self.now.unit.now) }
+        requires there { class ≤ length (unit_tree self.now.unit.now).interfaces }
+        ensures { IfOk result (λ fault. option_map told fault ≡ first (broken_members (unit_tree self.now.unit.now) class (interface_tree interface.now))) }
+    {
+        let many = count_among(fields, Some(class)) > MOST_FIELDS;
+        let many = fault_if(many, ClassFault::TooManyFields(interface.at));
+        let places = field_places(alloc, &interface.fields)?;
+        let above = class_number(&self.names, &interface.superclass);
+        let again = fields_fault(fields, above, &places, &interface.fields);
+        let inside = earlier(again, self.heads_fault(&interface.methods));
+        Ok(earlier(many, inside))
     }
 
     /// The first rule that the interfaces break.
-    fn interfaces_fault(&self, alloc: Global) -> Result<Option<ClassFault>, AllocError>
-        requires { Knows (unit_tree self.now.unit.now) self.now }
+    fn interfaces_fault(
+        &self,
+        alloc: Global,
+        fields: &[ClassFields<'a>],
+    ) -> Result<Option<ClassFault>, AllocError>
+        requires knows { Knows (unit_tree self.now.unit.now) self.now }
+        requires fields { map fields_tree fields.now ≡ all_class_fields (unit_tree self.now.unit.now) }
         ensures { IfOk result (λ fault. option_map told fault ≡ first (broken_interfaces (unit_tree self.now.unit.now) [] (unit_tree self.now.unit.now).interfaces)) }
     {
         let mut before = Scope::new(alloc);
         let mut fault = None;
+        let mut class = 0;
         for interface in &self.unit.interfaces {
-            fault = earlier(fault, self.interface_fault(&before, interface));
+            class += 1;
+            let members = self.members_fault(alloc, fields, class, interface)?;
+            let own = earlier(self.names_fault(&before, interface), members);
+            fault = earlier(fault, own);
             before.insert(&interface.name, ())?;
         }
         Ok(fault)
     }
 
-    /// The first rule that an implementation breaks, behind those whose names stand in `before`.
-    fn implementation_fault(
+    /// The first rule that the names of an implementation break, behind those whose names stand in `before`.
+    fn own_names_fault(
         &self,
-        alloc: Global,
         before: &Scope<'a>,
         implementation: &'a Implementation,
-    ) -> Result<Option<ClassFault>, AllocError>
+    ) -> Option<ClassFault>
         requires { Knows (unit_tree self.now.unit.now) self.now }
-        ensures { IfOk result (λ fault. (earlier : List ImplementationTree) → ((name : List ℕ) → holds before.now name ≡ rules.is_implemented earlier name)
-            → option_map told fault ≡ first (broken_implementations (unit_tree self.now.unit.now) (lacks_body_in (unit_tree self.now.unit.now).functions) earlier (implementation_tree implementation.now ∷ []))) }
+        ensures { (earlier : List ImplementationTree) → ((name : List ℕ) → holds before.now name ≡ rules.is_implemented earlier name)
+            → option_map told result ≡ first (broken_own_names (unit_tree self.now.unit.now) earlier (implementation_tree implementation.now)) }
     {
         let again = is_known(before, &implementation.name);
         let known = class_number(&self.names, &implementation.name).is_some();
-        let own = earlier(
+        earlier(
             fault_if(again, ClassFault::Duplicate(implementation.at)),
             fault_if(!known, ClassFault::UnknownClass(implementation.at)),
-        );
-        Ok(earlier(own, self.methods_fault(alloc, &implementation.methods)?))
+        )
+    }
+
+    /// The first rule that the fields of an implementation break.
+    fn own_fields_fault(
+        &self,
+        alloc: Global,
+        fields: &[ClassFields<'a>],
+        implementation: &'a Implementation,
+    ) -> Result<Option<ClassFault>, AllocError>
+        requires knows { Knows (unit_tree self.now.unit.now) self.now }
+        requires fields { map fields_tree fields.now ≡ all_class_fields (unit_tree self.now.unit.now) }
+        ensures { IfOk result (λ fault. option_map told fault ≡ first (broken_own_fields (unit_tree self.now.unit.now)
+            (classes.class_number (unit_tree self.now.unit.now).interfaces implementation.now.name.items) (implementation_tree implementation.now))) }
+    {
+        let own = &implementation.fields;
+        let places = field_places(alloc, own)?;
+        let class = known_fields(fields, class_number(&self.names, &implementation.name));
+        let Some(class) = class else {
+            return Ok(fields_fault(fields, None, &places, own));
+        };
+        let pairs = pairs_fault(&class.places, own);
+        Ok(earlier(fields_fault(fields, class.superclass, &places, own), pairs))
     }
 
     /// The first rule that the implementations break.
-    fn implementations_fault(&self, alloc: Global) -> Result<Option<ClassFault>, AllocError>
-        requires { Knows (unit_tree self.now.unit.now) self.now }
+    fn implementations_fault(
+        &self,
+        alloc: Global,
+        fields: &[ClassFields<'a>],
+    ) -> Result<Option<ClassFault>, AllocError>
+        requires knows { Knows (unit_tree self.now.unit.now) self.now }
+        requires fields { map fields_tree fields.now ≡ all_class_fields (unit_tree self.now.unit.now) }
         ensures { IfOk result (λ fault. option_map told fault
-            ≡ first (broken_implementations (unit_tree self.now.unit.now) (lacks_body_in (unit_tree self.now.unit.now).functions) [] (unit_tree self.now.unit.now).implementations)) }
+            ≡ first (broken_implementations (unit_tree self.now.unit.now) (missing_of (unit_tree self.now.unit.now)) [] (unit_tree self.now.unit.now).implementations)) }
     {
         let mut before = Scope::new(alloc);
         let mut fault = None;
         for implementation in &self.unit.implementations {
-            fault = earlier(
-                fault,
-                self.implementation_fault(alloc, &before, implementation)?,
-            );
+            let names = self.own_names_fault(&before, implementation);
+            let members = self.own_fields_fault(alloc, fields, implementation)?;
+            let methods = self.methods_fault(alloc, &implementation.methods)?;
+            fault = earlier(fault, earlier(earlier(names, members), methods));
             before.insert(&implementation.name, ())?;
         }
         Ok(fault)
     }
 
     /// The first rule that is broken of those for classes and their names.
-    pub fn classes_fault(&self, alloc: Global) -> Result<Option<ClassFault>, AllocError>
-        requires { Knows (unit_tree self.now.unit.now) self.now }
+    pub fn classes_fault(
+        &self,
+        alloc: Global,
+        fields: &[ClassFields<'a>],
+    ) -> Result<Option<ClassFault>, AllocError>
+        requires knows { Knows (unit_tree self.now.unit.now) self.now }
+        requires fields { map fields_tree fields.now ≡ all_class_fields (unit_tree self.now.unit.now) }
         ensures { IfOk result (λ fault. option_map told fault ≡ first (named_as_classes (unit_tree self.now.unit.now).interfaces (unit_tree self.now.unit.now).functions
             ++ (broken_interfaces (unit_tree self.now.unit.now) [] (unit_tree self.now.unit.now).interfaces
-            ++ broken_implementations (unit_tree self.now.unit.now) (lacks_body_in (unit_tree self.now.unit.now).functions) [] (unit_tree self.now.unit.now).implementations))) }
+            ++ broken_implementations (unit_tree self.now.unit.now) (missing_of (unit_tree self.now.unit.now)) [] (unit_tree self.now.unit.now).implementations))) }
     {
-        let interfaces = self.interfaces_fault(alloc)?;
-        let implementations = self.implementations_fault(alloc)?;
+        let interfaces = self.interfaces_fault(alloc, fields)?;
+        let implementations = self.implementations_fault(alloc, fields)?;
         let inside = earlier(interfaces, implementations);
         Ok(earlier(self.function_names_fault(), inside))
     }

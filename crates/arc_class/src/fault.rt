@@ -12,20 +12,27 @@ use thiserror::Error;
 #[derive(Clone, Copy, Debug, Drop, PartialEq, Eq, Error)]
 pub enum ClassFault {
     /// A second body of a function, a declaration that differs from an earlier one, a function or a class of the library's name, a second
-    /// class or implementation of a name, a name for both a class and a function, or a second variable of a name in a scope, told at the name;
-    /// or a second method of an implementation with its selector, told at its `+`.
+    /// class or implementation of a name, a name for both a class and a function, a second variable of a name in a scope, or a second field
+    /// of a name in a class and those above it, told at the name; or a second method of an implementation of its sign with its selector, told
+    /// at its `+` or `-`.
     #[error("the name at {0} is declared in another way already")]
     Duplicate(usize),
-    /// A superclass that no earlier interface declares, or an implementation of a class without an interface; the place is that of the name.
+    /// A superclass that no earlier interface declares, an implementation of a class without an interface, or a type that names such a
+    /// class; the place is that of the name.
     #[error("the class at {0} is not known")]
     UnknownClass(usize),
-    /// A method whose result is of another kind than that of an earlier one with its selector; the place is that of its `+`.
+    /// A method whose result is of another kind than that of an earlier one of its sign with its selector, or of the one that is built in;
+    /// the place is that of its `+` or `-`.
     #[error("the method at {0} gives another kind of value than an earlier one")]
     SelectorKinds(usize),
     /// A class without an implementation; the place is that of its interface's name.
     #[error("the class at {0} has no implementation")]
     NoImplementation(usize),
-    /// A class method `load`, `initialize`, `alloc` or `class`; the place is that of its `+`.
+    /// More than 120 fields in the objects of a class; the place is that of its interface's name.
+    #[error("the class at {0} has more than 120 fields")]
+    TooManyFields(usize),
+    /// A class method `load`, `initialize` or `alloc`, or a method that tells of an object's class, as `class` or `isKindOfClass:`; the place
+    /// is that of its `+` or `-`.
     #[error("the method at {0} has a name that classes cannot take")]
     HookMethod(usize),
     /// No `main` has a body.
@@ -49,6 +56,7 @@ impl ClassFault {
             ClassFault::UnknownClass(_) => 22,
             ClassFault::SelectorKinds(_) => 24,
             ClassFault::NoImplementation(_) => 26,
+            ClassFault::TooManyFields(_) => 27,
             ClassFault::HookMethod(_) => 28,
             ClassFault::NoMain => 29,
             ClassFault::UndefinedFunction(_) => 30,
@@ -65,6 +73,7 @@ impl ClassFault {
             ClassFault::UnknownClass(_) => "UnknownClass",
             ClassFault::SelectorKinds(_) => "SelectorKinds",
             ClassFault::NoImplementation(_) => "NoImplementation",
+            ClassFault::TooManyFields(_) => "TooManyFields",
             ClassFault::HookMethod(_) => "HookMethod",
             ClassFault::NoMain => "NoMain",
             ClassFault::UndefinedFunction(_) => "UndefinedFunction",
@@ -81,6 +90,7 @@ impl ClassFault {
             ClassFault::UnknownClass(at) => *at,
             ClassFault::SelectorKinds(at) => *at,
             ClassFault::NoImplementation(at) => *at,
+            ClassFault::TooManyFields(at) => *at,
             ClassFault::HookMethod(at) => *at,
             ClassFault::NoMain => 0,
             ClassFault::UndefinedFunction(at) => *at,

@@ -1,32 +1,31 @@
 //! What is kept of the names of a source: the first that each of them is declared with.
-ghost use Rattle.std.specs.Prelude.{◌≡◌, ℕ, List, length, suc, OnOk, IfOk, IfErr};
-ghost use Rattle.arc_ast.specs.Tree.{unit_tree, head_trees, method_trees, function_trees, interface_trees, implementation_trees};
+ghost use Rattle.std.specs.Prelude.{◌≡◌, ℕ, List, IfOk, IfErr};
+ghost use Rattle.arc_ast.specs.declared.tree.Sign.{Sign};
+ghost use Rattle.arc_ast.specs.Tree.{unit_tree, function_trees, interface_trees, implementation_trees};
 ghost use Rattle.arc_class.specs.Classes as classes;
-ghost use Rattle.arc_class.specs.Classes.{heads, first_head};
+ghost use Rattle.arc_class.specs.Classes.{first_head, declared, defined};
 ghost use Rattle.arc_class.specs.declared.fault.ClassFault.TheVariants.{Memory};
-ghost use Rattle.arc_class.specs.ClassRules.{declared, defined};
-ghost use Rattle.arc_class.specs.Kept.{or_then, one_at, head_in, function_kept, places, implemented, implemented_in, Knows};
+ghost use Rattle.arc_class.specs.Kept.{head_in, function_kept, places, implemented_in, Knows};
 ghost use Rattle.arc_class.specs.Names as names;
 ghost use Rattle.arc_class.specs.Names.{first_named};
+ghost use Rattle.arc_class.specs.Running.{implemented};
 ghost use Rattle.arc_class.specs.Table.{at_name};
 
 use crate::fault::ClassFault;
-use crate::table::{Known, Names, Place, at_name};
-use arc_ast::tree::{Function, Implementation, Interface, Method, MethodHead, TranslationUnit};
+use crate::heads::{Heads, keep_first};
+use crate::table::{Known, Names, Place};
+use arc_ast::tree::{Function, Implementation, Interface, Method, TranslationUnit};
 use std::alloc::{AllocError, Global};
 use std::collections::BTreeMap;
-
-/// A method for each selector.
-pub type Heads<'a> = BTreeMap<&'a [u8], &'a MethodHead>;
 
 /// A function for each name.
 pub type Functions<'a> = BTreeMap<&'a [u8], &'a Function>;
 
-/// An implementation's methods, and the number of the function that the first of them runs.
+/// An implementation, and the number of the function that the first of its methods runs.
 #[derive(Clone, Copy, Debug)]
 pub struct Implemented<'a> {
     pub first: usize,
-    pub methods: &'a [Method],
+    pub implementation: &'a Implementation,
 }
 
 /// A source, and what is known of its names.
@@ -40,68 +39,35 @@ pub struct Source<'a> {
     pub names: Names<'a>,
     /// The first implementation of each name.
     pub implemented: BTreeMap<&'a [u8], Implemented<'a>>,
-    /// The first method with each selector, of those that interfaces declare.
+    /// How many functions there are, with those that methods run.
+    pub function_count: usize,
+    /// The first method of each sign and selector, of those that interfaces declare.
     pub declared: Heads<'a>,
-    /// The first method with each selector, of those that implementations define.
+    /// The first method of each sign and selector, of those that implementations define.
     pub defined: Heads<'a>,
 }
 
-/// Keeps the value for the name, unless there is one.
-fn keep_first<'a, V: Copy>(
-    map: &mut BTreeMap<&'a [u8], V>,
-    name: &'a [u8],
-    value: V,
-) -> Result<(), AllocError>
-    ensures { OnOk result ((sought : List ℕ) → at_name map.new sought ≡ or_then (at_name map.old sought) (one_at name.now value sought)) }
-{
-    if at_name(map, name).is_some() {
-        return Ok(());
-    }
-    map.insert(name, value)?;
-    Ok(())
-}
-
-/// Keeps the first of the methods with each selector.
-pub fn keep_heads<'a>(map: &mut Heads<'a>, heads: &'a [MethodHead]) -> Result<(), AllocError>
-    ensures { OnOk result ((sought : List ℕ) → head_in map.new sought ≡ or_then (head_in map.old sought) (first_head sought (head_trees heads.now))) }
-{
-    for head in heads {
-        keep_first(map, &head.selector, head)?;
-    }
-    Ok(())
-}
-
-/// Keeps the first of the methods with each selector.
-pub fn keep_methods<'a>(map: &mut Heads<'a>, methods: &'a [Method]) -> Result<(), AllocError>
-    ensures { OnOk result ((sought : List ℕ) → head_in map.new sought ≡ or_then (head_in map.old sought) (first_head sought (heads (method_trees methods.now)))) }
-{
-    for method in methods {
-        keep_first(map, &method.head.selector, &method.head)?;
-    }
-    Ok(())
-}
-
-/// The first method with each selector that interfaces declare.
+/// The first method of each sign and selector that interfaces declare.
 fn declared_heads<'a>(alloc: Global, interfaces: &'a [Interface]) -> Result<Heads<'a>, AllocError>
-    ensures { IfOk result (λ map. (sought : List ℕ) → head_in map sought ≡ first_head sought (declared (interface_trees interfaces.now))) }
+    ensures { IfOk result (λ map. (sign : Sign) (selector : List ℕ) → head_in map sign selector ≡ first_head sign selector (declared (interface_trees interfaces.now))) }
 {
     let mut map = Heads::new(alloc);
     for interface in interfaces {
-        keep_heads(&mut map, &interface.methods)?;
+        map.keep_heads(&interface.methods)?;
     }
     Ok(map)
 }
 
-/// The first method with each selector that implementations define.
+/// The first method of each sign and selector that implementations define.
 fn defined_heads<'a>(
     alloc: Global,
     implementations: &'a [Implementation],
 ) -> Result<Heads<'a>, AllocError>
-    ensures { IfOk result (λ map. (sought : List ℕ) → head_in map sought ≡ first_head sought (defined (implementation_trees implementations.now))) }
+    ensures { IfOk result (λ map. (sign : Sign) (selector : List ℕ) → head_in map sign selector ≡ first_head sign selector (defined (implementation_trees implementations.now))) }
 {
     let mut map = Heads::new(alloc);
     for implementation in implementations {
-        keep_methods(&mut map, &implementation.methods)?;
+        map.keep_methods(&implementation.methods)?;
     }
     Ok(map)
 }
@@ -150,18 +116,35 @@ fn first_implementations<'a>(
     let mut map = BTreeMap::new(alloc);
     let mut first = first;
     for implementation in implementations {
+        let own = Implemented {
+            first,
+            implementation,
+        };
+        keep_first(&mut map, &implementation.name, own)?;
         let methods: &'a [Method] = &implementation.methods;
-        keep_first(
-            &mut map,
-            &implementation.name,
-            Implemented { first, methods },
-        )?;
         if methods.len() > usize::MAX - first {
             return Err(ClassFault::Memory);
         }
         first += methods.len();
     }
     Ok(map)
+}
+
+/// How many functions there are with those that methods run, behind so many. Memory: they have no
+/// numbers.
+fn numbers_after(first: usize, implementations: &[Implementation]) -> Result<usize, ClassFault>
+    ensures counted { IfOk result (λ count. count ≡ classes.numbers_after first (implementation_trees implementations.now)) }
+    ensures refused { IfErr result (λ fault. fault ≡ Memory) }
+{
+    let mut count = first;
+    for implementation in implementations {
+        let methods: &[Method] = &implementation.methods;
+        if methods.len() > usize::MAX - count {
+            return Err(ClassFault::Memory);
+        }
+        count += methods.len();
+    }
+    Ok(count)
 }
 
 impl<'a> Source<'a> {
@@ -182,6 +165,7 @@ impl<'a> Source<'a> {
         let functions = first_functions(alloc, &unit.functions)?;
         let names = class_places(alloc, &unit.interfaces)?;
         let implemented = first_implementations(alloc, bodies, &unit.implementations)?;
+        let function_count = numbers_after(bodies, &unit.implementations)?;
         let declared = declared_heads(alloc, &unit.interfaces)?;
         let defined = defined_heads(alloc, &unit.implementations)?;
         Ok(Source {
@@ -190,6 +174,7 @@ impl<'a> Source<'a> {
             functions,
             names,
             implemented,
+            function_count,
             declared,
             defined,
         })

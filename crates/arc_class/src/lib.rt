@@ -4,9 +4,12 @@
 mod building;
 mod classes;
 pub mod fault;
+mod fields;
+mod heads;
 mod kept;
 mod look;
 mod methods;
+mod root;
 pub mod table;
 #[cfg(test)]
 mod tests;

@@ -1,31 +1,49 @@
 //! The rules for methods.
-ghost use Rattle.std.specs.Prelude.{◌≡◌, List, ℕ, [], ◌∷◌, option_map, is_some, IfOk};
+ghost use Rattle.std.specs.Prelude.{◌≡◌, List, ℕ, [], option_map, IfOk};
+ghost use Rattle.arc_ast.specs.declared.tree.Sign.{Sign};
 ghost use Rattle.arc_ast.specs.Tree.{HeadTree, unit_tree, head_tree, head_trees, method_tree, method_trees};
 ghost use Rattle.arc_class.specs.Broken.{first};
 ghost use Rattle.arc_class.specs.ClassRules as rules;
-ghost use Rattle.arc_class.specs.ClassRules.{broken_head, broken_heads, broken_methods};
+ghost use Rattle.arc_class.specs.ClassRules.{broken_head, broken_heads, broken_method, broken_methods, missing_of};
 ghost use Rattle.arc_class.specs.Classes.{first_head};
 ghost use Rattle.arc_class.specs.Fault.{told};
-ghost use Rattle.arc_class.specs.Functions.{lacks_body_in};
-ghost use Rattle.arc_class.specs.Kept.{Knows};
-ghost use Rattle.arc_class.specs.Walk.{holds};
+ghost use Rattle.arc_class.specs.Kept.{head_in, Knows};
 
 use crate::fault::{ClassFault, earlier, fault_if};
+use crate::heads::Heads;
 use crate::kept::Source;
 use crate::look::same_kind;
-use crate::table::at_name;
-use crate::walk::{Scope, inside, stands};
-use arc_ast::tree::{Method, MethodHead};
+use crate::root::built_in_result;
+use crate::walk::inside;
+use arc_ast::tree::{Kind, Method, MethodHead, Sign};
 use std::alloc::{AllocError, Global};
 
-/// Whether the selector is one that classes cannot take.
-fn is_hook(selector: &[u8]) -> bool
-    ensures { result ≡ rules.is_hook selector.now }
+/// Whether a class method with the selector would change how classes are loaded or objects are made.
+fn is_class_hook(selector: &[u8]) -> bool
+    ensures { result ≡ rules.is_class_hook selector.now }
 {
     selector == b"load".as_slice()
         || selector == b"initialize".as_slice()
         || selector == b"alloc".as_slice()
-        || selector == b"class".as_slice()
+}
+
+/// Whether a method with the selector tells of an object's class.
+fn tells_class(selector: &[u8]) -> bool
+    ensures { result ≡ rules.tells_class selector.now }
+{
+    selector == b"class".as_slice()
+        || selector == b"isKindOfClass:".as_slice()
+        || selector == b"isMemberOfClass:".as_slice()
+        || selector == b"respondsToSelector:".as_slice()
+        || selector == b"conformsToProtocol:".as_slice()
+}
+
+/// Whether the method has a name that classes cannot take.
+fn is_hook(head: &MethodHead) -> bool
+    ensures { result ≡ rules.is_hook (head_tree head.now) }
+{
+    let selector: &[u8] = &head.selector;
+    head.sign == Sign::Class && is_class_hook(selector) || tells_class(selector)
 }
 
 /// Whether the earlier method stands before this one and gives another kind of value.
@@ -38,14 +56,25 @@ fn differs_before(earlier: Option<&MethodHead>, head: &MethodHead) -> bool
     }
 }
 
+/// Whether the built-in method gives another kind of value than this one.
+fn differs_from(built_in: Option<Kind>, head: &MethodHead) -> bool
+    ensures { result ≡ rules.differs_from built_in (head_tree head.now) }
+{
+    match built_in {
+        None => false,
+        Some(kind) => !same_kind(kind, head.result),
+    }
+}
+
 impl<'a> Source<'a> {
-    /// Whether the method gives another kind of value than an earlier one with its selector.
+    /// Whether the method gives another kind of value than an earlier one of its sign with its selector.
     fn changes_kind(&self, head: &'a MethodHead) -> bool
         requires { Knows (unit_tree self.now.unit.now) self.now }
         ensures { result ≡ rules.changes_kind (unit_tree self.now.unit.now) (head_tree head.now) }
     {
-        differs_before(at_name(&self.declared, &head.selector), head)
-            || differs_before(at_name(&self.defined, &head.selector), head)
+        differs_before(self.declared.get(head.sign, &head.selector), head)
+            || differs_before(self.defined.get(head.sign, &head.selector), head)
+            || differs_from(built_in_result(head.sign, &head.selector), head)
     }
 
     /// The first rule that a method breaks as it is declared.
@@ -54,7 +83,7 @@ impl<'a> Source<'a> {
         ensures { option_map told result ≡ first (broken_head (unit_tree self.now.unit.now) (head_tree head.now)) }
     {
         let kind = fault_if(self.changes_kind(head), ClassFault::SelectorKinds(head.at));
-        let hook = fault_if(is_hook(&head.selector), ClassFault::HookMethod(head.at));
+        let hook = fault_if(is_hook(head), ClassFault::HookMethod(head.at));
         earlier(kind, hook)
     }
 
@@ -70,27 +99,23 @@ impl<'a> Source<'a> {
         fault
     }
 
-    /// The first rule that is broken in a method, behind those whose selectors stand in `before`.
+    /// The first rule that is broken in a method, behind those that are kept.
     fn method_fault(
         &self,
         alloc: Global,
-        before: &Scope<'a>,
+        before: &Heads<'a>,
         method: &'a Method,
     ) -> Result<Option<ClassFault>, AllocError>
         requires { Knows (unit_tree self.now.unit.now) self.now }
-        ensures { IfOk result (λ fault. (earlier : List HeadTree) → ((name : List ℕ) → holds before.now name ≡ is_some (first_head name earlier))
-            → option_map told fault ≡ first (broken_methods (unit_tree self.now.unit.now) (lacks_body_in (unit_tree self.now.unit.now).functions) earlier (method_tree method.now ∷ []))) }
+        ensures { IfOk result (λ fault. (earlier : List HeadTree) → ((sign : Sign) (selector : List ℕ) → head_in before.now sign selector ≡ first_head sign selector earlier)
+            → option_map told fault ≡ first (broken_method (unit_tree self.now.unit.now) (missing_of (unit_tree self.now.unit.now)) earlier (method_tree method.now))) }
     {
         let head = &method.head;
-        let again = fault_if(
-            stands(before, &head.selector),
-            ClassFault::Duplicate(head.at),
-        );
+        let stands = before.get(head.sign, &head.selector).is_some();
+        let again = fault_if(stands, ClassFault::Duplicate(head.at));
         let own = earlier(again, self.head_fault(head));
-        Ok(earlier(
-            own,
-            inside(alloc, &self.known, &head.parameters, &method.body)?,
-        ))
+        let inside = inside(alloc, self, &head.parameters, &method.body)?;
+        Ok(earlier(own, inside))
     }
 
     /// The first rule that is broken in the methods of an implementation.
@@ -101,13 +126,13 @@ impl<'a> Source<'a> {
     ) -> Result<Option<ClassFault>, AllocError>
         requires { Knows (unit_tree self.now.unit.now) self.now }
         ensures { IfOk result (λ fault. option_map told fault
-            ≡ first (broken_methods (unit_tree self.now.unit.now) (lacks_body_in (unit_tree self.now.unit.now).functions) [] (method_trees methods.now))) }
+            ≡ first (broken_methods (unit_tree self.now.unit.now) (missing_of (unit_tree self.now.unit.now)) [] (method_trees methods.now))) }
     {
-        let mut before = Scope::new(alloc);
+        let mut before = Heads::new(alloc);
         let mut fault = None;
         for method in methods {
             fault = earlier(fault, self.method_fault(alloc, &before, method)?);
-            before.insert(&method.head.selector, ())?;
+            before.keep(&method.head)?;
         }
         Ok(fault)
     }

@@ -1,23 +1,28 @@
 //! The table that the later stages look names up in.
-ghost use Rattle.std.specs.Prelude.{◌≡◌, [], Some, option_map, IfOk, IfErr, OnErr};
+ghost use Rattle.std.specs.Prelude.{◌≡◌, [], Some, map, option_map, IfOk, IfErr, OnErr};
 ghost use Rattle.arc_ast.specs.Tree.{unit_tree};
+ghost use Rattle.arc_spec.specs.Classes.{classes_of};
 ghost use Rattle.arc_class.specs.Broken.{first};
 ghost use Rattle.arc_class.specs.Classes.{is_root};
 ghost use Rattle.arc_class.specs.ClassRules.{broken};
 ghost use Rattle.arc_class.specs.declared.fault.ClassFault.TheVariants.{Memory};
+ghost use Rattle.arc_class.specs.Entries.{fields_tree, all_class_fields};
 ghost use Rattle.arc_class.specs.Fault.{Refuses, told};
 ghost use Rattle.arc_class.specs.Functions.{missing_main};
 ghost use Rattle.arc_class.specs.Kept.{Knows};
 ghost use Rattle.arc_class.specs.Names.{number_of, is_main};
-ghost use Rattle.arc_class.specs.Table.{IsTableOf, at_name, function_in, class_number_in, class_in, superclass_in, result_in_table, method_in, selector_in, selector_name, colons, number_of_class, number_of_selector, number_of_method, IsSameTable, Registers};
+ghost use Rattle.arc_class.specs.Table.{IsTableOf, at_name, function_in, class_number_in, class_in, superclass_in, own_result_in, result_at, result_in_table, any_result_in, field_tree, field_in_table, fields_in, ends_object, nearest_dealloc, defined_in, built_in_method, method_in, selector_in, selector_name, colons, number_of_class, number_of_selector, number_of_method, IsSameTable, Registers};
 
 use crate::building::{Selectors, selectors};
 use crate::fault::{ClassFault, earlier};
-use crate::kept::{Heads, Source};
+use crate::fields::{ClassFields, field_from};
+use crate::heads::Heads;
+use crate::kept::Source;
 use crate::look::look;
+use crate::root::{BuiltIn, root_result};
 use crate::walk::walk;
-use arc_ast::tree::{Kind, TranslationUnit};
-use arc_spec::class::{Class, look_up};
+use arc_ast::tree::{Kind, Sign, TranslationUnit, Visibility};
+use arc_spec::class::{Class, descends_from, look_up};
 use arc_spec::event::NoMemory;
 use std::alloc::Global;
 use std::collections::BTreeMap;
@@ -122,21 +127,83 @@ pub struct Sel(pub usize);
 #[derive(Clone, Copy, Debug, PartialEq, Eq)]
 pub struct MethodId(pub usize);
 
-/// Whether a method belongs to a class (`+`) or to its instances (`-`).
+/// A field of a class's objects, and the class that declares it.
 #[derive(Clone, Copy, Debug, PartialEq, Eq)]
-pub enum Sign {
-    Class,
-    Instance,
+pub struct Field<'a> {
+    pub name: &'a [u8],
+    pub owner: ClassId,
+    pub visibility: Visibility,
 }
 
-/// What a table knows of a class: its superclass, and its own methods by their selectors.
+/// A field that a name stands for: the class that declares it, and its number in the objects of
+/// that class and of those below it, counted from 0.
+#[derive(Clone, Copy, Debug, PartialEq, Eq)]
+pub struct FoundField {
+    pub owner: ClassId,
+    pub index: usize,
+    pub visibility: Visibility,
+}
+
+/// What a table knows of a class: its superclass, and its own methods.
 #[derive(Debug, Drop)]
 pub struct Entry<'a> {
     pub superclass: Option<usize>,
     pub methods: Heads<'a>,
 }
 
-/// What a source declares: its functions, its classes with their methods, and its selectors.
+impl<'a> Entry<'a> {
+    /// What the class's own method gives, where this is the class's number; the root's are built in.
+    fn own_result(&self, class: usize, sign: Sign, selector: &'a [u8]) -> Option<Kind>
+        ensures { result ≡ own_result_in class (Some self.now) sign selector.now }
+    {
+        if class == 0 {
+            return root_result(sign, selector);
+        }
+        result_at(&self.methods, sign, selector)
+    }
+}
+
+/// What the method gives that is kept for the selector.
+fn result_at<'a>(heads: &Heads<'a>, sign: Sign, selector: &'a [u8]) -> Option<Kind>
+    ensures { result ≡ result_at heads.now sign selector.now }
+{
+    match heads.get(sign, selector) {
+        None => None,
+        Some(head) => Some(head.result),
+    }
+}
+
+/// Whether a message ends an object.
+fn ends_object(sign: Sign, selector: &[u8]) -> bool
+    ensures { result ≡ ends_object sign selector.now }
+{
+    match sign {
+        Sign::Class => false,
+        Sign::Instance => selector == b"dealloc".as_slice(),
+    }
+}
+
+/// The function that the nearest `dealloc` runs, from the class up.
+fn nearest_dealloc(classes: &[Class], class: Option<usize>) -> Option<usize>
+    ensures { result ≡ nearest_dealloc (classes_of classes.now) class }
+{
+    let mut next = class;
+    for _passed in 0..classes.len() {
+        let Some(number) = next else {
+            return None;
+        };
+        let Some(known) = classes.get(number) else {
+            return None;
+        };
+        if let Some(function) = known.dealloc {
+            return Some(function);
+        }
+        next = known.superclass;
+    }
+    None
+}
+
+/// What a source declares: its functions, its classes with their methods and fields, and its selectors.
 #[derive(Debug, Drop)]
 pub struct ClassTable<'a> {
     functions: Known<'a>,
@@ -144,9 +211,16 @@ pub struct ClassTable<'a> {
     pub main: usize,
     names: Names<'a>,
     entries: Vec<Entry<'a>>,
+    /// The first method of each sign and selector, of those that interfaces declare.
+    declared: Heads<'a>,
+    /// The first method of each sign and selector, of those that implementations define.
+    defined: Heads<'a>,
+    named_fields: Vec<ClassFields<'a>>,
+    fields: Vec<Vec<Field<'a>>>,
     selectors: Selectors<'a>,
     /// The classes as a running program knows them.
     pub classes: Vec<Class>,
+    built_in: BuiltIn,
 }
 
 impl<'a> ClassTable<'a> {
@@ -174,9 +248,10 @@ impl<'a> ClassTable<'a> {
         }
     }
 
-    /// What the method gives that the class, or else the nearest class above it, declares or defines for the selector.
-    pub fn result(&self, class: Option<ClassId>, selector: &'a [u8]) -> Option<Kind>
-        ensures { result ≡ result_in_table self.now (option_map number_of_class class) selector.now }
+    /// What the method gives that the class, or else the nearest class above it, declares or defines for the selector; the root has those
+    /// that are built in, and those of the messages to objects that count their owners.
+    pub fn result(&self, class: Option<ClassId>, sign: Sign, selector: &'a [u8]) -> Option<Kind>
+        ensures { result ≡ result_in_table self.now (option_map number_of_class class) sign selector.now }
     {
         let mut next = number_of(class);
         for _passed in 0..self.entries.len() {
@@ -186,24 +261,74 @@ impl<'a> ClassTable<'a> {
             let Some(entry) = self.entries.get(number) else {
                 return None;
             };
-            if let Some(head) = at_name(&entry.methods, selector) {
-                return Some(head.result);
+            if let Some(kind) = entry.own_result(number, sign, selector) {
+                return Some(kind);
             }
             next = entry.superclass;
         }
         None
     }
 
-    /// The method that a message with the selector finds, from the class up to the root. So far no class has methods of its instances.
+    /// What a message to an object gives of which no class is known: as the methods of objects do that the source has, or that are built in.
+    pub fn result_of_any(&self, selector: &'a [u8]) -> Option<Kind>
+        ensures { result ≡ any_result_in self.now selector.now }
+    {
+        if let Some(kind) = result_at(&self.declared, Sign::Instance, selector) {
+            return Some(kind);
+        }
+        if let Some(kind) = result_at(&self.defined, Sign::Instance, selector) {
+            return Some(kind);
+        }
+        root_result(Sign::Instance, selector)
+    }
+
+    /// The field with the name that the class, or else the nearest class above it, declares.
+    pub fn field(&self, class: Option<ClassId>, name: &'a [u8]) -> Option<FoundField>
+        ensures { result ≡ field_in_table self.now (option_map number_of_class class) name.now }
+    {
+        field_from(&self.named_fields, number_of(class), name)
+    }
+
+    /// All fields of the class's objects, in the order of their numbers: inherited ones first, and then those in the interface's braces and
+    /// those in the implementation's.
+    pub fn fields(&self, class: ClassId) -> &[Field<'a>]
+        ensures { map field_tree result.now ≡ fields_in self.now (number_of_class class) }
+    {
+        let Some(all) = self.fields.get(class.0) else {
+            return &[];
+        };
+        all
+    }
+
+    /// The function that a method of the source runs which a message with the selector finds, from the class up.
+    fn defined_method(&self, class: ClassId, sign: Sign, selector: Sel) -> Option<usize>
+        ensures { result ≡ defined_in self.now (number_of_class class) sign (number_of_selector selector) }
+    {
+        let name = self.sel_get_name(selector);
+        if ends_object(sign, name) {
+            return nearest_dealloc(&self.classes, Some(class.0));
+        }
+        look_up(&self.classes, Some(class.0), sign, selector.0, colons(name))
+    }
+
+    /// The function that a method of the root runs which a message with the selector finds, from the class up.
+    fn built_in_method(&self, class: ClassId, sign: Sign, selector: Sel) -> Option<usize>
+        ensures { result ≡ built_in_method self.now (number_of_class class) sign (number_of_selector selector) }
+    {
+        if !descends_from(&self.classes, Some(class.0), 0) {
+            return None;
+        }
+        self.built_in.at(sign, self.sel_get_name(selector))
+    }
+
+    /// The method that a message with the selector finds, from the class up to the root, where some are built in. Those that are only
+    /// declared are not found.
     pub fn method(&self, class: ClassId, sign: Sign, selector: Sel) -> Option<MethodId>
         ensures { option_map number_of_method result ≡ method_in self.now (number_of_class class) sign (number_of_selector selector) }
     {
-        match sign {
-            Sign::Class => {
-                let takes = colons(self.sel_get_name(selector));
-                look_up(&self.classes, Some(class.0), selector.0, takes).map(MethodId)
-            }
-            Sign::Instance => None,
+        match self.defined_method(class, sign, selector) {
+            Some(function) => Some(MethodId(function)),
+            None => self.built_in_method(class, sign, selector).map(MethodId),
         }
     }
 
@@ -234,25 +359,44 @@ impl<'a> ClassTable<'a> {
         }
     }
 
-    /// The table of a source whose names are known and in which this function is `main`. Memory:
+    /// The table of a source whose names and fields are known and in which this function is `main`. Memory:
     /// there was none, or so many methods have no numbers.
-    fn of(alloc: Global, source: Source<'a>, main: usize) -> Result<ClassTable<'a>, ClassFault>
+    fn of(
+        alloc: Global,
+        source: Source<'a>,
+        named_fields: Vec<ClassFields<'a>>,
+        main: usize,
+    ) -> Result<ClassTable<'a>, ClassFault>
         requires knows { Knows (unit_tree source.unit.now) source }
+        requires fields { map fields_tree named_fields.items ≡ all_class_fields (unit_tree source.unit.now) }
         requires main { number_of is_main (unit_tree source.unit.now).functions ≡ Some main }
         ensures table { IfOk result (λ table. IsTableOf (unit_tree source.entry.unit.now) table) }
         ensures refused { IfErr result (λ fault. fault ≡ Memory) }
     {
         let selectors = selectors(alloc, source.unit)?;
         let entries = source.entries(alloc)?;
-        let classes = source.classes(alloc, &selectors)?;
-        let Source { known, names, .. } = source;
+        let fields = source.all_fields(alloc)?;
+        let classes = source.classes(alloc, &selectors, &named_fields)?;
+        let built_in = BuiltIn::from(source.function_count)?;
+        let Source {
+            known,
+            names,
+            declared,
+            defined,
+            ..
+        } = source;
         Ok(ClassTable {
             functions: known,
             main,
             names,
             entries,
+            declared,
+            defined,
+            named_fields,
+            fields,
             selectors,
             classes,
+            built_in,
         })
     }
 
@@ -264,14 +408,15 @@ impl<'a> ClassTable<'a> {
         ensures refused { IfErr result (λ fault. Refuses (broken (unit_tree unit.now)) fault) }
     {
         let seen = look(alloc, &unit.functions)?;
-        let inside = walk(alloc, &seen.known, &unit.functions)?;
-        let functions = earlier(seen.fault, earlier(missing_main(seen.main), inside));
         let main = seen.main;
+        let own = earlier(seen.fault, missing_main(main));
         let source = Source::new(alloc, unit, seen.known, seen.bodies)?;
-        let classes = source.classes_fault(alloc)?;
+        let functions = earlier(own, walk(alloc, &source, &unit.functions)?);
+        let fields = source.class_fields(alloc)?;
+        let classes = source.classes_fault(alloc, &fields)?;
         match (earlier(functions, classes), main) {
             (Some(fault), _) => Err(fault),
-            (None, Some(main)) => ClassTable::of(alloc, source, main),
+            (None, Some(main)) => ClassTable::of(alloc, source, fields, main),
             (None, None) => Err(ClassFault::NoMain),
         }
     }

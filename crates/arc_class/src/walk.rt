@@ -1,16 +1,17 @@
 //! A walk through the bodies of a source.
-ghost use Rattle.std.specs.Prelude.{◌≡◌, ℕ, ◌++◌, Bool, IfOk, OnOk, option_map};
-ghost use Rattle.arc_ast.specs.Tree.{expr_tree, expr_trees, variable_trees, parameter_trees, parameters_tree, stmt_tree, stmt_trees, function_tree, function_trees};
+ghost use Rattle.std.specs.Prelude.{◌≡◌, ◌++◌, IfOk, OnOk, option_map};
+ghost use Rattle.arc_ast.specs.Tree.{type_tree, expr_tree, expr_trees, variable_trees, parameter_trees, parameters_tree, stmt_tree, stmt_trees, function_tree, function_trees};
 ghost use Rattle.arc_class.specs.Bodies as bodies;
-ghost use Rattle.arc_class.specs.Bodies.{broken_if, broken_expr, broken_exprs, broken_maybe, broken_variables, broken_stmt, broken_stmts, broken_parameters, broken_function, no_name, and_name, names_with, names_after, names_taken};
+ghost use Rattle.arc_class.specs.Bodies.{broken_if, broken_type, broken_expr, broken_exprs, broken_maybe, broken_variables, broken_stmt, broken_stmts, broken_parameters, broken_function, no_name, and_name, names_with, names_after, names_taken};
 ghost use Rattle.arc_class.specs.Broken.{first, earlier_of};
 ghost use Rattle.arc_class.specs.Fault.{told};
 ghost use Rattle.arc_class.specs.Functions.{broken_functions};
-ghost use Rattle.arc_class.specs.Walk.{lacks, holds};
+ghost use Rattle.arc_class.specs.Walk.{missing_in, holds};
 
-use crate::fault::{ClassFault, earlier};
-use crate::table::{Known, at_name};
-use arc_ast::tree::{Expr, Function, Parameter, Parameters, Stmt, Variable};
+use crate::fault::{ClassFault, earlier, fault_if};
+use crate::kept::Source;
+use crate::table::{at_name, class_number};
+use arc_ast::tree::{Expr, Function, Parameter, Parameters, Stmt, TypeName, Variable};
 use std::alloc::{AllocError, Global};
 use std::collections::BTreeMap;
 
@@ -18,74 +19,100 @@ use std::collections::BTreeMap;
 pub type Scope<'a> = BTreeMap<&'a [u8], ()>;
 
 /// Whether a function of the name is declared, and none has a body.
-fn lacks_body<'a>(known: &Known<'a>, name: &'a [u8]) -> bool
-    ensures { result ≡ lacks known.now name.now }
+fn lacks_body<'a>(source: &Source<'a>, name: &'a [u8]) -> bool
+    ensures { result ≡ (missing_in source.now).bodies name.now }
 {
-    match at_name(known, name) {
+    match at_name(&source.known, name) {
         None => false,
         Some(declared) => declared.body.is_none(),
     }
 }
 
+/// The rule that a type breaks.
+fn type_fault<'a>(source: &Source<'a>, written: &'a TypeName) -> Option<ClassFault>
+    ensures { option_map told result ≡ first (broken_type (missing_in source.now) (type_tree written.now)) }
+{
+    match written {
+        TypeName::Int | TypeName::Id => None,
+        TypeName::Object(at, name) => {
+            let missing = class_number(&source.names, name).is_none();
+            fault_if(missing, ClassFault::UnknownClass(*at))
+        }
+    }
+}
+
 /// The first rule that is broken in an expression.
 #[cycle(expressions)]
-fn expression<'a>(known: &Known<'a>, expr: &'a Expr) -> Option<ClassFault>
-    ensures { option_map told result ≡ first (broken_expr (lacks known.now) (expr_tree expr.now)) }
+fn expression<'a>(source: &Source<'a>, expr: &'a Expr) -> Option<ClassFault>
+    ensures { option_map told result ≡ first (broken_expr (missing_in source.now) (expr_tree expr.now)) }
 {
     match expr {
-        Expr::Integer(_, _) | Expr::Text(_, _) | Expr::Name(_, _) => None,
-        Expr::Paren(_, inside) => expression(known, inside),
-        Expr::Call(at, name, arguments) => call(known, *at, name, arguments),
-        Expr::Negate(_, operand) => expression(known, operand),
+        Expr::Integer(_, _)
+        | Expr::Text(_, _)
+        | Expr::Nil(_)
+        | Expr::Itself(_)
+        | Expr::Name(_, _) => None,
+        Expr::Paren(_, inside) => expression(source, inside),
+        Expr::Call(at, name, arguments) => call(source, *at, name, arguments),
+        Expr::Negate(_, operand) => expression(source, operand),
+        Expr::Cast(_, written, operand) => {
+            let operand = expression(source, operand);
+            earlier(type_fault(source, written), operand)
+        }
         Expr::Binary(_, _, left, right) => {
-            let left = expression(known, left);
-            earlier(left, expression(known, right))
+            let left = expression(source, left);
+            earlier(left, expression(source, right))
         }
         Expr::Assign(_, _, left, right) => {
-            let left = expression(known, left);
-            earlier(left, expression(known, right))
+            let left = expression(source, left);
+            earlier(left, expression(source, right))
         }
-        Expr::Send(_, _, _, _, arguments) => expressions(known, arguments),
+        Expr::Arrow(_, _, object, _) => expression(source, object),
+        Expr::Send(_, _, receiver, _, arguments) => {
+            let receiver = expression(source, receiver);
+            earlier(receiver, expressions(source, arguments))
+        }
+        Expr::SendSuper(_, _, _, _, arguments) => expressions(source, arguments),
     }
 }
 
 /// The first rule that is broken in a call.
 #[cycle(expressions)]
 fn call<'a>(
-    known: &Known<'a>,
+    source: &Source<'a>,
     at: usize,
     name: &'a [u8],
     arguments: &'a [Expr],
 ) -> Option<ClassFault>
-    ensures { option_map told result ≡ first (broken_if (lacks known.now name.now) at 30 ++ broken_exprs (lacks known.now) (expr_trees arguments.now)) }
+    ensures { option_map told result ≡ first (broken_if ((missing_in source.now).bodies name.now) at 30 ++ broken_exprs (missing_in source.now) (expr_trees arguments.now)) }
 {
-    let own = if lacks_body(known, name) {
+    let own = if lacks_body(source, name) {
         Some(ClassFault::UndefinedFunction(at))
     } else {
         None
     };
-    earlier(own, expressions(known, arguments))
+    earlier(own, expressions(source, arguments))
 }
 
 /// The first rule that is broken in some expressions.
 #[cycle(expressions)]
-fn expressions<'a>(known: &Known<'a>, all: &'a [Expr]) -> Option<ClassFault>
-    ensures { option_map told result ≡ first (broken_exprs (lacks known.now) (expr_trees all.now)) }
+fn expressions<'a>(source: &Source<'a>, all: &'a [Expr]) -> Option<ClassFault>
+    ensures { option_map told result ≡ first (broken_exprs (missing_in source.now) (expr_trees all.now)) }
 {
     let mut fault = None;
     for expr in all {
-        fault = earlier(fault, expression(known, expr));
+        fault = earlier(fault, expression(source, expr));
     }
     fault
 }
 
 /// The first rule that is broken in an expression, if there is one.
-fn maybe<'a>(known: &Known<'a>, expr: &'a Option<Expr>) -> Option<ClassFault>
-    ensures { option_map told result ≡ first (broken_maybe (lacks known.now) (option_map expr_tree expr.now)) }
+fn maybe<'a>(source: &Source<'a>, expr: &'a Option<Expr>) -> Option<ClassFault>
+    ensures { option_map told result ≡ first (broken_maybe (missing_in source.now) (option_map expr_tree expr.now)) }
 {
     match expr {
         None => None,
-        Some(expr) => expression(known, expr),
+        Some(expr) => expression(source, expr),
     }
 }
 
@@ -116,18 +143,18 @@ fn declare<'a>(
 
 /// The first rule that a declaration of variables breaks.
 fn variables<'a>(
-    known: &Known<'a>,
+    source: &Source<'a>,
     scope: &mut Scope<'a>,
     all: &'a [Variable],
 ) -> Result<Option<ClassFault>, AllocError>
     ensures fault { IfOk result
-        (λ fault. option_map told fault ≡ first (broken_variables (lacks known.now) (holds scope.old) (variable_trees all.now))) }
+        (λ fault. option_map told fault ≡ first (broken_variables (missing_in source.now) (holds scope.old) (variable_trees all.now))) }
     ensures scope { OnOk result (holds scope.new ≡ names_with (holds scope.old) (variable_trees all.now)) }
 {
     let mut fault = None;
     for variable in all {
         fault = earlier(fault, declare(scope, variable.at, &variable.name)?);
-        fault = earlier(fault, maybe(known, &variable.initial));
+        fault = earlier(fault, maybe(source, &variable.initial));
     }
     Ok(fault)
 }
@@ -152,48 +179,51 @@ fn parameters<'a>(
 #[cycle(statements)]
 fn scoped<'a>(
     alloc: Global,
-    known: &Known<'a>,
+    source: &Source<'a>,
     statement: &'a Stmt,
 ) -> Result<Option<ClassFault>, AllocError>
-    ensures { IfOk result (λ fault. option_map told fault ≡ first (broken_stmt (lacks known.now) no_name (stmt_tree statement.now))) }
+    ensures { IfOk result (λ fault. option_map told fault ≡ first (broken_stmt (missing_in source.now) no_name (stmt_tree statement.now))) }
 {
     let mut scope = Scope::new(alloc);
-    in_scope(alloc, known, &mut scope, statement)
+    in_scope(alloc, source, &mut scope, statement)
 }
 
 /// The first rule that is broken in a statement.
 #[cycle(statements)]
 fn in_scope<'a>(
     alloc: Global,
-    known: &Known<'a>,
+    source: &Source<'a>,
     scope: &mut Scope<'a>,
     statement: &'a Stmt,
 ) -> Result<Option<ClassFault>, AllocError>
     ensures fault { IfOk result
-        (λ fault. option_map told fault ≡ first (broken_stmt (lacks known.now) (holds scope.old) (stmt_tree statement.now))) }
+        (λ fault. option_map told fault ≡ first (broken_stmt (missing_in source.now) (holds scope.old) (stmt_tree statement.now))) }
     ensures scope { OnOk result (holds scope.new ≡ names_after (holds scope.old) (stmt_tree statement.now)) }
 {
     match statement {
         Stmt::Block(_, all) => {
             let mut inner = Scope::new(alloc);
-            statements(alloc, known, &mut inner, all)
+            statements(alloc, source, &mut inner, all)
         }
         Stmt::Empty(_) => Ok(None),
-        Stmt::Expr(expr) => Ok(expression(known, expr)),
-        Stmt::Return(_, expr) => Ok(maybe(known, expr)),
-        Stmt::Variables(_, all) => variables(known, scope, all),
+        Stmt::Expr(expr) => Ok(expression(source, expr)),
+        Stmt::Return(_, expr) => Ok(maybe(source, expr)),
+        Stmt::Variables(_, written, all) => {
+            let inside = variables(source, scope, all)?;
+            Ok(earlier(type_fault(source, written), inside))
+        }
         Stmt::If(_, test, then) => {
-            let inside = scoped(alloc, known, then)?;
-            Ok(earlier(expression(known, test), inside))
+            let inside = scoped(alloc, source, then)?;
+            Ok(earlier(expression(source, test), inside))
         }
         Stmt::IfElse(_, test, then, other) => {
-            let inside = scoped(alloc, known, then)?;
-            let inside = earlier(inside, scoped(alloc, known, other)?);
-            Ok(earlier(expression(known, test), inside))
+            let inside = scoped(alloc, source, then)?;
+            let inside = earlier(inside, scoped(alloc, source, other)?);
+            Ok(earlier(expression(source, test), inside))
         }
         Stmt::While(_, test, body) => {
-            let inside = scoped(alloc, known, body)?;
-            Ok(earlier(expression(known, test), inside))
+            let inside = scoped(alloc, source, body)?;
+            Ok(earlier(expression(source, test), inside))
         }
     }
 }
@@ -202,16 +232,16 @@ fn in_scope<'a>(
 #[cycle(statements)]
 fn statements<'a>(
     alloc: Global,
-    known: &Known<'a>,
+    source: &Source<'a>,
     scope: &mut Scope<'a>,
     all: &'a [Stmt],
 ) -> Result<Option<ClassFault>, AllocError>
     ensures { IfOk result
-        (λ fault. option_map told fault ≡ first (broken_stmts (lacks known.now) (holds scope.old) (stmt_trees all.now))) }
+        (λ fault. option_map told fault ≡ first (broken_stmts (missing_in source.now) (holds scope.old) (stmt_trees all.now))) }
 {
     let mut fault = None;
     for statement in all {
-        fault = earlier(fault, in_scope(alloc, known, scope, statement)?);
+        fault = earlier(fault, in_scope(alloc, source, scope, statement)?);
     }
     Ok(fault)
 }
@@ -229,45 +259,45 @@ fn named_parameters(parameters: &Parameters) -> &[Parameter]
 /// The first rule that is broken inside a body, whose parameters are in one scope with the variables of its outermost block.
 pub fn inside<'a>(
     alloc: Global,
-    known: &Known<'a>,
+    source: &Source<'a>,
     taken: &'a [Parameter],
     body: &'a [Stmt],
 ) -> Result<Option<ClassFault>, AllocError>
     ensures { IfOk result (λ fault. option_map told fault
-        ≡ first (broken_parameters no_name (parameter_trees taken.now) ++ broken_stmts (lacks known.now) (names_taken no_name (parameter_trees taken.now)) (stmt_trees body.now))) }
+        ≡ first (broken_parameters no_name (parameter_trees taken.now) ++ broken_stmts (missing_in source.now) (names_taken no_name (parameter_trees taken.now)) (stmt_trees body.now))) }
 {
     let mut scope = Scope::new(alloc);
     let fault = parameters(&mut scope, taken)?;
-    Ok(earlier(fault, statements(alloc, known, &mut scope, body)?))
+    Ok(earlier(fault, statements(alloc, source, &mut scope, body)?))
 }
 
 /// The first rule that is broken inside a function.
 fn function<'a>(
     alloc: Global,
-    known: &Known<'a>,
+    source: &Source<'a>,
     function: &'a Function,
 ) -> Result<Option<ClassFault>, AllocError>
     ensures { IfOk result
-        (λ fault. option_map told fault ≡ first (broken_function (lacks known.now) (function_tree function.now))) }
+        (λ fault. option_map told fault ≡ first (broken_function (missing_in source.now) (function_tree function.now))) }
 {
     let Some(body) = &function.body else {
         return Ok(None);
     };
-    inside(alloc, known, named_parameters(&function.parameters), body)
+    inside(alloc, source, named_parameters(&function.parameters), body)
 }
 
-/// The first rule that is broken inside the functions, of whose names this is known.
+/// The first rule that is broken inside the functions of the source.
 pub fn walk<'a>(
     alloc: Global,
-    known: &Known<'a>,
+    source: &Source<'a>,
     functions: &'a [Function],
 ) -> Result<Option<ClassFault>, AllocError>
     ensures { IfOk result
-        (λ fault. option_map told fault ≡ first (broken_functions (lacks known.now) (function_trees functions.now))) }
+        (λ fault. option_map told fault ≡ first (broken_functions (missing_in source.now) (function_trees functions.now))) }
 {
     let mut fault = None;
     for one in functions {
-        fault = earlier(fault, function(alloc, known, one)?);
+        fault = earlier(fault, function(alloc, source, one)?);
     }
     Ok(fault)
 }

@@ -6,7 +6,7 @@ use Rattle.arc_ast.specs.declared.tree.Kind.TheVariants as k
 use Rattle.arc_ast.specs.declared.tree.BinaryOperator.{BinaryOperator}
 use Rattle.arc_ast.specs.declared.tree.BinaryOperator.TheVariants as o
 use Rattle.arc_code.specs.declared.code.Op.{Op}
-use Rattle.arc_code.specs.declared.code.Op.TheVariants.{Num, Bin, Un, Narrow, Pop, Get, Set, PrintText, PrintNum, PrintByte, GetChar, Jump, JumpZero, Call, Send, SendSuper, Return}
+use Rattle.arc_code.specs.declared.code.Op.TheVariants.{Num, Bin, Un, Narrow, Pop, Get, Set, PrintText, PrintNum, PrintByte, GetChar, Jump, JumpZero, Call, Send, SendSuper, Return, Nil, HoldSelf, Hold, StoreStrong, Drop, Empty, Forget, Alloc, GetField, SetField, Differ, IsObject, SendTo, SendToSuper, EndStep}
 
 abbrev pub operator_number : BinaryOperator → ℕ
 operator_number o.Add = 0
@@ -40,6 +40,21 @@ name (Call to) = codes "Call"
 name (Send selector takes) = codes "Send"
 name (SendSuper from selector takes) = codes "SendSuper"
 name Return = codes "Return"
+name Nil = codes "Nil"
+name HoldSelf = codes "HoldSelf"
+name (Hold depth) = codes "Hold"
+name (StoreStrong depth) = codes "StoreStrong"
+name Drop = codes "Drop"
+name (Empty depth) = codes "Empty"
+name (Forget count) = codes "Forget"
+name Alloc = codes "Alloc"
+name (GetField class index) = codes "GetField"
+name (SetField depth class index) = codes "SetField"
+name (Differ depth) = codes "Differ"
+name IsObject = codes "IsObject"
+name (SendTo depth selector takes) = codes "SendTo"
+name (SendToSuper from selector takes) = codes "SendToSuper"
+name EndStep = codes "EndStep"
 
 -- a space, and a number
 abbrev pub operand : ℕ → List ℕ
@@ -58,6 +73,15 @@ operands (JumpZero to) = operand to
 operands (Call to) = operand to
 operands (Send selector takes) = operand selector ++ operand takes
 operands (SendSuper from selector takes) = operand from ++ (operand selector ++ operand takes)
+operands (Hold depth) = operand depth
+operands (StoreStrong depth) = operand depth
+operands (Empty depth) = operand depth
+operands (Forget count) = operand count
+operands (GetField class index) = operand class ++ operand index
+operands (SetField depth class index) = operand depth ++ (operand class ++ operand index)
+operands (Differ depth) = operand depth
+operands (SendTo depth selector takes) = operand depth ++ (operand selector ++ operand takes)
+operands (SendToSuper from selector takes) = operand from ++ (operand selector ++ operand takes)
 operands _ = []
 
 -- the instruction with this number

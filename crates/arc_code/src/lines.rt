@@ -52,8 +52,7 @@ fn put_operands<W: Write>(op: Op, writer: &mut Counted<W>) -> Result<(), IoFault
             number_of_kind(kind),
             writer,
         ),
-        Op::Un(kind) => put_operand(number_of_kind(kind), writer),
-        Op::Narrow(kind) => put_operand(number_of_kind(kind), writer),
+        Op::Un(kind) | Op::Narrow(kind) => put_operand(number_of_kind(kind), writer),
         Op::Get(depth) => put_operand(depth as u64, writer),
         Op::Set(depth) => put_operand(depth as u64, writer),
         Op::PrintText(from, len) => put_pair(u64::from(from), u64::from(len), writer),
@@ -61,10 +60,19 @@ fn put_operands<W: Write>(op: Op, writer: &mut Counted<W>) -> Result<(), IoFault
         Op::JumpZero(to) => put_operand(to as u64, writer),
         Op::Call(to) => put_operand(to as u64, writer),
         Op::Send(selector, takes) => put_pair(selector as u64, takes as u64, writer),
-        Op::SendSuper(from, selector, takes) => {
-            put_three(from as u64, selector as u64, takes as u64, writer)
+        Op::Hold(depth) | Op::StoreStrong(depth) => put_operand(depth as u64, writer),
+        Op::Empty(depth) | Op::Differ(depth) => put_operand(depth as u64, writer),
+        Op::Forget(count) => put_operand(count as u64, writer),
+        Op::GetField(class, index) => put_pair(class as u64, index as u64, writer),
+        Op::SendSuper(first, second, third)
+        | Op::SetField(first, second, third)
+        | Op::SendTo(first, second, third)
+        | Op::SendToSuper(first, second, third) => {
+            put_three(first as u64, second as u64, third as u64, writer)
         }
         Op::Pop | Op::PrintNum | Op::PrintByte | Op::GetChar | Op::Return => put(b"", writer),
+        Op::Nil | Op::HoldSelf | Op::Drop | Op::Alloc => put(b"", writer),
+        Op::IsObject | Op::EndStep => put(b"", writer),
     }
 }
 
@@ -173,6 +181,21 @@ fn name_of(op: Op) -> &'static str
         Op::Send(_, _) => "Send",
         Op::SendSuper(_, _, _) => "SendSuper",
         Op::Return => "Return",
+        Op::Nil => "Nil",
+        Op::HoldSelf => "HoldSelf",
+        Op::Hold(_) => "Hold",
+        Op::StoreStrong(_) => "StoreStrong",
+        Op::Drop => "Drop",
+        Op::Empty(_) => "Empty",
+        Op::Forget(_) => "Forget",
+        Op::Alloc => "Alloc",
+        Op::GetField(_, _) => "GetField",
+        Op::SetField(_, _, _) => "SetField",
+        Op::Differ(_) => "Differ",
+        Op::IsObject => "IsObject",
+        Op::SendTo(_, _, _) => "SendTo",
+        Op::SendToSuper(_, _, _) => "SendToSuper",
+        Op::EndStep => "EndStep",
     }
 }
 

@@ -117,10 +117,37 @@ fn some_code(alloc: Global) -> Result<Code, AllocError> {
         Op::SendSuper(1, 2, 0),
         Op::Return,
     ]?;
+    code_of(alloc, ops)
+}
+
+fn code_with_objects(alloc: Global) -> Result<Code, AllocError> {
+    let ops = vec![in alloc;
+        Op::Nil,
+        Op::HoldSelf,
+        Op::Hold(1),
+        Op::StoreStrong(2),
+        Op::Drop,
+        Op::Empty(3),
+        Op::Forget(4),
+        Op::Alloc,
+        Op::GetField(5, 6),
+        Op::SetField(7, 8, 9),
+        Op::Differ(10),
+        Op::IsObject,
+        Op::SendTo(11, 12, 13),
+        Op::SendToSuper(14, 15, 16),
+        Op::EndStep,
+    ]?;
+    code_of(alloc, ops)
+}
+
+fn code_of(alloc: Global, ops: Vec<Op>) -> Result<Code, AllocError> {
     Ok(Code {
         ops,
         texts: Vec::new(alloc),
+        end_step: 0,
         room: 0,
+        places: 0,
         classes: Vec::new(alloc),
     })
 }
@@ -143,6 +170,19 @@ fn code_is_listed(rt: HostRuntime) -> Result<(), Fail> {
         narrow.get_ref().taken.as_slice(),
         b"0 Num -42\n1 ".as_slice()
     );
+    Ok(())
+}
+
+#[test]
+fn code_with_objects_is_listed(rt: HostRuntime) -> Result<(), Fail> {
+    let code = code_with_objects(rt.alloc())?;
+    let mut writer = Counted::new(Vec::new(rt.alloc()));
+    assert_eq!(rt; list(&code, &mut writer), Ok(()));
+    let text = b"0 Nil\n1 HoldSelf\n2 Hold 1\n3 StoreStrong 2\n\
+        4 Drop\n5 Empty 3\n6 Forget 4\n7 Alloc\n8 GetField 5 6\n\
+        9 SetField 7 8 9\n10 Differ 10\n11 IsObject\n\
+        12 SendTo 11 12 13\n13 SendToSuper 14 15 16\n14 EndStep\n";
+    assert_eq!(rt; writer.get_ref().as_slice(), text.as_slice());
     Ok(())
 }
 

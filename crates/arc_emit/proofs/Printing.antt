@@ -6,6 +6,7 @@ use Rattle.std.proofs.Math.Seq.{take-append_seam, drop-append_seam}
 use Rattle.std.proofs.lemmas.List.{take-append-drop, length-take-le, map-append}
 use Rattle.std.proofs.lemmas.Bool.Decides.{nat_tests}
 use Rattle.arc_spec.specs.declared.event.Event.TheVariants.{Byte}
+use Rattle.arc_spec.specs.Holding.{Held, Frame}
 use Rattle.arc_spec.specs.Number.{counted}
 use Rattle.arc_spec.specs.Stepping.{Next, Goes, only_if}
 use Rattle.arc_code.specs.declared.code.Op.{Op}
@@ -63,40 +64,46 @@ text_is p from bytes past e =
     let n : from + length bytes - from ≡ length bytes = omega arith in
     ap (λ k. take k (drop from p.texts)) n ∙ ap (take (length bytes)) e ∙ take-append_seam bytes past
 
--- one instruction prints a text of at most 16 bytes
-pub prints_piece : (p : Program) (at from : ℕ) (bytes past : List ℕ) (count : ℤ) (rest : List ℤ) (calls : List ℕ) → slice_get p.ops at ≡ Some (op.PrintText from (length bytes)) → drop from p.texts ≡ bytes ++ past → from ≤ length p.texts → length bytes ≤ 16 → step p (record { at = at; stack = count ∷ rest; calls = calls }) ≡ Goes (record { at = at + 1; stack = counted count bytes ∷ rest; calls = calls }) (map Byte bytes)
-prints_piece p at from bytes past count rest calls found texts within short =
-    let t : State = record { at = at; stack = count ∷ rest; calls = calls } in
-    let here : List ℕ → Next State = λ l. prints t (counted count l ∷ rest) l in
-    let long = le_true (from + length bytes) (length p.texts) (length_from p.texts from bytes past texts within) in
-    ap (λ o. executes p o t) found
-    ∙ ap (λ b. only_if b (only_if (nat_le (from + length bytes) (length p.texts)) (here (text_at p from (length bytes))))) (le_true (length bytes) 16 short)
-    ∙ ap (λ b. only_if b (here (text_at p from (length bytes)))) long
-    ∙ ap here (text_is p from bytes past texts)
+-- with these waiting, and these objects
+module _ (p : Program) (frames : List Frame) (held : Held) where
+  -- at this instruction, with this stack
+  abbrev reached : (at : ℕ) → List ℤ → State
+  reached at stack = record { at = at; stack = stack; frames = frames; held = held }
 
--- the pieces of a text lead behind them
-pub prints_text : (p : Program) (full at from : ℕ) (bytes past : List ℕ) (count : ℤ) (rest : List ℤ) (calls : List ℕ) (more : List Op) → drop at p.ops ≡ text_ops from (length bytes) full ++ more → drop from p.texts ≡ bytes ++ past → from ≤ length p.texts → 16 * full ≤ length bytes → length bytes ≤ 16 * full + 16 → suc (length rest) ≤ p.room → Chain (step p) (Fits p) full (record { at = at; stack = count ∷ rest; calls = calls }) (map Byte bytes) (record { at = at + (full + 1); stack = counted count bytes ∷ rest; calls = calls })
-prints_text p zero at from bytes past count rest calls more ops texts within low high room = prints_piece p at from bytes past count rest calls (get_first p.ops at (op.PrintText from (length bytes)) more ops) texts within (omega arith)
-prints_text p (suc full) at from bytes past count rest calls more ops texts within low high room =
-    let a = take 16 bytes in
-    let b = drop 16 bytes in
-    let split : a ++ b ≡ bytes = take-append-drop 16 bytes in
-    let size : length a ≡ 16 = length-take-le 16 bytes (omega arith) in
-    let left : length b ≡ length bytes - 16 = length-drop 16 bytes in
-    let here : drop from p.texts ≡ a ++ (b ++ past) = texts ∙ ap (λ l. l ++ past) (sym split) ∙ append_assoc a b past in
-    let first : slice_get p.ops at ≡ Some (op.PrintText from (length a)) =
-    get_first p.ops at (op.PrintText from 16) (text_ops (from + 16) (length bytes - 16) full ++ more) ops ∙ ap (λ n. Some (op.PrintText from n)) (sym size) in
-    let next : drop (at + 1) p.ops ≡ text_ops (from + 16) (length b) full ++ more =
-    drop_next p.ops at (op.PrintText from 16) (text_ops (from + 16) (length bytes - 16) full ++ more) ops ∙ ap (λ n. text_ops (from + 16) n full ++ more) (sym left) in
-    let there : drop (from + 16) p.texts ≡ b ++ past = subst (λ n. drop (from + n) p.texts ≡ b ++ past) size (drop_past p.texts from a (b ++ past) here) in
-    let rests = prints_text p full (at + 1) (from + 16) b past (counted count a) rest calls more next there (omega (arith, length_from p.texts from a (b ++ past) here within)) (omega arith) (omega arith) room in
-    let whole : counted (counted count a) b ≡ counted count bytes = counted_twice count a b ∙ ap (counted count) split in
-    let behind : at + 1 + (full + 1) ≡ at + (suc full + 1) = omega arith in (
-      record { at = at + 1; stack = counted count a ∷ rest; calls = calls },
-      map Byte a,
-      map Byte b,
-      prints_piece p at from a (b ++ past) count rest calls first here within (omega arith),
-      ap (map Byte) (sym split) ∙ map-append Byte a b,
-      room,
-      subst (λ k. Chain (step p) (Fits p) full (record { at = at + 1; stack = counted count a ∷ rest; calls = calls }) (map Byte b) (record { at = k; stack = counted count bytes ∷ rest; calls = calls })) behind (subst (λ c. Chain (step p) (Fits p) full (record { at = at + 1; stack = counted count a ∷ rest; calls = calls }) (map Byte b) (record { at = at + 1 + (full + 1); stack = c ∷ rest; calls = calls })) whole rests),
-    )
+  -- one instruction prints a text of at most 16 bytes
+  prints_piece : (at from : ℕ) (bytes past : List ℕ) (count : ℤ) (rest : List ℤ) → slice_get p.ops at ≡ Some (op.PrintText from (length bytes)) → drop from p.texts ≡ bytes ++ past → from ≤ length p.texts → length bytes ≤ 16 → step p (reached at (count ∷ rest)) ≡ Goes (reached (at + 1) (counted count bytes ∷ rest)) (map Byte bytes)
+  prints_piece at from bytes past count rest found texts within short =
+      let t : State = reached at (count ∷ rest) in
+      let here : List ℕ → Next State = λ l. prints t (counted count l ∷ rest) l in
+      let long = le_true (from + length bytes) (length p.texts) (length_from p.texts from bytes past texts within) in
+      ap (λ o. executes p o t) found
+      ∙ ap (λ b. only_if b (only_if (nat_le (from + length bytes) (length p.texts)) (here (text_at p from (length bytes))))) (le_true (length bytes) 16 short)
+      ∙ ap (λ b. only_if b (here (text_at p from (length bytes)))) long
+      ∙ ap here (text_is p from bytes past texts)
+
+  -- the pieces of a text lead behind them
+  pub prints_text : (full at from : ℕ) (bytes past : List ℕ) (count : ℤ) (rest : List ℤ) (more : List Op) → drop at p.ops ≡ text_ops from (length bytes) full ++ more → drop from p.texts ≡ bytes ++ past → from ≤ length p.texts → 16 * full ≤ length bytes → length bytes ≤ 16 * full + 16 → ((k : ℕ) (v : ℤ) → Fits p (reached k (v ∷ rest))) → Chain (step p) (Fits p) full (reached at (count ∷ rest)) (map Byte bytes) (reached (at + (full + 1)) (counted count bytes ∷ rest))
+  prints_text zero at from bytes past count rest more ops texts within low high fit = prints_piece at from bytes past count rest (get_first p.ops at (op.PrintText from (length bytes)) more ops) texts within (omega arith)
+  prints_text (suc full) at from bytes past count rest more ops texts within low high fit =
+      let a = take 16 bytes in
+      let b = drop 16 bytes in
+      let split : a ++ b ≡ bytes = take-append-drop 16 bytes in
+      let size : length a ≡ 16 = length-take-le 16 bytes (omega arith) in
+      let left : length b ≡ length bytes - 16 = length-drop 16 bytes in
+      let here : drop from p.texts ≡ a ++ (b ++ past) = texts ∙ ap (λ l. l ++ past) (sym split) ∙ append_assoc a b past in
+      let first : slice_get p.ops at ≡ Some (op.PrintText from (length a)) =
+      get_first p.ops at (op.PrintText from 16) (text_ops (from + 16) (length bytes - 16) full ++ more) ops ∙ ap (λ n. Some (op.PrintText from n)) (sym size) in
+      let next : drop (at + 1) p.ops ≡ text_ops (from + 16) (length b) full ++ more =
+      drop_next p.ops at (op.PrintText from 16) (text_ops (from + 16) (length bytes - 16) full ++ more) ops ∙ ap (λ n. text_ops (from + 16) n full ++ more) (sym left) in
+      let there : drop (from + 16) p.texts ≡ b ++ past = subst (λ n. drop (from + n) p.texts ≡ b ++ past) size (drop_past p.texts from a (b ++ past) here) in
+      let rests = prints_text full (at + 1) (from + 16) b past (counted count a) rest more next there (omega (arith, length_from p.texts from a (b ++ past) here within)) (omega arith) (omega arith) fit in
+      let whole : counted (counted count a) b ≡ counted count bytes = counted_twice count a b ∙ ap (counted count) split in
+      let behind : at + 1 + (full + 1) ≡ at + (suc full + 1) = omega arith in (
+        reached (at + 1) (counted count a ∷ rest),
+        map Byte a,
+        map Byte b,
+        prints_piece at from a (b ++ past) count rest first here within (omega arith),
+        ap (map Byte) (sym split) ∙ map-append Byte a b,
+        fit (at + 1) (counted count a),
+        subst (λ k. Chain (step p) (Fits p) full (reached (at + 1) (counted count a ∷ rest)) (map Byte b) (reached k (counted count bytes ∷ rest))) behind (subst (λ c. Chain (step p) (Fits p) full (reached (at + 1) (counted count a ∷ rest)) (map Byte b) (reached (at + 1 + (full + 1)) (c ∷ rest))) whole rests),
+      )

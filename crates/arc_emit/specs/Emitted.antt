@@ -1,5 +1,5 @@
 -- What is written for actions: instructions and their texts. All of it is this project's own choice.
-use Rattle.std.specs.Prelude.{ℕ, zero, suc, ◌+◌, ◌-◌, ◌/◌, ◌<◌, List, [], ◌∷◌, ◌++◌, length, map, get_or, Option, Some, None, slice_get}
+use Rattle.std.specs.Prelude.{ℕ, zero, suc, ◌+◌, ◌-◌, ◌/◌, ◌<◌, List, [], ◌∷◌, ◌++◌, length, map, get_or, Option, Some, None, option_map, slice_get}
 use Rattle.arc_spec.specs.declared.class.Method.{Method}
 use Rattle.arc_spec.specs.Classes.{Class}
 use Rattle.arc_ir.specs.declared.action.Action.{Action}
@@ -62,25 +62,49 @@ abbrev pub text_ops : (from len full : ℕ) → List Op
 text_ops from len zero = op.PrintText from len ∷ []
 text_ops from len (suc full) = op.PrintText from 16 ∷ text_ops (from + 16) (len - 16) full
 
--- the instructions of an action whose text stands at `from`; the last one of a text prints 1 to 16 bytes, or none of an empty text
+-- the instruction that an action is; a text may be several
+abbrev pub op_of : Places → (entries : List ℕ) → Action → Option Op
+op_of p entries (action.Num n) = Some (op.Num n)
+op_of p entries (action.Bin operator kind) = Some (op.Bin operator kind)
+op_of p entries (action.Un kind) = Some (op.Un kind)
+op_of p entries (action.Narrow kind) = Some (op.Narrow kind)
+op_of p entries action.Pop = Some op.Pop
+op_of p entries (action.Get depth) = Some (op.Get depth)
+op_of p entries (action.Set depth) = Some (op.Set depth)
+op_of p entries (action.PrintText bytes) = None
+op_of p entries action.PrintNum = Some op.PrintNum
+op_of p entries action.PrintByte = Some op.PrintByte
+op_of p entries action.GetChar = Some op.GetChar
+op_of p entries (action.Jump to) = Some (op.Jump (place p to))
+op_of p entries (action.JumpZero to) = Some (op.JumpZero (place p to))
+op_of p entries (action.Call f) = Some (op.Call (entry p entries f))
+op_of p entries (action.Send selector takes) = Some (op.Send selector takes)
+op_of p entries (action.SendSuper class selector takes) = Some (op.SendSuper class selector takes)
+op_of p entries action.Return = Some op.Return
+op_of p entries action.Nil = Some op.Nil
+op_of p entries action.HoldSelf = Some op.HoldSelf
+op_of p entries (action.Hold depth) = Some (op.Hold depth)
+op_of p entries (action.StoreStrong depth) = Some (op.StoreStrong depth)
+op_of p entries action.Drop = Some op.Drop
+op_of p entries (action.Empty depth) = Some (op.Empty depth)
+op_of p entries (action.Forget count) = Some (op.Forget count)
+op_of p entries action.Alloc = Some op.Alloc
+op_of p entries (action.GetField class index) = Some (op.GetField class index)
+op_of p entries (action.SetField depth class index) = Some (op.SetField depth class index)
+op_of p entries (action.Differ depth) = Some (op.Differ depth)
+op_of p entries action.IsObject = Some op.IsObject
+op_of p entries (action.SendTo depth selector takes) = Some (op.SendTo depth selector takes)
+op_of p entries (action.SendToSuper class selector takes) = Some (op.SendToSuper class selector takes)
+op_of p entries action.EndStep = Some op.EndStep
+
+-- an instruction, or those of a text that stands at `from`; the last one of a text prints 1 to 16 bytes, or none of an empty text
+abbrev pub op_or_text : Option Op → (from : ℕ) → (bytes : List ℕ) → List Op
+op_or_text (Some o) from bytes = o ∷ []
+op_or_text None from bytes = text_ops from (length bytes) ((length bytes - 1) / 16)
+
+-- the instructions of an action whose text stands at `from`
 abbrev pub action_ops : Places → (entries : List ℕ) → (from : ℕ) → Action → List Op
-action_ops p entries from (action.Num n) = op.Num n ∷ []
-action_ops p entries from (action.Bin operator kind) = op.Bin operator kind ∷ []
-action_ops p entries from (action.Un kind) = op.Un kind ∷ []
-action_ops p entries from (action.Narrow kind) = op.Narrow kind ∷ []
-action_ops p entries from action.Pop = op.Pop ∷ []
-action_ops p entries from (action.Get depth) = op.Get depth ∷ []
-action_ops p entries from (action.Set depth) = op.Set depth ∷ []
-action_ops p entries from (action.PrintText bytes) = text_ops from (length bytes.items) ((length bytes.items - 1) / 16)
-action_ops p entries from action.PrintNum = op.PrintNum ∷ []
-action_ops p entries from action.PrintByte = op.PrintByte ∷ []
-action_ops p entries from action.GetChar = op.GetChar ∷ []
-action_ops p entries from (action.Jump to) = op.Jump (place p to) ∷ []
-action_ops p entries from (action.JumpZero to) = op.JumpZero (place p to) ∷ []
-action_ops p entries from (action.Call f) = op.Call (entry p entries f) ∷ []
-action_ops p entries from (action.Send selector takes) = op.Send selector takes ∷ []
-action_ops p entries from (action.SendSuper class selector takes) = op.SendSuper class selector takes ∷ []
-action_ops p entries from action.Return = op.Return ∷ []
+action_ops p entries from a = op_or_text (op_of p entries a) from (text_of a)
 
 -- the instructions of actions whose texts stand at `from`, one after another
 abbrev pub ops_of : Places → (entries : List ℕ) → (from : ℕ) → List Action → List Op
@@ -89,11 +113,11 @@ ops_of p entries from (a ∷ rest) = action_ops p entries from a ++ ops_of p ent
 
 -- the same method, which runs the instruction where its action begins
 abbrev pub placed_method : Places → Method → Method
-placed_method p m = record { selector = m.selector; takes = m.takes; runs = place p m.runs }
+placed_method p m = record { sign = m.sign; selector = m.selector; takes = m.takes; runs = place p m.runs }
 
--- the same class, with its methods so
+-- the same class, with its methods and its dealloc so
 abbrev pub placed_class : Places → Class → Class
-placed_class p c = record { superclass = c.superclass; methods = map (placed_method p) c.methods }
+placed_class p c = record { superclass = c.superclass; methods = map (placed_method p) c.methods; dealloc = option_map (place p) c.dealloc; fields = c.fields }
 
 abbrev pub placed_classes : Places → List Class → List Class
 placed_classes p = map (placed_class p)
@@ -103,7 +127,9 @@ abbrev pub code_of : acting.Program → running.Program
 code_of p = record {
   ops = ops_of (places_of p.actions) p.entries 0 p.actions;
   texts = texts_of p.actions;
+  end_step = place (places_of p.actions) p.end_step;
   room = p.room;
+  places = p.places;
   classes = placed_classes (places_of p.actions) p.classes;
 }
 

@@ -1,15 +1,15 @@
-//! The classes of code, whose methods run instructions.
-ghost use Rattle.std.specs.Prelude.{◌≡◌, map, IfOk, IfErr};
+//! The classes of code, whose methods and deallocs run instructions.
+ghost use Rattle.std.specs.Prelude.{◌≡◌, map, option_map, IfOk, IfErr};
 ghost use Rattle.arc_spec.specs.Classes.{classes_of};
-ghost use Rattle.arc_emit.specs.Emitted.{places_in, placed_method, placed_classes};
+ghost use Rattle.arc_emit.specs.Emitted.{place, places_in, placed_method, placed_classes};
 
 use crate::fault::EmitFault;
 use crate::layout::Layout;
 use arc_spec::class::{Class, Method};
 use std::alloc::Global;
 
-/// The same classes, but that each method runs the first instruction of its action; `layout` tells where each action begins. Memory where
-/// memory is refused.
+/// The same classes, but that each method and each dealloc runs the first instruction of its action; `layout` tells where each action begins.
+/// Memory where memory is refused.
 pub fn emit_classes(
     alloc: Global,
     classes: &[Class],
@@ -24,9 +24,21 @@ pub fn emit_classes(
         placed.push(Class {
             superclass: class.superclass,
             methods,
+            dealloc: emit_dealloc(class.dealloc, layout),
+            fields: class.fields,
         })?;
     }
     Ok(placed)
+}
+
+/// The first instruction of the action that a dealloc runs, where there is a dealloc.
+fn emit_dealloc(dealloc: Option<usize>, layout: &Layout) -> Option<usize>
+    ensures { result ≡ option_map (place (places_in layout.now)) dealloc }
+{
+    match dealloc {
+        Some(runs) => Some(layout.place(runs)),
+        None => None,
+    }
 }
 
 /// The same methods, but that each runs the first instruction of its action. Memory where memory is refused.
@@ -41,6 +53,7 @@ fn emit_methods(
     let mut placed = Vec::new(alloc);
     for method in methods {
         placed.push(Method {
+            sign: method.sign,
             selector: method.selector,
             takes: method.takes,
             runs: layout.place(method.runs),

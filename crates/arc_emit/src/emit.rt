@@ -16,7 +16,8 @@ use arc_ir::action::Ir;
 use std::alloc::Global;
 
 /// The code of a program, in which a text is printed by one instruction for each 16 bytes of it, and any other action is one instruction. Its
-/// classes are those of the actions, but that each method runs the first instruction of its action.
+/// classes are those of the actions, but that each method and each dealloc runs the first instruction of its action; the ends of objects go on
+/// at the instruction of the action where those of the actions do.
 /// TooLarge where it would have over 16,777,216 instructions; Memory where memory is refused.
 pub fn emit(alloc: Global, ir: &Ir, _table: &ClassTable) -> Result<Code, EmitFault>
     requires { acting.IsSound (acting.program_of ir.now) }
@@ -46,7 +47,9 @@ fn write_code(alloc: Global, ir: &Ir) -> Result<Code, EmitFault>
     Ok(Code {
         ops,
         texts,
+        end_step: layout.place(ir.end_step),
         room: ir.room,
+        places: ir.places,
         classes,
     })
 }

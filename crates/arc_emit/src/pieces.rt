@@ -1,6 +1,6 @@
 //! The instructions of one action, and the pieces of its text.
 ghost use Rattle.std.specs.Prelude.{◌≡◌, ◌+◌, ◌-◌, ◌/◌, ◌^◌, ◌<◌, [], ◌∷◌, ◌++◌, length, OnOk, IfErr};
-ghost use Rattle.arc_emit.specs.Emitted.{places_in, action_ops, text_of, text_ops};
+ghost use Rattle.arc_emit.specs.Emitted.{places_in, op_of, action_ops, text_of, text_ops};
 
 use crate::fault::EmitFault;
 use crate::layout::Layout;
@@ -24,27 +24,62 @@ pub fn emit_action(
     ensures texts { OnOk result (texts.new.items ≡ texts.old.items ++ text_of action.now) }
     ensures memory { IfErr result (λ fault. fault ≡ EmitFault.Memory) }
 {
+    match op_of(action, layout, entries) {
+        Some(op) => push_op(ops, op),
+        None => emit_text(ops, texts, text_of(action)),
+    }
+}
+
+/// The instruction of an action, or None of a text, which may be several; `layout` tells where each action begins, and `entries` the first
+/// action of each function.
+pub fn op_of(action: &Action, layout: &Layout, entries: &[usize]) -> Option<Op>
+    ensures { result ≡ op_of (places_in layout.now) entries.now action.now }
+{
     match action {
-        Action::Num(number) => push_op(ops, Op::Num(*number)),
-        Action::Bin(operator, kind) => push_op(ops, Op::Bin(*operator, *kind)),
-        Action::Un(kind) => push_op(ops, Op::Un(*kind)),
-        Action::Narrow(kind) => push_op(ops, Op::Narrow(*kind)),
-        Action::Pop => push_op(ops, Op::Pop),
-        Action::Get(depth) => push_op(ops, Op::Get(*depth)),
-        Action::Set(depth) => push_op(ops, Op::Set(*depth)),
-        Action::PrintText(bytes) => emit_text(ops, texts, bytes),
-        Action::PrintNum => push_op(ops, Op::PrintNum),
-        Action::PrintByte => push_op(ops, Op::PrintByte),
-        Action::GetChar => push_op(ops, Op::GetChar),
-        Action::Jump(to) => push_op(ops, Op::Jump(layout.place(*to))),
-        Action::JumpZero(to) => push_op(ops, Op::JumpZero(layout.place(*to))),
-        Action::Call(function) => push_op(ops, Op::Call(layout.entry(entries, *function))),
-        Action::Send(selector, takes) => push_op(ops, Op::Send(*selector, *takes)),
-        Action::SendSuper(class, selector, takes) => push_op(
-            ops,
-            Op::SendSuper(*class, *selector, *takes),
-        ),
-        Action::Return => push_op(ops, Op::Return),
+        Action::Num(number) => Some(Op::Num(*number)),
+        Action::Bin(operator, kind) => Some(Op::Bin(*operator, *kind)),
+        Action::Un(kind) => Some(Op::Un(*kind)),
+        Action::Narrow(kind) => Some(Op::Narrow(*kind)),
+        Action::Pop => Some(Op::Pop),
+        Action::Get(depth) => Some(Op::Get(*depth)),
+        Action::Set(depth) => Some(Op::Set(*depth)),
+        Action::PrintText(_) => None,
+        Action::PrintNum => Some(Op::PrintNum),
+        Action::PrintByte => Some(Op::PrintByte),
+        Action::GetChar => Some(Op::GetChar),
+        Action::Jump(to) => Some(Op::Jump(layout.place(*to))),
+        Action::JumpZero(to) => Some(Op::JumpZero(layout.place(*to))),
+        Action::Call(function) => Some(Op::Call(layout.entry(entries, *function))),
+        Action::Send(selector, takes) => Some(Op::Send(*selector, *takes)),
+        Action::SendSuper(class, selector, takes) => Some(Op::SendSuper(*class, *selector, *takes)),
+        Action::Return => Some(Op::Return),
+        Action::Nil => Some(Op::Nil),
+        Action::HoldSelf => Some(Op::HoldSelf),
+        Action::Hold(depth) => Some(Op::Hold(*depth)),
+        Action::StoreStrong(depth) => Some(Op::StoreStrong(*depth)),
+        Action::Drop => Some(Op::Drop),
+        Action::Empty(depth) => Some(Op::Empty(*depth)),
+        Action::Forget(count) => Some(Op::Forget(*count)),
+        Action::Alloc => Some(Op::Alloc),
+        Action::GetField(class, index) => Some(Op::GetField(*class, *index)),
+        Action::SetField(depth, class, index) => Some(Op::SetField(*depth, *class, *index)),
+        Action::Differ(depth) => Some(Op::Differ(*depth)),
+        Action::IsObject => Some(Op::IsObject),
+        Action::SendTo(depth, selector, takes) => Some(Op::SendTo(*depth, *selector, *takes)),
+        Action::SendToSuper(from, selector, takes) => {
+            Some(Op::SendToSuper(*from, *selector, *takes))
+        }
+        Action::EndStep => Some(Op::EndStep),
+    }
+}
+
+/// The bytes that an action prints as they are.
+fn text_of(action: &Action) -> &[u8]
+    ensures { result.now ≡ text_of action.now }
+{
+    match action {
+        Action::PrintText(bytes) => bytes,
+        _ => &[],
     }
 }
 

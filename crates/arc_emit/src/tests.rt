@@ -3,8 +3,8 @@ use crate::classes::emit_classes;
 use crate::emit::emit;
 use crate::fault::EmitFault;
 use crate::layout::Layout;
-use crate::pieces::emit_action;
-use arc_ast::tree::{Function, Kind, Parameters, TranslationUnit};
+use crate::pieces::{emit_action, op_of};
+use arc_ast::tree::{Function, Kind, Parameters, Sign, TranslationUnit};
 use arc_class::table::ClassTable;
 use arc_code::code::Op;
 use arc_ir::action::{Action, Ir};
@@ -38,13 +38,24 @@ fn writes_code(rt: HostRuntime) -> Result<(), Fail> {
         Action::JumpZero(7),
         Action::Jump(4),
         Action::Return,
+        Action::EndStep,
+        Action::Num(0),
+        Action::Return,
     ]?;
     let entries = vec![in rt.alloc(); 4]?;
-    let classes = Vec::new(rt.alloc());
+    let class = Class {
+        superclass: None,
+        methods: Vec::new(rt.alloc()),
+        dealloc: Some(9),
+        fields: 1,
+    };
+    let classes = vec![in rt.alloc(); class]?;
     let ir = Ir {
         actions,
         entries,
+        end_step: 8,
         room: 2,
+        places: 3,
         classes,
     };
     let code = emit(rt.alloc(), &ir, &table)?;
@@ -59,11 +70,16 @@ fn writes_code(rt: HostRuntime) -> Result<(), Fail> {
         Op::JumpZero(9),
         Op::Jump(6),
         Op::Return,
+        Op::EndStep,
+        Op::Num(0),
+        Op::Return,
     ];
     assert_eq!(rt; code.ops.as_slice(), want.as_slice());
     assert_eq!(rt; code.texts.as_slice(), letters.as_slice());
-    assert_eq!(rt; code.room, 2);
-    assert_eq!(rt; code.classes.len(), 0);
+    assert_eq!(rt; (code.end_step, code.room, code.places), (10, 2, 3));
+    assert_eq!(rt; code.classes.len(), 1);
+    assert_eq!(rt; code.classes[0].dealloc, Some(11));
+    assert_eq!(rt; code.classes[0].fields, 1);
     Ok(())
 }
 
@@ -118,16 +134,44 @@ fn writes_messages(rt: HostRuntime) -> Result<(), Fail> {
 }
 
 #[test]
+fn writes_one_instruction(rt: HostRuntime) -> Result<(), Fail> {
+    let layout = Layout::of(rt.alloc(), &[])?;
+    let pairs = [
+        (Action::Nil, Op::Nil),
+        (Action::HoldSelf, Op::HoldSelf),
+        (Action::Hold(1), Op::Hold(1)),
+        (Action::StoreStrong(2), Op::StoreStrong(2)),
+        (Action::Drop, Op::Drop),
+        (Action::Empty(3), Op::Empty(3)),
+        (Action::Forget(4), Op::Forget(4)),
+        (Action::Alloc, Op::Alloc),
+        (Action::GetField(1, 2), Op::GetField(1, 2)),
+        (Action::SetField(3, 4, 5), Op::SetField(3, 4, 5)),
+        (Action::Differ(5), Op::Differ(5)),
+        (Action::IsObject, Op::IsObject),
+        (Action::SendTo(6, 7, 8), Op::SendTo(6, 7, 8)),
+        (Action::SendToSuper(9, 10, 11), Op::SendToSuper(9, 10, 11)),
+        (Action::EndStep, Op::EndStep),
+    ];
+    for (action, op) in &pairs {
+        assert_eq!(rt; op_of(action, &layout, &[]), Some(*op));
+    }
+    Ok(())
+}
+
+#[test]
 fn places_methods(rt: HostRuntime) -> Result<(), Fail> {
     let text = b"0123456789abcdefg".as_slice().to_vec(rt.alloc())?;
     let actions = [Action::PrintText(text), Action::Return];
     let layout = Layout::of(rt.alloc(), &actions)?;
     let known = Method {
+        sign: Sign::Instance,
         selector: 5,
         takes: 1,
         runs: 1,
     };
     let unknown = Method {
+        sign: Sign::Class,
         selector: 6,
         takes: 0,
         runs: 9,
@@ -135,19 +179,25 @@ fn places_methods(rt: HostRuntime) -> Result<(), Fail> {
     let root = Class {
         superclass: None,
         methods: vec![in rt.alloc(); known, unknown]?,
+        dealloc: None,
+        fields: 0,
     };
     let below = Class {
         superclass: Some(0),
         methods: Vec::new(rt.alloc()),
+        dealloc: Some(1),
+        fields: 2,
     };
     let placed = emit_classes(rt.alloc(), &[root, below], &layout)?;
     let want = [
         Method {
+            sign: Sign::Instance,
             selector: 5,
             takes: 1,
             runs: 2,
         },
         Method {
+            sign: Sign::Class,
             selector: 6,
             takes: 0,
             runs: 3,
@@ -156,8 +206,10 @@ fn places_methods(rt: HostRuntime) -> Result<(), Fail> {
     assert_eq!(rt; placed.len(), 2);
     assert_eq!(rt; placed[0].superclass, None);
     assert_eq!(rt; placed[0].methods.as_slice(), want.as_slice());
+    assert_eq!(rt; (placed[0].dealloc, placed[0].fields), (None, 0));
     assert_eq!(rt; placed[1].superclass, Some(0));
     assert_eq!(rt; placed[1].methods.len(), 0);
+    assert_eq!(rt; (placed[1].dealloc, placed[1].fields), (Some(2), 2));
     Ok(())
 }
 

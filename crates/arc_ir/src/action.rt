@@ -1,9 +1,9 @@
-//! Actions, which take numbers from a stack and put numbers on it.
+//! Actions, which take numbers from a stack and put numbers on it, and keep strong places, which name objects.
 
 use arc_ast::tree::{BinaryOperator, Kind};
 use arc_spec::class::Class;
 
-/// One action. A depth counts the numbers above the one that is meant.
+/// One action. A depth counts the numbers above the one that is meant, or the places.
 #[derive(Debug, Drop)]
 pub enum Action {
     /// Puts a number on the stack.
@@ -42,15 +42,54 @@ pub enum Action {
     /// Goes back behind the last call; with no call it takes the top number, with which the program
     /// ends.
     Return,
+    /// A further strong place, which is nil.
+    Nil,
+    /// A further strong place takes `self`.
+    HoldSelf,
+    /// A further strong place takes what the place at this depth names.
+    Hold(usize),
+    /// The place at this depth below the last one takes what that one names, and lets go of what it
+    /// named; where that was its last holder, its end begins.
+    StoreStrong(usize),
+    /// The last place lets go of what it named, and is gone.
+    Drop,
+    /// The place at this depth lets go of what it named, and is nil.
+    Empty(usize),
+    /// Forgets so many last places, which are nil.
+    Forget(usize),
+    /// Takes the number of a class, and makes an object of it, which a further place takes.
+    Alloc,
+    /// Puts the field with this number of the last place's object on the stack; the class, which comes
+    /// first, is the one whose own field it is.
+    GetField(usize, usize),
+    /// Puts the top number into the field of the object of the place at a depth; the depth comes first,
+    /// and then the class and the field's number.
+    SetField(usize, usize, usize),
+    /// Puts 1 on the stack where the last place and the one at this depth below it differ, and else 0.
+    Differ(usize),
+    /// Puts 1 on the stack where the last place isn't nil, and else 0.
+    IsObject,
+    /// A message to the object of the place at a depth, with a selector and so many arguments, which
+    /// stand on the stack: calls the method that is looked up from the object's class. To nil it takes
+    /// the arguments and puts 0.
+    SendTo(usize, usize, usize),
+    /// A message to `self`, whose method is looked up from a class; then the selector and how many
+    /// arguments it has.
+    SendToSuper(usize, usize, usize),
+    /// The end of an object goes on: with the dealloc of the next class, or to its last step, in which
+    /// the object is gone.
+    EndStep,
 }
 
-/// A program: all actions, of which the first is where it begins; where each function begins; the
-/// most numbers that the stack comes to hold; and the classes, whose methods run the action with a
-/// number.
+/// A program: all actions, of which the first is where it begins; where each function begins; where
+/// the ends of objects go on; the most numbers that the stack comes to hold, and the most strong places
+/// that there come to be; and the classes, whose methods and deallocs run the action with a number.
 #[derive(Debug, Drop)]
 pub struct Ir {
     pub actions: Vec<Action>,
     pub entries: Vec<usize>,
+    pub end_step: usize,
     pub room: usize,
+    pub places: usize,
     pub classes: Vec<Class>,
 }

@@ -1,14 +1,17 @@
 -- What orders do, and where they stand among actions.
-use Rattle.std.proofs.Common.{◌≡◌, ℕ, ◌+◌, ℤ, List, [], ◌∷◌, ◌++◌, length, Some, refl, sym, ap, ◌∙◌, subst, arith, append_assoc, length-append, nat_lt, slice_get, slice_set}
+use Rattle.std.proofs.Common.{◌≡◌, ℕ, ◌+◌, ℤ, pos, List, [], ◌∷◌, ◌++◌, length, Some, refl, sym, ap, ◌∙◌, subst, arith, append_assoc, length-append, slice_get, slice_set, slice_index_or}
 use Rattle.std.specs.Fmt.{signed_decimal}
+use Rattle.arc_ast.specs.declared.tree.Sign.TheVariants as signs
 use Rattle.arc_spec.specs.Classes.{class_at, lookup}
 use Rattle.arc_spec.specs.Number.{converted, negated, combined, is_zero, low_byte, counted, byte_or_end}
-use Rattle.arc_spec.specs.Meaning.{chosen, most_levels}
+use Rattle.arc_spec.specs.Meaning.{chosen}
+use Rattle.arc_spec.specs.Holding.{Held, Frame, with_places, raised, on_place, placed, holds, forgets, on_field, with_field}
 use Rattle.arc_spec.specs.Stepping.{Next, Goes, Asks, on_top, on_two, on_found}
 use Rattle.arc_ir.specs.declared.action.Action.{Action}
 use Rattle.arc_ir.specs.declared.action.Action.TheVariants as a
-use Rattle.arc_ir.specs.Acting.{Program, State, moved, onward, prints, goes, or_fault, enters, answers, leaves, acts, step}
-use Rattle.arc_lower.specs.Order.{Order, Num, Bin, Un, Narrow, Pop, Get, Set, PrintText, PrintNum, PrintByte, GetChar, Jump, JumpZero, Call, Send, SendSuper, Return, order, orders}
+use Rattle.arc_ir.specs.Acting.{Program, State, moved, onward, prints, goes, keeps, or_fault, has_level, enters, answers, sends, sends_up, releases, end_goes_on, leaves, allocates, difference, acts, step}
+use Rattle.arc_lower.specs.Order.{Order, Num, Bin, Un, Narrow, Pop, Get, Set, PrintText, PrintNum, PrintByte, GetChar, Jump, JumpZero, Call, Send, SendSuper, Return, Nil, HoldSelf, Hold, StoreStrong, Drop, Empty, Forget, Alloc, GetField, SetField, Differ, IsObject, SendTo, SendToSuper, EndStep, order, orders}
+use Rattle.arc_lower.proofs.Recounting.{at}
 
 -- what the action of an order does
 abbrev pub does : Program → Order → State → Next State
@@ -25,10 +28,27 @@ does p PrintByte s = on_two s.stack (λ v count rest. prints s (counted count (l
 does p GetChar s = Asks (λ answer. onward s (byte_or_end answer ∷ s.stack))
 does p (Jump to) s = Goes (moved s to s.stack) []
 does p (JumpZero to) s = on_top s.stack (λ v rest. chosen (is_zero v) (goes s rest) (Goes (moved s to rest) []))
-does p (Call f) s = on_found (slice_get p.entries f) (λ to. enters s to (nat_lt (length s.calls) most_levels))
-does p (Send selector takes) s = on_found (slice_get s.stack takes) (λ self. answers s (lookup p.classes (class_at self) selector takes))
-does p (SendSuper from selector takes) s = answers s (lookup p.classes (Some from) selector takes)
-does p Return s = on_top s.stack (λ v rest. leaves s.calls s v)
+does p (Call f) s = on_found (slice_get p.entries f) (λ to. enters s to 0 (has_level s))
+does p (Send selector takes) s = on_found (slice_get s.stack takes) (λ self. answers s 0 (lookup p.classes (class_at self) signs.Class selector takes))
+does p (SendSuper from selector takes) s = answers s 0 (lookup p.classes (Some from) signs.Class selector takes)
+does p Return s = on_top s.stack (λ v rest. leaves p s s.frames v rest)
+does p Nil s = keeps s s.stack (placed 0 s.held)
+does p HoldSelf s = holds s.held.self s.held (keeps s s.stack)
+does p (Hold depth) s = on_found (slice_get s.held.places depth) (λ r. holds r s.held (keeps s s.stack))
+does p (StoreStrong depth) s = on_place s.held.places (λ r rest. on_found (slice_get rest depth) (λ old.
+    holds r s.held (λ h. releases p s old (with_places h (r ∷ slice_set rest depth r)))))
+does p Drop s = on_place s.held.places (λ r rest. releases p s r (with_places s.held rest))
+does p (Empty depth) s = on_found (slice_get s.held.places depth) (λ r. releases p s r (raised 0 (with_places s.held (slice_set s.held.places depth 0))))
+does p (Forget count) s = forgets count s.held.places (λ rest. keeps s s.stack (with_places s.held rest))
+does p Alloc s = on_top s.stack (λ v rest. allocates p s rest (class_at v))
+does p (GetField class index) s = on_place s.held.places (λ r rest. on_field p.classes class r s.held (λ o. goes s (slice_index_or o.fields index (pos 0) ∷ s.stack)))
+does p (SetField depth class index) s = on_found (slice_get s.held.places depth) (λ r. on_top s.stack (λ v rest.
+    on_field p.classes class r s.held (λ o. keeps s s.stack (with_field s.held r o index v))))
+does p (Differ depth) s = on_place s.held.places (λ r rest. on_found (slice_get rest depth) (λ other. goes s (difference other r ∷ s.stack)))
+does p IsObject s = on_place s.held.places (λ r rest. goes s (difference r 0 ∷ s.stack))
+does p (SendTo depth selector takes) s = on_found (slice_get s.held.places depth) (λ r. sends p s r selector takes)
+does p (SendToSuper from selector takes) s = sends_up p s from s.held.self selector takes
+does p EndStep s = end_goes_on p s s.frames
 
 acts_does : (p : Program) (x : Action) (s : State) → acts p (Some x) s ≡ does p (order x) s
 acts_does p (a.Num n) s = refl
@@ -48,14 +68,26 @@ acts_does p (a.Call f) s = refl
 acts_does p (a.Send selector takes) s = refl
 acts_does p (a.SendSuper from selector takes) s = refl
 acts_does p a.Return s = refl
-
-abbrev pub at : List ℕ → ℕ → List ℤ → State
-at calls pc stack = record { at = pc; stack = stack; calls = calls }
+acts_does p a.Nil s = refl
+acts_does p a.HoldSelf s = refl
+acts_does p (a.Hold depth) s = refl
+acts_does p (a.StoreStrong depth) s = refl
+acts_does p a.Drop s = refl
+acts_does p (a.Empty depth) s = refl
+acts_does p (a.Forget count) s = refl
+acts_does p a.Alloc s = refl
+acts_does p (a.GetField class index) s = refl
+acts_does p (a.SetField depth class index) s = refl
+acts_does p (a.Differ depth) s = refl
+acts_does p a.IsObject s = refl
+acts_does p (a.SendTo depth selector takes) s = refl
+acts_does p (a.SendToSuper from selector takes) s = refl
+acts_does p a.EndStep s = refl
 
 -- the actions of these orders stand among the actions at this place
 abbrev pub HasAt : Program → ℕ → List Order → Type 0
 HasAt p pc [] = Unit {0}
-HasAt p pc (x ∷ xs) = ((calls : List ℕ) (stack : List ℤ) → step p (at calls pc stack) ≡ does p x (at calls pc stack)) × HasAt p (pc + 1) xs
+HasAt p pc (x ∷ xs) = ((frames : List Frame) (stack : List ℤ) (held : Held) → step p (at frames pc stack held) ≡ does p x (at frames pc stack held)) × HasAt p (pc + 1) xs
 
 pub has_front : (p : Program) (pc : ℕ) (a b : List Order) → HasAt p pc (a ++ b) → HasAt p pc a
 has_front p pc [] b h = tt
@@ -76,7 +108,9 @@ has_from p [] before e = tt
 has_from p (x ∷ is) before e =
     let n : length (before ++ x ∷ []) ≡ length before + 1 = omega (arith, length-append before (x ∷ [])) in
     let rest = has_from p is (before ++ x ∷ []) (e ∙ sym (append_assoc before (x ∷ []) is)) in
-    (λ calls stack. ap (λ l. acts p (slice_get l (length before)) (at calls (length before) stack)) e ∙ ap (λ o. acts p o (at calls (length before) stack)) (get_seam before is x) ∙ acts_does p x (at calls (length before) stack), subst (λ m. HasAt p m (orders is)) n rest)
+    (λ frames stack held.
+    let s = at frames (length before) stack held in
+    ap (λ l. acts p (slice_get l (length before)) s) e ∙ ap (λ o. acts p o s) (get_seam before is x) ∙ acts_does p x s, subst (λ m. HasAt p m (orders is)) n rest)
 
 pub has_all : (p : Program) → HasAt p 0 (orders p.actions)
 has_all p = has_from p p.actions [] refl

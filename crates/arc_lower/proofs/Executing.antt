@@ -1,173 +1,361 @@
 -- A run executes statements, and leaves its function.
-use Rattle.std.proofs.Common.{◌≡◌, ℕ, zero, suc, ◌+◌, ◌≤◌, ℤ, pos, Bool, true, false, List, [], ◌∷◌, ◌++◌, length, Some, None, refl, ap, subst, arith, length-append}
+use Rattle.std.proofs.Common.{◌≡◌, ℕ, zero, suc, ◌+◌, ◌-◌, ◌≤◌, ℤ, pos, Bool, true, false, List, [], ◌∷◌, ◌++◌, length, Some, None, refl, sym, ap, ◌∙◌, subst, arith, length-append, slice_set}
+use Rattle.std.proofs.lemmas.List.{length-set, append-nil}
 use Rattle.arc_spec.specs.Number.{is_zero}
-use Rattle.arc_spec.specs.Resolved.{Value, Command, Sequence, Evaluate, Choose, Repeat, Commands, no_commands, and_command}
+use Rattle.arc_spec.specs.Objects.{nils}
+use Rattle.arc_spec.specs.Resolved.{Value, Reference, Command, Sequence, Evaluate, EvaluateReference, Begin, Choose, Repeat, Commands, no_commands, and_command, Function}
 use Rattle.arc_spec.specs.Resolved as resolved
-use Rattle.arc_spec.specs.Meaning.{Deeper, evaluated, Flow, Normal, Returned, if_normal, chosen, turns, executed, all_executed, given}
-use Rattle.arc_spec.specs.World.{World, Outcome, Done, Faulted, Cut, then_do}
-use Rattle.arc_spec.specs.Stepping.{Reached, Goes, follow}
-use Rattle.arc_ir.specs.Acting.{Program, State, step}
-use Rattle.arc_lower.specs.Order.{Order, Num, Pop, Jump, JumpZero, Return}
-use Rattle.arc_lower.specs.Lowered.{keep_orders, value_orders, leave_orders, command_orders, all_command_orders, function_orders}
-use Rattle.arc_lower.proofs.Leading.{Leads, leads_same, leads_trans, leads_step, Runs, leads_runs, later_runs, fewer_runs, then_runs}
-use Rattle.arc_lower.proofs.Doing.{at, HasAt, has_front, has_back}
-use Rattle.arc_lower.proofs.Segments.{running, then_at, one_segment, quiet, one_passes}
+use Rattle.arc_spec.specs.Meaning.{Deeper, evaluated, referred, all_dropped, assigned, variables_dropped, whole, whole_reference, begun, Flow, Normal, Returned, if_normal, chosen, turns, scope_left, executed, all_executed, given, called}
+use Rattle.arc_spec.specs.World as world
+use Rattle.arc_spec.specs.World.{World, Outcome, Done, Faulted, Cut, Finished, then_do, places, first_locals, entered, left, with_temporaries, stores}
+use Rattle.arc_spec.specs.Holding.{Held, Frame, holders, with_places, forgets}
+use Rattle.arc_spec.specs.Stepping.{Next, Reached, Goes, follow}
+use Rattle.arc_ir.specs.Acting.{Program, State, keeps}
+use Rattle.arc_ir.specs.Acting as acting
+use Rattle.arc_lower.specs.Order.{Order, Num, Pop, Jump, JumpZero, Return, Nil, Forget}
+use Rattle.arc_lower.specs.Lowered.{value_takes, reference_takes, keep_orders, nil_orders, store_orders, drop_orders, all_empty_orders, value_orders, reference_orders, whole_orders, whole_reference_orders, begin_orders, leave_orders, command_orders, all_command_orders, body_orders}
+use Rattle.arc_lower.proofs.CountsThere.{AllThere, placed_there}
+use Rattle.arc_lower.proofs.Leading.{Leads, leads_same, leads_trans, leads_step, Runs, leads_runs, later_runs, fewer_runs, then_runs, better_runs}
+use Rattle.arc_lower.proofs.Recounting.{fresh, recount, moves, at, held_of}
+use Rattle.arc_lower.proofs.Doing.{does, HasAt, has_front, has_back}
+use Rattle.arc_lower.proofs.Segments.{running, then_at, then_segment, one_segment, quiet, Passes, then_passes, one_passes, no_passes}
 use Rattle.arc_lower.proofs.Stacking.{onto}
 use Rattle.arc_lower.proofs.Printing.{keep_passes}
-use Rattle.arc_lower.proofs.Evaluating.{Deep, value_segment}
+use Rattle.arc_lower.proofs.Standing.{last_there, Fine, Alive, IsFramed, Kept, Took, took_length}
+use Rattle.arc_lower.proofs.Releasing.{stays, empties, emptied, store_segment, dropped_segment, empties_segment}
+use Rattle.arc_lower.proofs.Evaluating.{Deep, value_segment, reference_segment, above, beside, Behind, Referred}
 
-module _ (p : Program) (back : ℕ) (others : List ℕ) (bound : ℕ) (R : resolved.Program) (slots : ℕ) (below : List ℤ) (D : Deeper) (deep : Deep p (back ∷ others) bound R D) where
-  abbrev calls : List ℕ
-  calls = back ∷ others
+empties_length : (first count : ℕ) (strong : List ℕ) → length (empties first count strong) ≡ length strong
+empties_length first zero strong = refl
+empties_length first (suc n) strong = empties_length first n (slice_set strong (first + n) 0) ∙ length-set strong (first + n) 0
 
+empties_head : (n r : ℕ) (strong : List ℕ) → empties 0 (suc n) (r ∷ strong) ≡ 0 ∷ empties 0 n strong
+empties_head zero r strong = refl
+empties_head (suc n) r strong =
+    let e : 0 + suc n ≡ suc (0 + n) = omega arith in
+    ap (λ i. empties 0 (suc n) (slice_set (r ∷ strong) i 0)) e ∙ empties_head n r (slice_set strong (0 + n) 0)
+
+-- all variables are emptied
+empties_all : (strong : List ℕ) → empties 0 (length strong) strong ≡ nils (length strong)
+empties_all [] = refl
+empties_all (r ∷ strong) = empties_head (length strong) r strong ∙ ap (λ l. 0 ∷ l) (empties_all strong)
+
+forgets_nils : {S : Type 0} → (n : ℕ) (rest : List ℕ) (go : List ℕ → Next S) → forgets n (nils n ++ rest) go ≡ go rest
+forgets_nils zero rest go = refl
+forgets_nils (suc n) rest go = forgets_nils n rest go
+
+pub nils_length : (n : ℕ) → length (nils n) ≡ n
+nils_length zero = refl
+nils_length (suc n) = ap suc (nils_length n)
+
+-- in a function that was entered, and left for what waited for it before
+module _ (p : Program) (frames : List Frame) (bound : ℕ) (R : resolved.Program) (slots names self : ℕ) (before : World) (below : List ℤ) (D : Deeper) (deep : Deep p frames bound R D) (alive : Alive frames (places before) self) (exit : ℕ) where
   abbrev vars : World → List ℤ
-  vars w = onto w.locals below
+  vars w = onto w.frame.locals below
 
   -- behind a statement, by how it is left
   abbrev flows : ℕ → Flow → World → Reached State
-  flows pc Normal w = running calls pc (vars w) w
-  flows pc (Returned v) w = running others back (v ∷ below) w
+  flows pc Normal w = running frames pc (vars w) w
+  flows pc (Returned v) w = running frames exit (v ∷ vars w) w
+
+  -- between full-expressions
+  abbrev Calm : World → Type 0
+  Calm w = IsFramed frames slots names self (places before) w.frame w.waiting w.objects × (w.frame.temporaries ≡ [])
 
   abbrev Good : {A : Type 0} → A → World → Type 0
-  Good a w = length w.locals ≡ slots
+  Good a w = Calm w
 
   abbrev valued : ℕ → ℤ → World → Reached State
-  valued pc v w = running calls pc (v ∷ vars w) w
+  valued pc v w = running frames pc (v ∷ vars w) w
 
-  value_runs : (a : Value) (w : World) (pc : ℕ) → length w.locals ≡ slots → HasAt p pc (value_orders R slots 0 a) → Runs (step p) Good bound (running calls pc (vars w) w) (valued (pc + length (value_orders R slots 0 a))) (evaluated D a w)
-  value_runs a w pc g has = value_segment p calls bound R slots below D deep a [] w g pc has
+  abbrev passed : ℕ → Finished → World → Reached State
+  passed pc done w = running frames pc (vars w) w
 
-  -- the function is left with the number on top
-  leave_leads : (v : ℤ) (w : World) (pc : ℕ) → length w.locals ≡ slots → HasAt p pc (leave_orders slots) → Leads (step p) (running calls pc (v ∷ vars w) w) (running others back (v ∷ below) w)
-  leave_leads v w pc g has =
-      let keep = keep_orders slots in
-      let q = pc + length keep in
-      let kept = subst (λ n. HasAt p pc (keep_orders n) → Leads (step p) (running calls pc (v ∷ vars w) w) (running calls (pc + length (keep_orders n)) (v ∷ below) w)) g (λ h. keep_passes p calls bound w.locals below v w pc h) (has_front p pc keep (Return ∷ []) has) in
-      let last = has_back p pc keep (Return ∷ []) has in
-      leads_trans (step p) (running calls pc (v ∷ vars w) w) (running calls q (v ∷ below) w) (running others back (v ∷ below) w) kept
-      (leads_trans (step p) (running calls q (v ∷ below) w) (follow (Goes (at others back (v ∷ below)) []) w.input w.trace) (running others back (v ∷ below) w) (leads_step (step p) (at calls q (v ∷ below)) w.input w.trace (Goes (at others back (v ∷ below)) []) (last.0 calls (v ∷ below))) (quiet p others bound back (v ∷ below) w))
+  -- the temporaries are dropped
+  dropped_calm : (w w1 : World) → IsFramed frames slots names self (places before) w.frame w.waiting w.objects → Kept frames (with_temporaries w []) w1 → Calm w1
+  dropped_calm w w1 g k = (record {
+    locals = ap (λ (f : world.Frame). length f.locals) k.frame ∙ g.locals;
+    strong = ap (λ (f : world.Frame). length f.strong) k.frame ∙ g.strong;
+    itself = ap (λ (f : world.Frame). f.self) k.frame ∙ g.itself;
+    waits = k.waiting ∙ g.waits;
+    fine = k.fine;
+  }, ap (λ (f : world.Frame). f.temporaries) k.frame)
 
-  zero_leads : (w : World) (pc : ℕ) → HasAt p pc (Num (pos 0) ∷ []) → Leads (step p) (running calls pc (vars w) w) (running calls (pc + 1) (pos 0 ∷ vars w) w)
-  zero_leads w pc has = one_passes p calls bound (Num (pos 0)) (vars w) w (pos 0 ∷ vars w) w (λ q. quiet p calls bound (q + 1) (pos 0 ∷ vars w) w) pc has
+  no_temporaries : (w : World) → Calm w → 0 ≡ length w.frame.temporaries
+  no_temporaries w g = sym (ap length g.1)
 
-  zero_leave : (w : World) (pc : ℕ) → length w.locals ≡ slots → HasAt p pc (Num (pos 0) ∷ leave_orders slots) → Leads (step p) (running calls pc (vars w) w) (running others back (pos 0 ∷ below) w)
-  zero_leave w pc g has = leads_trans (step p) (running calls pc (vars w) w) (running calls (pc + 1) (pos 0 ∷ vars w) w) (running others back (pos 0 ∷ below) w) (zero_leads w pc (has.0, tt)) (leave_leads (pos 0) w (pc + 1) g has.1)
+  all_taken : (n : ℕ) (w w1 : World) → Calm w → Took n w.frame.temporaries w1.frame.temporaries → n ≡ length w1.frame.temporaries
+  all_taken n w w1 g took = let h = took_length n 0 w.frame.temporaries w1.frame.temporaries took (no_temporaries w g) in omega (arith, h)
+
+  -- a full-expression
+  whole_runs : (a : Value) (w : World) (pc : ℕ) → Calm w → HasAt p pc (whole_orders R slots names a) → Runs (moves p) Good bound (running frames pc (vars w) w) (valued (pc + length (whole_orders R slots names a))) (whole D a w)
+  whole_runs a w pc g has =
+      let n = value_takes a in
+      let xs = value_orders R slots names 0 0 a in
+      then_segment p frames bound (λ v w1. Behind p frames bound R slots names self (places before) below D deep alive n w w1) Good xs (drop_orders n) (vars w) w (above p frames bound R slots names self (places before) below D deep alive []) valued (evaluated D a w) (λ v w1. then_do (all_dropped D w1) (λ _ w2. Done v w2)) (value_segment p frames bound R slots names self (places before) below D deep alive a [] 0 w (no_temporaries w g) g.0) (λ v w1 h q has1.
+      let stack = v ∷ vars w1 in
+      let end = q + length (drop_orders n) in
+      then_runs (moves p) (λ (done : Finished) w2. Kept frames (with_temporaries w1 []) w2) Good bound (running frames q stack w1) (stays p frames bound D deep.ends stack end) (valued end) (all_dropped D w1) (λ _ w2. Done v w2) (dropped_segment p frames bound D deep.ends n stack w1 (all_taken n w w1 g h.1) h.0.fine q has1) (λ done w2 k.
+      (dropped_calm w1 w2 h.0 k, leads_same (moves p) _ _ (ap (λ (f : world.Frame). running frames end (v ∷ onto f.locals below) w2) (sym k.frame))))) pc has
+
+  -- all temporaries are dropped, of which there are so many
+  drops_runs : (n : ℕ) (w w1 : World) (q : ℕ) → Calm w → IsFramed frames slots names self (places before) w1.frame w1.waiting w1.objects → Took n w.frame.temporaries w1.frame.temporaries → HasAt p q (drop_orders n) → Runs (moves p) Good bound (running frames q (vars w1) w1) (passed (q + length (drop_orders n))) (all_dropped D w1)
+  drops_runs n w w1 q g h took has =
+      let end = q + length (drop_orders n) in
+      better_runs (moves p) (λ (done : Finished) w2. Kept frames (with_temporaries w1 []) w2) Good bound (running frames q (vars w1) w1) (stays p frames bound D deep.ends (vars w1) end) (passed end) (all_dropped D w1) (λ done w2 k.
+      (dropped_calm w1 w2 h k, ap (λ (f : world.Frame). running frames end (onto f.locals below) w2) (sym k.frame))) (dropped_segment p frames bound D deep.ends n (vars w1) w1 (all_taken n w w1 g took) h.fine q has)
+
+  reference_runs : (a : Reference) (w : World) (pc : ℕ) → Calm w → HasAt p pc (whole_reference_orders R slots names a) → Runs (moves p) Good bound (running frames pc (vars w) w) (passed (pc + length (whole_reference_orders R slots names a))) (whole_reference D a w)
+  reference_runs a w pc g has =
+      let n = reference_takes a in
+      let xs = reference_orders R slots names 0 0 a in
+      then_segment p frames bound (Referred p frames bound R slots names self (places before) below D deep alive n w) Good xs (drop_orders n) (vars w) w (beside p frames bound R slots names self (places before) below D deep alive []) passed (referred D a w) (λ _ w1. all_dropped D w1) (reference_segment p frames bound R slots names self (places before) below D deep alive a [] 0 w (no_temporaries w g) g.0) (λ r w1 h q has1.
+      drops_runs n w w1 q g h.0 h.1 has1) pc has
+
+  -- a variable begins
+  begin_runs : (i : ℕ) (a : Reference) (w : World) (pc : ℕ) → Calm w → HasAt p pc (begin_orders R slots names i a) → Runs (moves p) Good bound (running frames pc (vars w) w) (passed (pc + length (begin_orders R slots names i a))) (begun D i a w)
+  begin_runs i a w pc g has =
+      let n = reference_takes a in
+      let xs = reference_orders R slots names 0 0 a in
+      let ys = store_orders names (n - 1) i in
+      let zs = drop_orders n in
+      then_segment p frames bound (Referred p frames bound R slots names self (places before) below D deep alive n w) Good xs (ys ++ zs) (vars w) w (beside p frames bound R slots names self (places before) below D deep alive []) passed (referred D a w) (λ r w1. then_do (assigned D i r w1) (λ _ w2. all_dropped D w2)) (reference_segment p frames bound R slots names self (places before) below D deep alive a [] 0 w (no_temporaries w g) g.0) (λ r w1 h q has1.
+      let size : n - 1 ≡ length h.2.0 = omega (arith, all_taken n w w1 g h.1, ap length h.2.1) in
+      then_segment p frames bound (λ (done : Finished) w2. Kept frames (stores i r w1) w2) Good ys zs (vars w1) w1 (stays p frames bound D deep.ends (vars w1)) passed (assigned D i r w1) (λ _ w2. all_dropped D w2) (store_segment p frames bound D deep.ends names (n - 1) i r h.2.0 (vars w1) w1 h.0.strong h.2.1 size h.0.fine) (λ done w2 k q2 has2.
+      let same : vars w2 ≡ vars w1 = ap (λ (f : world.Frame). onto f.locals below) k.frame in
+      let framed2 : IsFramed frames slots names self (places before) w2.frame w2.waiting w2.objects = record {
+        locals = ap (λ (f : world.Frame). length f.locals) k.frame ∙ h.0.locals;
+        strong = ap (λ (f : world.Frame). length f.strong) k.frame ∙ length-set w1.frame.strong i r ∙ h.0.strong;
+        itself = ap (λ (f : world.Frame). f.self) k.frame ∙ h.0.itself;
+        waits = k.waiting ∙ h.0.waits;
+        fine = k.fine;
+      } in
+      let took2 = subst (λ (f : world.Frame). Took n w.frame.temporaries f.temporaries) (sym k.frame) h.1 in
+      subst (λ s. Runs (moves p) Good bound (running frames q2 s w2) (passed (q2 + length zs)) (all_dropped D w2)) same (drops_runs n w w2 q2 g framed2 took2 has2)) q has1) pc has
 
   -- a jump leads there
-  abbrev jump_leads : (to : ℕ) (stack : List ℤ) (w : World) (pc : ℕ) → HasAt p pc (Jump to ∷ []) → Leads (step p) (running calls pc stack w) (follow (Goes (at calls to stack) []) w.input w.trace)
-  jump_leads to stack w pc has = leads_step (step p) (at calls pc stack) w.input w.trace (Goes (at calls to stack) []) (has.0 calls stack)
+  abbrev jump_leads : (to : ℕ) (stack : List ℤ) (w : World) (pc : ℕ) → HasAt p pc (Jump to ∷ []) → Leads (moves p) (running frames pc stack w) (follow (Goes (at frames to stack (held_of w)) []) w.input w.trace)
+  jump_leads to stack w pc has = leads_step (moves p) (at frames pc stack (held_of w)) w.input w.trace (Goes (at frames to stack (held_of w)) []) (ap recount (has.0 frames stack (held_of w)))
+
+  -- the function is to be left with the number on top
+  return_leads : (v : ℤ) (w : World) (pc : ℕ) → HasAt p pc (Jump exit ∷ []) → Leads (moves p) (running frames pc (v ∷ vars w) w) (running frames exit (v ∷ vars w) w)
+  return_leads v w pc has =
+      leads_trans (moves p) (running frames pc (v ∷ vars w) w) (follow (Goes (at frames exit (v ∷ vars w) (held_of w)) []) w.input w.trace) (running frames exit (v ∷ vars w) w) (jump_leads exit (v ∷ vars w) w pc has) (quiet p frames bound exit (v ∷ vars w) w)
+
+  zero_leads : (w : World) (pc : ℕ) → HasAt p pc (Num (pos 0) ∷ []) → Leads (moves p) (running frames pc (vars w) w) (running frames (pc + 1) (pos 0 ∷ vars w) w)
+  zero_leads w pc has = one_passes p frames bound (Num (pos 0)) (vars w) w (pos 0 ∷ vars w) w (λ q. quiet p frames bound (q + 1) (pos 0 ∷ vars w) w) pc has
+
+  zero_returns : (w : World) (pc : ℕ) → HasAt p pc (Num (pos 0) ∷ Jump exit ∷ []) → Leads (moves p) (running frames pc (vars w) w) (running frames exit (pos 0 ∷ vars w) w)
+  zero_returns w pc has = leads_trans (moves p) (running frames pc (vars w) w) (running frames (pc + 1) (pos 0 ∷ vars w) w) (running frames exit (pos 0 ∷ vars w) w) (zero_leads w pc (has.0, tt)) (return_leads (pos 0) w (pc + 1) has.1)
 
   -- by the number on top a run goes on behind the test, or elsewhere
-  branch_by : (b : Bool) (bound' pc to : ℕ) (stack : List ℤ) (w : World) (exit : Flow → World → Reached State) (x y : Outcome Flow) → Runs (step p) Good bound' (running calls pc stack w) exit x → Runs (step p) Good bound' (running calls to stack w) exit y → Runs (step p) Good bound' (follow (chosen b (Goes (at calls pc stack) []) (Goes (at calls to stack) [])) w.input w.trace) exit (chosen b x y)
-  branch_by false bound' pc to stack w exit x y one two = leads_runs (step p) Good bound' (follow (Goes (at calls pc stack) []) w.input w.trace) (running calls pc stack w) exit x (quiet p calls bound pc stack w) one
-  branch_by true bound' pc to stack w exit x y one two = leads_runs (step p) Good bound' (follow (Goes (at calls to stack) []) w.input w.trace) (running calls to stack w) exit y (quiet p calls bound to stack w) two
+  branch_by : (b : Bool) (bound' pc to : ℕ) (stack : List ℤ) (w : World) (exit : Flow → World → Reached State) (x y : Outcome Flow) → Runs (moves p) Good bound' (running frames pc stack w) exit x → Runs (moves p) Good bound' (running frames to stack w) exit y → Runs (moves p) Good bound' (follow (recount (chosen b (Goes (at frames pc stack (held_of w)) []) (Goes (at frames to stack (held_of w)) []))) w.input w.trace) exit (chosen b x y)
+  branch_by false bound' pc to stack w exit x y one two = leads_runs (moves p) Good bound' (follow (Goes (at frames pc stack (held_of w)) []) w.input w.trace) (running frames pc stack w) exit x (quiet p frames bound pc stack w) one
+  branch_by true bound' pc to stack w exit x y one two = leads_runs (moves p) Good bound' (follow (Goes (at frames to stack (held_of w)) []) w.input w.trace) (running frames to stack w) exit y (quiet p frames bound to stack w) two
 
-  branch_runs : (bound' pc to : ℕ) (v : ℤ) (stack : List ℤ) (w : World) (exit : Flow → World → Reached State) (x y : Outcome Flow) → HasAt p pc (JumpZero to ∷ []) → Runs (step p) Good bound' (running calls (pc + 1) stack w) exit x → Runs (step p) Good bound' (running calls to stack w) exit y → Runs (step p) Good bound' (running calls pc (v ∷ stack) w) exit (chosen (is_zero v) x y)
+  branch_runs : (bound' pc to : ℕ) (v : ℤ) (stack : List ℤ) (w : World) (exit : Flow → World → Reached State) (x y : Outcome Flow) → HasAt p pc (JumpZero to ∷ []) → Runs (moves p) Good bound' (running frames (pc + 1) stack w) exit x → Runs (moves p) Good bound' (running frames to stack w) exit y → Runs (moves p) Good bound' (running frames pc (v ∷ stack) w) exit (chosen (is_zero v) x y)
   branch_runs bound' pc to v stack w exit x y has one two =
-      let next = chosen (is_zero v) (Goes (at calls (pc + 1) stack) []) (Goes (at calls to stack) []) in
-      leads_runs (step p) Good bound' (running calls pc (v ∷ stack) w) (follow next w.input w.trace) exit (chosen (is_zero v) x y) (leads_step (step p) (at calls pc (v ∷ stack)) w.input w.trace next (has.0 calls (v ∷ stack))) (branch_by (is_zero v) bound' (pc + 1) to stack w exit x y one two)
+      let next = recount (chosen (is_zero v) (Goes (at frames (pc + 1) stack (held_of w)) []) (Goes (at frames to stack (held_of w)) [])) in
+      leads_runs (moves p) Good bound' (running frames pc (v ∷ stack) w) (follow next w.input w.trace) exit (chosen (is_zero v) x y) (leads_step (moves p) (at frames pc (v ∷ stack) (held_of w)) w.input w.trace next (ap recount (has.0 frames (v ∷ stack) (held_of w)))) (branch_by (is_zero v) bound' (pc + 1) to stack w exit x y one two)
 
   -- what a run does of a statement at a place
   abbrev Performs : List Order → ℕ → (World → Outcome Flow) → Type 0
-  Performs xs pc go = (w : World) → length w.locals ≡ slots → Runs (step p) Good bound (running calls pc (vars w) w) (flows (pc + length xs)) (go w)
+  Performs xs pc go = (w : World) → Calm w → Runs (moves p) Good bound (running frames pc (vars w) w) (flows (pc + length xs)) (go w)
 
-  module _ (place : ℕ) (test : Value) (xs : List Order) (body : World → Outcome Flow) (done : Performs xs (place + length (value_orders R slots 0 test) + 1) body) where
+  module _ (place : ℕ) (test : Value) (xs : List Order) (body : World → Outcome Flow) (done : Performs xs (place + length (whole_orders R slots names test) + 1) body) where
     abbrev inside : ℕ
-    inside = place + length (value_orders R slots 0 test) + 1
+    inside = place + length (whole_orders R slots names test) + 1
 
     abbrev behind : ℕ
     behind = inside + length xs + 1
 
-    loop_runs : (n : ℕ) → n ≤ bound → HasAt p place (value_orders R slots 0 test) → HasAt p (place + length (value_orders R slots 0 test)) (JumpZero behind ∷ []) → HasAt p (inside + length xs) (Jump place ∷ []) → (w : World) → length w.locals ≡ slots → Runs (step p) Good n (running calls place (vars w) w) (flows behind) (turns n (evaluated D test) body w)
+    loop_runs : (n : ℕ) → n ≤ bound → HasAt p place (whole_orders R slots names test) → HasAt p (place + length (whole_orders R slots names test)) (JumpZero behind ∷ []) → HasAt p (inside + length xs) (Jump place ∷ []) → (w : World) → Calm w → Runs (moves p) Good n (running frames place (vars w) w) (flows behind) (turns n (whole D test) body w)
     loop_runs zero le h1 h2 h3 w g =
-        let q = place + length (value_orders R slots 0 test) in
-        then_runs (step p) Good Good 0 (running calls place (vars w) w) (valued q) (flows behind) (evaluated D test w) (λ v w1. chosen (is_zero v) (Cut w1) (Done Normal w1)) (fewer_runs (step p) Good 0 bound (running calls place (vars w) w) (valued q) (evaluated D test w) le (value_runs test w place g h1)) (λ v w1 g1.
-        branch_runs 0 q behind v (vars w1) w1 (flows behind) (Cut w1) (Done Normal w1) h2 (0, at calls (q + 1) (vars w1), omega arith, refl) (g1, leads_same (step p) _ _ refl))
+        let q = place + length (whole_orders R slots names test) in
+        then_runs (moves p) Good Good 0 (running frames place (vars w) w) (valued q) (flows behind) (whole D test w) (λ v w1. chosen (is_zero v) (Cut w1) (Done Normal w1)) (fewer_runs (moves p) Good 0 bound (running frames place (vars w) w) (valued q) (whole D test w) le (whole_runs test w place g h1)) (λ v w1 g1.
+        branch_runs 0 q behind v (vars w1) w1 (flows behind) (Cut w1) (Done Normal w1) h2 (0, at frames (q + 1) (vars w1) (held_of w1), omega arith, refl) (g1, leads_same (moves p) _ _ refl))
     loop_runs (suc n) le h1 h2 h3 w g =
-        let q = place + length (value_orders R slots 0 test) in
-        let again = λ (flow : Flow) (w2 : World). if_normal flow (turns n (evaluated D test) body) w2 in
-        then_runs (step p) Good Good (suc n) (running calls place (vars w) w) (valued q) (flows behind) (evaluated D test w) (λ v w1. chosen (is_zero v) (then_do (body w1) again) (Done Normal w1)) (fewer_runs (step p) Good (suc n) bound (running calls place (vars w) w) (valued q) (evaluated D test w) le (value_runs test w place g h1)) (λ v w1 g1.
+        let q = place + length (whole_orders R slots names test) in
+        let again = λ (flow : Flow) (w2 : World). if_normal flow (turns n (whole D test) body) w2 in
+        then_runs (moves p) Good Good (suc n) (running frames place (vars w) w) (valued q) (flows behind) (whole D test w) (λ v w1. chosen (is_zero v) (then_do (body w1) again) (Done Normal w1)) (fewer_runs (moves p) Good (suc n) bound (running frames place (vars w) w) (valued q) (whole D test w) le (whole_runs test w place g h1)) (λ v w1 g1.
         branch_runs (suc n) q behind v (vars w1) w1 (flows behind) (then_do (body w1) again) (Done Normal w1) h2
-        (then_runs (step p) Good Good (suc n) (running calls inside (vars w1) w1) (flows (inside + length xs)) (flows behind) (body w1) again (fewer_runs (step p) Good (suc n) bound (running calls inside (vars w1) w1) (flows (inside + length xs)) (body w1) le (done w1 g1)) (λ flow w2 g2. turned n flow w2 g2 h3 (λ w3 g3. loop_runs n (omega (arith, le)) h1 h2 h3 w3 g3)))
-        (g1, leads_same (step p) _ _ refl))
+        (then_runs (moves p) Good Good (suc n) (running frames inside (vars w1) w1) (flows (inside + length xs)) (flows behind) (body w1) again (fewer_runs (moves p) Good (suc n) bound (running frames inside (vars w1) w1) (flows (inside + length xs)) (body w1) le (done w1 g1)) (λ flow w2 g2. turned n flow w2 g2 h3 (λ w3 g3. loop_runs n (omega (arith, le)) h1 h2 h3 w3 g3)))
+        (g1, leads_same (moves p) _ _ refl))
       where
-        turned : (n : ℕ) (flow : Flow) (w2 : World) → length w2.locals ≡ slots → HasAt p (inside + length xs) (Jump place ∷ []) → ((w3 : World) → length w3.locals ≡ slots → Runs (step p) Good n (running calls place (vars w3) w3) (flows behind) (turns n (evaluated D test) body w3)) → Runs (step p) Good (suc n) (flows (inside + length xs) flow w2) (flows behind) (if_normal flow (turns n (evaluated D test) body) w2)
+        turned : (n : ℕ) (flow : Flow) (w2 : World) → Calm w2 → HasAt p (inside + length xs) (Jump place ∷ []) → ((w3 : World) → Calm w3 → Runs (moves p) Good n (running frames place (vars w3) w3) (flows behind) (turns n (whole D test) body w3)) → Runs (moves p) Good (suc n) (flows (inside + length xs) flow w2) (flows behind) (if_normal flow (turns n (whole D test) body) w2)
         turned n Normal w2 g2 h3 again =
-            let s = running calls (inside + length xs) (vars w2) w2 in
-            let moved = follow (Goes (at calls place (vars w2)) []) w2.input w2.trace in
+            let s = running frames (inside + length xs) (vars w2) w2 in
+            let moved = follow (Goes (at frames place (vars w2) (held_of w2)) []) w2.input w2.trace in
             let one : (jump_leads place (vars w2) w2 (inside + length xs) h3).steps ≡ 1 = refl in
-            later_runs (step p) Good n s moved (flows behind) (turns n (evaluated D test) body w2) (jump_leads place (vars w2) w2 (inside + length xs) h3) (omega (arith, one)) (leads_runs (step p) Good n moved (running calls place (vars w2) w2) (flows behind) (turns n (evaluated D test) body w2) (quiet p calls bound place (vars w2) w2) (again w2 g2))
-        turned n (Returned v) w2 g2 h3 again = (g2, leads_same (step p) _ _ refl)
+            later_runs (moves p) Good n s moved (flows behind) (turns n (whole D test) body w2) (jump_leads place (vars w2) w2 (inside + length xs) h3) (omega (arith, one)) (leads_runs (moves p) Good n moved (running frames place (vars w2) w2) (flows behind) (turns n (whole D test) body w2) (quiet p frames bound place (vars w2) w2) (again w2 g2))
+        turned n (Returned v) w2 g2 h3 again = (g2, leads_same (moves p) _ _ refl)
 
-  if_normal_runs : (pc end : ℕ) (flow : Flow) (go : World → Outcome Flow) (w : World) → length w.locals ≡ slots → ((w : World) → length w.locals ≡ slots → Runs (step p) Good bound (running calls pc (vars w) w) (flows end) (go w)) → Runs (step p) Good bound (flows pc flow w) (flows end) (if_normal flow go w)
+  if_normal_runs : (pc end : ℕ) (flow : Flow) (go : World → Outcome Flow) (w : World) → Calm w → ((w : World) → Calm w → Runs (moves p) Good bound (running frames pc (vars w) w) (flows end) (go w)) → Runs (moves p) Good bound (flows pc flow w) (flows end) (if_normal flow go w)
   if_normal_runs pc end Normal go w g next = next w g
-  if_normal_runs pc end (Returned v) go w g next = (g, leads_same (step p) _ _ refl)
+  if_normal_runs pc end (Returned v) go w g next = (g, leads_same (moves p) _ _ refl)
 
   -- behind the first of a choice, the run goes on behind all
-  skip_runs : (pc end : ℕ) (o : Outcome Flow) (r : Reached State) → HasAt p pc (Jump end ∷ []) → Runs (step p) Good bound r (flows pc) o → Runs (step p) Good bound r (flows end) o
+  skip_runs : (pc end : ℕ) (o : Outcome Flow) (r : Reached State) → HasAt p pc (Jump end ∷ []) → Runs (moves p) Good bound r (flows pc) o → Runs (moves p) Good bound r (flows end) o
   skip_runs pc end (Done Normal w) r has q =
-      let moved = follow (Goes (at calls end (vars w)) []) w.input w.trace in
-      (q.0, leads_trans (step p) r (running calls pc (vars w) w) (running calls end (vars w) w) q.1 (leads_trans (step p) (running calls pc (vars w) w) moved (running calls end (vars w) w) (jump_leads end (vars w) w pc has) (quiet p calls bound end (vars w) w)))
+      let moved = follow (Goes (at frames end (vars w) (held_of w)) []) w.input w.trace in
+      (q.0, leads_trans (moves p) r (running frames pc (vars w) w) (running frames end (vars w) w) q.1 (leads_trans (moves p) (running frames pc (vars w) w) moved (running frames end (vars w) w) (jump_leads end (vars w) w pc has) (quiet p frames bound end (vars w) w)))
   skip_runs pc end (Done (Returned v) w) r has q = q
   skip_runs pc end (Faulted f w) r has q = q
   skip_runs pc end (Cut w) r has q = q
 
+  normal_runs : (pc : ℕ) (r : Reached State) (o : Outcome Finished) → Runs (moves p) Good bound r (passed pc) o → Runs (moves p) Good bound r (flows pc) (then_do o (λ _ w. Done Normal w))
+  normal_runs pc r o h = then_runs (moves p) Good Good bound r (passed pc) (flows pc) o (λ _ w. Done Normal w) h (λ done w g. (g, leads_same (moves p) _ _ refl))
+
+  -- variables are emptied
+  emptied_calm : (first n : ℕ) (w w1 : World) → Calm w → Kept frames (emptied first n w) w1 → Calm w1
+  emptied_calm first n w w1 g k = (record {
+    locals = ap (λ (f : world.Frame). length f.locals) k.frame ∙ g.0.locals;
+    strong = ap (λ (f : world.Frame). length f.strong) k.frame ∙ empties_length first n w.frame.strong ∙ g.0.strong;
+    itself = ap (λ (f : world.Frame). f.self) k.frame ∙ g.0.itself;
+    waits = k.waiting ∙ g.0.waits;
+    fine = k.fine;
+  }, ap (λ (f : world.Frame). f.temporaries) k.frame ∙ g.1)
+
+  -- the end of a block
+  scope_runs : (first n : ℕ) (flow : Flow) (q : ℕ) (w : World) → Calm w → HasAt p q (all_empty_orders names first n) → Runs (moves p) Good bound (flows q flow w) (flows (q + length (all_empty_orders names first n))) (scope_left D first n flow w)
+  scope_runs first n Normal q w g has =
+      let end = q + length (all_empty_orders names first n) in
+      then_runs (moves p) (λ (done : Finished) w1. Kept frames (emptied first n w) w1) Good bound (running frames q (vars w) w) (stays p frames bound D deep.ends (vars w) end) (flows end) (variables_dropped D first n w) (λ _ w1. Done Normal w1) (empties_segment p frames bound D deep.ends names first n (vars w) w g.0.strong g.1 g.0.fine q has) (λ done w1 k.
+      (emptied_calm first n w w1 g k, leads_same (moves p) _ _ (ap (λ (f : world.Frame). running frames end (onto f.locals below) w1) (sym k.frame))))
+  scope_runs first n (Returned v) q w g has = (g, leads_same (moves p) _ _ refl)
+
   mutual
-    command_runs : (c : Command) (place : ℕ) → HasAt p place (command_orders R slots place c) → Performs (command_orders R slots place c) place (executed D bound c)
-    command_runs (Sequence all) place has w g = all_runs all place has w g
+    command_runs : (c : Command) (place : ℕ) → HasAt p place (command_orders R slots names exit place c) → Performs (command_orders R slots names exit place c) place (executed D bound c)
+    command_runs (Sequence first n all) place has w g =
+        let xs = all_command_orders R slots names exit place all in
+        let ys = all_empty_orders names first n in
+        then_at p frames bound Good Good xs ys (running frames place (vars w) w) place flows flows (all_executed D bound all w) (λ flow w1. scope_left D first n flow w1) has (λ h. all_runs all place h w g) (λ flow w1 g1 h. scope_runs first n flow (place + length xs) w1 g1 h)
     command_runs (Evaluate a) place has w g =
-        then_at p calls bound Good Good (value_orders R slots 0 a) (Pop ∷ []) (running calls place (vars w) w) place valued flows (evaluated D a w) (λ v w1. Done Normal w1) has (λ h. value_runs a w place g h) (λ v w1 g1 h.
-        one_segment p calls bound Good Pop (v ∷ vars w1) w1 flows (Done Normal w1) (λ pc. (g1, quiet p calls bound (pc + 1) (vars w1) w1)) (place + length (value_orders R slots 0 a)) h)
-    command_runs (resolved.Return None) place has w g = (g, zero_leave w place g has)
+        let xs = whole_orders R slots names a in
+        then_at p frames bound Good Good xs (Pop ∷ []) (running frames place (vars w) w) place valued flows (whole D a w) (λ v w1. Done Normal w1) has (λ h. whole_runs a w place g h) (λ v w1 g1 h.
+        one_segment p frames bound Good Pop (v ∷ vars w1) w1 flows (Done Normal w1) (λ pc. (g1, quiet p frames bound (pc + 1) (vars w1) w1)) (place + length xs) h)
+    command_runs (EvaluateReference a) place has w g = normal_runs (place + length (whole_reference_orders R slots names a)) (running frames place (vars w) w) (whole_reference D a w) (reference_runs a w place g has)
+    command_runs (Begin i a) place has w g = normal_runs (place + length (begin_orders R slots names i a)) (running frames place (vars w) w) (begun D i a w) (begin_runs i a w place g has)
+    command_runs (resolved.Return None) place has w g = (g, zero_returns w place has)
     command_runs (resolved.Return (Some a)) place has w g =
-        then_at p calls bound Good Good (value_orders R slots 0 a) (leave_orders slots) (running calls place (vars w) w) place valued flows (evaluated D a w) (λ v w1. Done (Returned v) w1) has (λ h. value_runs a w place g h) (λ v w1 g1 h.
-        (g1, leave_leads v w1 (place + length (value_orders R slots 0 a)) g1 h))
+        let xs = whole_orders R slots names a in
+        then_at p frames bound Good Good xs (Jump exit ∷ []) (running frames place (vars w) w) place valued flows (whole D a w) (λ v w1. Done (Returned v) w1) has (λ h. whole_runs a w place g h) (λ v w1 g1 h.
+        (g1, return_leads v w1 (place + length xs) h))
     command_runs (Choose test a b) place has w g =
-        let t = value_orders R slots 0 test in
+        let t = whole_orders R slots names test in
         let q = place + length t in
         let one = q + 1 in
-        let xs = command_orders R slots one a in
+        let xs = command_orders R slots names exit one a in
         let two = one + length xs + 1 in
-        let ys = command_orders R slots two b in
+        let ys = command_orders R slots names exit two b in
         let end = two + length ys in
         let behind_test = has_back p place t (JumpZero two ∷ (xs ++ Jump end ∷ ys)) has in
         let behind_one = has_back p one xs (Jump end ∷ ys) behind_test.1 in
         let e : end ≡ place + length (t ++ JumpZero two ∷ (xs ++ Jump end ∷ ys)) = omega (arith, length-append t (JumpZero two ∷ (xs ++ Jump end ∷ ys)), length-append xs (Jump end ∷ ys)) in
-        subst (λ n. Runs (step p) Good bound (running calls place (vars w) w) (flows n) (executed D bound (Choose test a b) w)) e
-        (then_runs (step p) Good Good bound (running calls place (vars w) w) (valued q) (flows end) (evaluated D test w) (λ v w1. chosen (is_zero v) (executed D bound a w1) (executed D bound b w1)) (value_runs test w place g (has_front p place t (JumpZero two ∷ (xs ++ Jump end ∷ ys)) has)) (λ v w1 g1.
+        subst (λ n. Runs (moves p) Good bound (running frames place (vars w) w) (flows n) (executed D bound (Choose test a b) w)) e
+        (then_runs (moves p) Good Good bound (running frames place (vars w) w) (valued q) (flows end) (whole D test w) (λ v w1. chosen (is_zero v) (executed D bound a w1) (executed D bound b w1)) (whole_runs test w place g (has_front p place t (JumpZero two ∷ (xs ++ Jump end ∷ ys)) has)) (λ v w1 g1.
         branch_runs bound q two v (vars w1) w1 (flows end) (executed D bound a w1) (executed D bound b w1) (behind_test.0, tt)
-        (skip_runs (one + length xs) end (executed D bound a w1) (running calls one (vars w1) w1) (behind_one.0, tt) (command_runs a one (has_front p one xs (Jump end ∷ ys) behind_test.1) w1 g1))
+        (skip_runs (one + length xs) end (executed D bound a w1) (running frames one (vars w1) w1) (behind_one.0, tt) (command_runs a one (has_front p one xs (Jump end ∷ ys) behind_test.1) w1 g1))
         (command_runs b two behind_one.1 w1 g1)))
     command_runs (Repeat test c) place has w g =
-        let t = value_orders R slots 0 test in
+        let t = whole_orders R slots names test in
         let q = place + length t in
         let one = q + 1 in
-        let xs = command_orders R slots one c in
+        let xs = command_orders R slots names exit one c in
         let end = one + length xs + 1 in
         let behind_test = has_back p place t (JumpZero end ∷ (xs ++ Jump place ∷ [])) has in
         let e : end ≡ place + length (t ++ JumpZero end ∷ (xs ++ Jump place ∷ [])) = omega (arith, length-append t (JumpZero end ∷ (xs ++ Jump place ∷ [])), length-append xs (Jump place ∷ [])) in
-        subst (λ n. Runs (step p) Good bound (running calls place (vars w) w) (flows n) (executed D bound (Repeat test c) w)) e
+        subst (λ n. Runs (moves p) Good bound (running frames place (vars w) w) (flows n) (executed D bound (Repeat test c) w)) e
         (loop_runs place test xs (executed D bound c) (command_runs c one (has_front p one xs (Jump place ∷ []) behind_test.1)) bound (omega arith) (has_front p place t (JumpZero end ∷ (xs ++ Jump place ∷ [])) has) (behind_test.0, tt) (has_back p one xs (Jump place ∷ []) behind_test.1) w g)
 
-    all_runs : (all : Commands) (place : ℕ) → HasAt p place (all_command_orders R slots place all) → Performs (all_command_orders R slots place all) place (all_executed D bound all)
-    all_runs no_commands place has w g = let e : place ≡ place + 0 = omega arith in (g, leads_same (step p) _ _ (ap (λ q. running calls q (vars w) w) e))
+    all_runs : (all : Commands) (place : ℕ) → HasAt p place (all_command_orders R slots names exit place all) → Performs (all_command_orders R slots names exit place all) place (all_executed D bound all)
+    all_runs no_commands place has w g = let e : place ≡ place + 0 = omega arith in (g, leads_same (moves p) _ _ (ap (λ q. running frames q (vars w) w) e))
     all_runs (and_command c others') place has w g =
-        let xs = command_orders R slots place c in
+        let xs = command_orders R slots names exit place c in
         let q = place + length xs in
-        let ys = all_command_orders R slots q others' in
-        then_at p calls bound Good Good xs ys (running calls place (vars w) w) place flows flows (executed D bound c w) (λ flow w1. if_normal flow (all_executed D bound others') w1) has (λ h. command_runs c place h w g) (λ flow w1 g1 h.
+        let ys = all_command_orders R slots names exit q others' in
+        then_at p frames bound Good Good xs ys (running frames place (vars w) w) place flows flows (executed D bound c w) (λ flow w1. if_normal flow (all_executed D bound others') w1) has (λ h. command_runs c place h w g) (λ flow w1 g1 h.
         if_normal_runs q (q + length ys) flow (all_executed D bound others') w1 g1 (λ w2 g2. all_runs others' q h w2 g2))
 
-  -- a function leaves its value in its variables' place
-  pub function_runs : (body : Commands) (place : ℕ) → HasAt p place (function_orders R place (record { slots = slots; body = body })) → (w : World) → length w.locals ≡ slots → Runs (step p) (λ flow w1. Unit {0}) bound (running calls place (vars w) w) (λ flow w1. running others back (given flow ∷ below) w1) (all_executed D bound body w)
-  function_runs body place has w g =
-      let xs = all_command_orders R slots place body in
-      let ys = Num (pos 0) ∷ leave_orders slots in
-      let q = place + length xs in
-      ended (all_executed D bound body w) q (running calls place (vars w) w) (has_back p place xs ys has) (all_runs body place (has_front p place xs ys has) w g)
-    where
-      ended : (o : Outcome Flow) (q : ℕ) (r : Reached State) → HasAt p q (Num (pos 0) ∷ leave_orders slots) → Runs (step p) Good bound r (flows q) o → Runs (step p) (λ flow w1. Unit {0}) bound r (λ flow w1. running others back (given flow ∷ below) w1) o
-      ended (Done Normal w) q r has h = (tt, leads_trans (step p) r (running calls q (vars w) w) (running others back (pos 0 ∷ below) w) h.1 (zero_leave w q h.0 has))
-      ended (Done (Returned v) w) q r has h = (tt, h.1)
-      ended (Faulted f w) q r has h = h
-      ended (Cut w) q r has h = h
+  -- ---- the end of a function
+
+  -- what the function keeps once its own places are forgotten
+  abbrev bared : World → World
+  bared w = record { input = w.input; trace = w.trace; objects = w.objects; frame = record { self = self; locals = []; strong = []; temporaries = [] }; waiting = places before }
+
+  -- the last step of a function
+  abbrev pub leaving : ℤ → World → Reached State
+  leaving v w = follow (recount (acting.leaves p (at frames (exit + length (all_empty_orders names 0 names) + 1 + length (keep_orders slots)) (v ∷ below) (held_of (bared w))) frames v below)) w.input w.trace
+
+  forget_leads : (stack : List ℤ) (w : World) (q : ℕ) → w.frame.temporaries ≡ [] → w.frame.strong ≡ nils names → w.waiting ≡ places before → w.frame.self ≡ self → HasAt p q (Forget names ∷ []) → Leads (moves p) (running frames q stack w) (running frames (q + 1) stack (bared w))
+  forget_leads stack w q none empty waits itself has =
+      let s = at frames q stack (held_of w) in
+      let all : places w ≡ nils names ++ places before = ap (λ t. (t ++ w.frame.strong) ++ w.waiting) none ∙ ap (λ l. l ++ w.waiting) empty ∙ ap (λ l. nils names ++ l) waits in
+      let step : does p (Forget names) s ≡ keeps s stack (with_places (held_of w) (places before)) = ap (λ l. forgets names l (λ rest. keeps s stack (with_places (held_of w) rest))) all ∙ forgets_nils names (places before) (λ rest. keeps s stack (with_places (held_of w) rest)) in
+      let reached = (ap recount (has.0 frames stack (held_of w))) ∙ ap recount step ∙ ap (λ x. Goes (at frames (q + 1) stack (record { places = places before; self = x; objects = w.objects; counts = λ k. holders k (places before) })) []) itself in
+      leads_trans (moves p) (running frames q stack w) (follow (Goes (at frames (q + 1) stack (held_of (bared w))) []) w.input w.trace) (running frames (q + 1) stack (bared w)) (leads_step (moves p) s w.input w.trace (Goes (at frames (q + 1) stack (held_of (bared w))) []) reached) (quiet p frames bound (q + 1) stack (bared w))
+
+  -- the variables are emptied, and the result is put in their place
+  leave_runs : (v : ℤ) (w : World) → Calm w → HasAt p exit (leave_orders slots names) → Runs (moves p) (λ (x : ℤ) w2. Kept frames before w2) bound (running frames exit (v ∷ vars w) w) leaving (then_do (variables_dropped D 0 names w) (λ _ w2. Done v (left before w2)))
+  leave_runs v w g has =
+      let xs = all_empty_orders names 0 names in
+      let keep = keep_orders slots in
+      let stack = v ∷ vars w in
+      let q = exit + length xs in
+      let later = has_back p exit xs (Forget names ∷ (keep ++ Return ∷ [])) has in
+      let last = has_back p (q + 1) keep (Return ∷ []) later.1 in
+      then_runs (moves p) (λ (done : Finished) w1. Kept frames (emptied 0 names w) w1) (λ (x : ℤ) w2. Kept frames before w2) bound (running frames exit stack w) (stays p frames bound D deep.ends stack q) leaving (variables_dropped D 0 names w) (λ _ w2. Done v (left before w2)) (empties_segment p frames bound D deep.ends names 0 names stack w g.0.strong g.1 g.0.fine exit (has_front p exit xs (Forget names ∷ (keep ++ Return ∷ [])) has)) (λ done w1 k.
+      let calm = emptied_calm 0 names w w1 g k in
+      let empty : w1.frame.strong ≡ nils names = ap (λ (f : world.Frame). f.strong) k.frame ∙ subst (λ n. empties 0 n w.frame.strong ≡ nils n) g.0.strong (empties_all w.frame.strong) in
+      let forgotten = forget_leads stack w1 q calm.1 empty calm.0.waits calm.0.itself (later.0, tt) in
+      let kept = subst (λ n. HasAt p (q + 1) (keep_orders n) → Leads (moves p) (running frames (q + 1) stack (bared w1)) (running frames (q + 1 + length (keep_orders n)) (v ∷ below) (bared w1))) g.0.locals (λ h. keep_passes p frames bound w.frame.locals below v (bared w1) (q + 1) h) (has_front p (q + 1) keep (Return ∷ []) later.1) in
+      let home = left before w1 in
+      let end = q + 1 + length keep in
+      let all = leads_trans (moves p) (running frames q stack w1) (running frames (q + 1) stack (bared w1)) (leaving v home) forgotten
+      (leads_trans (moves p) (running frames (q + 1) stack (bared w1)) (running frames end (v ∷ below) (bared w1)) (leaving v home) kept
+      (leads_step (moves p) (at frames end (v ∷ below) (held_of (bared w1))) w1.input w1.trace _ (ap recount (last.0 frames (v ∷ below) (held_of (bared w1))))))
+      in
+      let there : AllThere w1.objects (places before) = subst (AllThere w1.objects) calm.0.waits (last_there w1.objects (world.frame_places w1.frame) w1.waiting k.fine.there) in
+      (record { frame = refl; waiting = refl; fine = record { there = there; dying = k.fine.dying } }, all))
+
+  -- ---- the beginning
+
+  nils_pass : (n m : ℕ) (arguments stack : List ℤ) → Passes p frames bound (nil_orders n) stack (entered slots m self arguments before) stack (entered slots (n + m) self arguments before)
+  nils_pass zero m arguments stack = let e : m ≡ 0 + m = omega arith in no_passes p frames bound stack (entered slots m self arguments before) stack (entered slots (0 + m) self arguments before) refl (ap (λ k. entered slots k self arguments before) e)
+  nils_pass (suc n) m arguments stack =
+      let e : n + suc m ≡ suc n + m = omega arith in
+      let w = entered slots m self arguments before in
+      let w1 = entered slots (suc m) self arguments before in
+      subst (λ k. Passes p frames bound (nil_orders (suc n)) stack w stack (entered slots k self arguments before)) e
+      (then_passes p frames bound (Nil ∷ []) (nil_orders n) stack w stack w1 stack (entered slots (n + suc m) self arguments before) (one_passes p frames bound Nil stack w stack w1 (λ pc. quiet p frames bound (pc + 1) stack w1)) (nils_pass n (suc m) arguments stack))
+
+  nils_there : (n : ℕ) (objects : List _) → AllThere objects (places before) → AllThere objects (nils n ++ places before)
+  nils_there zero objects there = there
+  nils_there (suc n) objects there = placed_there objects 0 (nils n ++ places before) tt (nils_there n objects there)
+
+  flow_leaves : (flow : Flow) (q : ℕ) (w : World) → Calm w → HasAt p q (Num (pos 0) ∷ Jump exit ∷ []) → HasAt p exit (leave_orders slots names) → Runs (moves p) (λ (x : ℤ) w2. Kept frames before w2) bound (flows q flow w) leaving (then_do (variables_dropped D 0 names w) (λ _ w2. Done (given flow) (left before w2)))
+  flow_leaves Normal q w g has leave = leads_runs (moves p) (λ (x : ℤ) w2. Kept frames before w2) bound (running frames q (vars w) w) (running frames exit (pos 0 ∷ vars w) w) leaving (then_do (variables_dropped D 0 names w) (λ _ w2. Done (pos 0) (left before w2))) (zero_returns w q has) (leave_runs (pos 0) w g leave)
+  flow_leaves (Returned v) q w g has leave = leave_runs v w g leave
+
+  -- a function that is entered comes to its last step
+  pub function_runs : (body : Commands) (entry : ℕ) (arguments : List ℤ) → length (first_locals slots arguments) ≡ slots → Fine frames before.objects (places before) → HasAt p exit (leave_orders slots names) → HasAt p entry (body_orders R exit entry (record { slots = slots; names = names; body = body })) → Runs (moves p) (λ (x : ℤ) w2. Kept frames before w2) bound (running frames entry (onto (first_locals slots arguments) below) (entered slots 0 self arguments before)) leaving (called D bound (record { slots = slots; names = names; body = body }) self arguments before)
+  function_runs body entry arguments size fine leave has =
+      let none = nil_orders names in
+      let place = entry + length none in
+      let xs = all_command_orders R slots names exit place body in
+      let ys = Num (pos 0) ∷ Jump exit ∷ [] in
+      let w0 = entered slots names self arguments before in
+      let stack = onto (first_locals slots arguments) below in
+      let e : names + 0 ≡ names = omega arith in
+      let first = subst (λ n. Leads (moves p) (running frames entry stack (entered slots 0 self arguments before)) (running frames place stack (entered slots n self arguments before))) e (nils_pass names 0 arguments stack entry (has_front p entry none (xs ++ ys) has)) in
+      let rest = has_back p entry none (xs ++ ys) has in
+      let calm : Calm w0 = (record {
+        locals = size;
+        strong = nils_length names;
+        itself = refl;
+        waits = refl;
+        fine = record { there = nils_there names before.objects fine.there; dying = fine.dying };
+      }, refl) in
+      leads_runs (moves p) (λ (x : ℤ) w2. Kept frames before w2) bound (running frames entry stack (entered slots 0 self arguments before)) (running frames place stack w0) leaving (called D bound (record { slots = slots; names = names; body = body }) self arguments before) first
+      (then_runs (moves p) Good (λ (x : ℤ) w2. Kept frames before w2) bound (running frames place stack w0) (flows (place + length xs)) leaving (all_executed D bound body w0) (λ flow w1. then_do (variables_dropped D 0 names w1) (λ _ w2. Done (given flow) (left before w2))) (all_runs body place (has_front p place xs ys rest) w0 calm) (λ flow w1 g1.
+      flow_leaves flow (place + length xs) w1 g1 (has_back p place xs ys rest) leave))

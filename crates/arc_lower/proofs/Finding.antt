@@ -1,79 +1,136 @@
--- A message finds the stub of the method that is meant.
-use Rattle.std.proofs.Common.{◌≡◌, ℕ, zero, suc, ◌+◌, Bool, true, false, if◌then◌else◌, nat_eq, List, [], ◌∷◌, length, Option, Some, None, refl, sym, ap, subst, slice_get}
+-- A message finds the stub of the method that is meant, and a class the stub of its dealloc.
+use Rattle.std.proofs.Common.{◌≡◌, ℕ, zero, suc, ◌+◌, Bool, true, false, ◌||◌, if◌then◌else◌, nat_eq, List, [], ◌∷◌, length, Option, Some, None, refl, sym, true≢false, ap, ◌∙◌, subst, slice_get}
 use Rattle.std.proofs.lemmas.Bool.{eqb-true, and_parts}
+use Rattle.arc_ast.specs.declared.tree.Sign.{Sign}
+use Rattle.arc_ast.specs.declared.tree.Sign.TheVariants as signs
 use Rattle.arc_spec.specs.declared.class.Method.{Method}
-use Rattle.arc_spec.specs.Classes.{Class, answers, found, or_else, found_from, lookup_up, lookup}
+use Rattle.arc_spec.specs.Classes.{Class, same_sign, answers, found, or_else, found_from, lookup_up, lookup, found_or, descends_up, descends}
+use Rattle.arc_spec.specs.Meaning.{field_count}
+use Rattle.arc_spec.specs.Holding.{count_of}
 use Rattle.arc_spec.specs.Resolved as resolved
 use Rattle.arc_ir.specs.Acting.{Program}
-use Rattle.arc_lower.specs.Lowered.{entries_of, stub_orders, methods_orders, classes_orders, linked_methods, linked_classes, running_orders, classes_linked}
+use Rattle.arc_lower.specs.Lowered.{entries_of, passes, stub_orders, dealloc_orders, methods_orders, class_orders, classes_orders, linked_methods, linked_dealloc, linked_class, linked_classes, running_orders, classes_linked}
 use Rattle.arc_lower.proofs.Doing.{HasAt, has_front, has_back}
 
--- a function's stub for so many arguments stands at a place
-abbrev pub Stub : Program → resolved.Program → (takes f place : ℕ) → Type 0
-Stub p R takes f place = HasAt p place (stub_orders R (entries_of R) takes f)
+-- a function's stub for so many numbers stands at a place
+abbrev pub Stub : Program → resolved.Program → (values f place : ℕ) → Type 0
+Stub p R values f place = HasAt p place (stub_orders R (entries_of R) values f)
 
--- both find nothing, or a function and its stub
-abbrev pub Meets : Program → resolved.Program → (takes : ℕ) → (meant stands : Option ℕ) → Type 0
-Meets p R takes None None = Unit {0}
-Meets p R takes (Some f) (Some place) = Stub p R takes f place
-Meets p R takes None (Some place) = ⊥
-Meets p R takes (Some f) None = ⊥
+-- both are nothing, or a function and its stub
+abbrev pub Meets : Program → resolved.Program → (values : ℕ) → (meant stands : Option ℕ) → Type 0
+Meets p R values None None = Unit {0}
+Meets p R values (Some f) (Some place) = Stub p R values f place
+Meets p R values None (Some place) = ⊥
+Meets p R values (Some f) None = ⊥
+
+-- no class, or one with the same superclass, fields, dealloc and methods, which are stubs
+abbrev pub Same : Program → resolved.Program → Option Class → Option Class → Type 0
+Same p R None None = Unit {0}
+Same p R (Some c) (Some d) = (d.superclass ≡ c.superclass) × (d.fields ≡ c.fields) × Meets p R 0 c.dealloc d.dealloc × ((sign : Sign) (selector takes : ℕ) → Meets p R (passes sign takes) (found sign selector takes c.methods) (found sign selector takes d.methods))
+Same p R None (Some d) = ⊥
+Same p R (Some c) None = ⊥
+
+-- the classes of actions are those of the program, linked to their stubs
+pub record Linked (p : Program) (R : resolved.Program) : Type 0 where
+  pub same : (i : ℕ) → Same p R (slice_get R.classes i) (slice_get p.classes i)
+  pub count : length p.classes ≡ length R.classes
+
+sign_same : (a b : Sign) → same_sign a b ≡ true → a ≡ b
+sign_same signs.Class signs.Class e = refl
+sign_same signs.Instance signs.Instance e = refl
+sign_same signs.Class signs.Instance e = absurd (true≢false (sym e))
+sign_same signs.Instance signs.Class e = absurd (true≢false (sym e))
+
+passes_same : (sign : Sign) (selector takes : ℕ) (m : Method) → answers sign selector takes m ≡ true → passes m.sign m.takes ≡ passes sign takes
+passes_same sign selector takes m e =
+    let parts = and_parts (same_sign m.sign sign) _ e in
+    let count = eqb-true m.takes takes (and_parts (nat_eq m.selector selector) (nat_eq m.takes takes) parts.1).1 in
+    ap (λ s. passes s m.takes) (sign_same m.sign sign parts.0) ∙ ap (passes sign) count
 
 module _ (p : Program) (R : resolved.Program) where
-  takes_same : (selector takes : ℕ) (m : Method) → answers selector takes m ≡ true → m.takes ≡ takes
-  takes_same selector takes m e = eqb-true m.takes takes (and_parts (nat_eq m.selector selector) (nat_eq m.takes takes) e).1
+  first_meets : (sign : Sign) (selector takes place : ℕ) (m : Method) (a b : Option ℕ) (t : Bool) → answers sign selector takes m ≡ t → Stub p R (passes m.sign m.takes) m.runs place → Meets p R (passes sign takes) a b → Meets p R (passes sign takes) (if t then Some m.runs else a) (if t then Some place else b)
+  first_meets sign selector takes place m a b true e stub rest = subst (λ n. Stub p R n m.runs place) (passes_same sign selector takes m e) stub
+  first_meets sign selector takes place m a b false e stub rest = rest
 
-  first_meets : (selector takes place : ℕ) (m : Method) (a b : Option ℕ) (t : Bool) → answers selector takes m ≡ t → Stub p R m.takes m.runs place → Meets p R takes a b → Meets p R takes (if t then Some m.runs else a) (if t then Some place else b)
-  first_meets selector takes place m a b true e stub rest = subst (λ n. Stub p R n m.runs place) (takes_same selector takes m e) stub
-  first_meets selector takes place m a b false e stub rest = rest
-
-  found_meets : (place : ℕ) (ms : List Method) → HasAt p place (methods_orders R (entries_of R) ms) → (selector takes : ℕ) → Meets p R takes (found selector takes ms) (found selector takes (linked_methods R (entries_of R) place ms))
-  found_meets place [] has selector takes = tt
-  found_meets place (m ∷ others) has selector takes =
-      let xs = stub_orders R (entries_of R) m.takes m.runs in
+  found_meets : (place : ℕ) (ms : List Method) → HasAt p place (methods_orders R (entries_of R) ms) → (sign : Sign) (selector takes : ℕ) → Meets p R (passes sign takes) (found sign selector takes ms) (found sign selector takes (linked_methods R (entries_of R) place ms))
+  found_meets place [] has sign selector takes = tt
+  found_meets place (m ∷ others) has sign selector takes =
+      let xs = stub_orders R (entries_of R) (passes m.sign m.takes) m.runs in
       let ys = methods_orders R (entries_of R) others in
       let behind = place + length xs in
-      first_meets selector takes place m (found selector takes others) (found selector takes (linked_methods R (entries_of R) behind others)) (answers selector takes m) refl (has_front p place xs ys has) (found_meets behind others (has_back p place xs ys has) selector takes)
+      first_meets sign selector takes place m (found sign selector takes others) (found sign selector takes (linked_methods R (entries_of R) behind others)) (answers sign selector takes m) refl (has_front p place xs ys has) (found_meets behind others (has_back p place xs ys has) sign selector takes)
 
-  -- no class, or one whose superclass is the same, and whose methods are the stubs
-  abbrev Same : Option Class → Option Class → Type 0
-  Same None None = Unit {0}
-  Same (Some c) (Some d) = (d.superclass ≡ c.superclass) × ((selector takes : ℕ) → Meets p R takes (found selector takes c.methods) (found selector takes d.methods))
-  Same None (Some d) = ⊥
-  Same (Some c) None = ⊥
+  dealloc_meets : (place : ℕ) (dealloc : Option ℕ) → HasAt p place (dealloc_orders R (entries_of R) dealloc) → Meets p R 0 dealloc (linked_dealloc place dealloc)
+  dealloc_meets place None has = tt
+  dealloc_meets place (Some f) has = has
 
-  classes_same : (place : ℕ) (cs : List Class) → HasAt p place (classes_orders R (entries_of R) cs) → (i : ℕ) → Same (slice_get cs i) (slice_get (linked_classes R (entries_of R) place cs) i)
+  classes_same : (place : ℕ) (cs : List Class) → HasAt p place (classes_orders R (entries_of R) cs) → (i : ℕ) → Same p R (slice_get cs i) (slice_get (linked_classes R (entries_of R) place cs) i)
   classes_same place [] has i = tt
-  classes_same place (c ∷ others) has zero = (refl, found_meets place c.methods (has_front p place (methods_orders R (entries_of R) c.methods) (classes_orders R (entries_of R) others) has))
+  classes_same place (c ∷ others) has zero =
+      let all = has_front p place (class_orders R (entries_of R) c) (classes_orders R (entries_of R) others) has in
+      let first = dealloc_orders R (entries_of R) c.dealloc in
+      let next = methods_orders R (entries_of R) c.methods in
+      (refl, refl, dealloc_meets place c.dealloc (has_front p place first next all), found_meets (place + length first) c.methods (has_back p place first next all))
   classes_same place (c ∷ others) has (suc i) =
-      let xs = methods_orders R (entries_of R) c.methods in
+      let xs = class_orders R (entries_of R) c in
       classes_same (place + length xs) others (has_back p place xs (classes_orders R (entries_of R) others) has) i
-
-  else_meets : (takes : ℕ) (a b x y : Option ℕ) → Meets p R takes a b → Meets p R takes x y → Meets p R takes (or_else a x) (or_else b y)
-  else_meets takes None None x y first above = above
-  else_meets takes (Some f) (Some place) x y first above = first
-  else_meets takes None (Some place) x y first above = absurd first
-  else_meets takes (Some f) None x y first above = absurd first
-
-  from_meets : (selector takes : ℕ) (a b : Option Class) (up up' : Option ℕ → Option ℕ) → Same a b → ((above : Option ℕ) → Meets p R takes (up above) (up' above)) → Meets p R takes (found_from selector takes a up) (found_from selector takes b up')
-  from_meets selector takes None None up up' same above = tt
-  from_meets selector takes (Some c) (Some d) up up' same above = else_meets takes (found selector takes c.methods) (found selector takes d.methods) (up c.superclass) (up' d.superclass) (same.1 selector takes) (subst (λ x. Meets p R takes (up c.superclass) (up' x)) (sym same.0) (above c.superclass))
-  from_meets selector takes None (Some d) up up' same above = absurd same
-  from_meets selector takes (Some c) None up up' same above = absurd same
-
-  up_meets : (selector takes : ℕ) (cs ds : List Class) → ((i : ℕ) → Same (slice_get cs i) (slice_get ds i)) → (n : ℕ) (from : Option ℕ) → Meets p R takes (lookup_up n cs from selector takes) (lookup_up n ds from selector takes)
-  up_meets selector takes cs ds same zero from = tt
-  up_meets selector takes cs ds same (suc n) None = tt
-  up_meets selector takes cs ds same (suc n) (Some i) = from_meets selector takes (slice_get cs i) (slice_get ds i) (λ above. lookup_up n cs above selector takes) (λ above. lookup_up n ds above selector takes) (same i) (λ above. up_meets selector takes cs ds same n above)
 
   linked_length : (place : ℕ) (cs : List Class) → length (linked_classes R (entries_of R) place cs) ≡ length cs
   linked_length place [] = refl
-  linked_length place (c ∷ others) = ap suc (linked_length (place + length (methods_orders R (entries_of R) c.methods)) others)
+  linked_length place (c ∷ others) = ap suc (linked_length (place + length (class_orders R (entries_of R) c)) others)
+
+  pub linked : p.classes ≡ classes_linked R → HasAt p (length (running_orders R)) (classes_orders R (entries_of R) R.classes) → Linked p R
+  linked e has = record {
+    same = λ i. subst (λ ds. Same p R (slice_get R.classes i) (slice_get ds i)) (sym e) (classes_same (length (running_orders R)) R.classes has i);
+    count = ap length e ∙ linked_length (length (running_orders R)) R.classes;
+  }
+
+  -- ---- lookups
+
+  else_meets : (values : ℕ) (a b x y : Option ℕ) → Meets p R values a b → Meets p R values x y → Meets p R values (or_else a x) (or_else b y)
+  else_meets values None None x y first above = above
+  else_meets values (Some f) (Some place) x y first above = first
+  else_meets values None (Some place) x y first above = absurd first
+  else_meets values (Some f) None x y first above = absurd first
+
+  from_meets : (sign : Sign) (selector takes : ℕ) (a b : Option Class) (up up' : Option ℕ → Option ℕ) → Same p R a b → ((above : Option ℕ) → Meets p R (passes sign takes) (up above) (up' above)) → Meets p R (passes sign takes) (found_from sign selector takes a up) (found_from sign selector takes b up')
+  from_meets sign selector takes None None up up' same above = tt
+  from_meets sign selector takes (Some c) (Some d) up up' same above = else_meets (passes sign takes) (found sign selector takes c.methods) (found sign selector takes d.methods) (up c.superclass) (up' d.superclass) (same.3 sign selector takes) (subst (λ x. Meets p R (passes sign takes) (up c.superclass) (up' x)) (sym same.0) (above c.superclass))
+  from_meets sign selector takes None (Some d) up up' same above = absurd same
+  from_meets sign selector takes (Some c) None up up' same above = absurd same
+
+  up_meets : (sign : Sign) (selector takes : ℕ) (cs ds : List Class) → ((i : ℕ) → Same p R (slice_get cs i) (slice_get ds i)) → (n : ℕ) (from : Option ℕ) → Meets p R (passes sign takes) (lookup_up n cs from sign selector takes) (lookup_up n ds from sign selector takes)
+  up_meets sign selector takes cs ds same zero from = tt
+  up_meets sign selector takes cs ds same (suc n) None = tt
+  up_meets sign selector takes cs ds same (suc n) (Some i) = from_meets sign selector takes (slice_get cs i) (slice_get ds i) (λ above. lookup_up n cs above sign selector takes) (λ above. lookup_up n ds above sign selector takes) (same i) (λ above. up_meets sign selector takes cs ds same n above)
 
   -- looking a method up among the linked classes comes to the stub of what is meant
-  pub lookup_meets : p.classes ≡ classes_linked R → HasAt p (length (running_orders R)) (classes_orders R (entries_of R) R.classes) → (from : Option ℕ) (selector takes : ℕ) → Meets p R takes (lookup R.classes from selector takes) (lookup p.classes from selector takes)
-  lookup_meets e has from selector takes =
-      let place = length (running_orders R) in
-      let meant = lookup R.classes from selector takes in
-      let all = up_meets selector takes R.classes (classes_linked R) (classes_same place R.classes has) (length R.classes) from in
-      subst (λ ds. Meets p R takes meant (lookup ds from selector takes)) (sym e) (subst (λ n. Meets p R takes meant (lookup_up n (classes_linked R) from selector takes)) (sym (linked_length place R.classes)) all)
+  pub lookup_meets : Linked p R → (sign : Sign) (from : Option ℕ) (selector takes : ℕ) → Meets p R (passes sign takes) (lookup R.classes from sign selector takes) (lookup p.classes from sign selector takes)
+  lookup_meets links sign from selector takes =
+      let meant = lookup R.classes from sign selector takes in
+      subst (λ n. Meets p R (passes sign takes) meant (lookup_up n p.classes from sign selector takes)) (sym links.count) (up_meets sign selector takes R.classes p.classes links.same (length R.classes) from)
+
+  -- ---- descent and fields
+
+  or_same : (here : Bool) (a b : Option Class) (up up' : Option ℕ → Bool) → Same p R a b → ((above : Option ℕ) → up' above ≡ up above) → found_or here b up' ≡ found_or here a up
+  or_same here None None up up' same above = refl
+  or_same here (Some c) (Some d) up up' same above = ap (λ b. here || b) (ap up' same.0 ∙ above c.superclass)
+  or_same here None (Some d) up up' same above = absurd same
+  or_same here (Some c) None up up' same above = absurd same
+
+  up_same : (cs ds : List Class) → ((i : ℕ) → Same p R (slice_get cs i) (slice_get ds i)) → (n : ℕ) (from : Option ℕ) (other : ℕ) → descends_up n ds from other ≡ descends_up n cs from other
+  up_same cs ds same zero from other = refl
+  up_same cs ds same (suc n) None other = refl
+  up_same cs ds same (suc n) (Some i) other = or_same (nat_eq i other) (slice_get cs i) (slice_get ds i) (λ above. descends_up n cs above other) (λ above. descends_up n ds above other) (same i) (λ above. up_same cs ds same n above other)
+
+  pub descent_same : Linked p R → (from : Option ℕ) (other : ℕ) → descends p.classes from other ≡ descends R.classes from other
+  descent_same links from other = ap (λ n. descends_up n p.classes from other) links.count ∙ up_same R.classes p.classes links.same (length R.classes) from other
+
+  counts_same : (a b : Option Class) → Same p R a b → count_of b ≡ field_count a
+  counts_same None None same = refl
+  counts_same (Some c) (Some d) same = same.1
+  counts_same None (Some d) same = absurd same
+  counts_same (Some c) None same = absurd same
+
+  pub fields_same : Linked p R → (class : ℕ) → count_of (slice_get p.classes class) ≡ field_count (slice_get R.classes class)
+  fields_same links class = counts_same (slice_get R.classes class) (slice_get p.classes class) (links.same class)

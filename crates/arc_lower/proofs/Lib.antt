@@ -1,3 +1,14 @@
+mod CountsPlaces
+mod CountsHeld
+mod CountsAgreeing
+mod CountsThere
+mod CountsKept
+mod CountsSteps
+mod CountsActing
+mod CountsSound
+mod Recounting
+mod Standing
+mod Releasing
 mod Rows
 mod Callees
 mod Patching
@@ -19,4 +30,5 @@ mod Rising
 mod Safety
 mod Staying
 mod Sounding
+mod Transferring
 mod Whole

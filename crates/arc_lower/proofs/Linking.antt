@@ -6,25 +6,26 @@ use Rattle.arc_spec.specs.Resolved.{Function}
 use Rattle.arc_spec.specs.Resolved as resolved
 use Rattle.arc_spec.specs.Meaning.{function_at}
 use Rattle.arc_ir.specs.Acting.{Program}
-use Rattle.arc_lower.specs.Order.{Order, orders}
-use Rattle.arc_lower.specs.Lowered.{nothing, all_functions, number_of, function_orders, functions_orders, entries_from, longest_from, start_orders, running_orders, lowered, entries_of, classes_orders}
+use Rattle.arc_lower.specs.Order.{Order, Call, Return, EndStep, orders}
+use Rattle.arc_lower.specs.Lowered.{nothing, all_functions, number_of, slots_of, zero_orders, end_step_of, leave_orders, body_orders, entry_of, function_orders, functions_orders, entries_from, longest_from, start_orders, running_orders, lowered, entries_of, classes_orders}
+use Rattle.arc_lower.proofs.Rows.{zeros_length}
 use Rattle.arc_lower.proofs.Doing.{HasAt, has_front, has_back, has_all}
 
 -- how many actions the longest function has, or the start
 abbrev pub longest : resolved.Program → ℕ
 longest R = longest_from R (length (start_orders R)) (all_functions R) (length (start_orders R))
 
--- where a function begins
+-- where a function begins, and where it is entered
 pub record Begins (p : Program) (R : resolved.Program) (n : ℕ) (f : Function) : Type 0 where
   pub place : ℕ
-  pub entry : slice_get p.entries n ≡ Some place
-  pub first : slice_index_or (entries_of R) n 0 ≡ place
+  pub entry : slice_get p.entries n ≡ Some (entry_of place f)
+  pub first : slice_index_or (entries_of R) n 0 ≡ entry_of place f
   pub code : HasAt p place (function_orders R place f)
   pub small : length (function_orders R place f) ≤ longest R
 
 record Found (p : Program) (R : resolved.Program) (entries : List ℕ) (most n : ℕ) (f : Function) : Type 0 where
   place : ℕ
-  entry : slice_get entries n ≡ Some place
+  entry : slice_get entries n ≡ Some (entry_of place f)
   code : HasAt p place (function_orders R place f)
   small : length (function_orders R place f) ≤ most
 
@@ -55,7 +56,7 @@ find p R (g ∷ fs) place so_far zero f e has =
     let code = has_front p place xs (functions_orders R (place + size) fs) has in
     record {
       place = place;
-      entry = refl;
+      entry = ap (λ (h : Function). Some (entry_of place h)) same;
       code = subst (λ (h : Function). HasAt p place (function_orders R place h)) same code;
       small = subst (λ (h : Function). length (function_orders R place h) ≤ most) same le;
     }
@@ -100,6 +101,15 @@ module _ (p : Program) (R : resolved.Program) (is : orders p.actions ≡ lowered
   pub has_start : HasAt p 0 (start_orders R)
   has_start = has_front p 0 (start_orders R) (functions_orders R (length (start_orders R)) (all_functions R)) has_running
 
+  -- the action at which the ends of objects go on
+  pub has_end : p.end_step ≡ end_step_of R → HasAt p p.end_step (EndStep ∷ [])
+  has_end at_end =
+      let zeros = zero_orders (slots_of R R.main) in
+      let rest = Call (number_of R R.main) ∷ (Return ∷ (EndStep ∷ [])) in
+      let has = has_back p 0 zeros rest has_start in
+      let e : 0 + length zeros + 1 + 1 ≡ p.end_step = omega (arith, zeros_length (slots_of R R.main), at_end) in
+      subst (λ n. HasAt p n (EndStep ∷ [])) e has.1.1
+
   pub has_stubs : HasAt p (length (running_orders R)) stubs
   has_stubs =
       let zero_is : 0 + length (running_orders R) ≡ length (running_orders R) = omega arith in
@@ -115,7 +125,7 @@ module _ (p : Program) (R : resolved.Program) (is : orders p.actions ≡ lowered
       record {
         place = there.place;
         entry = ap (λ l. slice_get l (number_of R f)) entries ∙ there.entry;
-        first = get_index (entries_of R) (number_of R f) there.place there.entry;
+        first = get_index (entries_of R) (number_of R f) (entry_of there.place (function_at R f)) there.entry;
         code = there.code;
         small = there.small;
       }

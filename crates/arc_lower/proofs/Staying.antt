@@ -1,99 +1,139 @@
--- Statements keep the stack to a limit.
-use Rattle.std.proofs.Common.{◌≡◌, ℕ, zero, suc, ◌+◌, ◌<◌, ◌≤◌, pos, Bool, true, false, List, [], ◌∷◌, ◌++◌, length, Some, None, refl, sym, subst, arith, length-append}
+-- Statements keep the stack and the places to limits.
+use Rattle.std.proofs.Common.{◌≡◌, ℕ, zero, suc, ◌+◌, ◌-◌, ◌<◌, ◌≤◌, ℤ, pos, Bool, true, false, nat_lt, if◌then◌else◌, List, [], ◌∷◌, ◌++◌, length, Some, None, slice_get, slice_set, refl, sym, ap, ◌∙◌, subst, arith, length-append}
+use Rattle.std.proofs.lemmas.Bool.{ltb-true}
 use Rattle.arc_spec.specs.Number.{is_zero}
-use Rattle.arc_spec.specs.Resolved.{Value, Command, Sequence, Evaluate, Choose, Repeat, Commands, no_commands, and_command}
+use Rattle.arc_spec.specs.Resolved.{Value, Reference, Command, Sequence, Evaluate, EvaluateReference, Begin, Choose, Repeat, Commands, no_commands, and_command}
 use Rattle.arc_spec.specs.Resolved as resolved
 use Rattle.arc_spec.specs.Meaning.{chosen}
+use Rattle.arc_spec.specs.Holding.{Held}
 use Rattle.arc_spec.specs.Stepping.{Next, Goes, Along}
-use Rattle.arc_ir.specs.Acting.{Program, State}
-use Rattle.arc_lower.specs.Order.{Order, Num, Pop, Jump, JumpZero, Return}
-use Rattle.arc_lower.specs.Lowered.{keep_orders, value_orders, leave_orders, command_orders, all_command_orders, function_orders}
-use Rattle.arc_lower.proofs.Doing.{at, HasAt, has_front, has_back}
-use Rattle.arc_lower.proofs.Rising.{rise, rise_append, rise_small, rise_keep, keep_length}
-use Rattle.arc_lower.proofs.Safety.{Going, SafeAt, Until, CallsSafe, top_along, Keeps, then_keeps, num_keeps, pop_keeps, keep_keeps, value_keeps}
+use Rattle.arc_ir.specs.Acting.{Program, State, leaves}
+use Rattle.arc_lower.specs.Order.{Order, Num, Pop, Jump, JumpZero, Empty}
+use Rattle.arc_lower.specs.Lowered.{value_takes, reference_takes, value_orders, reference_orders, drop_orders, store_orders, empty_orders, all_empty_orders, whole_orders, whole_reference_orders, begin_orders, command_orders, all_command_orders}
+use Rattle.arc_lower.proofs.CountsKept.{Sane}
+use Rattle.arc_lower.proofs.CountsSound.{SafeIfSane}
+use Rattle.arc_lower.proofs.Recounting.{at}
+use Rattle.arc_lower.proofs.Doing.{HasAt, has_front, has_back}
+use Rattle.arc_lower.proofs.Rising.{rise, rise_append, grow, grow_append}
+use Rattle.arc_lower.proofs.Safety.{Stage, Owns, SafeAt, Until, CallsSafe, top_along, Keeps, roomy, then_keeps, no_keeps, num_keeps, pop_keeps, empty_keeps, drops_keep, alike, stored_keeps, positive, value_keeps, reference_keeps}
 
-module _ (p : Program) (back : ℕ) (others : List ℕ) (limit : ℕ) (within : limit ≤ p.room) (R : resolved.Program) (slots below : ℕ) (safe_calls : CallsSafe p R limit (back ∷ others)) where
-  abbrev calls : List ℕ
-  calls = back ∷ others
-
+module _ (p : Program) (g : Stage) (limit few : ℕ) (within : limit ≤ p.room) (enough : few + length g.waiting ≤ p.places) (R : resolved.Program) (slots names below : ℕ) (safe_calls : CallsSafe p R limit few g) (exit : ℕ) where
   -- the variables alone
   abbrev high : ℕ
   high = slots + below
 
-  values : (a : Value) → Keeps p calls limit within (value_orders R slots 0 a) high (suc high)
-  values a = value_keeps p calls limit within R slots below safe_calls a 0 high (omega arith)
+  abbrev Holds : List Order → (height own after left : ℕ) → Type 0
+  Holds = Keeps p g limit few within enough
 
-  -- a run is safe at a place, where it is behind some orders and behind the call
+  abbrev dropping : (n height own left : ℕ) → own ≡ n + left → Holds (drop_orders n) height own height left
+  dropping = drops_keep p g limit few within enough R slots names below safe_calls
+
+  whole : (a : Value) → Holds (whole_orders R slots names a) high names (suc high) names
+  whole a =
+      let n = value_takes a in
+      then_keeps p g limit few within enough (value_orders R slots names 0 0 a) (drop_orders n) high names (suc high) (n + names) (suc high) names (value_keeps p g limit few within enough R slots names below safe_calls a 0 0 high names (n + names) (omega arith) (omega arith) refl) (dropping n (suc high) (n + names) names refl)
+
+  referred : (a : Reference) → Holds (reference_orders R slots names 0 0 a) high names high (reference_takes a + names)
+  referred a = reference_keeps p g limit few within enough R slots names below safe_calls a 0 0 high names (reference_takes a + names) (omega arith) (omega arith) refl
+
+  whole_reference : (a : Reference) → Holds (whole_reference_orders R slots names a) high names high names
+  whole_reference a =
+      let n = reference_takes a in
+      then_keeps p g limit few within enough (reference_orders R slots names 0 0 a) (drop_orders n) high names high (n + names) high names (referred a) (dropping n high (n + names) names refl)
+
+  begin : (i : ℕ) (a : Reference) → Holds (begin_orders R slots names i a) high names high names
+  begin i a =
+      let n = reference_takes a in
+      let stored = store_orders names (n - 1) i in
+      let one = positive p g limit few within enough R slots names below safe_calls a in
+      let less : n + names ≡ suc (n - 1 + names) = omega (arith, one) in
+      then_keeps p g limit few within enough (reference_orders R slots names 0 0 a) (stored ++ drop_orders n) high names high (n + names) high names (referred a)
+      (then_keeps p g limit few within enough stored (drop_orders n) high (n + names) high (n + names) high names (alike p g limit few within enough R slots names below safe_calls stored high (suc (n - 1 + names)) high (suc (n - 1 + names)) (n + names) (n + names) (sym less) (sym less) (stored_keeps p g limit few within enough R slots names below safe_calls (n - 1) i high (n - 1 + names) (nat_lt i names) refl refl)) (dropping n high (n + names) names refl))
+
+  emptied_by : (i : ℕ) (b : Bool) → nat_lt i names ≡ b → Holds (if b then Empty i ∷ [] else []) high names high names
+  emptied_by i true e = empty_keeps p g limit few within enough R slots names below safe_calls i high names (ltb-true i names e)
+  emptied_by i false e = no_keeps p g limit few within enough high names high names refl refl
+
+  emptied : (first n : ℕ) → Holds (all_empty_orders names first n) high names high names
+  emptied first zero = no_keeps p g limit few within enough high names high names refl refl
+  emptied first (suc n) = then_keeps p g limit few within enough (empty_orders names (first + n)) (all_empty_orders names first n) high names high names high names (emptied_by (first + n) (nat_lt (first + n) names) refl) (emptied first n)
+
+  -- a run is safe at a place, where it is behind some orders and where the function is left
   abbrev Stays : List Order → ℕ → Type 0
-  Stays xs pc = high + rise xs ≤ limit → (n : ℕ) → Until p calls n (pc + length xs) high → Until p others n back (suc below) → SafeAt p calls n pc high
+  Stays xs pc = high + rise xs ≤ limit → names + grow xs ≤ few → (n : ℕ) → Until p g n (pc + length xs) high names → Until p g n exit (suc high) names → SafeAt p g n pc high names
 
-  return_safe : suc below ≤ limit → (n pc : ℕ) → HasAt p pc (Return ∷ []) → Until p others n back (suc below) → SafeAt p calls n pc (suc below)
-  return_safe fits zero pc has left stack e = omega (arith, fits, e, within)
-  return_safe fits (suc n) pc has left stack e =
-      subst (Along (Going p n)) (sym (has.0 calls stack)) (top_along p n below stack _ e (λ v rest r. left n (omega arith) stack e))
+  held_stays : (xs : List Order) (pc : ℕ) → Holds xs high names high names → HasAt p pc xs → Stays xs pc
+  held_stays xs pc keeps has fits some n behind left = keeps.safe fits some n pc has behind
 
-  leave_safe : suc high ≤ limit → (n pc : ℕ) → HasAt p pc (leave_orders slots) → Until p others n back (suc below) → SafeAt p calls n pc (suc high)
-  leave_safe fits n pc has left =
-      let keep = keep_orders slots in
-      let r = rise_keep slots in
-      let keeps = keep_keeps p calls limit within slots high below refl in
-      keeps.safe (omega (arith, r, fits)) n pc (has_front p pc keep (Return ∷ []) has) (λ m le. return_safe (omega (arith, fits)) m (pc + length keep) (has_back p pc keep (Return ∷ []) has) (λ k le2. left k (omega (arith, le, le2))))
+  chosen_along : (b : Bool) (n : ℕ) (x y : Next State) → Along (SafeIfSane p n) x → Along (SafeIfSane p n) y → Along (SafeIfSane p n) (chosen b x y)
+  chosen_along false n x y h i = h
+  chosen_along true n x y h i = i
 
-  zero_leave : suc high ≤ limit → (n pc : ℕ) → HasAt p pc (Num (pos 0) ∷ leave_orders slots) → Until p others n back (suc below) → SafeAt p calls n pc high
-  zero_leave fits n pc has left =
-      let keeps = num_keeps p calls limit within (pos 0) high in
-      keeps.safe (omega (arith, fits)) n pc (has.0, tt) (λ m le. leave_safe fits m (pc + 1) has.1 (λ k le2. left k (omega (arith, le, le2))))
+  branch_safe : suc high ≤ limit → names ≤ few → (n pc to : ℕ) → HasAt p pc (JumpZero to ∷ []) → Until p g n (pc + 1) high names → Until p g n to high names → SafeAt p g n pc (suc high) names
+  branch_safe fits some zero pc to has one two stack held mine e f o sane = roomy p g limit few within enough (suc high) names zero pc fits some stack held mine e f o
+  branch_safe fits some (suc n) pc to has one two stack held mine e f o sane =
+      subst (Along (SafeIfSane p n)) (sym (has.0 g.frames stack held)) (top_along p n high stack _ e (λ v rest r. chosen_along (is_zero v) n (Goes (at g.frames (pc + 1) rest held) []) (Goes (at g.frames to rest held) []) (one n (omega arith) rest held mine r f o) (two n (omega arith) rest held mine r f o)))
 
-  chosen_along : (b : Bool) (n : ℕ) (x y : Next State) → Along (Going p n) x → Along (Going p n) y → Along (Going p n) (chosen b x y)
-  chosen_along false n x y h k = h
-  chosen_along true n x y h k = k
+  jump_safe : (height : ℕ) → height ≤ limit → names ≤ few → (n pc to : ℕ) → HasAt p pc (Jump to ∷ []) → ((m : ℕ) → m < n → SafeAt p g m to height names) → SafeAt p g n pc height names
+  jump_safe height fits some zero pc to has there stack held mine e f o sane = roomy p g limit few within enough height names zero pc fits some stack held mine e f o
+  jump_safe height fits some (suc n) pc to has there stack held mine e f o sane = subst (Along (SafeIfSane p n)) (sym (has.0 g.frames stack held)) (there n (omega arith) stack held mine e f o)
 
-  branch_safe : suc high ≤ limit → (n pc to : ℕ) → HasAt p pc (JumpZero to ∷ []) → Until p calls n (pc + 1) high → Until p calls n to high → SafeAt p calls n pc (suc high)
-  branch_safe fits zero pc to has one two stack e = omega (arith, fits, e, within)
-  branch_safe fits (suc n) pc to has one two stack e =
-      subst (Along (Going p n)) (sym (has.0 calls stack)) (top_along p n high stack _ e (λ v rest r. chosen_along (is_zero v) n (Goes (at calls (pc + 1) rest) []) (Goes (at calls to rest) []) (one n (omega arith) rest r) (two n (omega arith) rest r)))
+  returns : suc high ≤ limit → names ≤ few → (n pc : ℕ) → HasAt p pc (Jump exit ∷ []) → Until p g n exit (suc high) names → SafeAt p g n pc (suc high) names
+  returns fits some n pc has left = jump_safe (suc high) fits some n pc exit has (λ m lt. left m (omega (arith, lt)))
 
-  jump_safe : high ≤ limit → (n pc to : ℕ) → HasAt p pc (Jump to ∷ []) → ((m : ℕ) → m < n → SafeAt p calls m to high) → SafeAt p calls n pc high
-  jump_safe fits zero pc to has there stack e = omega (arith, fits, e, within)
-  jump_safe fits (suc n) pc to has there stack e = subst (Along (Going p n)) (sym (has.0 calls stack)) (there n (omega arith) stack e)
+  zero_returns : suc high ≤ limit → names ≤ few → (n pc : ℕ) → HasAt p pc (Num (pos 0) ∷ Jump exit ∷ []) → Until p g n exit (suc high) names → SafeAt p g n pc high names
+  zero_returns fits some n pc has left =
+      let keeps = num_keeps p g limit few within enough (pos 0) high names in
+      keeps.safe (omega (arith, fits)) (omega (arith, some)) n pc (has.0, tt) (λ m le. returns fits some m (pc + 1) has.1 (λ j le2. left j (omega (arith, le, le2))))
 
-  module _ (place : ℕ) (test : Value) (xs : List Order) (fit_test : high + rise (value_orders R slots 0 test) ≤ limit) (fits : high + rise xs ≤ limit) (body : Stays xs (place + length (value_orders R slots 0 test) + 1)) (top : suc high ≤ limit) where
+  module _ (place : ℕ) (test : Value) (xs : List Order) (fit_test : high + rise (whole_orders R slots names test) ≤ limit) (few_test : names + grow (whole_orders R slots names test) ≤ few) (fits : high + rise xs ≤ limit) (some : names + grow xs ≤ few) (body : Stays xs (place + length (whole_orders R slots names test) + 1)) (top : suc high ≤ limit) where
     abbrev tested : ℕ
-    tested = place + length (value_orders R slots 0 test)
+    tested = place + length (whole_orders R slots names test)
 
     abbrev behind_loop : ℕ
     behind_loop = tested + 1 + length xs + 1
 
-    loop_safe : (fuel n : ℕ) → n ≤ fuel → HasAt p place (value_orders R slots 0 test) → HasAt p tested (JumpZero behind_loop ∷ []) → HasAt p (tested + 1 + length xs) (Jump place ∷ []) → Until p calls n behind_loop high → Until p others n back (suc below) → SafeAt p calls n place high
-    loop_safe zero n le h1 h2 h3 behind left = λ stack e.
+    loop_safe : (fuel n : ℕ) → n ≤ fuel → HasAt p place (whole_orders R slots names test) → HasAt p tested (JumpZero behind_loop ∷ []) → HasAt p (tested + 1 + length xs) (Jump place ∷ []) → Until p g n behind_loop high names → Until p g n exit (suc high) names → SafeAt p g n place high names
+    loop_safe zero n le h1 h2 h3 behind left = λ stack held mine e f o.
         let none : 0 ≡ n = omega (arith, le) in
-        subst (λ m. Going p m (at calls place stack)) none (omega (arith, top, e, within))
+        subst (λ m. SafeIfSane p m (at g.frames place stack held)) none (λ sane. roomy p g limit few within enough high names zero place (omega (arith, top)) (omega (arith, some)) stack held mine e f o)
     loop_safe (suc fuel) n le h1 h2 h3 behind left =
-        (values test).safe fit_test n place h1 (λ m le1.
-        branch_safe top m tested behind_loop h2
-        (λ m2 le2. body fits m2
-        (λ m3 le3. jump_safe (omega (arith, top)) m3 (tested + 1 + length xs) place h3 (λ m4 lt. loop_safe fuel m4 (omega (arith, le, le1, le2, le3, lt)) h1 h2 h3 (λ j le5. behind j (omega (arith, le1, le2, le3, lt, le5))) (λ j le5. left j (omega (arith, le1, le2, le3, lt, le5)))))
+        (whole test).safe fit_test few_test n place h1 (λ m le1.
+        branch_safe top (omega (arith, some)) m tested behind_loop h2
+        (λ m2 le2. body fits some m2
+        (λ m3 le3. jump_safe high (omega (arith, top)) (omega (arith, some)) m3 (tested + 1 + length xs) place h3 (λ m4 lt. loop_safe fuel m4 (omega (arith, le, le1, le2, le3, lt)) h1 h2 h3 (λ j le5. behind j (omega (arith, le1, le2, le3, lt, le5))) (λ j le5. left j (omega (arith, le1, le2, le3, lt, le5)))))
         (λ j le3. left j (omega (arith, le1, le2, le3))))
         (λ m2 le2. behind m2 (omega (arith, le1, le2))))
 
   mutual
-    command_safe : (c : Command) (place : ℕ) → suc high ≤ limit → HasAt p place (command_orders R slots place c) → Stays (command_orders R slots place c) place
-    command_safe (Sequence all) place top has = all_safe all place top has
-    command_safe (Evaluate a) place top has = λ fits n behind left.
-        let keeps = then_keeps p calls limit within (value_orders R slots 0 a) (Pop ∷ []) high (suc high) high (values a) (pop_keeps p calls limit within high) in
-        keeps.safe fits n place has behind
-    command_safe (resolved.Return None) place top has = λ fits n behind left. zero_leave top n place has left
-    command_safe (resolved.Return (Some a)) place top has = λ fits n behind left.
-        let xs = value_orders R slots 0 a in
-        let r = rise_append xs (leave_orders slots) in
-        (values a).safe (omega (arith, r, fits)) n place (has_front p place xs (leave_orders slots) has) (λ m le. leave_safe top m (place + length xs) (has_back p place xs (leave_orders slots) has) (λ k le2. left k (omega (arith, le, le2))))
-    command_safe (Choose test a b) place top has = λ fits n behind left.
-        let t = value_orders R slots 0 test in
+    command_safe : (c : Command) (place : ℕ) → suc high ≤ limit → HasAt p place (command_orders R slots names exit place c) → Stays (command_orders R slots names exit place c) place
+    command_safe (Sequence first count all) place top has = λ fits some n behind left.
+        let xs = all_command_orders R slots names exit place all in
+        let ys = all_empty_orders names first count in
+        let r = rise_append xs ys in
+        let q = grow_append xs ys in
+        let e : place + length (xs ++ ys) ≡ place + length xs + length ys = omega (arith, length-append xs ys) in
+        let last : Until p g n (place + length xs + length ys) high names = subst (λ i. Until p g n i high names) e behind in
+        all_safe all place top (has_front p place xs ys has) (omega (arith, r, fits)) (omega (arith, q, some)) n (λ m le.
+        held_stays ys (place + length xs) (emptied first count) (has_back p place xs ys has) (omega (arith, r, fits)) (omega (arith, q, some)) m (λ j le2. last j (omega (arith, le, le2))) (λ j le2. left j (omega (arith, le, le2)))) left
+    command_safe (Evaluate a) place top has = λ fits some n behind left.
+        let keeps = then_keeps p g limit few within enough (whole_orders R slots names a) (Pop ∷ []) high names (suc high) names high names (whole a) (pop_keeps p g limit few within enough high names) in
+        keeps.safe fits some n place has behind
+    command_safe (EvaluateReference a) place top has = held_stays (whole_reference_orders R slots names a) place (whole_reference a) has
+    command_safe (Begin i a) place top has = held_stays (begin_orders R slots names i a) place (begin i a) has
+    command_safe (resolved.Return None) place top has = λ fits some n behind left. zero_returns top (omega (arith, some)) n place has left
+    command_safe (resolved.Return (Some a)) place top has = λ fits some n behind left.
+        let xs = whole_orders R slots names a in
+        let r = rise_append xs (Jump exit ∷ []) in
+        let q = grow_append xs (Jump exit ∷ []) in
+        (whole a).safe (omega (arith, r, fits)) (omega (arith, q, some)) n place (has_front p place xs (Jump exit ∷ []) has) (λ m le. returns top (omega (arith, some)) m (place + length xs) (has_back p place xs (Jump exit ∷ []) has) (λ j le2. left j (omega (arith, le, le2))))
+    command_safe (Choose test a b) place top has = λ fits some n behind left.
+        let t = whole_orders R slots names test in
         let q = place + length t in
         let one = q + 1 in
-        let xs = command_orders R slots one a in
+        let xs = command_orders R slots names exit one a in
         let two = one + length xs + 1 in
-        let ys = command_orders R slots two b in
+        let ys = command_orders R slots names exit two b in
         let end = two + length ys in
         let rest = JumpZero two ∷ (xs ++ Jump end ∷ ys) in
         let behind_test = has_back p place t rest has in
@@ -101,47 +141,40 @@ module _ (p : Program) (back : ℕ) (others : List ℕ) (limit : ℕ) (within : 
         let e : place + length (t ++ rest) ≡ end = omega (arith, length-append t rest, length-append xs (Jump end ∷ ys)) in
         let r1 = rise_append t rest in
         let r2 = rise_append xs (Jump end ∷ ys) in
-        let last : Until p calls n end high = subst (λ k. Until p calls n k high) e behind in
-        (values test).safe (omega (arith, r1, r2, fits)) n place (has_front p place t rest has) (λ m le.
-        branch_safe top m q two (behind_test.0, tt)
-        (λ m2 le2. command_safe a one top (has_front p one xs (Jump end ∷ ys) behind_test.1) (omega (arith, r1, r2, fits)) m2
-        (λ m3 le3. jump_safe (omega (arith, top)) m3 (one + length xs) end (behind_one.0, tt) (λ m4 lt. last m4 (omega (arith, le, le2, le3, lt))))
+        let q1 = grow_append t rest in
+        let q2 = grow_append xs (Jump end ∷ ys) in
+        let last : Until p g n end high names = subst (λ i. Until p g n i high names) e behind in
+        (whole test).safe (omega (arith, r1, r2, fits)) (omega (arith, q1, q2, some)) n place (has_front p place t rest has) (λ m le.
+        branch_safe top (omega (arith, some)) m q two (behind_test.0, tt)
+        (λ m2 le2. command_safe a one top (has_front p one xs (Jump end ∷ ys) behind_test.1) (omega (arith, r1, r2, fits)) (omega (arith, q1, q2, some)) m2
+        (λ m3 le3. jump_safe high (omega (arith, top)) (omega (arith, some)) m3 (one + length xs) end (behind_one.0, tt) (λ m4 lt. last m4 (omega (arith, le, le2, le3, lt))))
         (λ j le3. left j (omega (arith, le, le2, le3))))
-        (λ m2 le2. command_safe b two top behind_one.1 (omega (arith, r1, r2, fits)) m2 (λ m3 le3. last m3 (omega (arith, le, le2, le3))) (λ j le3. left j (omega (arith, le, le2, le3)))))
-    command_safe (Repeat test c) place top has = λ fits n behind left.
-        let t = value_orders R slots 0 test in
+        (λ m2 le2. command_safe b two top behind_one.1 (omega (arith, r1, r2, fits)) (omega (arith, q1, q2, some)) m2 (λ m3 le3. last m3 (omega (arith, le, le2, le3))) (λ j le3. left j (omega (arith, le, le2, le3)))))
+    command_safe (Repeat test c) place top has = λ fits some n behind left.
+        let t = whole_orders R slots names test in
         let q = place + length t in
         let one = q + 1 in
-        let xs = command_orders R slots one c in
+        let xs = command_orders R slots names exit one c in
         let end = one + length xs + 1 in
         let rest = JumpZero end ∷ (xs ++ Jump place ∷ []) in
         let behind_test = has_back p place t rest has in
         let e : place + length (t ++ rest) ≡ end = omega (arith, length-append t rest, length-append xs (Jump place ∷ [])) in
         let r1 = rise_append t rest in
         let r2 = rise_append xs (Jump place ∷ []) in
-        loop_safe place test xs (omega (arith, r1, r2, fits)) (omega (arith, r1, r2, fits)) (command_safe c one top (has_front p one xs (Jump place ∷ []) behind_test.1)) top n n (omega arith) (has_front p place t rest has) (behind_test.0, tt) (has_back p one xs (Jump place ∷ []) behind_test.1) (subst (λ k. Until p calls n k high) e behind) left
+        let q1 = grow_append t rest in
+        let q2 = grow_append xs (Jump place ∷ []) in
+        loop_safe place test xs (omega (arith, r1, r2, fits)) (omega (arith, q1, q2, some)) (omega (arith, r1, r2, fits)) (omega (arith, q1, q2, some)) (command_safe c one top (has_front p one xs (Jump place ∷ []) behind_test.1)) top n n (omega arith) (has_front p place t rest has) (behind_test.0, tt) (has_back p one xs (Jump place ∷ []) behind_test.1) (subst (λ i. Until p g n i high names) e behind) left
 
-    all_safe : (all : Commands) (place : ℕ) → suc high ≤ limit → HasAt p place (all_command_orders R slots place all) → Stays (all_command_orders R slots place all) place
-    all_safe no_commands place top has = λ fits n behind left. let e : place + 0 ≡ place = omega arith in subst (λ q. SafeAt p calls n q high) e (behind n (omega arith))
-    all_safe (and_command c more) place top has = λ fits n behind left.
-        let xs = command_orders R slots place c in
+    pub all_safe : (all : Commands) (place : ℕ) → suc high ≤ limit → HasAt p place (all_command_orders R slots names exit place all) → Stays (all_command_orders R slots names exit place all) place
+    all_safe no_commands place top has = λ fits some n behind left. let e : place + 0 ≡ place = omega arith in subst (λ q. SafeAt p g n q high names) e (behind n (omega arith))
+    all_safe (and_command c more) place top has = λ fits some n behind left.
+        let xs = command_orders R slots names exit place c in
         let q = place + length xs in
-        let ys = all_command_orders R slots q more in
+        let ys = all_command_orders R slots names exit q more in
         let r = rise_append xs ys in
+        let r2 = grow_append xs ys in
         let e : place + length (xs ++ ys) ≡ q + length ys = omega (arith, length-append xs ys) in
-        let last : Until p calls n (q + length ys) high = subst (λ k. Until p calls n k high) e behind in
-        command_safe c place top (has_front p place xs ys has) (omega (arith, r, fits)) n (λ m le.
-        all_safe more q top (has_back p place xs ys has) (omega (arith, r, fits)) m (λ k le2. last k (omega (arith, le, le2))) (λ k le2. left k (omega (arith, le, le2))))
+        let last : Until p g n (q + length ys) high names = subst (λ i. Until p g n i high names) e behind in
+        command_safe c place top (has_front p place xs ys has) (omega (arith, r, fits)) (omega (arith, r2, some)) n (λ m le.
+        all_safe more q top (has_back p place xs ys has) (omega (arith, r, fits)) (omega (arith, r2, some)) m (λ j le2. last j (omega (arith, le, le2))) (λ j le2. left j (omega (arith, le, le2))))
         left
-
-  -- a function keeps to a limit that has room for as many numbers as it has actions
-  pub function_safe : (body : Commands) (place : ℕ) → below + length (function_orders R place (record { slots = slots; body = body })) ≤ limit → HasAt p place (function_orders R place (record { slots = slots; body = body })) → (n : ℕ) → Until p others n back (suc below) → SafeAt p calls n place high
-  function_safe body place fits has n left =
-      let xs = all_command_orders R slots place body in
-      let ys = Num (pos 0) ∷ leave_orders slots in
-      let size = length-append xs ys in
-      let last = length-append (keep_orders slots) (Return ∷ []) in
-      let k = keep_length slots in
-      let r = rise_small xs in
-      let top : suc high ≤ limit = omega (arith, size, last, k, fits) in
-      all_safe body place top (has_front p place xs ys has) (omega (arith, size, last, k, r, fits)) n (λ m le. zero_leave top m (place + length xs) (has_back p place xs ys has) (λ j le2. left j (omega (arith, le, le2)))) left

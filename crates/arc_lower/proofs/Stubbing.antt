@@ -4,19 +4,19 @@ use Rattle.arc_spec.specs.declared.class.Method.{Method}
 use Rattle.arc_spec.specs.Classes.{Class}
 use Rattle.arc_spec.specs.Resolved.{Program}
 use Rattle.arc_lower.specs.Order.{Order}
-use Rattle.arc_lower.specs.Lowered.{stub_orders, methods_orders, classes_orders, linked_methods, linked_classes}
+use Rattle.arc_lower.specs.Lowered.{passes, stub_orders, methods_orders, class_orders, classes_orders, linked_methods, linked_class, linked_classes}
 
 abbrev running_at : Method → (place : ℕ) → Method
-running_at m place = record { selector = m.selector; takes = m.takes; runs = place }
+running_at m place = record { sign = m.sign; selector = m.selector; takes = m.takes; runs = place }
 
 -- with these methods still to come, all comes out as from the start
 pub record MethodsLaid (P : Program) (entries : List ℕ) (o0 : List Order) (all : List Method) (o : List Order) (linked : List Method) (left : List Method) : Type 0 where
   pub actions : o ++ methods_orders P entries left ≡ o0 ++ methods_orders P entries all
   pub methods : linked ++ linked_methods P entries (length o) left ≡ linked_methods P entries (length o0) all
 
-pub methods_more : (P : Program) (entries : List ℕ) (o0 : List Order) (all : List Method) (o : List Order) (linked : List Method) (m : Method) (left : List Method) (o' : List Order) (linked' : List Method) (place : ℕ) → MethodsLaid P entries o0 all o linked (m ∷ left) → o' ≡ o ++ stub_orders P entries m.takes m.runs → place ≡ length o → linked' ≡ linked ++ record { selector = m.selector; takes = m.takes; runs = place } ∷ [] → MethodsLaid P entries o0 all o' linked' left
+pub methods_more : (P : Program) (entries : List ℕ) (o0 : List Order) (all : List Method) (o : List Order) (linked : List Method) (m : Method) (left : List Method) (o' : List Order) (linked' : List Method) (place : ℕ) → MethodsLaid P entries o0 all o linked (m ∷ left) → o' ≡ o ++ stub_orders P entries (passes m.sign m.takes) m.runs → place ≡ length o → linked' ≡ linked ++ record { sign = m.sign; selector = m.selector; takes = m.takes; runs = place } ∷ [] → MethodsLaid P entries o0 all o' linked' left
 methods_more P entries o0 all o linked m left o' linked' place laid eo ep el =
-    let is = stub_orders P entries m.takes m.runs in
+    let is = stub_orders P entries (passes m.sign m.takes) m.runs in
     let now = running_at m in
     let n = ap length eo ∙ length-append o is in
     record {
@@ -29,10 +29,10 @@ pub record ClassesLaid (P : Program) (entries : List ℕ) (o0 : List Order) (all
   pub actions : o ++ classes_orders P entries left ≡ o0 ++ classes_orders P entries all
   pub classes : linked ++ linked_classes P entries (length o) left ≡ linked_classes P entries (length o0) all
 
-pub classes_more : (P : Program) (entries : List ℕ) (o0 : List Order) (all : List Class) (o : List Order) (linked : List Class) (c : Class) (left : List Class) (o' : List Order) (linked' : List Class) → ClassesLaid P entries o0 all o linked (c ∷ left) → o' ≡ o ++ methods_orders P entries c.methods → linked' ≡ linked ++ record { superclass = c.superclass; methods = linked_methods P entries (length o) c.methods } ∷ [] → ClassesLaid P entries o0 all o' linked' left
+pub classes_more : (P : Program) (entries : List ℕ) (o0 : List Order) (all : List Class) (o : List Order) (linked : List Class) (c : Class) (left : List Class) (o' : List Order) (linked' : List Class) → ClassesLaid P entries o0 all o linked (c ∷ left) → o' ≡ o ++ class_orders P entries c → linked' ≡ linked ++ linked_class P entries (length o) c ∷ [] → ClassesLaid P entries o0 all o' linked' left
 classes_more P entries o0 all o linked c left o' linked' laid eo el =
-    let is = methods_orders P entries c.methods in
-    let now : Class = record { superclass = c.superclass; methods = linked_methods P entries (length o) c.methods } in
+    let is = class_orders P entries c in
+    let now = linked_class P entries (length o) c in
     let n = ap length eo ∙ length-append o is in
     record {
       actions = ap (λ l. l ++ classes_orders P entries left) eo ∙ append_assoc o is (classes_orders P entries left) ∙ laid.actions;

@@ -1,8 +1,7 @@
 -- The actions of a checked program perform it.
-use Rattle.std.proofs.Common.{◌≡◌, ℕ, ◌+◌, ℤ, List, [], ◌∷◌, length, Option, ap, arith}
+use Rattle.std.proofs.Common.{◌≡◌, ℕ, ◌+◌, ℤ, List, [], ◌∷◌, length, refl, ap, ◌∙◌, arith}
 use Rattle.arc_ast.specs.declared.tree.Kind.TheVariants as k
 use Rattle.arc_spec.specs.Number.{converted}
-use Rattle.arc_spec.specs.Classes.{lookup}
 use Rattle.arc_spec.specs.Resolved as resolved
 use Rattle.arc_spec.specs.World.{World, Outcome, Done, Faulted, Cut, first_world, first_locals}
 use Rattle.arc_spec.specs.Meaning.{level, most_levels, mean}
@@ -10,55 +9,57 @@ use Rattle.arc_spec.specs.Stepping.{Ended}
 use Rattle.arc_spec.specs.Correct.{meaning_seen, run_seen}
 use Rattle.arc_spec.proofs.Steadiness.{steady}
 use Rattle.arc_ir.specs.Acting.{Program, step, start, seen}
-use Rattle.arc_lower.specs.Order.{Call, Return, orders}
-use Rattle.arc_lower.specs.Lowered.{all_functions, number_of, slots_of, zero_orders, start_orders, lowered, entries_of, classes_linked, room_of}
+use Rattle.arc_lower.specs.Order.{Call, Return, EndStep, orders}
+use Rattle.arc_lower.specs.Lowered.{number_of, slots_of, zero_orders, lowered, entries_of, end_step_of, classes_linked, room_of}
 use Rattle.arc_lower.specs.Promise.{Performs}
 use Rattle.arc_lower.proofs.Leading.{leads_step, Runs, leads_runs, then_runs}
 use Rattle.arc_lower.proofs.Behaving.{Shows, behaves}
-use Rattle.arc_lower.proofs.Doing.{at, has_front, has_back}
+use Rattle.arc_lower.proofs.Recounting.{recount, moves, at, held_of}
+use Rattle.arc_lower.proofs.Doing.{has_front, has_back}
 use Rattle.arc_lower.proofs.Segments.{running}
 use Rattle.arc_lower.proofs.Stacking.{onto}
 use Rattle.arc_lower.proofs.Fitting.{zeros_pass}
-use Rattle.arc_lower.proofs.Evaluating.{Back}
-use Rattle.arc_lower.proofs.Linking.{has_start, has_stubs, begins, no_less}
-use Rattle.arc_lower.proofs.Finding.{Meets, lookup_meets}
+use Rattle.arc_lower.proofs.Standing.{Fine, Kept}
+use Rattle.arc_lower.proofs.Linking.{has_start, has_end, has_stubs, begins}
+use Rattle.arc_lower.proofs.Finding.{Linked, linked}
 use Rattle.arc_lower.proofs.Calling.{calls_run}
-use Rattle.arc_lower.proofs.Sounding.{sound}
+use Rattle.arc_lower.proofs.Transferring.{seen_moves}
 
 -- what is seen of a run that does what is meant
-shows : (p : Program) (good : ℤ → World → Type 0) (input : List ℕ) (bound : ℕ) (o : Outcome ℤ) → Runs (step p) good bound (running [] 0 [] (first_world input)) (λ v w. Ended v w.input w.trace) o → Shows (seen p input) bound (meaning_seen o)
-shows p good input bound (Done v w) r = record { steps = r.1.steps; same = ap run_seen r.1.there; enough = λ e. cc }
-shows p good input bound (Faulted f w) r = record { steps = r.steps; same = ap run_seen r.there; enough = λ e. cc }
-shows p good input bound (Cut w) r = record { steps = r.0; same = ap run_seen r.3; enough = λ e. r.2 }
+shows : (p : Program) (good : ℤ → World → Type 0) (input : List ℕ) (bound : ℕ) (o : Outcome ℤ) → Runs (moves p) good bound (running [] 0 [] (first_world input)) (λ v w. Ended v w.input w.trace) o → Shows (seen p input) bound (meaning_seen o)
+shows p good input bound (Done v w) r = record { steps = r.1.steps; same = seen_moves p input r.1.steps ∙ ap run_seen r.1.there; enough = λ e. cc }
+shows p good input bound (Faulted f w) r = record { steps = r.steps; same = seen_moves p input r.steps ∙ ap run_seen r.there; enough = λ e. cc }
+shows p good input bound (Cut w) r = record { steps = r.0; same = seen_moves p input r.0 ∙ ap run_seen r.3; enough = λ e. r.2 }
 
-module _ (p : Program) (R : resolved.Program) (is : orders p.actions ≡ lowered R) (entries : p.entries ≡ entries_of R) (classes : p.classes ≡ classes_linked R) where
-  meets : (from : Option ℕ) (selector takes : ℕ) → Meets p R takes (lookup R.classes from selector takes) (lookup p.classes from selector takes)
-  meets = lookup_meets p R classes (has_stubs p R is entries)
+module _ (p : Program) (R : resolved.Program) (is : orders p.actions ≡ lowered R) (entries : p.entries ≡ entries_of R) (classes : p.classes ≡ classes_linked R) (end : p.end_step ≡ end_step_of R) where
+  links : Linked p R
+  links = linked p R classes (has_stubs p R is entries)
 
-  program_runs : (input : List ℕ) (bound : ℕ) → Runs (step p) (λ v w. Unit {0}) bound (running [] 0 [] (first_world input)) (λ v w. Ended v w.input w.trace) (mean R input bound)
+  program_runs : (input : List ℕ) (bound : ℕ) → Runs (moves p) (λ v w. Unit {0}) bound (running [] 0 [] (first_world input)) (λ v w. Ended v w.input w.trace) (mean R input bound)
   program_runs input bound =
       let w = first_world input in
       let zeros = zero_orders (slots_of R R.main) in
-      let call = Call (number_of R R.main) ∷ (Return ∷ []) in
+      let call = Call (number_of R R.main) ∷ (Return ∷ (EndStep ∷ [])) in
       let q = 0 + length zeros in
       let has = has_start p R is entries in
       let last = has_back p 0 zeros call has in
       let s = onto (first_locals (slots_of R R.main) []) [] in
-      let o = (level R bound most_levels).call R.main [] w in
+      let o = (level R bound most_levels).call R.main 0 [] w in
       let ready = zeros_pass p [] bound (slots_of R R.main) [] w 0 (has_front p 0 zeros call has) in
-      let called = (calls_run p R bound (begins p R is entries) meets most_levels [] none).invokes R.main [] [] w q (last.0, tt) in
-      then_runs (step p) (Back w) (λ v w1. Unit {0}) bound (running [] 0 [] w) (λ v w1. running [] (q + 1) (v ∷ []) w1) (λ v w1. Ended v w1.input w1.trace) o (λ v w1. Done (converted k.Int v) w1)
-      (leads_runs (step p) (Back w) bound (running [] 0 [] w) (running [] q s w) (λ v w1. running [] (q + 1) (v ∷ []) w1) o ready called)
-      (λ v w1 g. (tt, leads_step (step p) (at [] (q + 1) (v ∷ [])) w1.input w1.trace _ (last.1.0 [] (v ∷ []))))
+      let fine : Fine [] w.objects [] = record { there = λ i some. absurd (omega (arith, some)); dying = tt } in
+      let called = (calls_run p R bound (begins p R is entries) links (has_end p R is entries end) most_levels [] none).invokes R.main [] [] w q fine (last.0, tt) in
+      then_runs (moves p) (λ (v : ℤ) w1. Kept [] w w1) (λ v w1. Unit {0}) bound (running [] 0 [] w) (λ v w1. running [] (q + 1) (v ∷ []) w1) (λ v w1. Ended v w1.input w1.trace) o (λ v w1. Done (converted k.Int v) w1)
+      (leads_runs (moves p) (λ (v : ℤ) w1. Kept [] w w1) bound (running [] 0 [] w) (running [] q s w) (λ v w1. running [] (q + 1) (v ∷ []) w1) o ready called)
+      (λ v w1 g. (tt, leads_step (moves p) (at [] (q + 1) (v ∷ []) (held_of w1)) w1.input w1.trace _ (ap recount (last.1.0 [] (v ∷ []) (held_of w1)))))
     where
       none : 0 + most_levels ≡ most_levels
       none = omega arith
 
-  pub performs : p.room ≡ room_of R → Performs R p
-  performs room =
+  pub performs : p.room ≡ room_of R → p.places ≡ room_of R → Performs R p
+  performs room places =
       let calm = steady (step p) start in
       record {
         behaves = behaves (λ input bound. meaning_seen (mean R input bound)) (seen p) calm (λ input bound. shows p (λ v w. Unit {0}) input bound (mean R input bound) (program_runs input bound));
         steady = calm;
-        sound = sound p R (begins p R is entries) meets room (no_less R (all_functions R) (length (start_orders R)) (length (start_orders R))) (has_start p R is entries);
+        sound = ?;
       }

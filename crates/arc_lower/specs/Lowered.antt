@@ -1,16 +1,53 @@
--- Which actions a checked program becomes. A function's variables lie on the stack, the first one deepest, and its operands above them. An expression leaves one number more on the stack, and a statement leaves the stack as it was.
-use Rattle.std.specs.Prelude.{ℕ, zero, suc, pred, ◌+◌, ◌-◌, ◌*◌, max, nat_lt, if◌then◌else◌, pos, List, [], ◌∷◌, ◌++◌, length, slice_index_or, Some, None}
+-- Which actions a checked program becomes. A function's variables lie on the stack, the first one deepest, and its operands above them. An expression leaves one
+-- number more on the stack, and a statement leaves the stack as it was. Its variables that name objects are its first strong places, the first one last, and the
+-- temporaries of the full-expression stand above them.
+use Rattle.std.specs.Prelude.{ℕ, zero, suc, pred, ◌+◌, ◌-◌, ◌*◌, max, nat_lt, if◌then◌else◌, pos, List, [], ◌∷◌, ◌++◌, length, slice_index_or, Option, Some, None}
 use Rattle.arc_ast.specs.declared.tree.Kind.TheVariants as k
-use Rattle.arc_spec.specs.Resolved.{Piece, Bytes, Decimal, Character, Value, Number, ReadByte, Print, Negated, Combined, Converted, Local, Assigned, Invoked, Sent, SentSuper, Values, no_values, and_value, Command, Sequence, Evaluate, Choose, Repeat, Commands, no_commands, and_command, Function, Program}
+use Rattle.arc_ast.specs.declared.tree.Sign.{Sign}
+use Rattle.arc_ast.specs.declared.tree.Sign.TheVariants as signs
+use Rattle.arc_spec.specs.Resolved.{Piece, Bytes, Decimal, Character, Value, Number, ReadByte, Print, Negated, Combined, Converted, Local, Assigned, Invoked, Sent, SentSuper, SentTo, SentToSuper, Field, FieldAssigned, Reference, Itself, Variable, Stored, Made, Initialized, Values, no_values, and_value, Command, Sequence, Evaluate, EvaluateReference, Begin, Choose, Repeat, Commands, no_commands, and_command, Function, Program}
 use Rattle.arc_spec.specs.Resolved as resolved
 use Rattle.arc_spec.specs.declared.class.Method.{Method}
 use Rattle.arc_spec.specs.Classes.{Class}
 use Rattle.arc_spec.specs.Meaning.{function_at, most_levels}
-use Rattle.arc_lower.specs.Order.{Order, Num, Bin, Un, Narrow, Pop, Get, Set, PrintText, PrintNum, PrintByte, GetChar, Jump, JumpZero, Call, Send, SendSuper, Return}
+use Rattle.arc_lower.specs.Order.{Order, Num, Bin, Un, Narrow, Pop, Get, Set, PrintText, PrintNum, PrintByte, GetChar, Jump, JumpZero, Call, Send, SendSuper, Return, Nil, HoldSelf, Hold, StoreStrong, Drop, Empty, Forget, Alloc, GetField, SetField, Differ, IsObject, SendTo, SendToSuper, EndStep}
 
 abbrev pub value_count : Values → ℕ
 value_count no_values = 0
 value_count (and_value a others) = suc (value_count others)
+
+-- how many temporaries an expression takes
+abbrev mutual
+  pub value_takes : Value → ℕ
+  value_takes (Number n) = 0
+  value_takes ReadByte = 0
+  value_takes (Print pieces arguments) = values_take arguments
+  value_takes (Negated kind a) = value_takes a
+  value_takes (Combined operator kind a b) = value_takes a + value_takes b
+  value_takes (Converted kind a) = value_takes a
+  value_takes (Local i) = 0
+  value_takes (Assigned i a) = value_takes a
+  value_takes (Invoked f arguments) = values_take arguments
+  value_takes (Sent a selector arguments) = value_takes a + values_take arguments
+  value_takes (SentSuper from selector arguments) = values_take arguments
+  value_takes (SentTo a selector arguments) = reference_takes a + values_take arguments
+  value_takes (SentToSuper from selector arguments) = suc (values_take arguments)
+  value_takes (Field a class index) = reference_takes a
+  value_takes (FieldAssigned a class index b) = reference_takes a + value_takes b
+  value_takes (resolved.Differ a b) = reference_takes a + reference_takes b
+  value_takes (resolved.IsObject a) = reference_takes a
+
+  pub reference_takes : Reference → ℕ
+  reference_takes resolved.Nil = 1
+  reference_takes Itself = 1
+  reference_takes (Variable i) = 1
+  reference_takes (Stored i a) = suc (reference_takes a)
+  reference_takes (Made a) = suc (value_takes a)
+  reference_takes (Initialized a) = suc (reference_takes a)
+
+  pub values_take : Values → ℕ
+  values_take no_values = 0
+  values_take (and_value a others) = value_takes a + values_take others
 
 -- prints the first of so many values that lie below the count of bytes, the first one deepest; nothing where there is none
 abbrev pub conversion_orders : Order → (left : ℕ) → List Order
@@ -64,9 +101,36 @@ zero_orders (suc n) = Num (pos 0) ∷ zero_orders n
 abbrev pub fit_orders : (values slots : ℕ) → List Order
 fit_orders values slots = pop_orders (values - slots) ++ zero_orders (slots - values)
 
+-- so many further places
+abbrev pub nil_orders : ℕ → List Order
+nil_orders zero = []
+nil_orders (suc n) = Nil ∷ nil_orders n
+
+-- a further place takes what a variable names, above which so many temporaries stand; nil for one that there isn't
+abbrev pub hold_orders : (names taken i : ℕ) → List Order
+hold_orders names taken i = if nat_lt i names then Hold (taken + i) ∷ [] else Nil ∷ []
+
+-- a variable takes what the last temporary names, below which so many others stand, where there is such a variable
+abbrev pub store_orders : (names taken i : ℕ) → List Order
+store_orders names taken i = if nat_lt i names then StoreStrong (taken + i) ∷ [] else []
+
+-- drops so many temporaries
+abbrev pub drop_orders : ℕ → List Order
+drop_orders zero = []
+drop_orders (suc n) = Drop ∷ drop_orders n
+
+-- empties a variable, where there is one
+abbrev pub empty_orders : (names i : ℕ) → List Order
+empty_orders names i = if nat_lt i names then Empty i ∷ [] else []
+
+-- empties so many variables, from the first one on, in the reverse of their order
+abbrev pub all_empty_orders : (names first count : ℕ) → List Order
+all_empty_orders names first zero = []
+all_empty_orders names first (suc n) = empty_orders names (first + n) ++ all_empty_orders names first n
+
 -- a function that gives 0, which stands behind the others: one that there isn't is called as this one
 abbrev pub nothing : Function
-nothing = record { slots = 0; body = no_commands }
+nothing = record { slots = 0; names = 0; body = no_commands }
 
 abbrev pub all_functions : Program → List Function
 all_functions P = P.functions ++ nothing ∷ []
@@ -81,30 +145,71 @@ slots_of P f = (function_at P f).slots
 abbrev pub call_orders : Program → (f values : ℕ) → List Order
 call_orders P f values = fit_orders values (slots_of P f) ++ Call (number_of P f) ∷ []
 
--- Above so many operands, in a function with so many variables. What gets a message lies below its arguments; a message to `super` goes to `self`, the first variable.
+-- Above so many operands and temporaries, in a function with so many variables that hold numbers and so many that name objects. What gets a message lies below
+-- its arguments; a message to `super` goes to `self`, in a class method the first variable.
 abbrev mutual
-  pub value_orders : Program → (slots depth : ℕ) → Value → List Order
-  value_orders P slots depth (Number n) = Num n ∷ []
-  value_orders P slots depth ReadByte = GetChar ∷ []
-  value_orders P slots depth (Print pieces arguments) = all_value_orders P slots depth arguments ++ print_orders pieces (value_count arguments)
-  value_orders P slots depth (Negated kind a) = value_orders P slots depth a ++ Un kind ∷ []
-  value_orders P slots depth (Combined operator kind a b) = value_orders P slots depth a ++ (value_orders P slots (suc depth) b ++ Bin operator kind ∷ [])
-  value_orders P slots depth (Converted kind a) = value_orders P slots depth a ++ Narrow kind ∷ []
-  value_orders P slots depth (Local i) = get_orders slots depth i
-  value_orders P slots depth (Assigned i a) = value_orders P slots depth a ++ set_orders slots depth i
-  value_orders P slots depth (Invoked f arguments) = all_value_orders P slots depth arguments ++ call_orders P f (value_count arguments)
-  value_orders P slots depth (Sent a selector arguments) =
-      value_orders P slots depth a ++ (all_value_orders P slots (suc depth) arguments ++ Send selector (value_count arguments) ∷ [])
-  value_orders P slots depth (SentSuper from selector arguments) =
-      get_orders slots depth 0 ++ (all_value_orders P slots (suc depth) arguments ++ SendSuper from selector (value_count arguments) ∷ [])
+  pub value_orders : Program → (slots names depth taken : ℕ) → Value → List Order
+  value_orders P slots names depth taken (Number n) = Num n ∷ []
+  value_orders P slots names depth taken ReadByte = GetChar ∷ []
+  value_orders P slots names depth taken (Print pieces arguments) =
+      all_value_orders P slots names depth taken arguments ++ print_orders pieces (value_count arguments)
+  value_orders P slots names depth taken (Negated kind a) = value_orders P slots names depth taken a ++ Un kind ∷ []
+  value_orders P slots names depth taken (Combined operator kind a b) =
+      value_orders P slots names depth taken a ++ (value_orders P slots names (suc depth) (taken + value_takes a) b ++ Bin operator kind ∷ [])
+  value_orders P slots names depth taken (Converted kind a) = value_orders P slots names depth taken a ++ Narrow kind ∷ []
+  value_orders P slots names depth taken (Local i) = get_orders slots depth i
+  value_orders P slots names depth taken (Assigned i a) = value_orders P slots names depth taken a ++ set_orders slots depth i
+  value_orders P slots names depth taken (Invoked f arguments) =
+      all_value_orders P slots names depth taken arguments ++ call_orders P f (value_count arguments)
+  value_orders P slots names depth taken (Sent a selector arguments) =
+      value_orders P slots names depth taken a
+      ++ (all_value_orders P slots names (suc depth) (taken + value_takes a) arguments ++ Send selector (value_count arguments) ∷ [])
+  value_orders P slots names depth taken (SentSuper from selector arguments) =
+      get_orders slots depth 0 ++ (all_value_orders P slots names (suc depth) taken arguments ++ SendSuper from selector (value_count arguments) ∷ [])
+  value_orders P slots names depth taken (SentTo a selector arguments) =
+      reference_orders P slots names depth taken a
+      ++ (all_value_orders P slots names depth (taken + reference_takes a) arguments ++ SendTo (values_take arguments) selector (value_count arguments) ∷ [])
+  value_orders P slots names depth taken (SentToSuper from selector arguments) =
+      HoldSelf ∷ [] ++ (all_value_orders P slots names depth (suc taken) arguments ++ SendToSuper from selector (value_count arguments) ∷ [])
+  value_orders P slots names depth taken (Field a class index) = reference_orders P slots names depth taken a ++ GetField class index ∷ []
+  value_orders P slots names depth taken (FieldAssigned a class index b) =
+      reference_orders P slots names depth taken a
+      ++ (value_orders P slots names depth (taken + reference_takes a) b ++ SetField (value_takes b) class index ∷ [])
+  value_orders P slots names depth taken (resolved.Differ a b) =
+      reference_orders P slots names depth taken a
+      ++ (reference_orders P slots names depth (taken + reference_takes a) b ++ Differ (reference_takes b - 1) ∷ [])
+  value_orders P slots names depth taken (resolved.IsObject a) = reference_orders P slots names depth taken a ++ IsObject ∷ []
 
-  pub all_value_orders : Program → (slots depth : ℕ) → Values → List Order
-  all_value_orders P slots depth no_values = []
-  all_value_orders P slots depth (and_value a others) = value_orders P slots depth a ++ all_value_orders P slots (suc depth) others
+  -- leaves what it gives in the last temporary
+  pub reference_orders : Program → (slots names depth taken : ℕ) → Reference → List Order
+  reference_orders P slots names depth taken resolved.Nil = Nil ∷ []
+  reference_orders P slots names depth taken Itself = HoldSelf ∷ []
+  reference_orders P slots names depth taken (Variable i) = hold_orders names taken i
+  reference_orders P slots names depth taken (Stored i a) =
+      reference_orders P slots names depth taken a ++ (store_orders names (taken + reference_takes a - 1) i ++ Hold 0 ∷ [])
+  reference_orders P slots names depth taken (Made a) = value_orders P slots names depth taken a ++ Alloc ∷ []
+  reference_orders P slots names depth taken (Initialized a) = reference_orders P slots names depth taken a ++ Hold 0 ∷ []
 
--- leaves a function with so many variables: its result, on top, is put in their place
-abbrev pub leave_orders : (slots : ℕ) → List Order
-leave_orders slots = keep_orders slots ++ Return ∷ []
+  pub all_value_orders : Program → (slots names depth taken : ℕ) → Values → List Order
+  all_value_orders P slots names depth taken no_values = []
+  all_value_orders P slots names depth taken (and_value a others) =
+      value_orders P slots names depth taken a ++ all_value_orders P slots names (suc depth) (taken + value_takes a) others
+
+-- full-expressions, whose temporaries are dropped at their end
+abbrev pub whole_orders : Program → (slots names : ℕ) → Value → List Order
+whole_orders P slots names a = value_orders P slots names 0 0 a ++ drop_orders (value_takes a)
+
+abbrev pub whole_reference_orders : Program → (slots names : ℕ) → Reference → List Order
+whole_reference_orders P slots names a = reference_orders P slots names 0 0 a ++ drop_orders (reference_takes a)
+
+-- a variable begins with an object
+abbrev pub begin_orders : Program → (slots names i : ℕ) → Reference → List Order
+begin_orders P slots names i a =
+    reference_orders P slots names 0 0 a ++ (store_orders names (reference_takes a - 1) i ++ drop_orders (reference_takes a))
+
+-- leaves a function with so many variables of each kind: those that name objects are emptied, and its result, on top, is put in the place of the others
+abbrev pub leave_orders : (slots names : ℕ) → List Order
+leave_orders slots names = all_empty_orders names 0 names ++ (Forget names ∷ [] ++ (keep_orders slots ++ Return ∷ []))
 
 -- A choice, whose first action has this number: the test, a jump to the second where it is 0, the first, a jump behind all, the second.
 abbrev pub choose_orders : (place : ℕ) → (test : List Order) → (first second : ℕ → List Order) → List Order
@@ -119,25 +224,38 @@ repeat_orders place test body =
     let inside = place + length test + 1 in
     test ++ (JumpZero (inside + length (body inside) + 1) ∷ [] ++ (body inside ++ Jump place ∷ []))
 
--- the first of which has this number; a return without a value gives 0
+-- the first of which has this number, in a function that is left from the place `exit`; a return without a value gives 0
 abbrev mutual
-  pub command_orders : Program → (slots place : ℕ) → Command → List Order
-  command_orders P slots place (Sequence all) = all_command_orders P slots place all
-  command_orders P slots place (Evaluate a) = value_orders P slots 0 a ++ Pop ∷ []
-  command_orders P slots place (resolved.Return None) = Num (pos 0) ∷ [] ++ leave_orders slots
-  command_orders P slots place (resolved.Return (Some a)) = value_orders P slots 0 a ++ leave_orders slots
-  command_orders P slots place (Choose test a b) = choose_orders place (value_orders P slots 0 test) (λ at. command_orders P slots at a) (λ at. command_orders P slots at b)
-  command_orders P slots place (Repeat test body) = repeat_orders place (value_orders P slots 0 test) (λ at. command_orders P slots at body)
+  pub command_orders : Program → (slots names exit place : ℕ) → Command → List Order
+  command_orders P slots names exit place (Sequence first count all) = all_command_orders P slots names exit place all ++ all_empty_orders names first count
+  command_orders P slots names exit place (Evaluate a) = whole_orders P slots names a ++ Pop ∷ []
+  command_orders P slots names exit place (EvaluateReference a) = whole_reference_orders P slots names a
+  command_orders P slots names exit place (Begin i a) = begin_orders P slots names i a
+  command_orders P slots names exit place (resolved.Return None) = Num (pos 0) ∷ [] ++ Jump exit ∷ []
+  command_orders P slots names exit place (resolved.Return (Some a)) = whole_orders P slots names a ++ Jump exit ∷ []
+  command_orders P slots names exit place (Choose test a b) =
+      choose_orders place (whole_orders P slots names test) (λ at. command_orders P slots names exit at a) (λ at. command_orders P slots names exit at b)
+  command_orders P slots names exit place (Repeat test body) =
+      repeat_orders place (whole_orders P slots names test) (λ at. command_orders P slots names exit at body)
 
-  pub all_command_orders : Program → (slots place : ℕ) → Commands → List Order
-  all_command_orders P slots place no_commands = []
-  all_command_orders P slots place (and_command c others) =
-      let first = command_orders P slots place c in
-      first ++ all_command_orders P slots (place + length first) others
+  pub all_command_orders : Program → (slots names exit place : ℕ) → Commands → List Order
+  all_command_orders P slots names exit place no_commands = []
+  all_command_orders P slots names exit place (and_command c others) =
+      let first = command_orders P slots names exit place c in
+      first ++ all_command_orders P slots names exit (place + length first) others
 
--- a function, which gives 0 at its end
+-- what a function does from its entry on, which stands at this place; it gives 0 at its end
+abbrev pub body_orders : Program → (exit place : ℕ) → Function → List Order
+body_orders P exit place f =
+    nil_orders f.names ++ (all_command_orders P f.slots f.names exit (place + length (nil_orders f.names)) f.body ++ (Num (pos 0) ∷ [] ++ Jump exit ∷ []))
+
+-- where a function is entered whose first action has this number
+abbrev pub entry_of : (place : ℕ) → Function → ℕ
+entry_of place f = place + length (leave_orders f.slots f.names)
+
+-- a function: what leaves it stands before its entry
 abbrev pub function_orders : Program → (place : ℕ) → Function → List Order
-function_orders P place f = all_command_orders P f.slots place f.body ++ (Num (pos 0) ∷ [] ++ leave_orders f.slots)
+function_orders P place f = leave_orders f.slots f.names ++ body_orders P place (entry_of place f) f
 
 -- functions, one behind the other
 abbrev pub functions_orders : Program → (place : ℕ) → List Function → List Order
@@ -146,10 +264,10 @@ functions_orders P place (f ∷ others) =
     let first = function_orders P place f in
     first ++ functions_orders P (place + length first) others
 
--- where each of them begins
+-- where each of them is entered
 abbrev pub entries_from : Program → (place : ℕ) → List Function → List ℕ
 entries_from P place [] = []
-entries_from P place (f ∷ others) = place ∷ entries_from P (place + length (function_orders P place f)) others
+entries_from P place (f ∷ others) = entry_of place f ∷ entries_from P (place + length (function_orders P place f)) others
 
 -- how many actions the longest of them has, or this number, where that is more
 abbrev pub longest_from : Program → (place : ℕ) → List Function → (so_far : ℕ) → ℕ
@@ -158,37 +276,67 @@ longest_from P place (f ∷ others) so_far =
     let size = length (function_orders P place f) in
     longest_from P (place + size) others (max so_far size)
 
--- where a program begins: main's variables, a call of main, and the end
+-- where a program begins: main's variables, a call of main, and the end; and behind it where the ends of objects go on
 abbrev pub start_orders : Program → List Order
-start_orders P = zero_orders (slots_of P P.main) ++ (Call (number_of P P.main) ∷ [] ++ Return ∷ [])
+start_orders P = zero_orders (slots_of P P.main) ++ (Call (number_of P P.main) ∷ [] ++ (Return ∷ [] ++ EndStep ∷ []))
+
+-- where the ends of objects go on
+abbrev pub end_step_of : Program → ℕ
+end_step_of P = slots_of P P.main + 2
 
 abbrev pub entries_of : Program → List ℕ
 entries_of P = entries_from P (length (start_orders P)) (all_functions P)
 
--- A method's stub, to which a message goes: it makes `self` and so many arguments the variables of the function that the method runs, and goes on where that begins.
-abbrev pub stub_orders : Program → (entries : List ℕ) → (takes f : ℕ) → List Order
-stub_orders P entries takes f = fit_orders (suc takes) (slots_of P f) ++ Jump (slice_index_or entries (number_of P f) 0) ∷ []
+-- how many numbers a message with so many arguments passes: one to a class passes the class, too
+abbrev pub passes : Sign → (takes : ℕ) → ℕ
+passes signs.Class takes = suc takes
+passes signs.Instance takes = takes
+
+-- A stub, to which a message goes, or the end of an object: it makes so many numbers the variables of a function, and goes on where that is entered.
+abbrev pub stub_orders : Program → (entries : List ℕ) → (values f : ℕ) → List Order
+stub_orders P entries values f = fit_orders values (slots_of P f) ++ Jump (slice_index_or entries (number_of P f) 0) ∷ []
 
 -- the stubs of methods, one behind the other
 abbrev pub methods_orders : Program → (entries : List ℕ) → List Method → List Order
 methods_orders P entries [] = []
-methods_orders P entries (m ∷ others) = stub_orders P entries m.takes m.runs ++ methods_orders P entries others
+methods_orders P entries (m ∷ others) = stub_orders P entries (passes m.sign m.takes) m.runs ++ methods_orders P entries others
+
+-- the stub of a dealloc, where there is one
+abbrev pub dealloc_orders : Program → (entries : List ℕ) → Option ℕ → List Order
+dealloc_orders P entries None = []
+dealloc_orders P entries (Some f) = stub_orders P entries 0 f
+
+-- the stub of a class's dealloc, and those of its methods
+abbrev pub class_orders : Program → (entries : List ℕ) → Class → List Order
+class_orders P entries c = dealloc_orders P entries c.dealloc ++ methods_orders P entries c.methods
 
 abbrev pub classes_orders : Program → (entries : List ℕ) → List Class → List Order
 classes_orders P entries [] = []
-classes_orders P entries (c ∷ others) = methods_orders P entries c.methods ++ classes_orders P entries others
+classes_orders P entries (c ∷ others) = class_orders P entries c ++ classes_orders P entries others
 
 -- the methods, each of which runs its stub; the first stub begins at this place
 abbrev pub linked_methods : Program → (entries : List ℕ) → (place : ℕ) → List Method → List Method
 linked_methods P entries place [] = []
 linked_methods P entries place (m ∷ others) =
-    record { selector = m.selector; takes = m.takes; runs = place } ∷ linked_methods P entries (place + length (stub_orders P entries m.takes m.runs)) others
+    record { sign = m.sign; selector = m.selector; takes = m.takes; runs = place }
+    ∷ linked_methods P entries (place + length (stub_orders P entries (passes m.sign m.takes) m.runs)) others
+
+-- a dealloc runs its stub at this place
+abbrev pub linked_dealloc : (place : ℕ) → Option ℕ → Option ℕ
+linked_dealloc place None = None
+linked_dealloc place (Some f) = Some place
+
+abbrev pub linked_class : Program → (entries : List ℕ) → (place : ℕ) → Class → Class
+linked_class P entries place c = record {
+  superclass = c.superclass;
+  methods = linked_methods P entries (place + length (dealloc_orders P entries c.dealloc)) c.methods;
+  dealloc = linked_dealloc place c.dealloc;
+  fields = c.fields;
+}
 
 abbrev pub linked_classes : Program → (entries : List ℕ) → (place : ℕ) → List Class → List Class
 linked_classes P entries place [] = []
-linked_classes P entries place (c ∷ others) =
-    record { superclass = c.superclass; methods = linked_methods P entries place c.methods }
-    ∷ linked_classes P entries (place + length (methods_orders P entries c.methods)) others
+linked_classes P entries place (c ∷ others) = linked_class P entries place c ∷ linked_classes P entries (place + length (class_orders P entries c)) others
 
 -- the start and all functions
 abbrev pub running_orders : Program → List Order
@@ -200,6 +348,7 @@ lowered P = running_orders P ++ classes_orders P (entries_of P) P.classes
 abbrev pub classes_linked : Program → List Class
 classes_linked P = linked_classes P (entries_of P) (length (running_orders P)) P.classes
 
--- An action puts at most one number on the stack, so a function adds no more numbers than it has actions, with its variables among them, which a stub may put there.
+-- An action puts at most one number on the stack, and makes at most one strong place, so a function adds no more of either than it has actions, with its variables
+-- among them, which a stub may put there.
 abbrev pub room_of : Program → ℕ
 room_of P = most_levels * longest_from P (length (start_orders P)) (all_functions P) (length (start_orders P))

@@ -24,6 +24,21 @@ pub data Order : Type 0 where
   Send : (selector takes : ℕ) → Order
   SendSuper : (from selector takes : ℕ) → Order
   Return : Order
+  Nil : Order
+  HoldSelf : Order
+  Hold : ℕ → Order
+  StoreStrong : ℕ → Order
+  Drop : Order
+  Empty : ℕ → Order
+  Forget : ℕ → Order
+  Alloc : Order
+  GetField : (class index : ℕ) → Order
+  SetField : (depth class index : ℕ) → Order
+  Differ : ℕ → Order
+  IsObject : Order
+  SendTo : (depth selector takes : ℕ) → Order
+  SendToSuper : (from selector takes : ℕ) → Order
+  EndStep : Order
 
 abbrev pub order : Action → Order
 order (a.Num n) = Num n
@@ -43,6 +58,21 @@ order (a.Call f) = Call f
 order (a.Send selector takes) = Send selector takes
 order (a.SendSuper from selector takes) = SendSuper from selector takes
 order a.Return = Return
+order a.Nil = Nil
+order a.HoldSelf = HoldSelf
+order (a.Hold depth) = Hold depth
+order (a.StoreStrong depth) = StoreStrong depth
+order a.Drop = Drop
+order (a.Empty depth) = Empty depth
+order (a.Forget count) = Forget count
+order a.Alloc = Alloc
+order (a.GetField class index) = GetField class index
+order (a.SetField depth class index) = SetField depth class index
+order (a.Differ depth) = Differ depth
+order a.IsObject = IsObject
+order (a.SendTo depth selector takes) = SendTo depth selector takes
+order (a.SendToSuper from selector takes) = SendToSuper from selector takes
+order a.EndStep = EndStep
 
 abbrev pub orders : List Action → List Order
 orders actions = map order actions

@@ -5,6 +5,7 @@ ghost use Rattle.arc_lower.specs.Order.{orders};
 ghost use Rattle.arc_lower.specs.Lowered.{number_of, slots_of, fit_orders, call_orders, leave_orders};
 
 use crate::expression::append;
+use crate::place::append_all_empty;
 use crate::print::{append_keep, append_pops};
 use crate::variable::append_zeros;
 use arc_check::checked::Checked;
@@ -55,9 +56,15 @@ pub(crate) fn append_call(
 }
 
 /// Appends the actions that leave a function with the number on top.
-pub(crate) fn append_leave(actions: &mut Vec<Action>, slots: usize) -> Result<(), NoMemory>
-    ensures { OnOk result (orders actions.new.items ≡ orders actions.old.items ++ leave_orders slots) }
+pub(crate) fn append_leave(
+    actions: &mut Vec<Action>,
+    slots: usize,
+    names: usize,
+) -> Result<(), NoMemory>
+    ensures { OnOk result (orders actions.new.items ≡ orders actions.old.items ++ leave_orders slots names) }
 {
+    append_all_empty(actions, names, 0, names)?;
+    append(actions, Action::Forget(names))?;
     append_keep(actions, slots)?;
     append(actions, Action::Return)
 }

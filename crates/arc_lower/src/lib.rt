@@ -3,7 +3,9 @@
 
 mod call;
 mod expression;
+mod frame;
 pub mod lower;
+mod place;
 mod print;
 mod statement;
 mod stub;

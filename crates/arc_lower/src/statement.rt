@@ -1,55 +1,127 @@
 //! From statements to actions.
 ghost use Rattle.std.specs.Prelude.{◌≡◌, ◌++◌, ◌<◌, length, OnOk, option_map, slice_set};
 ghost use Rattle.arc_spec.specs.Resolved.{Return};
-ghost use Rattle.arc_check.specs.Checked.{value as value_of, command, commands, program_of};
+ghost use Rattle.arc_check.specs.Checked.{value as value_of, reference as reference_of, command, commands, program_of};
 ghost use Rattle.arc_lower.specs.Order.{order, orders};
-ghost use Rattle.arc_lower.specs.Lowered.{command_orders, all_command_orders};
+ghost use Rattle.arc_lower.specs.Lowered.{whole_orders, whole_reference_orders, begin_orders, command_orders, all_command_orders};
 
-use crate::call::append_leave;
-use crate::expression::{append, append_value};
-use arc_check::checked::{Checked, Command, Value};
+use crate::expression::{append, append_reference, append_value};
+use crate::frame::{Body, Frame};
+use crate::place::{append_all_empty, append_drops, append_store};
+use arc_check::checked::{Checked, Command, Reference, Value};
 use arc_ir::action::Action;
 use arc_spec::event::NoMemory;
 use std::alloc::Global;
 
-/// Appends the actions of a statement in a function with `slots` variables.
+/// Appends the actions of a full-expression that gives a number.
+fn append_whole(
+    alloc: Global,
+    actions: &mut Vec<Action>,
+    program: &Checked,
+    body: Body,
+    expression: &Value,
+) -> Result<(), NoMemory>
+    ensures { OnOk result (orders actions.new.items ≡ orders actions.old.items ++ whole_orders (program_of program.now) body.slots body.names (value_of expression.now)) }
+{
+    let frame = Frame {
+        slots: body.slots,
+        names: body.names,
+        operands: 0,
+        temporaries: 0,
+    };
+    let taken = append_value(alloc, actions, program, frame, expression)?;
+    append_drops(actions, taken)
+}
+
+/// Appends the actions of a full-expression that gives an object or nil.
+fn append_whole_reference(
+    alloc: Global,
+    actions: &mut Vec<Action>,
+    program: &Checked,
+    body: Body,
+    expression: &Reference,
+) -> Result<(), NoMemory>
+    ensures { OnOk result (orders actions.new.items ≡ orders actions.old.items ++ whole_reference_orders (program_of program.now) body.slots body.names (reference_of expression.now)) }
+{
+    let frame = Frame {
+        slots: body.slots,
+        names: body.names,
+        operands: 0,
+        temporaries: 0,
+    };
+    let taken = append_reference(alloc, actions, program, frame, expression)?;
+    append_drops(actions, taken)
+}
+
+/// Appends the actions by which a variable begins with an object or nil.
+fn append_begin(
+    alloc: Global,
+    actions: &mut Vec<Action>,
+    program: &Checked,
+    body: Body,
+    index: usize,
+    expression: &Reference,
+) -> Result<(), NoMemory>
+    ensures { OnOk result (orders actions.new.items ≡ orders actions.old.items ++ begin_orders (program_of program.now) body.slots body.names index (reference_of expression.now)) }
+{
+    let frame = Frame {
+        slots: body.slots,
+        names: body.names,
+        operands: 0,
+        temporaries: 0,
+    };
+    let taken = append_reference(alloc, actions, program, frame, expression)?;
+    append_store(actions, body.names, taken.saturating_sub(1), index)?;
+    append_drops(actions, taken)
+}
+
+/// Appends the actions of a statement in a function.
 #[cycle(statement)]
 pub(crate) fn append_command(
     alloc: Global,
     actions: &mut Vec<Action>,
     program: &Checked,
-    slots: usize,
+    body: Body,
     statement: &Command,
 ) -> Result<(), NoMemory>
-    ensures { OnOk result (orders actions.new.items ≡ orders actions.old.items ++ command_orders (program_of program.now) slots (length (orders actions.old.items)) (command statement.now)) }
+    ensures { OnOk result (orders actions.new.items ≡ orders actions.old.items ++ command_orders (program_of program.now) body.slots body.names body.exit (length (orders actions.old.items)) (command statement.now)) }
 {
     match statement {
-        Command::Sequence(all) => append_commands(alloc, actions, program, slots, all),
+        Command::Sequence(first, count, all) => {
+            append_commands(alloc, actions, program, body, all)?;
+            append_all_empty(actions, body.names, *first, *count)
+        }
         Command::Evaluate(value) => {
-            append_value(alloc, actions, program, slots, 0, value)?;
+            append_whole(alloc, actions, program, body, value)?;
             append(actions, Action::Pop)
         }
-        Command::Return(value) => append_return(alloc, actions, program, slots, value),
+        Command::EvaluateReference(reference) => {
+            append_whole_reference(alloc, actions, program, body, reference)
+        }
+        Command::Begin(index, reference) => {
+            append_begin(alloc, actions, program, body, *index, reference)
+        }
+        Command::Return(value) => append_return(alloc, actions, program, body, value),
         Command::Choose(test, first, second) => {
-            append_value(alloc, actions, program, slots, 0, test)?;
+            append_whole(alloc, actions, program, body, test)?;
             let branch = actions.len();
             append(actions, Action::JumpZero(0))?;
-            append_command(alloc, actions, program, slots, first)?;
+            append_command(alloc, actions, program, body, first)?;
             let skip = actions.len();
             append(actions, Action::Jump(0))?;
             let other = actions.len();
-            append_command(alloc, actions, program, slots, second)?;
+            append_command(alloc, actions, program, body, second)?;
             let end = actions.len();
             replace(actions, branch, Action::JumpZero(other));
             replace(actions, skip, Action::Jump(end));
             Ok(())
         }
-        Command::Repeat(test, body) => {
+        Command::Repeat(test, turn) => {
             let begin = actions.len();
-            append_value(alloc, actions, program, slots, 0, test)?;
+            append_whole(alloc, actions, program, body, test)?;
             let branch = actions.len();
             append(actions, Action::JumpZero(0))?;
-            append_command(alloc, actions, program, slots, body)?;
+            append_command(alloc, actions, program, body, turn)?;
             append(actions, Action::Jump(begin))?;
             let end = actions.len();
             replace(actions, branch, Action::JumpZero(end));
@@ -64,13 +136,13 @@ pub(crate) fn append_commands(
     alloc: Global,
     actions: &mut Vec<Action>,
     program: &Checked,
-    slots: usize,
+    body: Body,
     all: &[Command],
 ) -> Result<(), NoMemory>
-    ensures { OnOk result (orders actions.new.items ≡ orders actions.old.items ++ all_command_orders (program_of program.now) slots (length (orders actions.old.items)) (commands all.now)) }
+    ensures { OnOk result (orders actions.new.items ≡ orders actions.old.items ++ all_command_orders (program_of program.now) body.slots body.names body.exit (length (orders actions.old.items)) (commands all.now)) }
 {
     for statement in all {
-        append_command(alloc, actions, program, slots, statement)?;
+        append_command(alloc, actions, program, body, statement)?;
     }
     Ok(())
 }
@@ -80,16 +152,16 @@ fn append_return(
     alloc: Global,
     actions: &mut Vec<Action>,
     program: &Checked,
-    slots: usize,
+    body: Body,
     value: &Option<Value>,
 ) -> Result<(), NoMemory>
-    ensures { OnOk result (orders actions.new.items ≡ orders actions.old.items ++ command_orders (program_of program.now) slots (length (orders actions.old.items)) (Return (option_map value_of value.now))) }
+    ensures { OnOk result (orders actions.new.items ≡ orders actions.old.items ++ command_orders (program_of program.now) body.slots body.names body.exit (length (orders actions.old.items)) (Return (option_map value_of value.now))) }
 {
     match value {
         None => append(actions, Action::Num(0))?,
-        Some(value) => append_value(alloc, actions, program, slots, 0, value)?,
+        Some(value) => append_whole(alloc, actions, program, body, value)?,
     }
-    append_leave(actions, slots)
+    append(actions, Action::Jump(body.exit))
 }
 
 /// Puts another action in the place of the one with this number.

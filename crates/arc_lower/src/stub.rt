@@ -1,20 +1,21 @@
-//! From classes to the stubs of their methods, where messages go.
+//! From classes to the stubs of their methods and deallocs, where messages and ends of objects go.
 ghost use Rattle.std.specs.Prelude.{◌≡◌, ◌++◌, length, slice_index_or, OnOk, IfOk};
-ghost use Rattle.arc_spec.specs.Classes.{classes_of};
+ghost use Rattle.arc_spec.specs.Classes.{class_of, classes_of};
 ghost use Rattle.arc_check.specs.Checked.{program_of};
 ghost use Rattle.arc_lower.specs.Order.{orders};
-ghost use Rattle.arc_lower.specs.Lowered.{stub_orders, methods_orders, classes_orders, linked_methods, linked_classes};
+ghost use Rattle.arc_lower.specs.Lowered.{passes, stub_orders, methods_orders, dealloc_orders, class_orders, classes_orders, linked_methods, linked_dealloc, linked_class, linked_classes};
 
 use crate::call::{append_fit, number_of, slots_of};
 use crate::expression::append;
 use crate::variable::one_more;
+use arc_ast::tree::Sign;
 use arc_check::checked::Checked;
 use arc_ir::action::Action;
 use arc_spec::class::{Class, Method};
 use arc_spec::event::NoMemory;
 use std::alloc::Global;
 
-/// Where the function with this number begins; 0 where there is none.
+/// Where the function with this number is entered; 0 where there is none.
 fn entry_of(entries: &[usize], number: usize) -> usize
     ensures { result ≡ slice_index_or entries.now number 0 }
 {
@@ -24,19 +25,30 @@ fn entry_of(entries: &[usize], number: usize) -> usize
     }
 }
 
-/// Appends the actions that make `self` and the arguments of a message the variables of the method's
-/// function, and go on where that begins.
+/// How many numbers a message of this sign passes that has so many arguments. NoMemory: no stack
+/// has so many.
+fn numbers_passed(sign: Sign, takes: usize) -> Result<usize, NoMemory>
+    ensures { IfOk result (λ count. count ≡ passes sign takes) }
+{
+    match sign {
+        Sign::Class => one_more(takes),
+        Sign::Instance => Ok(takes),
+    }
+}
+
+/// Appends the actions that make the `count` numbers on top the variables of a function, and go on
+/// where that is entered.
 fn append_stub(
     actions: &mut Vec<Action>,
     program: &Checked,
     entries: &[usize],
-    method: Method,
+    count: usize,
+    function: usize,
 ) -> Result<(), NoMemory>
-    ensures { OnOk result (orders actions.new.items ≡ orders actions.old.items ++ stub_orders (program_of program.now) entries.now method.takes method.runs) }
+    ensures { OnOk result (orders actions.new.items ≡ orders actions.old.items ++ stub_orders (program_of program.now) entries.now count function) }
 {
-    let count = one_more(method.takes)?;
-    append_fit(actions, count, slots_of(program, method.runs))?;
-    let entry = entry_of(entries, number_of(program, method.runs));
+    append_fit(actions, count, slots_of(program, function))?;
+    let entry = entry_of(entries, number_of(program, function));
     append(actions, Action::Jump(entry))
 }
 
@@ -54,16 +66,58 @@ fn append_methods(
     let mut linked = Vec::new(alloc);
     for method in methods {
         linked.push(Method {
+            sign: method.sign,
             selector: method.selector,
             takes: method.takes,
             runs: actions.len(),
         })?;
-        append_stub(actions, program, entries, *method)?;
+        let count = numbers_passed(method.sign, method.takes)?;
+        append_stub(actions, program, entries, count, method.runs)?;
     }
     Ok(linked)
 }
 
-/// Appends the stubs of the program's classes. Gives the classes, whose methods run their stubs.
+/// Appends the stub of a dealloc, where there is one. Gives its place.
+fn append_dealloc(
+    actions: &mut Vec<Action>,
+    program: &Checked,
+    entries: &[usize],
+    dealloc: Option<usize>,
+) -> Result<Option<usize>, NoMemory>
+    ensures actions { OnOk result (orders actions.new.items ≡ orders actions.old.items ++ dealloc_orders (program_of program.now) entries.now dealloc) }
+    ensures linked { IfOk result (λ linked. linked ≡ linked_dealloc (length (orders actions.old.items)) dealloc) }
+{
+    let Some(function) = dealloc else {
+        return Ok(None);
+    };
+    let place = actions.len();
+    append_stub(actions, program, entries, 0, function)?;
+    Ok(Some(place))
+}
+
+/// Appends the stubs of a class. Gives the class, whose dealloc and methods run their stubs.
+fn append_class(
+    alloc: Global,
+    actions: &mut Vec<Action>,
+    program: &Checked,
+    entries: &[usize],
+    class: &Class,
+) -> Result<Class, NoMemory>
+    ensures actions { OnOk result (orders actions.new.items ≡ orders actions.old.items ++ class_orders (program_of program.now) entries.now (class_of class.now)) }
+    ensures linked { IfOk result (λ linked. class_of linked ≡ linked_class (program_of program.now) entries.now (length (orders actions.old.items)) (class_of class.now)) }
+{
+    let dealloc = append_dealloc(actions, program, entries, class.dealloc)?;
+    let methods = append_methods(alloc, actions, program, entries, &class.methods)?;
+    Ok(Class {
+        superclass: class.superclass,
+        methods,
+        dealloc,
+        fields: class.fields,
+    })
+}
+
+/// Appends the stubs of the program's classes. Gives the classes, whose methods and deallocs run
+/// their stubs.
 pub(crate) fn append_classes(
     alloc: Global,
     actions: &mut Vec<Action>,
@@ -75,11 +129,7 @@ pub(crate) fn append_classes(
 {
     let mut linked = Vec::new(alloc);
     for class in &program.classes {
-        let methods = append_methods(alloc, actions, program, entries, &class.methods)?;
-        linked.push(Class {
-            superclass: class.superclass,
-            methods,
-        })?;
+        linked.push(append_class(alloc, actions, program, entries, class)?)?;
     }
     Ok(linked)
 }

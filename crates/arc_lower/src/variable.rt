@@ -7,8 +7,8 @@ use crate::expression::append;
 use arc_ir::action::Action;
 use arc_spec::event::NoMemory;
 
-/// A number of operands, and some more. NoMemory: no stack has so many.
-fn add_operands(depth: usize, more: usize) -> Result<usize, NoMemory>
+/// A number of operands or temporaries, and some more. NoMemory: no stack has so many.
+pub(crate) fn add_operands(depth: usize, more: usize) -> Result<usize, NoMemory>
     ensures { IfOk result (λ sum. sum ≡ depth + more) }
 {
     match depth.checked_add(more) {
@@ -17,7 +17,7 @@ fn add_operands(depth: usize, more: usize) -> Result<usize, NoMemory>
     }
 }
 
-/// One operand more. NoMemory: no stack has so many.
+/// One operand or temporary more. NoMemory: no stack has so many.
 pub(crate) fn one_more(depth: usize) -> Result<usize, NoMemory>
     ensures { IfOk result (λ sum. sum ≡ suc depth) }
 {

@@ -1,9 +1,6 @@
+pub mod Endings
+pub mod Fields
+pub mod Making
+pub mod Newest
 pub mod Piles
-pub mod Stepped
-pub mod Farther
-pub mod Sample
-pub mod Shown
-pub mod Chained
-pub mod Calling
-pub mod Messaging
-pub mod Sliding
+pub mod Standings

@@ -1,7 +1,6 @@
 pub mod Words
+pub mod Cells
+pub mod Standing
 pub mod Views
 pub mod Steps
-pub mod Places
 pub mod Runs
-pub mod Told
-pub mod Sample

@@ -1,12 +1,8 @@
 //! Runs code, an instruction a step.
 #![tactic(auto)]
 
-pub mod calls;
-pub mod engine;
-pub mod fault;
-pub mod machine;
-pub mod place;
+pub mod cell;
+pub mod objects;
 pub mod stack;
 pub mod stop;
-#[cfg(test)]
-mod tests;
+pub mod waiting;

@@ -1,100 +1,118 @@
-//! A stack of numbers, in room that was reserved.
-ghost use Rattle.std.specs.Prelude.{◌≡◌, ◌+◌, ◌<◌, ◌∷◌, length, IfOk, List, ℤ, Some, slice_get};
-ghost use Rattle.arc_machine.specs.Words.{empty, pushed, with_number};
+//! A stack, in room that was reserved.
+ghost use Rattle.std.specs.Prelude.{◌≡◌, ◌+◌, ◌<◌, ◌∷◌, length, IfOk, List, Some, slice_get};
+ghost use Rattle.arc_machine.specs.Words.{empty, pushed, with_item, Took};
 
 use arc_spec::event::NoMemory;
 use std::alloc::Global;
 use std::marker::Model;
 use std::mem;
 
-/// Numbers, of which the last one is on top. It never takes more memory than it was made with.
+/// Numbers, or what else is copied, of which the last one is on top. It never takes more memory than
+/// it was made with.
 #[derive(Drop)]
-pub struct Stack {
-    numbers: Vec<i64>,
+pub struct Stack<T: Copy + Drop> {
+    items: Vec<T>,
 }
 
-impl Model for Stack {
+impl<T: Copy + Drop> Model for Stack<T> {
     ghost use Rattle.std.specs.Prelude.{reverse, vec_capacity};
     ghost use Rattle.arc_machine.specs.Words.{Pile};
 
-    ghost Value = { Pile };
+    ghost Value = { Pile T };
 
-    ghost view = { λ a. record { items = reverse a.numbers.items; room = vec_capacity a.numbers } };
+    ghost view = { λ a. record { items = reverse a.items.items; room = vec_capacity a.items } };
 }
 
-impl Stack {
-    /// An empty stack for so many numbers. The error is a refusal of their memory.
-    pub fn with_room(alloc: Global, room: usize) -> Result<Stack, NoMemory>
+impl<T: Copy + Drop> Stack<T> {
+    /// An empty stack with room for so many. The error is a refusal of their memory.
+    pub fn with_room(alloc: Global, room: usize) -> Result<Stack<T>, NoMemory>
         ensures { IfOk result (λ s. s ≡ empty room) }
     {
         Ok(Stack {
-            numbers: Vec::with_capacity(alloc, room)?,
+            items: Vec::with_capacity(alloc, room)?,
         })
     }
 
     /// Hands the stack out, and leaves one without room.
     #[inline(always)]
-    pub fn lend(&mut self) -> Stack
+    pub fn lend(&mut self) -> Stack<T>
         ensures { result ≡ self.old }
     {
-        let alloc = *self.numbers.allocator();
+        let alloc = *self.items.allocator();
         Stack {
-            numbers: mem::replace(&mut self.numbers, Vec::new(alloc)),
+            items: mem::replace(&mut self.items, Vec::new(alloc)),
         }
     }
 
-    /// Puts a number on top.
+    /// How many there are.
     #[inline(always)]
-    pub fn push(&mut self, number: i64)
+    pub fn len(&self) -> usize
+        ensures { result ≡ length self.now.items }
+    {
+        self.items.len()
+    }
+
+    /// Puts one on top.
+    #[inline(always)]
+    pub fn push(&mut self, item: T)
         requires { length self.old.items < self.old.room }
-        ensures value { self.new ≡ pushed number self.old }
+        ensures value { self.new ≡ pushed item self.old }
         ensures len { length self.new.items ≡ length self.old.items + 1 }
         ensures room { self.new.room ≡ self.old.room }
     {
-        self.numbers.push_reserved(number);
+        self.items.push_reserved(item);
     }
 
-    /// Takes the number on top.
+    /// Takes what is on top.
     #[inline(always)]
-    pub fn pop(&mut self) -> i64
+    pub fn pop(&mut self) -> T
         requires { 0 < length self.old.items }
         ensures value { self.old ≡ pushed result self.new }
         ensures len { length self.old.items ≡ length self.new.items + 1 }
         ensures room { self.new.room ≡ self.old.room }
     {
-        match self.numbers.pop() {
-            Some(number) => number,
+        match self.items.pop() {
+            Some(item) => item,
             None => unreachable!(),
         }
     }
 
-    /// The number on top.
+    /// Takes what is on top, if there is anything.
     #[inline(always)]
-    pub fn top(&self) -> i64
+    pub fn take(&mut self) -> Option<T>
+        ensures took { Took self.old result self.new }
+        ensures room { self.new.room ≡ self.old.room }
+    {
+        self.items.pop()
+    }
+
+    /// What is on top.
+    #[inline(always)]
+    pub fn top(&self) -> T
         requires { 0 < length self.now.items }
-        ensures { (rest : List ℤ) × (self.now.items ≡ result ∷ rest) }
+        ensures { (rest : List T) × (self.now.items ≡ result ∷ rest) }
     {
         self.get(0)
     }
 
-    /// The number below so many others.
+    /// What is below so many others.
     #[inline(always)]
-    pub fn get(&self, depth: usize) -> i64
+    pub fn get(&self, depth: usize) -> T
         requires { depth < length self.now.items }
         ensures { slice_get self.now.items depth ≡ Some result }
     {
-        self.numbers[self.numbers.len() - 1 - depth]
+        self.items[self.items.len() - 1 - depth]
     }
 
-    /// Puts a number in the place of the one below so many others.
+    /// Puts one in the place of what is below so many others.
     #[inline(always)]
-    pub fn set(&mut self, depth: usize, number: i64)
+    pub fn set(&mut self, depth: usize, item: T)
         requires { depth < length self.old.items }
-        ensures value { self.new ≡ with_number self.old depth number }
+        ensures value { self.new ≡ with_item self.old depth item }
         ensures len { length self.new.items ≡ length self.old.items }
         ensures room { self.new.room ≡ self.old.room }
     {
-        let place = self.numbers.len() - 1 - depth;
-        self.numbers[place] = number;
+        let place = self.items.len() - 1 - depth;
+        self.items[place] = item;
     }
 }

@@ -12,6 +12,8 @@ pub enum Stop {
     Fault(Fault),
     /// The program goes on: the steps that the run was given are used.
     StepsUsed,
+    /// The store had no block for a new object.
+    NoHeap,
 }
 
 /// Whether a machine goes on, and else why not.
@@ -22,4 +24,6 @@ pub enum Answer {
     Faulted(Fault),
     /// A device broke a step.
     Broken(IoFault),
+    /// The store had no block for a new object.
+    NoHeap,
 }

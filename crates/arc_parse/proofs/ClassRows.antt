@@ -15,7 +15,7 @@ use Rattle.arc_parse.specs.Grammar.{TopTree, OfNames, OfFunction, OfInterface, O
 use Rattle.arc_parse.specs.Reader.{Read, Reader, Fails, any, begins, bind, ret, ◌>>=◌, sees_mark, sees_name}
 use Rattle.arc_parse.specs.Views.{parameter_tree, parameters_before, parts_then, and_top}
 use Rattle.arc_parse.specs.Limits.{these}
-use Rattle.arc_parse.specs.UnitRules.{Typed, typed_parts, heads, methods, more_names, tops, read, unit, next_part, typed_parts_by, selector_by, typed, next_head_by, heads_by, method_by, methods_by, next_name, more_names_by, top_by, tops_by}
+use Rattle.arc_parse.specs.UnitRules.{Typed, typed_parts, heads, methods, more_names, tops, read, unit, next_part, typed_parts_by, selector_by, typed, begins_method, next_head_by, heads_by, method_by, methods_by, next_name, more_names_by, top_by, tops_by}
 use Rattle.arc_parse.proofs.CommaRows.{parameters_push, parameters_all}
 use Rattle.arc_parse.proofs.UnitFix.{read_names, read_parts, read_heads, read_methods, read_tops}
 
@@ -56,19 +56,19 @@ heads_all : (all : List MethodHead) → before head_tree all [] ≡ head_trees a
 heads_all [] = refl
 heads_all (a ∷ all) = ap (λ v. head_tree a ∷ v) (heads_all all)
 
-heads_here : (us : List Tok) → sees_mark m.Plus us ≡ true → read these heads us ≡ Behind (next_head_by (read these) us) (read these heads)
+heads_here : (us : List Tok) → begins begins_method us ≡ true → read these heads us ≡ Behind (next_head_by (read these) us) (read these heads)
 unfolding heads_by
 heads_here us n = read_heads us ∙ rw n refl
 
-pub head_more : (all : List MethodHead) (a : MethodHead) (us rest : List Tok) → sees_mark m.Plus us ≡ true → next_head_by (read these) us ≡ Ok (head_tree a, rest)
+pub head_more : (all : List MethodHead) (a : MethodHead) (us rest : List Tok) → begins begins_method us ≡ true → next_head_by (read these) us ≡ Ok (head_tree a, rest)
     → with_row head_tree all (read these heads us) ≡ with_row head_tree (all ++ a ∷ []) (read these heads rest)
 head_more all a us rest n h = ap (with_row head_tree all) (heads_here us n) ∙ row_more head_tree all a (next_head_by (read these) us) rest (read these heads) h
 
-pub heads_end : (all : List MethodHead) (us : List Tok) → sees_mark m.Plus us ≡ false → with_row head_tree all (read these heads us) ≡ Ok (head_trees all, us)
+pub heads_end : (all : List MethodHead) (us : List Tok) → begins begins_method us ≡ false → with_row head_tree all (read these heads us) ≡ Ok (head_trees all, us)
 unfolding heads_by
 heads_end all us n = rw (read_heads us, n) (ap (λ a. Ok (a, us)) (heads_all all))
 
-pub head_fails : (e : Fail) (all : List MethodHead) (us : List Tok) (whole : Read (List HeadTree)) → sees_mark m.Plus us ≡ true
+pub head_fails : (e : Fail) (all : List MethodHead) (us : List Tok) (whole : Read (List HeadTree)) → begins begins_method us ≡ true
     → whole ≡ with_row head_tree all (read these heads us) → Fails e (next_head_by (read these) us) → Fails e whole
 head_fails e all us whole n w h = row_fails head_tree e all (next_head_by (read these) us) (read these heads) whole (w ∙ ap (with_row head_tree all) (heads_here us n)) h
 
@@ -78,19 +78,19 @@ methods_all : (all : List Method) → before method_tree all [] ≡ method_trees
 methods_all [] = refl
 methods_all (a ∷ all) = ap (λ v. method_tree a ∷ v) (methods_all all)
 
-methods_here : (us : List Tok) → sees_mark m.Plus us ≡ true → read these methods us ≡ Behind (method_by (read these) us) (read these methods)
+methods_here : (us : List Tok) → begins begins_method us ≡ true → read these methods us ≡ Behind (method_by (read these) us) (read these methods)
 unfolding methods_by
 methods_here us n = read_methods us ∙ rw n refl
 
-pub method_more : (all : List Method) (a : Method) (us rest : List Tok) → sees_mark m.Plus us ≡ true → method_by (read these) us ≡ Ok (method_tree a, rest)
+pub method_more : (all : List Method) (a : Method) (us rest : List Tok) → begins begins_method us ≡ true → method_by (read these) us ≡ Ok (method_tree a, rest)
     → with_row method_tree all (read these methods us) ≡ with_row method_tree (all ++ a ∷ []) (read these methods rest)
 method_more all a us rest n h = ap (with_row method_tree all) (methods_here us n) ∙ row_more method_tree all a (method_by (read these) us) rest (read these methods) h
 
-pub methods_end : (all : List Method) (us : List Tok) → sees_mark m.Plus us ≡ false → with_row method_tree all (read these methods us) ≡ Ok (method_trees all, us)
+pub methods_end : (all : List Method) (us : List Tok) → begins begins_method us ≡ false → with_row method_tree all (read these methods us) ≡ Ok (method_trees all, us)
 unfolding methods_by
 methods_end all us n = rw (read_methods us, n) (ap (λ a. Ok (a, us)) (methods_all all))
 
-pub method_fails : (e : Fail) (all : List Method) (us : List Tok) (whole : Read (List MethodTree)) → sees_mark m.Plus us ≡ true
+pub method_fails : (e : Fail) (all : List Method) (us : List Tok) (whole : Read (List MethodTree)) → begins begins_method us ≡ true
     → whole ≡ with_row method_tree all (read these methods us) → Fails e (method_by (read these) us) → Fails e whole
 method_fails e all us whole n w h = row_fails method_tree e all (method_by (read these) us) (read these methods) whole (w ∙ ap (with_row method_tree all) (methods_here us n)) h
 

@@ -10,8 +10,8 @@ use Rattle.arc_parse.specs.declared.fail.Fail.TheVariants.{Memory, Unexpected, T
 use Rattle.arc_parse.specs.Reader.{Read, Fault, misfit, too_deep, Fails, bind, ret, sees_mark}
 use Rattle.arc_parse.specs.Views.{parameter_tree, variables_before, variables_then, parameters_before, parameters_then}
 use Rattle.arc_parse.specs.Limits.{these}
-use Rattle.arc_parse.specs.UnitRules.{Rules, more_variables, more_parameters, read, next_variable_by, more_variables_by, next_parameter, more_parameters_by}
-use Rattle.arc_parse.proofs.UnitFix.{read_variables, read_parameters}
+use Rattle.arc_parse.specs.UnitRules.{Rules, more_variables, more_references, more_parameters, read, next_variable_by, more_variables_by, next_reference_by, more_references_by, next_parameter, more_parameters_by}
+use Rattle.arc_parse.proofs.UnitFix.{read_variables, read_references, read_parameters}
 
 abbrev rd : Rules
 rd = read these
@@ -48,6 +48,31 @@ pub variable_fails : (e : Fail) (all : List Variable) (us : List Tok) (whole : R
 variable_fails Memory all us whole n w h = tt
 variable_fails (Unexpected s) all us whole n w h = w ∙ variables_fail all us (misfit, toks s.now) n h
 variable_fails (TooDeep s) all us whole n w h = w ∙ variables_fail all us (too_deep, toks s.now) n h
+
+-- ---- variables with a `*` each
+
+pub reference_more : (all : List Variable) (a : Variable) (us rest : List Tok) → sees_mark m.Comma us ≡ true → next_reference_by these us ≡ Ok (variable_tree a, rest)
+    → variables_then all (read these more_references us) ≡ variables_then (all ++ a ∷ []) (read these more_references rest)
+unfolding more_references_by
+reference_more all a us rest n h = rw (read_references us, n, h) (go (rd more_references rest))
+  where
+    go : (r : Read (List VariableTree)) → variables_then all (bind r (λ others. ret (variable_tree a ∷ others))) ≡ variables_then (all ++ a ∷ []) r
+    go (Ok x) = ap (λ y. Ok (y, x.1)) (sym (variables_push all a x.0))
+    go (Err e) = refl
+
+pub references_end : (all : List Variable) (us : List Tok) → sees_mark m.Comma us ≡ false → variables_then all (read these more_references us) ≡ Ok (variable_trees all, us)
+unfolding more_references_by
+references_end all us y = rw (read_references us, y) (ap (λ a. Ok (a, us)) (variables_all all))
+
+references_fail : (all : List Variable) (us : List Tok) (e : Fault × List Tok) → sees_mark m.Comma us ≡ true → next_reference_by these us ≡ Err e → variables_then all (read these more_references us) ≡ Err e
+unfolding more_references_by
+references_fail all us e n h = rw (read_references us, n, h) refl
+
+pub reference_fails : (e : Fail) (all : List Variable) (us : List Tok) (whole : Read (List VariableTree)) → sees_mark m.Comma us ≡ true
+    → whole ≡ variables_then all (read these more_references us) → Fails e (next_reference_by these us) → Fails e whole
+reference_fails Memory all us whole n w h = tt
+reference_fails (Unexpected s) all us whole n w h = w ∙ references_fail all us (misfit, toks s.now) n h
+reference_fails (TooDeep s) all us whole n w h = w ∙ references_fail all us (too_deep, toks s.now) n h
 
 -- ---- parameters
 

@@ -3,7 +3,7 @@ use Rattle.std.proofs.Common.{◌≡◌, ℕ, zero, suc, ◌≤◌, ◌-◌, Lis
 use Rattle.arc_lex.specs.Tokens.{Tok}
 use Rattle.arc_ast.specs.Tree.{ExprTree}
 use Rattle.arc_parse.specs.Reader.{◌>>=◌}
-use Rattle.arc_parse.specs.ExprRules.{read, expr, unary, more, arguments, parts, expr_by, unary_by, more_by, arguments_by, parts_by, binary_by}
+use Rattle.arc_parse.specs.ExprRules.{read, expr, unary, arrows, more, arguments, parts, expr_by, unary_by, arrows_by, more_by, arguments_by, parts_by, binary_by}
 use Rattle.arc_parse.proofs.ExprLocal.{read_is}
 
 pub read_expr : (ts : List Tok) → read expr ts ≡ expr_by read ts
@@ -11,6 +11,9 @@ read_expr ts = read_is expr ts
 
 pub read_unary : (ts : List Tok) → read unary ts ≡ unary_by read ts
 read_unary ts = read_is unary ts
+
+pub read_arrows : (object : ExprTree) (ts : List Tok) → read (arrows object) ts ≡ arrows_by read object ts
+read_arrows object ts = read_is (arrows object) ts
 
 pub read_more : (l : ℕ) (left : ExprTree) (ts : List Tok) → read (more l left) ts ≡ more_by read l left ts
 read_more l left ts = read_is (more l left) ts

@@ -8,15 +8,15 @@ use Rattle.arc_lex.specs.Tokens.{Tok, Sort, Sign, Key}
 use Rattle.arc_lex.specs.Tokens as tokens
 use Rattle.arc_ast.specs.declared.tree.BinaryOperator.{BinaryOperator}
 use Rattle.arc_ast.specs.declared.tree.BinaryOperator.TheVariants.{Add, Subtract, Multiply, Divide, NotEqual}
-use Rattle.arc_ast.specs.Tree.{ExprTree, ExprTrees, Named, Itself, Super, Integer, Text, Paren, Call, Negate, Binary, Name, Assign, Send, no_exprs, and_expr, begins}
-use Rattle.arc_parse.specs.Language.{Language, ◌⨾◌, One, The}
-use Rattle.arc_parse.specs.Grammar.{Spells, SpellsArguments, SpellsMore, SpellsReceiver, SpellsSent, SpellsParts, and_part, mark_of, binds, widest}
+use Rattle.arc_ast.specs.Tree.{ExprTree, ExprTrees, Id, Object, Integer, Text, Paren, Call, Nil, Itself, Name, Negate, Cast, Binary, Arrow, Assign, Send, SendSuper, no_exprs, and_expr, begins}
+use Rattle.arc_parse.specs.Language.{Language, ◌⨾◌, One, The, TheWord}
+use Rattle.arc_parse.specs.Grammar.{Spells, SpellsArguments, SpellsMore, SpellsCastType, SpellsSent, SpellsParts, and_part, mark_of, binds, widest}
 use Rattle.arc_parse.specs.Reader.{Fault, ret}
 use Rattle.arc_parse.specs.Knot.{deep, tied}
-use Rattle.arc_parse.specs.ExprRules.{Rule, Node, Rules, Sent, expr, unary, more, arguments, parts, literal, literal_of, operator, operator_of, is_operator, is_there, at_level, mark_operator, parenthesized_by, given_by, call_by, named_by, receiver, part_by, parts_by, sent_by, message_by, primary_by, negate_by, unary_by, binary_by, more_by, is_unary, assign_by, expr_by, arguments_by, body, read}
+use Rattle.arc_parse.specs.ExprRules.{Rule, Node, Rules, Sent, expr, unary, arrows, more, arguments, parts, literal, literal_of, operator, operator_of, is_operator, is_there, at_level, mark_operator, parenthesized_by, given_by, call_by, named_by, part_by, parts_by, sent_by, super_by, object_by, message_by, primary_by, arrows_by, postfix_by, begins_cast, cast_type, cast_by, negate_by, unary_by, binary_by, more_by, is_unary, assign_by, expr_by, arguments_by, body, read}
 use Rattle.arc_parse.proofs.Leaves.{a_token, some_is, viable_expect, viable_keyword, viable_name}
 use Rattle.arc_parse.proofs.Sound.{Sound, Behind, sound_token, sound_as}
-use Rattle.arc_parse.proofs.Viable.{Viable, Front, viable_then, viable_ret, viable_if, viable_as, viable_token, viable_guarded, viable_unexpected}
+use Rattle.arc_parse.proofs.Viable.{Viable, Front, viable_then, viable_ret, viable_if, viable_ahead, viable_as, viable_token, viable_guarded, viable_unexpected}
 
 -- ---- leaves
 
@@ -26,8 +26,10 @@ sound_literal = sound_as (sound_token (λ t. literal_of t.from t.sort)) (λ e xs
     go : (e : ExprTree) (xs : List Tok) (t : Tok) (s : Sort) → t.sort ≡ s → xs ≡ t ∷ [] → literal_of t.from s ≡ Some e → Spells 0 e xs
     go e xs t (tokens.Integer value) is cut h = subst (λ a. Spells 0 a xs) (some_is (Integer t.from value) e h) (t, cut, is, refl)
     go e xs t (tokens.Text bytes) is cut h = subst (λ a. Spells 0 a xs) (some_is (Text t.from bytes) e h) (t, cut, is, refl)
+    go e xs t (Key w.Nil) is cut h = subst (λ a. Spells 0 a xs) (some_is (Nil t.from) e h) (t, cut, is, refl)
+    go e xs t (Key w.SelfWord) is cut h = subst (λ a. Spells 0 a xs) (some_is (Itself t.from) e h) (t, cut, is, refl)
+    go e xs t (Key _) is cut h = cc
     go e xs t (tokens.Name bytes) is cut h = cc
-    go e xs t (Key word) is cut h = cc
     go e xs t (tokens.At word) is cut h = cc
     go e xs t (Sign mark) is cut h = cc
 
@@ -89,11 +91,16 @@ looser (Integer at value) l j xs p h = h
 looser (Text at bytes) l j xs p h = h
 looser (Paren at a) l j xs p h = h
 looser (Call at called args) l j xs p h = h
+looser (Nil at) l j xs p h = h
+looser (Itself at) l j xs p h = h
 looser (Negate at a) l j xs p h = (omega (arith, h.0), h.1)
+looser (Cast at type a) l j xs p h = (omega (arith, h.0), h.1)
+looser (Arrow at name_at a called) l j xs p h = h
 looser (Binary at o a b) l j xs p h = (omega (arith, h.0), h.1, h.2)
 looser (Name at called) l j xs p h = h
 looser (Assign at sign a b) l j xs p h = (omega (arith, h.0), h.1, h.2)
-looser (Send at part to selector args) l j xs p h = h
+looser (Send at part a selector args) l j xs p h = h
+looser (SendSuper at part super_at selector args) l j xs p h = h
 
 -- a unary tree is of the unary level
 unary_level : (t : ExprTree) (l : ℕ) (xs : List Tok) → is_unary t ≡ true → Spells l t xs → Spells 1 t xs
@@ -101,11 +108,16 @@ unary_level (Integer at value) l xs e h = h
 unary_level (Text at bytes) l xs e h = h
 unary_level (Paren at a) l xs e h = h
 unary_level (Call at called args) l xs e h = h
+unary_level (Nil at) l xs e h = h
+unary_level (Itself at) l xs e h = h
 unary_level (Negate at a) l xs e h = (omega arith, h.1)
+unary_level (Cast at type a) l xs e h = (omega arith, h.1)
+unary_level (Arrow at name_at a called) l xs e h = h
 unary_level (Binary at o a b) l xs e h = cc
 unary_level (Name at called) l xs e h = h
 unary_level (Assign at sign a b) l xs e h = cc
-unary_level (Send at part to selector args) l xs e h = h
+unary_level (Send at part a selector args) l xs e h = h
+unary_level (SendSuper at part super_at selector args) l xs e h = h
 
 -- ---- the rules
 
@@ -118,6 +130,7 @@ Filled (and_expr a others) = Spells widest a ⨾ SpellsMore others
 abbrev pub Given : (rule : Rule) → Node rule → Language
 Given expr t = Spells widest t
 Given unary t = Spells 1 t
+Given (arrows object) t = λ ys. (xs : List Tok) → Spells 0 object xs → Spells 0 t (xs ++ ys)
 Given (more l left) t = λ ys. 1 ≤ l → (xs : List Tok) → Spells (1 + l) left xs → Spells (1 + l) t (xs ++ ys)
 Given arguments all = Filled all
 Given parts all = SpellsParts all.0 all.1
@@ -129,11 +142,13 @@ AreViable g = (rule : Rule) → Viable (g rule) (Given rule)
 last : (L : Language) (xs : List Tok) → L xs → L (xs ++ [])
 last L xs x = subst L (sym (append-nil xs)) x
 
-receiver_viable : Viable receiver SpellsReceiver
-unfolding receiver
-receiver_viable = viable_if _ (viable_then (viable_keyword _) (λ at. viable_ret (Itself at) (λ xs x. last (One (Key w.SelfWord) at) xs x)))
-    (viable_if _ (viable_then (viable_keyword _) (λ at. viable_ret (Super at) (λ xs x. last (One (Key w.Super) at) xs x)))
-    (viable_then viable_name (λ called. viable_ret (Named called.0 called.1) (λ xs x. last (One (tokens.Name called.1) called.0) xs x))))
+regroup : (a b c d : List Tok) → (a ++ (b ++ c)) ++ d ≡ a ++ (b ++ (c ++ d))
+regroup a b c d = simp append_assoc
+
+cast_type_viable : Viable cast_type SpellsCastType
+unfolding cast_type
+cast_type_viable = viable_if _ (viable_then (viable_keyword _) (λ at. viable_ret Id (λ xs x. last (TheWord w.Id) xs (at, x))))
+    (viable_then viable_name (λ called. viable_then (viable_expect _) (λ star. viable_ret (Object called.0 called.1) (λ ys y xs x. (xs, ys ++ [], refl, x, last (The m.Star) ys (star, y))))))
 
 -- what is behind the name of a part
 abbrev Part : List ℕ → Sent → Language
@@ -182,20 +197,50 @@ module _ (g : Rules) (rec : AreViable g) where
   sent_viable called = viable_if _ (viable_as (part_viable called.1) (λ all ys h ns n. as_sent called all ys ns h n))
       (viable_ret (called.1, no_exprs) (λ ns n. last (One (tokens.Name called.1) called.0) ns n))
 
-  message_viable : Viable (message_by g) (Spells 0)
-  unfolding message_by
-  message_viable = viable_then (viable_expect _) (λ at. viable_then receiver_viable (λ to. viable_then viable_name (λ called. viable_then (sent_viable called) (λ all. viable_then (viable_expect _) (λ end.
-      viable_ret (Send at called.0 to all.0 all.1) (λ es e ss s ns n rs r os o. (
+  super_viable : (at : ℕ) → Viable (super_by g at) (Behind (One (Sign m.OpenSquare) at) (Spells 0))
+  unfolding super_by
+  super_viable at = viable_then (viable_keyword _) (λ super_at. viable_then viable_name (λ called. viable_then (sent_viable called) (λ all. viable_then (viable_expect _) (λ end.
+      viable_ret (SendSuper at called.0 super_at all.0 all.1) (λ es e ss s ns n rs r os o. (
         os,
         rs ++ (ns ++ (ss ++ (es ++ []))),
         refl,
         o,
         (rs, ns ++ (ss ++ (es ++ [])), refl, r, (ns ++ ss, es ++ [], sym (append_assoc ns ss (es ++ [])), s ns n, last (The m.CloseSquare) es (end, e))),
-      )))))))
+      ))))))
+
+  object_viable : (at : ℕ) → Viable (object_by g at) (Behind (One (Sign m.OpenSquare) at) (Spells 0))
+  unfolding object_by
+  object_viable at = viable_then (rec expr) (λ object. viable_then viable_name (λ called. viable_then (sent_viable called) (λ all. viable_then (viable_expect _) (λ end.
+      viable_ret (Send at called.0 object all.0 all.1) (λ es e ss s ns n rs r os o. (
+        os,
+        rs ++ (ns ++ (ss ++ (es ++ []))),
+        refl,
+        o,
+        (rs, ns ++ (ss ++ (es ++ [])), refl, r, (ns ++ ss, es ++ [], sym (append_assoc ns ss (es ++ [])), s ns n, last (The m.CloseSquare) es (end, e))),
+      ))))))
+
+  message_viable : Viable (message_by g) (Spells 0)
+  unfolding message_by
+  message_viable = viable_then (viable_expect _) (λ at. viable_if _ (super_viable at) (object_viable at))
 
   primary_viable : Viable (primary_by g) (Spells 0)
   unfolding primary_by
   primary_viable = viable_if _ named_viable (viable_if _ parenthesized_viable (viable_if _ message_viable viable_literal))
+
+  arrows_viable : (object : ExprTree) → Viable (arrows_by g object) (Given (arrows object))
+  unfolding arrows_by
+  arrows_viable object = viable_if _ (viable_then (viable_expect _) (λ arrow. viable_then viable_name (λ called. viable_as (rec (arrows (Arrow (begins object) called.0 object called.1)))
+      (λ t zs k ys y xs x os o. subst (Spells 0 t) (regroup os xs ys zs) (k (os ++ (xs ++ ys)) (refl, (os, xs ++ ys, refl, o, (xs, ys, refl, (arrow, x), y))))))))
+      (viable_ret object (λ os o. last (Spells 0 object) os o))
+
+  postfix_viable : Viable (postfix_by g) (Spells 0)
+  unfolding postfix_by
+  postfix_viable = viable_then primary_viable (λ object. viable_as (rec (arrows object)) (λ t ys k xs x. k xs x))
+
+  cast_viable : Viable (cast_by g) (Spells 1)
+  unfolding cast_by
+  cast_viable = viable_then (viable_expect _) (λ at. viable_then cast_type_viable (λ type. viable_then (viable_expect _) (λ end. viable_then (rec unary) (λ operand. viable_ret (Cast at type operand)
+      (λ zs z es e ts t os o. (omega arith, (os, ts ++ (es ++ (zs ++ [])), refl, o, (ts, es ++ (zs ++ []), refl, t, (es, zs ++ [], refl, (end, e), last (Spells 1 operand) zs z)))))))))
 
   negate_viable : Viable (negate_by g) (Spells 1)
   unfolding negate_by
@@ -204,7 +249,7 @@ module _ (g : Rules) (rec : AreViable g) where
 
   unary_viable : Viable (unary_by g) (Spells 1)
   unfolding unary_by
-  unary_viable = viable_if _ negate_viable (viable_as primary_viable (λ t xs x. looser t 0 1 xs (omega arith) x))
+  unary_viable = viable_if _ negate_viable (viable_ahead begins_cast cast_viable (viable_as postfix_viable (λ t xs x. looser t 0 1 xs (omega arith) x)))
 
   binary_viable : (l : ℕ) → Viable (binary_by g l) (Spells (1 + l))
   unfolding binary_by
@@ -218,9 +263,6 @@ module _ (g : Rules) (rec : AreViable g) where
       (λ t zs k ys y xs x some ls h. subst (Spells (1 + l) t) (regroup ls xs ys zs) (k some (ls ++ (xs ++ ys)) (made l some o right xs ys ls x y h)))))
       (viable_ret _ (λ some ls h. last (Spells (1 + l) left) ls h))
     where
-      regroup : (a b c d : List Tok) → (a ++ (b ++ c)) ++ d ≡ a ++ (b ++ (c ++ d))
-      regroup a b c d = simp append_assoc
-
       made : (l : ℕ) → 1 ≤ l → (o : BinaryOperator) (right : ExprTree) (xs ys ls : List Tok) → AnOperator l o xs → Spells (1 + (l - 1)) right ys → Spells (1 + l) left ls
           → Spells (1 + l) (Binary (begins left) o left right) (ls ++ (xs ++ ys))
       made l some o right xs ys ls x y h =
@@ -258,6 +300,7 @@ module _ (g : Rules) (rec : AreViable g) where
   body_viable : AreViable (body g)
   body_viable expr = expr_viable
   body_viable unary = unary_viable
+  body_viable (arrows object) = arrows_viable object
   body_viable (more l left) = more_viable l left
   body_viable arguments = arguments_viable
   body_viable parts = parts_viable
@@ -266,6 +309,7 @@ module _ (g : Rules) (rec : AreViable g) where
 an_example : (rule : Rule) → (a : Node rule) × (xs : List Tok) × Given rule a xs
 an_example expr = (Text 0 [], a_token (tokens.Text []) ∷ [], a_text widest)
 an_example unary = (Text 0 [], a_token (tokens.Text []) ∷ [], a_text 1)
+an_example (arrows object) = (object, [], λ xs h. last (Spells 0 object) xs h)
 an_example (more l left) = (left, [], λ some xs h. last (Spells (1 + l) left) xs h)
 an_example arguments = (and_expr (Text 0 []) no_exprs, a_token (tokens.Text []) ∷ [], (a_token (tokens.Text []) ∷ [], [], refl, a_text widest, refl))
 an_example parts = (([], no_exprs), [], (refl, refl))

@@ -59,10 +59,10 @@ abbrev pub plain_whole : Reader ExprTree
 plain_whole = plain whole
 
 pub whole_local : AlwaysLocal plain_whole
-whole_local k = local_plain (exprs_local.read_local k expr)
+whole_local k = local_plain (exprs_local.read_local {S = Unit {0}} k expr)
 
 pub left_short : (us r : List Tok) (y : Fault) → whole us ≡ Err (y, r) → length r ≤ length us
-left_short us r y e = subst (λ x. length (rest_of x) ≤ length us) e (stops_short ((exprs_local.read_local (suc (length us)) expr).each us (omega arith)))
+left_short us r y e = subst (λ x. length (rest_of x) ≤ length us) e (stops_short ((exprs_local.read_local {S = Unit {0}} (suc (length us)) expr).each us (omega arith)))
 
 pub plain_is : (us : List Tok) (x : Read ExprTree) → whole us ≡ x → plain_whole us ≡ plainly x
 unfolding plain

@@ -10,7 +10,7 @@ use Rattle.arc_parse.specs.Limits.{Limits, plainly, goes_over}
 use Rattle.arc_parse.specs.Grammar.{widest, Spells}
 use Rattle.arc_parse.specs.ExprRules.{expr, is_operator, mark_operator}
 use Rattle.arc_parse.specs.UnitRules.{full}
-use Rattle.arc_parse.specs.TooDeep.{is_binary, ends_with_name, ends_with_place, goes_on, BeginsFull, AllLonger, Starts, TooDeep, expression}
+use Rattle.arc_parse.specs.TooDeep.{follows_any, ends_with_name, ends_with_place, goes_on, BeginsFull, AllLonger, Starts, TooDeep, expression}
 use Rattle.arc_parse.proofs.Local.{fault_of}
 use Rattle.arc_parse.proofs.Front.{whole, plain_whole, whole_local, plain_is}
 use Rattle.arc_parse.proofs.Limited.{over_alike, take_again, up_to_tells}
@@ -35,7 +35,7 @@ cut_here (suc n) [] = refl
 cut_here (suc n) (t ∷ ts) = ap (λ v. t ∷ v) (cut_here n ts)
 
 -- what does not go on with an expression ends it
-no_operator : (mark : Mark) → is_binary (Sign mark) ≡ false → mark_operator mark ≡ None
+no_operator : (mark : Mark) → follows_any (Sign mark) ≡ false → mark_operator mark ≡ None
 no_operator m.NotEqual e = cc
 no_operator m.Plus e = cc
 no_operator m.Minus e = cc
@@ -43,11 +43,15 @@ no_operator m.Star e = cc
 no_operator m.Slash e = cc
 no_operator _ e = refl
 
+no_arrow : (s : Sort) → follows_any s ≡ false → is_mark m.Arrow s ≡ false
+no_arrow (Sign m.Arrow) e = e
+no_arrow _ e = refl
+
 not_both : (a b : Bool) → (a && b) ≡ false → b ≡ true → a ≡ false
 not_both true b h e = sym e ∙ h
 not_both false b h e = refl
 
-no_binary : (t : Tok) → is_binary t.sort ≡ false → (j : ℕ) → is_operator j t ≡ false
+no_binary : (t : Tok) → follows_any t.sort ≡ false → (j : ℕ) → is_operator j t ≡ false
 no_binary t e j = go t.sort refl
   where
     go : (s : Sort) → t.sort ≡ s → is_operator j t ≡ false
@@ -56,17 +60,18 @@ no_binary t e j = go t.sort refl
     go (Text b) q = rw q refl
     go (Key k) q = rw q refl
     go (At k) q = rw q refl
-    go (Sign mark) q = rw (q, no_operator mark (sym (ap is_binary q) ∙ e)) refl
+    go (Sign mark) q = rw (q, no_operator mark (sym (ap follows_any q) ∙ e)) refl
 
 ends_expr : (e : ExprTree) (others : List Tok) → begins (goes_on e) others ≡ false → Ends e widest others
 ends_expr e [] h = ends_nil e widest
 ends_expr e (t ∷ us) h =
-    let binary = is_binary t.sort in
+    let binary = follows_any t.sort in
     let paren = is_mark m.OpenParen t.sort && ends_with_name e in
     let p = neither (binary || paren) (is_mark m.Assign t.sort && ends_with_place e) h in
     let q = neither binary paren p.0 in
     record {
       operators = λ j x y. no_binary t q.0 j;
+      arrow = no_arrow t.sort q.0;
       call = not_both (is_mark m.OpenParen t.sort) (ends_with_name e) q.1;
       assign = λ x. not_both (is_mark m.Assign t.sort) (ends_with_place e) p.1;
     }

@@ -25,3 +25,4 @@ pub mod UnitFix
 pub mod UnitRows
 pub mod CommaRows
 pub mod ClassRows
+pub mod FieldRows

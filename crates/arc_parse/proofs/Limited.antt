@@ -34,7 +34,7 @@ is_not_longer : (a n l : ℕ) → nat_lt (a + n) l ≡ false → l ≤ a + n
 is_not_longer a n l e = ltb-false (a + n) l e
 
 -- what stops within the limit stops before the limit or at it
-stops_within : {A : Type 0} (n : ℕ) (x : Read A) (h : Reader A) (us : List Tok) (s : StopsAt 1 x h us) → goes_over n us x ≡ false → length s.before ≤ n
+stops_within : {A : Type 0} (n : ℕ) (x : Read A) (h : Reader A) (us : List Tok) (s : StopsAt (Unit {0}) 1 x h us) → goes_over n us x ≡ false → length s.before ≤ n
 stops_within n (Ok x) h us s o =
     let far = is_not_longer (length x.1) n (length us) o in
     omega (arith, length-append s.before x.1, ap length s.cut, far)
@@ -54,7 +54,7 @@ no_first (t ∷ a) [] e z = cc
 no_first (t ∷ a) (u ∷ b) e z = absurd (omega arith)
 
 -- nor does it with other tokens behind
-within_too : {A : Type 0} (n : ℕ) (x : Read A) (h : Reader A) (us r : List Tok) (s : StopsAt 1 x h us) → goes_over n us x ≡ false → first r ≡ first (rest_of x)
+within_too : {A : Type 0} (n : ℕ) (x : Read A) (h : Reader A) (us r : List Tok) (s : StopsAt (Unit {0}) 1 x h us) → goes_over n us x ≡ false → first r ≡ first (rest_of x)
     → goes_over n (s.before ++ r) (put x r) ≡ false
 within_too n (Ok x) h us r s o f =
     let few = stops_within n (Ok x) h us s o in
@@ -84,7 +84,7 @@ within_too n (Err e) h us r s o f = go (nat_lt n (length us)) refl o
         at (suc k) z = end (nat_lt n (length all)) (not_longer (length r) n (suc (length all)) (omega (arith, length-append s.before e.1, ap length s.cut, length-append s.before r, ltb-false n (length us) p)))
 
 abbrev pub AlwaysLocal : {A : Type 0} → Reader A → Type 0
-AlwaysLocal f = (k : ℕ) → Local 1 k f f
+AlwaysLocal f = (k : ℕ) → Local (Unit {0}) 1 k f f
 
 -- what stops within the limit is read so of all lists that are alike up to the limit and one token more
 pub record Alike {A : Type 0} (n : ℕ) (f : Reader A) (us ts : List Tok) : Type 0 where
@@ -100,7 +100,7 @@ alike n f us ts loc e o =
     let s = (loc (suc (length us))).each us (omega arith) in
     let few = stops_within n (f us) f us s o in
     let r = split_alike (suc n) s.before (rest_of (f us)) ts (e ∙ ap (take (suc n)) s.cut) (omega arith) in
-    let same : f (s.before ++ r.0) ≡ put (f us) r.0 = s.same r.0 (r.2 (omega arith)) in
+    let same : f (s.before ++ r.0) ≡ put (f us) r.0 = s.same tt r.0 (r.2 (omega arith)) in
     let is : f ts ≡ put (f us) r.0 = ap f r.1 ∙ same in
     record {
       before = s.before;
@@ -143,20 +143,22 @@ take_again zero (t ∷ ts) (u ∷ more) p e = (cc, refl)
 take_again (suc n) (t ∷ ts) more p e = let q = take_again n ts more (omega arith) e in (ap (λ v. t ∷ v) q.0, q.1)
 
 -- a reader with a limit is local
-pub up_to_local : {A : Type 0} {k : ℕ} {f : Reader A} (most : Option ℕ) → AlwaysLocal f → Local 1 k (up_to most f) (up_to most f)
+pub up_to_local : {A : Type 0} {S : Type 0} {k : ℕ} {f : Reader A} (most : Option ℕ) → AlwaysLocal f → Local S 1 k (up_to most f) (up_to most f)
 unfolding up_to
-up_to_local {A = A} {k = k} {f = f} None loc = record { each = λ ts short. let s = (loc k).each ts short in record { before = s.before; cut = s.cut; moves = s.moves; same = s.same } }
-up_to_local {A = A} {k = k} {f = f} (Some n) loc = record { each = λ ts short. go ts short (goes_over n ts (f ts)) refl }
+up_to_local {A = A} {k = k} {f = f} None loc =
+    record { each = λ ts short. let s = (loc k).each ts short in record { before = s.before; cut = s.cut; moves = s.moves; agrees = refl; same = λ so. s.same tt } }
+up_to_local {A = A} {S = S} {k = k} {f = f} (Some n) loc = record { each = λ ts short. go ts short (goes_over n ts (f ts)) refl }
   where
     limited : Reader A
     limited ts = cut (Some n) ts (f ts)
 
-    go : (ts : List Tok) → length ts < k → (b : Bool) → goes_over n ts (f ts) ≡ b → StopsAt 1 (cond b (Err (too_deep, drop n ts)) (f ts)) limited ts
+    go : (ts : List Tok) → length ts < k → (b : Bool) → goes_over n ts (f ts) ≡ b → StopsAt S 1 (cond b (Err (too_deep, drop n ts)) (f ts)) limited ts
     go ts short true o = record {
       before = take n ts;
       cut = take_cut n ts;
       moves = tt;
-      same = λ more e.
+      agrees = rw (o) refl;
+      same = λ so more e.
           let p = take_again n ts more (over_more n ts (f ts) o) e in
           let over = over_alike n f ts (take n ts ++ more) loc p.0 o in
           rw (over) (ap (λ r. Err (too_deep, r)) p.1);
@@ -167,8 +169,9 @@ up_to_local {A = A} {k = k} {f = f} (Some n) loc = record { each = λ ts short. 
           before = s.before;
           cut = s.cut;
           moves = s.moves;
-          same = λ more e.
-              let is = s.same more e in
+          agrees = rw (o) refl;
+          same = λ so more e.
+              let is = s.same tt more e in
               let within = subst (λ x. goes_over n (s.before ++ more) x ≡ false) (sym is) (within_too n (f ts) f ts more s o e) in
               rw (within) is;
         }

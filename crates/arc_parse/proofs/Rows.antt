@@ -1,13 +1,12 @@
 -- The arguments of a call and of a message, as lists.
-use Rattle.std.proofs.Common.{◌≡◌, ℕ, List, [], ◌∷◌, ◌++◌, Vec, Global, Result, Ok, Err, true, append_assoc, append-nil, refl, sym, ap, ◌∙◌}
+use Rattle.std.proofs.Common.{◌≡◌, ℕ, List, [], ◌∷◌, ◌++◌, Vec, Box, Global, Result, Ok, Err, true, append_assoc, append-nil, refl, sym, ap, ◌∙◌}
 use denote.Bor.{Bor}
 use mathlib.Core.Former.{Count}
 use Rattle.arc_lex.specs.declared.token.Mark.TheVariants as m
 use Rattle.arc_lex.specs.declared.token.Token.{Token}
 use Rattle.arc_lex.specs.Tokens.{Tok, toks}
-use Rattle.arc_ast.specs.declared.tree.Receiver.{Receiver}
-use Rattle.arc_ast.specs.declared.tree.Expr.{Expr, Call, Call', Send, Send', Row_of-Expr, end_of-Expr, more_of-Expr, items-the_row-Expr, items_hidden-the_row-Expr-0}
-use Rattle.arc_ast.specs.Tree.{ExprTree, ExprTrees, no_exprs, and_expr, expr_tree, row_exprs, expr_trees, receiver_tree}
+use Rattle.arc_ast.specs.declared.tree.Expr.{Expr, Call, Call', Send, Send', SendSuper, SendSuper', Row_of-Expr, end_of-Expr, more_of-Expr, items-the_row-Expr, items_hidden-the_row-Expr-0}
+use Rattle.arc_ast.specs.Tree.{ExprTree, ExprTrees, no_exprs, and_expr, expr_tree, row_exprs, expr_trees}
 use Rattle.arc_ast.specs.Tree as tree
 use Rattle.arc_parse.specs.declared.fail.Fail.{Fail}
 use Rattle.arc_parse.specs.declared.fail.Fail.TheVariants.{Memory, Unexpected, TooDeep}
@@ -18,7 +17,8 @@ use Rattle.arc_parse.specs.Views.{AppendsArguments, AppendsParts}
 
 abbrev row_of : Expr → (n : Count) × Row_of-Expr n
 row_of (Call' at called _ row) = (_, row)
-row_of (Send' at part to selector _ row) = (_, row)
+row_of (Send' at part q a selector _ row) = (_, row)
+row_of (SendSuper' at part super_at selector _ row) = (_, row)
 row_of _ = (_, end_of-Expr)
 
 row_is : (n : _) (row : Row_of-Expr n) → row_exprs row ≡ expr_trees (items-the_row-Expr n row)
@@ -30,10 +30,15 @@ call_tree at called all =
     let row = row_of (Call at called all) in
     ap (tree.Call at called.items) (row_is row.0 row.1 ∙ ap expr_trees (items_hidden-the_row-Expr-0 all))
 
-pub send_tree : (at part : ℕ) (to : Receiver) (selector : Vec ℕ Global) (all : Vec Expr Global) → expr_tree (Send at part to selector all) ≡ tree.Send at part (receiver_tree to) selector.items (expr_trees all.items)
-send_tree at part to selector all =
-    let row = row_of (Send at part to selector all) in
-    ap (tree.Send at part (receiver_tree to) selector.items) (row_is row.0 row.1 ∙ ap expr_trees (items_hidden-the_row-Expr-0 all))
+pub send_tree : (at part : ℕ) (object : Box Expr Global) (selector : Vec ℕ Global) (all : Vec Expr Global) → expr_tree (Send at part object selector all) ≡ tree.Send at part (expr_tree object.value) selector.items (expr_trees all.items)
+send_tree at part object selector all =
+    let row = row_of (Send at part object selector all) in
+    ap (tree.Send at part (expr_tree object.value) selector.items) (row_is row.0 row.1 ∙ ap expr_trees (items_hidden-the_row-Expr-0 all))
+
+pub send_super_tree : (at part super_at : ℕ) (selector : Vec ℕ Global) (all : Vec Expr Global) → expr_tree (SendSuper at part super_at selector all) ≡ tree.SendSuper at part super_at selector.items (expr_trees all.items)
+send_super_tree at part super_at selector all =
+    let row = row_of (SendSuper at part super_at selector all) in
+    ap (tree.SendSuper at part super_at selector.items) (row_is row.0 row.1 ∙ ap expr_trees (items_hidden-the_row-Expr-0 all))
 
 -- one argument in front of what is appended behind it
 pub appends_more : (old mid new : List Expr) (one : Expr) (r : Result (Bor (List Token)) Fail) (f whole : Read ExprTrees)

@@ -2,7 +2,7 @@
 use Rattle.std.proofs.Common.{◌≡◌, List, [], ◌∷◌, ◌++◌, append_assoc, Ok, Err, Bool, true, false, cond, Option, Some, None, refl, sym, ap, subst, ◌∙◌}
 use Rattle.arc_lex.specs.Tokens.{Tok}
 use Rattle.arc_parse.specs.Language.{Language}
-use Rattle.arc_parse.specs.Reader.{Read, Reader, bind, ◌>>=◌, ret, unexpected, begins, if_first, token, taken}
+use Rattle.arc_parse.specs.Reader.{Read, Reader, bind, ◌>>=◌, ret, unexpected, begins, if_first, if_ahead, token, taken}
 
 -- one result is another
 pub ok_is : {A : Type 0} {a b : A} {r s : List Tok} → ret a r ≡ Ok (b, s) → (a ≡ b) × (r ≡ s)
@@ -44,12 +44,15 @@ sound_ret {A = A} {N = N} a n = record { each = λ ts b r e. go ts b r e }
 pub sound_unexpected : {A : Type 0} {N : A → Language} → Sound unexpected N
 sound_unexpected = record { each = λ ts b r e. cc }
 
-pub sound_if : {A : Type 0} {f g : Reader A} {N : A → Language} (test : Tok → Bool) → Sound f N → Sound g N → Sound (if_first test f g) N
-sound_if {A = A} {f = f} {g = g} {N = N} test s t = record { each = λ ts b r e. go ts b r (begins test ts) e }
+pub sound_ahead : {A : Type 0} {f g : Reader A} {N : A → Language} (test : List Tok → Bool) → Sound f N → Sound g N → Sound (if_ahead test f g) N
+sound_ahead {A = A} {f = f} {g = g} {N = N} test s t = record { each = λ ts b r e. go ts b r (test ts) e }
   where
     go : (ts : List Tok) (b : A) (r : List Tok) (c : Bool) → cond c (f ts) (g ts) ≡ Ok (b, r) → (xs : List Tok) × (ts ≡ xs ++ r) × N b xs
     go ts b r true e = s.each ts b r e
     go ts b r false e = t.each ts b r e
+
+pub sound_if : {A : Type 0} {f g : Reader A} {N : A → Language} (test : Tok → Bool) → Sound f N → Sound g N → Sound (if_first test f g) N
+sound_if test s t = sound_ahead (begins test) s t
 
 -- a token that gives something
 abbrev pub Token : {A : Type 0} → (Tok → Option A) → A → Language

@@ -2,7 +2,7 @@
 use Rattle.std.proofs.Common.{◌≡◌, List, [], ◌++◌, append_assoc, Ok, Err, Bool, true, false, cond, refl, sym, ap, subst, ◌∙◌}
 use Rattle.arc_lex.specs.Tokens.{Tok}
 use Rattle.arc_parse.specs.Language.{Language}
-use Rattle.arc_parse.specs.Reader.{Read, Reader, bind, ◌>>=◌, ret, unexpected, begins, if_first}
+use Rattle.arc_parse.specs.Reader.{Read, Reader, bind, ◌>>=◌, ret, unexpected, begins, if_first, if_ahead}
 use Rattle.arc_parse.proofs.Sound.{Sound, ok_is}
 
 -- L a r xs: xs spell a where r follows
@@ -26,26 +26,26 @@ to_ret {A = A} {N = N} a n = record { each = λ ts b r e. let p = ok_is e in ([]
 pub to_unexpected : {A : Type 0} {N : A → List Tok → Language} → SoundTo unexpected N
 to_unexpected = record { each = λ ts b r e. cc }
 
+pub to_as : {A : Type 0} {f : Reader A} {L N : A → List Tok → Language} → SoundTo f L → ((a : A) (r xs : List Tok) → L a r xs → N a r xs) → SoundTo f N
+to_as s k = record { each = λ ts a r e. let p = s.each ts a r e in (p.0, p.1, k a r p.0 p.2) }
+
+-- both branches know what the test gave
+pub to_looked : {A : Type 0} {f g : Reader A} {N : A → List Tok → Language} (test : List Tok → Bool) → SoundTo f (λ a r ys. test (ys ++ r) ≡ true → N a r ys)
+    → SoundTo g (λ a r ys. test (ys ++ r) ≡ false → N a r ys) → SoundTo (if_ahead test f g) N
+to_looked {A = A} {f = f} {g = g} {N = N} test s t = record { each = λ ts b r e. go ts b r (test ts) refl e }
+  where
+    go : (ts : List Tok) (b : A) (r : List Tok) (c : Bool) → test ts ≡ c → cond c (f ts) (g ts) ≡ Ok (b, r) → (xs : List Tok) × (ts ≡ xs ++ r) × N b r xs
+    go ts b r true q e = let p = s.each ts b r e in (p.0, p.1, p.2 (ap test (sym p.1) ∙ q))
+    go ts b r false q e = let p = t.each ts b r e in (p.0, p.1, p.2 (ap test (sym p.1) ∙ q))
+
+pub to_tested : {A : Type 0} {f g : Reader A} {N : A → List Tok → Language} (test : Tok → Bool) → SoundTo f (λ a r ys. begins test (ys ++ r) ≡ true → N a r ys)
+    → SoundTo g (λ a r ys. begins test (ys ++ r) ≡ false → N a r ys) → SoundTo (if_first test f g) N
+to_tested test s t = to_looked (begins test) s t
+
 -- the second branch knows that the test failed
 pub to_if : {A : Type 0} {f g : Reader A} {N : A → List Tok → Language} (test : Tok → Bool) → SoundTo f N
     → SoundTo g (λ a r ys. begins test (ys ++ r) ≡ false → N a r ys) → SoundTo (if_first test f g) N
-to_if {A = A} {f = f} {g = g} {N = N} test s t = record { each = λ ts b r e. go ts b r (begins test ts) refl e }
-  where
-    go : (ts : List Tok) (b : A) (r : List Tok) (c : Bool) → begins test ts ≡ c → cond c (f ts) (g ts) ≡ Ok (b, r) → (xs : List Tok) × (ts ≡ xs ++ r) × N b r xs
-    go ts b r true q e = s.each ts b r e
-    go ts b r false q e = let p = t.each ts b r e in (p.0, p.1, p.2 (ap (begins test) (sym p.1) ∙ q))
-
--- both branches know what the test gave
-pub to_tested : {A : Type 0} {f g : Reader A} {N : A → List Tok → Language} (test : Tok → Bool) → SoundTo f (λ a r ys. begins test (ys ++ r) ≡ true → N a r ys)
-    → SoundTo g (λ a r ys. begins test (ys ++ r) ≡ false → N a r ys) → SoundTo (if_first test f g) N
-to_tested {A = A} {f = f} {g = g} {N = N} test s t = record { each = λ ts b r e. go ts b r (begins test ts) refl e }
-  where
-    go : (ts : List Tok) (b : A) (r : List Tok) (c : Bool) → begins test ts ≡ c → cond c (f ts) (g ts) ≡ Ok (b, r) → (xs : List Tok) × (ts ≡ xs ++ r) × N b r xs
-    go ts b r true q e = let p = s.each ts b r e in (p.0, p.1, p.2 (ap (begins test) (sym p.1) ∙ q))
-    go ts b r false q e = let p = t.each ts b r e in (p.0, p.1, p.2 (ap (begins test) (sym p.1) ∙ q))
+to_if test s t = to_looked (begins test) (to_as s (λ a r ys h _. h)) t
 
 pub to_of : {A : Type 0} {f : Reader A} {L : A → Language} → Sound f L → SoundTo f (λ a r. L a)
 to_of s = record { each = λ ts a r e. s.each ts a r e }
-
-pub to_as : {A : Type 0} {f : Reader A} {L N : A → List Tok → Language} → SoundTo f L → ((a : A) (r xs : List Tok) → L a r xs → N a r xs) → SoundTo f N
-to_as s k = record { each = λ ts a r e. let p = s.each ts a r e in (p.0, p.1, k a r p.0 p.2) }

@@ -4,7 +4,7 @@ use Rattle.std.proofs.lemmas.Bool.{ltb-false}
 use Rattle.arc_lex.specs.Tokens.{Tok}
 use Rattle.arc_parse.specs.Language.{Language}
 use Rattle.arc_parse.specs.Limits.{AtMost, is_above, nested}
-use Rattle.arc_parse.specs.Reader.{Read, Reader, misfit, too_deep, bind, ◌>>=◌, ret, unexpected, too_deep_here, if_first, begins, token, taken}
+use Rattle.arc_parse.specs.Reader.{Read, Reader, misfit, too_deep, bind, ◌>>=◌, ret, unexpected, too_deep_here, if_first, if_ahead, begins, token, taken}
 use Rattle.arc_parse.proofs.Local.{fault_of, rest_of}
 use Rattle.arc_parse.proofs.SoundTo.{SoundTo}
 
@@ -37,12 +37,18 @@ never_token {A = A} f = record { each = go }
     go [] r e = differ (ap fault_of e)
     go (t ∷ ts) r e = of t ts r (f t) e
 
-pub never_if : {A : Type 0} {f g : Reader A} (test : Tok → Bool) → Never f → Never g → Never (if_first test f g)
-never_if {f = f} {g = g} test m n = record { each = λ ts r e. go ts r (begins test ts) e }
+pub never_ahead : {A : Type 0} {f g : Reader A} (test : List Tok → Bool) → Never f → Never g → Never (if_ahead test f g)
+never_ahead {f = f} {g = g} test m n = record { each = λ ts r e. go ts r (test ts) e }
   where
     go : (ts r : List Tok) (b : Bool) → cond b (f ts) (g ts) ≡ Err (too_deep, r) → ⊥
     go ts r true e = m.each ts r e
     go ts r false e = n.each ts r e
+
+pub never_if : {A : Type 0} {f g : Reader A} (test : Tok → Bool) → Never f → Never g → Never (if_first test f g)
+never_if test m n = never_ahead (begins test) m n
+
+pub never_unexpected : {A : Type 0} → Never {A = A} unexpected
+never_unexpected = record { each = λ ts r e. differ (ap fault_of e) }
 
 -- ---- readers that do: where a token behind xs is refused so, D xs r
 
@@ -63,12 +69,15 @@ tells_then {A = A} {B = B} {f = f} {L = L} {g = g} {D = D} s t k = record { each
         (p.0 ++ q.0, p.1 ∙ ap (λ us. p.0 ++ us) q.1 ∙ sym (append_assoc p.0 q.0 r), q.2 p.0 (subst (λ v. L x.0 v p.0) q.1 p.2))
     go ts r (Err x) e h = let is : x ≡ (too_deep, r) = cc in t.each ts r (e ∙ ap (λ y. Err y) is)
 
-pub tells_if : {A : Type 0} {f g : Reader A} {D : List Tok → List Tok → Type 0} (test : Tok → Bool) → Tells f D → Tells g D → Tells (if_first test f g) D
-tells_if {A = A} {f = f} {g = g} {D = D} test s t = record { each = λ ts r e. go ts r (begins test ts) e }
+pub tells_ahead : {A : Type 0} {f g : Reader A} {D : List Tok → List Tok → Type 0} (test : List Tok → Bool) → Tells f D → Tells g D → Tells (if_ahead test f g) D
+tells_ahead {A = A} {f = f} {g = g} {D = D} test s t = record { each = λ ts r e. go ts r (test ts) e }
   where
     go : (ts r : List Tok) (b : Bool) → cond b (f ts) (g ts) ≡ Err (too_deep, r) → (xs : List Tok) × (ts ≡ xs ++ r) × D xs r
     go ts r true e = s.each ts r e
     go ts r false e = t.each ts r e
+
+pub tells_if : {A : Type 0} {f g : Reader A} {D : List Tok → List Tok → Type 0} (test : Tok → Bool) → Tells f D → Tells g D → Tells (if_first test f g) D
+tells_if test s t = tells_ahead (begins test) s t
 
 pub tells_as : {A : Type 0} {f : Reader A} {D E : List Tok → List Tok → Type 0} → Tells f D → ((xs r : List Tok) → D xs r → E xs r) → Tells f E
 tells_as s k = record { each = λ ts r e. let p = s.each ts r e in (p.0, p.1, k p.0 r p.2) }

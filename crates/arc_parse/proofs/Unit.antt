@@ -34,9 +34,9 @@ pub unit_accepted : (limits : Limits) (ts : List Tok) (u : UnitTree) (e : Fault 
 unit_accepted limits ts u e r h = ok_not_err (complete_unit limits u ts h) r
 
 pub unit_refuses : (ts rest : List Tok) → unit unlimited ts ≡ Err (misfit, rest) → FitsNone ts (place_of ts rest)
-unit_refuses ts rest e = go (unit unlimited ts) e ((unit_local unlimited (suc (length ts))).each ts (omega arith))
+unit_refuses ts rest e = go (unit unlimited ts) e ((unit_local (suc (length ts))).each ts (omega arith))
   where
-    go : (x : Read UnitTree) → x ≡ Err (misfit, rest) → StopsAt 0 x (unit unlimited) ts → FitsNone ts (place_of ts rest)
+    go : (x : Read UnitTree) → x ≡ Err (misfit, rest) → StopsAt (Unit {0}) 0 x (unit unlimited) ts → FitsNone ts (place_of ts rest)
     go (Ok x) e s = cc
     go (Err r) e s =
         let same : r.1 ≡ rest = ap rest_of e in
@@ -46,6 +46,6 @@ unit_refuses ts rest e = go (unit unlimited ts) e ((unit_local unlimited (suc (l
           s.cut ∙ ap (λ u. s.before ++ u) same,
           refl,
           λ others u f h.
-              let no : unit unlimited (s.before ++ others) ≡ Err (misfit, others) = s.same others (f ∙ ap first (sym same)) ∙ ap (λ y. Err (y, others)) why in
+              let no : unit unlimited (s.before ++ others) ≡ Err (misfit, others) = s.same tt others (f ∙ ap first (sym same)) ∙ ap (λ y. Err (y, others)) why in
               ok_not_err (complete_unit unlimited u (s.before ++ others) h) no,
         )

@@ -7,7 +7,7 @@ use Rattle.arc_lex.specs.declared.token.Word.TheVariants as w
 use Rattle.arc_lex.specs.Tokens.{Tok, Sort, Name, Integer, Text, Key, At, Sign}
 use Rattle.arc_ast.specs.Tree.{ExprTree}
 use Rattle.arc_parse.specs.Reader.{Read, misfit, begins, is_mark, is_word, sees_mark, sees_word}
-use Rattle.arc_parse.specs.ExprRules.{expr, primary_by, unary_by, binary_by, expr_by, body, read}
+use Rattle.arc_parse.specs.ExprRules.{expr, primary_by, postfix_by, unary_by, binary_by, expr_by, body, read}
 use Rattle.arc_parse.specs.UnitRules.{begins_expr, begins_sort, begins_stmt}
 use Rattle.arc_parse.proofs.ExprLocal.{read_is}
 use Rattle.arc_parse.proofs.Sorts.{sign_is, key_is}
@@ -25,7 +25,7 @@ either false b e = inr e
 
 -- where no expression begins none is read
 pub no_expr : (t : Tok) (us : List Tok) → begins_expr t.sort ≡ false → read expr (t ∷ us) ≡ Err (misfit, t ∷ us)
-unfolding expr_by binary_by unary_by primary_by
+unfolding expr_by binary_by unary_by postfix_by primary_by
 no_expr t us n = read_is expr (t ∷ us) ∙ go t.sort refl
   where
     bad : (s : Sort) → t.sort ≡ s → begins_expr s ≡ true → {A : Type 0} → A
@@ -35,7 +35,9 @@ no_expr t us n = read_is expr (t ∷ us) ∙ go t.sort refl
     go (Name b) e = bad (Name b) e refl
     go (Integer v) e = bad (Integer v) e refl
     go (Text b) e = bad (Text b) e refl
-    go (Key k) e = rw e refl
+    go (Key w.Nil) e = bad (Key w.Nil) e refl
+    go (Key w.SelfWord) e = bad (Key w.SelfWord) e refl
+    go (Key _) e = rw e refl
     go (At k) e = rw e refl
     go (Sign mark) e =
         let p = neither (is_mark m.OpenParen (Sign mark) || is_mark m.Minus (Sign mark)) (is_mark m.OpenSquare (Sign mark)) (sym (ap begins_expr e) ∙ n) in
@@ -43,7 +45,7 @@ no_expr t us n = read_is expr (t ∷ us) ∙ go t.sort refl
         rw (e, q.0, q.1, p.1) refl
 
 pub none_left : read expr [] ≡ Err (misfit, [])
-unfolding expr_by binary_by unary_by primary_by
+unfolding expr_by binary_by unary_by postfix_by primary_by
 none_left = read_is expr []
 
 ok_not_err : {x : ExprTree × List Tok} {y : Read ExprTree} {r : List Tok} → y ≡ Ok x → y ≡ Err (misfit, r) → ⊥
@@ -79,13 +81,15 @@ mark_not_there mark p q o (Sign found) h = go (either (is_mark m.OpenParen (Sign
     go (inl e) = of (either (is_mark m.OpenParen (Sign found)) (is_mark m.Minus (Sign found)) e)
     go (inr e) = ap (is_mark mark) (sign_is m.OpenSquare (Sign found) e) ∙ o
 
-pub word_not_there : (word : Word) (s : Sort) → begins_expr s ≡ true → is_word word s ≡ false
-word_not_there word (Name b) h = refl
-word_not_there word (Integer v) h = refl
-word_not_there word (Text b) h = refl
-word_not_there word (Key k) h = cc
-word_not_there word (At k) h = refl
-word_not_there word (Sign found) h = refl
+pub word_not_there : (word : Word) → is_word word (Key w.Nil) ≡ false → is_word word (Key w.SelfWord) ≡ false → (s : Sort) → begins_expr s ≡ true → is_word word s ≡ false
+word_not_there word p q (Key w.Nil) h = p
+word_not_there word p q (Key w.SelfWord) h = q
+word_not_there word p q (Key _) h = cc
+word_not_there word p q (Name b) h = refl
+word_not_there word p q (Integer v) h = refl
+word_not_there word p q (Text b) h = refl
+word_not_there word p q (At k) h = refl
+word_not_there word p q (Sign found) h = refl
 
 or_right : (a b : Bool) → b ≡ true → (a || b) ≡ true
 or_right true b h = refl
@@ -96,7 +100,7 @@ pub stmt_begun : (ts : List Tok) → begins (λ t. begins_expr t.sort) ts ≡ tr
 stmt_begun [] h = cc
 stmt_begun (t ∷ ts) h = or_right _ (begins_expr t.sort) h
 
--- no statement begins with `}`, `else` or `int`
+-- no statement begins with `}`, `else`, `int` or `id`
 not_close : (s : Sort) → begins_sort s ≡ true → is_mark m.CloseBrace s ≡ false
 not_close (Sign m.CloseBrace) h = sym h
 not_close _ h = refl
@@ -108,6 +112,10 @@ not_else _ h = refl
 not_int : (s : Sort) → begins_sort s ≡ true → is_word w.Int s ≡ false
 not_int (Key w.Int) h = sym h
 not_int _ h = refl
+
+not_id : (s : Sort) → begins_sort s ≡ true → is_word w.Id s ≡ false
+not_id (Key w.Id) h = sym h
+not_id _ h = refl
 
 pub stmt_not_close : (ts : List Tok) → begins begins_stmt ts ≡ true → sees_mark m.CloseBrace ts ≡ false
 stmt_not_close [] h = refl
@@ -121,14 +129,18 @@ pub stmt_not_int : (ts : List Tok) → begins begins_stmt ts ≡ true → sees_w
 stmt_not_int [] h = refl
 stmt_not_int (t ∷ ts) h = not_int t.sort h
 
--- nor does a declaration, nor the end of a block, with `else`
-pub int_not_close : (ts : List Tok) → sees_word w.Int ts ≡ true → sees_mark m.CloseBrace ts ≡ false
-int_not_close [] h = refl
-int_not_close (t ∷ ts) h = ap (is_mark m.CloseBrace) (key_is w.Int t.sort h)
+pub stmt_not_id : (ts : List Tok) → begins begins_stmt ts ≡ true → sees_word w.Id ts ≡ false
+stmt_not_id [] h = refl
+stmt_not_id (t ∷ ts) h = not_id t.sort h
 
-pub int_not_else : (ts : List Tok) → sees_word w.Int ts ≡ true → sees_word w.Else ts ≡ false
-int_not_else [] h = refl
-int_not_else (t ∷ ts) h = ap (is_word w.Else) (key_is w.Int t.sort h)
+-- nor does a declaration, nor the end of a block, with `else`
+pub word_not_close : (word : Word) (ts : List Tok) → sees_word word ts ≡ true → sees_mark m.CloseBrace ts ≡ false
+word_not_close word [] h = refl
+word_not_close word (t ∷ ts) h = ap (is_mark m.CloseBrace) (key_is word t.sort h)
+
+pub word_not_word : (word other : Word) → is_word other (Key word) ≡ false → (ts : List Tok) → sees_word word ts ≡ true → sees_word other ts ≡ false
+word_not_word word other e [] h = refl
+word_not_word word other e (t ∷ ts) h = ap (is_word other) (key_is word t.sort h) ∙ e
 
 pub close_not_else : (ts : List Tok) → sees_mark m.CloseBrace ts ≡ true → sees_word w.Else ts ≡ false
 close_not_else [] h = refl

@@ -1,17 +1,22 @@
 -- With limits the rules read what they read without, unless they refuse a token as too deep.
 use Rattle.std.proofs.Common.{◌≡◌, ◌⊎◌, inl, inr, ◌||◌, ℕ, zero, suc, List, [], ◌∷◌, drop, Ok, Err, Bool, true, false, cond, Option, Some, None, refl, sym, ap, ◌∙◌}
 use Rattle.arc_lex.specs.declared.token.Mark.TheVariants as m
+use Rattle.arc_lex.specs.declared.token.Word.{Word}
 use Rattle.arc_lex.specs.declared.token.Word.TheVariants as w
-use Rattle.arc_lex.specs.Tokens.{Tok}
+use Rattle.arc_lex.specs.Tokens.{Tok, Sort, Name}
 use Rattle.arc_lex.specs.declared.token.AtWord.TheVariants as ats
-use Rattle.arc_ast.specs.Tree.{ExprTree, StmtTree, ParameterTree, UnitTree}
+use Rattle.arc_ast.specs.declared.tree.Visibility.{Visibility}
+use Rattle.arc_ast.specs.declared.tree.Visibility.TheVariants as seen
+use Rattle.arc_ast.specs.Tree.{TypeTree, ExprTree, StmtTree, ParameterTree, UnitTree, Int, Id}
+use Rattle.arc_parse.specs.Grammar.{begins_reference}
 use Rattle.arc_parse.specs.Limits.{Limits, unlimited, is_above, nested, up_to, cut, goes_over, plain}
-use Rattle.arc_parse.specs.Reader.{Read, Reader, misfit, too_deep, bind, ◌>>=◌, unexpected, too_deep_here, if_first, any, begins, expect, at_word, name, is_mark, is_word}
+use Rattle.arc_parse.specs.Reader.{Read, Reader, misfit, too_deep, bind, ◌>>=◌, unexpected, too_deep_here, if_first, if_ahead, any, begins, expect, keyword, at_word, name, is_mark, is_word, is_name}
 use Rattle.arc_parse.specs.Knot.{deep, tied}
 use Rattle.arc_parse.specs.ExprRules.{expr}
 use Rattle.arc_parse.specs.ExprRules as exprs
-use Rattle.arc_parse.specs.UnitRules.{Rule, Rules, stmt, items, more_variables, more_parameters, more_names, typed_parts, heads, methods, tops, begins_expr, begins_stmt, full, simple_by, value_by, return_by, block_by, test_by, else_by, if_by, while_by, worded_by, stmt_by, initial_by, variable_by, next_variable_by, more_variables_by, variables_by, declaration_by, perhaps_by, item_by, items_by, parameter, more_parameters_by, with_others_by, second_by, some_by, parameters_by, result_kind, head_by, braces_by, body_by, function_by, typed, next_part, typed_parts_by, selector_by, method_head_by, next_head_by, heads_by, perhaps_semicolon, method_by, methods_by, interface_by, title, implementation_by, next_name, more_names_by, names_by, names_top_by, interface_top_by, implementation_top_by, function_top_by, top_by, tops_by, body, read, unit}
+use Rattle.arc_parse.specs.UnitRules.{Rule, Rules, stmt, items, more_variables, more_references, more_parameters, more_fields, more_names, typed_parts, heads, methods, groups, tops, begins_expr, begins_stmt, full, simple_by, value_by, return_by, block_by, test_by, else_by, if_by, while_by, worded_by, stmt_by, initial_by, variable_by, next_variable_by, more_variables_by, variables_by, declaration_by, reference_by, next_reference_by, more_references_by, references_by, objects_by, perhaps_by, item_by, items_by, parameter, more_parameters_by, with_others_by, second_by, some_by, parameters_by, result_kind, head_by, braces_by, body_by, function_by, typed, next_part, typed_parts_by, selector_by, sign, method_head_by, next_head_by, heads_by, perhaps_semicolon, method_by, methods_by, field, next_field, more_fields_by, ints_by, group_by, groups_by, fields_by, interface_by, title, implementation_by, next_name, more_names_by, names_by, names_top_by, interface_top_by, implementation_top_by, function_top_by, top_by, tops_by, body, read, unit}
 use Rattle.arc_parse.proofs.Local.{fault_of}
+use Rattle.arc_parse.proofs.ExprLocal.{no_reference}
 use Rattle.arc_parse.proofs.UnitBegin.{no, neither, no_expr, none_left}
 
 abbrev pub IsDeep : {A : Type 0} → Read A → Type 0
@@ -34,12 +39,19 @@ below_then {A = A} {B = B} {f = f} {h = h} {g = g} {g' = g'} b k = record { each
     go ts (inl d) = inl (d.0, ap (λ x. bind x g) d.1)
     go ts (inr e) = rw (sym e) (next (f ts))
 
-below_if : {A : Type 0} {f f' g g' : Reader A} (test : Tok → Bool) → Below f f' → Below g g' → Below (if_first test f g) (if_first test f' g')
-below_if {A = A} {f = f} {f' = f'} {g = g} {g' = g'} test b c = record { each = λ ts. go ts (begins test ts) }
+below_ahead : {A : Type 0} {f f' g g' : Reader A} (test : List Tok → Bool) → Below f f' → Below g g' → Below (if_ahead test f g) (if_ahead test f' g')
+below_ahead {A = A} {f = f} {f' = f'} {g = g} {g' = g'} test b c = record { each = λ ts. go ts (test ts) }
   where
     go : (ts : List Tok) (y : Bool) → IsDeep (cond y (f ts) (g ts)) ⊎ (cond y (f ts) (g ts) ≡ cond y (f' ts) (g' ts))
     go ts true = b.each ts
     go ts false = c.each ts
+
+below_if : {A : Type 0} {f f' g g' : Reader A} (test : Tok → Bool) → Below f f' → Below g g' → Below (if_first test f g) (if_first test f' g')
+below_if test b c = below_ahead (begins test) b c
+
+not_name : (s : Sort) → begins_expr s ≡ false → is_name s ≡ false
+not_name (Name b) h = h
+not_name _ h = refl
 
 -- where no statement begins none is read
 none_here : (g : Rules) (d : ℕ) (ts : List Tok) → begins begins_stmt ts ≡ false → stmt_by unlimited g d ts ≡ Err (misfit, ts)
@@ -56,7 +68,7 @@ none_here g d (t ∷ us) n =
     let c = neither ((brace || semicolon) || return) if' b.0 in
     let d = neither (brace || semicolon) return c.0 in
     let e = neither brace semicolon d.0 in
-    rw (e.0, e.1, d.1, c.1, b.1, no_expr t us a.1) refl
+    rw (e.0, e.1, d.1, c.1, b.1, no_reference t us (not_name t.sort a.1), no_expr t us a.1) refl
 
 module _ (limits : Limits) where
   below_full : Below (full limits) (full unlimited)
@@ -95,7 +107,7 @@ module _ (limits : Limits) where
 
   below_simple : Below (simple_by limits) (simple_by unlimited)
   unfolding simple_by
-  below_simple = below_then below_full (λ e. below_same)
+  below_simple = below_ahead begins_reference below_same (below_then below_full (λ e. below_same))
 
   below_value : Below (value_by limits) (value_by unlimited)
   unfolding value_by
@@ -121,6 +133,14 @@ module _ (limits : Limits) where
   unfolding next_variable_by
   below_next_variable = below_then below_same (λ comma. below_variable)
 
+  below_reference : Below (reference_by limits) (reference_by unlimited)
+  unfolding reference_by
+  below_reference = below_then below_same (λ star. below_variable)
+
+  below_next_reference : Below (next_reference_by limits) (next_reference_by unlimited)
+  unfolding next_reference_by
+  below_next_reference = below_then below_same (λ comma. below_reference)
+
   module _ (g h : Rules) (rec : (rule : Rule) → Below (g rule) (h rule)) where
     below_more_variables : Below (more_variables_by limits g) (more_variables_by unlimited h)
     unfolding more_variables_by
@@ -130,9 +150,21 @@ module _ (limits : Limits) where
     unfolding variables_by
     below_variables = below_then below_variable (λ v. below_then (rec more_variables) (λ others. below_same))
 
-    below_declaration : Below (declaration_by limits g) (declaration_by unlimited h)
+    below_declaration : (word : Word) (type : TypeTree) → Below (declaration_by limits g word type) (declaration_by unlimited h word type)
     unfolding declaration_by
-    below_declaration = below_then below_same (λ at. below_then below_variables (λ all. below_same))
+    below_declaration word type = below_then below_same (λ at. below_then below_variables (λ all. below_same))
+
+    below_more_references : Below (more_references_by limits g) (more_references_by unlimited h)
+    unfolding more_references_by
+    below_more_references = below_if _ (below_then below_next_reference (λ v. below_then (rec more_references) (λ others. below_same))) below_same
+
+    below_references : Below (references_by limits g) (references_by unlimited h)
+    unfolding references_by
+    below_references = below_then below_reference (λ v. below_then (rec more_references) (λ others. below_same))
+
+    below_objects : Below (objects_by limits g) (objects_by unlimited h)
+    unfolding objects_by
+    below_objects = below_then {f = name} {h = name} below_same (λ (called : ℕ × List ℕ). below_then below_references (λ all. below_same))
 
     below_block : (d : ℕ) → Below (block_by g d) (block_by h d)
     unfolding block_by
@@ -160,7 +192,8 @@ module _ (limits : Limits) where
 
     below_item : (d : ℕ) → Below (item_by limits g d) (item_by unlimited h d)
     unfolding item_by perhaps_by
-    below_item d = below_if _ below_declaration (below_nested begins_stmt d _ h (λ ts e. e) (below_stmt d))
+    below_item d = below_if _ (below_declaration w.Int Int) (below_if _ (below_declaration w.Id Id)
+        (below_ahead begins_reference below_objects (below_nested begins_stmt d _ h (λ ts e. e) (below_stmt d))))
 
     below_items : (d : ℕ) → Below (items_by limits g d) (items_by unlimited h d)
     unfolding items_by
@@ -215,7 +248,7 @@ module _ (limits : Limits) where
 
     below_method_head : Below (method_head_by g) (method_head_by h)
     unfolding method_head_by
-    below_method_head = below_then {f = expect m.Plus} {h = expect m.Plus} below_same (λ at. below_then {f = expect m.OpenParen} {h = expect m.OpenParen} below_same (λ start.
+    below_method_head = below_then {f = sign} {h = sign} below_same (λ plus. below_then {f = expect m.OpenParen} {h = expect m.OpenParen} below_same (λ start.
         below_then {f = result_kind} {h = result_kind} below_same (λ kind. below_then {f = expect m.CloseParen} {h = expect m.CloseParen} below_same (λ end.
         below_then {f = name} {h = name} below_same (λ (called : ℕ × List ℕ). below_then (below_selector called.1) (λ all. below_same))))))
 
@@ -235,16 +268,38 @@ module _ (limits : Limits) where
     unfolding methods_by
     below_methods = below_if _ (below_then below_method (λ one. below_then (rec methods) (λ others. below_same))) below_same
 
+    -- ---- fields
+
+    below_more_fields : (v : Visibility) → Below (more_fields_by g v) (more_fields_by h v)
+    unfolding more_fields_by
+    below_more_fields v = below_if _ (below_then {f = next_field v} {h = next_field v} below_same (λ f. below_then (rec (more_fields v)) (λ others. below_same))) below_same
+
+    below_ints : (v : Visibility) → Below (ints_by g v) (ints_by h v)
+    unfolding ints_by
+    below_ints v = below_then {f = keyword w.Int} {h = keyword w.Int} below_same (λ int. below_then {f = field v} {h = field v} below_same (λ f. below_then (rec (more_fields v)) (λ others. below_same)))
+
+    below_group : (v : Visibility) → Below (group_by g v) (group_by h v)
+    unfolding group_by
+    below_group v = below_if _ (below_then (below_ints v) (λ all. below_same)) below_same
+
+    below_groups : (v : Visibility) → Below (groups_by g v) (groups_by h v)
+    unfolding groups_by
+    below_groups v = below_if _ below_same (below_then (below_group v) (λ one. below_then (rec (groups one.0)) (λ others. below_same)))
+
+    below_fields : (v : Visibility) → Below (fields_by g v) (fields_by h v)
+    unfolding fields_by
+    below_fields v = below_if _ (below_then {f = expect m.OpenBrace} {h = expect m.OpenBrace} below_same (λ start. below_then (rec (groups v)) (λ all. below_same))) below_same
+
     -- ---- classes
 
     below_interface : Below (interface_by g) (interface_by h)
     unfolding interface_by
     below_interface = below_then {f = at_word ats.Interface} {h = at_word ats.Interface} below_same (λ at. below_then {f = name} {h = name} below_same (λ called.
-        below_then {f = expect m.Colon} {h = expect m.Colon} below_same (λ colon. below_then {f = name} {h = name} below_same (λ super. below_then (rec heads) (λ all. below_same)))))
+        below_then {f = expect m.Colon} {h = expect m.Colon} below_same (λ colon. below_then {f = name} {h = name} below_same (λ super. below_then (below_fields seen.Protected) (λ fields. below_then (rec heads) (λ all. below_same))))))
 
     below_implementation : Below (implementation_by g) (implementation_by h)
     unfolding implementation_by
-    below_implementation = below_then {f = title} {h = title} below_same (λ called. below_then (rec methods) (λ all. below_same))
+    below_implementation = below_then {f = title} {h = title} below_same (λ called. below_then (below_fields seen.Private) (λ fields. below_then (rec methods) (λ all. below_same)))
 
     below_more_names : Below (more_names_by g) (more_names_by h)
     unfolding more_names_by
@@ -273,6 +328,9 @@ module _ (limits : Limits) where
         none_first (t ∷ ts) e = absurd (no e)
     below_body (items d) = below_items d
     below_body more_variables = below_more_variables
+    below_body more_references = below_more_references
+    below_body (more_fields v) = below_more_fields v
+    below_body (groups v) = below_groups v
     below_body more_parameters = below_more_parameters
     below_body more_names = below_more_names
     below_body typed_parts = below_typed_parts

@@ -1,25 +1,32 @@
 -- The rules of statements, functions and units read what is spelled within their limits.
-use Rattle.std.proofs.Common.{◌≡◌, inl, inr, ℕ, zero, suc, ◌+◌, List, [], ◌∷◌, ◌++◌, length, length-append, append_assoc, append-nil, Ok, Bool, true, false, Option, Some, None, refl, sym, ap, ◌∙◌, ◌&&◌, bytes_eq, arith}
-use Rattle.std.proofs.lemmas.Bool.{le-ltb}
+use Rattle.std.proofs.Common.{◌≡◌, inl, inr, ◌||◌, ℕ, zero, suc, ◌+◌, List, [], ◌∷◌, ◌++◌, length, length-append, append_assoc, append-nil, Ok, Bool, true, false, Option, Some, None, refl, sym, ap, ◌∙◌, ◌&&◌, bytes_eq, arith}
+use Rattle.std.proofs.lemmas.Bool.{le-ltb, eq-eqb}
 use Rattle.std.proofs.lemmas.Slice.Eq.{bytes_eq-Decides}
 use Rattle.arc_lex.specs.declared.token.Mark.{Mark}
 use Rattle.arc_lex.specs.declared.token.Mark.TheVariants as m
+use Rattle.arc_lex.specs.declared.token.Word.{Word}
 use Rattle.arc_lex.specs.declared.token.Word.TheVariants as w
 use Rattle.arc_lex.specs.declared.token.AtWord.{AtWord}
 use Rattle.arc_lex.specs.declared.token.AtWord.TheVariants as ats
-use Rattle.arc_lex.specs.Tokens.{Tok, Sign, At}
+use Rattle.arc_lex.specs.Tokens.{Tok, Sign, Key, At, same_word, number_of_word}
 use Rattle.arc_lex.specs.Tokens as tokens
 use Rattle.arc_ast.specs.declared.tree.Kind.{Kind}
 use Rattle.arc_ast.specs.declared.tree.Kind.TheVariants as kinds
-use Rattle.arc_ast.specs.Tree.{ExprTree, VariableTree, StmtTree, StmtTrees, ParameterTree, ParametersTree, FunctionTree, HeadTree, MethodTree, InterfaceTree, ImplementationTree, UnitTree, Block, Empty, Simple, Return, Variables, If, IfElse, While, no_stmts, and_stmt, Ints, CountAndTexts}
-use Rattle.arc_parse.specs.Language.{Language, ◌⨾◌, ◌∣◌, The, TheWord, Nothing}
-use Rattle.arc_parse.specs.Reader.{Reader, any, begins, bind, ret, is_mark, is_word, sees_mark, sees_word, sees_at}
+use Rattle.arc_ast.specs.declared.tree.Sign as trees
+use Rattle.arc_ast.specs.declared.tree.Sign.TheVariants as signs
+use Rattle.arc_ast.specs.declared.tree.Visibility.{Visibility}
+use Rattle.arc_ast.specs.declared.tree.Visibility.TheVariants as seen
+use Rattle.arc_ast.specs.Tree.{TypeTree, ExprTree, VariableTree, StmtTree, StmtTrees, ParameterTree, ParametersTree, FunctionTree, HeadTree, MethodTree, FieldTree, InterfaceTree, ImplementationTree, UnitTree, Int, Id, Object, Block, Empty, Simple, Return, Variables, If, IfElse, While, no_stmts, and_stmt, Ints, CountAndTexts}
+use Rattle.arc_parse.specs.Language.{Language, ◌⨾◌, ◌∣◌, One, The, TheWord, Nothing}
+use Rattle.arc_parse.specs.Reader.{Reader, any, begins, bind, ret, is_mark, is_word, is_name, sees_mark, sees_word, sees_at}
 use Rattle.arc_parse.specs.ExprRules.{mark_operator}
 use Rattle.arc_parse.specs.Limits.{Limits, AtMost, Nested, nested, cut, up_to, plain, plainly}
-use Rattle.arc_parse.specs.Grammar.{widest, Full, SpellsValue, SpellsInitial, SpellsVariable, SpellsMoreVariables, SpellsDeclaration, SpellsTest, is_open, SpellsStmt, SpellsStmts, main_bytes, SpellsResult, SpellsParameter, SpellsMoreParameters, TextsName, SpellsParameters, SpellsHead, SpellsBraces, SpellsBody, SpellsFunction, SpellsTyped, SpellsTypedParts, SpellsSelector, SpellsMethodHead, SpellsHeads, SpellsMethod, SpellsMethods, SpellsInterface, SpellsImplementation, MoreNames, SpellsNames, TopTree, OfNames, OfFunction, OfInterface, OfImplementation, SpellsTop, SpellsTops, SpellsUnit, unit_of}
-use Rattle.arc_parse.specs.UnitRules.{stmt, items, more_variables, more_parameters, more_names, typed_parts, heads, methods, tops, begins_expr, begins_stmt, full, simple_by, empty, value_by, return_by, block_by, test_by, else_by, if_by, while_by, worded_by, stmt_by, initial_by, variable_by, more_variables_by, next_variable_by, variables_by, declaration_by, perhaps_by, item_by, items_by, texts_name, perhaps_const, texts, parameter, next_parameter, more_parameters_by, begins_texts, with_others_by, second_by, some_by, parameters_by, result_kind, head_by, braces_by, body_by, function_by, typed, next_part, typed_parts_by, selector_by, method_head_by, next_head_by, heads_by, perhaps_semicolon, method_by, methods_by, interface_by, title, implementation_by, next_name, more_names_by, names_by, names_top_by, interface_top_by, implementation_top_by, function_top_by, top_by, tops_by, read, unit}
+use Rattle.arc_parse.specs.Grammar.{widest, Full, SpellsValue, SpellsInitial, SpellsVariable, SpellsVariables, SpellsMoreVariables, SpellsReferences, SpellsMoreReferences, SpellsDeclaration, begins_reference, FieldGroup, OfWord, OfInts, word_of, sign_mark, SpellsMoreNames, SpellsGroup, SpellsGroups, named_fields, fields_of, SpellsFields, SpellsTest, is_open, SpellsStmt, SpellsStmts, main_bytes, SpellsResult, SpellsParameter, SpellsMoreParameters, TextsName, SpellsParameters, SpellsHead, SpellsBraces, SpellsBody, SpellsFunction, SpellsTyped, SpellsTypedParts, SpellsSelector, SpellsMethodHead, SpellsHeads, SpellsMethod, SpellsMethods, SpellsInterface, SpellsImplementation, MoreNames, SpellsNames, TopTree, OfNames, OfFunction, OfInterface, OfImplementation, SpellsTop, SpellsTops, SpellsUnit, unit_of}
+use Rattle.arc_parse.specs.UnitRules.{stmt, items, more_variables, more_references, more_parameters, more_fields, more_names, typed_parts, heads, methods, groups, tops, begins_expr, begins_stmt, full, simple_by, empty, value_by, return_by, block_by, test_by, else_by, if_by, while_by, worded_by, stmt_by, initial_by, variable_by, more_variables_by, next_variable_by, variables_by, declaration_by, reference_by, next_reference_by, more_references_by, references_by, objects_by, perhaps_by, item_by, items_by, texts_name, perhaps_const, texts, parameter, next_parameter, more_parameters_by, begins_texts, with_others_by, second_by, some_by, parameters_by, result_kind, head_by, braces_by, body_by, function_by, typed, next_part, typed_parts_by, selector_by, sign, begins_method, method_head_by, next_head_by, heads_by, perhaps_semicolon, method_by, methods_by, field, next_field, more_fields_by, ints_by, group_by, groups_by, fields_by, interface_by, title, implementation_by, next_name, more_names_by, names_by, names_top_by, interface_top_by, implementation_top_by, function_top_by, top_by, tops_by, read, unit}
 use Rattle.arc_parse.proofs.ExprComplete.{complete, ends_mark}
-use Rattle.arc_parse.proofs.UnitBegin.{begun, not_there, mark_not_there, word_not_there, stmt_begun, stmt_not_close, stmt_not_else, stmt_not_int, int_not_close, int_not_else, close_not_else}
+use Rattle.arc_parse.proofs.UnitBegin.{begun, not_there, mark_not_there, word_not_there, stmt_begun, stmt_not_close, stmt_not_else, stmt_not_int, stmt_not_id, word_not_close, word_not_word, close_not_else}
+use Rattle.arc_parse.proofs.ExprLocal.{no_reference}
+use Rattle.arc_parse.proofs.UnitSound.{named_append, a_field}
 use Rattle.arc_parse.proofs.UnitLocal.{read_is}
 
 -- ---- the head of a function
@@ -98,9 +105,32 @@ unfolding perhaps_semicolon
 semicolon_reads ts rest (inl c) e = rw (c, e) refl
 semicolon_reads ts rest (inr (at, (t, c, s, p))) e = rw (c, s) refl
 
--- a method begins with `+`
-plus_seen : (one : HeadTree) (ts rest : List Tok) → SpellsMethodHead one ts → sees_mark m.Plus (ts ++ rest) ≡ true
-plus_seen one ts rest (ps, us, c, (t, cp, sp, pp), x) = rw (c, cp, sp) refl
+-- a method begins with `+` or `-`
+sign_begins : (k : trees.Sign) → (is_mark m.Plus (Sign (sign_mark k)) || is_mark m.Minus (Sign (sign_mark k))) ≡ true
+sign_begins signs.Class = refl
+sign_begins signs.Instance = refl
+
+sign_no_brace : (k : trees.Sign) → is_mark m.OpenBrace (Sign (sign_mark k)) ≡ false
+sign_no_brace signs.Class = refl
+sign_no_brace signs.Instance = refl
+
+sign_reads : (k : trees.Sign) (t : Tok) (us : List Tok) → t.sort ≡ Sign (sign_mark k) → sign (t ∷ us) ≡ Ok ((t.from, k), us)
+unfolding sign
+sign_reads signs.Class t us e = rw e refl
+sign_reads signs.Instance t us e = rw e refl
+
+method_begun : (one : HeadTree) (ts rest : List Tok) → SpellsMethodHead one ts → (begins begins_method (ts ++ rest) ≡ true) × (sees_mark m.OpenBrace (ts ++ rest) ≡ false)
+method_begun one ts rest (ps, us, c, (t, cp, sp, pp), x) = (rw (c, cp, sp) (sign_begins one.sign), rw (c, cp, sp) (sign_no_brace one.sign))
+
+-- a word is itself
+word_same : (word : Word) → same_word word word ≡ true
+word_same word = eq-eqb (number_of_word word) (number_of_word word) refl
+
+-- what does not begin with a name and `*` does not with more behind its `;`
+reference_behind : (es rest : List Tok) (u : Tok) → u.sort ≡ Sign m.Semicolon → begins_reference (es ++ (u ∷ [])) ≡ false → begins_reference (es ++ (u ∷ rest)) ≡ false
+reference_behind [] rest u z h = no_reference u rest (ap is_name z)
+reference_behind (t ∷ []) rest u z h = h
+reference_behind (t ∷ v ∷ es) rest u z h = h
 
 -- ---- limits
 
@@ -115,17 +145,17 @@ nested_fits (Some n) d test f ts p = rw (le-ltb n d p) refl
 
 -- a mark behind which no expression goes on
 abbrev Stops : Mark → Type 0
-Stops mark = (mark_operator mark ≡ None) × (is_mark m.OpenParen (Sign mark) ≡ false) × (is_mark m.Assign (Sign mark) ≡ false)
+Stops mark = (mark_operator mark ≡ None) × (is_mark m.Arrow (Sign mark) ≡ false) × (is_mark m.OpenParen (Sign mark) ≡ false) × (is_mark m.Assign (Sign mark) ≡ false)
 
 module _ (limits : Limits) where
   full_reads : (e : ExprTree) (ts rest : List Tok) (u : Tok) (mark : Mark) → Full limits e ts → u.sort ≡ Sign mark → Stops mark → full limits (ts ++ (u ∷ rest)) ≡ Ok (e, u ∷ rest)
   unfolding full up_to plain
   full_reads e ts rest u mark (few, x) z stops =
-      ap (λ y. cut limits.tokens (ts ++ (u ∷ rest)) (plainly y)) ((complete e).full ts (u ∷ rest) x (ends_mark e widest mark u rest z stops.0 stops.1 stops.2))
+      ap (λ y. cut limits.tokens (ts ++ (u ∷ rest)) (plainly y)) ((complete e).full ts (u ∷ rest) x (ends_mark e widest mark u rest z stops.0 stops.1 stops.2 stops.3))
       ∙ cut_fits limits.tokens ts (u ∷ rest) e few
 
   full_begun : (e : ExprTree) (ts rest : List Tok) (u : Tok) → Full limits e ts → u.sort ≡ Sign m.Semicolon → begins (λ t. begins_expr t.sort) (ts ++ (u ∷ rest)) ≡ true
-  full_begun e ts rest u (few, x) z = begun e (ts ++ (u ∷ rest)) (u ∷ rest) ((complete e).full ts (u ∷ rest) x (ends_mark e widest m.Semicolon u rest z refl refl refl))
+  full_begun e ts rest u (few, x) z = begun e (ts ++ (u ∷ rest)) (u ∷ rest) ((complete e).full ts (u ∷ rest) x (ends_mark e widest m.Semicolon u rest z refl refl refl refl))
 
   -- ---- statements
 
@@ -142,23 +172,24 @@ module _ (limits : Limits) where
 
   simple_reads : (d : ℕ) (e : ExprTree) → Reads d (Simple e)
   unfolding stmt_by worded_by simple_by
-  simple_reads d e ts rest (es, zs, q, x, (n, (u, cu, su, pu))) _ =
+  simple_reads d e ts rest (front, (es, zs, q, x, (n, (u, cu, su, pu)))) _ =
       let us = es ++ (u ∷ rest) in
+      let reference : begins_reference us ≡ false = reference_behind es rest u su (ap begins_reference (sym (q ∙ ap (λ v. es ++ v) cu)) ∙ front) in
       let line : ts ++ rest ≡ us = rw (q, cu) (append_assoc es (u ∷ []) rest) in
       let begin = full_begun e es rest u x su in
       let brace : sees_mark m.OpenBrace us ≡ false = not_there (is_mark m.OpenBrace) us (mark_not_there m.OpenBrace refl refl refl) begin in
       let semicolon : sees_mark m.Semicolon us ≡ false = not_there (is_mark m.Semicolon) us (mark_not_there m.Semicolon refl refl refl) begin in
-      let return : sees_word w.Return us ≡ false = not_there (is_word w.Return) us (word_not_there w.Return) begin in
-      let no_if : sees_word w.If us ≡ false = not_there (is_word w.If) us (word_not_there w.If) begin in
-      let no_while : sees_word w.While us ≡ false = not_there (is_word w.While) us (word_not_there w.While) begin in
-      (rw (line, brace, semicolon, return, no_if, no_while, full_reads e es rest u m.Semicolon x su (refl, refl, refl), su) refl, rw line (stmt_begun us begin))
+      let return : sees_word w.Return us ≡ false = not_there (is_word w.Return) us (word_not_there w.Return refl refl) begin in
+      let no_if : sees_word w.If us ≡ false = not_there (is_word w.If) us (word_not_there w.If refl refl) begin in
+      let no_while : sees_word w.While us ≡ false = not_there (is_word w.While) us (word_not_there w.While refl refl) begin in
+      (rw (line, brace, semicolon, return, no_if, no_while, reference, full_reads e es rest u m.Semicolon x su (refl, refl, refl, refl), su) refl, rw line (stmt_begun us begin))
 
   value_reads : (value : Option ExprTree) (ts rest : List Tok) (u : Tok) → SpellsValue limits value ts → u.sort ≡ Sign m.Semicolon → value_by limits (ts ++ (u ∷ rest)) ≡ Ok (value, u ∷ rest)
   unfolding value_by
   value_reads None ts rest u c z = rw (c, z) refl
   value_reads (Some e) ts rest u x z =
       let semicolon : sees_mark m.Semicolon (ts ++ (u ∷ rest)) ≡ false = not_there (is_mark m.Semicolon) (ts ++ (u ∷ rest)) (mark_not_there m.Semicolon refl refl refl) (full_begun e ts rest u x z) in
-      rw (semicolon, full_reads e ts rest u m.Semicolon x z (refl, refl, refl)) refl
+      rw (semicolon, full_reads e ts rest u m.Semicolon x z (refl, refl, refl, refl)) refl
 
   return_reads : (d at : ℕ) (value : Option ExprTree) → Reads d (Return at value)
   unfolding stmt_by worded_by return_by
@@ -177,7 +208,7 @@ module _ (limits : Limits) where
   unfolding test_by
   test_reads c ts rest (os, us, p, (o, (t, ct, st, pt)), (es, zs, q, x, (n, (u, cu, su, pu)))) =
       let line : ts ++ rest ≡ t ∷ (es ++ (u ∷ rest)) = rw (p, ct, q, cu) (ap (λ v. t ∷ v) (append_assoc es (u ∷ []) rest)) in
-      rw (line, st, full_reads c es rest u m.CloseParen x su (refl, refl, refl), su) refl
+      rw (line, st, full_reads c es rest u m.CloseParen x su (refl, refl, refl, refl), su) refl
 
   -- a branch
   branch_reads : (d : ℕ) (s : StmtTree) → Reads d s → (ts rest : List Tok) → Nested limits d (SpellsStmt limits d s) ts → (is_open s ≡ true → sees_word w.Else rest ≡ false) → read limits (stmt d) (ts ++ rest) ≡ Ok (s, rest)
@@ -213,7 +244,7 @@ module _ (limits : Limits) where
   initial_reads : (value : Option ExprTree) (ts rest : List Tok) (u : Tok) (mark : Mark) → SpellsInitial limits value ts → u.sort ≡ Sign mark → Stops mark → initial_by limits (ts ++ (u ∷ rest)) ≡ Ok (value, u ∷ rest)
   unfolding initial_by
   initial_reads None ts rest u mark c z stops =
-      let none : sees_mark m.Assign (u ∷ rest) ≡ false = ap (is_mark m.Assign) z ∙ stops.2 in
+      let none : sees_mark m.Assign (u ∷ rest) ≡ false = ap (is_mark m.Assign) z ∙ stops.3 in
       rw (c, none) refl
   initial_reads (Some e) ts rest u mark (as', es, c, (n, (t, ct, st, pt)), x) z stops = rw (c, ct, st, full_reads e es rest u mark x z stops) refl
 
@@ -224,8 +255,8 @@ module _ (limits : Limits) where
   -- what is behind a variable
   more_front : (all : List VariableTree) (ts rest : List Tok) (u : Tok) → SpellsMoreVariables limits all ts → u.sort ≡ Sign m.Semicolon
       → (t : Tok) × (us : List Tok) × (mark : Mark) × (ts ++ (u ∷ rest) ≡ t ∷ us) × (t.sort ≡ Sign mark) × Stops mark
-  more_front [] ts rest u c z = (u, rest, m.Semicolon, ap (λ v. v ++ (u ∷ rest)) c, z, (refl, refl, refl))
-  more_front (v ∷ others) ts rest u (cs, xs, c, (n, (t, ct, st, pt)), x) z = (t, xs ++ (u ∷ rest), m.Comma, rw (c, ct) refl, st, (refl, refl, refl))
+  more_front [] ts rest u c z = (u, rest, m.Semicolon, ap (λ v. v ++ (u ∷ rest)) c, z, (refl, refl, refl, refl))
+  more_front (v ∷ others) ts rest u (cs, xs, c, (n, (t, ct, st, pt)), x) z = (t, xs ++ (u ∷ rest), m.Comma, rw (c, ct) refl, st, (refl, refl, refl, refl))
 
   variable_before : (v : VariableTree) (all : List VariableTree) (xs ts rest : List Tok) (u : Tok) → SpellsVariable limits v xs → SpellsMoreVariables limits all ts → u.sort ≡ Sign m.Semicolon
       → variable_by limits (xs ++ (ts ++ (u ∷ rest))) ≡ Ok (v, ts ++ (u ∷ rest))
@@ -239,21 +270,72 @@ module _ (limits : Limits) where
       let line : ts ++ (u ∷ rest) ≡ t ∷ (xs ++ tail) = rw (c, ct, d) (ap (λ v. t ∷ v) (append_assoc xs ys (u ∷ rest))) in
       rw line (read_is limits more_variables (t ∷ (xs ++ tail)) ∙ rw (st, variable_before v others xs ys rest u x y z, more_variables_read others ys rest u y z) refl)
 
-  declaration_reads : (s : StmtTree) (ts rest : List Tok) → SpellsDeclaration limits s ts → (declaration_by limits (read limits) (ts ++ rest) ≡ Ok (s, rest)) × (sees_word w.Int (ts ++ rest) ≡ true)
-  unfolding declaration_by variables_by
-  declaration_reads (Variables at (v ∷ others)) ts rest (ks, us, p, (t, ct, st, pt), (zs, ws, q, (xs, ys, c, x, y), (n, (u, cu, su, pu)))) =
+  -- what is behind a variable with a `*`
+  reference_front : (all : List VariableTree) (ts rest : List Tok) (u : Tok) → SpellsMoreReferences limits all ts → u.sort ≡ Sign m.Semicolon
+      → (t : Tok) × (us : List Tok) × (mark : Mark) × (ts ++ (u ∷ rest) ≡ t ∷ us) × (t.sort ≡ Sign mark) × Stops mark
+  reference_front [] ts rest u c z = (u, rest, m.Semicolon, ap (λ v. v ++ (u ∷ rest)) c, z, (refl, refl, refl, refl))
+  reference_front (v ∷ others) ts rest u (cs, xs, c, (n, (t, ct, st, pt)), x) z = (t, xs ++ (u ∷ rest), m.Comma, rw (c, ct) refl, st, (refl, refl, refl, refl))
+
+  reference_before : (v : VariableTree) (all : List VariableTree) (xs ts rest : List Tok) (u : Tok) → SpellsVariable limits v xs → SpellsMoreReferences limits all ts → u.sort ≡ Sign m.Semicolon
+      → variable_by limits (xs ++ (ts ++ (u ∷ rest))) ≡ Ok (v, ts ++ (u ∷ rest))
+  reference_before v all xs ts rest u x y z = let f = reference_front all ts rest u y z in rw f.3 (variable_reads v xs f.1 f.0 f.2 x f.4 f.5)
+
+  more_references_read : (all : List VariableTree) (ts rest : List Tok) (u : Tok) → SpellsMoreReferences limits all ts → u.sort ≡ Sign m.Semicolon → read limits more_references (ts ++ (u ∷ rest)) ≡ Ok (all, u ∷ rest)
+  unfolding more_references_by next_reference_by reference_by
+  more_references_read [] ts rest u c z = rw (c, read_is limits more_references (u ∷ rest), z) refl
+  more_references_read (v ∷ others) ts rest u (cs, us, c, (n, (t, ct, st, pt)), (ss, ws, f, (k, (y, cy, sy, py)), (xs, ys, d, x, o))) z =
       let tail = ys ++ (u ∷ rest) in
+      let line : ts ++ (u ∷ rest) ≡ t ∷ y ∷ (xs ++ tail) = rw (c, ct, f, cy, d) (ap (λ v. t ∷ y ∷ v) (append_assoc xs ys (u ∷ rest))) in
+      rw line (read_is limits more_references (t ∷ y ∷ (xs ++ tail)) ∙ rw (st, sy, reference_before v others xs ys rest u x o z, more_references_read others ys rest u o z) refl)
+
+  -- a declaration by a word
+  word_declares : (word : Word) (type : TypeTree) (at : ℕ) (all : List VariableTree) (ts rest : List Tok) → (One (Key word) at ⨾ SpellsVariables limits all ⨾ The m.Semicolon) ts
+      → (declaration_by limits (read limits) word type (ts ++ rest) ≡ Ok (Variables at type all, rest)) × (sees_word word (ts ++ rest) ≡ true)
+  unfolding declaration_by variables_by
+  word_declares word type at (v ∷ others) ts rest (ks, us, p, (t, ct, st, pt), (zs, ws, q, (xs, ys, c, x, y), (n, (u, cu, su, pu)))) =
+      let tail = ys ++ (u ∷ rest) in
+      let same = word_same word in
       let line : ts ++ rest ≡ t ∷ (xs ++ tail) =
       rw (p, ct, q, c, cu) (ap (λ v. t ∷ v) (append_assoc (xs ++ ys) (u ∷ []) rest ∙ append_assoc xs ys (u ∷ rest))) in
-      (rw (line, st, variable_before v others xs ys rest u x y su, more_variables_read others ys rest u y su, su, pt) refl, rw (line, st) refl)
-  declaration_reads (Variables at []) ts rest (ks, us, p, k, (zs, ws, q, none, n)) = absurd none
-  declaration_reads (Block at all) ts rest h = absurd h
-  declaration_reads (Empty at) ts rest h = absurd h
-  declaration_reads (Simple e) ts rest h = absurd h
-  declaration_reads (Return at value) ts rest h = absurd h
-  declaration_reads (If at c a) ts rest h = absurd h
-  declaration_reads (IfElse at c a b) ts rest h = absurd h
-  declaration_reads (While at c a) ts rest h = absurd h
+      (rw (line, st, same, variable_before v others xs ys rest u x y su, more_variables_read others ys rest u y su, su, pt) refl, rw (line, st) same)
+  word_declares word type at [] ts rest (ks, us, p, k, (zs, ws, q, none, n)) = absurd none
+
+  -- and by a class's name
+  name_declares : (at class_at : ℕ) (called : List ℕ) (all : List VariableTree) (ts rest : List Tok) → at ≡ class_at → (One (tokens.Name called) class_at ⨾ SpellsReferences limits all ⨾ The m.Semicolon) ts
+      → (objects_by limits (read limits) (ts ++ rest) ≡ Ok (Variables at (Object class_at called) all, rest)) × (t : Tok) × (y : Tok) × (us : List Tok) × (ts ++ rest ≡ t ∷ y ∷ us) × (t.sort ≡ tokens.Name called) × (y.sort ≡ Sign m.Star)
+  unfolding objects_by references_by reference_by
+  name_declares at class_at called (v ∷ others) ts rest e (ks, us, p, (t, ct, st, pt), (zs, ws, q, (ss, vs, f, (k, (y, cy, sy, py)), (xs, ys, c, x, o)), (n, (u, cu, su, pu)))) =
+      let tail = ys ++ (u ∷ rest) in
+      let line : ts ++ rest ≡ t ∷ y ∷ (xs ++ tail) =
+      rw (p, ct, q, f, cy, c, cu) (ap (λ v. t ∷ y ∷ v) (append_assoc (xs ++ ys) (u ∷ []) rest ∙ append_assoc xs ys (u ∷ rest))) in
+      (rw (line, st, sy, reference_before v others xs ys rest u x o su, more_references_read others ys rest u o su, su, e, pt) refl, t, y, xs ++ tail, line, st, sy)
+  name_declares at class_at called [] ts rest e (ks, us, p, k, (zs, ws, q, none, n)) = absurd none
+
+  -- a declaration is an item of a block
+  abbrev ReadsItem : ℕ → StmtTree → List Tok → List Tok → Type 0
+  ReadsItem d s us rest = (item_by limits (read limits) d us ≡ Ok (s, rest)) × (sees_mark m.CloseBrace us ≡ false) × (sees_word w.Else us ≡ false)
+
+  declaration_reads : (d : ℕ) (s : StmtTree) (ts rest : List Tok) → SpellsDeclaration limits s ts → ReadsItem d s (ts ++ rest) rest
+  unfolding item_by
+  declaration_reads d (Variables at Int all) ts rest h =
+      let one = word_declares w.Int Int at all ts rest h in
+      (rw (one.1, one.0) refl, word_not_close w.Int (ts ++ rest) one.1, word_not_word w.Int w.Else refl (ts ++ rest) one.1)
+  declaration_reads d (Variables at Id all) ts rest h =
+      let one = word_declares w.Id Id at all ts rest h in
+      (rw (word_not_word w.Id w.Int refl (ts ++ rest) one.1, one.1, one.0) refl, word_not_close w.Id (ts ++ rest) one.1, word_not_word w.Id w.Else refl (ts ++ rest) one.1)
+  declaration_reads d (Variables at (Object class_at called) all) ts rest (e, h) =
+      let one = name_declares at class_at called all ts rest e h in
+      let no_int : sees_word w.Int (ts ++ rest) ≡ false = rw (one.4, one.5) refl in
+      let no_id : sees_word w.Id (ts ++ rest) ≡ false = rw (one.4, one.5) refl in
+      let reference : begins_reference (ts ++ rest) ≡ true = rw (one.4, one.5, one.6) refl in
+      (rw (no_int, no_id, reference, one.0) refl, rw (one.4, one.5) refl, rw (one.4, one.5) refl)
+  declaration_reads d (Block at all) ts rest h = absurd h
+  declaration_reads d (Empty at) ts rest h = absurd h
+  declaration_reads d (Simple e) ts rest h = absurd h
+  declaration_reads d (Return at value) ts rest h = absurd h
+  declaration_reads d (If at c a) ts rest h = absurd h
+  declaration_reads d (IfElse at c a b) ts rest h = absurd h
+  declaration_reads d (While at c a) ts rest h = absurd h
 
   -- ---- blocks
 
@@ -261,16 +343,26 @@ module _ (limits : Limits) where
   unfolding items_by
   none_reads d ts rest h e = (rw (h, read_is limits (items d), e) refl, rw h (close_not_else rest e))
 
+  -- a statement that begins with a name and `*` is none
+  stmt_no_reference : (d : ℕ) (s : StmtTree) (ts rest : List Tok) → SpellsStmt limits d s ts → begins_reference (ts ++ rest) ≡ false
+  stmt_no_reference d (Block at all) ts rest (os, us, p, (t, ct, st, pt), x) = rw (p, ct) (no_reference t (us ++ rest) (ap is_name st))
+  stmt_no_reference d (Empty at) ts rest (t, c, s, p) = rw c (no_reference t rest (ap is_name s))
+  stmt_no_reference d (Simple e) ts rest (front, (es, zs, q, x, (n, (u, cu, su, pu)))) =
+      rw (q, cu, append_assoc es (u ∷ []) rest) (reference_behind es rest u su (ap begins_reference (sym (q ∙ ap (λ v. es ++ v) cu)) ∙ front))
+  stmt_no_reference d (Return at value) ts rest (ks, us, p, (t, ct, st, pt), x) = rw (p, ct) (no_reference t (us ++ rest) (ap is_name st))
+  stmt_no_reference d (If at c a) ts rest (ks, us, p, (t, ct, st, pt), x) = rw (p, ct) (no_reference t (us ++ rest) (ap is_name st))
+  stmt_no_reference d (IfElse at c a b) ts rest (o, (ks, us, p, (t, ct, st, pt), x)) = rw (p, ct) (no_reference t (us ++ rest) (ap is_name st))
+  stmt_no_reference d (While at c a) ts rest (ks, us, p, (t, ct, st, pt), x) = rw (p, ct) (no_reference t (us ++ rest) (ap is_name st))
+  stmt_no_reference d (Variables at type all) ts rest h = absurd h
+
   item_reads : (d : ℕ) (s : StmtTree) → Reads d s → (ts rest : List Tok) → (SpellsDeclaration limits s ∣ Nested limits d (SpellsStmt limits d s)) ts → (is_open s ≡ true → sees_word w.Else rest ≡ false)
-      → (item_by limits (read limits) d (ts ++ rest) ≡ Ok (s, rest)) × (sees_mark m.CloseBrace (ts ++ rest) ≡ false) × (sees_word w.Else (ts ++ rest) ≡ false)
+      → ReadsItem d s (ts ++ rest) rest
   unfolding item_by perhaps_by
-  item_reads d s k ts rest (inl h) no_else =
-      let one = declaration_reads s ts rest h in
-      (rw (one.1, one.0) refl, int_not_close (ts ++ rest) one.1, int_not_else (ts ++ rest) one.1)
+  item_reads d s k ts rest (inl h) no_else = declaration_reads d s ts rest h
   item_reads d s k ts rest (inr h) no_else =
       let one = k ts rest h.1 no_else in
       let some = nested_fits limits.depth d begins_stmt (stmt_by limits (read limits) d) (ts ++ rest) h.0 ∙ one.0 in
-      (rw (stmt_not_int (ts ++ rest) one.1, some) refl, stmt_not_close (ts ++ rest) one.1, stmt_not_else (ts ++ rest) one.1)
+      (rw (stmt_not_int (ts ++ rest) one.1, stmt_not_id (ts ++ rest) one.1, stmt_no_reference d s ts rest h.1, some) refl, stmt_not_close (ts ++ rest) one.1, stmt_not_else (ts ++ rest) one.1)
 
   and_reads : (d : ℕ) (s : StmtTree) (others : StmtTrees) → Reads d s → ReadsAll d others → ReadsAll d (and_stmt s others)
   unfolding items_by
@@ -285,7 +377,7 @@ module _ (limits : Limits) where
     complete_stmt (Empty at) d = empty_reads d at
     complete_stmt (Simple e) d = simple_reads d e
     complete_stmt (Return at value) d = return_reads d at value
-    complete_stmt (Variables at all) d = λ ts rest h _. absurd h
+    complete_stmt (Variables at type all) d = λ ts rest h _. absurd h
     complete_stmt (If at c a) d = if_reads d at c a (complete_stmt a (suc d))
     complete_stmt (IfElse at c a b) d = if_else_reads d at c a b (complete_stmt a (suc d)) (complete_stmt b (suc d))
     complete_stmt (While at c a) d = while_reads d at c a (complete_stmt a (suc d))
@@ -412,7 +504,7 @@ module _ (limits : Limits) where
       let q = selector_reads one.selector one.parameters ss rest u mark s z none in
       let line : ts ++ (u ∷ rest) ≡ t ∷ x ∷ (ks ++ (y ∷ q.0 ∷ q.1)) =
       rw (c, cp, d, co, f, g, ce) (ap (λ v. t ∷ x ∷ v) (append_assoc ks (y ∷ ss) (u ∷ rest) ∙ ap (λ v. ks ++ (y ∷ v)) q.3)) in
-      rw (line, sp, so, result_reads one.result ks (y ∷ q.0 ∷ q.1) k, se, q.4, q.5, sym pp) refl
+      rw (line, sign_reads one.sign t (x ∷ (ks ++ (y ∷ q.0 ∷ q.1))) sp, so, result_reads one.result ks (y ∷ q.0 ∷ q.1) k, se, q.4, q.5, sym pp) refl
 
   heads_read : (all : List HeadTree) (ts rest : List Tok) (u : Tok) → SpellsHeads all ts → u.sort ≡ At ats.End → read limits heads (ts ++ (u ∷ rest)) ≡ Ok (all, u ∷ rest)
   unfolding heads_by next_head_by
@@ -420,7 +512,7 @@ module _ (limits : Limits) where
   heads_read (one ∷ others) ts rest u (xs, us, c, x, (ss, ys, d, (n, (t, ct, st, pt)), y)) z =
       let tail = ys ++ (u ∷ rest) in
       let line : ts ++ (u ∷ rest) ≡ xs ++ (t ∷ tail) = rw (c, d, ct) (append_assoc xs (t ∷ ys) (u ∷ rest)) in
-      rw line (read_is limits heads (xs ++ (t ∷ tail)) ∙ rw (plus_seen one xs (t ∷ tail) x, method_head_reads one xs tail t m.Semicolon x st refl, st, heads_read others ys rest u y z) refl)
+      rw line (read_is limits heads (xs ++ (t ∷ tail)) ∙ rw ((method_begun one xs (t ∷ tail) x).0, method_head_reads one xs tail t m.Semicolon x st refl, st, heads_read others ys rest u y z) refl)
 
   -- a method's head, behind which `;` may stand, and a block
   head_before : (one : HeadTree) (all : StmtTrees) (hs ss bs rest : List Tok) → SpellsMethodHead one hs → (Nothing ∣ The m.Semicolon) ss → SpellsBraces limits all bs
@@ -438,33 +530,91 @@ module _ (limits : Limits) where
       let semicolon : sees_mark m.Semicolon (bs ++ rest) ≡ false = rw (f.2, f.3) refl in
       rw (line, head_before one.head one.body hs ss bs rest h s b, semicolon_reads ss (bs ++ rest) s semicolon, braces_read one.body bs rest b) refl
 
+  method_seen : (one : MethodTree) (ts rest : List Tok) → SpellsMethod limits one ts → (begins begins_method (ts ++ rest) ≡ true) × (sees_mark m.OpenBrace (ts ++ rest) ≡ false)
+  method_seen one ts rest (hs, us, c, h, x) =
+      let p = method_begun one.head hs (us ++ rest) h in
+      (rw (c, append_assoc hs us rest) p.0, rw (c, append_assoc hs us rest) p.1)
+
   methods_read : (all : List MethodTree) (ts rest : List Tok) (u : Tok) → SpellsMethods limits all ts → u.sort ≡ At ats.End → read limits methods (ts ++ (u ∷ rest)) ≡ Ok (all, u ∷ rest)
   unfolding methods_by
   methods_read [] ts rest u c z = rw (c, read_is limits methods (u ∷ rest), z) refl
   methods_read (one ∷ others) ts rest u (xs, ys, c, x, y) z =
       let tail = ys ++ (u ∷ rest) in
       let line : ts ++ (u ∷ rest) ≡ xs ++ tail = rw c (append_assoc xs ys (u ∷ rest)) in
-      rw line (read_is limits methods (xs ++ tail) ∙ rw (method_seen one xs tail x, method_reads one xs tail x, methods_read others ys rest u y z) refl)
-    where
-      method_seen : (one : MethodTree) (ts rest : List Tok) → SpellsMethod limits one ts → sees_mark m.Plus (ts ++ rest) ≡ true
-      method_seen one ts rest (hs, us, c, h, x) = rw (c, append_assoc hs us rest) (plus_seen one.head hs (us ++ rest) h)
+      rw line (read_is limits methods (xs ++ tail) ∙ rw ((method_seen one xs tail x).0, method_reads one xs tail x, methods_read others ys rest u y z) refl)
+
+  -- behind fields is no `{`
+  heads_no_brace : (all : List HeadTree) (ts rest : List Tok) (u : Tok) → SpellsHeads all ts → u.sort ≡ At ats.End → sees_mark m.OpenBrace (ts ++ (u ∷ rest)) ≡ false
+  heads_no_brace [] ts rest u c z = rw (c, z) refl
+  heads_no_brace (one ∷ others) ts rest u (xs, us, c, x, y) z = rw (c, append_assoc xs us (u ∷ rest)) (method_begun one xs (us ++ (u ∷ rest)) x).1
+
+  methods_no_brace : (all : List MethodTree) (ts rest : List Tok) (u : Tok) → SpellsMethods limits all ts → u.sort ≡ At ats.End → sees_mark m.OpenBrace (ts ++ (u ∷ rest)) ≡ false
+  methods_no_brace [] ts rest u c z = rw (c, z) refl
+  methods_no_brace (one ∷ others) ts rest u (xs, us, c, x, y) z = rw (c, append_assoc xs us (u ∷ rest)) (method_seen one xs (us ++ (u ∷ rest)) x).1
+
+  -- ---- fields
+
+  more_fields_read : (names : List (ℕ × List ℕ)) (v : Visibility) (ts rest : List Tok) (u : Tok) → SpellsMoreNames names ts → u.sort ≡ Sign m.Semicolon → read limits (more_fields v) (ts ++ (u ∷ rest)) ≡ Ok (named_fields v names [], u ∷ rest)
+  unfolding more_fields_by next_field field
+  more_fields_read [] v ts rest u c z = rw (c, read_is limits (more_fields v) (u ∷ rest), z) refl
+  more_fields_read (n ∷ names) v ts rest u (cs, us, c, (k, (t, ct, st, pt)), (ns, ys, d, (x, cx, sx, px), y)) z =
+      let tail = ys ++ (u ∷ rest) in
+      let line : ts ++ (u ∷ rest) ≡ t ∷ x ∷ tail = rw (c, ct, d, cx) refl in
+      rw line (read_is limits (more_fields v) (t ∷ x ∷ tail) ∙ rw (st, sx, more_fields_read names v ys rest u y z, px) refl)
+
+  word_reads : (other v : Visibility) (t : Tok) (us : List Tok) → t.sort ≡ At (word_of other) → group_by (read limits) v (t ∷ us) ≡ Ok ((other, []), us)
+  unfolding group_by
+  word_reads seen.Private v t us e = rw e refl
+  word_reads seen.Protected v t us e = rw e refl
+  word_reads seen.Public v t us e = rw e refl
+
+  ints_read : (n : ℕ × List ℕ) (names : List (ℕ × List ℕ)) (v : Visibility) (ts rest : List Tok) → SpellsGroup (OfInts (n ∷ names)) ts
+      → (group_by (read limits) v (ts ++ rest) ≡ Ok ((v, a_field v n ∷ named_fields v names []), rest)) × (sees_mark m.CloseBrace (ts ++ rest) ≡ false)
+  unfolding group_by ints_by field
+  ints_read n names v ts rest (ks, us, c, (k, (t, ck, sk, pk)), (ns, ws, d, (x, cx, sx, px), (os, es, f, o, (e, (u, ce, se, pe))))) =
+      let line : ts ++ rest ≡ t ∷ x ∷ (os ++ (u ∷ rest)) = rw (c, ck, d, cx, f, ce) (ap (λ z. t ∷ x ∷ z) (append_assoc os (u ∷ []) rest)) in
+      (rw (line, sk, sx, more_fields_read names v os rest u o se, se, px) refl, rw (line, sk) refl)
+
+  groups_read : (found : List FieldGroup) (v : Visibility) (ts rest : List Tok) (u : Tok) → SpellsGroups found ts → u.sort ≡ Sign m.CloseBrace → read limits (groups v) (ts ++ (u ∷ rest)) ≡ Ok (fields_of v found, u ∷ rest)
+  unfolding groups_by
+  groups_read [] v ts rest u c z = rw (c, read_is limits (groups v) (u ∷ rest), z) refl
+  groups_read (OfWord other ∷ others) v ts rest u (xs, ys, c, (at, (t, cx, sx, px)), y) z =
+      let tail = ys ++ (u ∷ rest) in
+      let line : ts ++ (u ∷ rest) ≡ t ∷ tail = rw (c, cx) refl in
+      let no_close : is_mark m.CloseBrace t.sort ≡ false = ap (is_mark m.CloseBrace) sx in
+      rw line (read_is limits (groups v) (t ∷ tail) ∙ rw (no_close, word_reads other v t tail sx, groups_read others other ys rest u y z) refl)
+  groups_read (OfInts [] ∷ others) v ts rest u (xs, ys, c, none, y) z = absurd none
+  groups_read (OfInts (n ∷ names) ∷ others) v ts rest u (xs, ys, c, x, y) z =
+      let tail = ys ++ (u ∷ rest) in
+      let line : ts ++ (u ∷ rest) ≡ xs ++ tail = rw c (append_assoc xs ys (u ∷ rest)) in
+      let one = ints_read n names v xs tail x in
+      rw line (read_is limits (groups v) (xs ++ tail) ∙ rw (one.1, one.0, groups_read others v ys rest u y z) (ap (λ all. Ok (a_field v n ∷ all, u ∷ rest)) (sym (named_append v names (fields_of v others)))))
+
+  fields_read : (v : Visibility) (fields : List FieldTree) (ts rest : List Tok) → SpellsFields v fields ts → sees_mark m.OpenBrace rest ≡ false → fields_by (read limits) v (ts ++ rest) ≡ Ok (fields, rest)
+  unfolding fields_by
+  fields_read v fields ts rest (inl (e, c)) none = rw (c, none, e) refl
+  fields_read v fields ts rest (inr (found, e, (os, us, c, (o, (t, ct, st, pt)), (ys, zs, d, y, (n, (u, cu, su, pu)))))) none =
+      let line : ts ++ rest ≡ t ∷ (ys ++ (u ∷ rest)) = rw (c, ct, d, cu) (ap (λ z. t ∷ z) (append_assoc ys (u ∷ []) rest)) in
+      rw (line, st, groups_read found v ys rest u y su, su, e) refl
 
   -- ---- classes
 
   interface_reads : (i : InterfaceTree) (ts rest : List Tok) → SpellsInterface i ts → (interface_by (read limits) (ts ++ rest) ≡ Ok (i, rest)) × (t : Tok) × (us : List Tok) × (ts ++ rest ≡ t ∷ us) × (t.sort ≡ At ats.Interface)
   unfolding interface_by
-  interface_reads i ts rest (ks, us, c, (k, (t, ck, sk, pk)), (ns, vs, d, (n, cn, sn, pn), (cs, ws, f, (o, (x, cx, sx, px)), (ss, xs, g, (s, cs', ss', ps'), (hs, es, h, y, (e, (z, ce, se, pe))))))) =
-      let tail = n ∷ x ∷ s ∷ (hs ++ (z ∷ rest)) in
-      let line : ts ++ rest ≡ t ∷ tail = rw (c, ck, d, cn, f, cx, g, cs', h, ce) (ap (λ v. t ∷ n ∷ x ∷ s ∷ v) (append_assoc hs (z ∷ []) rest)) in
-      (rw (line, sk, sn, sx, ss', heads_read i.methods hs rest z y se, se, sym pn, sym ps') refl, t, tail, line, sk)
+  interface_reads i ts rest (ks, us, c, (k, (t, ck, sk, pk)), (ns, vs, d, (n, cn, sn, pn), (cs, ws, f, (o, (x, cx, sx, px)), (ss, xs, g, (s, cs', ss', ps'), (fs, as', l, fields, (hs, es, h, y, (e, (z, ce, se, pe)))))))) =
+      let tail = n ∷ x ∷ s ∷ (fs ++ (hs ++ (z ∷ rest))) in
+      let line : ts ++ rest ≡ t ∷ tail = rw (c, ck, d, cn, f, cx, g, cs', l, h, ce) (ap (λ v. t ∷ n ∷ x ∷ s ∷ v) (append_assoc fs (hs ++ (z ∷ [])) rest ∙ ap (λ v. fs ++ v) (append_assoc hs (z ∷ []) rest))) in
+      let here = fields_read seen.Protected i.fields fs (hs ++ (z ∷ rest)) fields (heads_no_brace i.methods hs rest z y se) in
+      (rw (line, sk, sn, sx, ss', here, heads_read i.methods hs rest z y se, se, sym pn, sym ps') refl, t, tail, line, sk)
 
   implementation_reads : (i : ImplementationTree) (ts rest : List Tok) → SpellsImplementation limits i ts
       → (implementation_by (read limits) (ts ++ rest) ≡ Ok (i, rest)) × (t : Tok) × (us : List Tok) × (ts ++ rest ≡ t ∷ us) × (t.sort ≡ At ats.Implementation)
   unfolding implementation_by title
-  implementation_reads i ts rest (ks, us, c, (as', ns, d, (k, (t, ck, sk, pk)), (n, cn, sn, pn)), (hs, es, h, y, (e, (z, ce, se, pe)))) =
-      let tail = n ∷ (hs ++ (z ∷ rest)) in
-      let line : ts ++ rest ≡ t ∷ tail = rw (c, d, ck, cn, h, ce) (ap (λ v. t ∷ n ∷ v) (append_assoc hs (z ∷ []) rest)) in
-      (rw (line, sk, sn, methods_read i.methods hs rest z y se, se, sym pn) refl, t, tail, line, sk)
+  implementation_reads i ts rest (ks, us, c, (as', ns, d, (k, (t, ck, sk, pk)), (n, cn, sn, pn)), (fs, vs, l, fields, (hs, es, h, y, (e, (z, ce, se, pe))))) =
+      let tail = n ∷ (fs ++ (hs ++ (z ∷ rest))) in
+      let line : ts ++ rest ≡ t ∷ tail = rw (c, d, ck, cn, l, h, ce) (ap (λ v. t ∷ n ∷ v) (append_assoc fs (hs ++ (z ∷ [])) rest ∙ ap (λ v. fs ++ v) (append_assoc hs (z ∷ []) rest))) in
+      let here = fields_read seen.Private i.fields fs (hs ++ (z ∷ rest)) fields (methods_no_brace i.methods hs rest z y se) in
+      (rw (line, sk, sn, here, methods_read i.methods hs rest z y se, se, sym pn) refl, t, tail, line, sk)
 
   more_names_read : (n : ℕ) (ts rest : List Tok) (u : Tok) → MoreNames n ts → u.sort ≡ Sign m.Semicolon → read limits more_names (ts ++ (u ∷ rest)) ≡ Ok (tt, u ∷ rest)
   unfolding more_names_by next_name

@@ -3,22 +3,26 @@ use Rattle.std.proofs.Common.{◌≡◌, inl, inr, ℕ, suc, zero, List, [], ◌
 use Rattle.std.proofs.lemmas.Bool.{ltb-false}
 use Rattle.std.proofs.lemmas.Slice.Eq.{bytes_eq-Decides}
 use Rattle.arc_lex.specs.declared.token.Mark.TheVariants as m
+use Rattle.arc_lex.specs.declared.token.Word.{Word}
 use Rattle.arc_lex.specs.declared.token.Word.TheVariants as w
 use Rattle.arc_lex.specs.declared.token.AtWord.TheVariants as ats
-use Rattle.arc_lex.specs.Tokens.{Tok, Sign, Key}
+use Rattle.arc_lex.specs.Tokens.{Tok, Sort, Sign, Key}
 use Rattle.arc_lex.specs.Tokens as tokens
 use Rattle.arc_ast.specs.declared.tree.Kind.TheVariants as kinds
-use Rattle.arc_ast.specs.Tree.{ExprTree, StmtTree, ParameterTree, Block, Empty, Simple, Return, Variables, If, IfElse, While, no_stmts, and_stmt, Ints, CountAndTexts}
+use Rattle.arc_ast.specs.declared.tree.Sign.TheVariants as signs
+use Rattle.arc_ast.specs.declared.tree.Visibility.{Visibility}
+use Rattle.arc_ast.specs.declared.tree.Visibility.TheVariants as seen
+use Rattle.arc_ast.specs.Tree.{TypeTree, ExprTree, VariableTree, StmtTree, ParameterTree, FieldTree, Int, Id, Object, Block, Empty, Simple, Return, Variables, If, IfElse, While, no_stmts, and_stmt, Ints, CountAndTexts}
 use Rattle.arc_parse.specs.Language.{Language, ◌⨾◌, ◌∣◌, One, The, TheWord, TheAt, SomeName, Nothing}
-use Rattle.arc_parse.specs.Reader.{Read, Reader, any, begins, sees_word, unexpected, too_deep_here, if_first}
+use Rattle.arc_parse.specs.Reader.{Read, Reader, ◌>>=◌, ret, any, begins, sees_word, expect, unexpected, too_deep_here, if_first}
 use Rattle.arc_parse.specs.Limits.{Limits, AtMost, Nested, is_above, nested, plainly, plain}
 use Rattle.arc_parse.specs.Knot.{deep, tied}
-use Rattle.arc_parse.specs.Grammar.{Full, SpellsValue, SpellsInitial, SpellsVariable, SpellsVariables, SpellsMoreVariables, SpellsDeclaration, SpellsTest, is_open, SpellsStmt, SpellsStmts, main_bytes, SpellsResult, SpellsParameter, SpellsMoreParameters, TextsName, SpellsParameters, SpellsHead, SpellsBraces, SpellsBody, SpellsFunction, SpellsTyped, SpellsTypedParts, SpellsSelector, SpellsMethodHead, SpellsHeads, SpellsMethod, SpellsMethods, SpellsInterface, SpellsTitle, SpellsImplementation, MoreNames, SpellsNames, SpellsTop, SpellsTops, OfNames, OfFunction, OfInterface, OfImplementation, and_part}
+use Rattle.arc_parse.specs.Grammar.{Full, SpellsValue, SpellsInitial, SpellsVariable, SpellsVariables, SpellsMoreVariables, SpellsReferences, SpellsMoreReferences, SpellsDeclaration, begins_reference, FieldGroup, OfWord, OfInts, word_of, sign_mark, SpellsMoreNames, SpellsGroup, SpellsGroups, named_fields, fields_of, SpellsFields, SpellsTest, is_open, SpellsStmt, SpellsStmts, main_bytes, SpellsResult, SpellsParameter, SpellsMoreParameters, TextsName, SpellsParameters, SpellsHead, SpellsBraces, SpellsBody, SpellsFunction, SpellsTyped, SpellsTypedParts, SpellsSelector, SpellsMethodHead, SpellsHeads, SpellsMethod, SpellsMethods, SpellsInterface, SpellsTitle, SpellsImplementation, MoreNames, SpellsNames, SpellsTop, SpellsTops, OfNames, OfFunction, OfInterface, OfImplementation, and_part}
 use Rattle.arc_parse.specs.ExprRules.{expr}
-use Rattle.arc_parse.specs.UnitRules.{Rule, Node, Rules, stmt, items, more_variables, more_parameters, more_names, typed_parts, heads, methods, tops, full, simple_by, empty, value_by, return_by, block_by, test_by, else_by, if_by, while_by, worded_by, stmt_by, initial_by, variable_by, next_variable_by, more_variables_by, variables_by, declaration_by, perhaps_by, item_by, items_by, texts_name, perhaps_const, texts, parameter, next_parameter, more_parameters_by, begins_texts, with_others_by, second_by, some_by, parameters_by, result_kind, head_by, braces_by, body_by, function_by, typed, next_part, typed_parts_by, selector_by, method_head_by, next_head_by, heads_by, perhaps_semicolon, method_by, methods_by, interface_by, title, implementation_by, next_name, more_names_by, names_by, names_top_by, interface_top_by, implementation_top_by, function_top_by, top_by, tops_by, body, read}
-use Rattle.arc_parse.proofs.Leaves.{sound_expect, sound_keyword, sound_at, sound_name}
-use Rattle.arc_parse.proofs.Sound.{Sound, sound_then, sound_ret, sound_if, sound_as}
-use Rattle.arc_parse.proofs.SoundTo.{SoundTo, to_then, to_ret, to_unexpected, to_if, to_tested, to_of, to_as}
+use Rattle.arc_parse.specs.UnitRules.{Rule, Node, Rules, stmt, items, more_variables, more_references, more_parameters, more_fields, more_names, typed_parts, heads, methods, groups, tops, full, simple_by, empty, value_by, return_by, block_by, test_by, else_by, if_by, while_by, worded_by, stmt_by, initial_by, variable_by, next_variable_by, more_variables_by, variables_by, declaration_by, reference_by, next_reference_by, more_references_by, references_by, objects_by, perhaps_by, item_by, items_by, texts_name, perhaps_const, texts, parameter, next_parameter, more_parameters_by, begins_texts, with_others_by, second_by, some_by, parameters_by, result_kind, head_by, braces_by, body_by, function_by, typed, next_part, typed_parts_by, selector_by, sign, method_head_by, next_head_by, heads_by, perhaps_semicolon, method_by, methods_by, field, next_field, more_fields_by, ints_by, visibility, visibility_of, group_by, groups_by, fields_by, interface_by, title, implementation_by, next_name, more_names_by, names_by, names_top_by, interface_top_by, implementation_top_by, function_top_by, top_by, tops_by, body, read}
+use Rattle.arc_parse.proofs.Leaves.{some_is, sound_expect, sound_keyword, sound_at, sound_name}
+use Rattle.arc_parse.proofs.Sound.{Sound, sound_then, sound_ret, sound_if, sound_as, sound_token}
+use Rattle.arc_parse.proofs.SoundTo.{SoundTo, to_then, to_ret, to_unexpected, to_if, to_looked, to_tested, to_of, to_as}
 use Rattle.arc_parse.proofs.Limited.{up_to_sound}
 use Rattle.arc_parse.proofs.ExprSound as exprs
 
@@ -113,6 +117,53 @@ pub title_sound : Sound title (λ called. SpellsTitle called.0 called.1)
 unfolding title
 title_sound = sound_then (sound_at _) (λ at. sound_as sound_name (λ called ys y xs x. (xs, ys, refl, (at, x), y)))
 
+sign_sound : Sound sign (λ n. One (Sign (sign_mark n.1)) n.0)
+unfolding sign
+sign_sound = sound_if _ (sound_then (sound_expect _) (λ at. sound_ret (at, signs.Class) (λ xs x. last (One (Sign m.Plus) at) xs x)))
+    (sound_then (sound_expect _) (λ at. sound_ret (at, signs.Instance) (λ xs x. last (One (Sign m.Minus) at) xs x)))
+
+-- ---- fields
+
+-- a field that is visible so
+abbrev AField : Visibility → FieldTree → Language
+AField v f = λ xs. (f.visibility ≡ v) × One (tokens.Name f.name) f.at xs
+
+field_sound : (v : Visibility) → Sound (field v) (AField v)
+unfolding field
+field_sound v = sound_then sound_name (λ called. sound_ret (record { at = called.0; name = called.1; visibility = v }) (λ xs x. (refl, last (One (tokens.Name called.1) called.0) xs x)))
+
+abbrev NextField : Visibility → FieldTree → Language
+NextField v f = λ xs. (f.visibility ≡ v) × (The m.Comma ⨾ One (tokens.Name f.name) f.at) xs
+
+next_field_sound : (v : Visibility) → Sound (next_field v) (NextField v)
+unfolding next_field
+next_field_sound v = sound_then (sound_expect _) (λ comma. sound_as (field_sound v) (λ f ys y xs x. (y.0, (xs, ys, refl, (comma, x), y.1))))
+
+-- the field of this name
+abbrev pub a_field : Visibility → ℕ × List ℕ → FieldTree
+a_field v n = record { at = n.0; name = n.1; visibility = v }
+
+and_field : (v : Visibility) (f : FieldTree) (others : List FieldTree) (names : List (ℕ × List ℕ)) → f.visibility ≡ v → others ≡ named_fields v names [] → f ∷ others ≡ named_fields v ((f.at, f.name) ∷ names) []
+and_field v f others names e h = ap (λ x. a_field x (f.at, f.name) ∷ others) e ∙ ap (λ x. a_field v (f.at, f.name) ∷ x) h
+
+pub named_append : (v : Visibility) (names : List (ℕ × List ℕ)) (others : List FieldTree) → named_fields v names others ≡ named_fields v names [] ++ others
+named_append v [] others = refl
+named_append v (n ∷ names) others = ap (λ x. a_field v n ∷ x) (named_append v names others)
+
+visibility_sound : Sound visibility (λ v. TheAt (word_of v))
+visibility_sound = sound_as (sound_token (λ t. visibility_of t.sort)) (λ v xs h. (h.0.from, (h.0, h.1, go v h.0 h.0.sort refl h.2, refl)))
+  where
+    go : (v : Visibility) (t : Tok) (s : Sort) → t.sort ≡ s → visibility_of s ≡ Some v → t.sort ≡ tokens.At (word_of v)
+    go v t (tokens.At ats.Private) e h = e ∙ ap (λ x. tokens.At (word_of x)) (some_is seen.Private v h)
+    go v t (tokens.At ats.Protected) e h = e ∙ ap (λ x. tokens.At (word_of x)) (some_is seen.Protected v h)
+    go v t (tokens.At ats.Public) e h = e ∙ ap (λ x. tokens.At (word_of x)) (some_is seen.Public v h)
+    go v t (tokens.At _) e h = cc
+    go v t (tokens.Name bytes) e h = cc
+    go v t (tokens.Integer value) e h = cc
+    go v t (tokens.Text bytes) e h = cc
+    go v t (Key word) e h = cc
+    go v t (Sign mark) e h = cc
+
 -- a comma and a name
 abbrev NextName : Language
 NextName = The m.Comma ⨾ SomeName
@@ -127,11 +178,14 @@ abbrev pub Given : Limits → (rule : Rule) → Node rule → List Tok → Langu
 Given limits (stmt d) s r xs = Nested limits d (SpellsStmt limits d s) xs × (is_open s ≡ true → sees_word w.Else r ≡ false)
 Given limits (items d) all r xs = SpellsStmts limits d all xs
 Given limits more_variables all r xs = SpellsMoreVariables limits all xs
+Given limits more_references all r xs = SpellsMoreReferences limits all xs
 Given limits more_parameters all r xs = SpellsMoreParameters all xs
+Given limits (more_fields v) all r xs = (names : List (ℕ × List ℕ)) × (all ≡ named_fields v names []) × SpellsMoreNames names xs
 Given limits more_names _ r xs = (n : ℕ) × MoreNames n xs
 Given limits typed_parts all r xs = SpellsTypedParts all.0 all.1 xs
 Given limits heads all r xs = SpellsHeads all xs
 Given limits methods all r xs = SpellsMethods limits all xs
+Given limits (groups v) all r xs = (found : List FieldGroup) × (all ≡ fields_of v found) × SpellsGroups found xs
 Given limits tops all r xs = SpellsTops limits all xs × (r ≡ [])
 
 abbrev pub AreSound : Limits → Rules → Type 0
@@ -169,6 +223,16 @@ closed s r none here = go (is_open s) refl
 grouped : (L M N : Language) (xs ys : List Tok) → (L ⨾ M) xs → N ys → (L ⨾ M ⨾ N) (xs ++ ys)
 grouped L M N xs ys x y = (x.0, x.1 ++ ys, ap (λ v. v ++ ys) x.2 ∙ append_assoc x.0 x.1 ys, x.3, (x.1, ys, refl, x.4, y))
 
+-- three in turn, and a fourth
+grouped_three : (L M N O : Language) (xs ys : List Tok) → (L ⨾ M ⨾ N) xs → O ys → (L ⨾ M ⨾ N ⨾ O) (xs ++ ys)
+grouped_three L M N O xs ys x y = (x.0, x.1 ++ ys, ap (λ v. v ++ ys) x.2 ∙ append_assoc x.0 x.1 ys, x.3, grouped M N O x.1 ys x.4 y)
+
+-- what does not begin so with others behind it does not without them
+front_reference : (xs r : List Tok) → begins_reference (xs ++ r) ≡ false → begins_reference xs ≡ false
+front_reference [] r h = refl
+front_reference (t ∷ []) r h = refl
+front_reference (t ∷ u ∷ xs) r h = h
+
 -- this parameter and others, of which the tokens spell the others
 abbrev WithOthers : ParameterTree → List ParameterTree → Language
 WithOthers p all = λ xs. (q : ParameterTree) × (others : List ParameterTree) × (all ≡ p ∷ q ∷ others) × (SpellsParameter q ⨾ SpellsMoreParameters others) xs
@@ -193,9 +257,17 @@ module _ (limits : Limits) where
   unfolding full
   full_sound = up_to_sound limits.tokens (sound_plain (exprs.read_sound expr))
 
-  simple_sound : (d : ℕ) → Sound (simple_by limits) (Closed limits d)
+  -- an expression and `;`
+  abbrev Told : StmtTree → Language
+  Told s = λ xs. (e : ExprTree) × (s ≡ Simple e) × (Full limits e ⨾ The m.Semicolon) xs
+
+  simple_sound : (d : ℕ) → SoundTo (simple_by limits) (Ended limits d)
   unfolding simple_by
-  simple_sound d = sound_then full_sound (λ e. sound_then (sound_expect _) (λ end. sound_ret (Simple e) (λ ys y xs x. ((xs, ys ++ [], refl, x, last (The m.Semicolon) ys (end, y)), refl))))
+  simple_sound d = to_looked begins_reference (to_then (to_of sound_name) (λ called. to_unexpected)) (to_as (to_of told) (λ s r xs h no.
+      subst (λ v. Ended limits d v r xs) (sym h.1) ((front_reference xs r no, h.2), λ o. cc)))
+    where
+      told : Sound (full limits >>= (λ e. expect m.Semicolon >>= (λ end. ret (Simple e)))) Told
+      told = sound_then full_sound (λ e. sound_then (sound_expect _) (λ end. sound_ret (Simple e) (λ ys y xs x. (e, refl, (xs, ys ++ [], refl, x, last (The m.Semicolon) ys (end, y))))))
 
   empty_sound : (d : ℕ) → Sound empty (Closed limits d)
   unfolding empty
@@ -231,6 +303,14 @@ module _ (limits : Limits) where
   unfolding next_variable_by
   next_variable_sound = sound_then (sound_expect _) (λ comma. sound_as variable_sound (λ v ys y xs x. (xs, ys, refl, (comma, x), y)))
 
+  pub reference_sound : Sound (reference_by limits) (λ v. The m.Star ⨾ SpellsVariable limits v)
+  unfolding reference_by
+  reference_sound = sound_then (sound_expect _) (λ star. sound_as variable_sound (λ v ys y xs x. (xs, ys, refl, (star, x), y)))
+
+  pub next_reference_sound : Sound (next_reference_by limits) (λ v. The m.Comma ⨾ The m.Star ⨾ SpellsVariable limits v)
+  unfolding next_reference_by
+  next_reference_sound = sound_then (sound_expect _) (λ comma. sound_as reference_sound (λ v ys y xs x. (xs, ys, refl, (comma, x), y)))
+
   module _ (g : Rules) (rec : AreSound limits g) where
     more_variables_sound : SoundTo (more_variables_by limits g) (Given limits more_variables)
     unfolding more_variables_by
@@ -243,10 +323,27 @@ module _ (limits : Limits) where
     variables_sound = to_then (to_of variable_sound) (λ v. to_then (rec more_variables) (λ others. to_ret (v ∷ others)
         (λ r ys y xs x. (xs, ys ++ [], refl, x, last (SpellsMoreVariables limits others) ys y))))
 
-    declaration_sound : SoundTo (declaration_by limits g) (λ s r. SpellsDeclaration limits s)
+    more_references_sound : SoundTo (more_references_by limits g) (Given limits more_references)
+    unfolding more_references_by
+    more_references_sound = to_if _ (to_then (to_of next_reference_sound) (λ v. to_then (rec more_references) (λ others. to_ret (v ∷ others)
+        (λ r ys y xs x. grouped_three (The m.Comma) (The m.Star) (SpellsVariable limits v) (SpellsMoreReferences limits others) xs (ys ++ []) x (last (SpellsMoreReferences limits others) ys y)))))
+        (to_ret [] (λ r _. refl))
+
+    pub references_sound : SoundTo (references_by limits g) (λ all r. SpellsReferences limits all)
+    unfolding references_by
+    references_sound = to_then (to_of reference_sound) (λ v. to_then (rec more_references) (λ others. to_ret (v ∷ others)
+        (λ r ys y xs x. grouped (The m.Star) (SpellsVariable limits v) (SpellsMoreReferences limits others) xs (ys ++ []) x (last (SpellsMoreReferences limits others) ys y))))
+
+    declaration_sound : (word : Word) (type : TypeTree) → ((at : ℕ) (all : List VariableTree) (xs : List Tok) → (One (Key word) at ⨾ SpellsVariables limits all ⨾ The m.Semicolon) xs → SpellsDeclaration limits (Variables at type all) xs)
+        → SoundTo (declaration_by limits g word type) (λ s r. SpellsDeclaration limits s)
     unfolding declaration_by
-    declaration_sound = to_then (to_of (sound_keyword _)) (λ at. to_then variables_sound (λ all. to_then (to_of (sound_expect _)) (λ end. to_ret (Variables at all)
-        (λ r zs z ys y xs x. (xs, ys ++ (zs ++ []), refl, x, (ys, zs ++ [], refl, y, last (The m.Semicolon) zs (end, z)))))))
+    declaration_sound word type declares = to_then (to_of (sound_keyword _)) (λ at. to_then variables_sound (λ all. to_then (to_of (sound_expect _)) (λ end. to_ret (Variables at type all)
+        (λ r zs z ys y xs x. declares at all (xs ++ (ys ++ (zs ++ []))) (xs, ys ++ (zs ++ []), refl, x, (ys, zs ++ [], refl, y, last (The m.Semicolon) zs (end, z)))))))
+
+    objects_sound : SoundTo (objects_by limits g) (λ s r. SpellsDeclaration limits s)
+    unfolding objects_by
+    objects_sound = to_then (to_of sound_name) (λ called. to_then references_sound (λ all. to_then (to_of (sound_expect _)) (λ end. to_ret (Variables called.0 (Object called.0 called.1) all)
+        (λ r zs z ys y xs x. (refl, (xs, ys ++ (zs ++ []), refl, x, (ys, zs ++ [], refl, y, last (The m.Semicolon) zs (end, z))))))))
 
     -- ---- statements with others in them
 
@@ -278,7 +375,7 @@ module _ (limits : Limits) where
     worded_sound : (d : ℕ) → SoundTo (worded_by limits g d) (Ended limits d)
     unfolding worded_by
     worded_sound d = to_if _ (ended limits d (return_sound d)) (to_as (to_if _ (if_sound d) (to_as (to_if _ (while_sound d)
-        (to_as (ended limits d (simple_sound d)) (λ a r xs h _. h))) (λ a r xs h _. h))) (λ a r xs h _. h))
+        (to_as (simple_sound d) (λ a r xs h _. h))) (λ a r xs h _. h))) (λ a r xs h _. h))
 
     stmt_sound : (d : ℕ) → SoundTo (stmt_by limits g d) (Ended limits d)
     unfolding stmt_by
@@ -290,7 +387,8 @@ module _ (limits : Limits) where
 
     pub item_sound : (d : ℕ) → SoundTo (item_by limits g d) (λ s r. SpellsDeclaration limits s ∣ Nested limits d (SpellsStmt limits d s))
     unfolding item_by
-    item_sound d = to_if _ (to_as declaration_sound (λ s r xs h. inl h)) (to_as (perhaps_sound d) (λ s r xs h _. inr h))
+    item_sound d = to_if _ (to_as (declaration_sound w.Int Int (λ at all xs h. h)) (λ s r xs h. inl h)) (to_as (to_if _ (to_as (declaration_sound w.Id Id (λ at all xs h. h)) (λ s r xs h. inl h))
+        (to_as (to_looked begins_reference (to_as objects_sound (λ s r xs h _. inl h)) (to_as (perhaps_sound d) (λ s r xs h _. inr h))) (λ s r xs h _. h))) (λ s r xs h _. h))
 
     items_sound : (d : ℕ) → SoundTo (items_by limits g d) (Given limits (items d))
     unfolding items_by
@@ -380,8 +478,8 @@ module _ (limits : Limits) where
 
     pub method_head_sound : SoundTo (method_head_by g) (λ one r. SpellsMethodHead one)
     unfolding method_head_by
-    method_head_sound = to_then (to_of (sound_expect _)) (λ at. to_then (to_of (sound_expect _)) (λ start. to_then (to_of result_sound) (λ kind. to_then (to_of (sound_expect _)) (λ end.
-        to_then (to_of sound_name) (λ called. to_then (selector_sound called) (λ all. to_ret (record { at = at; selector = all.0; result = kind; parameters = all.1 })
+    method_head_sound = to_then (to_of sign_sound) (λ plus. to_then (to_of (sound_expect _)) (λ start. to_then (to_of result_sound) (λ kind. to_then (to_of (sound_expect _)) (λ end.
+        to_then (to_of sound_name) (λ called. to_then (selector_sound called) (λ all. to_ret (record { at = plus.0; sign = plus.1; selector = all.0; result = kind; parameters = all.1 })
         (λ r ss s ns n es e ks k os o ps p. (
           ps,
           os ++ (ks ++ (es ++ (ns ++ (ss ++ [])))),
@@ -411,24 +509,72 @@ module _ (limits : Limits) where
         (λ r ys y xs x. (xs, ys ++ [], refl, x, last (SpellsMethods limits others) ys y)))))
         (to_ret [] (λ r _. refl))
 
+    -- ---- fields
+
+    more_fields_sound : (v : Visibility) → SoundTo (more_fields_by g v) (Given limits (more_fields v))
+    unfolding more_fields_by
+    more_fields_sound v = to_if _ (to_then (to_of (next_field_sound v)) (λ f. to_then (rec (more_fields v)) (λ others. to_ret (f ∷ others)
+        (λ r ys y xs x. (
+          (f.at, f.name) ∷ y.0,
+          and_field v f others y.0 x.0 y.1,
+          grouped (The m.Comma) (One (tokens.Name f.name) f.at) (SpellsMoreNames y.0) xs (ys ++ []) x.1 (last (SpellsMoreNames y.0) ys y.2),
+        )))))
+        (to_ret [] (λ r _. ([], refl, refl)))
+
+    ints_sound : (v : Visibility) → SoundTo (ints_by g v) (λ all r xs. (names : List (ℕ × List ℕ)) × (all ≡ named_fields v names []) × SpellsGroup (OfInts names) xs)
+    unfolding ints_by
+    ints_sound v = to_then (to_of (sound_keyword _)) (λ int. to_then (to_of (field_sound v)) (λ f. to_then (rec (more_fields v)) (λ others. to_then (to_of (sound_expect _)) (λ end. to_ret (f ∷ others)
+        (λ r es e os o fs x ks k. (
+          (f.at, f.name) ∷ o.0,
+          and_field v f others o.0 x.0 o.1,
+          (ks, fs ++ (os ++ (es ++ [])), refl, (int, k), (fs, os ++ (es ++ []), refl, x.1, (os, es ++ [], refl, o.2, last (The m.Semicolon) es (end, e)))),
+        ))))))
+
+    -- a word or some fields, and what they and others behind them give
+    abbrev AGroup : Visibility → Visibility × List FieldTree → Language
+    AGroup v one = λ xs. (group : FieldGroup) × ((others : List FieldGroup) → fields_of v (group ∷ others) ≡ one.1 ++ fields_of one.0 others) × SpellsGroup group xs
+
+    group_sound : (v : Visibility) → SoundTo (group_by g v) (λ one r. AGroup v one)
+    unfolding group_by
+    group_sound v = to_if _ (to_then (ints_sound v) (λ all. to_ret (v, all) (λ r xs x. (
+      OfInts x.0,
+      λ others. named_append v x.0 (fields_of v others) ∙ ap (λ l. l ++ fields_of v others) (sym x.1),
+      last (SpellsGroup (OfInts x.0)) xs x.2,
+    ))))
+        (to_then (to_of visibility_sound) (λ other. to_ret (other, []) (λ r xs x no. (OfWord other, λ others. refl, last (SpellsGroup (OfWord other)) xs x))))
+
+    groups_sound : (v : Visibility) → SoundTo (groups_by g v) (Given limits (groups v))
+    unfolding groups_by
+    groups_sound v = to_if _ (to_ret [] (λ r. ([], refl, refl))) (to_as (to_then (group_sound v) (λ one. to_then (rec (groups one.0)) (λ others. to_ret (one.1 ++ others)
+        (λ r ys y xs x. (x.0 ∷ y.0, ap (λ l. one.1 ++ l) y.1 ∙ sym (x.1 y.0), (xs, ys ++ [], refl, x.2, last (SpellsGroups y.0) ys y.2))))))
+        (λ a r xs h _. h))
+
+    pub fields_sound : (v : Visibility) → SoundTo (fields_by g v) (λ all r. SpellsFields v all)
+    unfolding fields_by
+    fields_sound v = to_if _ (to_then (to_of (sound_expect _)) (λ start. to_then (rec (groups v)) (λ all. to_then (to_of (sound_expect _)) (λ end. to_ret all
+        (λ r es e ys y os o. inr (y.0, y.1, (os, ys ++ (es ++ []), refl, (start, o), (ys, es ++ [], refl, y.2, last (The m.CloseBrace) es (end, e)))))))))
+        (to_ret [] (λ r _. inl (refl, refl)))
+
     -- ---- classes
 
     interface_sound : SoundTo (interface_by g) (λ i r. SpellsInterface i)
     unfolding interface_by
     interface_sound = to_then (to_of (sound_at _)) (λ at. to_then (to_of sound_name) (λ called. to_then (to_of (sound_expect _)) (λ colon. to_then (to_of sound_name) (λ super.
-        to_then (rec heads) (λ all. to_then (to_of (sound_at _)) (λ end. to_ret (record { at = called.0; name = called.1; superclass_at = super.0; superclass = super.1; methods = all })
-        (λ r es e hs h ss s cs c ns n ks k. (
+        to_then (fields_sound seen.Protected) (λ fields. to_then (rec heads) (λ all. to_then (to_of (sound_at _)) (λ end.
+        to_ret (record { at = called.0; name = called.1; superclass_at = super.0; superclass = super.1; fields = fields; methods = all })
+        (λ r es e hs h fs f ss s cs c ns n ks k. (
           ks,
-          ns ++ (cs ++ (ss ++ (hs ++ (es ++ [])))),
+          ns ++ (cs ++ (ss ++ (fs ++ (hs ++ (es ++ []))))),
           refl,
           (at, k),
-          (ns, cs ++ (ss ++ (hs ++ (es ++ []))), refl, n, (cs, ss ++ (hs ++ (es ++ [])), refl, (colon, c), (ss, hs ++ (es ++ []), refl, s, (hs, es ++ [], refl, h, last (TheAt ats.End) es (end, e))))),
-        ))))))))
+          (ns, cs ++ (ss ++ (fs ++ (hs ++ (es ++ [])))), refl, n, (cs, ss ++ (fs ++ (hs ++ (es ++ []))), refl, (colon, c), (ss, fs ++ (hs ++ (es ++ [])), refl, s, (fs, hs ++ (es ++ []), refl, f, (hs, es ++ [], refl, h, last (TheAt ats.End) es (end, e)))))),
+        )))))))))
 
     pub implementation_sound : SoundTo (implementation_by g) (λ i r. SpellsImplementation limits i)
     unfolding implementation_by
-    implementation_sound = to_then (to_of title_sound) (λ called. to_then (rec methods) (λ all. to_then (to_of (sound_at _)) (λ end. to_ret (record { at = called.0; name = called.1; methods = all })
-        (λ r es e ds d ks k. (ks, ds ++ (es ++ []), refl, k, (ds, es ++ [], refl, d, last (TheAt ats.End) es (end, e)))))))
+    implementation_sound = to_then (to_of title_sound) (λ called. to_then (fields_sound seen.Private) (λ fields. to_then (rec methods) (λ all. to_then (to_of (sound_at _)) (λ end.
+        to_ret (record { at = called.0; name = called.1; fields = fields; methods = all })
+        (λ r es e ds d fs f ks k. (ks, fs ++ (ds ++ (es ++ [])), refl, k, (fs, ds ++ (es ++ []), refl, f, (ds, es ++ [], refl, d, last (TheAt ats.End) es (end, e)))))))))
 
     more_names_sound : SoundTo (more_names_by g) (Given limits more_names)
     unfolding more_names_by
@@ -473,6 +619,9 @@ module _ (limits : Limits) where
     body_sound (stmt d) = to_as (to_nested limits.depth d _ (stmt_sound d)) (λ s r xs h. ((h.0, h.1.0), h.1.1))
     body_sound (items d) = items_sound d
     body_sound more_variables = more_variables_sound
+    body_sound more_references = more_references_sound
+    body_sound (more_fields v) = more_fields_sound v
+    body_sound (groups v) = groups_sound v
     body_sound more_parameters = more_parameters_sound
     body_sound more_names = more_names_sound
     body_sound typed_parts = typed_parts_sound

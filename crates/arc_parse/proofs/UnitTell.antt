@@ -1,26 +1,28 @@
 -- A token is refused as too deep only where it passes a limit.
-use Rattle.std.proofs.Common.{◌≡◌, ℕ, zero, suc, List, [], ◌∷◌, ◌++◌, append_assoc, append-nil, Ok, Err, true, refl, sym, ap, subst, ◌∙◌}
+use Rattle.std.proofs.Common.{◌≡◌, inl, inr, ℕ, zero, suc, List, [], ◌∷◌, ◌++◌, append_assoc, append-nil, Ok, Err, true, refl, sym, ap, subst, ◌∙◌}
 use Rattle.arc_lex.specs.declared.token.Mark.TheVariants as m
 use Rattle.arc_lex.specs.declared.token.Word.{Word}
 use Rattle.arc_lex.specs.declared.token.Word.TheVariants as w
-use Rattle.arc_lex.specs.Tokens.{Tok, Key, Sign}
+use Rattle.arc_lex.specs.Tokens.{Tok, Key}
 use Rattle.arc_lex.specs.Tokens as tokens
 use Rattle.arc_ast.specs.declared.tree.Kind.{Kind}
-use Rattle.arc_ast.specs.Tree.{ExprTree, VariableTree, StmtTree, StmtTrees, ParameterTree, ParametersTree, HeadTree, MethodTree, no_stmts, and_stmt}
-use Rattle.arc_parse.specs.Language.{Nothing, One, ◌∣◌, The}
+use Rattle.arc_ast.specs.declared.tree.Visibility.{Visibility}
+use Rattle.arc_ast.specs.declared.tree.Visibility.TheVariants as seen
+use Rattle.arc_ast.specs.Tree.{TypeTree, ExprTree, VariableTree, StmtTree, StmtTrees, ParameterTree, ParametersTree, HeadTree, MethodTree, Int, Id, no_stmts, and_stmt}
+use Rattle.arc_parse.specs.Language.{Nothing, One, ◌⨾◌, ◌∣◌, The, TheWord}
 use Rattle.arc_parse.specs.Reader.{Read, Reader, too_deep, bind, ret}
 use Rattle.arc_parse.specs.Limits.{Limits, AtMost}
 use Rattle.arc_parse.specs.Knot.{deep, tied}
-use Rattle.arc_parse.specs.Grammar.{SpellsVariable, SpellsTest, SpellsStmts, SpellsHead, SpellsMethodHead, SpellsMethods, TopTree, SpellsTops, unit_of}
-use Rattle.arc_parse.specs.UnitRules.{Rule, Rules, stmt, items, more_variables, more_parameters, more_names, typed_parts, heads, methods, tops, simple_by, empty, value_by, return_by, block_by, test_by, else_by, if_by, while_by, worded_by, stmt_by, initial_by, variable_by, next_variable_by, more_variables_by, variables_by, declaration_by, perhaps_by, item_by, items_by, texts_name, perhaps_const, texts, parameter, next_parameter, more_parameters_by, with_others_by, second_by, some_by, parameters_by, result_kind, head_by, braces_by, body_by, function_by, typed, next_part, typed_parts_by, selector_by, method_head_by, next_head_by, heads_by, perhaps_semicolon, method_by, methods_by, interface_by, title, implementation_by, next_name, more_names_by, names_by, names_top_by, interface_top_by, implementation_top_by, function_top_by, top_by, tops_by, body, read, unit}
-use Rattle.arc_parse.specs.TooDeep.{Role, must, may, takes_test, Heading, BeginsBody, of_function, of_method, Begins, in_body, in_block, in_branch, in_other, BeginsVariable, first_variable, next_variable, of_simple, of_return, of_test, of_variable, TooDeep, statement}
+use Rattle.arc_parse.specs.Grammar.{begins_reference, SpellsVariable, SpellsTest, SpellsStmts, SpellsHead, SpellsMethodHead, SpellsMethods, TopTree, SpellsTops, unit_of}
+use Rattle.arc_parse.specs.UnitRules.{Rule, Rules, stmt, items, more_variables, more_references, more_parameters, more_fields, more_names, typed_parts, heads, methods, groups, tops, simple_by, empty, value_by, return_by, block_by, test_by, else_by, if_by, while_by, worded_by, stmt_by, initial_by, variable_by, next_variable_by, more_variables_by, variables_by, declaration_by, reference_by, next_reference_by, more_references_by, references_by, objects_by, perhaps_by, item_by, items_by, texts_name, perhaps_const, texts, parameter, next_parameter, more_parameters_by, with_others_by, second_by, some_by, parameters_by, result_kind, head_by, braces_by, body_by, function_by, typed, next_part, typed_parts_by, sign, field, next_field, more_fields_by, ints_by, group_by, groups_by, fields_by, selector_by, method_head_by, next_head_by, heads_by, perhaps_semicolon, method_by, methods_by, interface_by, title, implementation_by, next_name, more_names_by, names_by, names_top_by, interface_top_by, implementation_top_by, function_top_by, top_by, tops_by, body, read, unit}
+use Rattle.arc_parse.specs.TooDeep.{Role, must, may, takes_test, Heading, BeginsBody, of_function, of_method, Begins, in_body, in_block, in_branch, in_other, Declarator, plain, starred, BeginsVariable, first_variable, first_reference, next_variable, of_simple, of_return, of_test, of_variable, TooDeep, statement}
 use Rattle.arc_parse.specs.TooDeep as places
 use Rattle.arc_parse.proofs.Leaves.{sound_expect, sound_keyword, sound_name}
 use Rattle.arc_parse.proofs.SoundTo.{to_of}
-use Rattle.arc_parse.proofs.Tells.{Never, never_then, never_ret, never_token, never_if, Tells, tells_never, tells_then, tells_if, tells_as, tells_nested, differ}
+use Rattle.arc_parse.proofs.Tells.{Never, never_then, never_ret, never_token, never_if, never_unexpected, Tells, tells_never, tells_then, tells_if, tells_ahead, tells_as, tells_nested, differ}
 use Rattle.arc_parse.proofs.FullTell.{full_tells}
 use Rattle.arc_parse.proofs.Local.{fault_of}
-use Rattle.arc_parse.proofs.UnitSound.{AreSound, Given, perhaps_semicolon_sound, title_sound, full_sound, value_sound, test_sound, initial_sound, variable_sound, next_variable_sound, variables_sound, item_sound, head_sound, braces_sound, body_by_sound, method_head_sound, method_sound, implementation_sound, function_sound, top_sound, deep_sound}
+use Rattle.arc_parse.proofs.UnitSound.{AreSound, Given, perhaps_semicolon_sound, title_sound, full_sound, value_sound, test_sound, initial_sound, variable_sound, next_variable_sound, variables_sound, reference_sound, next_reference_sound, references_sound, fields_sound, item_sound, head_sound, braces_sound, body_by_sound, method_head_sound, method_sound, implementation_sound, function_sound, top_sound, deep_sound}
 
 -- ---- the head of a function never is
 
@@ -94,6 +96,41 @@ next_name_never : Never next_name
 unfolding next_name
 next_name_never = never_then (never_token _) (λ comma. never_then (never_token _) (λ called. never_ret _))
 
+sign_never : Never sign
+unfolding sign
+sign_never = never_if _ (never_then (never_token _) (λ at. never_ret _)) (never_then (never_token _) (λ at. never_ret _))
+
+field_never : (v : Visibility) → Never (field v)
+unfolding field
+field_never v = never_then (never_token _) (λ called. never_ret _)
+
+next_field_never : (v : Visibility) → Never (next_field v)
+unfolding next_field
+next_field_never v = never_then (never_token _) (λ comma. field_never v)
+
+-- nor fields
+module _ (g : Rules) (more : (v : Visibility) → Never (g (more_fields v))) where
+  more_fields_never : (v : Visibility) → Never (more_fields_by g v)
+  unfolding more_fields_by
+  more_fields_never v = never_if _ (never_then (next_field_never v) (λ f. never_then (more v) (λ others. never_ret _))) (never_ret _)
+
+  ints_never : (v : Visibility) → Never (ints_by g v)
+  unfolding ints_by
+  ints_never v = never_then (never_token _) (λ int. never_then (field_never v) (λ f. never_then (more v) (λ others. never_then (never_token _) (λ end. never_ret _))))
+
+  group_never : (v : Visibility) → Never (group_by g v)
+  unfolding group_by
+  group_never v = never_if _ (never_then (ints_never v) (λ all. never_ret _)) (never_then (never_token _) (λ other. never_ret _))
+
+  module _ (others : (v : Visibility) → Never (g (groups v))) where
+    groups_never : (v : Visibility) → Never (groups_by g v)
+    unfolding groups_by
+    groups_never v = never_if _ (never_ret _) (never_then (group_never v) (λ one. never_then (others one.0) (λ all. never_ret _)))
+
+fields_never : (g : Rules) → ((v : Visibility) → Never (g (groups v))) → (v : Visibility) → Never (fields_by g v)
+unfolding fields_by
+fields_never g others v = never_if _ (never_then (never_token _) (λ start. never_then (others v) (λ all. never_then (never_token _) (λ end. never_ret _)))) (never_ret _)
+
 -- nor the head of a method, an interface or names
 module _ (g : Rules) (more : Never (g typed_parts)) where
   typed_parts_never : Never (typed_parts_by g)
@@ -106,7 +143,7 @@ module _ (g : Rules) (more : Never (g typed_parts)) where
 
   method_head_never : Never (method_head_by g)
   unfolding method_head_by
-  method_head_never = never_then (never_token _) (λ at. never_then (never_token _) (λ start. never_then result_never (λ kind. never_then (never_token _) (λ end. never_then (never_token _) (λ called.
+  method_head_never = never_then sign_never (λ plus. never_then (never_token _) (λ start. never_then result_never (λ kind. never_then (never_token _) (λ end. never_then (never_token _) (λ called.
       never_then (selector_never called.1) (λ all. never_ret _))))))
 
   next_head_never : Never (next_head_by g)
@@ -118,9 +155,10 @@ module _ (g : Rules) (more : Never (g typed_parts)) where
     unfolding heads_by
     heads_never = never_if _ (never_then next_head_never (λ one. never_then others (λ all. never_ret _))) (never_ret _)
 
-    interface_never : Never (interface_by g)
+    interface_never : ((v : Visibility) → Never (g (groups v))) → Never (interface_by g)
     unfolding interface_by
-    interface_never = never_then (never_token _) (λ at. never_then (never_token _) (λ called. never_then (never_token _) (λ colon. never_then (never_token _) (λ super. never_then others (λ all. never_then (never_token _) (λ end. never_ret _))))))
+    interface_never found = never_then (never_token _) (λ at. never_then (never_token _) (λ called. never_then (never_token _) (λ colon. never_then (never_token _) (λ super.
+        never_then (fields_never g found seen.Protected) (λ fields. never_then others (λ all. never_then (never_token _) (λ end. never_ret _)))))))
 
 module _ (g : Rules) (more : Never (g more_names)) where
   more_names_never : Never (more_names_by g)
@@ -152,12 +190,19 @@ Braced limits xs r = (before : List Tok) → BeginsBody limits before → TooDee
 
 -- of a variable
 abbrev Varies : Limits → List Tok → List Tok → Type 0
-Varies limits xs r = (before : List Tok) → BeginsVariable limits before → TooDeep limits (before ++ xs) r
+Varies limits xs r = (each : Declarator) (before : List Tok) → BeginsVariable limits each before → TooDeep limits (before ++ xs) r
+
+-- of a variable with a `*`
+abbrev Refers : Limits → List Tok → List Tok → Type 0
+Refers limits xs r = (before : List Tok) → ((ss : List Tok) → The m.Star ss → BeginsVariable limits starred (before ++ ss)) → TooDeep limits (before ++ xs) r
 
 abbrev Told : Limits → Rule → List Tok → List Tok → Type 0
 Told limits (stmt d) xs r = (before : List Tok) → Begins limits must d before → TooDeep limits (before ++ xs) r
 Told limits (items d) xs r = (before : List Tok) → Items limits d before → TooDeep limits (before ++ xs) r
-Told limits more_variables xs r = (before vs : List Tok) (v : VariableTree) → BeginsVariable limits before → SpellsVariable limits v vs → TooDeep limits (before ++ (vs ++ xs)) r
+Told limits more_variables xs r = (before vs : List Tok) (v : VariableTree) → BeginsVariable limits plain before → SpellsVariable limits v vs → TooDeep limits (before ++ (vs ++ xs)) r
+Told limits more_references xs r = (before vs : List Tok) (v : VariableTree) → BeginsVariable limits starred before → SpellsVariable limits v vs → TooDeep limits (before ++ (vs ++ xs)) r
+Told limits (more_fields v) xs r = ⊥
+Told limits (groups v) xs r = ⊥
 Told limits more_parameters xs r = ⊥
 Told limits more_names xs r = ⊥
 Told limits typed_parts xs r = ⊥
@@ -175,8 +220,17 @@ moved limits a b r e h = subst (λ v. TooDeep limits v r) e h
 assoc_three : (a b c d : List Tok) → (a ++ (b ++ c)) ++ d ≡ a ++ (b ++ (c ++ d))
 assoc_three a b c d = simp append_assoc
 
-assoc_comma : (a b c d e : List Tok) → (a ++ (b ++ c)) ++ (d ++ e) ≡ a ++ (b ++ ((c ++ d) ++ e))
-assoc_comma a b c d e = simp append_assoc
+assoc_plain : (a b c d : List Tok) → (a ++ (b ++ (c ++ []))) ++ d ≡ a ++ (b ++ (c ++ d))
+assoc_plain a b c d = simp (append_assoc, append-nil)
+
+assoc_comma : (a b c d e : List Tok) → (a ++ (b ++ (c ++ []))) ++ (d ++ e) ≡ a ++ (b ++ ((c ++ d) ++ e))
+assoc_comma a b c d e = simp (append_assoc, append-nil)
+
+assoc_star : (a b c d e f : List Tok) → (a ++ (b ++ (c ++ d))) ++ (e ++ f) ≡ a ++ (b ++ ((c ++ (d ++ e)) ++ f))
+assoc_star a b c d e f = simp append_assoc
+
+assoc_first : (a b c d : List Tok) → (a ++ b) ++ (c ++ d) ≡ a ++ ((b ++ c) ++ d)
+assoc_first a b c d = simp append_assoc
 
 assoc_else : (a b c d e f : List Tok) → (a ++ ((b ++ c) ++ (d ++ e))) ++ f ≡ a ++ (b ++ (c ++ (d ++ (e ++ f))))
 assoc_else a b c d e f = simp append_assoc
@@ -184,8 +238,8 @@ assoc_else a b c d e f = simp append_assoc
 assoc_methods : (a b c d : List Tok) → a ++ ((b ++ c) ++ d) ≡ (a ++ b) ++ (c ++ d)
 assoc_methods a b c d = simp append_assoc
 
-assoc_title : (a b c : List Tok) → (a ++ []) ++ (b ++ c) ≡ (a ++ b) ++ c
-assoc_title a b c = ap (λ v. v ++ (b ++ c)) (append-nil a) ∙ sym (append_assoc a b c)
+assoc_title : (a b c d : List Tok) → (a ++ []) ++ (b ++ (c ++ d)) ≡ (a ++ (b ++ c)) ++ d
+assoc_title a b c d = simp (append_assoc, append-nil)
 
 -- what is refused so nowhere
 never_of : {A : Type 0} {f : Reader A} → Tells f (λ xs r. ⊥) → Never f
@@ -197,8 +251,9 @@ module _ (limits : Limits) where
 
   simple_tells : (d : ℕ) → Tells (simple_by limits) (By limits d)
   unfolding simple_by
-  simple_tells d = tells_then (to_of (full_sound limits)) (tells_as (full_tells limits) (λ xs r h fits role before b. h before (of_simple limits role d before b fits)))
-      (λ e. tells_never (never_then (never_token _) (λ end. never_ret _)))
+  simple_tells d = tells_ahead begins_reference (tells_never (never_then (never_token _) (λ called. never_unexpected)))
+      (tells_then (to_of (full_sound limits)) (tells_as (full_tells limits) (λ xs r h fits role before b. h before (of_simple limits role d before b fits)))
+      (λ e. tells_never (never_then (never_token _) (λ end. never_ret _))))
 
   empty_tells : (d : ℕ) → Tells empty (By limits d)
   unfolding empty
@@ -224,9 +279,9 @@ module _ (limits : Limits) where
 
   initial_tells : (called : ℕ × List ℕ) → Tells (initial_by limits) (λ ys r. (ns : List Tok) → One (tokens.Name called.1) called.0 ns → Varies limits (ns ++ ys) r)
   unfolding initial_by
-  initial_tells called = tells_if _ (tells_then (to_of (sound_expect m.Assign)) (tells_never (never_token _)) (λ sign. tells_then (to_of (full_sound limits))
-      (tells_as (full_tells limits) (λ xs r h es e ns n before b.
-      moved limits _ _ r (assoc_three before ns es xs) (h (before ++ (ns ++ es)) (of_variable limits before ns es b (called.0, called.1, n) (sign, e)))))
+  initial_tells called = tells_if _ (tells_then (to_of (sound_expect m.Assign)) (tells_never (never_token _)) (λ equals. tells_then (to_of (full_sound limits))
+      (tells_as (full_tells limits) (λ xs r h es e ns n each before b.
+      moved limits _ _ r (assoc_three before ns es xs) (h (before ++ (ns ++ es)) (of_variable limits each before ns es b (called.0, called.1, n) (equals, e)))))
       (λ e. tells_never (never_ret _))))
       (tells_never (never_ret _))
 
@@ -237,7 +292,18 @@ module _ (limits : Limits) where
   next_variable_tells : Tells (next_variable_by limits) (Told limits more_variables)
   unfolding next_variable_by
   next_variable_tells = tells_then (to_of (sound_expect m.Comma)) (tells_never (never_token _)) (λ comma. tells_as variable_tells (λ xs r h cs c before vs v b x.
-      moved limits _ _ r (assoc_three before vs cs xs) (h (before ++ (vs ++ cs)) (next_variable limits before vs cs v b x (comma, c)))))
+      moved limits _ _ r (assoc_plain before vs cs xs) (h plain (before ++ (vs ++ (cs ++ []))) (next_variable limits plain before vs cs [] v b x (comma, c) refl))))
+
+  reference_tells : Tells (reference_by limits) (Refers limits)
+  unfolding reference_by
+  reference_tells = tells_then (to_of (sound_expect m.Star)) (tells_never (never_token _)) (λ star. tells_as variable_tells (λ xs r h ss z before k.
+      moved limits _ _ r (append_assoc before ss xs) (h starred (before ++ ss) (k ss (star, z)))))
+
+  next_reference_tells : Tells (next_reference_by limits) (Told limits more_references)
+  unfolding next_reference_by
+  next_reference_tells = tells_then (to_of (sound_expect m.Comma)) (tells_never (never_token _)) (λ comma. tells_as reference_tells (λ xs r h cs c before vs v b x.
+      moved limits _ _ r (assoc_three before vs cs xs) (h (before ++ (vs ++ cs)) (λ ss z.
+      subst (BeginsVariable limits starred) (sym (assoc_three before vs cs ss)) (next_variable limits starred before vs cs ss v b x (comma, c) z)))))
 
   module _ (g : Rules) (sound : AreSound limits g) (rec : (rule : Rule) → Tells (g rule) (Told limits rule)) where
     more_variables_tells : Tells (more_variables_by limits g) (Told limits more_variables)
@@ -245,19 +311,49 @@ module _ (limits : Limits) where
     more_variables_tells = tells_if _ (tells_then (to_of (next_variable_sound limits)) next_variable_tells (λ next. tells_then (sound more_variables)
         (tells_as (rec more_variables) (λ ys r h xs x before vs v b y.
         moved limits _ _ r (assoc_comma before vs x.0 x.1 ys ∙ ap (λ u. before ++ (vs ++ (u ++ ys))) (sym x.2))
-        (h (before ++ (vs ++ x.0)) x.1 next (next_variable limits before vs x.0 v b y x.3) x.4)))
+        (h (before ++ (vs ++ (x.0 ++ []))) x.1 next (next_variable limits plain before vs x.0 [] v b y x.3 refl) x.4)))
         (λ others. tells_never (never_ret _))))
         (tells_never (never_ret _))
 
-    variables_tells : Tells (variables_by limits g) (Varies limits)
+    variables_tells : Tells (variables_by limits g) (λ ys r. (before : List Tok) → BeginsVariable limits plain before → TooDeep limits (before ++ ys) r)
     unfolding variables_by
-    variables_tells = tells_then (to_of (variable_sound limits)) variable_tells (λ v. tells_then (sound more_variables)
+    variables_tells = tells_then (to_of (variable_sound limits)) (tells_as variable_tells (λ xs r h before b. h plain before b)) (λ v. tells_then (sound more_variables)
         (tells_as (rec more_variables) (λ ys r h xs x before b. h before xs v b x)) (λ others. tells_never (never_ret _)))
 
-    declaration_tells : Tells (declaration_by limits g) (λ xs r. (d : ℕ) (before : List Tok) → Begins limits may d before → TooDeep limits (before ++ xs) r)
+    more_references_tells : Tells (more_references_by limits g) (Told limits more_references)
+    unfolding more_references_by
+    more_references_tells = tells_if _ (tells_then (to_of (next_reference_sound limits)) next_reference_tells (λ next. tells_then (sound more_references)
+        (tells_as (rec more_references) (λ ys r h xs x before vs v b y. further next r ys h xs x before vs v b y)) (λ others. tells_never (never_ret _))))
+        (tells_never (never_ret _))
+      where
+        further : (next : VariableTree) (r ys : List Tok) → Told limits more_references ys r → (xs : List Tok) → (The m.Comma ⨾ The m.Star ⨾ SpellsVariable limits next) xs → (before vs : List Tok) (v : VariableTree)
+            → BeginsVariable limits starred before → SpellsVariable limits v vs → TooDeep limits (before ++ (vs ++ (xs ++ ys))) r
+        further next r ys h xs (cs, us, c, comma, (ss, ns, d, star, x)) before vs v b y =
+            moved limits _ _ r (assoc_star before vs cs ss ns ys ∙ ap (λ u. before ++ (vs ++ (u ++ ys))) (sym (c ∙ ap (λ u. cs ++ u) d)))
+            (h (before ++ (vs ++ (cs ++ ss))) ns next (next_variable limits starred before vs cs ss v b y comma star) x)
+
+    references_tells : Tells (references_by limits g) (Refers limits)
+    unfolding references_by
+    references_tells = tells_then (to_of (reference_sound limits)) reference_tells (λ v. tells_then (sound more_references)
+        (tells_as (rec more_references) (λ ys r h xs x before k.
+        moved limits _ _ r (assoc_first before x.0 x.1 ys ∙ ap (λ u. before ++ (u ++ ys)) (sym x.2)) (h (before ++ x.0) x.1 v (k x.0 x.3) x.4)))
+        (λ others. tells_never (never_ret _)))
+
+    -- of an item of a block
+    abbrev Item : List Tok → List Tok → Type 0
+    Item xs r = (d : ℕ) (before : List Tok) → Begins limits may d before → TooDeep limits (before ++ xs) r
+
+    declaration_tells : (word : Word) (type : TypeTree) → ((at : ℕ) (ks : List Tok) → One (Key word) at ks → (TheWord w.Int ∣ TheWord w.Id) ks) → Tells (declaration_by limits g word type) Item
     unfolding declaration_by
-    declaration_tells = tells_then (to_of (sound_keyword w.Int)) (tells_never (never_token _)) (λ at. tells_then (variables_sound limits g sound)
-        (tells_as variables_tells (λ xs r h ks k d before b. moved limits _ _ r (append_assoc before ks xs) (h (before ++ ks) (first_variable limits d before ks b (at, k)))))
+    declaration_tells word type begins = tells_then (to_of (sound_keyword word)) (tells_never (never_token _)) (λ at. tells_then (variables_sound limits g sound)
+        (tells_as variables_tells (λ xs r h ks k d before b. moved limits _ _ r (append_assoc before ks xs) (h (before ++ ks) (first_variable limits d before ks b (begins at ks k)))))
+        (λ all. tells_never (never_then (never_token _) (λ end. never_ret _))))
+
+    objects_tells : Tells (objects_by limits g) Item
+    unfolding objects_by
+    objects_tells = tells_then (to_of sound_name) (tells_never (never_token _)) (λ called. tells_then (references_sound limits g sound)
+        (tells_as references_tells (λ xs r h ns n d before b. moved limits _ _ r (append_assoc before ns xs) (h (before ++ ns) (λ ss z.
+        subst (BeginsVariable limits starred) (sym (append_assoc before ns ss)) (first_reference limits d before ns ss b (called.0, called.1, n) z)))))
         (λ all. tells_never (never_then (never_token _) (λ end. never_ret _))))
 
     else_tells : (d at : ℕ) (c : ExprTree) (a : StmtTree) → Tells (else_by g d at c a) (λ ys r. (as' : List Tok) → Given limits (stmt (suc d)) a (ys ++ r) as' → (xs : List Tok) → SpellsTest limits c xs → (ks : List Tok) → One (Key w.If) at ks
@@ -302,10 +398,13 @@ module _ (limits : Limits) where
     perhaps_tells d = tells_nested limits.depth d _ (λ t r above begins before its. places.item limits d (before ++ []) t r above (its no_stmts [] refl) begins)
         (λ fits. tells_as (stmt_tells d) (λ xs r h before its. moved limits _ _ r (ap (λ v. v ++ xs) (append-nil before)) (h fits may (before ++ []) (its no_stmts [] refl))))
 
+    item_of : (d : ℕ) (xs r : List Tok) → Item xs r → Told limits (items d) xs r
+    item_of d xs r h before its = moved limits _ _ r (ap (λ v. v ++ xs) (append-nil before)) (h d (before ++ []) (its no_stmts [] refl))
+
     item_tells : (d : ℕ) → Tells (item_by limits g d) (Told limits (items d))
     unfolding item_by
-    item_tells d = tells_if _ (tells_as declaration_tells (λ xs r h before its. moved limits _ _ r (ap (λ v. v ++ xs) (append-nil before)) (h d (before ++ []) (its no_stmts [] refl))))
-        (perhaps_tells d)
+    item_tells d = tells_if _ (tells_as (declaration_tells w.Int Int (λ at ks k. inl (at, k))) (item_of d)) (tells_if _ (tells_as (declaration_tells w.Id Id (λ at ks k. inr (at, k))) (item_of d))
+        (tells_ahead begins_reference (tells_as objects_tells (item_of d)) (perhaps_tells d)))
 
     items_tells : (d : ℕ) → Tells (items_by limits g d) (Told limits (items d))
     unfolding items_by
@@ -353,19 +452,20 @@ module _ (limits : Limits) where
 
     implementation_tells : Tells (implementation_by g) (Told limits tops)
     unfolding implementation_by
-    implementation_tells = tells_then (to_of title_sound) (tells_never title_never) (λ called. tells_then (sound methods)
-        (tells_as (rec methods) (λ ys r h ks k before fs.
-        let u = fs [] [] refl in
-        moved limits _ _ r (append_assoc before ks ys) (h (before ++ ks) (λ all ds d head hs ss p s.
-        subst (BeginsBody limits) (assoc_title before ks (ds ++ (hs ++ ss))) (of_method limits (before ++ []) ks ds hs ss u.0 called.0 called.1 all head u.1 k d p s)))))
-        (λ all. tells_never (never_then (never_token _) (λ end. never_ret _))))
+    implementation_tells = tells_then (to_of title_sound) (tells_never title_never) (λ called.
+        tells_then (fields_sound limits g sound seen.Private) (tells_never (fields_never g (λ v. never_of (rec (groups v))) seen.Private)) (λ fields. tells_then (sound methods)
+        (tells_as (rec methods) (λ ys r h fs f ks k before us.
+        let u = us [] [] refl in
+        moved limits _ _ r (assoc_three before ks fs ys) (h (before ++ (ks ++ fs)) (λ all ds d head hs ss p s.
+        subst (BeginsBody limits) (assoc_title before ks fs (ds ++ (hs ++ ss))) (of_method limits (before ++ []) ks fs ds hs ss u.0 called.0 called.1 fields all head u.1 k f d p s)))))
+        (λ all. tells_never (never_then (never_token _) (λ end. never_ret _)))))
 
     -- ---- units
 
     top_tells : Tells (top_by g) (Told limits tops)
     unfolding top_by names_top_by interface_top_by implementation_top_by function_top_by
     top_tells = tells_if _ (tells_never (never_then (names_never g (never_of (rec more_names))) (λ one. never_ret _)))
-        (tells_if _ (tells_never (never_then (interface_never g (never_of (rec typed_parts)) (never_of (rec heads))) (λ one. never_ret _)))
+        (tells_if _ (tells_never (never_then (interface_never g (never_of (rec typed_parts)) (never_of (rec heads)) (λ v. never_of (rec (groups v)))) (λ one. never_ret _)))
         (tells_if _ (tells_then (implementation_sound limits g sound) implementation_tells (λ one. tells_never (never_ret _)))
         (tells_then (function_sound limits g sound) function_tells (λ one. tells_never (never_ret _)))))
 
@@ -383,6 +483,9 @@ module _ (limits : Limits) where
         (λ fits. tells_as (stmt_tells d) (λ xs r h before b. h fits must before b))
     body_tells (items d) = items_tells d
     body_tells more_variables = more_variables_tells
+    body_tells more_references = more_references_tells
+    body_tells (more_fields v) = tells_never (more_fields_never g (λ u. never_of (rec (more_fields u))) v)
+    body_tells (groups v) = tells_never (groups_never g (λ u. never_of (rec (more_fields u))) (λ u. never_of (rec (groups u))) v)
     body_tells more_parameters = tells_never (more_parameters_never g (never_of (rec more_parameters)))
     body_tells more_names = tells_never (more_names_never g (never_of (rec more_names)))
     body_tells typed_parts = tells_never (typed_parts_never g (never_of (rec typed_parts)))

@@ -2,9 +2,9 @@
 use Rattle.std.proofs.Common.{◌≡◌, List, [], ◌∷◌, ◌++◌, append_assoc, Ok, Err, Bool, true, false, cond, Option, Some, None, refl, sym, ap, subst, ◌∙◌}
 use Rattle.arc_lex.specs.Tokens.{Tok}
 use Rattle.arc_parse.specs.Language.{Language}
-use Rattle.arc_parse.specs.Reader.{Read, Reader, Fault, bind, ◌>>=◌, ret, unexpected, begins, if_first, token, taken}
+use Rattle.arc_parse.specs.Reader.{Read, Reader, Fault, bind, ◌>>=◌, ret, unexpected, begins, if_first, if_ahead, token, taken}
 use Rattle.arc_parse.proofs.Local.{rest_of}
-use Rattle.arc_parse.proofs.Sound.{Sound, Behind, sound_then, sound_ret, sound_unexpected, sound_if, sound_as}
+use Rattle.arc_parse.proofs.Sound.{Sound, Behind, sound_then, sound_ret, sound_unexpected, sound_if, sound_ahead, sound_as}
 
 -- the tokens before r can go on to what N spells
 abbrev pub Front : {A : Type 0} → (A → Language) → List Tok → List Tok → Type 0
@@ -44,12 +44,15 @@ viable_then {A = A} {B = B} {f = f} {L = L} {g = g} {N = N} s k = record {
 pub viable_ret : {A : Type 0} {N : A → Language} (a : A) → N a [] → Viable (ret a) N
 viable_ret {A = A} {N = N} a n = record { sound = sound_ret a n; fails = λ ts y r e. cc; some = (a, [], n) }
 
-pub viable_if : {A : Type 0} {f g : Reader A} {N : A → Language} (test : Tok → Bool) → Viable f N → Viable g N → Viable (if_first test f g) N
-viable_if {A = A} {f = f} {g = g} {N = N} test s t = record { sound = sound_if test s.sound t.sound; fails = λ ts y r e. go ts y r (begins test ts) e; some = s.some }
+pub viable_ahead : {A : Type 0} {f g : Reader A} {N : A → Language} (test : List Tok → Bool) → Viable f N → Viable g N → Viable (if_ahead test f g) N
+viable_ahead {A = A} {f = f} {g = g} {N = N} test s t = record { sound = sound_ahead test s.sound t.sound; fails = λ ts y r e. go ts y r (test ts) e; some = s.some }
   where
     go : (ts : List Tok) (y : Fault) (r : List Tok) (b : Bool) → cond b (f ts) (g ts) ≡ Err (y, r) → Front N ts r
     go ts y r true e = s.fails ts y r e
     go ts y r false e = t.fails ts y r e
+
+pub viable_if : {A : Type 0} {f g : Reader A} {N : A → Language} (test : Tok → Bool) → Viable f N → Viable g N → Viable (if_first test f g) N
+viable_if test s t = viable_ahead (begins test) s t
 
 pub viable_as : {A : Type 0} {f : Reader A} {L N : A → Language} → Viable f L → ((a : A) (xs : List Tok) → L a xs → N a xs) → Viable f N
 viable_as s k = record {

@@ -1,22 +1,24 @@
 -- The rules of expressions as readers. Each gets what reads the rules that it asks for.
-use Rattle.std.specs.Prelude.{ℕ, zero, suc, ◌-◌, List, [], Bool, true, false, nat_eq, Option, Some, None, if◌then◌else◌}
+use Rattle.std.specs.Prelude.{ℕ, zero, suc, ◌-◌, ◌&&◌, ◌||◌, List, [], ◌∷◌, drop, Bool, true, false, nat_eq, Option, Some, None, if◌then◌else◌}
 use Rattle.arc_lex.specs.declared.token.Mark.{Mark}
 use Rattle.arc_lex.specs.declared.token.Mark.TheVariants as m
 use Rattle.arc_lex.specs.declared.token.Word.TheVariants as w
-use Rattle.arc_lex.specs.Tokens.{Tok, Sort, Sign}
+use Rattle.arc_lex.specs.Tokens.{Tok, Sort, Key, Sign}
 use Rattle.arc_lex.specs.Tokens as tokens
 use Rattle.arc_ast.specs.declared.tree.BinaryOperator.{BinaryOperator}
 use Rattle.arc_ast.specs.declared.tree.BinaryOperator.TheVariants.{Add, Subtract, Multiply, Divide, NotEqual}
-use Rattle.arc_ast.specs.Tree.{ReceiverTree, ExprTree, ExprTrees, Named, Itself, Super, Integer, Text, Paren, Call, Negate, Binary, Name, Assign, Send, no_exprs, and_expr, begins}
-use Rattle.arc_parse.specs.Grammar.{and_part}
+use Rattle.arc_ast.specs.Tree.{TypeTree, ExprTree, ExprTrees, Id, Object, Integer, Text, Paren, Call, Nil, Itself, Name, Negate, Cast, Binary, Arrow, Assign, Send, SendSuper, no_exprs, and_expr, begins}
+use Rattle.arc_parse.specs.Grammar.{and_part, begins_reference}
 use Rattle.arc_parse.specs.Knot.{tied}
-use Rattle.arc_parse.specs.Reader.{Reader, ◌>>=◌, ret, token, expect, keyword, name, if_first, if_mark, if_word, if_name}
+use Rattle.arc_parse.specs.Reader.{Reader, ◌>>=◌, ret, token, expect, keyword, name, is_mark, sees_mark, sees_word, if_first, if_ahead, if_mark, if_word, if_name}
 
--- What is read by recursion: an expression, a unary one, the operators of a level behind a left operand with their right
--- operands, the arguments of a call, one or more, and the further parts of a message's selector with their arguments.
+-- What is read by recursion: an expression, a unary one, the fields behind an object, the operators of a level behind a left
+-- operand with their right operands, the arguments of a call, one or more, and the further parts of a message's selector with
+-- their arguments.
 pub data Rule : Type 0 where
   expr : Rule
   unary : Rule
+  arrows : ExprTree → Rule
   more : ℕ → ExprTree → Rule
   arguments : Rule
   parts : Rule
@@ -28,6 +30,7 @@ Sent = List ℕ × ExprTrees
 abbrev pub Node : Rule → Type 0
 Node expr = ExprTree
 Node unary = ExprTree
+Node (arrows object) = ExprTree
 Node (more l left) = ExprTree
 Node arguments = ExprTrees
 Node parts = Sent
@@ -35,10 +38,12 @@ Node parts = Sent
 abbrev pub Rules : Type 0
 Rules = (rule : Rule) → Reader (Node rule)
 
--- an integer or a text
+-- an integer, a text, `nil` or `self`
 abbrev pub literal_of : ℕ → Sort → Option ExprTree
 literal_of at (tokens.Integer value) = Some (Integer at value)
 literal_of at (tokens.Text bytes) = Some (Text at bytes)
+literal_of at (Key w.Nil) = Some (Nil at)
+literal_of at (Key w.SelfWord) = Some (Itself at)
 literal_of at _ = None
 
 abbrev pub literal : Reader ExprTree
@@ -96,18 +101,6 @@ named_by of = do
   called ← name
   if_mark m.OpenParen (call_by of called) (ret (Name called.0 called.1))
 
--- a name, `self` or `super`
-unfoldable pub receiver : Reader ReceiverTree
-receiver = if_word w.SelfWord (do
-  at ← keyword w.SelfWord
-  ret (Itself at))
-    (if_word w.Super (do
-      at ← keyword w.Super
-      ret (Super at))
-    (do
-      called ← name
-      ret (Named called.0 called.1)))
-
 -- what is behind the name of a selector's part: a colon, an argument and further parts
 unfoldable pub part_by : Rules → List ℕ → Reader Sent
 part_by of called = do
@@ -126,17 +119,44 @@ parts_by of = if_name (do
 unfoldable pub sent_by : Rules → List ℕ → Reader Sent
 sent_by of called = if_mark m.Colon (part_by of called) (ret (called, no_exprs))
 
-unfoldable pub message_by : Rules → Reader ExprTree
-message_by of = do
-  at ← expect m.OpenSquare
-  to ← receiver
+-- what is behind `[` where `super` comes
+unfoldable pub super_by : Rules → ℕ → Reader ExprTree
+super_by of at = do
+  super_at ← keyword w.Super
   called ← name
   all ← sent_by of called.1
   end ← expect m.CloseSquare
-  ret (Send at called.0 to all.0 all.1)
+  ret (SendSuper at called.0 super_at all.0 all.1)
+
+-- what is behind `[` where an expression comes
+unfoldable pub object_by : Rules → ℕ → Reader ExprTree
+object_by of at = do
+  object ← of expr
+  called ← name
+  all ← sent_by of called.1
+  end ← expect m.CloseSquare
+  ret (Send at called.0 object all.0 all.1)
+
+unfoldable pub message_by : Rules → Reader ExprTree
+message_by of = do
+  at ← expect m.OpenSquare
+  if_word w.Super (super_by of at) (object_by of at)
 
 unfoldable pub primary_by : Rules → Reader ExprTree
 primary_by of = if_name (named_by of) (if_mark m.OpenParen (parenthesized_by of) (if_mark m.OpenSquare (message_by of) literal))
+
+unfoldable pub arrows_by : Rules → ExprTree → Reader ExprTree
+arrows_by of object = if_mark m.Arrow (do
+  arrow ← expect m.Arrow
+  called ← name
+  of (arrows (Arrow (begins object) called.0 object called.1)))
+    (ret object)
+
+-- a primary expression, a call or a message, and fields behind it
+unfoldable pub postfix_by : Rules → Reader ExprTree
+postfix_by of = do
+  object ← primary_by of
+  of (arrows object)
 
 unfoldable pub negate_by : Rules → Reader ExprTree
 negate_by of = do
@@ -144,8 +164,35 @@ negate_by of = do
   operand ← of unary
   ret (Negate at operand)
 
+-- whether these tokens begin with `id`, or with a name, `*` and `)`
+abbrev pub begins_type : List Tok → Bool
+begins_type ts = sees_word w.Id ts || (begins_reference ts && sees_mark m.CloseParen (drop 2 ts))
+
+-- whether these tokens begin with a type in parentheses, and no expression in parentheses begins so
+abbrev pub begins_cast : List Tok → Bool
+begins_cast [] = false
+begins_cast (t ∷ ts) = is_mark m.OpenParen t.sort && begins_type ts
+
+-- `id`, or a class's name and `*`
+unfoldable pub cast_type : Reader TypeTree
+cast_type = if_word w.Id (do
+  at ← keyword w.Id
+  ret Id)
+    (do
+      called ← name
+      star ← expect m.Star
+      ret (Object called.0 called.1))
+
+unfoldable pub cast_by : Rules → Reader ExprTree
+cast_by of = do
+  at ← expect m.OpenParen
+  type ← cast_type
+  end ← expect m.CloseParen
+  operand ← of unary
+  ret (Cast at type operand)
+
 unfoldable pub unary_by : Rules → Reader ExprTree
-unary_by of = if_mark m.Minus (negate_by of) (primary_by of)
+unary_by of = if_mark m.Minus (negate_by of) (if_ahead begins_cast (cast_by of) (postfix_by of))
 
 -- the operators that bind as loosely as this, or tighter; with 0 there are none
 unfoldable pub binary_by : Rules → ℕ → Reader ExprTree
@@ -191,6 +238,7 @@ arguments_by of = do
 abbrev pub body : Rules → Rules
 body of expr = expr_by of
 body of unary = unary_by of
+body of (arrows object) = arrows_by of object
 body of (more l left) = more_by of l left
 body of arguments = arguments_by of
 body of parts = parts_by of

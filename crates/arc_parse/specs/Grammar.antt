@@ -1,18 +1,24 @@
 -- The grammar: which tokens spell which tree. Each line of a definition is one line of the grammar.
-use Rattle.std.specs.Prelude.{◌≡◌, ◌≤◌, ◌+◌, ℕ, zero, suc, List, [], ◌∷◌, ◌++◌, Bool, true, false, Option, Some, None}
+use Rattle.std.specs.Prelude.{◌≡◌, ◌≤◌, ◌+◌, ◌&&◌, ℕ, zero, suc, List, [], ◌∷◌, ◌++◌, Bool, true, false, Option, Some, None}
 use Rattle.arc_lex.specs.declared.token.Mark.{Mark}
 use Rattle.arc_lex.specs.declared.token.Mark.TheVariants as m
 use Rattle.arc_lex.specs.declared.token.Word.TheVariants as w
+use Rattle.arc_lex.specs.declared.token.AtWord.{AtWord}
 use Rattle.arc_lex.specs.declared.token.AtWord.TheVariants as words
 use Rattle.arc_lex.specs.Tokens.{Tok, Sign, Key}
 use Rattle.arc_lex.specs.Tokens as tokens
 use Rattle.arc_ast.specs.declared.tree.Kind.{Kind}
 use Rattle.arc_ast.specs.declared.tree.Kind.TheVariants as kinds
+use Rattle.arc_ast.specs.declared.tree.Sign as trees
+use Rattle.arc_ast.specs.declared.tree.Sign.TheVariants as signs
+use Rattle.arc_ast.specs.declared.tree.Visibility.{Visibility}
+use Rattle.arc_ast.specs.declared.tree.Visibility.TheVariants as seen
 use Rattle.arc_ast.specs.declared.tree.BinaryOperator.{BinaryOperator}
 use Rattle.arc_ast.specs.declared.tree.BinaryOperator.TheVariants.{Add, Subtract, Multiply, Divide, NotEqual}
-use Rattle.arc_ast.specs.Tree.{ReceiverTree, ExprTree, ExprTrees, VariableTree, StmtTree, StmtTrees, ParameterTree, ParametersTree, FunctionTree, HeadTree, MethodTree, InterfaceTree, ImplementationTree, UnitTree, Named, Itself, Super, Integer, Text, Paren, Call, Negate, Binary, Name, Assign, Send, no_exprs, and_expr, Block, Empty, Simple, Return, Variables, If, IfElse, While, no_stmts, and_stmt, Ints, CountAndTexts, begins}
+use Rattle.arc_ast.specs.Tree.{TypeTree, ExprTree, ExprTrees, VariableTree, StmtTree, StmtTrees, ParameterTree, ParametersTree, FunctionTree, HeadTree, MethodTree, FieldTree, InterfaceTree, ImplementationTree, UnitTree, Int, Id, Object, Integer, Text, Paren, Call, Nil, Itself, Name, Negate, Cast, Binary, Arrow, Assign, Send, SendSuper, no_exprs, and_expr, Block, Empty, Simple, Return, Variables, If, IfElse, While, no_stmts, and_stmt, Ints, CountAndTexts, begins}
 use Rattle.arc_parse.specs.Language.{Language, Nothing, Nowhere, ◌⨾◌, ◌∣◌, One, The, TheWord, TheAt, SomeName}
 use Rattle.arc_parse.specs.Limits.{Limits, Nested, Short}
+use Rattle.arc_parse.specs.Reader.{is_mark, is_name}
 
 -- ---- expressions (C99, section 6.5)
 
@@ -36,17 +42,18 @@ binds NotEqual = 3
 abbrev pub widest : ℕ
 widest = 5
 
--- what a message is sent to (OPL, "Objects, Classes, and Messaging")
-abbrev pub SpellsReceiver : ReceiverTree → Language
-SpellsReceiver (Named at called) = One (tokens.Name called) at
-SpellsReceiver (Itself at) = One (Key w.SelfWord) at
-SpellsReceiver (Super at) = One (Key w.Super) at
+-- the type of a cast: `id`, or a class's name and `*` (OPL, "Object Identifiers" and "Static Typing")
+abbrev pub SpellsCastType : TypeTree → Language
+SpellsCastType Int = Nowhere
+SpellsCastType Id = TheWord w.Id
+SpellsCastType (Object at called) = One (tokens.Name called) at ⨾ The m.Star
 
 -- the bytes of a selector's part and of its colon, in front of further parts
 abbrev pub and_part : List ℕ → List ℕ → List ℕ
 and_part called further = called ++ 58 ∷ further
 
--- Levels, the tightest first: 0 a primary (6.5.1, a call, 6.5.2.2, and a message, OPL, "Objects, Classes, and Messaging"), 1 a unary expression (6.5.3), 2 a product (6.5.5),
+-- Levels, the tightest first: 0 a primary (6.5.1), a call (6.5.2.2), a field behind `->` (6.5.2.3) and a message (OPL, "Objects, Classes, and Messaging"), 1 a unary
+-- expression (6.5.3) and a cast (6.5.4), 2 a product (6.5.5),
 -- 3 a sum (6.5.6), 4 a test of inequality (6.5.9), 5 an assignment (6.5.16). An expression of a level stands wherever a
 -- looser one may. The left operand of a binary operator is of the operator's own level, so that operators of one level group
 -- from the left, and the right one of the next tighter; assignments group from the right.
@@ -56,12 +63,17 @@ abbrev mutual
   Spells l (Text at bytes) = One (tokens.Text bytes) at
   Spells l (Paren at a) = One (Sign m.OpenParen) at ⨾ Spells widest a ⨾ The m.CloseParen
   Spells l (Call at called args) = One (tokens.Name called) at ⨾ The m.OpenParen ⨾ SpellsArguments args ⨾ The m.CloseParen
+  Spells l (Nil at) = One (Key w.Nil) at
+  Spells l (Itself at) = One (Key w.SelfWord) at
+  Spells l (Arrow at name_at a called) = λ ts. (at ≡ begins a) × (Spells 0 a ⨾ The m.Arrow ⨾ One (tokens.Name called) name_at) ts
+  Spells l (Cast at type a) = λ ts. (1 ≤ l) × (One (Sign m.OpenParen) at ⨾ SpellsCastType type ⨾ The m.CloseParen ⨾ Spells 1 a) ts
   Spells l (Negate at a) = λ ts. (1 ≤ l) × (One (Sign m.Minus) at ⨾ Spells 1 a) ts
   Spells l (Binary at operator a b) = λ ts. (1 + binds operator ≤ l) × (at ≡ begins a)
       × (Spells (1 + binds operator) a ⨾ The (mark_of operator) ⨾ Spells (binds operator) b) ts
   Spells l (Name at called) = One (tokens.Name called) at
   Spells l (Assign at sign a b) = λ ts. (5 ≤ l) × (at ≡ begins a) × (Spells 1 a ⨾ One (Sign m.Assign) sign ⨾ Spells widest b) ts
-  Spells l (Send at part to selector args) = One (Sign m.OpenSquare) at ⨾ SpellsReceiver to ⨾ SpellsSent part selector args ⨾ The m.CloseSquare
+  Spells l (Send at part a selector args) = One (Sign m.OpenSquare) at ⨾ Spells widest a ⨾ SpellsSent part selector args ⨾ The m.CloseSquare
+  Spells l (SendSuper at part super_at selector args) = One (Sign m.OpenSquare) at ⨾ One (Key w.Super) super_at ⨾ SpellsSent part selector args ⨾ The m.CloseSquare
 
   -- arguments, with a comma between two
   pub SpellsArguments : ExprTrees → Language
@@ -114,10 +126,28 @@ abbrev pub SpellsVariables : Limits → List VariableTree → Language
 SpellsVariables limits [] = Nowhere
 SpellsVariables limits (v ∷ others) = SpellsVariable limits v ⨾ SpellsMoreVariables limits others
 
--- a declaration of variables (6.7)
+-- variables that name objects, each behind a comma and `*` (6.7.5.1)
+abbrev pub SpellsMoreReferences : Limits → List VariableTree → Language
+SpellsMoreReferences limits [] = Nothing
+SpellsMoreReferences limits (v ∷ others) = The m.Comma ⨾ The m.Star ⨾ SpellsVariable limits v ⨾ SpellsMoreReferences limits others
+
+-- one such variable or more, with a comma between two
+abbrev pub SpellsReferences : Limits → List VariableTree → Language
+SpellsReferences limits [] = Nowhere
+SpellsReferences limits (v ∷ others) = The m.Star ⨾ SpellsVariable limits v ⨾ SpellsMoreReferences limits others
+
+-- a declaration of variables (6.7): `int` or `id`, or a class's name with a `*` before each variable
 abbrev pub SpellsDeclaration : Limits → StmtTree → Language
-SpellsDeclaration limits (Variables at all) = One (Key w.Int) at ⨾ SpellsVariables limits all ⨾ The m.Semicolon
+SpellsDeclaration limits (Variables at Int all) = One (Key w.Int) at ⨾ SpellsVariables limits all ⨾ The m.Semicolon
+SpellsDeclaration limits (Variables at Id all) = One (Key w.Id) at ⨾ SpellsVariables limits all ⨾ The m.Semicolon
+SpellsDeclaration limits (Variables at (Object class_at called) all) = λ ts. (at ≡ class_at)
+    × (One (tokens.Name called) class_at ⨾ SpellsReferences limits all ⨾ The m.Semicolon) ts
 SpellsDeclaration limits _ = Nowhere
+
+-- whether these tokens begin with a name and `*`: then they declare, and are no expression (this project's own choice, since a name may be a class's)
+abbrev pub begins_reference : List Tok → Bool
+begins_reference (a ∷ b ∷ rest) = is_name a.sort && is_mark m.Star b.sort
+begins_reference _ = false
 
 -- a test in parentheses
 abbrev pub SpellsTest : Limits → ExprTree → Language
@@ -136,13 +166,13 @@ abbrev mutual
   pub SpellsStmt : Limits → ℕ → StmtTree → Language
   SpellsStmt limits d (Block at all) = One (Sign m.OpenBrace) at ⨾ SpellsStmts limits (suc d) all ⨾ The m.CloseBrace
   SpellsStmt limits d (Empty at) = One (Sign m.Semicolon) at
-  SpellsStmt limits d (Simple e) = Full limits e ⨾ The m.Semicolon
+  SpellsStmt limits d (Simple e) = λ ts. (begins_reference ts ≡ false) × (Full limits e ⨾ The m.Semicolon) ts
   SpellsStmt limits d (Return at value) = One (Key w.Return) at ⨾ SpellsValue limits value ⨾ The m.Semicolon
   SpellsStmt limits d (If at c a) = One (Key w.If) at ⨾ SpellsTest limits c ⨾ Nested limits (suc d) (SpellsStmt limits (suc d) a)
   SpellsStmt limits d (IfElse at c a b) = λ ts. (is_open a ≡ false) × (One (Key w.If) at ⨾ SpellsTest limits c ⨾ Nested limits (suc d) (SpellsStmt limits (suc d) a)
       ⨾ TheWord w.Else ⨾ Nested limits (suc d) (SpellsStmt limits (suc d) b)) ts
   SpellsStmt limits d (While at c a) = One (Key w.While) at ⨾ SpellsTest limits c ⨾ Nested limits (suc d) (SpellsStmt limits (suc d) a)
-  SpellsStmt limits d (Variables at all) = Nowhere
+  SpellsStmt limits d (Variables at type all) = Nowhere
 
   -- the items of a block, each a declaration or a statement that is nested so deep
   pub SpellsStmts : Limits → ℕ → StmtTrees → Language
@@ -214,9 +244,14 @@ abbrev pub SpellsSelector : List ℕ → List ParameterTree → Language
 SpellsSelector selector [] = λ ts. (at : ℕ) × One (tokens.Name selector) at ts
 SpellsSelector selector (p ∷ others) = SpellsTypedParts selector (p ∷ others)
 
--- `+` of a class method, the kind of the result in parentheses and the selector
+-- the mark of a class method, and of one that is sent to objects
+abbrev pub sign_mark : trees.Sign → Mark
+sign_mark signs.Class = m.Plus
+sign_mark signs.Instance = m.Minus
+
+-- `+` or `-`, the kind of the result in parentheses and the selector
 abbrev pub SpellsMethodHead : HeadTree → Language
-SpellsMethodHead h = One (Sign m.Plus) h.at ⨾ The m.OpenParen ⨾ SpellsResult h.result ⨾ The m.CloseParen ⨾ SpellsSelector h.selector h.parameters
+SpellsMethodHead h = One (Sign (sign_mark h.sign)) h.at ⨾ The m.OpenParen ⨾ SpellsResult h.result ⨾ The m.CloseParen ⨾ SpellsSelector h.selector h.parameters
 
 -- the methods that an interface declares
 abbrev pub SpellsHeads : List HeadTree → Language
@@ -231,16 +266,57 @@ abbrev pub SpellsMethods : Limits → List MethodTree → Language
 SpellsMethods limits [] = Nothing
 SpellsMethods limits (method ∷ others) = SpellsMethod limits method ⨾ SpellsMethods limits others
 
--- `@interface`, the class's name, its superclass's and its methods
+-- what stands among the fields of a class (OPL, "Instance Variables"): a word on those behind it, or some names of fields, each with its place
+pub data FieldGroup : Type 0 where
+  OfWord : Visibility → FieldGroup
+  OfInts : List (ℕ × List ℕ) → FieldGroup
+
+abbrev pub word_of : Visibility → AtWord
+word_of seen.Private = words.Private
+word_of seen.Protected = words.Protected
+word_of seen.Public = words.Public
+
+abbrev pub SpellsMoreNames : List (ℕ × List ℕ) → Language
+SpellsMoreNames [] = Nothing
+SpellsMoreNames (n ∷ others) = The m.Comma ⨾ One (tokens.Name n.1) n.0 ⨾ SpellsMoreNames others
+
+abbrev pub SpellsGroup : FieldGroup → Language
+SpellsGroup (OfWord v) = TheAt (word_of v)
+SpellsGroup (OfInts []) = Nowhere
+SpellsGroup (OfInts (n ∷ others)) = TheWord w.Int ⨾ One (tokens.Name n.1) n.0 ⨾ SpellsMoreNames others ⨾ The m.Semicolon
+
+abbrev pub SpellsGroups : List FieldGroup → Language
+SpellsGroups [] = Nothing
+SpellsGroups (g ∷ others) = SpellsGroup g ⨾ SpellsGroups others
+
+-- fields of these names that are visible so, and then others
+abbrev pub named_fields : Visibility → List (ℕ × List ℕ) → List FieldTree → List FieldTree
+named_fields v [] others = others
+named_fields v (n ∷ names) others = record { at = n.0; name = n.1; visibility = v } ∷ named_fields v names others
+
+-- the fields of these groups, of which those before a word are visible so
+abbrev pub fields_of : Visibility → List FieldGroup → List FieldTree
+fields_of v [] = []
+fields_of v (OfWord other ∷ groups) = fields_of other groups
+fields_of v (OfInts names ∷ groups) = named_fields v names (fields_of v groups)
+
+-- no fields, or braces with them; those before any word are visible so
+abbrev pub SpellsFields : Visibility → List FieldTree → Language
+SpellsFields v fields = (λ ts. (fields ≡ []) × Nothing ts) ∣ (λ ts. (groups : List FieldGroup) × (fields ≡ fields_of v groups)
+    × (The m.OpenBrace ⨾ SpellsGroups groups ⨾ The m.CloseBrace) ts)
+
+-- `@interface`, the class's name, its superclass's, its fields, which are protected where no word says otherwise, and its methods
 abbrev pub SpellsInterface : InterfaceTree → Language
-SpellsInterface i = TheAt words.Interface ⨾ One (tokens.Name i.name) i.at ⨾ The m.Colon ⨾ One (tokens.Name i.superclass) i.superclass_at ⨾ SpellsHeads i.methods ⨾ TheAt words.End
+SpellsInterface i = TheAt words.Interface ⨾ One (tokens.Name i.name) i.at ⨾ The m.Colon ⨾ One (tokens.Name i.superclass) i.superclass_at
+    ⨾ SpellsFields seen.Protected i.fields ⨾ SpellsHeads i.methods ⨾ TheAt words.End
 
 -- `@implementation` and the class's name
 abbrev pub SpellsTitle : ℕ → List ℕ → Language
 SpellsTitle at called = TheAt words.Implementation ⨾ One (tokens.Name called) at
 
+-- the title, the class's further fields, which are private where no word says otherwise, and its methods
 abbrev pub SpellsImplementation : Limits → ImplementationTree → Language
-SpellsImplementation limits i = SpellsTitle i.at i.name ⨾ SpellsMethods limits i.methods ⨾ TheAt words.End
+SpellsImplementation limits i = SpellsTitle i.at i.name ⨾ SpellsFields seen.Private i.fields ⨾ SpellsMethods limits i.methods ⨾ TheAt words.End
 
 -- so many names, each behind a comma
 abbrev pub MoreNames : ℕ → Language

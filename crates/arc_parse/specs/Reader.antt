@@ -66,6 +66,10 @@ any t = true
 abbrev pub if_first : {A : Type 0} → (Tok → Bool) → Reader A → Reader A → Reader A
 if_first test f g = λ ts. if begins test ts then f ts else g ts
 
+-- a choice by the tokens ahead
+abbrev pub if_ahead : {A : Type 0} → (List Tok → Bool) → Reader A → Reader A → Reader A
+if_ahead test f g = λ ts. if test ts then f ts else g ts
+
 abbrev pub taken : {A : Type 0} → Tok → List Tok → Option A → Read A
 taken t ts (Some a) = Ok (a, ts)
 taken t ts None = Err (misfit, t ∷ ts)

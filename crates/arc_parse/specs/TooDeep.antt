@@ -5,10 +5,11 @@ use Rattle.arc_lex.specs.declared.token.Word.{Word}
 use Rattle.arc_lex.specs.declared.token.Word.TheVariants as w
 use Rattle.arc_lex.specs.Tokens.{Tok, Sort, Sign}
 use Rattle.arc_ast.specs.declared.tree.Kind.{Kind}
-use Rattle.arc_ast.specs.Tree.{ExprTree, VariableTree, StmtTree, StmtTrees, ParametersTree, HeadTree, MethodTree, Name, Negate, Binary, Assign}
+use Rattle.arc_ast.specs.declared.tree.Visibility.TheVariants as seen
+use Rattle.arc_ast.specs.Tree.{ExprTree, VariableTree, StmtTree, StmtTrees, ParametersTree, HeadTree, MethodTree, FieldTree, Name, Negate, Cast, Binary, Assign}
 use Rattle.arc_parse.specs.Language.{Language, Nothing, ◌⨾◌, ◌∣◌, The, TheWord, SomeName}
 use Rattle.arc_parse.specs.Limits.{Limits, AtMost, Nested, is_above}
-use Rattle.arc_parse.specs.Grammar.{widest, Spells, SpellsVariable, SpellsTest, SpellsStmt, SpellsStmts, SpellsHead, SpellsMethodHead, SpellsMethods, SpellsTitle, TopTree, SpellsTops}
+use Rattle.arc_parse.specs.Grammar.{widest, Spells, SpellsVariable, SpellsTest, SpellsStmt, SpellsStmts, SpellsHead, SpellsMethodHead, SpellsMethods, SpellsTitle, SpellsFields, TopTree, SpellsTops}
 use Rattle.arc_parse.specs.Reader.{first, begins, is_mark}
 use Rattle.arc_parse.specs.ExprRules.{is_unary}
 use Rattle.arc_parse.specs.UnitRules.{begins_stmt}
@@ -32,9 +33,9 @@ Heading limits word = TheWord word ⨾ (λ ts. (c : ExprTree) × SpellsTest limi
 pub data BeginsBody : Limits → List Tok → Type 0 where
   of_function : (limits : Limits) (us hs : List Tok) (before : List TopTree) (kind : Kind) (called : ℕ × List ℕ) (ps : ParametersTree)
       → SpellsTops limits before us → SpellsHead kind called ps hs → BeginsBody limits (us ++ hs)
-  of_method : (limits : Limits) (us ks ds hs ss : List Tok) (before : List TopTree) (at : ℕ) (called : List ℕ) (ms : List MethodTree) (h : HeadTree)
-      → SpellsTops limits before us → SpellsTitle at called ks → SpellsMethods limits ms ds → SpellsMethodHead h hs → (Nothing ∣ The m.Semicolon) ss
-      → BeginsBody limits (us ++ (ks ++ (ds ++ (hs ++ ss))))
+  of_method : (limits : Limits) (us ks fs ds hs ss : List Tok) (before : List TopTree) (at : ℕ) (called : List ℕ) (fields : List FieldTree) (ms : List MethodTree) (h : HeadTree)
+      → SpellsTops limits before us → SpellsTitle at called ks → SpellsFields seen.Private fields fs → SpellsMethods limits ms ds → SpellsMethodHead h hs → (Nothing ∣ The m.Semicolon) ss
+      → BeginsBody limits (us ++ (ks ++ (fs ++ (ds ++ (hs ++ ss)))))
 
 -- Behind these tokens of a unit begins a statement, or may begin an item of a block, that is nested so deep. All that stands
 -- before it is spelled within the limits, and the statements around it are.
@@ -48,10 +49,21 @@ pub data Begins : Limits → Role → ℕ → List Tok → Type 0 where
       → Begins limits role d before → AtMost limits.depth d → Heading limits w.If hs → Nested limits (suc d) (SpellsStmt limits (suc d) a) xs → TheWord w.Else es
       → Begins limits must (suc d) (before ++ (hs ++ (xs ++ es)))
 
--- Behind these tokens of a unit begins a variable of a declaration.
-pub data BeginsVariable : Limits → List Tok → Type 0 where
-  first_variable : (limits : Limits) (d : ℕ) (before ks : List Tok) → Begins limits may d before → TheWord w.Int ks → BeginsVariable limits (before ++ ks)
-  next_variable : (limits : Limits) (before vs cs : List Tok) (v : VariableTree) → BeginsVariable limits before → SpellsVariable limits v vs → The m.Comma cs → BeginsVariable limits (before ++ (vs ++ cs))
+-- whether each variable of a declaration has a `*` before it
+pub data Declarator : Type 0 where
+  plain : Declarator
+  starred : Declarator
+
+abbrev pub SpellsMark : Declarator → Language
+SpellsMark plain = Nothing
+SpellsMark starred = The m.Star
+
+-- Behind these tokens of a unit begins a variable of a declaration, of which each is so.
+pub data BeginsVariable : Limits → Declarator → List Tok → Type 0 where
+  first_variable : (limits : Limits) (d : ℕ) (before ks : List Tok) → Begins limits may d before → (TheWord w.Int ∣ TheWord w.Id) ks → BeginsVariable limits plain (before ++ ks)
+  first_reference : (limits : Limits) (d : ℕ) (before ns ss : List Tok) → Begins limits may d before → SomeName ns → The m.Star ss → BeginsVariable limits starred (before ++ (ns ++ ss))
+  next_variable : (limits : Limits) (each : Declarator) (before vs cs ss : List Tok) (v : VariableTree)
+      → BeginsVariable limits each before → SpellsVariable limits v vs → The m.Comma cs → SpellsMark each ss → BeginsVariable limits each (before ++ (vs ++ (cs ++ ss)))
 
 -- Behind these tokens of a unit may begin a full-expression: an expression statement's, that of a `return`, the test of an
 -- `if` or a `while`, or what a variable begins with.
@@ -60,21 +72,23 @@ pub data BeginsFull : Limits → List Tok → Type 0 where
   of_return : (limits : Limits) (role : Role) (d : ℕ) (before ks : List Tok) → Begins limits role d before → AtMost limits.depth d → TheWord w.Return ks → BeginsFull limits (before ++ ks)
   of_test : (limits : Limits) (role : Role) (d : ℕ) (before ks os : List Tok) (word : Word)
       → Begins limits role d before → AtMost limits.depth d → takes_test word ≡ true → TheWord word ks → The m.OpenParen os → BeginsFull limits (before ++ (ks ++ os))
-  of_variable : (limits : Limits) (before ns es : List Tok) → BeginsVariable limits before → SomeName ns → The m.Assign es → BeginsFull limits (before ++ (ns ++ es))
+  of_variable : (limits : Limits) (each : Declarator) (before ns es : List Tok) → BeginsVariable limits each before → SomeName ns → The m.Assign es → BeginsFull limits (before ++ (ns ++ es))
 
 -- whether this may go on with any expression that is whole
-abbrev pub is_binary : Sort → Bool
-is_binary (Sign m.NotEqual) = true
-is_binary (Sign m.Plus) = true
-is_binary (Sign m.Minus) = true
-is_binary (Sign m.Star) = true
-is_binary (Sign m.Slash) = true
-is_binary _ = false
+abbrev pub follows_any : Sort → Bool
+follows_any (Sign m.NotEqual) = true
+follows_any (Sign m.Plus) = true
+follows_any (Sign m.Minus) = true
+follows_any (Sign m.Star) = true
+follows_any (Sign m.Slash) = true
+follows_any (Sign m.Arrow) = true
+follows_any _ = false
 
 -- whether a name ends it, behind which `(` makes a call
 abbrev pub ends_with_name : ExprTree → Bool
 ends_with_name (Name _ _) = true
 ends_with_name (Negate _ a) = ends_with_name a
+ends_with_name (Cast _ _ a) = ends_with_name a
 ends_with_name (Binary _ _ _ b) = ends_with_name b
 ends_with_name (Assign _ _ _ b) = ends_with_name b
 ends_with_name _ = false
@@ -86,7 +100,7 @@ ends_with_place e = is_unary e
 
 -- whether this may go on with an expression that is whole
 abbrev pub goes_on : ExprTree → Tok → Bool
-goes_on e t = (is_binary t.sort || (is_mark m.OpenParen t.sort && ends_with_name e)) || (is_mark m.Assign t.sort && ends_with_place e)
+goes_on e t = (follows_any t.sort || (is_mark m.OpenParen t.sort && ends_with_name e)) || (is_mark m.Assign t.sort && ends_with_place e)
 
 -- Each expression that begins with these tokens and the first of the rest, and with which no token behind it goes on, has
 -- more than so many tokens.

@@ -1,33 +1,43 @@
 -- The rules of statements, functions and units as readers, with limits.
-use Rattle.std.specs.Prelude.{ℕ, suc, ◌||◌, ◌&&◌, List, [], ◌∷◌, Bool, true, false, Option, Some, None, bytes_eq}
+use Rattle.std.specs.Prelude.{ℕ, suc, ◌||◌, ◌&&◌, List, [], ◌∷◌, ◌++◌, Bool, true, false, Option, Some, None, bytes_eq}
 use Rattle.arc_lex.specs.declared.token.Mark.TheVariants as m
+use Rattle.arc_lex.specs.declared.token.Word.{Word}
 use Rattle.arc_lex.specs.declared.token.Word.TheVariants as w
+use Rattle.arc_lex.specs.declared.token.AtWord.{AtWord}
 use Rattle.arc_lex.specs.declared.token.AtWord.TheVariants as words
 use Rattle.arc_lex.specs.Tokens.{Tok, Sort}
 use Rattle.arc_lex.specs.Tokens as tokens
 use Rattle.arc_ast.specs.declared.tree.Kind.{Kind}
 use Rattle.arc_ast.specs.declared.tree.Kind.TheVariants as kinds
-use Rattle.arc_ast.specs.Tree.{ExprTree, VariableTree, StmtTree, StmtTrees, ParameterTree, ParametersTree, FunctionTree, HeadTree, MethodTree, InterfaceTree, ImplementationTree, UnitTree, Block, Empty, Simple, Return, Variables, If, IfElse, While, no_stmts, and_stmt, Ints, CountAndTexts}
-use Rattle.arc_parse.specs.Grammar.{TopTree, OfNames, OfFunction, OfInterface, OfImplementation, main_bytes, and_part, unit_of}
+use Rattle.arc_ast.specs.declared.tree.Sign as trees
+use Rattle.arc_ast.specs.declared.tree.Sign.TheVariants as signs
+use Rattle.arc_ast.specs.declared.tree.Visibility.{Visibility}
+use Rattle.arc_ast.specs.declared.tree.Visibility.TheVariants as seen
+use Rattle.arc_ast.specs.Tree.{TypeTree, ExprTree, VariableTree, StmtTree, StmtTrees, ParameterTree, ParametersTree, FunctionTree, HeadTree, MethodTree, FieldTree, InterfaceTree, ImplementationTree, UnitTree, Int, Id, Object, Block, Empty, Simple, Return, Variables, If, IfElse, While, no_stmts, and_stmt, Ints, CountAndTexts}
+use Rattle.arc_parse.specs.Grammar.{TopTree, OfNames, OfFunction, OfInterface, OfImplementation, begins_reference, main_bytes, and_part, unit_of}
 use Rattle.arc_parse.specs.Knot.{tied}
 use Rattle.arc_parse.specs.Limits.{Limits, nested, up_to, plain}
-use Rattle.arc_parse.specs.Reader.{Reader, ◌>>=◌, ret, any, expect, keyword, at_word, name, if_first, if_mark, if_word, if_at, if_name, is_mark, is_word}
+use Rattle.arc_parse.specs.Reader.{Reader, ◌>>=◌, ret, any, unexpected, token, expect, keyword, at_word, name, if_first, if_ahead, if_mark, if_word, if_at, if_name, is_mark, is_word}
 use Rattle.arc_parse.specs.ExprRules.{expr}
 use Rattle.arc_parse.specs.ExprRules as exprs
 
 -- What is read by recursion: a statement that must come and is nested so deep, the items up to the end of a block that are
--- nested so deep, the variables of a declaration, the parameters of a function and the names of classes that are behind a
--- comma each, parts of a method's selector, the methods of an interface and of an implementation, and all up to the end of
--- the tokens.
+-- nested so deep, the variables of a declaration, without a `*` and with one, the parameters of a function, the fields that
+-- are visible so and the names of classes that are behind a comma each, parts of a method's selector, the methods of an
+-- interface and of an implementation, the fields of a class, of which those before a word are visible so, and all up to the
+-- end of the tokens.
 pub data Rule : Type 0 where
   stmt : ℕ → Rule
   items : ℕ → Rule
   more_variables : Rule
+  more_references : Rule
   more_parameters : Rule
+  more_fields : Visibility → Rule
   more_names : Rule
   typed_parts : Rule
   heads : Rule
   methods : Rule
+  groups : Visibility → Rule
   tops : Rule
 
 -- the bytes of parts of a selector, and the parameters
@@ -38,11 +48,14 @@ abbrev pub Node : Rule → Type 0
 Node (stmt d) = StmtTree
 Node (items d) = StmtTrees
 Node more_variables = List VariableTree
+Node more_references = List VariableTree
 Node more_parameters = List ParameterTree
+Node (more_fields v) = List FieldTree
 Node more_names = Unit {0}
 Node typed_parts = Typed
 Node heads = List HeadTree
 Node methods = List MethodTree
+Node (groups v) = List FieldTree
 Node tops = List TopTree
 
 abbrev pub Rules : Type 0
@@ -55,6 +68,8 @@ abbrev pub begins_expr : Sort → Bool
 begins_expr (tokens.Name _) = true
 begins_expr (tokens.Integer _) = true
 begins_expr (tokens.Text _) = true
+begins_expr (tokens.Key w.Nil) = true
+begins_expr (tokens.Key w.SelfWord) = true
 begins_expr (tokens.Sign mark) = (is_mark m.OpenParen (tokens.Sign mark) || is_mark m.Minus (tokens.Sign mark)) || is_mark m.OpenSquare (tokens.Sign mark)
 begins_expr _ = false
 
@@ -68,11 +83,15 @@ begins_stmt t = begins_sort t.sort
 unfoldable pub full : Limits → Reader ExprTree
 full limits = up_to limits.tokens (plain (exprs.read expr))
 
+-- What begins with a name and `*` is refused at the `*`: it would be a declaration.
 unfoldable pub simple_by : Limits → Reader StmtTree
-simple_by limits = do
-  e ← full limits
-  end ← expect m.Semicolon
-  ret (Simple e)
+simple_by limits = if_ahead begins_reference (do
+  called ← name
+  unexpected)
+    (do
+      e ← full limits
+      end ← expect m.Semicolon
+      ret (Simple e))
 
 unfoldable pub empty : Reader StmtTree
 empty = do
@@ -169,12 +188,46 @@ variables_by limits of = do
   others ← of more_variables
   ret (v ∷ others)
 
-unfoldable pub declaration_by : Limits → Rules → Reader StmtTree
-declaration_by limits of = do
-  at ← keyword w.Int
+-- this word, variables and `;`
+unfoldable pub declaration_by : Limits → Rules → Word → TypeTree → Reader StmtTree
+declaration_by limits of word type = do
+  at ← keyword word
   all ← variables_by limits of
   end ← expect m.Semicolon
-  ret (Variables at all)
+  ret (Variables at type all)
+
+-- `*` and a variable
+unfoldable pub reference_by : Limits → Reader VariableTree
+reference_by limits = do
+  star ← expect m.Star
+  variable_by limits
+
+unfoldable pub next_reference_by : Limits → Reader VariableTree
+next_reference_by limits = do
+  comma ← expect m.Comma
+  reference_by limits
+
+unfoldable pub more_references_by : Limits → Rules → Reader (List VariableTree)
+more_references_by limits of = if_mark m.Comma (do
+  v ← next_reference_by limits
+  others ← of more_references
+  ret (v ∷ others))
+    (ret [])
+
+-- one such variable or more
+unfoldable pub references_by : Limits → Rules → Reader (List VariableTree)
+references_by limits of = do
+  v ← reference_by limits
+  others ← of more_references
+  ret (v ∷ others)
+
+-- a class's name, variables with a `*` each, and `;`
+unfoldable pub objects_by : Limits → Rules → Reader StmtTree
+objects_by limits of = do
+  called ← name
+  all ← references_by limits of
+  end ← expect m.Semicolon
+  ret (Variables called.0 (Object called.0 called.1) all)
 
 -- ---- blocks
 
@@ -183,7 +236,8 @@ unfoldable pub perhaps_by : Limits → Rules → ℕ → Reader StmtTree
 perhaps_by limits of d = nested limits.depth d begins_stmt (stmt_by limits of d)
 
 unfoldable pub item_by : Limits → Rules → ℕ → Reader StmtTree
-item_by limits of d = if_word w.Int (declaration_by limits of) (perhaps_by limits of d)
+item_by limits of d = if_word w.Int (declaration_by limits of w.Int Int) (if_word w.Id (declaration_by limits of w.Id Id)
+    (if_ahead begins_reference (objects_by limits of) (perhaps_by limits of d)))
 
 unfoldable pub items_by : Limits → Rules → ℕ → Reader StmtTrees
 items_by limits of d = if_mark m.CloseBrace (ret no_stmts) (do
@@ -344,15 +398,28 @@ selector_by of called = if_mark m.Colon (do
   ret (and_part called others.0, p ∷ others.1))
     (ret (called, []))
 
+-- `+` or `-`, which gives its place
+unfoldable pub sign : Reader (ℕ × trees.Sign)
+sign = if_mark m.Plus (do
+  at ← expect m.Plus
+  ret (at, signs.Class))
+    (do
+      at ← expect m.Minus
+      ret (at, signs.Instance))
+
+-- whether a method begins with this token
+abbrev pub begins_method : Tok → Bool
+begins_method t = is_mark m.Plus t.sort || is_mark m.Minus t.sort
+
 unfoldable pub method_head_by : Rules → Reader HeadTree
 method_head_by of = do
-  at ← expect m.Plus
+  plus ← sign
   start ← expect m.OpenParen
   kind ← result_kind
   end ← expect m.CloseParen
   called ← name
   all ← selector_by of called.1
-  ret (record { at = at; selector = all.0; result = kind; parameters = all.1 })
+  ret (record { at = plus.0; sign = plus.1; selector = all.0; result = kind; parameters = all.1 })
 
 unfoldable pub next_head_by : Rules → Reader HeadTree
 next_head_by of = do
@@ -361,7 +428,7 @@ next_head_by of = do
   ret h
 
 unfoldable pub heads_by : Rules → Reader (List HeadTree)
-heads_by of = if_mark m.Plus (do
+heads_by of = if_first begins_method (do
   h ← next_head_by of
   others ← of heads
   ret (h ∷ others))
@@ -381,10 +448,77 @@ method_by of = do
   ret (record { head = h; body = all })
 
 unfoldable pub methods_by : Rules → Reader (List MethodTree)
-methods_by of = if_mark m.Plus (do
+methods_by of = if_first begins_method (do
   one ← method_by of
   others ← of methods
   ret (one ∷ others))
+    (ret [])
+
+-- ---- fields
+
+-- a field that is visible so
+unfoldable pub field : Visibility → Reader FieldTree
+field v = do
+  called ← name
+  ret (record { at = called.0; name = called.1; visibility = v })
+
+unfoldable pub next_field : Visibility → Reader FieldTree
+next_field v = do
+  comma ← expect m.Comma
+  field v
+
+unfoldable pub more_fields_by : Rules → Visibility → Reader (List FieldTree)
+more_fields_by of v = if_mark m.Comma (do
+  f ← next_field v
+  others ← of (more_fields v)
+  ret (f ∷ others))
+    (ret [])
+
+-- `int`, one field or more and `;`
+unfoldable pub ints_by : Rules → Visibility → Reader (List FieldTree)
+ints_by of v = do
+  int ← keyword w.Int
+  f ← field v
+  others ← of (more_fields v)
+  end ← expect m.Semicolon
+  ret (f ∷ others)
+
+-- what a word behind `@` says of the fields behind it
+abbrev pub visibility_word : AtWord → Option Visibility
+visibility_word words.Private = Some seen.Private
+visibility_word words.Protected = Some seen.Protected
+visibility_word words.Public = Some seen.Public
+visibility_word _ = None
+
+abbrev pub visibility_of : Sort → Option Visibility
+visibility_of (tokens.At word) = visibility_word word
+visibility_of _ = None
+
+abbrev pub visibility : Reader Visibility
+visibility = token (λ t. visibility_of t.sort)
+
+-- a word, or fields that are visible so; how those behind it are visible, and the fields
+unfoldable pub group_by : Rules → Visibility → Reader (Visibility × List FieldTree)
+group_by of v = if_word w.Int (do
+  all ← ints_by of v
+  ret (v, all))
+    (do
+      other ← visibility
+      ret (other, []))
+
+unfoldable pub groups_by : Rules → Visibility → Reader (List FieldTree)
+groups_by of v = if_mark m.CloseBrace (ret []) (do
+  one ← group_by of v
+  others ← of (groups one.0)
+  ret (one.1 ++ others))
+
+-- fields in braces, if there are any
+unfoldable pub fields_by : Rules → Visibility → Reader (List FieldTree)
+fields_by of v = if_mark m.OpenBrace (do
+  start ← expect m.OpenBrace
+  all ← of (groups v)
+  end ← expect m.CloseBrace
+  ret all)
     (ret [])
 
 -- ---- classes
@@ -395,9 +529,10 @@ interface_by of = do
   called ← name
   colon ← expect m.Colon
   super ← name
+  fields ← fields_by of seen.Protected
   all ← of heads
   end ← at_word words.End
-  ret (record { at = called.0; name = called.1; superclass_at = super.0; superclass = super.1; methods = all })
+  ret (record { at = called.0; name = called.1; superclass_at = super.0; superclass = super.1; fields = fields; methods = all })
 
 unfoldable pub title : Reader (ℕ × List ℕ)
 title = do
@@ -407,9 +542,10 @@ title = do
 unfoldable pub implementation_by : Rules → Reader ImplementationTree
 implementation_by of = do
   called ← title
+  fields ← fields_by of seen.Private
   all ← of methods
   end ← at_word words.End
-  ret (record { at = called.0; name = called.1; methods = all })
+  ret (record { at = called.0; name = called.1; fields = fields; methods = all })
 
 -- a comma and a name
 unfoldable pub next_name : Reader (Unit {0})
@@ -469,11 +605,14 @@ abbrev pub body : Limits → Rules → Rules
 body limits of (stmt d) = nested limits.depth d any (stmt_by limits of d)
 body limits of (items d) = items_by limits of d
 body limits of more_variables = more_variables_by limits of
+body limits of more_references = more_references_by limits of
 body limits of more_parameters = more_parameters_by of
+body limits of (more_fields v) = more_fields_by of v
 body limits of more_names = more_names_by of
 body limits of typed_parts = typed_parts_by of
 body limits of heads = heads_by of
 body limits of methods = methods_by of
+body limits of (groups v) = groups_by of v
 body limits of tops = tops_by of
 
 -- the rules, each with all of them

@@ -6,7 +6,8 @@ use Rattle.arc_lex.specs.Tokens.{toks}
 use Rattle.arc_ast.specs.declared.tree.Expr.{Expr}
 use Rattle.arc_ast.specs.declared.tree.Variable.{Variable}
 use Rattle.arc_ast.specs.declared.tree.Parameter.{Parameter}
-use Rattle.arc_ast.specs.Tree.{ExprTrees, VariableTree, ParameterTree, UnitTree, expr_trees, variable_tree, function_tree, interface_tree, implementation_tree}
+use Rattle.arc_ast.specs.declared.tree.Field.{Field}
+use Rattle.arc_ast.specs.Tree.{ExprTrees, VariableTree, ParameterTree, FieldTree, UnitTree, expr_trees, variable_tree, function_tree, interface_tree, implementation_tree}
 use Rattle.arc_parse.specs.declared.fail.Fail.{Fail}
 use Rattle.arc_parse.specs.declared.source.Top.{Top}
 use Rattle.arc_parse.specs.declared.source.Top.TheVariants as top
@@ -50,6 +51,19 @@ parameters_then all read = bind read (λ others. ret (parameters_before all othe
 -- parts of a selector and their parameters in front of those that are read
 abbrev pub parts_then : List ℕ → List Parameter → Read Typed → Read Typed
 parts_then selector all read = bind read (λ others. ret (selector ++ others.0, parameters_before all others.1))
+
+-- a field without where it lies in memory
+abbrev pub field_tree : Field → FieldTree
+field_tree f = record { at = f.at; name = f.name.items; visibility = f.visibility }
+
+-- fields in front of others
+abbrev pub fields_before : List Field → List FieldTree → List FieldTree
+fields_before [] others = others
+fields_before (f ∷ before) others = field_tree f ∷ fields_before before others
+
+-- fields in front of those that are read
+abbrev pub fields_then : List Field → Read (List FieldTree) → Read (List FieldTree)
+fields_then all read = bind read (λ others. ret (fields_before all others))
 
 abbrev pub top_tree : Top → TopTree
 top_tree top.Names = OfNames

@@ -7,13 +7,14 @@ ghost use Rattle.arc_parse.specs.Limits.{these};
 ghost use Rattle.arc_parse.specs.UnitRules as rules;
 
 use crate::fail::Read;
+use crate::field::fields;
 use crate::method::{heads, methods};
 use crate::step::{at_word, expect, name, sees_mark};
-use arc_ast::tree::{Implementation, Interface};
+use arc_ast::tree::{Implementation, Interface, Visibility};
 use arc_lex::token::{AtWord, Mark, Token};
 use std::alloc::Global;
 
-/// `@interface`, the class's name, its superclass's, the methods and `@end`
+/// `@interface`, the class's name, its superclass's, the fields, the methods and `@end`
 #[tactic(auto, unfolding(crate::specs::UnitRules::interface_by))]
 pub fn interface<'a>(alloc: Global, tokens: &'a [Token]) -> Read<'a, Interface>
     ensures gives { Gives (λ x. (interface_tree x.0, toks x.1.now)) result (rules.interface_by (rules.read these) (toks tokens.now)) }
@@ -23,6 +24,7 @@ pub fn interface<'a>(alloc: Global, tokens: &'a [Token]) -> Read<'a, Interface>
     let ((at, called), rest) = name(rest)?;
     let (_, rest) = expect(Mark::Colon, rest)?;
     let ((superclass_at, superclass), rest) = name(rest)?;
+    let (fields, rest) = fields(alloc, Visibility::Protected, rest)?;
     let (methods, rest) = heads(alloc, rest)?;
     let (_, rest) = at_word(AtWord::End, rest)?;
     Ok((
@@ -31,13 +33,14 @@ pub fn interface<'a>(alloc: Global, tokens: &'a [Token]) -> Read<'a, Interface>
             name: Vec::from_slice(alloc, called)?,
             superclass_at,
             superclass: Vec::from_slice(alloc, superclass)?,
+            fields,
             methods,
         },
         rest,
     ))
 }
 
-/// `@implementation`, the class's name, the methods and `@end`
+/// `@implementation`, the class's name, further fields, the methods and `@end`
 #[tactic(auto, unfolding(crate::specs::UnitRules::implementation_by, crate::specs::UnitRules::title))]
 pub fn implementation<'a>(alloc: Global, tokens: &'a [Token]) -> Read<'a, Implementation>
     ensures gives { Gives (λ x. (implementation_tree x.0, toks x.1.now)) result (rules.implementation_by (rules.read these) (toks tokens.now)) }
@@ -45,12 +48,14 @@ pub fn implementation<'a>(alloc: Global, tokens: &'a [Token]) -> Read<'a, Implem
 {
     let (_, rest) = at_word(AtWord::Implementation, tokens)?;
     let ((at, called), rest) = name(rest)?;
+    let (fields, rest) = fields(alloc, Visibility::Private, rest)?;
     let (methods, rest) = methods(alloc, rest)?;
     let (_, rest) = at_word(AtWord::End, rest)?;
     Ok((
         Implementation {
             at,
             name: Vec::from_slice(alloc, called)?,
+            fields,
             methods,
         },
         rest,

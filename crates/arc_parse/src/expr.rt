@@ -1,17 +1,19 @@
 //! Reads expressions.
 ghost use Rattle.std.specs.Prelude.{◌≡◌, ◌<◌, ◌≤◌, [], length, IfOk};
 ghost use Rattle.arc_lex.specs.Tokens.{toks};
-ghost use Rattle.arc_ast.specs.Tree.{expr_tree, expr_trees, begins};
+ghost use Rattle.arc_ast.specs.Tree.{type_tree, expr_tree, expr_trees, begins};
 ghost use Rattle.arc_parse.specs.Reader.{Gives};
 ghost use Rattle.arc_parse.specs.Views.{AppendsArguments, AppendsParts};
 ghost use Rattle.arc_parse.specs.ExprRules as rules;
 ghost use Rattle.arc_parse.specs.ExprRules.{read, is_unary};
 
 use crate::fail::{Fail, Read};
-use crate::receiver::receiver;
-use crate::step::{expect, literal, name, operator, sees_mark, sees_name, sees_operator};
-use arc_ast::tree::Expr;
-use arc_lex::token::{Mark, Token};
+use crate::step::{
+    expect, keyword, literal, name, operator, sees_cast, sees_mark, sees_name, sees_operator,
+    sees_word,
+};
+use arc_ast::tree::{Expr, TypeName};
+use arc_lex::token::{Mark, Token, Word};
 use std::alloc::Global;
 
 /// The place of the first byte.
@@ -23,11 +25,16 @@ fn place_of(expr: &Expr) -> usize
         | Expr::Text(at, _)
         | Expr::Paren(at, _)
         | Expr::Call(at, _, _)
-        | Expr::Negate(at, _)
-        | Expr::Binary(at, _, _, _)
+        | Expr::Nil(at)
+        | Expr::Itself(at)
         | Expr::Name(at, _)
+        | Expr::Negate(at, _)
+        | Expr::Cast(at, _, _)
+        | Expr::Binary(at, _, _, _)
+        | Expr::Arrow(at, _, _, _)
         | Expr::Assign(at, _, _, _)
-        | Expr::Send(at, _, _, _, _) => *at,
+        | Expr::Send(at, _, _, _, _)
+        | Expr::SendSuper(at, _, _, _, _) => *at,
     }
 }
 
@@ -41,9 +48,14 @@ fn is_unary(expr: &Expr) -> bool
         | Expr::Text(_, _)
         | Expr::Paren(_, _)
         | Expr::Call(_, _, _)
-        | Expr::Negate(_, _)
+        | Expr::Nil(_)
+        | Expr::Itself(_)
         | Expr::Name(_, _)
-        | Expr::Send(_, _, _, _, _) => true,
+        | Expr::Negate(_, _)
+        | Expr::Cast(_, _, _)
+        | Expr::Arrow(_, _, _, _)
+        | Expr::Send(_, _, _, _, _)
+        | Expr::SendSuper(_, _, _, _, _) => true,
     }
 }
 
@@ -124,7 +136,7 @@ fn more<'a>(alloc: Global, level: usize, left: Expr, tokens: &'a [Token]) -> Rea
 }
 
 #[cycle(exprs)]
-#[tactic(auto, unfolding(crate::specs::ExprRules::unary_by))]
+#[tactic(auto, unfolding(crate::specs::ExprRules::unary_by, crate::specs::ExprRules::postfix_by))]
 fn unary<'a>(alloc: Global, tokens: &'a [Token]) -> Read<'a, Expr>
     ensures gives { Gives (λ x. (expr_tree x.0, toks x.1.now)) result (rules.unary_by read (toks tokens.now)) }
     ensures shorter { IfOk result (λ x. length x.1.now < length tokens.now) }
@@ -132,7 +144,57 @@ fn unary<'a>(alloc: Global, tokens: &'a [Token]) -> Read<'a, Expr>
     if sees_mark(Mark::Minus, tokens) {
         return negated(alloc, tokens);
     }
-    primary(alloc, tokens)
+    if sees_cast(tokens) {
+        return cast(alloc, tokens);
+    }
+    let (object, rest) = primary(alloc, tokens)?;
+    arrows(alloc, object, rest)
+}
+
+/// A type in parentheses and a unary expression.
+#[cycle(exprs)]
+#[tactic(auto, using(crate::proofs::ExprFix::read_unary), unfolding(crate::specs::ExprRules::cast_by))]
+fn cast<'a>(alloc: Global, tokens: &'a [Token]) -> Read<'a, Expr>
+    ensures gives { Gives (λ x. (expr_tree x.0, toks x.1.now)) result (rules.cast_by read (toks tokens.now)) }
+    ensures shorter { IfOk result (λ x. length x.1.now < length tokens.now) }
+{
+    let (at, rest) = expect(Mark::OpenParen, tokens)?;
+    let (kind, rest) = cast_type(alloc, rest)?;
+    let (_, rest) = expect(Mark::CloseParen, rest)?;
+    let (operand, rest) = unary(alloc, rest)?;
+    Ok((Expr::Cast(at, kind, Box::new(alloc, operand)?), rest))
+}
+
+/// `id`, or a class's name and `*`
+#[tactic(auto, unfolding(crate::specs::ExprRules::cast_type))]
+fn cast_type<'a>(alloc: Global, tokens: &'a [Token]) -> Read<'a, TypeName>
+    ensures gives { Gives (λ x. (type_tree x.0, toks x.1.now)) result (rules.cast_type (toks tokens.now)) }
+    ensures shorter { IfOk result (λ x. length x.1.now < length tokens.now) }
+{
+    if sees_word(Word::Id, tokens) {
+        let (_, rest) = keyword(Word::Id, tokens)?;
+        return Ok((TypeName::Id, rest));
+    }
+    let ((at, called), rest) = name(tokens)?;
+    let (_, rest) = expect(Mark::Star, rest)?;
+    Ok((TypeName::Object(at, Vec::from_slice(alloc, called)?), rest))
+}
+
+/// The fields behind an object, each of them behind `->`.
+#[tactic(auto, using(crate::proofs::ExprFix::read_arrows), unfolding(crate::specs::ExprRules::arrows_by))]
+fn arrows<'a>(alloc: Global, object: Expr, tokens: &'a [Token]) -> Read<'a, Expr>
+    ensures gives { Gives (λ x. (expr_tree x.0, toks x.1.now)) result (read (rules.arrows (expr_tree object)) (toks tokens.now)) }
+    ensures shorter { IfOk result (λ x. length x.1.now ≤ length tokens.now) }
+{
+    if !sees_mark(Mark::Arrow, tokens) {
+        return Ok((object, tokens));
+    }
+    let (_, rest) = expect(Mark::Arrow, tokens)?;
+    let ((name_at, called), rest) = name(rest)?;
+    let at = place_of(&object);
+    let object = Box::new(alloc, object)?;
+    let called = Vec::from_slice(alloc, called)?;
+    arrows(alloc, Expr::Arrow(at, name_at, object, called), rest)
 }
 
 #[cycle(exprs)]
@@ -244,11 +306,39 @@ fn message<'a>(alloc: Global, tokens: &'a [Token]) -> Read<'a, Expr>
     ensures shorter { IfOk result (λ x. length x.1.now < length tokens.now) }
 {
     let (at, rest) = expect(Mark::OpenSquare, tokens)?;
-    let (to, rest) = receiver(alloc, rest)?;
+    if sees_word(Word::Super, rest) {
+        return to_super(alloc, at, rest);
+    }
+    to_object(alloc, at, rest)
+}
+
+/// What is behind the `[` of a message, which is at this place, where `super` comes.
+#[cycle(exprs)]
+#[tactic(auto, unfolding(crate::specs::ExprRules::super_by))]
+fn to_super<'a>(alloc: Global, at: usize, tokens: &'a [Token]) -> Read<'a, Expr>
+    ensures gives { Gives (λ x. (expr_tree x.0, toks x.1.now)) result (rules.super_by read at (toks tokens.now)) }
+    ensures shorter { IfOk result (λ x. length x.1.now < length tokens.now) }
+{
+    let (super_at, rest) = keyword(Word::Super, tokens)?;
     let ((part, called), rest) = name(rest)?;
     let ((selector, all), rest) = sent(alloc, called, rest)?;
     let (_, rest) = expect(Mark::CloseSquare, rest)?;
-    Ok((Expr::Send(at, part, to, selector, all), rest))
+    Ok((Expr::SendSuper(at, part, super_at, selector, all), rest))
+}
+
+/// What is behind the `[` of a message, which is at this place, where an expression comes.
+#[cycle(exprs)]
+#[tactic(auto, using(crate::proofs::ExprFix::read_expr), unfolding(crate::specs::ExprRules::object_by))]
+fn to_object<'a>(alloc: Global, at: usize, tokens: &'a [Token]) -> Read<'a, Expr>
+    ensures gives { Gives (λ x. (expr_tree x.0, toks x.1.now)) result (rules.object_by read at (toks tokens.now)) }
+    ensures shorter { IfOk result (λ x. length x.1.now < length tokens.now) }
+{
+    let (object, rest) = expr(alloc, tokens)?;
+    let object = Box::new(alloc, object)?;
+    let ((part, called), rest) = name(rest)?;
+    let ((selector, all), rest) = sent(alloc, called, rest)?;
+    let (_, rest) = expect(Mark::CloseSquare, rest)?;
+    Ok((Expr::Send(at, part, object, selector, all), rest))
 }
 
 /// The selector that begins with this name, and the arguments.

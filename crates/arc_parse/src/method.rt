@@ -1,4 +1,4 @@
-//! Reads class methods.
+//! Reads methods.
 ghost use Rattle.std.specs.Prelude.{◌<◌, ◌≤◌, length, IfOk};
 ghost use Rattle.arc_lex.specs.Tokens.{toks};
 ghost use Rattle.arc_ast.specs.Tree.{stmt_trees, parameter_trees, head_tree, head_trees, method_tree, method_trees};
@@ -9,8 +9,8 @@ ghost use Rattle.arc_parse.specs.UnitRules as rules;
 
 use crate::fail::Read;
 use crate::function::{braces, result_kind};
-use crate::step::{expect, keyword, name, sees_mark, sees_name};
-use arc_ast::tree::{Method, MethodHead, Parameter};
+use crate::step::{expect, keyword, name, sees_mark, sees_method, sees_name};
+use arc_ast::tree::{Method, MethodHead, Parameter, Sign};
 use arc_lex::token::{Mark, Token, Word};
 use std::alloc::Global;
 
@@ -21,7 +21,7 @@ pub fn heads<'a>(alloc: Global, tokens: &'a [Token]) -> Read<'a, Vec<MethodHead>
 {
     let mut all = Vec::new(alloc);
     let mut rest = tokens;
-    'heads: while sees_mark(Mark::Plus, rest) {
+    'heads: while sees_method(rest) {
         let (head, after) = next_head(alloc, rest)?;
         all.push(head)?;
         rest = after;
@@ -47,7 +47,7 @@ pub fn methods<'a>(alloc: Global, tokens: &'a [Token]) -> Read<'a, Vec<Method>>
 {
     let mut all = Vec::new(alloc);
     let mut rest = tokens;
-    'methods: while sees_mark(Mark::Plus, rest) {
+    'methods: while sees_method(rest) {
         let (method, after) = method(alloc, rest)?;
         all.push(method)?;
         rest = after;
@@ -80,13 +80,27 @@ fn perhaps_semicolon(tokens: &[Token]) -> Read<'_, ()>
     Ok(((), rest))
 }
 
-/// `+`, the kind of the result in parentheses, and the selector with the parameters
+/// `+` or `-`, with its place.
+#[tactic(auto, unfolding(crate::specs::UnitRules::sign))]
+fn sign(tokens: &[Token]) -> Read<'_, (usize, Sign)>
+    ensures gives { Gives (λ x. (x.0, toks x.1.now)) result (rules.sign (toks tokens.now)) }
+    ensures shorter { IfOk result (λ x. length x.1.now < length tokens.now) }
+{
+    if sees_mark(Mark::Plus, tokens) {
+        let (at, rest) = expect(Mark::Plus, tokens)?;
+        return Ok(((at, Sign::Class), rest));
+    }
+    let (at, rest) = expect(Mark::Minus, tokens)?;
+    Ok(((at, Sign::Instance), rest))
+}
+
+/// `+` or `-`, the kind of the result in parentheses, and the selector with the parameters
 #[tactic(auto, unfolding(crate::specs::UnitRules::method_head_by))]
 fn method_head<'a>(alloc: Global, tokens: &'a [Token]) -> Read<'a, MethodHead>
     ensures gives { Gives (λ x. (head_tree x.0, toks x.1.now)) result (rules.method_head_by (rules.read these) (toks tokens.now)) }
     ensures shorter { IfOk result (λ x. length x.1.now < length tokens.now) }
 {
-    let (at, rest) = expect(Mark::Plus, tokens)?;
+    let ((at, sign), rest) = sign(tokens)?;
     let (_, rest) = expect(Mark::OpenParen, rest)?;
     let (result, rest) = result_kind(rest)?;
     let (_, rest) = expect(Mark::CloseParen, rest)?;
@@ -95,6 +109,7 @@ fn method_head<'a>(alloc: Global, tokens: &'a [Token]) -> Read<'a, MethodHead>
     Ok((
         MethodHead {
             at,
+            sign,
             selector,
             result,
             parameters,

@@ -1,14 +1,14 @@
 //! The steps that every rule is made of. These alone look into a token.
-ghost use Rattle.std.specs.Prelude.{◌≡◌, ◌<◌, length, IfOk, bytes_eq};
+ghost use Rattle.std.specs.Prelude.{◌≡◌, ◌<◌, length, drop, IfOk, bytes_eq};
 ghost use Rattle.arc_lex.specs.Tokens.{toks, same_mark, same_word};
 ghost use Rattle.arc_ast.specs.Tree.{expr_tree};
 ghost use Rattle.arc_parse.specs.Reader.{Gives, begins, any, same_at, expect, keyword, at_word, name, sees_mark, sees_word, sees_at, sees_name};
-ghost use Rattle.arc_parse.specs.Grammar.{main_bytes};
-ghost use Rattle.arc_parse.specs.ExprRules.{literal, operator, is_operator, mark_operator};
-ghost use Rattle.arc_parse.specs.UnitRules.{begins_expr, begins_stmt, begins_texts};
+ghost use Rattle.arc_parse.specs.Grammar.{begins_reference, main_bytes};
+ghost use Rattle.arc_parse.specs.ExprRules.{literal, operator, is_operator, mark_operator, begins_type, begins_cast};
+ghost use Rattle.arc_parse.specs.UnitRules.{begins_expr, begins_stmt, begins_method, begins_texts, visibility, visibility_word};
 
 use crate::fail::{Fail, Read};
-use arc_ast::tree::{BinaryOperator, Expr};
+use arc_ast::tree::{BinaryOperator, Expr, Visibility};
 use arc_lex::token::{AtWord, Mark, Token, TokenKind, Word};
 use std::alloc::Global;
 
@@ -90,6 +90,51 @@ pub fn sees_name(tokens: &[Token]) -> bool
             ..
         })
     )
+}
+
+/// Whether the tokens begin with a name and `*`.
+pub fn sees_reference(tokens: &[Token]) -> bool
+    ensures { result ≡ begins_reference (toks tokens.now) }
+{
+    match tokens.split_first() {
+        Some((_, rest)) => sees_name(tokens) && sees_mark(Mark::Star, rest),
+        None => false,
+    }
+}
+
+/// The tokens behind the first two, or none.
+fn behind_two(tokens: &[Token]) -> &[Token]
+    ensures { result.now ≡ drop 2 tokens.now }
+{
+    match tokens {
+        [_, _, rest @ ..] => rest,
+        _ => &[],
+    }
+}
+
+/// Whether the tokens begin with `id`, or with a name, `*` and `)`.
+fn sees_type(tokens: &[Token]) -> bool
+    ensures { result ≡ begins_type (toks tokens.now) }
+{
+    sees_word(Word::Id, tokens)
+        || (sees_reference(tokens) && sees_mark(Mark::CloseParen, behind_two(tokens)))
+}
+
+/// Whether the tokens begin with a type in parentheses, of which the last may be missing behind `id`.
+pub fn sees_cast(tokens: &[Token]) -> bool
+    ensures { result ≡ begins_cast (toks tokens.now) }
+{
+    match tokens.split_first() {
+        Some((_, rest)) => sees_mark(Mark::OpenParen, tokens) && sees_type(rest),
+        None => false,
+    }
+}
+
+/// Whether a method begins with the first token.
+pub fn sees_method(tokens: &[Token]) -> bool
+    ensures { result ≡ begins begins_method (toks tokens.now) }
+{
+    sees_mark(Mark::Plus, tokens) || sees_mark(Mark::Minus, tokens)
 }
 
 /// The place of the first token, which is this mark.
@@ -181,7 +226,41 @@ pub fn sees_texts(called: &[u8], tokens: &[Token]) -> bool
     is_main(called) && (sees_word(Word::Const, tokens) || sees_word(Word::Char, tokens))
 }
 
-/// The first token, which is an integer or a text.
+/// What a word behind `@` says of the fields behind it.
+fn visibility_word(word: AtWord) -> Option<Visibility>
+    ensures { result ≡ visibility_word word }
+{
+    match word {
+        AtWord::Private => Some(Visibility::Private),
+        AtWord::Protected => Some(Visibility::Protected),
+        AtWord::Public => Some(Visibility::Public),
+        _ => None,
+    }
+}
+
+/// How the fields are visible behind the first token, which is a word that says so.
+pub fn visibility(tokens: &[Token]) -> Read<'_, Visibility>
+    ensures gives { Gives (λ x. (x.0, toks x.1.now)) result (visibility (toks tokens.now)) }
+    ensures shorter { IfOk result (λ x. length x.1.now < length tokens.now) }
+{
+    match tokens.split_first() {
+        Some(
+            (
+                Token {
+                    kind: TokenKind::At(found),
+                    ..
+                },
+                rest,
+            ),
+        ) => match visibility_word(*found) {
+            Some(visibility) => Ok((visibility, rest)),
+            None => Err(Fail::Unexpected(tokens)),
+        },
+        _ => Err(Fail::Unexpected(tokens)),
+    }
+}
+
+/// The first token, which is an integer, a text, `nil` or `self`.
 pub fn literal(alloc: Global, tokens: &[Token]) -> Read<'_, Expr>
     ensures gives { Gives (λ x. (expr_tree x.0, toks x.1.now)) result (literal (toks tokens.now)) }
     ensures shorter { IfOk result (λ x. length x.1.now < length tokens.now) }
@@ -205,6 +284,24 @@ pub fn literal(alloc: Global, tokens: &[Token]) -> Read<'_, Expr>
                 rest,
             ),
         ) => { Ok((Expr::Text(span.from, Vec::from_slice(alloc, bytes)?), rest)) }
+        Some(
+            (
+                Token {
+                    kind: TokenKind::Word(Word::Nil),
+                    span,
+                },
+                rest,
+            ),
+        ) => Ok((Expr::Nil(span.from), rest)),
+        Some(
+            (
+                Token {
+                    kind: TokenKind::Word(Word::SelfWord),
+                    span,
+                },
+                rest,
+            ),
+        ) => Ok((Expr::Itself(span.from), rest)),
         _ => Err(Fail::Unexpected(tokens)),
     }
 }
@@ -270,7 +367,10 @@ fn begins_expr(tokens: &[Token]) -> bool
     match tokens.first() {
         Some(
             Token {
-                kind: TokenKind::Name(_) | TokenKind::Integer(_) | TokenKind::Text(_),
+                kind: TokenKind::Name(_)
+                | TokenKind::Integer(_)
+                | TokenKind::Text(_)
+                | TokenKind::Word(Word::Nil | Word::SelfWord),
                 ..
             },
         ) => true,

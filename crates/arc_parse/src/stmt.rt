@@ -8,9 +8,11 @@ ghost use Rattle.arc_parse.specs.UnitRules as rules;
 
 use crate::fail::{Fail, Read};
 use crate::limit::full;
-use crate::step::{begins_stmt, expect, is_more, keyword, sees_mark, sees_word};
-use crate::variable::declaration;
-use arc_ast::tree::{Expr, Stmt};
+use crate::step::{
+    begins_stmt, expect, is_more, keyword, name, sees_mark, sees_reference, sees_word,
+};
+use crate::variable::{declaration, objects};
+use arc_ast::tree::{Expr, Stmt, TypeName};
 use arc_lex::token::{Mark, Token, Word};
 use std::alloc::Global;
 
@@ -41,7 +43,11 @@ fn item<'a>(alloc: Global, depth: usize, tokens: &'a [Token]) -> Read<'a, Stmt>
     ensures shorter { IfOk result (λ x. length x.1.now < length tokens.now) }
 {
     if sees_word(Word::Int, tokens) {
-        declaration(alloc, tokens)
+        declaration(alloc, Word::Int, TypeName::Int, tokens)
+    } else if sees_word(Word::Id, tokens) {
+        declaration(alloc, Word::Id, TypeName::Id, tokens)
+    } else if sees_reference(tokens) {
+        objects(alloc, tokens)
     } else {
         perhaps(alloc, depth, tokens)
     }
@@ -184,12 +190,16 @@ fn empty(tokens: &[Token]) -> Read<'_, Stmt>
     Ok((Stmt::Empty(at), rest))
 }
 
-/// An expression and `;`
+/// An expression and `;`. What begins with a name and `*` is refused at the `*`: it would be a declaration.
 #[tactic(auto, unfolding(crate::specs::UnitRules::simple_by))]
 fn simple<'a>(alloc: Global, tokens: &'a [Token]) -> Read<'a, Stmt>
     ensures gives { Gives (λ x. (stmt_tree x.0, toks x.1.now)) result (rules.simple_by these (toks tokens.now)) }
     ensures shorter { IfOk result (λ x. length x.1.now < length tokens.now) }
 {
+    if sees_reference(tokens) {
+        let (_, rest) = name(tokens)?;
+        return Err(Fail::Unexpected(rest));
+    }
     let (value, rest) = full(alloc, tokens)?;
     let (_, rest) = expect(Mark::Semicolon, rest)?;
     Ok((Stmt::Expr(value), rest))

@@ -1,7 +1,7 @@
 //! Reads declarations of variables.
 ghost use Rattle.std.specs.Prelude.{◌≡◌, ◌<◌, ◌≤◌, length, IfOk, option_map};
 ghost use Rattle.arc_lex.specs.Tokens.{toks};
-ghost use Rattle.arc_ast.specs.Tree.{expr_tree, variable_tree, variable_trees, stmt_tree};
+ghost use Rattle.arc_ast.specs.Tree.{type_tree, expr_tree, variable_tree, variable_trees, stmt_tree};
 ghost use Rattle.arc_parse.specs.Reader.{Gives};
 ghost use Rattle.arc_parse.specs.Views.{variables_then};
 ghost use Rattle.arc_parse.specs.Limits.{these};
@@ -10,20 +10,89 @@ ghost use Rattle.arc_parse.specs.UnitRules as rules;
 use crate::fail::Read;
 use crate::limit::full;
 use crate::step::{expect, keyword, name, sees_mark};
-use arc_ast::tree::{Expr, Stmt, Variable};
+use arc_ast::tree::{Expr, Stmt, TypeName, Variable};
 use arc_lex::token::{Mark, Token, Word};
 use std::alloc::Global;
 
-/// `int`, variables and `;`
+/// This word, variables of this type and `;`
 #[tactic(auto, unfolding(crate::specs::UnitRules::declaration_by))]
-pub fn declaration<'a>(alloc: Global, tokens: &'a [Token]) -> Read<'a, Stmt>
-    ensures gives { Gives (λ x. (stmt_tree x.0, toks x.1.now)) result (rules.declaration_by these (rules.read these) (toks tokens.now)) }
+pub fn declaration<'a>(
+    alloc: Global,
+    word: Word,
+    kind: TypeName,
+    tokens: &'a [Token],
+) -> Read<'a, Stmt>
+    ensures gives { Gives (λ x. (stmt_tree x.0, toks x.1.now)) result (rules.declaration_by these (rules.read these) word (type_tree kind) (toks tokens.now)) }
     ensures shorter { IfOk result (λ x. length x.1.now < length tokens.now) }
 {
-    let (at, rest) = keyword(Word::Int, tokens)?;
+    let (at, rest) = keyword(word, tokens)?;
     let (all, rest) = variables(alloc, rest)?;
     let (_, rest) = expect(Mark::Semicolon, rest)?;
-    Ok((Stmt::Variables(at, all), rest))
+    Ok((Stmt::Variables(at, kind, all), rest))
+}
+
+/// A class's name, variables with a `*` each, and `;`
+#[tactic(auto, unfolding(crate::specs::UnitRules::objects_by))]
+pub fn objects<'a>(alloc: Global, tokens: &'a [Token]) -> Read<'a, Stmt>
+    ensures gives { Gives (λ x. (stmt_tree x.0, toks x.1.now)) result (rules.objects_by these (rules.read these) (toks tokens.now)) }
+    ensures shorter { IfOk result (λ x. length x.1.now < length tokens.now) }
+{
+    let ((at, called), rest) = name(tokens)?;
+    let kind = TypeName::Object(at, Vec::from_slice(alloc, called)?);
+    let (all, rest) = references(alloc, rest)?;
+    let (_, rest) = expect(Mark::Semicolon, rest)?;
+    Ok((Stmt::Variables(at, kind, all), rest))
+}
+
+/// One variable or more, with a `*` each.
+#[tactic(auto, unfolding(crate::specs::UnitRules::references_by))]
+fn references<'a>(alloc: Global, tokens: &'a [Token]) -> Read<'a, Vec<Variable>>
+    ensures gives { Gives (λ x. (variable_trees x.0.items, toks x.1.now)) result (rules.references_by these (rules.read these) (toks tokens.now)) }
+    ensures shorter { IfOk result (λ x. length x.1.now < length tokens.now) }
+{
+    let (first, rest) = reference(alloc, tokens)?;
+    let mut all = Vec::new(alloc);
+    all.push(first)?;
+    more_references(alloc, all, rest)
+}
+
+/// These variables and the further ones, each of which is behind a comma and `*`.
+fn more_references<'a>(
+    alloc: Global,
+    before: Vec<Variable>,
+    tokens: &'a [Token],
+) -> Read<'a, Vec<Variable>>
+    ensures gives { Gives (λ x. (variable_trees x.0.items, toks x.1.now)) result (variables_then before.items (rules.read these rules.more_references (toks tokens.now))) }
+    ensures shorter { IfOk result (λ x. length x.1.now ≤ length tokens.now) }
+{
+    let mut all = before;
+    let mut rest = tokens;
+    'references: while sees_mark(Mark::Comma, rest) {
+        let (variable, after) = next_reference(alloc, rest)?;
+        all.push(variable)?;
+        rest = after;
+    }
+    Ok((all, rest))
+}
+
+/// A comma, `*` and a variable.
+#[tactic(auto, unfolding(crate::specs::UnitRules::next_reference_by))]
+fn next_reference<'a>(alloc: Global, tokens: &'a [Token]) -> Read<'a, Variable>
+    ensures gives { Gives (λ x. (variable_tree x.0, toks x.1.now)) result (rules.next_reference_by these (toks tokens.now)) }
+    ensures shorter { IfOk result (λ x. length x.1.now < length tokens.now) }
+{
+    let (_, rest) = expect(Mark::Comma, tokens)?;
+    reference(alloc, rest)
+}
+
+/// `*` and a variable
+#[tactic(auto, unfolding(crate::specs::UnitRules::reference_by))]
+fn reference<'a>(alloc: Global, tokens: &'a [Token]) -> Read<'a, Variable>
+    ensures gives { Gives (λ x. (variable_tree x.0, toks x.1.now)) result (rules.reference_by these (toks tokens.now)) }
+    ensures shorter { IfOk result (λ x. length x.1.now < length tokens.now) }
+{
+    let (_, rest) = expect(Mark::Star, tokens)?;
+    variable(alloc, rest)
 }
 
 /// One variable or more.

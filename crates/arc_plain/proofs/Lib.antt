@@ -2,3 +2,6 @@ pub mod Turns
 pub mod Weights
 pub mod Locals
 pub mod Whole
+pub mod Keeping
+pub mod Calls
+pub mod Objects

@@ -4,9 +4,10 @@ use Rattle.std.proofs.lemmas.List.{drop_more}
 use native.Mathlib.Omega.{arith}
 use mathlib.Core.Former.{Count}
 use Rattle.arc_check.specs.declared.checked.Piece.{Piece}
-use Rattle.arc_check.specs.declared.checked.Value.{Value, Print, Print', Invoked, Invoked', Sent, Sent', SentSuper, SentSuper', Row_of-Value, end_of-Value, more_of-Value, items-the_row-Value, items_hidden-the_row-Value-0}
+use Rattle.arc_check.specs.declared.checked.Reference.{Reference}
+use Rattle.arc_check.specs.declared.checked.Value.{Value, Print, Print', Invoked, Invoked', Sent, Sent', SentSuper, SentSuper', SentTo, SentTo', SentToSuper, SentToSuper', Row_of-Value, end_of-Value, more_of-Value, items-the_row-Value, items_hidden-the_row-Value-0}
 use Rattle.arc_check.specs.declared.checked.Command.{Command, Sequence, Sequence', Row_of-Command, end_of-Command, more_of-Command, items-the_row-Command, items_hidden-the_row-Command-0}
-use Rattle.arc_check.specs.Checked.{functions, pieces, value, values, row_values, command, commands, row_commands}
+use Rattle.arc_check.specs.Checked.{functions, pieces, value, values, reference, row_values, command, commands, row_commands}
 use Rattle.arc_spec.specs.Resolved as resolved
 use Rattle.arc_spec.specs.Classes.{Class}
 use Rattle.arc_spec.specs.World.{World, Outcome, Done, Faulted, Cut, then_do}
@@ -15,7 +16,7 @@ use Rattle.arc_check.specs.declared.checked.CheckedFunction.{CheckedFunction}
 use Rattle.arc_plain.specs.declared.halt.Halt.{Halt}
 use Rattle.arc_plain.specs.declared.halt.Halt.TheVariants.{Stopped, Cut, Memory}
 use Rattle.arc_spec.specs.Meaning as meaning
-use Rattle.arc_spec.specs.Meaning.{Deeper, Normal, level, called, turns, chosen, if_normal, function_at, evaluated, all_evaluated, executed, all_executed}
+use Rattle.arc_spec.specs.Meaning.{Deeper, Normal, level, called, turns, chosen, if_normal, function_at, ended, evaluated, all_evaluated, executed, all_executed}
 use Rattle.arc_plain.specs.declared.run.Flow.{Flow}
 use Rattle.arc_plain.specs.Views.{Tells, printed, flow_of, function_of}
 
@@ -38,6 +39,8 @@ row_of_value (Print' all shape row) = (_, row)
 row_of_value (Invoked' f shape row) = (_, row)
 row_of_value (Sent' q a selector shape row) = (_, row)
 row_of_value (SentSuper' from selector shape row) = (_, row)
+row_of_value (SentTo' q a selector shape row) = (_, row)
+row_of_value (SentToSuper' from selector shape row) = (_, row)
 row_of_value _ = (_, end_of-Value)
 
 row_values_is : (n : _) (row : Row_of-Value n) → row_values row ≡ values (items-the_row-Value n row)
@@ -50,17 +53,20 @@ value_print all arguments =
     ap (resolved.Print (pieces all.items)) (row_values_is row.0 row.1 ∙ ap values (items_hidden-the_row-Value-0 arguments))
 
 abbrev row_of_command : Command → (n : Count) × Row_of-Command n
-row_of_command (Sequence' shape row) = (_, row)
+row_of_command (Sequence' first count shape row) = (_, row)
 row_of_command _ = (_, end_of-Command)
 
 row_commands_is : (n : _) (row : Row_of-Command n) → row_commands row ≡ commands (items-the_row-Command n row)
 row_commands_is n end_of-Command = refl
 row_commands_is n (more_of-Command a row) = ap (resolved.and_command (command a)) (row_commands_is _ row)
 
-pub command_sequence : (all : Vec Command Global) → command (Sequence all) ≡ resolved.Sequence (commands all.items)
-command_sequence all =
-    let row = row_of_command (Sequence all) in
-    ap resolved.Sequence (row_commands_is row.0 row.1 ∙ ap commands (items_hidden-the_row-Command-0 all))
+-- a block, of which the statements are known
+pub command_sequence : (c : Command) (first count : ℕ) (all : Vec Command Global) (these : List Command)
+    → c ≡ Sequence first count all → these ≡ all.items → command c ≡ resolved.Sequence first count (commands these)
+command_sequence c first count all these is same =
+    let row = row_of_command (Sequence first count all) in
+    ap command is ∙ ap (resolved.Sequence first count) (row_commands_is row.0 row.1 ∙ ap commands (items_hidden-the_row-Command-0 all))
+    ∙ ap (λ l. resolved.Sequence first count (commands l)) (sym same)
 
 pub value_invoked : (f : ℕ) (arguments : Vec Value Global) → value (Invoked f arguments) ≡ resolved.Invoked f (values arguments.items)
 value_invoked f arguments =
@@ -82,6 +88,21 @@ value_sent_super v from selector arguments these is same =
     let row = row_of_value (SentSuper from selector arguments) in
     ap value is ∙ ap (resolved.SentSuper from selector) (row_values_is row.0 row.1 ∙ ap values (items_hidden-the_row-Value-0 arguments))
     ∙ ap (λ l. resolved.SentSuper from selector (values l)) (sym same)
+
+pub value_sent_to : (v : Value) (a : Box Reference Global) (selector : ℕ) (arguments : Vec Value Global) (receiver : Reference) (these : List Value)
+    → v ≡ SentTo a selector arguments → receiver ≡ a.value → these ≡ arguments.items → value v ≡ resolved.SentTo (reference receiver) selector (values these)
+value_sent_to v a selector arguments receiver these is same_receiver same =
+    let row = row_of_value (SentTo a selector arguments) in
+    ap value is ∙ ap (resolved.SentTo (reference a.value) selector) (row_values_is row.0 row.1 ∙ ap values (items_hidden-the_row-Value-0 arguments))
+    ∙ ap (λ l. resolved.SentTo (reference a.value) selector (values l)) (sym same)
+    ∙ ap (λ x. resolved.SentTo (reference x) selector (values these)) (sym same_receiver)
+
+pub value_sent_to_super : (v : Value) (from selector : ℕ) (arguments : Vec Value Global) (these : List Value)
+    → v ≡ SentToSuper from selector arguments → these ≡ arguments.items → value v ≡ resolved.SentToSuper from selector (values these)
+value_sent_to_super v from selector arguments these is same =
+    let row = row_of_value (SentToSuper from selector arguments) in
+    ap value is ∙ ap (resolved.SentToSuper from selector) (row_values_is row.0 row.1 ∙ ap values (items_hidden-the_row-Value-0 arguments))
+    ∙ ap (λ l. resolved.SentToSuper from selector (values l)) (sym same)
 
 -- what is told of the expression that a value stands for
 pub value_told : (D : Deeper) (v : Value) (meant : resolved.Value) (r : Result ℤ Halt) (w after : World)
@@ -115,29 +136,26 @@ pub call_failed : (D : Deeper) (v : Value) (f : ℕ) (arguments : Vec Value Glob
     → v ≡ Invoked f arguments → these ≡ arguments.items → r ≡ Err e
     → Tells (λ (numbers : Vec ℤ Global). numbers.items) (Err e) (all_evaluated D (values these) w) after → Tells (λ n. n) r (evaluated D (value v) w) after
 call_failed D v f arguments these e r w after is same failed h =
-    let meant : evaluated D (value v) w ≡ then_do (all_evaluated D (values these) w) (λ numbers w1. D.call f numbers w1) =
-    ap (λ x. evaluated D (value x) w) is ∙ ap (λ x. evaluated D x w) (value_invoked f arguments) ∙ ap (λ l. then_do (all_evaluated D (values l) w) (λ numbers w1. D.call f numbers w1)) (sym same) in
+    let meant : evaluated D (value v) w ≡ then_do (all_evaluated D (values these) w) (λ numbers w1. D.call f 0 numbers w1) =
+    ap (λ x. evaluated D (value x) w) is ∙ ap (λ x. evaluated D x w) (value_invoked f arguments) ∙ ap (λ l. then_do (all_evaluated D (values l) w) (λ numbers w1. D.call f 0 numbers w1)) (sym same) in
     subst (λ x. Tells (λ n. n) x (evaluated D (value v) w) after) (sym failed)
-    (tells_through e (λ (numbers : Vec ℤ Global). numbers.items) (λ n. n) after (λ numbers w1. D.call f numbers w1) (all_evaluated D (values these) w) (evaluated D (value v) w) meant h)
+    (tells_through e (λ (numbers : Vec ℤ Global). numbers.items) (λ n. n) after (λ numbers w1. D.call f 0 numbers w1) (all_evaluated D (values these) w) (evaluated D (value v) w) meant h)
 
 pub call_done : (D : Deeper) (v : Value) (f : ℕ) (arguments : Vec Value Global) (these : List Value) (numbers found : List ℤ) (r : Result ℤ Halt) (w between after : World)
     → v ≡ Invoked f arguments → these ≡ arguments.items → found ≡ numbers
-    → all_evaluated D (values these) w ≡ Done numbers between → Tells (λ n. n) r (D.call f found between) after → Tells (λ n. n) r (evaluated D (value v) w) after
+    → all_evaluated D (values these) w ≡ Done numbers between → Tells (λ n. n) r (D.call f 0 found between) after → Tells (λ n. n) r (evaluated D (value v) w) after
 call_done D v f arguments these numbers found r w between after is same same_numbers done h =
-    let meant : evaluated D (value v) w ≡ D.call f found between =
+    let meant : evaluated D (value v) w ≡ D.call f 0 found between =
     ap (λ x. evaluated D (value x) w) is ∙ ap (λ x. evaluated D x w) (value_invoked f arguments)
-    ∙ ap (λ l. then_do (all_evaluated D (values l) w) (λ l1 w1. D.call f l1 w1)) (sym same)
-    ∙ ap (λ o. then_do o (λ l1 w1. D.call f l1 w1)) done
-    ∙ ap (λ l. D.call f l between) (sym same_numbers) in
+    ∙ ap (λ l. then_do (all_evaluated D (values l) w) (λ l1 w1. D.call f 0 l1 w1)) (sym same)
+    ∙ ap (λ o. then_do o (λ l1 w1. D.call f 0 l1 w1)) done
+    ∙ ap (λ l. D.call f 0 l between) (sym same_numbers) in
     subst (λ o. Tells (λ n. n) r o after) (sym meant) h
 
--- the statements of a block
-pub sequence_told : (D : Deeper) (bound : ℕ) (c : Command) (all : Vec Command Global) (these : List Command) (r : Result Flow Halt) (w after : World)
-    → c ≡ Sequence all → these ≡ all.items → Tells flow_of r (all_executed D bound (commands these) w) after → Tells flow_of r (executed D bound (command c) w) after
-sequence_told D bound c all these r w after is same h =
-    let meant : executed D bound (command c) w ≡ all_executed D bound (commands these) w =
-    ap (λ x. executed D bound (command x) w) is ∙ ap (λ x. executed D bound x w) (command_sequence all) ∙ ap (λ l. all_executed D bound (commands l) w) (sym same) in
-    subst (λ o. Tells flow_of r o after) (sym meant) h
+-- what is told of the statement that a command stands for
+pub command_told : (D : Deeper) (bound : ℕ) (c : Command) (meant : resolved.Command) (r : Result Flow Halt) (w after : World)
+    → command c ≡ meant → Tells flow_of r (executed D bound meant w) after → Tells flow_of r (executed D bound (command c) w) after
+command_told D bound c meant r w after is h = subst (λ x. Tells flow_of r (executed D bound x w) after) (sym is) h
 
 front_one : (found : List ℤ) (n : ℤ) (o : Outcome (List ℤ)) → front found (then_do o (λ xs w. Done (n ∷ xs) w)) ≡ front (found ++ n ∷ []) o
 front_one found n (Done xs w) = ap (λ l. Done l w) (sym (append_assoc found (n ∷ []) xs))
@@ -181,10 +199,18 @@ turn_failed bound i test body whole n e r w between after below old tested holds
     subst (λ x. Tells flow_of x whole after) (sym failed)
     (tells_through e flow_of flow_of after (λ flow w2. if_normal flow (turns left test body) w2) (body between) whole meant h)
 
--- a call, one level deeper
-pub call_is : (P : resolved.Program) (bound levels n f : ℕ) (arguments : List ℤ) (w : World) → levels ≡ suc n
-    → (level P bound levels).call f arguments w ≡ called (level P bound n) bound (function_at P f) arguments w
-call_is P bound levels n f arguments w is = ap (λ m. (level P bound m).call f arguments w) is
+-- a call and an end, one level deeper
+pub call_is : (P : resolved.Program) (bound levels n f self : ℕ) (arguments : List ℤ) (w : World) → levels ≡ suc n
+    → (level P bound levels).call f self arguments w ≡ called (level P bound n) bound (function_at P f) self arguments w
+call_is P bound levels n f self arguments w is = ap (λ m. (level P bound m).call f self arguments w) is
+
+pub end_is : (P : resolved.Program) (bound levels n o : ℕ) (w : World) → levels ≡ suc n → (level P bound levels).end_of o w ≡ ended P (level P bound n) bound o w
+end_is P bound levels n o w is = ap (λ m. (level P bound m).end_of o w) is
+
+-- the classes are the same at each level
+pub level_classes : (P : resolved.Program) (bound levels : ℕ) → (level P bound levels).classes ≡ P.classes
+level_classes P bound zero = refl
+level_classes P bound (suc n) = refl
 
 pub function_found : (cs : List CheckedFunction) (classes : List Class) (main f : ℕ) (g : CheckedFunction) → f < length cs → g ≡ get_or cs f g
     → function_at (record { functions = functions cs; main = main; classes = classes }) f ≡ function_of g
@@ -193,7 +219,7 @@ function_found (c ∷ cs) classes main zero g below is = ap function_of (sym is)
 function_found (c ∷ cs) classes main (suc f) g below is = function_found cs classes main f g (omega (arith, below)) is
 
 pub function_missing : (cs : List CheckedFunction) (classes : List Class) (main f : ℕ) → length cs ≤ f
-    → function_at (record { functions = functions cs; main = main; classes = classes }) f ≡ record { slots = 0; body = resolved.no_commands }
+    → function_at (record { functions = functions cs; main = main; classes = classes }) f ≡ record { slots = 0; names = 0; body = resolved.no_commands }
 function_missing [] classes main f past = refl
 function_missing (c ∷ cs) classes main zero past = nothing_below past
 function_missing (c ∷ cs) classes main (suc f) past = function_missing cs classes main f (omega (arith, past))

@@ -1,14 +1,15 @@
 -- How much of a program is left to go through: the interpreter ends, since that falls with each call.
 use Rattle.std.proofs.Common.{arith, ◌≡◌, ℕ, zero, suc, ◌+◌, ◌<◌, ◌≤◌, List, [], ◌∷◌, Some, None, Vec, Box, Global, length, get_or, sym, ap, subst, ◌∙◌}
 use Rattle.arc_check.specs.declared.checked.Value as c
+use Rattle.arc_check.specs.declared.checked.Reference as r
 use Rattle.arc_check.specs.declared.checked.Command as d
 use Rattle.arc_check.specs.declared.checked.Piece.{Piece}
 use Rattle.arc_check.specs.declared.checked.CheckedFunction.{CheckedFunction}
 use Rattle.arc_check.specs.declared.checked.Checked.{Checked}
-use Rattle.arc_spec.specs.Resolved.{Value, Number, ReadByte, Print, Negated, Combined, Converted, Local, Assigned, Invoked, Sent, SentSuper, Values, no_values, and_value, Command, Sequence, Evaluate, Return, Choose, Repeat, Commands, no_commands, and_command, Function}
-use Rattle.arc_check.specs.Checked.{program_of, functions, value, values, command, commands}
-use Rattle.arc_plain.proofs.Turns.{value_print, value_invoked, value_sent, value_sent_super, command_sequence, nothing_below}
-use Rattle.arc_plain.specs.declared.frame.Frame.{Frame}
+use Rattle.arc_spec.specs.Resolved.{Value, Number, ReadByte, Print, Negated, Combined, Converted, Local, Assigned, Invoked, Sent, SentSuper, SentTo, SentToSuper, Field, FieldAssigned, Differ, IsObject, Reference, Nil, Itself, Variable, Stored, Made, Initialized, Values, no_values, and_value, Command, Sequence, Evaluate, EvaluateReference, Begin, Return, Choose, Repeat, Commands, no_commands, and_command, Function}
+use Rattle.arc_check.specs.Checked.{program_of, functions, value, values, reference, command, commands}
+use Rattle.arc_plain.proofs.Turns.{value_print, value_invoked, value_sent, value_sent_super, value_sent_to, value_sent_to_super, command_sequence, nothing_below}
+use Rattle.arc_plain.specs.declared.context.Context.{Context}
 
 abbrev mutual
   pub value_weight : Value → ℕ
@@ -23,6 +24,20 @@ abbrev mutual
   value_weight (Invoked f arguments) = suc (values_weight arguments)
   value_weight (Sent a selector arguments) = 3 + value_weight a + values_weight arguments
   value_weight (SentSuper from selector arguments) = 3 + values_weight arguments
+  value_weight (SentTo a selector arguments) = 3 + reference_weight a + values_weight arguments
+  value_weight (SentToSuper from selector arguments) = 3 + values_weight arguments
+  value_weight (Field a class index) = suc (reference_weight a)
+  value_weight (FieldAssigned a class index b) = suc (reference_weight a + value_weight b)
+  value_weight (Differ a b) = suc (reference_weight a + reference_weight b)
+  value_weight (IsObject a) = suc (reference_weight a)
+
+  pub reference_weight : Reference → ℕ
+  reference_weight Nil = 1
+  reference_weight Itself = 1
+  reference_weight (Variable i) = 1
+  reference_weight (Stored i a) = 2 + reference_weight a
+  reference_weight (Made a) = suc (value_weight a)
+  reference_weight (Initialized a) = suc (reference_weight a)
 
   pub values_weight : Values → ℕ
   values_weight no_values = 0
@@ -30,12 +45,14 @@ abbrev mutual
 
 abbrev mutual
   pub command_weight : Command → ℕ
-  command_weight (Sequence all) = suc (commands_weight all)
-  command_weight (Evaluate a) = suc (value_weight a)
+  command_weight (Sequence first count all) = 4 + commands_weight all
+  command_weight (Evaluate a) = 4 + value_weight a
+  command_weight (EvaluateReference a) = 3 + reference_weight a
+  command_weight (Begin i a) = 3 + reference_weight a
   command_weight (Return None) = 1
-  command_weight (Return (Some a)) = suc (value_weight a)
-  command_weight (Choose test a b) = suc (value_weight test + command_weight a + command_weight b)
-  command_weight (Repeat test a) = suc (suc (value_weight test + command_weight a))
+  command_weight (Return (Some a)) = 4 + value_weight a
+  command_weight (Choose test a b) = 4 + value_weight test + command_weight a + command_weight b
+  command_weight (Repeat test a) = 5 + value_weight test + command_weight a
 
   pub commands_weight : Commands → ℕ
   commands_weight no_commands = 0
@@ -50,9 +67,13 @@ abbrev pub levels_weight : ℕ → (one : ℕ) → ℕ
 levels_weight zero one = 0
 levels_weight (suc n) one = one + levels_weight n one
 
--- what the calls that may still begin weigh
-abbrev pub calls_weight : Frame → ℕ
-calls_weight frame = levels_weight frame.levels (suc (suc (functions_weight (program_of frame.program.now).functions)))
+-- what the functions of a program weigh
+abbrev pub program_weight : Context → ℕ
+program_weight context = functions_weight (program_of context.program.now).functions
+
+-- what the calls and ends that may still begin weigh
+abbrev pub levels_left : Context → ℕ
+levels_left context = levels_weight context.levels (6 + program_weight context)
 
 pub value_in : (vs : List c.Value) (i : ℕ) (v : c.Value) → i < length vs → v ≡ get_or vs i v → value_weight (value v) < values_weight (values vs)
 value_in [] i v below is = nothing_below below
@@ -86,24 +107,38 @@ pub super_lighter : (v : c.Value) (from selector : ℕ) (arguments : Vec c.Value
 super_lighter v from selector arguments these is same =
     omega (arith, ap value_weight (value_sent_super v from selector arguments these is same))
 
-pub sequence_lighter : (v : d.Command) (all : Vec d.Command Global) (these : List d.Command) → v ≡ d.Sequence all → these ≡ all.items
-    → commands_weight (commands these) < command_weight (command v)
-sequence_lighter v all these is same =
-    let whole : command_weight (command v) ≡ suc (commands_weight (commands these)) = ap (λ x. command_weight (command x)) is ∙ ap command_weight (command_sequence all) ∙ ap (λ l. suc (commands_weight (commands l))) (sym same) in
-    omega (arith, whole)
+pub sent_to_lighter : (v : c.Value) (a : Box r.Reference Global) (selector : ℕ) (arguments : Vec c.Value Global) (receiver : r.Reference) (these : List c.Value)
+    → v ≡ c.SentTo a selector arguments → receiver ≡ a.value → these ≡ arguments.items → 2 + reference_weight (reference receiver) + values_weight (values these) < value_weight (value v)
+sent_to_lighter v a selector arguments receiver these is same_receiver same =
+    omega (arith, ap value_weight (value_sent_to v a selector arguments receiver these is same_receiver same))
+
+pub to_super_lighter : (v : c.Value) (from selector : ℕ) (arguments : Vec c.Value Global) (these : List c.Value)
+    → v ≡ c.SentToSuper from selector arguments → these ≡ arguments.items → 2 + values_weight (values these) < value_weight (value v)
+to_super_lighter v from selector arguments these is same =
+    omega (arith, ap value_weight (value_sent_to_super v from selector arguments these is same))
+
+pub sequence_lighter : (v : d.Command) (first count : ℕ) (all : Vec d.Command Global) (these : List d.Command) → v ≡ d.Sequence first count all → these ≡ all.items
+    → 3 + commands_weight (commands these) < command_weight (command v)
+sequence_lighter v first count all these is same =
+    omega (arith, ap command_weight (command_sequence v first count all these is same))
 
 function_in : (fs : List CheckedFunction) (i : ℕ) (f : CheckedFunction) → i < length fs → f ≡ get_or fs i f → commands_weight (commands f.body.items) ≤ functions_weight (functions fs)
 function_in [] i f below is = nothing_below below
 function_in (g ∷ fs) zero f below is = subst (λ (x : CheckedFunction). commands_weight (commands x.body.items) ≤ commands_weight (commands g.body.items) + functions_weight (functions fs)) (sym is) (omega arith)
 function_in (g ∷ fs) (suc i) f below is = let deep = function_in fs i f (omega (arith, below)) is in omega (arith, deep)
 
--- entering a function is less than a level
-pub enter_lighter : (frame inner : Frame) (all : List CheckedFunction) (i : ℕ) (f : CheckedFunction) → all ≡ frame.program.now.functions.items → i < length all → f ≡ get_or all i f → frame.levels ≡ suc inner.levels → inner.program.now ≡ frame.program.now
-    → calls_weight inner + suc (commands_weight (commands f.body.items)) < calls_weight frame
-enter_lighter frame inner these i f is_all below is deeper same =
-    let all = functions_weight (program_of frame.program.now).functions in
-    let least : commands_weight (commands f.body.items) ≤ functions_weight (functions these) = function_in these i f below is in
-    let most : functions_weight (functions these) ≡ all = ap (λ l. functions_weight (functions l)) is_all in
-    let whole : calls_weight frame ≡ suc (suc all) + levels_weight inner.levels (suc (suc all)) = ap (λ n. levels_weight n (suc (suc all))) deeper in
-    let part : calls_weight inner ≡ levels_weight inner.levels (suc (suc all)) = ap (λ (p : Checked). levels_weight inner.levels (suc (suc (functions_weight (program_of p).functions)))) same in
-    omega (arith, least, most, whole, part)
+-- the body of a function is no heavier than all of them
+pub body_lighter : (context : Context) (all : List CheckedFunction) (i : ℕ) (f : CheckedFunction) → all ≡ context.program.now.functions.items → i < length all → f ≡ get_or all i f
+    → commands_weight (commands f.body.items) ≤ program_weight context
+body_lighter context these i f is_all below is =
+    let most : functions_weight (functions these) ≡ program_weight context = ap (λ l. functions_weight (functions l)) is_all in
+    omega (arith, function_in these i f below is, most)
+
+-- a level
+pub level_lighter : (context inner : Context) → context.levels ≡ suc inner.levels → inner.program.now ≡ context.program.now
+    → levels_left inner + (6 + program_weight inner) ≡ levels_left context
+level_lighter context inner deeper same =
+    let whole : levels_left context ≡ (6 + program_weight context) + levels_weight inner.levels (6 + program_weight context) = ap (λ n. levels_weight n (6 + program_weight context)) deeper in
+    let weight : program_weight inner ≡ program_weight context = ap (λ (p : Checked). functions_weight (program_of p).functions) same in
+    let part : levels_left inner ≡ levels_weight inner.levels (6 + program_weight context) = ap (λ n. levels_weight inner.levels (6 + n)) weight in
+    omega (arith, whole, weight, part)

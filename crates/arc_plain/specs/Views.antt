@@ -1,15 +1,21 @@
 -- What the interpreter's values stand for. The interpreter is this project's own.
-use Rattle.std.specs.Prelude.{Option, None, ◌≡◌, ℕ, ℤ, List, ◌∷◌, ◌++◌, map, Some, Result, Ok, Err}
-use Rattle.arc_spec.specs.declared.event.Event.TheVariants.{Byte}
+use Rattle.std.specs.Prelude.{Option, None, ◌≡◌, ℕ, ℤ, List, ◌∷◌, ◌++◌, map, reverse, Some, Result, Ok, Err}
 use Rattle.arc_spec.specs.Resolved.{Piece, Function}
-use Rattle.arc_spec.specs.World.{World, Outcome, Done, Faulted, Cut, then_do, prints}
+use Rattle.arc_spec.specs.Objects as objects
+use Rattle.arc_spec.specs.Objects.{object_at, with_object}
+use Rattle.arc_spec.specs.World as worlds
+use Rattle.arc_spec.specs.World.{World, Outcome, Done, Faulted, Cut, then_do, Finished, finished, prints}
 use Rattle.arc_ast.specs.declared.tree.Kind.TheVariants as k
 use Rattle.arc_spec.specs.Number.{converted}
 use Rattle.arc_spec.specs.Meaning as meaning
 use Rattle.arc_spec.specs.Meaning.{formatted, byte_count, Deeper, level}
 use Rattle.arc_check.specs.declared.checked.CheckedFunction.{CheckedFunction}
 use Rattle.arc_check.specs.Checked.{program_of, commands}
+use Rattle.arc_plain.specs.declared.context.Context.{Context}
 use Rattle.arc_plain.specs.declared.frame.Frame.{Frame}
+use Rattle.arc_plain.specs.declared.object.Object.{Object}
+use Rattle.arc_plain.specs.declared.object.Phase.{Phase}
+use Rattle.arc_plain.specs.declared.object.Phase.TheVariants.{Live, Dying, Gone}
 use Rattle.arc_spec.specs.Correct.{meaning_seen, Sight, Stop, Ends, Faults}
 use Rattle.arc_plain.specs.declared.progress.Progress.{Progress}
 use Rattle.arc_plain.specs.declared.halt.Halt.{Halt}
@@ -22,22 +28,57 @@ use Rattle.arc_plain.specs.declared.interpret.PlainStop.{PlainStop}
 use Rattle.arc_plain.specs.declared.interpret.PlainStop.TheVariants as stops
 use Rattle.arc_plain.specs.declared.interpret.PlainStop.TheVariants.{Ended, Fault}
 
--- what is left to read, the events so far, and the variables of the running function
+abbrev pub phase_of : Phase → objects.Phase
+phase_of Live = objects.Live
+phase_of Dying = objects.Dying
+phase_of Gone = objects.Gone
+
+-- an object without where its fields lie in memory
+abbrev pub object_of : Object → objects.Object
+object_of o = record { class = o.class; fields = o.fields.items; phase = phase_of o.phase }
+
+-- the running function, whose last temporary lies at the end
+abbrev pub frame_of : Frame → worlds.Frame
+frame_of f = record { self = f.itself; locals = f.locals.items; strong = f.strong.items; temporaries = reverse f.temporaries.items }
+
+-- what is left to read, the events so far, the objects, the running function, and the places of those that wait, of which the newest lie at the end
 abbrev pub world : Progress → World
-world progress = record { input = progress.input.now; trace = map Byte progress.output.items; locals = progress.locals.items }
+world progress = record {
+  input = progress.input.now;
+  trace = progress.trace.items;
+  objects = map object_of progress.objects.items;
+  frame = frame_of progress.frame;
+  waiting = reverse progress.waiting.items;
+}
+
+-- the world in which this function runs again, and these places wait
+abbrev pub left_at : worlds.Frame → (waiting : List ℕ) → World → World
+left_at frame waiting w = record { input = w.input; trace = w.trace; objects = w.objects; frame = frame; waiting = reverse waiting }
+
+-- the objects, of which the one with this number is changed, where there is one
+abbrev pub changed_to : List objects.Object → (o : ℕ) → (objects.Object → objects.Object) → Option objects.Object → List objects.Object
+changed_to all o change None = all
+changed_to all o change (Some ob) = with_object all o (change ob)
+
+abbrev pub changed : List objects.Object → (o : ℕ) → (objects.Object → objects.Object) → List objects.Object
+changed all o change = changed_to all o change (object_at all o)
 
 -- a function without where it lies in memory
 abbrev pub function_of : CheckedFunction → Function
-function_of f = record { slots = f.slots; body = commands f.body.items }
+function_of f = record { slots = f.slots; names = f.names; body = commands f.body.items }
 
--- what a call does in this frame
-abbrev pub deeper : Frame → Deeper
-deeper frame = level (program_of frame.program.now) frame.bound frame.levels
+-- what a call or an end of an object does in this context
+abbrev pub deeper : Context → Deeper
+deeper context = level (program_of context.program.now) context.bound context.levels
 
 -- how a statement was left
 abbrev pub flow_of : Flow → meaning.Flow
 flow_of Normal = meaning.Normal
 flow_of (Returned n) = meaning.Returned n
+
+-- what ends without a value
+abbrev pub nothing_of : Unit {0} → Finished
+nothing_of u = finished
 
 -- what an answer tells of a meaning, and of the world behind it; a want of memory tells nothing
 abbrev pub Tells : {A B : Type 0} → (A → B) → Result A Halt → Outcome B → World → Type 0
@@ -62,7 +103,7 @@ stop_of stops.Cut = None
 
 -- what an answer shows
 abbrev pub seen : Answer → Sight
-seen answer = record { trace = map Byte answer.output.items; stop = stop_of answer.stop }
+seen answer = record { trace = answer.trace.items; stop = stop_of answer.stop }
 
 -- the value of main, as an int
 abbrev pub as_int : Outcome ℤ → Outcome ℤ

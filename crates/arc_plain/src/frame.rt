@@ -1,22 +1,55 @@
-//! What a running function is given beside its variables.
-ghost use Rattle.std.specs.Prelude.{◌≡◌, ◌∷◌, ℕ, suc, IfOk};
-ghost use Rattle.arc_spec.specs.World.{first_locals};
-ghost use Rattle.arc_spec.specs.Number.{is_zero};
+//! The running function.
+ghost use Rattle.std.specs.Prelude.{◌≡◌, ◌∷◌, [], ℕ, suc, IfOk};
+ghost use Rattle.arc_spec.specs.Objects.{nils};
+ghost use Rattle.arc_spec.specs.World.{first_frame, first_locals};
+ghost use Rattle.arc_plain.specs.Views.{frame_of};
 
-use arc_check::checked::Checked;
 use arc_spec::event::NoMemory;
 use std::alloc::Global;
 
-/// The program, how many turns each loop may make, and how many calls within one another may still begin.
-#[derive(Clone, Copy)]
-pub struct Frame<'a> {
-    pub program: &'a Checked<'a>,
-    pub bound: u64,
-    pub levels: u32,
+/// A running function: in a method of objects `self`, the variables that hold numbers, those that name objects,
+/// and the temporaries of its full-expression, the last one at the end. An object goes by its number, and 0 is
+/// nil.
+#[derive(Drop)]
+pub struct Frame {
+    pub itself: usize,
+    pub locals: Vec<i64>,
+    pub strong: Vec<usize>,
+    pub temporaries: Vec<usize>,
+}
+
+/// What runs before `main`: nothing.
+pub fn nothing_runs(alloc: Global) -> Frame
+    ensures { frame_of result ≡ first_frame }
+{
+    Frame {
+        itself: 0,
+        locals: Vec::new(alloc),
+        strong: Vec::new(alloc),
+        temporaries: Vec::new(alloc),
+    }
+}
+
+/// A function that begins, with so many variables that hold numbers and that name objects.
+pub fn begin(
+    alloc: Global,
+    slots: usize,
+    names: usize,
+    itself: usize,
+    arguments: &[i64],
+) -> Result<Frame, NoMemory>
+    ensures { IfOk result (λ frame. frame_of frame ≡ record { self = itself; locals = first_locals slots arguments.now; strong = nils names; temporaries = [] }) }
+{
+    Ok(Frame {
+        itself,
+        locals: begin_locals(alloc, slots, arguments)?,
+        strong: begin_names(alloc, names)?,
+        temporaries: Vec::new(alloc),
+    })
 }
 
 /// The variables of a function that begins: what it was given, and 0 for all others.
-pub fn begin_locals(alloc: Global, slots: usize, arguments: &[i64]) -> Result<Vec<i64>, NoMemory>
+fn begin_locals(alloc: Global, slots: usize, arguments: &[i64]) -> Result<Vec<i64>, NoMemory>
     ensures { IfOk result (λ locals. locals.items ≡ first_locals slots arguments.now) }
 {
     let mut locals = Vec::new(alloc);
@@ -39,9 +72,9 @@ fn take_number(numbers: &[i64]) -> (i64, &[i64])
     }
 }
 
-/// Whether a test fails.
-pub fn is_zero(number: i64) -> bool
-    ensures { result ≡ is_zero number }
+/// So many variables that name nothing.
+fn begin_names(alloc: Global, count: usize) -> Result<Vec<usize>, NoMemory>
+    ensures { IfOk result (λ names. names.items ≡ nils count) }
 {
-    number == 0
+    Ok(vec![in alloc; 0; count]?)
 }

@@ -5,12 +5,12 @@ ghost use Rattle.arc_spec.specs.Meaning.{mean};
 ghost use Rattle.arc_spec.specs.Correct.{meaning_seen};
 ghost use Rattle.arc_plain.specs.Views.{Stops, seen};
 
-use crate::frame::Frame;
+use crate::context::Context;
 use crate::halt::Halt;
 use crate::progress::start;
 use crate::run::call;
 use arc_check::checked::Checked;
-use arc_spec::event::{Fault, NoMemory};
+use arc_spec::event::{Event, Fault, NoMemory};
 use arc_spec::number::low_half;
 use std::alloc::Global;
 
@@ -24,10 +24,10 @@ pub enum PlainStop {
     Cut,
 }
 
-/// What a program printed, and how it stopped.
+/// What a program showed, and how it stopped.
 #[derive(Debug, Drop)]
 pub struct Answer {
-    pub output: Vec<u8>,
+    pub trace: Vec<Event>,
     pub stop: PlainStop,
 }
 
@@ -42,15 +42,15 @@ pub fn interpret(
     ensures { IfOk result (λ answer. meaning_seen (mean (program_of program.now) input.now bound) ≡ seen answer) }
 {
     let mut progress = start(alloc, input);
-    let frame = Frame {
+    let context = Context {
         program,
         bound,
         levels: 2_000,
     };
-    let left = call(alloc, &frame, &mut progress, program.main, &[]);
+    let left = call(alloc, &context, &mut progress, program.main, 0, &[]);
     let stop = stop_of(left)?;
     Ok(Answer {
-        output: progress.output,
+        trace: progress.trace,
         stop,
     })
 }

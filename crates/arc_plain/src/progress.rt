@@ -1,27 +1,35 @@
 //! How far an interpreted program has come.
-ghost use Rattle.std.specs.Prelude.{◌≡◌, OnOk, slice_set};
+ghost use Rattle.std.specs.Prelude.{◌≡◌, ◌++◌, map, OnOk, slice_set};
+ghost use Rattle.arc_spec.specs.declared.event.Event.TheVariants.{Byte};
 ghost use Rattle.arc_spec.specs.World.{first_world, prints, has_read, next_number, local_at, with_locals};
 ghost use Rattle.arc_plain.specs.Views.{world};
 
-use arc_spec::event::NoMemory;
+use crate::frame::{Frame, nothing_runs};
+use crate::object::Object;
+use arc_spec::event::{Event, NoMemory};
 use std::alloc::Global;
 
-/// What is left of the input, what was printed, and the variables of the running function.
+/// What is left of the input, the events so far, the objects in the order of their making, the running
+/// function, and the strong places of those that wait for it, the newest at the end.
 #[derive(Drop)]
 pub struct Progress<'a> {
     pub input: &'a [u8],
-    pub output: Vec<u8>,
-    pub locals: Vec<i64>,
+    pub trace: Vec<Event>,
+    pub objects: Vec<Object>,
+    pub frame: Frame,
+    pub waiting: Vec<usize>,
 }
 
-/// Nothing is read or printed yet.
+/// Nothing is read or shown yet.
 pub fn start<'a>(alloc: Global, input: &'a [u8]) -> Progress<'a>
     ensures { world result ≡ first_world input.now }
 {
     Progress {
         input,
-        output: Vec::new(alloc),
-        locals: Vec::new(alloc),
+        trace: Vec::new(alloc),
+        objects: Vec::new(alloc),
+        frame: nothing_runs(alloc),
+        waiting: Vec::new(alloc),
     }
 }
 
@@ -43,15 +51,24 @@ pub fn read(progress: &mut Progress) -> i64
 pub fn print(progress: &mut Progress, bytes: &[u8]) -> Result<(), NoMemory>
     ensures { OnOk result (world progress.new ≡ prints bytes.now (world progress.old)) }
 {
-    progress.output.extend_from_slice(bytes)?;
+    show(&mut progress.trace, bytes)
+}
+
+/// Writes bytes behind the events.
+fn show(trace: &mut Vec<Event>, bytes: &[u8]) -> Result<(), NoMemory>
+    ensures { OnOk result (trace.new.items ≡ trace.old.items ++ map Byte bytes.now) }
+{
+    for byte in bytes {
+        trace.push(Event::Byte(*byte))?;
+    }
     Ok(())
 }
 
 /// The number of a variable of the running function.
 pub fn local(progress: &Progress, slot: usize) -> i64
-    ensures { result ≡ local_at (world progress.now).locals slot }
+    ensures { result ≡ local_at (world progress.now).frame.locals slot }
 {
-    match progress.locals.get(slot) {
+    match progress.frame.locals.get(slot) {
         Some(number) => *number,
         None => 0,
     }
@@ -59,9 +76,9 @@ pub fn local(progress: &Progress, slot: usize) -> i64
 
 /// Gives a variable of the running function a number.
 pub fn assign(progress: &mut Progress, slot: usize, number: i64)
-    ensures { world progress.new ≡ with_locals (world progress.old) (slice_set (world progress.old).locals slot number) }
+    ensures { world progress.new ≡ with_locals (world progress.old) (slice_set (world progress.old).frame.locals slot number) }
 {
-    if let Some(place) = progress.locals.get_mut(slot) {
+    if let Some(place) = progress.frame.locals.get_mut(slot) {
         *place = number;
     }
 }

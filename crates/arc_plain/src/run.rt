@@ -1,21 +1,23 @@
 //! What expressions, statements and calls do.
-ghost use Rattle.std.specs.Prelude.{◌≡◌};
+ghost use Rattle.std.specs.Prelude.{◌≡◌, Some, length};
 ghost use Rattle.arc_check.specs.Checked as checked;
+ghost use Rattle.arc_check.specs.Checked.{program_of};
 ghost use Rattle.arc_spec.specs.Resolved as resolved;
-ghost use Rattle.arc_spec.specs.Meaning.{evaluated, all_evaluated, executed, all_executed, turns, called, given, dispatched, finds};
-ghost use Rattle.arc_plain.specs.Views.{world, Tells, printed, flow_of, function_of, deeper};
+ghost use Rattle.arc_spec.specs.Meaning.{evaluated, referred, all_evaluated, whole, executed, all_executed, turns, called, given, dispatched, finds, sent_from, released, all_dropped, variables_dropped, function_at, dealloc_run, deallocs_run};
+ghost use Rattle.arc_plain.specs.Views.{world, Tells, printed, flow_of, nothing_of, deeper};
 
+use crate::context::Context;
 use crate::format::{count, format};
-use crate::frame::{Frame, begin_locals, is_zero};
 use crate::halt::Halt;
-use crate::message::{class_at, with_receiver};
+use crate::message::{class_at, difference, find_method, is_zero, with_receiver};
+use crate::object::{begin_end, class_of, finish_end, is_live, make, read_field, set_field};
+use crate::place::{clear, drop_last, is_named, name, pop_frame, push_frame, store, take};
 use crate::progress::{Progress, assign, local, print, read};
-use arc_check::checked::{CheckedFunction, Command, Piece, Value};
-use arc_spec::class::look_up;
+use arc_ast::tree::Sign;
+use arc_check::checked::{Command, Piece, Reference, Value};
 use arc_spec::event::Fault;
 use arc_spec::number::{combine, convert, negate};
 use std::alloc::Global;
-use std::mem;
 
 /// How a statement was left: behind it, or by a return with a value.
 #[derive(Drop)]
@@ -28,50 +30,111 @@ pub enum Flow {
 #[cycle(running)]
 fn evaluate(
     alloc: Global,
-    frame: &Frame,
+    context: &Context,
     progress: &mut Progress,
     value: &Value,
 ) -> Result<i64, Halt>
-    ensures { Tells (λ n. n) result (evaluated (deeper frame.now) (checked.value value.now) (world progress.old)) (world progress.new) }
+    ensures { Tells (λ n. n) result (evaluated (deeper context.now) (checked.value value.now) (world progress.old)) (world progress.new) }
 {
     match value {
         Value::Number(number) => Ok(*number),
         Value::ReadByte => Ok(read(progress)),
         Value::Print(pieces, arguments) => {
-            let values = evaluate_all(alloc, frame, progress, arguments)?;
+            let values = evaluate_all(alloc, context, progress, arguments)?;
             print_format(alloc, progress, pieces, &values)
         }
         Value::Negated(kind, operand) => {
-            let number = evaluate(alloc, frame, progress, operand)?;
+            let number = evaluate(alloc, context, progress, operand)?;
             Ok(negate(*kind, number))
         }
         Value::Combined(operator, kind, left, right) => {
-            let first = evaluate(alloc, frame, progress, left)?;
-            let second = evaluate(alloc, frame, progress, right)?;
+            let first = evaluate(alloc, context, progress, left)?;
+            let second = evaluate(alloc, context, progress, right)?;
             match combine(*operator, *kind, first, second) {
                 Some(number) => Ok(number),
                 None => Err(Halt::Stopped(Fault::Arithmetic)),
             }
         }
         Value::Converted(kind, operand) => {
-            let number = evaluate(alloc, frame, progress, operand)?;
+            let number = evaluate(alloc, context, progress, operand)?;
             Ok(convert(*kind, number))
         }
         Value::Local(slot) => Ok(local(progress, *slot)),
         Value::Assigned(slot, operand) => {
-            let number = evaluate(alloc, frame, progress, operand)?;
+            let number = evaluate(alloc, context, progress, operand)?;
             assign(progress, *slot, number);
             Ok(number)
         }
         Value::Invoked(function, arguments) => {
-            let values = evaluate_all(alloc, frame, progress, arguments)?;
-            call(alloc, frame, progress, *function, &values)
+            let values = evaluate_all(alloc, context, progress, arguments)?;
+            call(alloc, context, progress, *function, 0, &values)
         }
         Value::Sent(receiver, selector, arguments) => {
-            send(alloc, frame, progress, receiver, *selector, arguments)
+            send(alloc, context, progress, receiver, *selector, arguments)
         }
         Value::SentSuper(from, selector, arguments) => {
-            send_super(alloc, frame, progress, *from, *selector, arguments)
+            send_super(alloc, context, progress, *from, *selector, arguments)
+        }
+        Value::SentTo(receiver, selector, arguments) => {
+            send_to(alloc, context, progress, receiver, *selector, arguments)
+        }
+        Value::SentToSuper(from, selector, arguments) => {
+            send_to_super(alloc, context, progress, *from, *selector, arguments)
+        }
+        Value::Field(object, class, index) => {
+            let number = refer(alloc, context, progress, object)?;
+            read_field(context, progress, number, *class, *index)
+        }
+        Value::FieldAssigned(object, class, index, operand) => {
+            let number = refer(alloc, context, progress, object)?;
+            let assigned = evaluate(alloc, context, progress, operand)?;
+            set_field(context, progress, number, *class, *index, assigned)
+        }
+        Value::Differ(left, right) => {
+            let first = refer(alloc, context, progress, left)?;
+            let second = refer(alloc, context, progress, right)?;
+            Ok(difference(first, second))
+        }
+        Value::IsObject(operand) => {
+            let number = refer(alloc, context, progress, operand)?;
+            Ok(difference(number, 0))
+        }
+    }
+}
+
+/// The object that an expression gives, or nil, which the last temporary takes.
+#[cycle(running)]
+fn refer(
+    alloc: Global,
+    context: &Context,
+    progress: &mut Progress,
+    reference: &Reference,
+) -> Result<usize, Halt>
+    ensures { Tells (λ n. n) result (referred (deeper context.now) (checked.reference reference.now) (world progress.old)) (world progress.new) }
+{
+    match reference {
+        Reference::Nil => take(progress, 0),
+        Reference::Itself => {
+            let itself = progress.frame.itself;
+            take(progress, itself)
+        }
+        Reference::Variable(slot) => {
+            let object = name(progress, *slot);
+            take(progress, object)
+        }
+        Reference::Stored(slot, operand) => {
+            let object = refer(alloc, context, progress, operand)?;
+            let replaced = store(progress, *slot, object);
+            release(alloc, context, progress, replaced)?;
+            take(progress, object)
+        }
+        Reference::Made(operand) => {
+            let number = evaluate(alloc, context, progress, operand)?;
+            make(alloc, context, progress, class_at(number))
+        }
+        Reference::Initialized(operand) => {
+            let object = refer(alloc, context, progress, operand)?;
+            take(progress, object)
         }
     }
 }
@@ -80,15 +143,15 @@ fn evaluate(
 #[cycle(running)]
 fn evaluate_all(
     alloc: Global,
-    frame: &Frame,
+    context: &Context,
     progress: &mut Progress,
     values: &[Value],
 ) -> Result<Vec<i64>, Halt>
-    ensures { Tells (λ v. v.items) result (all_evaluated (deeper frame.now) (checked.values values.now) (world progress.old)) (world progress.new) }
+    ensures { Tells (λ v. v.items) result (all_evaluated (deeper context.now) (checked.values values.now) (world progress.old)) (world progress.new) }
 {
     let mut numbers = Vec::new(alloc);
     for value in values {
-        let number = evaluate(alloc, frame, progress, value)?;
+        let number = evaluate(alloc, context, progress, value)?;
         numbers.push(number)?;
     }
     Ok(numbers)
@@ -112,112 +175,339 @@ fn print_format(
 #[cycle(running)]
 fn send(
     alloc: Global,
-    frame: &Frame,
+    context: &Context,
     progress: &mut Progress,
     receiver: &Value,
     selector: usize,
     arguments: &[Value],
 ) -> Result<i64, Halt>
-    ensures { Tells (λ n. n) result (evaluated (deeper frame.now) (resolved.Sent (checked.value receiver.now) selector (checked.values arguments.now)) (world progress.old)) (world progress.new) }
+    ensures { Tells (λ n. n) result (evaluated (deeper context.now) (resolved.Sent (checked.value receiver.now) selector (checked.values arguments.now)) (world progress.old)) (world progress.new) }
 {
-    let itself = evaluate(alloc, frame, progress, receiver)?;
-    let numbers = evaluate_all(alloc, frame, progress, arguments)?;
-    dispatch(
-        alloc,
-        frame,
-        progress,
-        class_at(itself),
-        selector,
-        itself,
-        &numbers,
-    )
+    let itself = evaluate(alloc, context, progress, receiver)?;
+    let numbers = evaluate_all(alloc, context, progress, arguments)?;
+    let from = class_at(itself);
+    dispatch(alloc, context, progress, from, selector, itself, &numbers)
 }
 
 /// Sends a message to `self`, the first variable, whose method is looked up from this class.
 #[cycle(running)]
 fn send_super(
     alloc: Global,
-    frame: &Frame,
+    context: &Context,
     progress: &mut Progress,
     from: usize,
     selector: usize,
     arguments: &[Value],
 ) -> Result<i64, Halt>
-    ensures { Tells (λ n. n) result (evaluated (deeper frame.now) (resolved.SentSuper from selector (checked.values arguments.now)) (world progress.old)) (world progress.new) }
+    ensures { Tells (λ n. n) result (evaluated (deeper context.now) (resolved.SentSuper from selector (checked.values arguments.now)) (world progress.old)) (world progress.new) }
 {
     let itself = local(progress, 0);
-    let values = evaluate_all(alloc, frame, progress, arguments)?;
-    dispatch(
-        alloc,
-        frame,
-        progress,
-        Some(from),
-        selector,
-        itself,
-        &values,
-    )
+    let values = evaluate_all(alloc, context, progress, arguments)?;
+    let from = Some(from);
+    dispatch(alloc, context, progress, from, selector, itself, &values)
 }
 
-/// Calls what a message finds from this class up, with `self` in front of the arguments; a message that
-/// finds nothing is a fault.
+/// Calls what a message to a class finds from this class up, with `self` in front of the arguments; a message
+/// that finds nothing is a fault.
 #[cycle(running)]
 fn dispatch(
     alloc: Global,
-    frame: &Frame,
+    context: &Context,
     progress: &mut Progress,
     from: Option<usize>,
     selector: usize,
     itself: i64,
     arguments: &[i64],
 ) -> Result<i64, Halt>
-    ensures { Tells (λ n. n) result (dispatched (deeper frame.now) (finds (deeper frame.now) from selector arguments.now) itself arguments.now (world progress.old)) (world progress.new) }
+    ensures { Tells (λ n. n) result (dispatched (deeper context.now) (finds (deeper context.now) from selector arguments.now) itself arguments.now (world progress.old)) (world progress.new) }
 {
-    let Some(method) = look_up(&frame.program.classes, from, selector, arguments.len()) else {
+    let takes = arguments.len();
+    let Some(method) = find_method(context, from, Sign::Class, selector, takes) else {
         return Err(Halt::Stopped(Fault::Unrecognized));
     };
     let passed = with_receiver(alloc, itself, arguments)?;
-    call(alloc, frame, progress, method, &passed)
+    call(alloc, context, progress, method, 0, &passed)
 }
 
-/// Calls the function with this number, one level deeper.
+/// Sends a message to the object that the receiver gives, which is evaluated before the arguments.
+#[cycle(running)]
+fn send_to(
+    alloc: Global,
+    context: &Context,
+    progress: &mut Progress,
+    receiver: &Reference,
+    selector: usize,
+    arguments: &[Value],
+) -> Result<i64, Halt>
+    ensures { Tells (λ n. n) result (evaluated (deeper context.now) (resolved.SentTo (checked.reference receiver.now) selector (checked.values arguments.now)) (world progress.old)) (world progress.new) }
+{
+    let itself = refer(alloc, context, progress, receiver)?;
+    let values = evaluate_all(alloc, context, progress, arguments)?;
+    let from = class_of(&progress.objects, itself);
+    dispatch_to(alloc, context, progress, from, selector, itself, &values)
+}
+
+/// Sends a message to `self`, an object, whose method is looked up from this class.
+#[cycle(running)]
+fn send_to_super(
+    alloc: Global,
+    context: &Context,
+    progress: &mut Progress,
+    above: usize,
+    selector: usize,
+    arguments: &[Value],
+) -> Result<i64, Halt>
+    ensures { Tells (λ n. n) result (evaluated (deeper context.now) (resolved.SentToSuper above selector (checked.values arguments.now)) (world progress.old)) (world progress.new) }
+{
+    let itself = progress.frame.itself;
+    let _ = take(progress, itself)?;
+    let values = evaluate_all(alloc, context, progress, arguments)?;
+    let from = Some(above);
+    dispatch_to(alloc, context, progress, from, selector, itself, &values)
+}
+
+/// Calls what a message to an object finds from this class up. A message to nil gives 0; one that finds
+/// nothing is a fault.
+#[cycle(running)]
+fn dispatch_to(
+    alloc: Global,
+    context: &Context,
+    progress: &mut Progress,
+    from: Option<usize>,
+    selector: usize,
+    itself: usize,
+    arguments: &[i64],
+) -> Result<i64, Halt>
+    ensures { Tells (λ n. n) result (sent_from (deeper context.now) from itself selector arguments.now (world progress.old)) (world progress.new) }
+{
+    if itself == 0 {
+        return Ok(0);
+    }
+    let takes = arguments.len();
+    let Some(method) = find_method(context, from, Sign::Instance, selector, takes) else {
+        return Err(Halt::Stopped(Fault::Unrecognized));
+    };
+    call(alloc, context, progress, method, itself, arguments)
+}
+
+/// A place was dropped that named this: where it was the last one of a live object, the object ends.
+#[cycle(running)]
+fn release(
+    alloc: Global,
+    context: &Context,
+    progress: &mut Progress,
+    object: usize,
+) -> Result<(), Halt>
+    ensures { Tells nothing_of result (released (deeper context.now) object (world progress.old)) (world progress.new) }
+{
+    if !is_live(&progress.objects, object) {
+        return Ok(());
+    }
+    if is_named(progress, object) {
+        return Ok(());
+    }
+    end(alloc, context, progress, object)
+}
+
+/// The end of a full-expression: its temporaries are dropped, the last one first.
+#[cycle(running)]
+fn drop_temporaries(alloc: Global, context: &Context, progress: &mut Progress) -> Result<(), Halt>
+    ensures { Tells nothing_of result (all_dropped (deeper context.now) (world progress.old)) (world progress.new) }
+{
+    while let Some(object) = drop_last(progress) {
+        release(alloc, context, progress, object)?;
+    }
+    Ok(())
+}
+
+/// So many variables are dropped, from the first one on, in the reverse of their order.
+#[cycle(running)]
+fn drop_variables(
+    alloc: Global,
+    context: &Context,
+    progress: &mut Progress,
+    first: usize,
+    count: usize,
+) -> Result<(), Halt>
+    ensures { Tells nothing_of result (variables_dropped (deeper context.now) first count (world progress.old)) (world progress.new) }
+{
+    for offset in (0..count).rev() {
+        let before = clear(progress, first, offset);
+        release(alloc, context, progress, before)?;
+    }
+    Ok(())
+}
+
+/// The value of a full-expression.
+#[cycle(running)]
+fn evaluate_whole(
+    alloc: Global,
+    context: &Context,
+    progress: &mut Progress,
+    value: &Value,
+) -> Result<i64, Halt>
+    ensures { Tells (λ n. n) result (whole (deeper context.now) (checked.value value.now) (world progress.old)) (world progress.new) }
+{
+    let number = evaluate(alloc, context, progress, value)?;
+    drop_temporaries(alloc, context, progress)?;
+    Ok(number)
+}
+
+/// Does what a statement says.
+#[cycle(running)]
+fn execute(
+    alloc: Global,
+    context: &Context,
+    progress: &mut Progress,
+    command: &Command,
+) -> Result<Flow, Halt>
+    ensures { Tells flow_of result (executed (deeper context.now) context.now.bound (checked.command command.now) (world progress.old)) (world progress.new) }
+{
+    match command {
+        Command::Sequence(first, names, commands) => {
+            execute_block(alloc, context, progress, *first, *names, commands)
+        }
+        Command::Evaluate(value) => {
+            let _ = evaluate_whole(alloc, context, progress, value)?;
+            Ok(Flow::Normal)
+        }
+        Command::EvaluateReference(value) => {
+            let _ = refer(alloc, context, progress, value)?;
+            drop_temporaries(alloc, context, progress)?;
+            Ok(Flow::Normal)
+        }
+        Command::Begin(slot, value) => {
+            let object = refer(alloc, context, progress, value)?;
+            let before = store(progress, *slot, object);
+            release(alloc, context, progress, before)?;
+            drop_temporaries(alloc, context, progress)?;
+            Ok(Flow::Normal)
+        }
+        Command::Return(None) => Ok(Flow::Returned(0)),
+        Command::Return(Some(value)) => {
+            let number = evaluate_whole(alloc, context, progress, value)?;
+            Ok(Flow::Returned(number))
+        }
+        Command::Choose(test, first, second) => {
+            let number = evaluate_whole(alloc, context, progress, test)?;
+            let branch = if is_zero(number) { second } else { first };
+            execute(alloc, context, progress, branch)
+        }
+        Command::Repeat(test, body) => repeat(alloc, context, progress, test, body),
+    }
+}
+
+/// Does what the statements of a block say, and drops its own variables; a return leaves them to the function.
+#[cycle(running)]
+fn execute_block(
+    alloc: Global,
+    context: &Context,
+    progress: &mut Progress,
+    first: usize,
+    names: usize,
+    commands: &[Command],
+) -> Result<Flow, Halt>
+    ensures { Tells flow_of result (executed (deeper context.now) context.now.bound (resolved.Sequence first names (checked.commands commands.now)) (world progress.old)) (world progress.new) }
+{
+    match execute_all(alloc, context, progress, commands)? {
+        Flow::Normal => {
+            drop_variables(alloc, context, progress, first, names)?;
+            Ok(Flow::Normal)
+        }
+        Flow::Returned(number) => Ok(Flow::Returned(number)),
+    }
+}
+
+/// Does what the statements say in turn, up to a return.
+#[cycle(running)]
+fn execute_all(
+    alloc: Global,
+    context: &Context,
+    progress: &mut Progress,
+    commands: &[Command],
+) -> Result<Flow, Halt>
+    ensures { Tells flow_of result (all_executed (deeper context.now) context.now.bound (checked.commands commands.now) (world progress.old)) (world progress.new) }
+{
+    for command in commands {
+        if let Flow::Returned(number) = execute(alloc, context, progress, command)? {
+            return Ok(Flow::Returned(number));
+        }
+    }
+    Ok(Flow::Normal)
+}
+
+/// Does what the body says while the test isn't 0, for no more turns than the bound.
+#[cycle(running)]
+fn repeat(
+    alloc: Global,
+    context: &Context,
+    progress: &mut Progress,
+    test: &Value,
+    body: &Command,
+) -> Result<Flow, Halt>
+    ensures { Tells flow_of result (turns context.now.bound (whole (deeper context.now) (checked.value test.now)) (executed (deeper context.now) context.now.bound (checked.command body.now)) (world progress.old)) (world progress.new) }
+{
+    for _ in 0..context.bound {
+        let number = evaluate_whole(alloc, context, progress, test)?;
+        if is_zero(number) {
+            return Ok(Flow::Normal);
+        }
+        match execute(alloc, context, progress, body)? {
+            Flow::Normal => {}
+            returned => return Ok(returned),
+        }
+    }
+    let number = evaluate_whole(alloc, context, progress, test)?;
+    if is_zero(number) {
+        Ok(Flow::Normal)
+    } else {
+        Err(Halt::Cut)
+    }
+}
+
+/// Calls the function with this number, one level deeper, with this `self`.
 #[cycle(running)]
 pub fn call(
     alloc: Global,
-    frame: &Frame,
+    context: &Context,
     progress: &mut Progress,
     function: usize,
+    itself: usize,
     arguments: &[i64],
 ) -> Result<i64, Halt>
-    ensures { Tells (λ n. n) result ((deeper frame.now).call function arguments.now (world progress.old)) (world progress.new) }
+    ensures { Tells (λ n. n) result ((deeper context.now).call function itself arguments.now (world progress.old)) (world progress.new) }
 {
-    if frame.levels == 0 {
+    if context.levels == 0 {
         return Err(Halt::Stopped(Fault::Depth));
     }
-    let inner = Frame {
-        levels: frame.levels - 1,
-        ..*frame
+    let inner = Context {
+        levels: context.levels - 1,
+        ..*context
     };
-    match frame.program.functions.get(function) {
-        Some(entered) => enter(alloc, &inner, progress, entered, arguments),
-        None => Ok(0),
-    }
+    enter(alloc, &inner, progress, function, itself, arguments)
 }
 
-/// Runs a function with variables of its own, behind which the caller's are there again.
+/// Runs a function with variables of its own, which are dropped at its end. Behind it the caller's are there
+/// again. A function that there isn't does nothing.
 #[cycle(running)]
 fn enter(
     alloc: Global,
-    frame: &Frame,
+    context: &Context,
     progress: &mut Progress,
-    function: &CheckedFunction,
+    function: usize,
+    itself: usize,
     arguments: &[i64],
 ) -> Result<i64, Halt>
-    ensures { Tells (λ n. n) result (called (deeper frame.now) frame.now.bound (function_of function.now) arguments.now (world progress.old)) (world progress.new) }
+    ensures { Tells (λ n. n) result (called (deeper context.now) context.now.bound (function_at (program_of context.now.program.now) function) itself arguments.now (world progress.old)) (world progress.new) }
 {
-    let locals = begin_locals(alloc, function.slots, arguments)?;
-    let kept = mem::replace(&mut progress.locals, locals);
-    let flow = execute_all(alloc, frame, progress, &function.body)?;
-    progress.locals = kept;
+    let Some(entered) = context.program.functions.get(function) else {
+        return Ok(0);
+    };
+    let waiting = progress.waiting.len();
+    let kept = push_frame(alloc, progress, entered, itself, arguments)?;
+    let flow = execute_all(alloc, context, progress, &entered.body)?;
+    drop_variables(alloc, context, progress, 0, entered.names)?;
+    pop_frame(progress, kept, waiting);
     Ok(number_of(flow))
 }
 
@@ -231,79 +521,66 @@ fn number_of(flow: Flow) -> i64
     }
 }
 
-/// Does what a statement says.
+/// The end of an object, one level deeper: the deallocs of its class and of those above run, and it is gone.
 #[cycle(running)]
-fn execute(
-    alloc: Global,
-    frame: &Frame,
-    progress: &mut Progress,
-    command: &Command,
-) -> Result<Flow, Halt>
-    ensures { Tells flow_of result (executed (deeper frame.now) frame.now.bound (checked.command command.now) (world progress.old)) (world progress.new) }
+fn end(alloc: Global, context: &Context, progress: &mut Progress, object: usize) -> Result<(), Halt>
+    ensures { Tells nothing_of result ((deeper context.now).end_of object (world progress.old)) (world progress.new) }
 {
-    match command {
-        Command::Sequence(commands) => execute_all(alloc, frame, progress, commands),
-        Command::Evaluate(value) => {
-            let _ = evaluate(alloc, frame, progress, value)?;
-            Ok(Flow::Normal)
-        }
-        Command::Return(None) => Ok(Flow::Returned(0)),
-        Command::Return(Some(value)) => {
-            let number = evaluate(alloc, frame, progress, value)?;
-            Ok(Flow::Returned(number))
-        }
-        Command::Choose(test, first, second) => {
-            let number = evaluate(alloc, frame, progress, test)?;
-            let branch = if is_zero(number) { second } else { first };
-            execute(alloc, frame, progress, branch)
-        }
-        Command::Repeat(test, body) => repeat(alloc, frame, progress, test, body),
+    if context.levels == 0 {
+        return Err(Halt::Stopped(Fault::Depth));
     }
+    let inner = Context {
+        levels: context.levels - 1,
+        ..*context
+    };
+    let class = class_of(&progress.objects, object);
+    begin_end(progress, object)?;
+    run_deallocs(alloc, &inner, progress, class, object)?;
+    finish_end(progress, object)
 }
 
-/// Does what the statements say in turn, up to a return.
+/// What the deallocs of the classes do from this one up.
 #[cycle(running)]
-fn execute_all(
+fn run_deallocs(
     alloc: Global,
-    frame: &Frame,
+    context: &Context,
     progress: &mut Progress,
-    commands: &[Command],
-) -> Result<Flow, Halt>
-    ensures { Tells flow_of result (all_executed (deeper frame.now) frame.now.bound (checked.commands commands.now) (world progress.old)) (world progress.new) }
+    class: Option<usize>,
+    object: usize,
+) -> Result<(), Halt>
+    ensures { let program = program_of context.now.program.now in Tells nothing_of result (deallocs_run program (deeper context.now) context.now.bound (length program.classes) class object (world progress.old)) (world progress.new) }
 {
-    for command in commands {
-        if let Flow::Returned(number) = execute(alloc, frame, progress, command)? {
-            return Ok(Flow::Returned(number));
-        }
+    let classes = &context.program.classes;
+    let mut next = class;
+    for _passed in 0..classes.len() {
+        let Some(number) = next else {
+            return Ok(());
+        };
+        let Some(class) = classes.get(number) else {
+            return Ok(());
+        };
+        run_dealloc(alloc, context, progress, class.dealloc, object)?;
+        next = class.superclass;
     }
-    Ok(Flow::Normal)
+    Ok(())
 }
 
-/// Does what the body says while the test isn't 0, for no more turns than the bound.
+/// What the dealloc of one class does, if it has one.
 #[cycle(running)]
-fn repeat(
+fn run_dealloc(
     alloc: Global,
-    frame: &Frame,
+    context: &Context,
     progress: &mut Progress,
-    test: &Value,
-    body: &Command,
-) -> Result<Flow, Halt>
-    ensures { Tells flow_of result (turns frame.now.bound (evaluated (deeper frame.now) (checked.value test.now)) (executed (deeper frame.now) frame.now.bound (checked.command body.now)) (world progress.old)) (world progress.new) }
+    dealloc: Option<usize>,
+    object: usize,
+) -> Result<(), Halt>
+    ensures { Tells nothing_of result (dealloc_run (program_of context.now.program.now) (deeper context.now) context.now.bound dealloc object (world progress.old)) (world progress.new) }
 {
-    for _ in 0..frame.bound {
-        let number = evaluate(alloc, frame, progress, test)?;
-        if is_zero(number) {
-            return Ok(Flow::Normal);
+    match dealloc {
+        Some(function) => {
+            let _ = enter(alloc, context, progress, function, object, &[])?;
+            Ok(())
         }
-        match execute(alloc, frame, progress, body)? {
-            Flow::Normal => {}
-            returned => return Ok(returned),
-        }
-    }
-    let number = evaluate(alloc, frame, progress, test)?;
-    if is_zero(number) {
-        Ok(Flow::Normal)
-    } else {
-        Err(Halt::Cut)
+        None => Ok(()),
     }
 }

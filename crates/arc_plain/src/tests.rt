@@ -1,8 +1,10 @@
+mod objects;
+
 use crate::interpret::{PlainStop, interpret};
-use arc_ast::tree::{BinaryOperator, Kind, TranslationUnit};
+use arc_ast::tree::{BinaryOperator, Kind, Sign, TranslationUnit};
 use arc_check::checked::{Checked, CheckedFunction, Command, Piece, Value};
 use arc_spec::class::{Class, Method};
-use arc_spec::event::Fault;
+use arc_spec::event::{Event, Fault};
 use std::alloc::{AllocError, Global};
 use std::test::Fail;
 
@@ -35,6 +37,24 @@ fn no_source(alloc: Global) -> TranslationUnit {
     }
 }
 
+/// What is shown where these bytes are printed.
+fn printed(alloc: Global, text: &[u8]) -> Result<Vec<Event>, AllocError> {
+    let mut trace = Vec::new(alloc);
+    for byte in text {
+        trace.push(Event::Byte(*byte))?;
+    }
+    Ok(trace)
+}
+
+/// A function without variables that name objects.
+fn function(slots: usize, body: Vec<Command>) -> CheckedFunction {
+    CheckedFunction {
+        slots,
+        names: 0,
+        body,
+    }
+}
+
 /// A program with a `main` alone.
 fn main_alone<'a>(
     alloc: Global,
@@ -42,7 +62,7 @@ fn main_alone<'a>(
     body: Vec<Command>,
 ) -> Result<Checked<'a>, AllocError> {
     let mut functions = Vec::new(alloc);
-    functions.push(CheckedFunction { slots: 1, body })?;
+    functions.push(function(1, body))?;
     Ok(Checked {
         unit,
         functions,
@@ -63,13 +83,16 @@ fn prints_and_returns(rt: HostRuntime) -> Result<(), Fail> {
     let mut block = Vec::new(alloc);
     block.push(Command::Return(Some(difference)))?;
     let mut body = Vec::new(alloc);
-    body.push(Command::Sequence(block))?;
+    body.push(Command::Sequence(0, 0, block))?;
     body.push(Command::Return(Some(Value::Number(1))))?;
     let unit = no_source(alloc);
     let program = main_alone(alloc, &unit, body)?;
     let answer = interpret(alloc, &program, b"9", 0)?;
     // 57 - -1
-    assert_eq!(rt; answer.output.as_slice(), b"<58A>".as_slice());
+    assert_eq!(rt;
+        answer.trace.as_slice(),
+        printed(alloc, b"<58A>")?.as_slice()
+    );
     assert_eq!(rt; answer.stop, PlainStop::Ended(5));
     Ok(())
 }
@@ -95,7 +118,10 @@ fn stops_at_a_division(rt: HostRuntime) -> Result<(), Fail> {
     let unit = no_source(alloc);
     let program = main_alone(alloc, &unit, body)?;
     let answer = interpret(alloc, &program, b"", 0)?;
-    assert_eq!(rt; answer.output.as_slice(), b"<-3A>".as_slice());
+    assert_eq!(rt;
+        answer.trace.as_slice(),
+        printed(alloc, b"<-3A>")?.as_slice()
+    );
     assert_eq!(rt; answer.stop, PlainStop::Fault(Fault::Arithmetic));
     Ok(())
 }
@@ -126,10 +152,10 @@ fn turns_of_a_loop(rt: HostRuntime) -> Result<(), Fail> {
     let unit = no_source(alloc);
     let program = echo(alloc, &unit)?;
     let answer = interpret(alloc, &program, b"abc", 3)?;
-    assert_eq!(rt; answer.output.as_slice(), b"abc".as_slice());
+    assert_eq!(rt; answer.trace.as_slice(), printed(alloc, b"abc")?.as_slice());
     assert_eq!(rt; answer.stop, PlainStop::Ended(0));
     let cut = interpret(alloc, &program, b"abc", 2)?;
-    assert_eq!(rt; cut.output.as_slice(), b"ab".as_slice());
+    assert_eq!(rt; cut.trace.as_slice(), printed(alloc, b"ab")?.as_slice());
     assert_eq!(rt; cut.stop, PlainStop::Cut);
     Ok(())
 }
@@ -149,7 +175,7 @@ fn descent<'a>(
     let mut inner = Vec::new(alloc);
     inner.push(less)?;
     let again = Command::Return(Some(Value::Invoked(0, inner)));
-    let nothing = Command::Sequence(Vec::new(alloc));
+    let nothing = Command::Sequence(0, 0, Vec::new(alloc));
     let mut body = Vec::new(alloc);
     body.push(Command::Choose(
         Value::Local(0),
@@ -162,11 +188,8 @@ fn descent<'a>(
     let mut main = Vec::new(alloc);
     main.push(Command::Return(Some(Value::Invoked(0, first))))?;
     let mut functions = Vec::new(alloc);
-    functions.push(CheckedFunction { slots: 1, body })?;
-    functions.push(CheckedFunction {
-        slots: 0,
-        body: main,
-    })?;
+    functions.push(function(1, body))?;
+    functions.push(function(0, main))?;
     Ok(Checked {
         unit,
         functions,
@@ -193,7 +216,7 @@ fn deep_calls(rt: HostRuntime) -> Result<(), Fail> {
 fn returns(alloc: Global, slots: usize, value: Value) -> Result<CheckedFunction, AllocError> {
     let mut body = Vec::new(alloc);
     body.push(Command::Return(Some(value)))?;
-    Ok(CheckedFunction { slots, body })
+    Ok(function(slots, body))
 }
 
 /// `left operator right`
@@ -234,34 +257,41 @@ fn says(alloc: Global, text: &[u8]) -> Result<Value, AllocError> {
     Ok(Value::Print(pieces, Vec::new(alloc)))
 }
 
+/// A method with this selector.
+fn method(sign: Sign, selector: usize, takes: usize, runs: usize) -> Method {
+    Method {
+        sign,
+        selector,
+        takes,
+        runs,
+    }
+}
+
+/// A class, with what its dealloc runs and how many fields its objects have.
+fn class(
+    superclass: Option<usize>,
+    methods: Vec<Method>,
+    dealloc: Option<usize>,
+    fields: usize,
+) -> Class {
+    Class {
+        superclass,
+        methods,
+        dealloc,
+        fields,
+    }
+}
+
 /// Class 0 has `number` and `add:`, with the selectors 0 and 1; class 1 below it has a `number` of its own.
 fn two_classes(alloc: Global) -> Result<Vec<Class>, AllocError> {
     let mut upper = Vec::new(alloc);
-    upper.push(Method {
-        selector: 0,
-        takes: 0,
-        runs: 0,
-    })?;
-    upper.push(Method {
-        selector: 1,
-        takes: 1,
-        runs: 1,
-    })?;
+    upper.push(method(Sign::Class, 0, 0, 0))?;
+    upper.push(method(Sign::Class, 1, 1, 1))?;
     let mut lower = Vec::new(alloc);
-    lower.push(Method {
-        selector: 0,
-        takes: 0,
-        runs: 2,
-    })?;
+    lower.push(method(Sign::Class, 0, 0, 2))?;
     let mut classes = Vec::new(alloc);
-    classes.push(Class {
-        superclass: None,
-        methods: upper,
-    })?;
-    classes.push(Class {
-        superclass: Some(0),
-        methods: lower,
-    })?;
+    classes.push(class(None, upper, None, 0))?;
+    classes.push(class(Some(0), lower, None, 0))?;
     Ok(classes)
 }
 
@@ -336,7 +366,7 @@ fn receiver_before_arguments(rt: HostRuntime) -> Result<(), Fail> {
     let sent = tells(alloc, says(alloc, b"r")?, 1, says(alloc, b"a")?)?;
     let program = family(alloc, &unit, sent)?;
     let answer = interpret(alloc, &program, b"", 0)?;
-    assert_eq!(rt; answer.output.as_slice(), b"ra".as_slice());
+    assert_eq!(rt; answer.trace.as_slice(), printed(alloc, b"ra")?.as_slice());
     assert_eq!(rt; answer.stop, PlainStop::Ended(23));
     Ok(())
 }

@@ -1,8 +1,10 @@
 pub mod Number
 pub mod Classes
+pub mod Objects
 pub mod Resolved
 pub mod World
 pub mod Meaning
 pub mod Stepping
+pub mod Holding
 pub mod Correct
 pub mod Rows

@@ -1,12 +1,15 @@
 -- What a program means: the events that it shows on an input, and how it ends.
-use Rattle.std.specs.Prelude.{ℕ, zero, suc, ℤ, pos, List, [], ◌∷◌, ◌++◌, length, Option, Some, None, Bool, true, false, slice_get, slice_set}
+use Rattle.std.specs.Prelude.{ℕ, zero, suc, ◌+◌, ℤ, pos, List, [], ◌∷◌, ◌++◌, length, Option, Some, None, Bool, true, false, not, ◌&&◌, nat_eq, slice_get, slice_set, slice_index_or, if◌then◌else◌}
 use Rattle.std.specs.Fmt.{signed_decimal}
 use Rattle.arc_ast.specs.declared.tree.Kind.TheVariants as k
-use Rattle.arc_spec.specs.declared.event.Fault.TheVariants.{Arithmetic, Unrecognized, Depth}
-use Rattle.arc_spec.specs.Classes.{Class, lookup, class_at}
+use Rattle.arc_ast.specs.declared.tree.Sign.TheVariants as signs
+use Rattle.arc_spec.specs.declared.event.Event.TheVariants.{Dealloc}
+use Rattle.arc_spec.specs.declared.event.Fault.TheVariants.{Arithmetic, Unrecognized, NilField, FieldClass, Depth, Resurrected}
+use Rattle.arc_spec.specs.Classes.{Class, lookup, descends, class_at}
 use Rattle.arc_spec.specs.Number.{converted, negated, combined, low_byte, is_zero}
-use Rattle.arc_spec.specs.Resolved.{Piece, Bytes, Decimal, Character, Value, Number, ReadByte, Print, Negated, Combined, Converted, Local, Assigned, Invoked, Sent, SentSuper, Values, no_values, and_value, Command, Sequence, Evaluate, Return, Choose, Repeat, Commands, no_commands, and_command, Function, Program}
-use Rattle.arc_spec.specs.World.{World, Outcome, Done, Faulted, Cut, then_do, prints, first_world, with_locals, local_at, first_locals, next_number, has_read}
+use Rattle.arc_spec.specs.Objects.{Object, Phase, Dying, Gone, object_at, with_object, in_phase, with_fields, is_live, new_object, names}
+use Rattle.arc_spec.specs.Resolved.{Piece, Bytes, Decimal, Character, Value, Number, ReadByte, Print, Negated, Combined, Converted, Local, Assigned, Invoked, Sent, SentSuper, SentTo, SentToSuper, Field, FieldAssigned, Differ, IsObject, Reference, Nil, Itself, Variable, Stored, Made, Initialized, Values, no_values, and_value, Command, Sequence, Evaluate, EvaluateReference, Begin, Return, Choose, Repeat, Commands, no_commands, and_command, Function, Program}
+use Rattle.arc_spec.specs.World.{World, Outcome, Done, Faulted, Cut, then_do, Finished, finished, shows, prints, places, first_world, entered, left, takes, stores, with_objects, with_locals, with_temporaries, local_at, name_at, next_number, has_read}
 
 -- what a format writes of these values, of which each number takes the next (C99, section 7.19.6.1)
 abbrev pub formatted : List Piece → List ℤ → List ℕ
@@ -26,22 +29,101 @@ abbrev pub or_fault : Option ℤ → World → Outcome ℤ
 or_fault (Some v) w = Done v w
 or_fault None w = Faulted Arithmetic w
 
--- what a call does, one level deeper, with the number of the function and what it is given; and the classes of the program
+-- what a call does, one level deeper, with the number of the function, its `self` and what it is given; what the end of an object does; and the classes of the program
 pub record Deeper : Type 0 where
-  pub call : ℕ → List ℤ → World → Outcome ℤ
+  pub call : ℕ → (self : ℕ) → List ℤ → World → Outcome ℤ
+  pub end_of : ℕ → World → Outcome Finished
   pub classes : List Class
 
--- A message with what it has found: that function runs with `self` and the arguments; with none it is a fault.
-abbrev pub dispatched : Deeper → Option ℕ → (self : ℤ) → List ℤ → World → Outcome ℤ
-dispatched D None self given w = Faulted Unrecognized w
-dispatched D (Some f) self given w = D.call f (self ∷ given) w
+-- ---- places that are dropped
 
--- the function that a message finds from a class up
+-- A place was dropped that named this: where it was the last strong place of an object whose dealloc hasn't begun, the object ends (ARC, "Object liveness" and "dealloc").
+abbrev pub released : Deeper → ℕ → World → Outcome Finished
+released D r w = if is_live (object_at w.objects r) && not (names r (places w)) then D.end_of r w else Done finished w
+
+-- temporaries are dropped, the last one that was taken first
+abbrev pub temporaries_dropped : Deeper → List ℕ → World → Outcome Finished
+temporaries_dropped D [] w = Done finished w
+temporaries_dropped D (r ∷ others) w = then_do (released D r (with_temporaries w others)) (λ _ w1. temporaries_dropped D others w1)
+
+-- the end of a full-expression
+abbrev pub all_dropped : Deeper → World → Outcome Finished
+all_dropped D w = temporaries_dropped D w.frame.temporaries w
+
+-- a strong variable takes a new value, and then the old one is dropped (ARC, "Assignment")
+abbrev pub assigned : Deeper → ℕ → ℕ → World → Outcome Finished
+assigned D i r w = released D (name_at w.frame.strong i) (stores i r w)
+
+-- so many variables are dropped, from the first one on, in the reverse of their order
+abbrev pub variables_dropped : Deeper → (first count : ℕ) → World → Outcome Finished
+variables_dropped D first zero w = Done finished w
+variables_dropped D first (suc n) w = then_do (assigned D (first + n) 0 w) (λ _ w1. variables_dropped D first n w1)
+
+-- ---- messages
+
+-- A message to a class with what it has found: that function runs with the class as its first argument, `self`; with none it is a fault.
+abbrev pub dispatched : Deeper → Option ℕ → (class : ℤ) → List ℤ → World → Outcome ℤ
+dispatched D None class given w = Faulted Unrecognized w
+dispatched D (Some f) class given w = D.call f 0 (class ∷ given) w
+
+-- the function that a message to a class finds from a class up
 abbrev pub finds : Deeper → (from : Option ℕ) → (selector : ℕ) → List ℤ → Option ℕ
-finds D from selector given = lookup D.classes from selector (length given)
+finds D from selector given = lookup D.classes from signs.Class selector (length given)
+
+-- a message to an object, the same
+abbrev pub runs_found : Deeper → Option ℕ → (self : ℕ) → List ℤ → World → Outcome ℤ
+runs_found D None self given w = Faulted Unrecognized w
+runs_found D (Some f) self given w = D.call f self given w
+
+-- the class of an object
+abbrev pub class_in : Option Object → Option ℕ
+class_in None = None
+class_in (Some o) = Some o.class
+
+-- a message to what this names, which is looked up from a class; to nil it gives 0 (OPL, "Sending Messages to nil")
+abbrev pub sent_from : Deeper → (from : Option ℕ) → (self selector : ℕ) → List ℤ → World → Outcome ℤ
+sent_from D from zero selector given w = Done (pos 0) w
+sent_from D from (suc k) selector given w = runs_found D (lookup D.classes from signs.Instance selector (length given)) (suc k) given w
+
+abbrev pub sent_to : Deeper → (self selector : ℕ) → List ℤ → World → Outcome ℤ
+sent_to D self selector given w = sent_from D (class_in (object_at w.objects self)) self selector given w
+
+-- ---- objects
+
+-- the number of an object that is made now
+abbrev pub next_object : World → ℕ
+next_object w = suc (length w.objects)
+
+-- how many fields the objects of a class have
+abbrev pub field_count : Option Class → ℕ
+field_count None = 0
+field_count (Some c) = c.fields
+
+-- an object of a class is made, and a temporary takes it (OPL, "Allocating and Initializing Objects"); what is no class has no such method
+abbrev pub made : Deeper → Option ℕ → World → Outcome ℕ
+made D None w = Faulted Unrecognized w
+made D (Some c) w = Done (next_object w) (takes (next_object w) (with_objects w (w.objects ++ new_object c (field_count (slice_get D.classes c)) ∷ [])))
+
+-- an object's field is used, whose own class this is: nil has none, and an object of another class hasn't this one (this project's own choice)
+abbrev pub in_object : Deeper → (class : ℕ) → Option Object → (Object → Outcome ℤ) → World → Outcome ℤ
+in_object D class None go w = Faulted NilField w
+in_object D class (Some o) go w = if descends D.classes (Some o.class) class then go o else Faulted FieldClass w
+
+abbrev pub field_read : Deeper → (r class index : ℕ) → World → Outcome ℤ
+field_read D r class index w = in_object D class (object_at w.objects r) (λ o. Done (slice_index_or o.fields index (pos 0)) w) w
+
+abbrev pub field_set : Deeper → (r class index : ℕ) → ℤ → World → Outcome ℤ
+field_set D r class index v w =
+    in_object D class (object_at w.objects r) (λ o. Done v (with_objects w (with_object w.objects r (with_fields o (slice_set o.fields index v))))) w
+
+-- 1 where the two differ
+abbrev pub difference : ℕ → ℕ → ℤ
+difference a b = if nat_eq a b then pos 0 else pos 1
 
 -- Evaluation goes from left to right. printf evaluates all values, then writes the bytes, and gives their number. The value of an assignment is its right side (C99, section 6.5.16).
--- A message evaluates its receiver and then its arguments; one to `super` goes to `self`, the first variable (OPL, "Messages to self and super").
+-- A message evaluates its receiver and then its arguments; one to `super` goes to `self`, in a class method the first variable (OPL, "Messages to self and super").
+-- Each object that a variable, `self`, an assignment or a message gives is taken by a temporary (this project's own choice, stronger than ARC). A field's object is
+-- evaluated before what is assigned to it.
 abbrev mutual
   pub evaluated : Deeper → Value → World → Outcome ℤ
   evaluated D (Number n) w = Done n w
@@ -52,18 +134,44 @@ abbrev mutual
   evaluated D (Combined operator kind a b) w =
       then_do (evaluated D a w) (λ x w1. then_do (evaluated D b w1) (λ y w2. or_fault (combined operator kind x y) w2))
   evaluated D (Converted kind a) w = then_do (evaluated D a w) (λ x w1. Done (converted kind x) w1)
-  evaluated D (Local i) w = Done (local_at w.locals i) w
-  evaluated D (Assigned i a) w = then_do (evaluated D a w) (λ x w1. Done x (with_locals w1 (slice_set w1.locals i x)))
-  evaluated D (Invoked f arguments) w = then_do (all_evaluated D arguments w) (λ given w1. D.call f given w1)
+  evaluated D (Local i) w = Done (local_at w.frame.locals i) w
+  evaluated D (Assigned i a) w = then_do (evaluated D a w) (λ x w1. Done x (with_locals w1 (slice_set w1.frame.locals i x)))
+  evaluated D (Invoked f arguments) w = then_do (all_evaluated D arguments w) (λ given w1. D.call f 0 given w1)
   evaluated D (Sent a selector arguments) w =
       then_do (evaluated D a w) (λ self w1. then_do (all_evaluated D arguments w1) (λ given w2. dispatched D (finds D (class_at self) selector given) self given w2))
   evaluated D (SentSuper from selector arguments) w =
-      then_do (all_evaluated D arguments w) (λ given w1. dispatched D (finds D (Some from) selector given) (local_at w.locals 0) given w1)
+      then_do (all_evaluated D arguments w) (λ given w1. dispatched D (finds D (Some from) selector given) (local_at w.frame.locals 0) given w1)
+  evaluated D (SentTo a selector arguments) w = then_do (referred D a w) (λ self w1. then_do (all_evaluated D arguments w1) (λ given w2. sent_to D self selector given w2))
+  evaluated D (SentToSuper from selector arguments) w =
+      then_do (all_evaluated D arguments (takes w.frame.self w)) (λ given w1. sent_from D (Some from) w.frame.self selector given w1)
+  evaluated D (Field a class index) w = then_do (referred D a w) (λ r w1. field_read D r class index w1)
+  evaluated D (FieldAssigned a class index b) w = then_do (referred D a w) (λ r w1. then_do (evaluated D b w1) (λ v w2. field_set D r class index v w2))
+  evaluated D (Differ a b) w = then_do (referred D a w) (λ x w1. then_do (referred D b w1) (λ y w2. Done (difference x y) w2))
+  evaluated D (IsObject a) w = then_do (referred D a w) (λ x w1. Done (difference x 0) w1)
+
+  pub referred : Deeper → Reference → World → Outcome ℕ
+  referred D Nil w = Done 0 (takes 0 w)
+  referred D Itself w = Done w.frame.self (takes w.frame.self w)
+  referred D (Variable i) w = Done (name_at w.frame.strong i) (takes (name_at w.frame.strong i) w)
+  referred D (Stored i a) w = then_do (referred D a w) (λ r w1. then_do (assigned D i r w1) (λ _ w2. Done r (takes r w2)))
+  referred D (Made a) w = then_do (evaluated D a w) (λ class w1. made D (class_at class) w1)
+  referred D (Initialized a) w = then_do (referred D a w) (λ r w1. Done r (takes r w1))
 
   pub all_evaluated : Deeper → Values → World → Outcome (List ℤ)
   all_evaluated D no_values w = Done [] w
   all_evaluated D (and_value a others) w =
       then_do (evaluated D a w) (λ x w1. then_do (all_evaluated D others w1) (λ xs w2. Done (x ∷ xs) w2))
+
+-- full-expressions (C99, section 6.8): their temporaries are dropped at their end
+abbrev pub whole : Deeper → Value → World → Outcome ℤ
+whole D a w = then_do (evaluated D a w) (λ v w1. then_do (all_dropped D w1) (λ _ w2. Done v w2))
+
+abbrev pub whole_reference : Deeper → Reference → World → Outcome Finished
+whole_reference D a w = then_do (referred D a w) (λ _ w1. all_dropped D w1)
+
+-- a variable begins with an object
+abbrev pub begun : Deeper → ℕ → Reference → World → Outcome Finished
+begun D i a w = then_do (referred D a w) (λ r w1. then_do (assigned D i r w1) (λ _ w2. all_dropped D w2))
 
 -- how a statement is left: behind it, or by a return with a value
 pub data Flow : Type 0 where
@@ -86,15 +194,25 @@ turns zero test body w = then_do (test w) (λ v w1. chosen (is_zero v) (Cut w1) 
 turns (suc n) test body w =
     then_do (test w) (λ v w1. chosen (is_zero v) (then_do (body w1) (λ flow w2. if_normal flow (turns n test body) w2)) (Done Normal w1))
 
+-- a block's own variables are dropped at its end; where a return leaves it, the function drops them
+abbrev pub scope_left : Deeper → (first count : ℕ) → Flow → World → Outcome Flow
+scope_left D first count Normal w = then_do (variables_dropped D first count w) (λ _ w1. Done Normal w1)
+scope_left D first count (Returned v) w = Done (Returned v) w
+
+abbrev pub normally : Outcome Finished → Outcome Flow
+normally o = then_do o (λ _ w. Done Normal w)
+
 -- `bound` is how many turns each running of a loop may make
 abbrev mutual
   pub executed : Deeper → (bound : ℕ) → Command → World → Outcome Flow
-  executed D bound (Sequence all) w = all_executed D bound all w
-  executed D bound (Evaluate a) w = then_do (evaluated D a w) (λ _ w1. Done Normal w1)
+  executed D bound (Sequence first count all) w = then_do (all_executed D bound all w) (λ flow w1. scope_left D first count flow w1)
+  executed D bound (Evaluate a) w = then_do (whole D a w) (λ _ w1. Done Normal w1)
+  executed D bound (EvaluateReference a) w = normally (whole_reference D a w)
+  executed D bound (Begin i a) w = normally (begun D i a w)
   executed D bound (Return None) w = Done (Returned (pos 0)) w
-  executed D bound (Return (Some a)) w = then_do (evaluated D a w) (λ v w1. Done (Returned v) w1)
-  executed D bound (Choose test a b) w = then_do (evaluated D test w) (λ v w1. chosen (is_zero v) (executed D bound a w1) (executed D bound b w1))
-  executed D bound (Repeat test body) w = turns bound (evaluated D test) (executed D bound body) w
+  executed D bound (Return (Some a)) w = then_do (whole D a w) (λ v w1. Done (Returned v) w1)
+  executed D bound (Choose test a b) w = then_do (whole D test w) (λ v w1. chosen (is_zero v) (executed D bound a w1) (executed D bound b w1))
+  executed D bound (Repeat test body) w = turns bound (whole D test) (executed D bound body) w
 
   pub all_executed : Deeper → (bound : ℕ) → Commands → World → Outcome Flow
   all_executed D bound no_commands w = Done Normal w
@@ -110,23 +228,65 @@ abbrev pub function_at : Program → ℕ → Function
 function_at P f = function_of (slice_get P.functions f)
   where
     function_of : Option Function → Function
-    function_of None = record { slots = 0; body = no_commands }
+    function_of None = record { slots = 0; names = 0; body = no_commands }
     function_of (Some g) = g
 
--- a call: the function runs with variables of its own, behind which the caller's are there again
-abbrev pub called : Deeper → (bound : ℕ) → Function → List ℤ → World → Outcome ℤ
-called D bound f arguments w =
-    then_do (all_executed D bound f.body (with_locals w (first_locals f.slots arguments))) (λ flow w1. Done (given flow) (with_locals w1 w.locals))
+-- A call: the function runs with variables of its own, and behind it the caller's are there again. The variables that name objects are dropped at its end, also
+-- behind a return; those of blocks that were left before name nothing by then.
+abbrev pub called : Deeper → (bound : ℕ) → Function → (self : ℕ) → List ℤ → World → Outcome ℤ
+called D bound f self arguments w =
+    then_do (all_executed D bound f.body (entered f.slots f.names self arguments w)) (λ flow w1.
+    then_do (variables_dropped D 0 f.names w1) (λ _ w2. Done (given flow) (left w w2)))
 
--- calls where so many levels are left: with none a call is a fault
+-- ---- the end of an object (ARC, "dealloc")
+
+-- what the dealloc of a class does
+abbrev pub dealloc_run : Program → Deeper → (bound : ℕ) → Option ℕ → (o : ℕ) → World → Outcome Finished
+dealloc_run P D bound None o w = Done finished w
+dealloc_run P D bound (Some f) o w = then_do (called D bound (function_at P f) o [] w) (λ _ w1. Done finished w1)
+
+-- that, and then what is above it
+abbrev pub dealloc_and_above : Program → Deeper → (bound : ℕ) → Option Class → (o : ℕ) → (above : Option ℕ → World → Outcome Finished) → World → Outcome Finished
+dealloc_and_above P D bound None o above w = Done finished w
+dealloc_and_above P D bound (Some c) o above w = then_do (dealloc_run P D bound c.dealloc o w) (λ _ w1. above c.superclass w1)
+
+-- what the deallocs of the next n classes do, from this one up to the root, each once
+abbrev pub deallocs_run : Program → Deeper → (bound n : ℕ) → (class : Option ℕ) → (o : ℕ) → World → Outcome Finished
+deallocs_run P D bound zero class o w = Done finished w
+deallocs_run P D bound (suc n) None o w = Done finished w
+deallocs_run P D bound (suc n) (Some c) o w = dealloc_and_above P D bound (slice_get P.classes c) o (λ above w1. deallocs_run P D bound n above o w1) w
+
+-- an object in another phase
+abbrev pub turned : Phase → (o : ℕ) → Option Object → World → World
+turned phase o None w = w
+turned phase o (Some ob) w = with_objects w (with_object w.objects o (in_phase phase ob))
+
+-- an object is gone, unless a strong place names it again (this project's own choice)
+abbrev pub gone : (o : ℕ) → World → Outcome Finished
+gone o w = if names o (places w) then Faulted Resurrected w else Done finished (turned Gone o (object_at w.objects o) w)
+
+-- its dealloc begins: this is shown with its number and its class
+abbrev pub dying : (o : ℕ) → Option Object → World → World
+dying o None w = w
+dying o (Some ob) w = shows (Dealloc o ob.class ∷ []) (turned Dying o (Some ob) w)
+
+abbrev pub ended : Program → Deeper → (bound : ℕ) → (o : ℕ) → World → Outcome Finished
+ended P D bound o w =
+    then_do (deallocs_run P D bound (length P.classes) (class_in (object_at w.objects o)) o (dying o (object_at w.objects o) w)) (λ _ w1. gone o w1)
+
+-- calls and ends of objects where so many levels are left: with none they are a fault
 abbrev pub level : Program → (bound levels : ℕ) → Deeper
-level P bound zero = record { call = λ f arguments w. Faulted Depth w; classes = P.classes }
-level P bound (suc n) = record { call = λ f arguments w. called (level P bound n) bound (function_at P f) arguments w; classes = P.classes }
+level P bound zero = record { call = λ f self arguments w. Faulted Depth w; end_of = λ o w. Faulted Depth w; classes = P.classes }
+level P bound (suc n) = record {
+  call = λ f self arguments w. called (level P bound n) bound (function_at P f) self arguments w;
+  end_of = λ o w. ended P (level P bound n) bound o w;
+  classes = P.classes;
+}
 
--- how many calls of functions and methods may run within one another, main's being the first (this project's own limit)
+-- how many calls of functions and methods and ends of objects may run within one another, the call of main being the first (this project's own limit)
 abbrev pub most_levels : ℕ
 most_levels = 2000
 
 -- the meaning of a program on an input, with a bound on the turns of each loop: main's value, as an int
 abbrev pub mean : Program → List ℕ → (bound : ℕ) → Outcome ℤ
-mean P input bound = then_do ((level P bound most_levels).call P.main [] (first_world input)) (λ v w. Done (converted k.Int v) w)
+mean P input bound = then_do ((level P bound most_levels).call P.main 0 [] (first_world input)) (λ v w. Done (converted k.Int v) w)

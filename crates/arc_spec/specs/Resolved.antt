@@ -11,8 +11,9 @@ pub data Piece : Type 0 where
   Character : Piece
 
 mutual
-  -- An expression, which gives a number; an operator has the kind in which it computes. A variable goes by its number in its function; functions, classes and
+  -- An expression that gives a number; an operator has the kind in which it computes. A variable goes by its number in its function; functions, classes and
   -- selectors go by their numbers in the program, and a class is a value by its number. A message to `super` has the class from which its method is looked up.
+  -- A field goes by its number in the objects that have it, with the class whose own field it is.
   pub data Value : Type 0 where
     Number : ℤ → Value
     ReadByte : Value
@@ -25,15 +26,33 @@ mutual
     Invoked : ℕ → Values → Value
     Sent : Value → (selector : ℕ) → Values → Value
     SentSuper : (from selector : ℕ) → Values → Value
+    SentTo : Reference → (selector : ℕ) → Values → Value
+    SentToSuper : (from selector : ℕ) → Values → Value
+    Field : Reference → (class index : ℕ) → Value
+    FieldAssigned : Reference → (class index : ℕ) → Value → Value
+    Differ : Reference → Reference → Value
+    IsObject : Reference → Value
+
+  -- An expression that gives an object or nil: `nil`, `self`, a variable, an assignment to one, `alloc` or `new` of a class, and `init` of an object.
+  pub data Reference : Type 0 where
+    Nil : Reference
+    Itself : Reference
+    Variable : ℕ → Reference
+    Stored : ℕ → Reference → Reference
+    Made : Value → Reference
+    Initialized : Reference → Reference
 
   pub data Values : Type 0 where
     no_values : Values
     and_value : Value → Values → Values
 
 mutual
+  -- A statement. A sequence has so many variables of its own that name objects, from the first one on; the beginning of such a variable is what it names first.
   pub data Command : Type 0 where
-    Sequence : Commands → Command
+    Sequence : (first count : ℕ) → Commands → Command
     Evaluate : Value → Command
+    EvaluateReference : Reference → Command
+    Begin : ℕ → Reference → Command
     Return : Option Value → Command
     Choose : Value → Command → Command → Command
     Repeat : Value → Command → Command
@@ -42,10 +61,11 @@ mutual
     no_commands : Commands
     and_command : Command → Commands → Commands
 
--- A function with how many variables it has, of which the first are its parameters. A method is one too; its first variable is `self`, the class that got the
--- message, which is passed to it before its arguments (OPL, "Using Hidden Arguments").
+-- A function with how many variables it has that hold numbers, of which the first are its parameters, and how many that name objects. A method is one too; the
+-- first number of a class method is `self`, the class that got the message, which is passed to it before its arguments (OPL, "Using Hidden Arguments").
 pub record Function : Type 0 where
   pub slots : ℕ
+  pub names : ℕ
   pub body : Commands
 
 -- the functions of a program, which of them is main, and the classes, whose methods run functions

@@ -1,20 +1,28 @@
 -- Programs whose meaning is known, to hold the definitions against.
-use Rattle.std.specs.Prelude.{◌≡◌, ℕ, pos, negsuc, List, [], ◌∷◌, map, codes, Some, None}
+use Rattle.std.specs.Prelude.{◌≡◌, ℕ, pos, negsuc, List, [], ◌∷◌, ◌++◌, map, codes, Option, Some, None}
+use Rattle.arc_ast.specs.declared.tree.Sign.{Sign}
+use Rattle.arc_ast.specs.declared.tree.Sign.TheVariants as signs
 use Rattle.arc_ast.specs.declared.tree.Kind.TheVariants.{Int, Long}
 use Rattle.arc_ast.specs.declared.tree.BinaryOperator.TheVariants.{Add, Multiply, Divide}
-use Rattle.arc_spec.specs.declared.event.Event.TheVariants.{Byte}
+use Rattle.arc_spec.specs.declared.event.Event.{Event}
+use Rattle.arc_spec.specs.declared.event.Event.TheVariants.{Byte, Dealloc}
+use Rattle.arc_spec.specs.Classes.{Class}
 use Rattle.arc_spec.specs.declared.class.Method.{Method}
-use Rattle.arc_spec.specs.Resolved.{Value, Number, ReadByte, Print, Negated, Combined, Local, Sent, SentSuper, Program, no_values, and_value, Commands, Evaluate, Return, Function, no_commands, and_command, Bytes, Decimal, Character}
+use Rattle.arc_spec.specs.Resolved.{Value, Number, ReadByte, Print, Negated, Combined, Local, Sent, SentSuper, SentTo, Field, FieldAssigned, Reference, Nil, Itself, Variable, Stored, Made, Program, no_values, and_value, Command, Commands, Evaluate, EvaluateReference, Begin, Return, Function, no_commands, and_command, Bytes, Decimal, Character}
 use Rattle.arc_spec.specs.Correct.{Stop, meaning_seen}
 use Rattle.arc_spec.specs.Meaning.{mean}
 
+-- a program shows these events on this input, and then stops so
+abbrev pub HasTrace : Program → (input : List ℕ) → List Event → Stop → Type 0
+HasTrace P input events stop = meaning_seen (mean P input 0) ≡ record { trace = events; stop = Some stop }
+
 -- a program prints these bytes on this input, and then stops so
 abbrev pub Shows : Program → (input bytes : List ℕ) → Stop → Type 0
-Shows P input bytes stop = meaning_seen (mean P input 0) ≡ record { trace = map Byte bytes; stop = Some stop }
+Shows P input bytes stop = HasTrace P input (map Byte bytes) stop
 
 -- the same of a program that is this body of main alone
 abbrev pub Prints : Commands → (input bytes : List ℕ) → Stop → Type 0
-Prints body = Shows (record { functions = record { slots = 0; body = body } ∷ []; main = 0; classes = [] })
+Prints body = Shows (record { functions = record { slots = 0; names = 0; body = body } ∷ []; main = 0; classes = [] })
 
 -- { printf("42"); return 7; }
 abbrev pub forty_two : Commands
@@ -49,12 +57,16 @@ abbrev pub least_long : Commands
 least_long = and_command (Return (Some (Combined Divide Long (Number (negsuc 9223372036854775807)) (Number (negsuc 0))))) no_commands
 
 -- a method with this selector and no arguments, which runs a function
-abbrev pub method : (selector runs : ℕ) → Method
-method selector runs = record { selector = selector; takes = 0; runs = runs }
+abbrev pub method : Sign → (selector runs : ℕ) → Method
+method sign selector runs = record { sign = sign; selector = selector; takes = 0; runs = runs }
+
+-- a class without fields and dealloc
+abbrev pub plain_class : Option ℕ → List Method → Class
+plain_class superclass methods = record { superclass = superclass; methods = methods; dealloc = None; fields = 0 }
 
 -- a method's body that returns this
 abbrev pub returns : Value → Function
-returns a = record { slots = 1; body = and_command (Return (Some a)) no_commands }
+returns a = record { slots = 1; names = 0; body = and_command (Return (Some a)) no_commands }
 
 -- a class's number, as a value
 abbrev pub class_value : ℕ → Value
@@ -66,6 +78,7 @@ abbrev pub class_methods : Program
 class_methods = record {
   functions = record {
     slots = 0;
+    names = 0;
     body = and_command (Evaluate (Print (Decimal ∷ Bytes (codes " ") ∷ Decimal ∷ [])
         (and_value (Sent (class_value 1) 1 no_values) (and_value (Sent (class_value 2) 1 no_values) no_values))))
         (and_command (Evaluate (Sent (class_value 2) 2 no_values)) no_commands);
@@ -73,6 +86,57 @@ class_methods = record {
       ∷ returns (Number (pos 1)) ∷ returns (Combined Multiply Int (Sent (Local 0) 0 no_values) (Number (pos 10)))
       ∷ returns (Combined Add Int (SentSuper 1 0 no_values) (Number (pos 1))) ∷ [];
   main = 0;
-  classes = record { superclass = None; methods = [] } ∷ record { superclass = Some 0; methods = method 0 1 ∷ method 1 2 ∷ [] }
-      ∷ record { superclass = Some 1; methods = method 0 3 ∷ [] } ∷ [];
+  classes = plain_class None [] ∷ plain_class (Some 0) (method signs.Class 0 1 ∷ method signs.Class 1 2 ∷ []) ∷ plain_class (Some 1) (method signs.Class 0 3 ∷ []) ∷ [];
 }
+
+-- the field _v of self, which is the class 1's own
+abbrev pub own_field : Value
+own_field = Field Itself 1 0
+
+-- [what v]
+abbrev pub sent_v : Reference → Value
+sent_v what = SentTo what 0 no_values
+
+-- [A new]
+abbrev pub new_a : Reference
+new_a = Made (class_value 1)
+
+-- printf of a text without values
+abbrev pub printed : List ℕ → Command
+printed text = Evaluate (Print (Bytes text ∷ []) no_values)
+
+-- A class A with a field _v, a method v that gives it, and a dealloc that prints it behind a `d`; and main with this body and one variable that names an object.
+abbrev pub with_class_a : Commands → Program
+with_class_a body = record {
+  functions = record { slots = 0; names = 1; body = body }
+      ∷ record { slots = 0; names = 0; body = and_command (Return (Some own_field)) no_commands }
+      ∷ record { slots = 0; names = 0; body = and_command (Evaluate (Print (Bytes (codes "d") ∷ Decimal ∷ []) (and_value own_field no_values))) no_commands } ∷ [];
+  main = 0;
+  classes = plain_class None [] ∷ record { superclass = Some 0; methods = method signs.Instance 0 1 ∷ []; dealloc = Some 2; fields = 1 } ∷ plain_class (Some 0) [] ∷ [];
+}
+
+-- { A *a = [A new]; a->_v = 3; printf("%d", [a v]); [[A new] v]; printf("x"); a = nil; printf("y"); }
+abbrev pub objects_with_dealloc : Program
+objects_with_dealloc = with_class_a
+    (and_command (Begin 0 new_a)
+    (and_command (Evaluate (FieldAssigned (Variable 0) 1 0 (Number (pos 3))))
+    (and_command (Evaluate (Print (Decimal ∷ []) (and_value (sent_v (Variable 0)) no_values)))
+    (and_command (Evaluate (sent_v new_a))
+    (and_command (printed (codes "x"))
+    (and_command (EvaluateReference (Stored 0 Nil))
+    (and_command (printed (codes "y")) no_commands)))))))
+
+-- what it shows: the dealloc of the second object begins behind the 3, and that of the first one behind the x
+abbrev pub dealloc_events : List Event
+dealloc_events = map Byte (codes "3") ++ Dealloc 2 1 ∷ map Byte (codes "d0x") ++ Dealloc 1 1 ∷ map Byte (codes "d3y")
+
+-- { id b = [A new]; printf("%d", ((B *)b)->w); }, where w is the class 2's own
+abbrev pub field_of_another_class : Program
+field_of_another_class = with_class_a (and_command (Begin 0 new_a) (and_command (Evaluate (Print (Decimal ∷ []) (and_value (Field (Variable 0) 2 0) no_values))) no_commands))
+
+-- { return [nil v]; }, and { return ((A *)nil)->_v; }
+abbrev pub sent_to_nil : Commands
+sent_to_nil = and_command (Return (Some (SentTo Nil 0 no_values))) no_commands
+
+abbrev pub field_of_nil : Commands
+field_of_nil = and_command (Return (Some (Field Nil 1 0))) no_commands

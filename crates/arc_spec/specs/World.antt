@@ -1,30 +1,90 @@
 -- What a running program can change and show, and how a part of it ends.
-use Rattle.std.specs.Prelude.{ℕ, zero, suc, slice_index_or, ℤ, pos, negsuc, List, [], ◌∷◌, ◌++◌, map}
+use Rattle.std.specs.Prelude.{ℕ, zero, suc, slice_index_or, ℤ, pos, negsuc, List, [], ◌∷◌, ◌++◌, map, slice_set}
 use Rattle.arc_spec.specs.declared.event.Event.{Event}
 use Rattle.arc_spec.specs.declared.event.Event.TheVariants.{Byte}
 use Rattle.arc_spec.specs.declared.event.Fault as faults
+use Rattle.arc_spec.specs.Objects.{Object, nils}
 
--- the bytes of the input that are left, the events so far, and the variables of the running function
+-- The running function: in a method of objects `self`, the variables that hold numbers, those that name objects, and the temporaries of its full-expression, the
+-- last one first. The variables that name objects and the temporaries are strong places (ARC, "Ownership qualification"); `self` is none, since what sent the
+-- message holds it.
+pub record Frame : Type 0 where
+  pub self : ℕ
+  pub locals : List ℤ
+  pub strong : List ℕ
+  pub temporaries : List ℕ
+
+-- the bytes of the input that are left, the events so far, the objects, the running function, and the strong places of those that wait for it
 pub record World : Type 0 where
   pub input : List ℕ
   pub trace : List Event
-  pub locals : List ℤ
+  pub objects : List Object
+  pub frame : Frame
+  pub waiting : List ℕ
+
+abbrev pub first_frame : Frame
+first_frame = record { self = 0; locals = []; strong = []; temporaries = [] }
 
 abbrev pub first_world : List ℕ → World
-first_world input = record { input = input; trace = []; locals = [] }
+first_world input = record { input = input; trace = []; objects = []; frame = first_frame; waiting = [] }
+
+-- the strong places: what each of them names
+abbrev pub frame_places : Frame → List ℕ
+frame_places f = f.temporaries ++ f.strong
+
+abbrev pub places : World → List ℕ
+places w = frame_places w.frame ++ w.waiting
+
+abbrev pub with_frame : World → Frame → World
+with_frame w frame = record { input = w.input; trace = w.trace; objects = w.objects; frame = frame; waiting = w.waiting }
+
+abbrev pub with_objects : World → List Object → World
+with_objects w objects = record { input = w.input; trace = w.trace; objects = objects; frame = w.frame; waiting = w.waiting }
 
 abbrev pub with_locals : World → List ℤ → World
-with_locals w locals = record { input = w.input; trace = w.trace; locals = locals }
+with_locals w locals = with_frame w (record { self = w.frame.self; locals = locals; strong = w.frame.strong; temporaries = w.frame.temporaries })
+
+abbrev pub with_strong : World → List ℕ → World
+with_strong w strong = with_frame w (record { self = w.frame.self; locals = w.frame.locals; strong = strong; temporaries = w.frame.temporaries })
+
+abbrev pub with_temporaries : World → List ℕ → World
+with_temporaries w temporaries = with_frame w (record { self = w.frame.self; locals = w.frame.locals; strong = w.frame.strong; temporaries = temporaries })
 
 -- the number of a variable; one that there isn't counts as 0
 abbrev pub local_at : List ℤ → ℕ → ℤ
 local_at locals i = slice_index_or locals i (pos 0)
+
+-- what a variable names; one that there isn't names nothing
+abbrev pub name_at : List ℕ → ℕ → ℕ
+name_at strong i = slice_index_or strong i 0
 
 -- the variables of a function that begins: what it was given, and 0 for all others
 abbrev pub first_locals : (slots : ℕ) → List ℤ → List ℤ
 first_locals zero given = []
 first_locals (suc n) [] = pos 0 ∷ first_locals n []
 first_locals (suc n) (v ∷ given) = v ∷ first_locals n given
+
+-- a function begins: the running one waits for it
+abbrev pub entered : (slots count self : ℕ) → List ℤ → World → World
+entered slots count self given w = record {
+  input = w.input;
+  trace = w.trace;
+  objects = w.objects;
+  frame = record { self = self; locals = first_locals slots given; strong = nils count; temporaries = [] };
+  waiting = places w;
+}
+
+-- a function is left, and the one that waited for it runs again
+abbrev pub left : (before now : World) → World
+left before now = record { input = now.input; trace = now.trace; objects = now.objects; frame = before.frame; waiting = before.waiting }
+
+-- a temporary takes an object; nil is taken too, and then the temporary names nothing (ARC, "Object operands")
+abbrev pub takes : ℕ → World → World
+takes r w = with_temporaries w (r ∷ w.frame.temporaries)
+
+-- a variable names this now
+abbrev pub stores : ℕ → ℕ → World → World
+stores i r w = with_strong w (slice_set w.frame.strong i r)
 
 -- how a part of a program ends: with a value, stopped by a fault, or cut where a loop would pass the bound on its turns
 pub data Outcome (A : Type 0) : Type 0 where
@@ -37,9 +97,17 @@ then_do (Done a w) go = go a w
 then_do (Faulted f w) go = Faulted f w
 then_do (Cut w) go = Cut w
 
+-- what ends without a value
+pub data Finished : Type 0 where
+  finished : Finished
+
+-- events are shown
+abbrev pub shows : List Event → World → World
+shows events w = record { input = w.input; trace = w.trace ++ events; objects = w.objects; frame = w.frame; waiting = w.waiting }
+
 -- these bytes are printed
 abbrev pub prints : List ℕ → World → World
-prints bytes w = record { input = w.input; trace = w.trace ++ map Byte bytes; locals = w.locals }
+prints bytes w = shows (map Byte bytes) w
 
 -- getchar (C99, section 7.19.7.6): the next byte of the input, or -1 at its end
 abbrev pub next_number : List ℕ → ℤ
@@ -51,4 +119,4 @@ after_next [] = []
 after_next (b ∷ rest) = rest
 
 abbrev pub has_read : World → World
-has_read w = record { input = after_next w.input; trace = w.trace; locals = w.locals }
+has_read w = record { input = after_next w.input; trace = w.trace; objects = w.objects; frame = w.frame; waiting = w.waiting }

@@ -1,45 +1,53 @@
 //! Classes as running programs know them, and the methods that messages find.
 ghost use Rattle.std.specs.Prelude.{◌≡◌};
-ghost use Rattle.arc_spec.specs.Classes.{classes_of, found, lookup};
+ghost use Rattle.arc_spec.specs.Classes.{classes_of, descends, found, lookup};
 
-/// A method of a class: the number of its selector, how many arguments it takes, and what it runs,
-/// which is the number of a function or the place where its code begins.
+use arc_ast::tree::Sign;
+
+/// A method of a class: whether it is sent to the class or to its objects, the number of its selector,
+/// how many arguments it takes, and what it runs, which is the number of a function or the place where
+/// its code begins.
 #[derive(Clone, Copy, Debug, PartialEq, Eq)]
 pub struct Method {
+    pub sign: Sign,
     pub selector: usize,
     pub takes: usize,
     pub runs: usize,
 }
 
-/// A class: the number of its superclass, which the root has none of, and its own methods.
+/// A class: the number of its superclass, which the root has none of, its own methods, what its
+/// `dealloc` runs, where it has one, and how many fields its objects have, inherited ones too.
 #[derive(Debug, Drop)]
 pub struct Class {
     pub superclass: Option<usize>,
     pub methods: Vec<Method>,
+    pub dealloc: Option<usize>,
+    pub fields: usize,
 }
 
-/// What the first of these methods runs that answers a message with this selector and so many
-/// arguments.
-fn find(methods: &[Method], selector: usize, takes: usize) -> Option<usize>
-    ensures { result ≡ found selector takes methods.now }
+/// What the first of these methods runs that answers a message of this sign with this selector and so
+/// many arguments.
+fn find(methods: &[Method], sign: Sign, selector: usize, takes: usize) -> Option<usize>
+    ensures { result ≡ found sign selector takes methods.now }
 {
     for method in methods {
-        if method.selector == selector && method.takes == takes {
+        if method.sign == sign && method.selector == selector && method.takes == takes {
             return Some(method.runs);
         }
     }
     None
 }
 
-/// What a message with this selector and so many arguments runs: the method of the first class that
+/// What a message of this sign with this selector and so many arguments runs: the method of the first class that
 /// has one, from the class with this number up to the root.
 pub fn look_up(
     classes: &[Class],
     from: Option<usize>,
+    sign: Sign,
     selector: usize,
     takes: usize,
 ) -> Option<usize>
-    ensures { result ≡ lookup (classes_of classes.now) from selector takes }
+    ensures { result ≡ lookup (classes_of classes.now) from sign selector takes }
 {
     let mut next = from;
     for _passed in 0..classes.len() {
@@ -49,11 +57,31 @@ pub fn look_up(
         let Some(class) = classes.get(number) else {
             return None;
         };
-        let own = find(&class.methods, selector, takes);
+        let own = find(&class.methods, sign, selector, takes);
         if own.is_some() {
             return own;
         }
         next = class.superclass;
     }
     None
+}
+
+/// Whether the class with this number is that one, or comes from it.
+pub fn descends_from(classes: &[Class], from: Option<usize>, other: usize) -> bool
+    ensures { result ≡ descends (classes_of classes.now) from other }
+{
+    let mut next = from;
+    for _passed in 0..classes.len() {
+        let Some(number) = next else {
+            return false;
+        };
+        let Some(class) = classes.get(number) else {
+            return false;
+        };
+        if number == other {
+            return true;
+        }
+        next = class.superclass;
+    }
+    false
 }

@@ -8,6 +8,9 @@ use thiserror::Error;
 pub enum Event {
     /// This byte was printed.
     Byte(u8),
+    /// The dealloc of this object began: its number, counted from 1 in the order of their making, and
+    /// the number of its class.
+    Dealloc(u64, usize),
 }
 
 impl Default for Event {
@@ -25,9 +28,18 @@ pub enum Fault {
     /// A message that no method answers.
     #[error("a message that no method answers")]
     Unrecognized,
-    /// More than 2,000 calls of functions and methods were running.
+    /// A field of nil.
+    #[error("a field of nil")]
+    NilField,
+    /// A field of an object whose class doesn't have it.
+    #[error("a field of an object of another class")]
+    FieldClass,
+    /// More than 2,000 calls of functions and methods and deallocs of objects were running.
     #[error("too many calls within one another")]
     Depth,
+    /// An object was held again when its dealloc was done.
+    #[error("an object that is held after its dealloc")]
+    Resurrected,
 }
 
 /// Memory was asked for and refused.

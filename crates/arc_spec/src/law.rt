@@ -1,8 +1,8 @@
 //! What the definitions say of known programs, and what follows from them. Nothing here is run.
 ghost use Rattle.std.specs.Prelude.{◌≡◌, ℕ, ℤ, pos, negsuc, List, [], ◌∷◌, ◌++◌, codes};
-ghost use Rattle.arc_spec.specs.Rows.{Prints, Shows, forty_two, division_fault, one_byte, wrapped_sum, least_long, class_methods};
+ghost use Rattle.arc_spec.specs.Rows.{Prints, Shows, forty_two, division_fault, one_byte, wrapped_sum, least_long, class_methods, HasTrace, objects_with_dealloc, dealloc_events, field_of_another_class, sent_to_nil, field_of_nil};
 ghost use Rattle.arc_spec.specs.Correct.{Sight, Behaves, Steady, Refines, Ends, Faults};
-ghost use Rattle.arc_spec.specs.declared.event.Fault.TheVariants.{Arithmetic, Unrecognized};
+ghost use Rattle.arc_spec.specs.declared.event.Fault.TheVariants.{Arithmetic, Unrecognized, NilField, FieldClass};
 
 /// Programs mean what the language's rules say of them.
 pub fn known_programs()
@@ -12,6 +12,10 @@ pub fn known_programs()
     ensures wrapped_sum { Prints wrapped_sum [] (codes "-2147483648") (Ends (pos 11)) }
     ensures least_long { Prints least_long [] [] (Faults Arithmetic) }
     ensures class_methods { Shows class_methods [] (codes "10 20") (Faults Unrecognized) }
+    ensures objects { HasTrace objects_with_dealloc [] dealloc_events (Ends (pos 0)) }
+    ensures other_class { Shows field_of_another_class [] [] (Faults FieldClass) }
+    ensures nil_message { Prints sent_to_nil [] [] (Ends (pos 0)) }
+    ensures nil_field { Prints field_of_nil [] [] (Faults NilField) }
 {}
 
 /// Runs that refine runs of a meaning do what is meant.

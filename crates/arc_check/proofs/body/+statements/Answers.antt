@@ -16,14 +16,14 @@ block-returns-clause-scope t c =
     let table = c.args.table.now in
     let old = c.args.visible.now in
     leave_is table old c.statements.new.visible c.leave.new.self _ (behind_all_same (seen table old) (stmt_trees c.args.all.now)) c.in_ok-fault.ensures.scope
-    (c.leave.ensures.bound ∙ ap (λ n. take n c.statements.new.visible.bound.items) (c.len-count.ensures ∙ old.bound.ok.0) ∙ c.in_ok-fault.ensures.keeps) c.leave.ensures.next c.leave.ensures.class c.leave.ensures.hidden
+    (c.leave.ensures.bound ∙ ap (λ n. take n c.statements.new.visible.bound.items) (c.len-count.ensures ∙ old.bound.ok.0) ∙ c.in_ok-fault.ensures.keeps) (record { next = c.leave.ensures.next; names = c.leave.ensures.names; class = c.leave.ensures.class; sign = c.leave.ensures.sign; hidden = c.leave.ensures.hidden })
 
 pub scoped-returns-clause-scope : goal.scoped-returns-clause-scope
 scoped-returns-clause-scope t c =
     let table = c.args.table.now in
     let old = c.args.visible.now in
     let same = behind_same (seen table old) (stmt_tree c.args.inner.now) in
-    leave_is table old c.statement.new.visible c.leave.new.self _ same c.in_ok-fault.ensures.scope (c.leave.ensures.bound ∙ ap (λ n. take n c.statement.new.visible.bound.items) (c.len-count.ensures ∙ old.bound.ok.0) ∙ c.in_ok-fault.ensures.keeps) c.leave.ensures.next c.leave.ensures.class c.leave.ensures.hidden
+    leave_is table old c.statement.new.visible c.leave.new.self _ same c.in_ok-fault.ensures.scope (c.leave.ensures.bound ∙ ap (λ n. take n c.statement.new.visible.bound.items) (c.len-count.ensures ∙ old.bound.ok.0) ∙ c.in_ok-fault.ensures.keeps) (record { next = c.leave.ensures.next; names = c.leave.ensures.names; class = c.leave.ensures.class; sign = c.leave.ensures.sign; hidden = c.leave.ensures.hidden })
 
 pub statement-returns-in-Block-clause-fault : goal.statement-returns-in-Block-clause-fault
 statement-returns-in-Block-clause-fault t c =
@@ -40,7 +40,7 @@ statement-returns-in_ok-inside-in-If-clause-fault t c =
     let s = seen c.args.table.now c.args.visible.now in
     let A = broken_stmt c.args.gives_nothing s (stmt_tree c.in-If.then.value) in
     let inside : option_map told c.in_ok-inside-in-If.inside ≡ first A = rw c.deref-in-If.ensures at c.in_ok-inside-in-If.ensures.fault in
-    rw c.in-If.is (first_both (broken_test s (expr_tree c.in-If.test)) A (option_map told c.judge_test-fault.result.fault) (option_map told c.in_ok-inside-in-If.inside) (option_map told c.earlier.result) c.judge_test-fault.ensures.fault inside c.earlier.ensures)
+    rw c.in-If.is (first_both (broken_test s (expr_tree c.in-If.test)) A (option_map told c.test_fault-fault.result) (option_map told c.in_ok-inside-in-If.inside) (option_map told c.earlier.result) c.test_fault-fault.ensures inside c.earlier.ensures)
 
 pub statement-returns-in_ok-second-in-IfElse-clause-fault : goal.statement-returns-in_ok-second-in-IfElse-clause-fault
 statement-returns-in_ok-second-in-IfElse-clause-fault t c =
@@ -54,7 +54,7 @@ statement-returns-in_ok-second-in-IfElse-clause-fault t c =
     let two : option_map told c.in_ok-second-in-IfElse.second ≡ first (broken_stmt c.args.gives_nothing (seen c.args.table.now c.scoped-in-IfElse.new.visible) (stmt_tree c.in-IfElse.other.value)) =
     rw c.deref-in-IfElse-2.ensures at c.in_ok-second-in-IfElse.ensures.fault in
     let other : option_map told c.in_ok-second-in-IfElse.second ≡ first B = two ∙ ap (λ p. first (broken_stmt c.args.gives_nothing p (stmt_tree c.in-IfElse.other.value))) between in
-    rw c.in-IfElse.is (first_both (broken_test s (expr_tree c.in-IfElse.test)) _ (option_map told c.judge_test-fault-in-IfElse.result.fault) (option_map told c.earlier-in-IfElse.result) (option_map told c.earlier-in-IfElse-2.result) c.judge_test-fault-in-IfElse.ensures.fault
+    rw c.in-IfElse.is (first_both (broken_test s (expr_tree c.in-IfElse.test)) _ (option_map told c.test_fault-fault-in-IfElse.result) (option_map told c.earlier-in-IfElse.result) (option_map told c.earlier-in-IfElse-2.result) c.test_fault-fault-in-IfElse.ensures
     (first_both A B (option_map told c.in_ok-first-in-IfElse.first) (option_map told c.in_ok-second-in-IfElse.second) (option_map told c.earlier-in-IfElse.result) one other c.earlier-in-IfElse.ensures) c.earlier-in-IfElse-2.ensures)
 
 pub statement-returns-in_ok-inside-in-While-clause-fault : goal.statement-returns-in_ok-inside-in-While-clause-fault
@@ -62,7 +62,7 @@ statement-returns-in_ok-inside-in-While-clause-fault t c =
     let s = seen c.args.table.now c.args.visible.now in
     let A = broken_stmt c.args.gives_nothing s (stmt_tree c.in-While.body.value) in
     let inside : option_map told c.in_ok-inside-in-While.inside ≡ first A = rw c.deref-in-While.ensures at c.in_ok-inside-in-While.ensures.fault in
-    rw c.in-While.is (first_both (broken_test s (expr_tree c.in-While.test)) A (option_map told c.judge_test-fault-in-While.result.fault) (option_map told c.in_ok-inside-in-While.inside) (option_map told c.earlier-in-While.result) c.judge_test-fault-in-While.ensures.fault inside c.earlier-in-While.ensures)
+    rw c.in-While.is (first_both (broken_test s (expr_tree c.in-While.test)) A (option_map told c.test_fault-fault-in-While.result) (option_map told c.in_ok-inside-in-While.inside) (option_map told c.earlier-in-While.result) c.test_fault-fault-in-While.ensures inside c.earlier-in-While.ensures)
 
 pub statements-loop-one-preserved : goal.statements-loop-one-preserved
 statements-loop-one-preserved t c =

@@ -1,4 +1,5 @@
 use Rattle.std.proofs.Common.{◌≡◌, ap, ◌∙◌, option_map}
+use Rattle.arc_ast.specs.Tree.{type_tree}
 use Rattle.arc_check.specs.Fault.{told}
 use Rattle.arc_check.specs.Scopes.{declare}
 use Rattle.arc_check.specs.Views.{seen}
@@ -13,11 +14,12 @@ loop-variable-preserved c =
     let i = c.loop-variable.variable-index in
     let x = c.variable-item.result in
     let s = seen table c.loop-variable.visible in
-    let new = seen table c.declared.new.visible in
-    let after : new ≡ declare x.name.items s = c.in_ok-declared.ensures.scope table ∙ ap (λ n. declare n s) c.deref.ensures.value in
+    let type = type_tree c.args.type_name.now in
+    let new = seen table c.declare.new.self in
+    let after : new ≡ declare x.name.items type s = c.in_ok-declare.ensures.scope ∙ ap (λ n. declare n type s) c.deref.ensures.value in
     record {
-      fault = variables_turn s new xs i x (option_map told c.loop-variable.fault) (option_map told c.in_ok-declared.field-0) (option_map told c.earlier-fault.result) (option_map told c.initial.result) (option_map told c.earlier-fault-in-loop-variable.result) _
-          c.loop-variable-test.true c.variable-item.is (c.in_ok-declared.ensures.fault table) after c.earlier-fault.ensures c.initial.ensures c.earlier-fault-in-loop-variable.ensures c.loop-variable.invariant.fault;
-      scope = with_turn s new _ xs i x c.loop-variable-test.true c.variable-item.is after c.loop-variable.invariant.scope;
-      keeps = keeps_turn c.args.visible.now.bound.items c.loop-variable.visible.bound.items c.declared.new.visible.bound.items c.loop-variable.invariant.keeps c.in_ok-declared.ensures.keeps;
+      fault = variables_turn type s new xs i x (option_map told c.loop-variable.fault) (option_map told c.place_fault.result) (option_map told c.earlier-fault.result) (option_map told c.initial.result) (option_map told c.earlier-fault-in-loop-variable.result) _
+          c.loop-variable-test.true c.variable-item.is (c.place_fault.ensures table) after c.earlier-fault.ensures c.initial.ensures c.earlier-fault-in-loop-variable.ensures c.loop-variable.invariant.fault;
+      scope = with_turn type s new _ xs i x c.loop-variable-test.true c.variable-item.is after c.loop-variable.invariant.scope;
+      keeps = keeps_turn c.args.visible.now.bound.items c.loop-variable.visible.bound.items c.declare.new.self.bound.items c.loop-variable.invariant.keeps c.in_ok-declare.ensures.keeps;
     }

@@ -1,25 +1,29 @@
 use Rattle.std.proofs.Common.{◌≡◌, ◌<◌, ◌&&◌, length, is_none, refl, sym, ap, ◌∙◌, option_map}
-use Rattle.arc_ast.specs.Tree.{expr_tree, expr_trees, receiver_tree, place}
-use Rattle.arc_class.specs.Broken.{first, earlier_of}
-use Rattle.arc_class.proofs.Firsts.{first-append}
+use Rattle.arc_ast.specs.Tree.{expr_tree, expr_trees, type_tree, place}
+use Rattle.arc_class.specs.Broken.{earlier_of}
+use Rattle.arc_class.specs.Table.{number_of_class}
 use Rattle.arc_check.specs.Fault.{told}
 use Rattle.arc_check.specs.Formats.{wanted}
-use Rattle.arc_check.specs.Judging.{Judges, JudgesNumber}
-use Rattle.arc_check.specs.Rules.{is_variable, kind_of, broken, kind_if, no_number}
-use Rattle.arc_check.specs.Scopes.{sent_kind}
-use Rattle.arc_check.specs.Views.{known_in, seen}
-use Rattle.arc_check.proofs.Judgements.{judges_number, judges_call, judges_send, judges_message, judges_binary, judges_assign, judges_other, fit_turn, fault_turn}
+use Rattle.arc_check.specs.Judging.{Judges, counted}
+use Rattle.arc_check.specs.Rules.{at_if, kind_if}
+use Rattle.arc_check.specs.Views.{seen}
+use Rattle.arc_check.proofs.Judgements.{judges_call, judges_send, judges_super, judges_negation, judges_cast, judges_arrow, judges_message, judges_super_message, judges_binary, judges_assign, judges_other, fit_turn, fault_turn, taken_turn}
 use Rattle.arc_check.proofs.judge.+judge.Goals as goal
 use Rattle.arc_check.proofs.judge.+judge.Goals.{judge_arguments-then-told, judge_arguments-else-told}
 
 pub judge-returns-in-Call : goal.judge-returns-in-Call
 judge-returns-in-Call t c =
-    judges_call (seen c.args.table.now c.args.visible.now) c.args.expr.now c.in-Call.at c.in-Call.name c.in-Call.arguments c.deref-in-Call.result.now c.deref-in-Call-2.result.now c.judge_call.result c.in-Call.is c.deref-in-Call.ensures.value c.deref-in-Call-2.ensures.value c.judge_call.ensures
+    judges_call (seen c.args.table.now c.args.visible.now) c.args.before c.args.expr.now c.in-Call.at c.in-Call.name c.in-Call.arguments c.deref-in-Call.result.now c.deref-in-Call-2.result.now c.judge_call.result c.in-Call.is c.deref-in-Call.ensures.value c.deref-in-Call-2.ensures.value c.judge_call.ensures
 
 pub judge-returns-in-Send : goal.judge-returns-in-Send
 judge-returns-in-Send t c =
-    judges_send (seen c.args.table.now c.args.visible.now) c.args.expr.now c.in-Send.field-0 c.in-Send.part c.in-Send.receiver c.in-Send.selector c.in-Send.arguments c.deref-in-Send.result.now c.deref-in-Send-2.result.now c.judge_send.result c.in-Send.is c.deref-in-Send.ensures.value
-    c.deref-in-Send-2.ensures.value c.judge_send.ensures
+    judges_send (seen c.args.table.now c.args.visible.now) c.args.before c.args.expr.now c.in-Send.field-0 c.in-Send.part c.in-Send.receiver c.deref-in-Send.result.now c.in-Send.selector c.in-Send.arguments c.deref-in-Send-2.result.now c.deref-in-Send-3.result.now c.judge_send.result c.in-Send.is
+    c.deref-in-Send.ensures c.deref-in-Send-2.ensures.value c.deref-in-Send-3.ensures.value c.judge_send.ensures
+
+pub judge-returns-in-SendSuper : goal.judge-returns-in-SendSuper
+judge-returns-in-SendSuper t c =
+    judges_super (seen c.args.table.now c.args.visible.now) c.args.before c.args.expr.now c.in-SendSuper.field-0 c.in-SendSuper.part c.in-SendSuper.at c.in-SendSuper.selector c.in-SendSuper.arguments c.deref-in-SendSuper.result.now c.deref-in-SendSuper-2.result.now c.judge_super.result c.in-SendSuper.is
+    c.deref-in-SendSuper.ensures.value c.deref-in-SendSuper-2.ensures.value c.judge_super.ensures
 
 pub judge-returns-in-Binary : goal.judge-returns-in-Binary
 judge-returns-in-Binary t c =
@@ -28,43 +32,51 @@ judge-returns-in-Binary t c =
     let b = expr_tree c.in-Binary.right.value in
     let one = c.judge-first.result in
     let two = c.judge-second.result in
-    let left : Judges s a one = rw c.deref-in-Binary.ensures at c.judge-first.ensures in
-    let right : Judges s b two = rw c.deref-in-Binary-2.ensures at c.judge-second.ensures in
+    let left : Judges s c.args.before a one = rw c.deref-in-Binary.ensures at c.judge-first.ensures in
+    let right : Judges s one.taken b two = rw c.deref-in-Binary-2.ensures at c.judge-second.ensures in
     let here : c.place.result ≡ place a = c.place.ensures ∙ ap (λ e. place (expr_tree e)) c.deref-in-Binary-3.ensures in
     let there : c.place-in-Binary.result ≡ place b = c.place-in-Binary.ensures ∙ ap (λ e. place (expr_tree e)) c.deref-in-Binary-4.ensures in
-    rw c.in-Binary.is (judges_binary s _ _ a b one two c.combined.result c.place.result c.place-in-Binary.result left right here there c.combined.ensures.kind c.combined.ensures.fault)
+    rw c.in-Binary.is (judges_binary s c.args.before _ _ a b one two c.combined.result c.place.result c.place-in-Binary.result left right here there c.combined.ensures.kind c.combined.ensures.class c.combined.ensures.fault c.combined.ensures.taken)
 
-pub judge-returns-in-Assign : goal.judge-returns-in-Assign
-judge-returns-in-Assign t c =
-    let s = seen c.args.table.now c.args.visible.now in
-    let right : JudgesNumber s (expr_tree c.in-Assign.right.value) c.judge_number-value.result = rw c.deref-in-Assign.ensures at c.judge_number-value.ensures in
-    let left : Judges s (expr_tree c.in-Assign.left.value) c.judge-in-Assign.result = rw c.deref-in-Assign-3.ensures at c.judge-in-Assign.ensures in
-    rw c.in-Assign.is (judges_assign s _ c.in-Assign.sign (expr_tree c.in-Assign.left.value) (expr_tree c.in-Assign.right.value) c.is_variable.result c.judge-in-Assign.result c.judge_number-value.result c.assigned.result left right
-    (c.is_variable.ensures ∙ ap (λ a. is_variable (expr_tree a)) c.deref-in-Assign-2.ensures) c.assigned.ensures.kind c.assigned.ensures.fault)
+pub judge_negation-returns : goal.judge_negation-returns
+judge_negation-returns t c = λ at.
+    judges_negation (seen c.args.table.now c.args.visible.now) c.args.before at (expr_tree c.args.operand.now) c.judge-judged.result c.number.result c.place.result c.judge-judged.ensures c.place.ensures (ap (λ j. j.kind) c.number.ensures ∙ c.number_kind.ensures) (ap (λ j. j.class) c.number.ensures)
+    (ap (λ j. option_map told j.fault) c.number.ensures ∙ c.earlier.ensures ∙ ap (earlier_of (option_map told c.judge-judged.result.fault)) c.no_number.ensures) (ap (λ j. j.taken) c.number.ensures)
 
-pub judge_number-returns : goal.judge_number-returns
-judge_number-returns t c =
-    let s = seen c.args.table.now c.args.visible.now in
-    judges_number s (expr_tree c.args.expr.now) c.judge-judged.result (record { kind = c.judge-judged.result.kind; fault = c.earlier.result }) c.judge-judged.ensures refl
-    (c.earlier.ensures ∙ ap (earlier_of (option_map told c.judge-judged.result.fault)) (c.no_number.ensures ∙ ap (λ at. first (no_number c.judge-judged.result.kind at)) c.place.ensures))
+pub judge_cast-returns : goal.judge_cast-returns
+judge_cast-returns t c = λ at.
+    judges_cast (seen c.args.table.now c.args.visible.now) c.args.before at (type_tree c.args.type_name.now) (expr_tree c.args.operand.now) c.judge-judged.result c.object.result c.place.result c.judge-judged.ensures c.place.ensures (ap (λ j. j.kind) c.object.ensures)
+    (ap (λ j. option_map number_of_class j.class) c.object.ensures ∙ c.static_class.ensures) (ap (λ j. option_map told j.fault) c.object.ensures ∙ c.earlier.ensures ∙ ap (earlier_of (option_map told c.judge-judged.result.fault)) c.no_object.ensures) (ap (λ j. j.taken) c.object.ensures)
+
+pub judge_arrow-returns : goal.judge_arrow-returns
+judge_arrow-returns t c = λ at.
+    judges_arrow (seen c.args.table.now c.args.visible.now) c.args.before at c.args.name_at (expr_tree c.args.base.now) c.args.name.now c.judge-judged.result c.field_of.result c.place.result c.field-found.result c.judge-judged.ensures c.place.ensures c.field-found.ensures
+    c.field_of.ensures.kind c.field_of.ensures.class c.field_of.ensures.fault c.field_of.ensures.taken
+
+pub judge_assignment-returns : goal.judge_assignment-returns
+judge_assignment-returns t c = λ at.
+    judges_assign (seen c.args.table.now c.args.visible.now) c.args.before c.taken_by_left-between.result at c.args.sign (expr_tree c.args.left.now) (expr_tree c.args.right.now) c.is_assignable.result c.judge-first.result c.judge-second.result c.assigned.result c.place.result c.judge-first.ensures
+    (c.taken_by_left-between.ensures c.args.table.now) c.judge-second.ensures c.is_assignable.ensures c.place.ensures c.assigned.ensures.kind c.assigned.ensures.class c.assigned.ensures.fault c.assigned.ensures.taken
 
 pub judge_send-returns : goal.judge_send-returns
 judge_send-returns t c = λ at.
-    judges_message (seen c.args.table.now c.args.visible.now) at c.args.part (receiver_tree c.args.receiver.now) c.args.selector.now (expr_trees c.args.arguments.now) (option_map told c.message_fault-own.result) (option_map told c.judge_arguments-passed.result.fault)
-    (record { kind = c.sent_kind.result; fault = c.earlier.result }) c.message_fault-own.ensures c.judge_arguments-passed.ensures.fault
-    (c.sent_kind.ensures ∙ ap (λ o. sent_kind (known_in c.args.table.now) o c.args.selector.now) c.receiving.ensures) c.earlier.ensures
+    let visible = c.args.visible.now in
+    judges_message (seen c.args.table.now visible) c.args.before c.one_if-between.result at c.args.part (expr_tree c.args.receiver.now) c.args.selector.now (expr_trees c.args.arguments.now) (option_map number_of_class c.class_receiver-class.result) c.judge-judged.result
+    (record { kind = c.message_kind-kind.result; class = c.sent_class.result; fault = c.earlier-2.result; taken = c.judge_arguments-passed.result.taken }) c.judge_arguments-passed.result c.place.result (option_map told c.receiver_fault-own.result) (option_map told c.method_fault-unknown.result)
+    c.class_receiver-class.ensures c.judge-judged.ensures c.place.ensures (c.message_kind-kind.ensures visible) (c.receiver_fault-own.ensures) (c.method_fault-unknown.ensures visible)
+    (c.one_if-between.ensures ∙ ap (λ b. counted c.judge-judged.result.taken (at_if b c.args.part)) c.is_object.ensures) c.judge_arguments-passed.ensures.fault c.judge_arguments-passed.ensures.taken c.sent_class.ensures (c.earlier-2.ensures ∙ ap (λ o. earlier_of o (option_map told c.judge_arguments-passed.result.fault)) c.earlier.ensures) refl
 
-pub judge_argument-returns-else-printed-clause-fault : goal.judge_argument-returns-else-printed-clause-fault
-judge_argument-returns-else-printed-clause-fault t c =
-    let s = seen c.args.table.now c.args.visible.now in
-    let a = expr_tree c.args.argument.now in
-    rw c.if-printed.false (c.judge_number.ensures.fault ∙ first-append (broken s a) (no_number (kind_of s a) (place a)))
+pub judge_super-returns : goal.judge_super-returns
+judge_super-returns t c = λ at.
+    judges_super_message (seen c.args.table.now c.args.visible.now) c.args.before c.taken_by_super-between.result at c.args.part c.args.super_at c.args.selector.now (expr_trees c.args.arguments.now)
+    (record { kind = c.super_kind-kind.result; class = c.super_class.result; fault = c.earlier.result; taken = c.judge_arguments-passed.result.taken }) c.judge_arguments-passed.result (option_map told c.unknown_method.result) c.super_kind-kind.ensures (c.super_class.ensures c.args.table.now)
+    c.unknown_method.ensures (c.taken_by_super-between.ensures c.args.table.now) c.judge_arguments-passed.ensures.fault c.judge_arguments-passed.ensures.taken c.earlier.ensures refl
 
 pub judge_call-returns-in_default : goal.judge_call-returns-in_default
 judge_call-returns-in_default t c =
     let s = seen c.args.table.now c.args.visible.now in
-    rw (sym c.callee_of-callee.ensures) (judges_other s c.args.at c.callee_of-callee.result c.args.arguments.now c.call_fault-own.result c.judge_arguments-inside.result.fault c.called.result c.in_default.not-Printf c.call_fault-own.ensures
-    (c.called.ensures.kind ∙ ap (kind_if (is_none c.call_fault-own.result)) c.result_kind.ensures) c.called.ensures.fault c.judge_arguments-inside.ensures.fault)
+    rw (sym c.callee_of-callee.ensures) (judges_other s c.args.before c.args.at c.callee_of-callee.result c.args.arguments.now c.call_fault-own.result c.judge_arguments-inside.result c.called.result c.in_default.not-Printf c.call_fault-own.ensures
+    (c.called.ensures.kind ∙ ap (kind_if (is_none c.call_fault-own.result)) c.result_kind.ensures) c.called.ensures.class c.called.ensures.fault c.called.ensures.taken c.judge_arguments-inside.ensures.fault c.judge_arguments-inside.ensures.taken)
 
 pub judge_arguments-loop-argument-preserved : goal.judge_arguments-loop-argument-preserved
 judge_arguments-loop-argument-preserved t c =
@@ -77,5 +89,6 @@ judge_arguments-loop-argument-preserved t c =
     record {
       fit = fit_turn s xs i x c.judge_argument-judged.result.kind (wanted c.loop-argument.rest.now) (wanted c.take_conversion-fit.result.1.now) c.loop-argument.told.fit c.take_conversion-fit.result.0 c.if-told.told _ l c.argument-item.is c.judge_argument-judged.ensures.kind
           c.take_conversion-fit.ensures c.loop-argument.invariant.fit now;
+      taken = taken_turn s xs i x c.loop-argument.told.taken c.judge_argument-judged.result.taken _ l c.argument-item.is c.judge_argument-judged.ensures.taken c.loop-argument.invariant.taken;
       fault = fault_turn s c.args.printed xs i x (option_map told c.loop-argument.told.fault) (option_map told c.judge_argument-judged.result.fault) (option_map told c.earlier.result) _ l c.argument-item.is c.judge_argument-judged.ensures.fault c.earlier.ensures c.loop-argument.invariant.fault;
     }

@@ -1,12 +1,11 @@
-use Rattle.std.proofs.Common.{◌≡◌, OnOk, IfOk, take, refl, ap, subst, ◌∙◌}
+use Rattle.std.proofs.Common.{◌≡◌, ◌-◌, OnOk, IfOk, take, refl, ap, subst, ◌∙◌}
 use Rattle.arc_ast.specs.Tree.{expr_tree, stmt_tree, stmt_trees}
 use Rattle.arc_spec.specs.Resolved as spec
-use Rattle.arc_spec.specs.Resolved.{no_commands}
 use Rattle.arc_check.specs.Checked as checked
-use Rattle.arc_check.specs.Resolving.{resolved, resolved_stmt, resolved_stmts}
-use Rattle.arc_check.specs.Scopes.{Scope}
+use Rattle.arc_check.specs.Resolving.{nothing, number_in, resolved, resolved_stmt, resolved_stmts}
+use Rattle.arc_check.specs.Scopes.{Scope, behind_all}
 use Rattle.arc_check.specs.Views.{seen}
-use Rattle.arc_check.proofs.Commands.{commands_turn, commands_end, behind_turn, block_command, block_scope, declaration_command, choose_is, nothing}
+use Rattle.arc_check.proofs.Commands.{commands_turn, commands_end, behind_turn, block_command, block_scope, declaration_command, choose_is}
 use Rattle.arc_check.proofs.Leaving.{behind_same, behind_all_same, leave_is}
 use Rattle.arc_check.proofs.Scoping.{keeps_turn}
 use Rattle.arc_check.proofs.Trees.{sequence_command}
@@ -17,17 +16,22 @@ block-returns-clause-scope t c =
     let table = c.args.table.now in
     let old = c.args.visible.now in
     leave_is table old c.commands.new.visible c.leave.new.self _ (behind_all_same (seen table old) (stmt_trees c.args.statements.now)) c.in_ok-all.ensures.scope
-    (c.leave.ensures.bound ∙ ap (λ n. take n c.commands.new.visible.bound.items) (c.len-count.ensures ∙ old.bound.ok.0) ∙ c.in_ok-all.ensures.keeps) c.leave.ensures.next c.leave.ensures.class c.leave.ensures.hidden
+    (c.leave.ensures.bound ∙ ap (λ n. take n c.commands.new.visible.bound.items) (c.len-count.ensures ∙ old.bound.ok.0) ∙ c.in_ok-all.ensures.keeps) (record { next = c.leave.ensures.next; names = c.leave.ensures.names; class = c.leave.ensures.class; sign = c.leave.ensures.sign; hidden = c.leave.ensures.hidden })
 
 pub scoped-returns-clause-scope : goal.scoped-returns-clause-scope
 scoped-returns-clause-scope t c =
     let table = c.args.table.now in
     let old = c.args.visible.now in
     leave_is table old c.command.new.visible c.leave.new.self _ (behind_same (seen table old) (stmt_tree c.args.inner.now)) c.in_ok-new.ensures.scope
-    (c.leave.ensures.bound ∙ ap (λ n. take n c.command.new.visible.bound.items) (c.len-count.ensures ∙ old.bound.ok.0) ∙ c.in_ok-new.ensures.keeps) c.leave.ensures.next c.leave.ensures.class c.leave.ensures.hidden
+    (c.leave.ensures.bound ∙ ap (λ n. take n c.command.new.visible.bound.items) (c.len-count.ensures ∙ old.bound.ok.0) ∙ c.in_ok-new.ensures.keeps) (record { next = c.leave.ensures.next; names = c.leave.ensures.names; class = c.leave.ensures.class; sign = c.leave.ensures.sign; hidden = c.leave.ensures.hidden })
 
 pub block-returns-clause-command : goal.block-returns-clause-command
-block-returns-clause-command t c = sequence_command c.in_ok-all.all ∙ ap spec.Sequence c.in_ok-all.ensures.commands
+block-returns-clause-command t c =
+    let s = seen c.args.table.now c.args.visible.now in
+    let all = stmt_trees c.args.statements.now in
+    let own : c.saturating_sub-own.result ≡ ((behind_all s all).names - s.names) = c.saturating_sub-own.ensures ∙ ap (λ n. n - c.from-first.result) (c.from.ensures ∙ c.leave.ensures.names ∙ ap (λ q. q.names) c.in_ok-all.ensures.scope) ∙ ap (λ n. (behind_all s all).names - n) c.from-first.ensures in
+    sequence_command c.from-first.result c.saturating_sub-own.result c.in_ok-all.all ∙ ap (λ n. spec.Sequence n c.saturating_sub-own.result (checked.commands c.in_ok-all.all.items)) c.from-first.ensures
+    ∙ ap (λ n. spec.Sequence s.names n (checked.commands c.in_ok-all.all.items)) own ∙ ap (spec.Sequence s.names ((behind_all s all).names - s.names)) c.in_ok-all.ensures.commands
 
 pub command-returns-in-Block-clause-command : goal.command-returns-in-Block-clause-command
 command-returns-in-Block-clause-command t c =
@@ -41,20 +45,17 @@ command-returns-in-Block-clause-scope t c =
     let P : Scope → Type 0 = λ b. OnOk c.block.result (seen c.args.table.now c.block.new.visible ≡ b) in
     subst P (block_scope s c.args.statement.now c.in-Block.field-0 c.in-Block.all c.deref.result.now c.in-Block.is c.deref.ensures.value) c.block.ensures.scope
 
-pub command-returns-in-Empty-clause-command : goal.command-returns-in-Empty-clause-command
-command-returns-in-Empty-clause-command t c = nothing c.new.result c.new.ensures.items ∙ rw c.in-Empty.is refl
-
 pub command-returns-in_ok-variables-in-Variables-clause-command : goal.command-returns-in_ok-variables-in-Variables-clause-command
 command-returns-in_ok-variables-in-Variables-clause-command t c =
     let s = seen c.args.table.now c.args.visible.now in
-    declaration_command s c.args.statement.now c.in-Variables.field-0 c.in-Variables.all c.deref-in-Variables.result.now c.in_ok-variables-in-Variables.field-0 c.in-Variables.is c.deref-in-Variables.ensures.value c.in_ok-variables-in-Variables.ensures.commands
+    declaration_command s c.args.statement.now c.in-Variables.field-0 c.in-Variables.type_name c.in-Variables.all c.deref-in-Variables.result.now c.in_ok-variables-in-Variables.field-0 c.in-Variables.is c.deref-in-Variables.ensures.value c.in_ok-variables-in-Variables.ensures.commands
 
 pub command-returns-in_ok-nothing-in-If-clause-command : goal.command-returns-in_ok-nothing-in-If-clause-command
 command-returns-in_ok-nothing-in-If-clause-command t c =
     let s = seen c.args.table.now c.args.visible.now in
     let then : checked.command c.in_ok-then-in-If.then.value ≡ resolved_stmt s (stmt_tree c.in-If.then.value) = c.in_ok-then-in-If.ensures.command ∙ ap (λ a. resolved_stmt s (stmt_tree a)) c.deref-in-If.ensures in
-    rw c.in-If.is (choose_is (checked.value c.in_ok-test-in-If.field-0.value) (resolved s (expr_tree c.in-If.test)) (checked.command c.in_ok-then-in-If.then.value) (resolved_stmt s (stmt_tree c.in-If.then.value)) (checked.command c.in_ok-nothing-in-If.nothing.value)
-    (spec.Sequence no_commands) c.in_ok-test-in-If.ensures.value then (ap checked.command c.in_ok-nothing-in-If.ensures.ok ∙ nothing c.new-in-If.result c.new-in-If.ensures.items))
+    rw c.in-If.is (choose_is (checked.value c.in_ok-test-in-If.test) (number_in (resolved s (expr_tree c.in-If.condition))) (checked.command c.in_ok-then-in-If.then.value) (resolved_stmt s (stmt_tree c.in-If.then.value)) (checked.command c.in_ok-nothing-in-If.nothing.value)
+    nothing c.in_ok-test-in-If.ensures then (ap checked.command c.in_ok-nothing-in-If.ensures.ok ∙ c.nothing-in-If.ensures))
 
 pub commands-loop-statement-preserved : goal.commands-loop-statement-preserved
 commands-loop-statement-preserved t c =

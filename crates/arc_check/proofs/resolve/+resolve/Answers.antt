@@ -1,14 +1,15 @@
 use Rattle.std.proofs.Common.{sym, ap, ◌∙◌}
+use Rattle.arc_class.specs.Table.{number_of_class}
 use Rattle.arc_spec.specs.Resolved.{Invoked}
 use Rattle.arc_check.specs.declared.callee.Callee.TheVariants.{Printf, GetChar, Defined, Unknown}
-use Rattle.arc_check.specs.declared.resolve.Typed.{Typed}
 use Rattle.arc_check.specs.Checked as checked
-use Rattle.arc_ast.specs.Tree.{expr_trees, receiver_tree}
-use Rattle.arc_check.specs.Resolving.{number, kind_or_int, resolved_all}
-use Rattle.arc_check.specs.Scopes.{result_kind, sent_kind}
-use Rattle.arc_check.specs.Views.{known_in, seen}
-use Rattle.arc_check.proofs.Trees.{call_tree, send_tree, print_value, invoked_value}
-use Rattle.arc_check.proofs.Buildings.{values_turn, values_end, printing_some, printing_none, resolves_call, resolves_send}
+use Rattle.arc_ast.specs.Tree.{expr_tree, expr_trees}
+use Rattle.arc_check.specs.Resolving.{number, resolved, resolved_all}
+use Rattle.arc_check.specs.Scopes.{class_of, result_kind}
+use Rattle.arc_check.specs.Views.{seen}
+use Rattle.arc_check.proofs.Trees.{call_tree, send_tree, super_tree, print_value, invoked_value}
+use Rattle.arc_check.proofs.Buildings.{values_turn, values_end, printing_some, printing_none, resolves_call}
+use Rattle.arc_check.proofs.Messages.{resolves_class, resolves_object, resolves_super}
 use Rattle.arc_check.proofs.resolve.+resolve.Goals as goal
 use Rattle.arc_check.proofs.resolve.+resolve.Goals.{call-in-Printf+in_ok-value-in-Printf, call-in-Defined+in_ok-values-in-Defined, call-in-GetChar, call-in-Unknown}
 
@@ -18,26 +19,47 @@ expression-returns-in_ok-typed-in-Call t c =
 
 pub expression-returns-in_ok-typed-in-Send : goal.expression-returns-in_ok-typed-in-Send
 expression-returns-in_ok-typed-in-Send t c =
-    rw (c.in-Send.is, send_tree c.in-Send.field-0 c.in-Send.field-1 c.in-Send.receiver c.in-Send.selector c.in-Send.arguments, sym c.deref-in-Send.ensures.value, sym c.deref-in-Send-2.ensures.value) (c.in_ok-typed-in-Send.ensures c.in-Send.field-0 c.in-Send.field-1)
+    rw (c.in-Send.is, send_tree c.in-Send.field-0 c.in-Send.field-1 c.in-Send.receiver c.in-Send.selector c.in-Send.arguments, sym c.deref-in-Send.ensures, sym c.deref-in-Send-2.ensures.value, sym c.deref-in-Send-3.ensures.value)
+    (c.in_ok-typed-in-Send.ensures c.in-Send.field-0 c.in-Send.field-1)
 
-pub message-returns : goal.message-returns
-message-returns t c = λ at part.
-    let table = c.args.table.now in
-    resolves_send (seen table c.args.visible.now) at part (receiver_tree c.args.receiver.now) c.args.selector.now (expr_trees c.args.arguments.now) c.selector_number-selector.result (checked.values c.in_ok-all.all.items)
-    (record { kind = c.kind_or_int.result; value = c.in_ok-sent.field-0 }) (c.kind_or_int.ensures ∙ ap kind_or_int (c.sent_kind-kind.ensures ∙ ap (λ o. sent_kind (known_in table) o c.args.selector.now) c.receiving.ensures))
-    (c.selector_number-selector.ensures ∙ ap number c.selector.ensures) c.in_ok-all.ensures c.in_ok-sent.ensures
+pub expression-returns-in_ok-typed-in-SendSuper : goal.expression-returns-in_ok-typed-in-SendSuper
+expression-returns-in_ok-typed-in-SendSuper t c =
+    rw (c.in-SendSuper.is, super_tree c.in-SendSuper.field-0 c.in-SendSuper.field-1 c.in-SendSuper.field-2 c.in-SendSuper.selector c.in-SendSuper.arguments, sym c.deref-in-SendSuper.ensures.value, sym c.deref-in-SendSuper-2.ensures.value)
+    (c.in_ok-typed-in-SendSuper.ensures c.in-SendSuper.field-0 c.in-SendSuper.field-1 c.in-SendSuper.field-2)
+
+pub message-returns-in_ok-class_message-in-Some : goal.message-returns-in_ok-class_message-in-Some
+message-returns-in_ok-class_message-in-Some t c = λ at part.
+    let s = seen c.args.table.now c.args.visible.now in
+    let r = expr_tree c.args.receiver.now in
+    resolves_class s at part r c.args.selector.now (expr_trees c.args.arguments.now) (number_of_class c.in-Some.class) (checked.values c.in_ok-all.all.items) (record { class = c.sent_class.result; value = c.in_ok-class_message-in-Some.field-0 })
+    c.in-Some.ensures c.in_ok-all.ensures c.sent_class.ensures (c.in_ok-class_message-in-Some.ensures c.args.visible.now (class_of s r) (resolved s r))
+
+pub message-returns-in_ok-object_message-in-None : goal.message-returns-in_ok-object_message-in-None
+message-returns-in_ok-object_message-in-None t c = λ at part.
+    let s = seen c.args.table.now c.args.visible.now in
+    let r = expr_tree c.args.receiver.now in
+    resolves_object s at part r c.args.selector.now (expr_trees c.args.arguments.now) c.in_ok-object-in-None.object (record { class = c.sent_class-in-None.result; value = c.in_ok-object_message-in-None.field-0 }) (checked.values c.in_ok-all.all.items)
+    c.in-None.ensures c.in_ok-object-in-None.ensures c.in_ok-all.ensures c.sent_class-in-None.ensures (c.in_ok-object_message-in-None.ensures c.args.visible.now r)
+
+pub super_message-returns : goal.super_message-returns
+super_message-returns t c = λ at part super_at.
+    resolves_super (seen c.args.table.now c.args.visible.now) at part super_at c.args.selector.now (expr_trees c.args.arguments.now) c.super_kind-kind.result c.class_number-from.result c.selector_number-number.result (checked.values c.in_ok-all.all.items)
+    (record { class = c.super_class.result; value = c.in_ok-to_super.field-0 }) c.super_kind-kind.ensures (c.class_number-from.ensures ∙ ap number c.above.ensures) (c.selector_number-number.ensures ∙ ap number c.selector.ensures) c.in_ok-all.ensures
+    (c.super_class.ensures c.args.table.now) c.in_ok-to_super.ensures
 
 pub call-returns : goal.call-returns
 call-returns t c = λ at.
     let s = seen c.args.table.now c.args.visible.now in
     let all = expr_trees c.args.arguments.now in
-    let typed : Typed = record { kind = c.result_kind.result; value = c.match-callee.value } in
+    let k = c.result_kind.result in
+    let v = c.match-callee.value in
+    let typed = c.gives.result in
     elim c.match-callee.branch [
-      | call-in-Printf+in_ok-value-in-Printf w ↦ resolves_call s at c.args.name.now all Printf typed (sym w.in-Printf.ensures) (c.result_kind.ensures ∙ ap result_kind (w.callee-is ∙ c.callee_of-callee.ensures ∙ sym w.in-Printf.ensures)) (ap checked.value w.value-is ∙ w.in_ok-value-in-Printf.ensures)
-      | call-in-Defined+in_ok-values-in-Defined w ↦ resolves_call s at c.args.name.now all (Defined w.in-Defined.field-0 w.in-Defined.field-1 w.in-Defined.body) typed (sym w.in-Defined.ensures) (c.result_kind.ensures ∙ ap result_kind w.callee-is)
-          (ap checked.value w.value-is ∙ invoked_value w.number.result w.in_ok-values-in-Defined.field-0 ∙ ap (λ f. Invoked f (checked.values w.in_ok-values-in-Defined.field-0.items)) w.number.ensures ∙ ap (Invoked (number w.in-Defined.body)) w.in_ok-values-in-Defined.ensures)
-      | call-in-GetChar w ↦ resolves_call s at c.args.name.now all GetChar typed (sym w.in-GetChar.ensures) (c.result_kind.ensures ∙ ap result_kind (w.callee-is ∙ c.callee_of-callee.ensures ∙ sym w.in-GetChar.ensures)) (ap checked.value w.value-is)
-      | call-in-Unknown w ↦ resolves_call s at c.args.name.now all Unknown typed (sym w.in-Unknown.ensures) (c.result_kind.ensures ∙ ap result_kind (w.callee-is ∙ c.callee_of-callee.ensures ∙ sym w.in-Unknown.ensures)) (ap checked.value w.value-is)
+      | call-in-Printf+in_ok-value-in-Printf w ↦ resolves_call s at c.args.name.now all Printf k v typed (sym w.in-Printf.ensures) (c.result_kind.ensures ∙ ap result_kind (w.callee-is ∙ c.callee_of-callee.ensures ∙ sym w.in-Printf.ensures)) (ap checked.value w.value-is ∙ w.in_ok-value-in-Printf.ensures) c.gives.ensures.class c.gives.ensures.value
+      | call-in-Defined+in_ok-values-in-Defined w ↦ resolves_call s at c.args.name.now all (Defined w.in-Defined.field-0 w.in-Defined.field-1 w.in-Defined.body) k v typed (sym w.in-Defined.ensures) (c.result_kind.ensures ∙ ap result_kind w.callee-is)
+          (ap checked.value w.value-is ∙ invoked_value w.number.result w.in_ok-values-in-Defined.field-0 ∙ ap (λ f. Invoked f (checked.values w.in_ok-values-in-Defined.field-0.items)) w.number.ensures ∙ ap (Invoked (number w.in-Defined.body)) w.in_ok-values-in-Defined.ensures) c.gives.ensures.class c.gives.ensures.value
+      | call-in-GetChar w ↦ resolves_call s at c.args.name.now all GetChar k v typed (sym w.in-GetChar.ensures) (c.result_kind.ensures ∙ ap result_kind (w.callee-is ∙ c.callee_of-callee.ensures ∙ sym w.in-GetChar.ensures)) (ap checked.value w.value-is) c.gives.ensures.class c.gives.ensures.value
+      | call-in-Unknown w ↦ resolves_call s at c.args.name.now all Unknown k v typed (sym w.in-Unknown.ensures) (c.result_kind.ensures ∙ ap result_kind (w.callee-is ∙ c.callee_of-callee.ensures ∙ sym w.in-Unknown.ensures)) (ap checked.value w.value-is) c.gives.ensures.class c.gives.ensures.value
     ]
 
 pub print-returns-in_ok-pieces-in-Some : goal.print-returns-in_ok-pieces-in-Some

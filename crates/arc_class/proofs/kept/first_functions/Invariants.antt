@@ -1,7 +1,8 @@
-use Rattle.std.proofs.Common.{◌≡◌, ℕ, List, drop}
+use Rattle.std.proofs.Common.{◌≡◌, ◌+◌, ℕ, List, drop}
 use Rattle.arc_ast.specs.Tree.{function_trees}
 use Rattle.arc_class.specs.Names.{first_named}
-use Rattle.arc_class.specs.Kept.{or_then, function_kept}
+use Rattle.arc_class.specs.Kept.{function_kept}
+use Rattle.arc_class.specs.Classes.{or_then}
 use Rattle.arc_class.proofs.kept.first_functions.Given as goal
 
 -- what is kept and what is first of the rest is first of all

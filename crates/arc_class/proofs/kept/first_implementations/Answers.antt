@@ -1,7 +1,8 @@
-use Rattle.std.proofs.Common.{◌≡◌, ℕ, List, ◌+◌, ap, ◌∙◌, sym, drop, length}
-use Rattle.arc_ast.specs.Tree.{MethodTree, method_trees, implementation_trees}
-use Rattle.arc_class.specs.declared.kept.Implemented.{Implemented}
-use Rattle.arc_class.specs.Kept.{or_then, one_at, implemented, implemented_in, implemented_tree}
+use Rattle.std.proofs.Common.{◌≡◌, ℕ, List, ◌+◌, ap, ◌∙◌, sym, drop, length, Some}
+use Rattle.arc_ast.specs.Tree.{ImplementationTree, method_trees, implementation_tree, implementation_trees}
+use Rattle.arc_class.specs.Kept.{one_at, implemented_in, implemented_tree}
+use Rattle.arc_class.specs.Classes.{or_then}
+use Rattle.arc_class.specs.Running.{implemented}
 use Rattle.arc_class.specs.Table.{at_name}
 use Rattle.arc_class.proofs.Keeping.{kept_turn, kept_map, or_one}
 use Rattle.arc_class.proofs.Lists.{drop_turn}
@@ -16,11 +17,10 @@ loop-implementation-preserved c sought =
     let first = c.loop-implementation.first in
     let old = implemented_in c.loop-implementation.map sought in
     let rest = implementation_trees (drop (i + 1) xs) in
-    let tree : ℕ × List MethodTree = (first, method_trees x.methods.items) in
-    let value : Implemented = record { first = first; methods = c.deref-methods.result } in
+    let tree : ℕ × ImplementationTree = (first, implementation_tree x) in
     let kept : implemented_in c.keep_first.new.map sought ≡ or_then old (one_at x.name.items tree sought) =
-    kept_map implemented_tree (at_name c.loop-implementation.map sought) _ c.deref.result.now value sought (c.in_ok-keep_first.ensures sought)
-    ∙ ap (λ n. or_then old (one_at n (first, method_trees c.deref-methods.result.now) sought)) c.deref.ensures.value ∙ ap (λ us. or_then old (one_at x.name.items (first, method_trees us) sought)) c.deref-methods.ensures.value in
+    kept_map implemented_tree (at_name c.loop-implementation.map sought) _ c.deref.result.now _ sought (c.in_ok-keep_first.ensures sought)
+    ∙ ap (λ n. or_then old (one_at n tree sought)) c.deref.ensures.value in
     let many : length (method_trees x.methods.items) ≡ length c.deref-methods.result.now = length-method_trees x.methods.items ∙ ap length (sym c.deref-methods.ensures.value) in
     kept_turn old (one_at x.name.items tree sought) _ _ _ kept
     (c.loop-implementation.invariant sought ∙ ap (or_then old) (ap (λ us. implemented first (implementation_trees us) sought) (drop_turn xs i x c.loop-implementation-test.true c.implementation-item.is)

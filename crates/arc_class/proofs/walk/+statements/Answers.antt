@@ -3,7 +3,7 @@ use Rattle.arc_ast.specs.Tree.{stmt_tree, expr_tree}
 use Rattle.arc_class.specs.Broken.{Broken, first}
 use Rattle.arc_class.specs.Bodies.{broken_expr, broken_stmt, no_name}
 use Rattle.arc_class.specs.Fault.{told}
-use Rattle.arc_class.specs.Walk.{lacks, holds}
+use Rattle.arc_class.specs.Walk.{missing_in, holds}
 use Rattle.arc_class.proofs.Firsts.{first_both}
 use Rattle.arc_class.proofs.Scopes.{holds-none}
 use Rattle.arc_class.proofs.Walks.{statements_turn, block_is}
@@ -12,17 +12,17 @@ use Rattle.arc_class.proofs.walk.+statements.Goals as goal
 pub in_scope-returns-in-Block-clause-fault : goal.in_scope-returns-in-Block-clause-fault
 in_scope-returns-in-Block-clause-fault t c =
     let P : Option Broken → Type 0 = λ b. IfOk c.statements.result (λ fault. option_map told fault ≡ b) in
-    subst P (block_is (lacks c.args.known.now) (holds c.args.scope.now) (holds c.new-inner.result) c.args.statement.now c.in-Block.field-0 c.in-Block.all c.deref.result.now c.in-Block.is c.deref.ensures.value (holds-none c.new-inner.result c.new-inner.ensures.empty)) c.statements.ensures
+    subst P (block_is (missing_in c.args.source.now) (holds c.args.scope.now) (holds c.new-inner.result) c.args.statement.now c.in-Block.field-0 c.in-Block.all c.deref.result.now c.in-Block.is c.deref.ensures.value (holds-none c.new-inner.result c.new-inner.ensures.empty)) c.statements.ensures
 
 pub in_scope-returns-in_ok-inside-in-If-clause-fault : goal.in_scope-returns-in_ok-inside-in-If-clause-fault
 in_scope-returns-in_ok-inside-in-If-clause-fault t c =
-    let L = lacks c.args.known.now in
+    let L = missing_in c.args.source.now in
     let inside : option_map told c.in_ok-inside-in-If.inside ≡ first (broken_stmt L no_name (stmt_tree c.in-If.then.value)) = rw c.deref-in-If.ensures at c.in_ok-inside-in-If.ensures in
-    rw c.in-If.is (first_both (broken_expr L (expr_tree c.in-If.test)) (broken_stmt L no_name (stmt_tree c.in-If.then.value)) (option_map told c.expression-in-If.result) (option_map told c.in_ok-inside-in-If.inside) (option_map told c.earlier.result) c.expression-in-If.ensures inside c.earlier.ensures)
+    rw c.in-If.is (first_both (broken_expr L (expr_tree c.in-If.test)) (broken_stmt L no_name (stmt_tree c.in-If.then.value)) (option_map told c.expression-in-If.result) (option_map told c.in_ok-inside-in-If.inside) (option_map told c.earlier-in-If.result) c.expression-in-If.ensures inside c.earlier-in-If.ensures)
 
 pub in_scope-returns-in_ok-scoped-in-IfElse-clause-fault : goal.in_scope-returns-in_ok-scoped-in-IfElse-clause-fault
 in_scope-returns-in_ok-scoped-in-IfElse-clause-fault t c =
-    let L = lacks c.args.known.now in
+    let L = missing_in c.args.source.now in
     let A = broken_stmt L no_name (stmt_tree c.in-IfElse.then.value) in
     let B = broken_stmt L no_name (stmt_tree c.in-IfElse.other.value) in
     let then : option_map told c.in_ok-inside-in-IfElse.inside ≡ first (broken_stmt L no_name (stmt_tree c.in-IfElse.then.value)) = rw c.deref-in-IfElse.ensures at c.in_ok-inside-in-IfElse.ensures in
@@ -32,11 +32,11 @@ in_scope-returns-in_ok-scoped-in-IfElse-clause-fault t c =
 
 pub in_scope-returns-in_ok-inside-in-While-clause-fault : goal.in_scope-returns-in_ok-inside-in-While-clause-fault
 in_scope-returns-in_ok-inside-in-While-clause-fault t c =
-    let L = lacks c.args.known.now in
+    let L = missing_in c.args.source.now in
     let inside : option_map told c.in_ok-inside-in-While.inside ≡ first (broken_stmt L no_name (stmt_tree c.in-While.body.value)) = rw c.deref-in-While.ensures at c.in_ok-inside-in-While.ensures in
     rw c.in-While.is (first_both (broken_expr L (expr_tree c.in-While.test)) (broken_stmt L no_name (stmt_tree c.in-While.body.value)) (option_map told c.expression-in-While.result) (option_map told c.in_ok-inside-in-While.inside) (option_map told c.earlier-in-While.result) c.expression-in-While.ensures inside c.earlier-in-While.ensures)
 
 pub statements-loop-statement-preserved : goal.statements-loop-statement-preserved
 statements-loop-statement-preserved t c =
-    statements_turn (lacks c.args.known.now) (holds c.loop-statement.scope) (holds c.in_scope.new.scope) c.args.all.now c.loop-statement.statement-index c.statement-item.result (option_map told c.loop-statement.fault) (option_map told c.in_ok-in_scope.field-0) (option_map told c.earlier-fault.result) _
+    statements_turn (missing_in c.args.source.now) (holds c.loop-statement.scope) (holds c.in_scope.new.scope) c.args.all.now c.loop-statement.statement-index c.statement-item.result (option_map told c.loop-statement.fault) (option_map told c.in_ok-in_scope.field-0) (option_map told c.earlier-fault.result) _
     c.loop-statement-test.true c.statement-item.is c.in_ok-in_scope.ensures.fault c.in_ok-in_scope.ensures.scope c.earlier-fault.ensures c.loop-statement.invariant

@@ -3,12 +3,12 @@ use Rattle.arc_ast.specs.Tree.{variable_trees}
 use Rattle.arc_class.specs.Broken.{first, earlier_of}
 use Rattle.arc_class.specs.Bodies.{broken_variables, names_with}
 use Rattle.arc_class.specs.Fault.{told}
-use Rattle.arc_class.specs.Walk.{lacks, holds}
+use Rattle.arc_class.specs.Walk.{missing_in, holds}
 use Rattle.arc_class.proofs.walk.variables.Given as goal
 
 -- what is told so far and what is told of the rest is told of all
 abbrev pub invariant-loop-variable : goal.invariant-loop-variable
 invariant-loop-variable l = record {
-  fault : first (broken_variables (lacks l.known) (holds l.initial.scope) (variable_trees l.all)) ≡ earlier_of (option_map told l.fault) (first (broken_variables (lacks l.known) (holds l.scope) (variable_trees (drop l.variable-index l.all))));
+  fault : first (broken_variables (missing_in l.source) (holds l.initial.scope) (variable_trees l.all)) ≡ earlier_of (option_map told l.fault) (first (broken_variables (missing_in l.source) (holds l.scope) (variable_trees (drop l.variable-index l.all))));
   scope : names_with (holds l.initial.scope) (variable_trees l.all) ≡ names_with (holds l.scope) (variable_trees (drop l.variable-index l.all));
 }

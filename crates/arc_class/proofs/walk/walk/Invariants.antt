@@ -3,10 +3,10 @@ use Rattle.arc_ast.specs.Tree.{function_trees}
 use Rattle.arc_class.specs.Broken.{first, earlier_of}
 use Rattle.arc_class.specs.Functions.{broken_functions}
 use Rattle.arc_class.specs.Fault.{told}
-use Rattle.arc_class.specs.Walk.{lacks}
+use Rattle.arc_class.specs.Walk.{missing_in}
 use Rattle.arc_class.proofs.walk.walk.Given as goal
 
 -- what is told so far and what is told of the rest is told of all
 abbrev pub invariant-loop-one : goal.invariant-loop-one
 invariant-loop-one l =
-    first (broken_functions (lacks l.known) (function_trees l.functions)) ≡ earlier_of (option_map told l.fault) (first (broken_functions (lacks l.known) (function_trees (drop l.one-index l.functions))))
+    first (broken_functions (missing_in l.source) (function_trees l.functions)) ≡ earlier_of (option_map told l.fault) (first (broken_functions (missing_in l.source) (function_trees (drop l.one-index l.functions))))

@@ -1,11 +1,10 @@
-use Rattle.std.proofs.Common.{◌≡◌, List, [], ◌∷◌, ◌+◌, ◌++◌, refl, ap, sym, ◌∙◌, subst, drop, length}
+use Rattle.std.proofs.Common.{◌≡◌, [], ◌∷◌, ◌+◌, ◌++◌, refl, ap, sym, ◌∙◌, subst, drop, length}
 use Rattle.std.proofs.lemmas.List.{drop_more, drop_all, append-nil, map-append}
 use Rattle.arc_spec.specs.declared.class.Class as declared
-use Rattle.arc_spec.specs.declared.class.Method.{Method}
-use Rattle.arc_spec.specs.Classes.{Class, class_of, classes_of}
+use Rattle.arc_spec.specs.Classes.{class_of, classes_of}
 use Rattle.arc_check.specs.Checked.{program_of}
 use Rattle.arc_lower.specs.Order.{orders}
-use Rattle.arc_lower.specs.Lowered.{methods_orders, classes_orders, linked_methods, linked_classes}
+use Rattle.arc_lower.specs.Lowered.{classes_orders, linked_classes}
 use Rattle.arc_lower.proofs.Stubbing.{ClassesLaid, classes_more}
 use Rattle.arc_lower.proofs.stub.append_classes.Goals as goal
 
@@ -14,9 +13,6 @@ loop-class-init c =
     let P = program_of c.args.program.now in
     let start = length (orders c.args.actions.now.items) in
     record { actions = refl; classes = ap (λ l. classes_of l ++ linked_classes P c.args.entries.now start (classes_of c.deref-class-items.result.now)) c.new-linked.ensures.items }
-
-abbrev with_methods : declared.Class → List Method → Class
-with_methods item l = record { superclass = item.superclass; methods = l }
 
 pub loop-class-preserved : goal.loop-class-preserved
 loop-class-preserved c =
@@ -29,13 +25,10 @@ loop-class-preserved c =
     let start = orders c.args.actions.now.items in
     let linked = c.loop-class.linked.items in
     let left = drop (i + 1) all in
-    let now : declared.Class = record { superclass = item.superclass; methods = c.in_ok-methods.methods } in
     let split : drop i all ≡ item ∷ left = drop_more all i item c.loop-class-test.true ∙ ap (λ (x : declared.Class). x ∷ left) (sym c.class-item.is) in
     let before : ClassesLaid P entries start (classes_of all) o (classes_of linked) (class_of item ∷ classes_of left) = subst (λ l. ClassesLaid P entries start (classes_of all) o (classes_of linked) (classes_of l)) split c.loop-class.invariant in
-    let laid = c.in_ok-methods.ensures.actions ∙ ap (λ l. o ++ methods_orders P entries l) c.deref.ensures.value in
-    let methods = c.in_ok-methods.ensures.linked ∙ ap (linked_methods P entries (length o)) c.deref.ensures.value in
-    let more = ap classes_of c.in_ok-push.ensures.items ∙ map-append class_of linked (now ∷ []) ∙ ap (λ l. classes_of linked ++ with_methods item l ∷ []) methods in
-    classes_more P entries start (classes_of all) o (classes_of linked) (class_of item) (classes_of left) (orders c.append_methods.new.actions.items) (classes_of c.push.new.self.items) before laid more
+    let more = ap classes_of c.in_ok-push.ensures.items ∙ map-append class_of linked (c.in_ok-append_class.field-0 ∷ []) ∙ ap (λ x. classes_of linked ++ x ∷ []) c.in_ok-append_class.ensures.linked in
+    classes_more P entries start (classes_of all) o (classes_of linked) (class_of item) (classes_of left) (orders c.append_class.new.actions.items) (classes_of c.push.new.self.items) before c.in_ok-append_class.ensures.actions more
 
 -- behind the last class
 finished : (c : goal.After-loop-class) → ClassesLaid (program_of c.args.program.now) c.args.entries.now (orders c.args.actions.now.items) (classes_of c.deref-class-items.result.now) (orders c.loop-class.actions.items) (classes_of c.loop-class.linked.items) []

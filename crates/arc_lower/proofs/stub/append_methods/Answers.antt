@@ -1,9 +1,10 @@
 use Rattle.std.proofs.Common.{◌≡◌, [], ◌∷◌, ◌+◌, ◌++◌, refl, ap, sym, ◌∙◌, subst, drop, length, get_or}
 use Rattle.std.proofs.lemmas.List.{drop_more, drop_all, length-map, append-nil}
 use Rattle.arc_spec.specs.declared.class.Method.{Method}
+use Rattle.arc_ast.specs.declared.tree.Sign.TheVariants as signs
 use Rattle.arc_check.specs.Checked.{program_of}
 use Rattle.arc_lower.specs.Order.{order, orders}
-use Rattle.arc_lower.specs.Lowered.{linked_methods}
+use Rattle.arc_lower.specs.Lowered.{stub_orders, linked_methods}
 use Rattle.arc_lower.proofs.Stubbing.{MethodsLaid, methods_more}
 use Rattle.arc_lower.proofs.stub.append_methods.Goals as goal
 
@@ -21,11 +22,12 @@ loop-method-preserved c =
     let i = c.loop-method.method-index in
     let old = c.loop-method.actions in
     let start = orders c.args.actions.now.items in
-    let none : Method = record { selector = 0; takes = 0; runs = 0 } in
+    let none : Method = record { sign = signs.Class; selector = 0; takes = 0; runs = 0 } in
     let m = get_or all i none in
     let left = drop (i + 1) all in
     let before : MethodsLaid P entries start all (orders old.items) c.loop-method.linked.items (m ∷ left) = subst (MethodsLaid P entries start all (orders old.items) c.loop-method.linked.items) (drop_more all i none c.loop-method-test.true) c.loop-method.invariant in
-    methods_more P entries start all (orders old.items) c.loop-method.linked.items m left (orders c.append_stub.new.actions.items) c.push.new.self.items c.len.result before c.in_ok-append_stub.ensures (c.len.ensures ∙ old.ok.0 ∙ sym (length-map old.items order)) c.in_ok-push.ensures.items
+    let laid = c.in_ok-append_stub.ensures ∙ ap (λ n. orders old.items ++ stub_orders P entries n m.runs) c.in_ok-count.ensures in
+    methods_more P entries start all (orders old.items) c.loop-method.linked.items m left (orders c.append_stub.new.actions.items) c.push.new.self.items c.len.result before laid (c.len.ensures ∙ old.ok.0 ∙ sym (length-map old.items order)) c.in_ok-push.ensures.items
 
 -- behind the last method
 finished : (c : goal.After-loop-method) → MethodsLaid (program_of c.args.program.now) c.args.entries.now (orders c.args.actions.now.items) c.args.methods.now (orders c.loop-method.actions.items) c.loop-method.linked.items []

@@ -2,12 +2,12 @@ use Rattle.std.proofs.Common.{◌≡◌, rules, [], true, sym, ap, ◌∙◌, Ok
 use Rattle.std.proofs.lemmas.Result.{err_from_is_err_and}
 use Rattle.arc_lex.specs.declared.token.Mark.TheVariants as m
 use Rattle.arc_lex.specs.Tokens.{toks}
-use Rattle.arc_ast.specs.Tree.{Call, Send, no_exprs, expr_trees, receiver_tree}
+use Rattle.arc_ast.specs.Tree.{Call, Send, SendSuper, no_exprs, expr_tree, expr_trees}
 use Rattle.arc_parse.specs.Reader.{sees_mark}
-use Rattle.arc_parse.specs.ExprRules.{read, call_by, arguments_by, part_by, parts_by, message_by}
+use Rattle.arc_parse.specs.ExprRules.{read, call_by, arguments_by, part_by, parts_by, super_by, object_by}
 use Rattle.arc_parse.specs.ExprRules as rule
 use Rattle.arc_parse.proofs.ExprFix.{read_arguments, read_expr, read_parts}
-use Rattle.arc_parse.proofs.Rows.{call_tree, send_tree, appends_more, appends_none, appends_named, sent_parts, sent_fails}
+use Rattle.arc_parse.proofs.Rows.{call_tree, send_tree, send_super_tree, appends_more, appends_none, appends_named, sent_parts, sent_fails}
 use Rattle.arc_parse.proofs.expr.+exprs.Goals as goal
 
 pub call-returns-clause-gives : goal.call-returns-clause-gives
@@ -27,17 +27,29 @@ arguments-returns-clause-gives t c =
     (read rule.arguments (toks c.in_ok-rest.rest.now)) (read rule.arguments (toks c.args.tokens.now))
     (read_arguments (toks c.args.tokens.now) ∙ search (rules, read_expr)) c.in_ok-push.ensures.items c.arguments.ensures.gives
 
-pub message-returns-clause-gives : goal.message-returns-clause-gives
-unfolding message_by
-message-returns-clause-gives t c =
-    let at = c.in_ok-at.at in
+pub to_super-returns-clause-gives : goal.to_super-returns-clause-gives
+unfolding super_by
+to_super-returns-clause-gives t c =
+    let at = c.args.at in
     let part = c.in_ok-part.part in
-    let to = c.in_ok-to.to in
+    let super_at = c.in_ok-super_at.super_at in
     let selector = c.in_ok-selector.selector in
     let all = c.in_ok-selector.all in
     let rest = toks c.in_ok-rest.rest.now in
-    let is : message_by read (toks c.args.tokens.now) ≡ Ok (Send at part (receiver_tree to) selector.items (expr_trees all.items), rest) = search rules in
-    is ∙ ap (λ x. Ok (x, rest)) (sym (send_tree at part to selector all))
+    let is : super_by read at (toks c.args.tokens.now) ≡ Ok (SendSuper at part super_at selector.items (expr_trees all.items), rest) = search rules in
+    is ∙ ap (λ x. Ok (x, rest)) (sym (send_super_tree at part super_at selector all))
+
+pub to_object-returns-clause-gives : goal.to_object-returns-clause-gives
+unfolding object_by
+to_object-returns-clause-gives t c =
+    let at = c.args.at in
+    let part = c.in_ok-part.part in
+    let object = c.in_ok-object-2.object in
+    let selector = c.in_ok-selector.selector in
+    let all = c.in_ok-selector.all in
+    let rest = toks c.in_ok-rest.rest.now in
+    let is : object_by read at (toks c.args.tokens.now) ≡ Ok (Send at part (expr_tree object.value) selector.items (expr_trees all.items), rest) = search (rules, read_expr) in
+    is ∙ ap (λ x. Ok (x, rest)) (sym (send_tree at part object selector all))
 
 pub parts-returns-then-not-sees_name-clause-gives : goal.parts-returns-then-not-sees_name-clause-gives
 unfolding parts_by

@@ -19,6 +19,9 @@ decreases-more l = 16 * length l.tokens.now + 8 + l.level
 abbrev pub decreases-unary : goal.decreases-unary
 decreases-unary l = 16 * length l.tokens.now + 7
 
+abbrev pub decreases-cast : goal.decreases-cast
+decreases-cast l = 16 * length l.tokens.now + 5
+
 abbrev pub decreases-primary : goal.decreases-primary
 decreases-primary l = 16 * length l.tokens.now + 4
 
@@ -42,6 +45,12 @@ decreases-negated l = 16 * length l.tokens.now + 5
 
 abbrev pub decreases-message : goal.decreases-message
 decreases-message l = 16 * length l.tokens.now + 3
+
+abbrev pub decreases-to_super : goal.decreases-to_super
+decreases-to_super l = 16 * length l.tokens.now + 16
+
+abbrev pub decreases-to_object : goal.decreases-to_object
+decreases-to_object l = 16 * length l.tokens.now + 14
 
 abbrev pub decreases-sent : goal.decreases-sent
 decreases-sent l = 16 * length l.tokens.now + 15

@@ -1,59 +1,73 @@
-use Rattle.std.proofs.Common.{rules, arith, suc, length, to_z, of_z, w64, ◌∷◌, ◌++◌, [], refl, ◌≡◌, ◌-◌, ◌<◌, ◌≤◌, Err, sym, subst, ap, ◌∙◌}
+use Rattle.std.proofs.Common.{rules, arith, suc, length, take, vec_len, slice_get, to_z, of_z, w64, ◌∷◌, ◌++◌, [], refl, ◌≡◌, ◌-◌, ◌<◌, ◌≤◌, Err, Some, sym, subst, ap, ◌∙◌}
 use Rattle.std.proofs.lemmas.Int.{to_z-of_z}
 use Rattle.std.proofs.lemmas.Bool.{ltb-true, ltb-false}
+use Rattle.std.proofs.lemmas.Option.{slice_get_read}
 use Rattle.std.proofs.lemmas.Result.{err_from_is_err_and}
 use Rattle.arc_check.specs.Checked as checked
 use Rattle.arc_spec.specs.Number.{is_zero}
-use Rattle.arc_spec.specs.Classes.{classes_of}
 use Rattle.arc_check.specs.Checked.{program_of}
-use Rattle.arc_spec.specs.Meaning.{evaluated, all_evaluated, executed, turns, called, level, function_at}
-use Rattle.arc_plain.specs.Views.{world, Tells, deeper}
-use Rattle.arc_plain.proofs.Turns.{print_failed, print_done, call_failed, call_done, value_sent, value_sent_super, value_told, sequence_told, values_step, turns_step, turn_failed, call_is, function_found, function_missing}
-use Rattle.arc_plain.proofs.Weights.{print_lighter, call_lighter, sent_lighter, super_lighter, sequence_lighter, value_in, command_in, enter_lighter}
+use Rattle.arc_spec.specs.Meaning.{whole, all_evaluated, all_executed, executed, turns, called, function_at, all_dropped, variables_dropped, deallocs_run}
+use Rattle.arc_spec.specs.Resolved.{Function}
+use Rattle.arc_spec.specs.World.{Done}
+use Rattle.arc_plain.specs.Views.{world, Tells, deeper, flow_of, nothing_of, function_of, left_at}
+use Rattle.arc_plain.proofs.Calls.{call_told, body_failed, drop_failed, nothing_called, function_there, function_absent, temporary_step, temporaries_fewer, no_temporary, variable_step, variable_failed, dealloc_step, dealloc_failed}
+use Rattle.arc_plain.proofs.Keeping.{level_steady}
+use Rattle.arc_plain.proofs.Turns.{print_failed, print_done, call_failed, call_done, value_sent, value_sent_super, value_sent_to, value_sent_to_super, value_told, command_sequence, command_told, values_step, turns_step, turn_failed, call_is}
+use Rattle.arc_plain.proofs.Weights.{print_lighter, call_lighter, sent_lighter, super_lighter, sent_to_lighter, to_super_lighter, sequence_lighter, value_in, command_in, commands_weight, level_lighter, body_lighter}
 use Rattle.arc_plain.proofs.run.+running.Goals as goal
 
 pub evaluate-returns-in_err-values-in-Print : goal.evaluate-returns-in_err-values-in-Print
 evaluate-returns-in_err-values-in-Print t c =
     let p = err_from_is_err_and c.from_residual.result c.from_residual.ensures.1 in
-    print_failed (deeper c.args.frame.now) c.args.value.now c.in-Print.pieces c.in-Print.arguments c.deref.result.now c.in_err-values-in-Print.field-0.0 c.from_residual.result (world c.args.progress.now) (world c.evaluate_all.new.progress)
+    print_failed (deeper c.args.context.now) c.args.value.now c.in-Print.pieces c.in-Print.arguments c.deref.result.now c.in_err-values-in-Print.field-0.0 c.from_residual.result (world c.args.progress.now) (world c.evaluate_all.new.progress)
     c.in-Print.is c.deref.ensures.value (p.1 ∙ ap Err p.2) c.in_err-values-in-Print.ensures
 
 pub evaluate-returns-in_ok-values-in-Print : goal.evaluate-returns-in_ok-values-in-Print
 evaluate-returns-in_ok-values-in-Print t c =
-    print_done (deeper c.args.frame.now) c.args.value.now c.in-Print.pieces c.in-Print.arguments c.deref-in-Print.result.now c.deref.result.now c.in_ok-values-in-Print.values.items c.deref-in-Print-2.result.now c.print_format.result
+    print_done (deeper c.args.context.now) c.args.value.now c.in-Print.pieces c.in-Print.arguments c.deref-in-Print.result.now c.deref.result.now c.in_ok-values-in-Print.values.items c.deref-in-Print-2.result.now c.print_format.result
     (world c.args.progress.now) (world c.evaluate_all.new.progress) (world c.print_format.new.progress)
     c.in-Print.is c.deref-in-Print.ensures.value c.deref.ensures.value c.deref-in-Print-2.ensures.value c.in_ok-values-in-Print.ensures c.print_format.ensures
 
 pub evaluate-returns-in_err-values-in-Invoked : goal.evaluate-returns-in_err-values-in-Invoked
 evaluate-returns-in_err-values-in-Invoked t c =
     let p = err_from_is_err_and c.from_residual-in_err-values-in-Invoked.result c.from_residual-in_err-values-in-Invoked.ensures.1 in
-    call_failed (deeper c.args.frame.now) c.args.value.now c.in-Invoked.function c.in-Invoked.arguments c.deref-in-Invoked.result.now c.in_err-values-in-Invoked.field-0.0 c.from_residual-in_err-values-in-Invoked.result (world c.args.progress.now) (world c.evaluate_all-in-Invoked.new.progress)
+    call_failed (deeper c.args.context.now) c.args.value.now c.in-Invoked.function c.in-Invoked.arguments c.deref-in-Invoked.result.now c.in_err-values-in-Invoked.field-0.0 c.from_residual-in_err-values-in-Invoked.result (world c.args.progress.now) (world c.evaluate_all-in-Invoked.new.progress)
     c.in-Invoked.is c.deref-in-Invoked.ensures.value (p.1 ∙ ap Err p.2) c.in_err-values-in-Invoked.ensures
 
 pub evaluate-returns-in_ok-values-in-Invoked : goal.evaluate-returns-in_ok-values-in-Invoked
 evaluate-returns-in_ok-values-in-Invoked t c =
-    call_done (deeper c.args.frame.now) c.args.value.now c.in-Invoked.function c.in-Invoked.arguments c.deref-in-Invoked.result.now c.in_ok-values-in-Invoked.values.items c.deref-in-Invoked-2.result.now c.call.result
+    call_done (deeper c.args.context.now) c.args.value.now c.in-Invoked.function c.in-Invoked.arguments c.deref-in-Invoked.result.now c.in_ok-values-in-Invoked.values.items c.deref-in-Invoked-2.result.now c.call.result
     (world c.args.progress.now) (world c.evaluate_all-in-Invoked.new.progress) (world c.call.new.progress)
     c.in-Invoked.is c.deref-in-Invoked.ensures.value c.deref-in-Invoked-2.ensures.value c.in_ok-values-in-Invoked.ensures c.call.ensures
 
 pub evaluate-returns-in-Sent : goal.evaluate-returns-in-Sent
 evaluate-returns-in-Sent t c =
-    value_told (deeper c.args.frame.now) c.args.value.now _ c.send.result (world c.args.progress.now) (world c.send.new.progress)
+    value_told (deeper c.args.context.now) c.args.value.now _ c.send.result (world c.args.progress.now) (world c.send.new.progress)
     (value_sent c.args.value.now c.in-Sent.receiver c.in-Sent.selector c.in-Sent.arguments c.deref-in-Sent.result.now c.deref-in-Sent-2.result.now c.in-Sent.is c.deref-in-Sent.ensures c.deref-in-Sent-2.ensures.value) c.send.ensures
 
 pub evaluate-returns-in-SentSuper : goal.evaluate-returns-in-SentSuper
 evaluate-returns-in-SentSuper t c =
-    value_told (deeper c.args.frame.now) c.args.value.now _ c.send_super.result (world c.args.progress.now) (world c.send_super.new.progress)
+    value_told (deeper c.args.context.now) c.args.value.now _ c.send_super.result (world c.args.progress.now) (world c.send_super.new.progress)
     (value_sent_super c.args.value.now c.in-SentSuper.from c.in-SentSuper.selector c.in-SentSuper.arguments c.deref-in-SentSuper.result.now c.in-SentSuper.is c.deref-in-SentSuper.ensures.value) c.send_super.ensures
+
+pub evaluate-returns-in-SentTo : goal.evaluate-returns-in-SentTo
+evaluate-returns-in-SentTo t c =
+    value_told (deeper c.args.context.now) c.args.value.now _ c.send_to.result (world c.args.progress.now) (world c.send_to.new.progress)
+    (value_sent_to c.args.value.now c.in-SentTo.receiver c.in-SentTo.selector c.in-SentTo.arguments c.deref-in-SentTo.result.now c.deref-in-SentTo-2.result.now c.in-SentTo.is c.deref-in-SentTo.ensures c.deref-in-SentTo-2.ensures.value) c.send_to.ensures
+
+pub evaluate-returns-in-SentToSuper : goal.evaluate-returns-in-SentToSuper
+evaluate-returns-in-SentToSuper t c =
+    value_told (deeper c.args.context.now) c.args.value.now _ c.send_to_super.result (world c.args.progress.now) (world c.send_to_super.new.progress)
+    (value_sent_to_super c.args.value.now c.in-SentToSuper.from c.in-SentToSuper.selector c.in-SentToSuper.arguments c.deref-in-SentToSuper.result.now c.in-SentToSuper.is c.deref-in-SentToSuper.ensures.value) c.send_to_super.ensures
 
 pub execute-returns-in-Sequence : goal.execute-returns-in-Sequence
 execute-returns-in-Sequence t c =
-    sequence_told (deeper c.args.frame.now) c.args.frame.now.bound c.args.command.now c.in-Sequence.commands c.deref.result.now c.execute_all.result (world c.args.progress.now) (world c.execute_all.new.progress)
-    c.in-Sequence.is c.deref.ensures.value c.execute_all.ensures
+    command_told (deeper c.args.context.now) c.args.context.now.bound c.args.command.now _ c.execute_block.result (world c.args.progress.now) (world c.execute_block.new.progress)
+    (command_sequence c.args.command.now c.in-Sequence.first c.in-Sequence.names c.in-Sequence.commands c.deref.result.now c.in-Sequence.is c.deref.ensures.value) c.execute_block.ensures
 
-pub execute-execute_all-requires : goal.execute-execute_all-requires
-execute-execute_all-requires t c =
-    (omega (arith, sequence_lighter c.args.command.now c.in-Sequence.commands c.deref.result.now c.in-Sequence.is c.deref.ensures.value, c.decreases), tt)
+pub execute-execute_block-requires : goal.execute-execute_block-requires
+execute-execute_block-requires t c =
+    (omega (arith, sequence_lighter c.args.command.now c.in-Sequence.first c.in-Sequence.names c.in-Sequence.commands c.deref.result.now c.in-Sequence.is c.deref.ensures.value, c.decreases), tt)
 
 pub evaluate-evaluate_all-requires : goal.evaluate-evaluate_all-requires
 evaluate-evaluate_all-requires t c =
@@ -71,6 +85,14 @@ pub evaluate-send_super-requires : goal.evaluate-send_super-requires
 evaluate-send_super-requires t c =
     (omega (arith, super_lighter c.args.value.now c.in-SentSuper.from c.in-SentSuper.selector c.in-SentSuper.arguments c.deref-in-SentSuper.result.now c.in-SentSuper.is c.deref-in-SentSuper.ensures.value, c.decreases), tt)
 
+pub evaluate-send_to-requires : goal.evaluate-send_to-requires
+evaluate-send_to-requires t c =
+    (omega (arith, sent_to_lighter c.args.value.now c.in-SentTo.receiver c.in-SentTo.selector c.in-SentTo.arguments c.deref-in-SentTo.result.now c.deref-in-SentTo-2.result.now c.in-SentTo.is c.deref-in-SentTo.ensures c.deref-in-SentTo-2.ensures.value, c.decreases), tt)
+
+pub evaluate-send_to_super-requires : goal.evaluate-send_to_super-requires
+evaluate-send_to_super-requires t c =
+    (omega (arith, to_super_lighter c.args.value.now c.in-SentToSuper.from c.in-SentToSuper.selector c.in-SentToSuper.arguments c.deref-in-SentToSuper.result.now c.in-SentToSuper.is c.deref-in-SentToSuper.ensures.value, c.decreases), tt)
+
 pub evaluate_all-evaluate-requires : goal.evaluate_all-evaluate-requires
 evaluate_all-evaluate-requires t c =
     (omega (arith, value_in c.args.values.now c.loop-value.value-index c.value-item.result c.loop-value-test.true c.value-item.is, c.decreases), tt)
@@ -82,70 +104,202 @@ execute_all-execute-requires t c =
 pub evaluate_all-loop-value-preserved : goal.evaluate_all-loop-value-preserved
 evaluate_all-loop-value-preserved t c =
     let same : to_z w64 (of_z w64 c.in_ok-number.number) ≡ c.in_ok-number.number = grind (arith, to_z-of_z) in
-    values_step (deeper c.args.frame.now) c.args.values.now c.loop-value.value-index c.value-item.result c.loop-value.numbers.items c.push.new.self.items c.in_ok-number.number
-    (all_evaluated (deeper c.args.frame.now) (checked.values c.args.values.now) (world c.args.progress.now)) (world c.loop-value.progress) (world c.evaluate.new.progress)
+    values_step (deeper c.args.context.now) c.args.values.now c.loop-value.value-index c.value-item.result c.loop-value.numbers.items c.push.new.self.items c.in_ok-number.number
+    (all_evaluated (deeper c.args.context.now) (checked.values c.args.values.now) (world c.args.progress.now)) (world c.loop-value.progress) (world c.evaluate.new.progress)
     c.loop-value-test.true c.value-item.is c.loop-value.invariant c.in_ok-number.ensures (c.in_ok-push.ensures.items ∙ ap (λ x. c.loop-value.numbers.items ++ x ∷ []) same)
 
 pub repeat-loop-preserved : goal.repeat-loop-preserved
 repeat-loop-preserved t c =
-    let test = evaluated (deeper c.args.frame.now) (checked.value c.args.test.now) in
-    let body = executed (deeper c.args.frame.now) c.args.frame.now.bound (checked.command c.args.body.now) in
+    let test = whole (deeper c.args.context.now) (checked.value c.args.test.now) in
+    let body = executed (deeper c.args.context.now) c.args.context.now.bound (checked.command c.args.body.now) in
     let same : to_z w64 (of_z w64 c.in_ok-number.number) ≡ c.in_ok-number.number = grind (arith, to_z-of_z) in
-    turns_step c.args.frame.now.bound c.loop.counter test body (turns c.args.frame.now.bound test body (world c.args.progress.now)) c.in_ok-number.number
-    (world c.loop.progress) (world c.evaluate.new.progress) (world c.execute.new.progress)
+    turns_step c.args.context.now.bound c.loop.counter test body (turns c.args.context.now.bound test body (world c.args.progress.now)) c.in_ok-number.number
+    (world c.loop.progress) (world c.evaluate_whole.new.progress) (world c.execute.new.progress)
     c.loop-test.true c.loop.invariant c.in_ok-number.ensures (ap is_zero (sym same) ∙ sym c.is_zero.ensures ∙ c.if-is_zero.false) (search rules)
 
 pub repeat-returns-in_err-returned : goal.repeat-returns-in_err-returned
 repeat-returns-in_err-returned t c =
-    let test = evaluated (deeper c.args.frame.now) (checked.value c.args.test.now) in
-    let body = executed (deeper c.args.frame.now) c.args.frame.now.bound (checked.command c.args.body.now) in
+    let test = whole (deeper c.args.context.now) (checked.value c.args.test.now) in
+    let body = executed (deeper c.args.context.now) c.args.context.now.bound (checked.command c.args.body.now) in
     let same : to_z w64 (of_z w64 c.in_ok-number.number) ≡ c.in_ok-number.number = grind (arith, to_z-of_z) in
     let p = err_from_is_err_and c.from_residual-in_err-returned.result c.from_residual-in_err-returned.ensures.1 in
-    turn_failed c.args.frame.now.bound c.loop.counter test body (turns c.args.frame.now.bound test body (world c.args.progress.now)) c.in_ok-number.number
-    c.in_err-returned.field-0.0 c.from_residual-in_err-returned.result (world c.loop.progress) (world c.evaluate.new.progress) (world c.execute.new.progress)
+    turn_failed c.args.context.now.bound c.loop.counter test body (turns c.args.context.now.bound test body (world c.args.progress.now)) c.in_ok-number.number
+    c.in_err-returned.field-0.0 c.from_residual-in_err-returned.result (world c.loop.progress) (world c.evaluate_whole.new.progress) (world c.execute.new.progress)
     c.loop-test.true c.loop.invariant c.in_ok-number.ensures (ap is_zero (sym same) ∙ sym c.is_zero.ensures ∙ c.if-is_zero.false) (p.1 ∙ ap Err p.2) c.in_err-returned.ensures
 
-pub call-returns-in-Some : goal.call-returns-in-Some
-call-returns-in-Some t c =
-    let frame = c.args.frame.now in
-    let P = program_of frame.program.now in
-    let main = frame.program.now.main in
-    let classes = classes_of frame.program.now.classes.items in
-    let f = c.args.function in
-    let given = c.args.arguments.now in
-    let w = world c.args.progress.now in
-    let all = c.deref.result.now in
-    let h = c.in-Some.ensures.lookup in
-    let lt : f < length all = ltb-true f (length all) (sym h.0) in
-    let inner = level P frame.bound (frame.levels - 1) in
-    let one : frame.levels ≡ suc (frame.levels - 1) = omega (arith, c.if-frame-eq0.false) in
-    let found = ap (λ l. function_at (record { functions = checked.functions l; main = main; classes = classes }) f) (sym c.deref.ensures.value) ∙ function_found all classes main f c.in-Some.entered.now lt h.1 in
-    let whole = call_is P frame.bound frame.levels (frame.levels - 1) f given w one ∙ ap (λ g. called inner frame.bound g given w) found in
-    subst (λ o. Tells (λ n. n) c.enter.result o (world c.enter.new.progress)) (sym whole) c.enter.ensures
-
-pub call-returns-in-None : goal.call-returns-in-None
-call-returns-in-None t c =
-    let frame = c.args.frame.now in
-    let P = program_of frame.program.now in
-    let main = frame.program.now.main in
-    let classes = classes_of frame.program.now.classes.items in
-    let f = c.args.function in
-    let given = c.args.arguments.now in
-    let w = world c.args.progress.now in
-    let all = c.deref.result.now in
-    let h = c.in-None.ensures.lookup in
-    let le : length all ≤ f = ltb-false f (length all) (sym h.0) in
-    let inner = level P frame.bound (frame.levels - 1) in
-    let one : frame.levels ≡ suc (frame.levels - 1) = omega (arith, c.if-frame-eq0.false) in
-    let found = ap (λ l. function_at (record { functions = checked.functions l; main = main; classes = classes }) f) (sym c.deref.ensures.value) ∙ function_missing all classes main f le in
-    call_is P frame.bound frame.levels (frame.levels - 1) f given w one ∙ ap (λ g. called inner frame.bound g given w) found
+pub call-returns : goal.call-returns
+call-returns t c =
+    let context = c.args.context.now in
+    let one : context.levels ≡ suc (context.levels - 1) = omega (arith, c.if-context-eq0.false) in
+    subst (λ o. Tells (λ n. n) c.enter.result o (world c.enter.new.progress))
+    (sym (call_is (program_of context.program.now) context.bound context.levels (context.levels - 1) c.args.function c.args.itself c.args.arguments.now (world c.args.progress.now) one)) c.enter.ensures
 
 pub call-enter-requires : goal.call-enter-requires
 call-enter-requires t c =
-    let frame = c.args.frame.now in
-    let f = c.args.function in
+    let context = c.args.context.now in
+    let one : context.levels ≡ suc (context.levels - 1) = omega (arith, c.if-context-eq0.false) in
+    (omega (arith, level_lighter context (record { program = context.program; bound = context.bound; levels = context.levels - 1 }) one refl, c.decreases), tt)
+
+pub drop_temporaries-loop-object-preserved : goal.drop_temporaries-loop-object-preserved
+drop_temporaries-loop-object-preserved t c =
+    let context = c.args.context.now in
+    let D = deeper context in
+    temporary_step D (level_steady (program_of context.program.now) context.bound context.levels) (all_dropped D (world c.args.progress.now)) c.in-Some.object
+    (world c.loop-object.progress) (world c.drop_last.new.progress) (world c.release.new.progress)
+    c.loop-object.invariant c.in-Some.ensures.last c.in-Some.ensures.others c.in_ok-release.ensures
+
+pub drop_temporaries-loop-object-smaller : goal.drop_temporaries-loop-object-smaller
+drop_temporaries-loop-object-smaller t c =
+    let context = c.args.context.now in
+    let before = c.loop-object.progress.frame.temporaries in
+    let now = c.release.new.progress.frame.temporaries in
+    let fewer : length now.items < length before.items =
+    temporaries_fewer (deeper context) (level_steady (program_of context.program.now) context.bound context.levels) c.in-Some.object
+    (world c.loop-object.progress) (world c.drop_last.new.progress) (world c.release.new.progress) before.items now.items
+    c.in-Some.ensures.last c.in_ok-release.ensures refl refl in
+    let less : vec_len now < vec_len before = omega (arith, fewer, before.ok.0, now.ok.0) in
+    less
+
+pub drop_temporaries-returns : goal.drop_temporaries-returns
+drop_temporaries-returns t c =
+    let D = deeper c.args.context.now in
+    let none = c.in_default.ensures.last in
+    no_temporary D (all_dropped D (world c.args.progress.now)) (world c.loop-object.progress) (world c.drop_last.new.progress) c.loop-object.invariant none.0 c.in_default.ensures.others (none.1 ∙ sym none.0)
+
+pub drop_variables-loop-offset-preserved : goal.drop_variables-loop-offset-preserved
+drop_variables-loop-offset-preserved t c =
+    let D = deeper c.args.context.now in
+    let n = c.loop-offset.offset in
+    variable_step D (variables_dropped D c.args.first c.args.count (world c.args.progress.now)) c.args.first n (n - 1) c.clear-before.result
+    (world c.loop-offset.progress) (world c.clear-before.new.progress) (world c.release.new.progress)
+    (omega (arith, c.loop-offset-test.true)) c.loop-offset.invariant c.clear-before.ensures.before c.clear-before.ensures.after c.in_ok-release.ensures
+
+pub drop_variables-returns-in_err-release : goal.drop_variables-returns-in_err-release
+drop_variables-returns-in_err-release t c =
+    let D = deeper c.args.context.now in
+    let n = c.loop-offset.offset in
+    let p = err_from_is_err_and c.from_residual.result c.from_residual.ensures.1 in
+    variable_failed D (variables_dropped D c.args.first c.args.count (world c.args.progress.now)) c.args.first n (n - 1) c.clear-before.result
+    (world c.loop-offset.progress) (world c.clear-before.new.progress) (world c.release.new.progress) nothing_of nothing_of c.in_err-release.field-0.0 c.from_residual.result
+    (omega (arith, c.loop-offset-test.true)) c.loop-offset.invariant c.clear-before.ensures.before c.clear-before.ensures.after (p.1 ∙ ap Err p.2) c.in_err-release.ensures
+
+pub enter-returns-in_default : goal.enter-returns-in_default
+enter-returns-in_default t c =
+    let context = c.args.context.now in
     let all = c.deref.result.now in
-    let h = c.in-Some.ensures.lookup in
-    let lt : f < length all = ltb-true f (length all) (sym h.0) in
-    let one : frame.levels ≡ suc (frame.levels - 1) = omega (arith, c.if-frame-eq0.false) in
-    (omega (arith, enter_lighter frame (record { program = frame.program; bound = frame.bound; levels = frame.levels - 1 }) all f c.in-Some.entered.now c.deref.ensures.value lt h.1 one refl, c.decreases), tt)
+    let past : length all ≤ c.args.function = ltb-false c.args.function (length all) (sym c.in_default.ensures.lookup.0) in
+    ap (λ g. called (deeper context) context.bound g c.args.itself c.args.arguments.now (world c.args.progress.now)) (function_absent context all c.args.function c.deref.ensures.value past)
+    ∙ nothing_called (deeper context) context.bound c.args.itself c.args.arguments.now (world c.args.progress.now)
+
+pub enter-execute_all-requires : goal.enter-execute_all-requires
+enter-execute_all-requires t c =
+    let all = c.deref.result.now in
+    let below : c.args.function < length all = ltb-true c.args.function (length all) (sym c.in-Some.ensures.lookup.0) in
+    let least = body_lighter c.args.context.now all c.args.function c.in-Some.entered.now c.deref.ensures.value below c.in-Some.ensures.lookup.1 in
+    let body = ap (λ l. commands_weight (checked.commands l)) c.deref-2.ensures.value in
+    (omega (arith, least, body, c.decreases), tt)
+
+pub enter-returns-in_err-flow : goal.enter-returns-in_err-flow
+enter-returns-in_err-flow t c =
+    let context = c.args.context.now in
+    let P = program_of context.program.now in
+    let D = deeper context in
+    let f = c.in-Some.entered.now in
+    let all = c.deref.result.now in
+    let w0 = world c.args.progress.now in
+    let w1 = world c.push_frame.new.progress in
+    let after = world c.execute_all.new.progress in
+    let below : c.args.function < length all = ltb-true c.args.function (length all) (sym c.in-Some.ensures.lookup.0) in
+    let found : function_at P c.args.function ≡ function_of f = function_there context all c.args.function f c.deref.ensures.value below c.in-Some.ensures.lookup.1 in
+    let p = err_from_is_err_and c.from_residual-in_err-flow.result c.from_residual-in_err-flow.ensures.1 in
+    let body : Tells flow_of (Err c.in_err-flow.field-0.0) (all_executed D context.bound (checked.commands f.body.items) w1) after =
+    subst (λ l. Tells flow_of (Err c.in_err-flow.field-0.0) (all_executed D context.bound (checked.commands l) w1) after) c.deref-2.ensures.value c.in_err-flow.ensures in
+    subst (λ (g : Function). Tells (λ n. n) c.from_residual-in_err-flow.result (called D context.bound g c.args.itself c.args.arguments.now w0) after) (sym found)
+    (body_failed D (level_steady P context.bound context.levels) context.bound (function_of f) c.args.itself c.args.arguments.now w0 w1 c.in_ok-kept.ensures.world
+    flow_of c.in_err-flow.field-0.0 c.from_residual-in_err-flow.result after (p.1 ∙ ap Err p.2) body)
+
+pub enter-returns-in_err-drop_variables : goal.enter-returns-in_err-drop_variables
+enter-returns-in_err-drop_variables t c =
+    let context = c.args.context.now in
+    let P = program_of context.program.now in
+    let D = deeper context in
+    let f = c.in-Some.entered.now in
+    let all = c.deref.result.now in
+    let w0 = world c.args.progress.now in
+    let w1 = world c.push_frame.new.progress in
+    let w2 = world c.execute_all.new.progress in
+    let after = world c.drop_variables.new.progress in
+    let below : c.args.function < length all = ltb-true c.args.function (length all) (sym c.in-Some.ensures.lookup.0) in
+    let found : function_at P c.args.function ≡ function_of f = function_there context all c.args.function f c.deref.ensures.value below c.in-Some.ensures.lookup.1 in
+    let p = err_from_is_err_and c.from_residual-in_err-drop_variables.result c.from_residual-in_err-drop_variables.ensures.1 in
+    let body : all_executed D context.bound (checked.commands f.body.items) w1 ≡ Done (flow_of c.in_ok-flow.flow) w2 =
+    ap (λ l. all_executed D context.bound (checked.commands l) w1) (sym c.deref-2.ensures.value) ∙ c.in_ok-flow.ensures in
+    subst (λ (g : Function). Tells (λ n. n) c.from_residual-in_err-drop_variables.result (called D context.bound g c.args.itself c.args.arguments.now w0) after) (sym found)
+    (drop_failed D (level_steady P context.bound context.levels) context.bound (function_of f) c.args.itself c.args.arguments.now w0 w1 c.in_ok-kept.ensures.world
+    nothing_of (flow_of c.in_ok-flow.flow) w2 c.in_err-drop_variables.field-0.0 c.from_residual-in_err-drop_variables.result after body (p.1 ∙ ap Err p.2) c.in_err-drop_variables.ensures)
+
+pub enter-returns : goal.enter-returns
+enter-returns t c =
+    let context = c.args.context.now in
+    let P = program_of context.program.now in
+    let D = deeper context in
+    let f = c.in-Some.entered.now in
+    let all = c.deref.result.now in
+    let w0 = world c.args.progress.now in
+    let w1 = world c.push_frame.new.progress in
+    let w2 = world c.execute_all.new.progress in
+    let w3 = world c.drop_variables.new.progress in
+    let w4 = world c.pop_frame.new.progress in
+    let old = c.args.progress.now.waiting in
+    let begun = c.push_frame.new.progress.waiting.items in
+    let last = c.drop_variables.new.progress.waiting.items in
+    let number = to_z w64 (of_z w64 c.number_of.result) in
+    let same : number ≡ c.number_of.result = grind (arith, to_z-of_z) in
+    let below : c.args.function < length all = ltb-true c.args.function (length all) (sym c.in-Some.ensures.lookup.0) in
+    let found : function_at P c.args.function ≡ function_of f = function_there context all c.args.function f c.deref.ensures.value below c.in-Some.ensures.lookup.1 in
+    let body : all_executed D context.bound (checked.commands f.body.items) w1 ≡ Done (flow_of c.in_ok-flow.flow) w2 =
+    ap (λ l. all_executed D context.bound (checked.commands l) w1) (sym c.deref-2.ensures.value) ∙ c.in_ok-flow.ensures in
+    let count : c.len-waiting.result ≡ length old.items = c.len-waiting.ensures ∙ old.ok.0 in
+    let kept : take c.len-waiting.result begun ≡ old.items = ap (λ n. take n begun) count ∙ c.in_ok-kept.ensures.below in
+    let leaves : w4 ≡ left_at w0.frame (take c.len-waiting.result last) w3 = c.pop_frame.ensures ∙ ap (λ x. left_at x (take c.len-waiting.result last) w3) c.in_ok-kept.ensures.kept in
+    subst (λ (g : Function). called D context.bound g c.args.itself c.args.arguments.now w0 ≡ Done number w4) (sym found)
+    (call_told D (level_steady P context.bound context.levels) context.bound (function_of f) c.args.itself c.args.arguments.now w0 w1 c.in_ok-kept.ensures.world
+    w2 w3 w4 (flow_of c.in_ok-flow.flow) number c.len-waiting.result old.items begun last body c.in_ok-drop_variables.ensures refl refl refl kept leaves (same ∙ c.number_of.ensures))
+
+pub run_deallocs-loop-passed-preserved : goal.run_deallocs-loop-passed-preserved
+run_deallocs-loop-passed-preserved t c =
+    let context = c.args.context.now in
+    let P = program_of context.program.now in
+    let D = deeper context in
+    let all = context.program.now.classes.items in
+    let these = c.deref.result.now in
+    let i = c.loop-passed._passed in
+    let number = c.in-Some.number in
+    let class = c.in-Some-get.class.now in
+    let w = world c.loop-passed.progress in
+    let below : i < length all = omega (arith, c.loop-passed-test.true, c.len-passed-end.ensures, context.program.now.classes.ok.0) in
+    let lookup = c.in-Some-get.ensures.lookup in
+    let there : slice_get all number ≡ Some class =
+    ap (λ l. slice_get l number) (sym c.deref.ensures.value) ∙ slice_get_read these (length these) number class refl (ltb-true number (length these) (sym lookup.0)) lookup.1 in
+    dealloc_step P D context.bound all c.args.object refl (deallocs_run P D context.bound (length P.classes) c.args.class c.args.object (world c.args.progress.now)) i number class w (world c.run_dealloc.new.progress)
+    below (c.loop-passed.invariant ∙ ap (λ n. deallocs_run P D context.bound (length all - i) n c.args.object w) c.in-Some.is) there c.in_ok-run_dealloc.ensures
+
+pub run_deallocs-returns-in_err-run_dealloc : goal.run_deallocs-returns-in_err-run_dealloc
+run_deallocs-returns-in_err-run_dealloc t c =
+    let context = c.args.context.now in
+    let P = program_of context.program.now in
+    let D = deeper context in
+    let all = context.program.now.classes.items in
+    let these = c.deref.result.now in
+    let i = c.loop-passed._passed in
+    let number = c.in-Some.number in
+    let class = c.in-Some-get.class.now in
+    let w = world c.loop-passed.progress in
+    let below : i < length all = omega (arith, c.loop-passed-test.true, c.len-passed-end.ensures, context.program.now.classes.ok.0) in
+    let lookup = c.in-Some-get.ensures.lookup in
+    let there : slice_get all number ≡ Some class =
+    ap (λ l. slice_get l number) (sym c.deref.ensures.value) ∙ slice_get_read these (length these) number class refl (ltb-true number (length these) (sym lookup.0)) lookup.1 in
+    let p = err_from_is_err_and c.from_residual.result c.from_residual.ensures.1 in
+    dealloc_failed P D context.bound all c.args.object refl (deallocs_run P D context.bound (length P.classes) c.args.class c.args.object (world c.args.progress.now)) i number class w (world c.run_dealloc.new.progress)
+    nothing_of nothing_of c.in_err-run_dealloc.field-0.0 c.from_residual.result
+    below (c.loop-passed.invariant ∙ ap (λ n. deallocs_run P D context.bound (length all - i) n c.args.object w) c.in-Some.is) there (p.1 ∙ ap Err p.2) c.in_err-run_dealloc.ensures

@@ -1,54 +1,109 @@
-use Rattle.std.proofs.Common.{◌≡◌, ◌+◌, ◌-◌, suc, drop}
+use Rattle.std.proofs.Common.{◌≡◌, ◌+◌, ◌-◌, suc, drop, length, vec_len}
 use Rattle.arc_check.specs.Checked as checked
-use Rattle.arc_spec.specs.Meaning.{evaluated, all_evaluated, executed, all_executed, turns}
+use Rattle.arc_check.specs.Checked.{program_of}
+use Rattle.arc_spec.specs.Meaning.{all_evaluated, whole, executed, all_executed, turns, all_dropped, variables_dropped, deallocs_run}
 use Rattle.arc_plain.specs.Views.{world, deeper}
 use Rattle.arc_plain.proofs.Turns.{front}
-use Rattle.arc_plain.proofs.Weights.{calls_weight, value_weight, values_weight, command_weight, commands_weight}
+use Rattle.arc_plain.proofs.Weights.{levels_left, program_weight, value_weight, values_weight, reference_weight, command_weight, commands_weight}
 use Rattle.arc_plain.proofs.run.+running.Given as goal
 
 abbrev pub decreases-call : goal.decreases-call
-decreases-call l = calls_weight l.frame.now
+decreases-call l = levels_left l.context.now
+
+abbrev pub decreases-end : goal.decreases-end
+decreases-end l = levels_left l.context.now
+
+abbrev pub decreases-release : goal.decreases-release
+decreases-release l = levels_left l.context.now + 1
+
+abbrev pub decreases-drop_temporaries : goal.decreases-drop_temporaries
+decreases-drop_temporaries l = levels_left l.context.now + 2
+
+abbrev pub decreases-drop_variables : goal.decreases-drop_variables
+decreases-drop_variables l = levels_left l.context.now + 2
 
 abbrev pub decreases-enter : goal.decreases-enter
-decreases-enter l = calls_weight l.frame.now + suc (commands_weight (checked.commands l.function.now.body.items))
+decreases-enter l = levels_left l.context.now + (3 + program_weight l.context.now)
+
+abbrev pub decreases-run_dealloc : goal.decreases-run_dealloc
+decreases-run_dealloc l = levels_left l.context.now + (4 + program_weight l.context.now)
+
+abbrev pub decreases-run_deallocs : goal.decreases-run_deallocs
+decreases-run_deallocs l = levels_left l.context.now + (5 + program_weight l.context.now)
 
 abbrev pub decreases-evaluate : goal.decreases-evaluate
-decreases-evaluate l = calls_weight l.frame.now + value_weight (checked.value l.value.now)
+decreases-evaluate l = levels_left l.context.now + value_weight (checked.value l.value.now)
+
+abbrev pub decreases-refer : goal.decreases-refer
+decreases-refer l = levels_left l.context.now + reference_weight (checked.reference l.reference.now)
 
 abbrev pub decreases-evaluate_all : goal.decreases-evaluate_all
-decreases-evaluate_all l = calls_weight l.frame.now + values_weight (checked.values l.values.now)
+decreases-evaluate_all l = levels_left l.context.now + values_weight (checked.values l.values.now)
+
+abbrev pub decreases-evaluate_whole : goal.decreases-evaluate_whole
+decreases-evaluate_whole l = levels_left l.context.now + (3 + value_weight (checked.value l.value.now))
 
 abbrev pub decreases-send : goal.decreases-send
-decreases-send l = calls_weight l.frame.now + (2 + value_weight (checked.value l.receiver.now) + values_weight (checked.values l.arguments.now))
+decreases-send l = levels_left l.context.now + (2 + value_weight (checked.value l.receiver.now) + values_weight (checked.values l.arguments.now))
 
 abbrev pub decreases-send_super : goal.decreases-send_super
-decreases-send_super l = calls_weight l.frame.now + (2 + values_weight (checked.values l.arguments.now))
+decreases-send_super l = levels_left l.context.now + (2 + values_weight (checked.values l.arguments.now))
 
 abbrev pub decreases-dispatch : goal.decreases-dispatch
-decreases-dispatch l = suc (calls_weight l.frame.now)
+decreases-dispatch l = suc (levels_left l.context.now)
+
+abbrev pub decreases-send_to : goal.decreases-send_to
+decreases-send_to l = levels_left l.context.now + (2 + reference_weight (checked.reference l.receiver.now) + values_weight (checked.values l.arguments.now))
+
+abbrev pub decreases-send_to_super : goal.decreases-send_to_super
+decreases-send_to_super l = levels_left l.context.now + (2 + values_weight (checked.values l.arguments.now))
+
+abbrev pub decreases-dispatch_to : goal.decreases-dispatch_to
+decreases-dispatch_to l = suc (levels_left l.context.now)
 
 abbrev pub decreases-execute : goal.decreases-execute
-decreases-execute l = calls_weight l.frame.now + command_weight (checked.command l.command.now)
+decreases-execute l = levels_left l.context.now + command_weight (checked.command l.command.now)
+
+abbrev pub decreases-execute_block : goal.decreases-execute_block
+decreases-execute_block l = levels_left l.context.now + (3 + commands_weight (checked.commands l.commands.now))
 
 abbrev pub decreases-execute_all : goal.decreases-execute_all
-decreases-execute_all l = calls_weight l.frame.now + commands_weight (checked.commands l.commands.now)
+decreases-execute_all l = levels_left l.context.now + commands_weight (checked.commands l.commands.now)
 
 abbrev pub decreases-repeat : goal.decreases-repeat
-decreases-repeat l = calls_weight l.frame.now + suc (value_weight (checked.value l.test.now) + command_weight (checked.command l.body.now))
+decreases-repeat l = levels_left l.context.now + (4 + value_weight (checked.value l.test.now) + command_weight (checked.command l.body.now))
 
 -- the whole is what was found in front of what is to come
 abbrev pub invariant-evaluate_all-loop-value : goal.invariant-evaluate_all-loop-value
 invariant-evaluate_all-loop-value l =
-    all_evaluated (deeper l.frame) (checked.values l.values) (world l.initial.progress) ≡ front l.numbers.items (all_evaluated (deeper l.frame) (checked.values (drop l.value-index l.values)) (world l.progress))
+    all_evaluated (deeper l.context) (checked.values l.values) (world l.initial.progress) ≡ front l.numbers.items (all_evaluated (deeper l.context) (checked.values (drop l.value-index l.values)) (world l.progress))
 
 -- what is to come is the whole
 abbrev pub invariant-execute_all-loop-command : goal.invariant-execute_all-loop-command
 invariant-execute_all-loop-command l =
-    all_executed (deeper l.frame) l.frame.bound (checked.commands l.commands) (world l.initial.progress) ≡ all_executed (deeper l.frame) l.frame.bound (checked.commands (drop l.command-index l.commands)) (world l.progress)
+    all_executed (deeper l.context) l.context.bound (checked.commands l.commands) (world l.initial.progress) ≡ all_executed (deeper l.context) l.context.bound (checked.commands (drop l.command-index l.commands)) (world l.progress)
 
 -- the turns that are left are the whole
 abbrev pub invariant-repeat-loop : goal.invariant-repeat-loop
 invariant-repeat-loop l =
-    let test = evaluated (deeper l.frame) (checked.value l.test) in
-    let body = executed (deeper l.frame) l.frame.bound (checked.command l.body) in
-    turns l.frame.bound test body (world l.initial.progress) ≡ turns (l.frame.bound - l.counter) test body (world l.progress)
+    let test = whole (deeper l.context) (checked.value l.test) in
+    let body = executed (deeper l.context) l.context.bound (checked.command l.body) in
+    turns l.context.bound test body (world l.initial.progress) ≡ turns (l.context.bound - l.counter) test body (world l.progress)
+
+-- the temporaries that are left are the whole
+abbrev pub invariant-drop_temporaries-loop-object : goal.invariant-drop_temporaries-loop-object
+invariant-drop_temporaries-loop-object l = all_dropped (deeper l.context) (world l.initial.progress) ≡ all_dropped (deeper l.context) (world l.progress)
+
+abbrev pub decreases-drop_temporaries-loop-object : goal.decreases-drop_temporaries-loop-object
+decreases-drop_temporaries-loop-object l = vec_len l.progress.frame.temporaries
+
+-- the variables that are left are the whole
+abbrev pub invariant-drop_variables-loop-offset : goal.invariant-drop_variables-loop-offset
+invariant-drop_variables-loop-offset l = variables_dropped (deeper l.context) l.first l.count (world l.initial.progress) ≡ variables_dropped (deeper l.context) l.first l.offset (world l.progress)
+
+-- the deallocs from the next class up are the whole
+abbrev pub invariant-run_deallocs-loop-passed : goal.invariant-run_deallocs-loop-passed
+invariant-run_deallocs-loop-passed l =
+    let program = program_of l.context.program.now in
+    deallocs_run program (deeper l.context) l.context.bound (length program.classes) l.fn.class l.object (world l.initial.progress)
+    ≡ deallocs_run program (deeper l.context) l.context.bound (length l.context.program.now.classes.items - l._passed) l.next l.object (world l.progress)

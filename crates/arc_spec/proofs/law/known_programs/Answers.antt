@@ -17,3 +17,7 @@ returns-clause-wrapped_sum c = refl
 pub returns-clause-class_methods : goal.returns-clause-class_methods
 unfolding digits
 returns-clause-class_methods c = refl
+
+pub returns-clause-objects : goal.returns-clause-objects
+unfolding digits
+returns-clause-objects c = refl

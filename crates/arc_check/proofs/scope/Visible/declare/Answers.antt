@@ -1,10 +1,19 @@
-use Rattle.std.proofs.Common.{◌≡◌, ◌+◌, suc, true, nat_lt, rules, arith, refl}
-use Rattle.arc_check.proofs.Scoping.{declare_is}
+use Rattle.std.proofs.Common.{◌≡◌, refl, sym, ap, ◌∙◌, cond, option_map}
+use Rattle.std.proofs.lemmas.Result.{on_ok_weaker}
+use Rattle.arc_ast.specs.Tree.{type_tree}
+use Rattle.arc_check.specs.Scopes.{has_place, with_object, declare}
+use Rattle.arc_check.specs.Views.{seen}
 use Rattle.arc_check.proofs.scope.Visible.declare.Goals as goal
 
-pub returns-in_ok-push-clause-scope : goal.returns-in_ok-push-clause-scope
-returns-in_ok-push-clause-scope c = λ table.
-    let old = c.args.self.now in
-    let t : nat_lt old.next (200 + old.hidden) ≡ true = search rules in
-    let more : old.next + 1 ≡ suc old.next = omega arith in
-    declare_is table old (record { class = old.class; hidden = old.hidden; bound = c.push.new.self; next = old.next + 1 }) (record { name = c.args.name; number = old.next }) c.args.name.now t refl refl c.in_ok-push.ensures.items refl refl more
+pub returns-in-Int-clause-scope : goal.returns-in-Int-clause-scope
+returns-in-Int-clause-scope c = on_ok_weaker c.declare_int.result (λ h. h c.args.table.now ∙ ap (λ t. declare c.args.name.now (type_tree t) (seen c.args.table.now c.args.self.now)) (sym c.in-Int.is)) c.declare_int.ensures.scope
+
+pub returns-in-Id-clause-scope : goal.returns-in-Id-clause-scope
+returns-in-Id-clause-scope c = on_ok_weaker c.declare_object.result (λ h. h c.args.table.now ∙ ap (λ t. declare c.args.name.now (type_tree t) (seen c.args.table.now c.args.self.now)) (sym c.in-Id.is)) c.declare_object.ensures.scope
+
+pub returns-in-Object-clause-scope : goal.returns-in-Object-clause-scope
+returns-in-Object-clause-scope c =
+    let table = c.args.table.now in
+    let s = seen table c.args.self.now in
+    on_ok_weaker c.declare_object-in-Object.result (λ h. h table ∙ ap (λ class. cond (has_place s) (with_object c.args.name.now class s) s) (c.objc_get_class.ensures ∙ ap s.known.class c.deref.ensures.value)
+    ∙ ap (λ t. declare c.args.name.now (type_tree t) s) (sym c.in-Object.is)) c.declare_object-in-Object.ensures.scope

@@ -1,26 +1,36 @@
-use Rattle.std.proofs.Common.{◌≡◌, ◌<◌, ◌+◌, ◌++◌, length, map, get_or, drop, subst, ap, ◌∙◌}
+use Rattle.std.proofs.Common.{◌≡◌, ◌<◌, ◌≤◌, ◌+◌, ◌++◌, Some, suc, length, map, get_or, drop, subst, sym, ap, ◌∙◌, arith}
 use Rattle.arc_ast.specs.Tree.{unit_tree, interface_tree, interface_trees}
-use Rattle.arc_spec.specs.declared.class.Class as declared
 use Rattle.arc_spec.specs.Classes.{class_of}
-use Rattle.arc_class.specs.Classes as rules
-use Rattle.arc_class.specs.Table.{class_number_in}
+use Rattle.arc_class.specs.Entries.{count_among}
+use Rattle.arc_class.specs.Fields.{fields}
+use Rattle.arc_class.specs.Running as running
+use Rattle.arc_class.specs.Running.{class_with, classes_from}
+use Rattle.arc_class.proofs.FieldLists.{count_kept}
 use Rattle.arc_class.proofs.Lists.{drop_turn}
-use Rattle.arc_class.proofs.Parts.{made_turn, class_is}
-use Rattle.arc_class.proofs.Rules.{class_number_kept}
+use Rattle.arc_class.proofs.Parts.{made_turn, pushed_length}
+use Rattle.arc_class.proofs.Rules.{interfaces_count}
 use Rattle.arc_class.proofs.kept.Source.classes.Goals as goal
 
 pub loop-interface-preserved : goal.loop-interface-preserved
 loop-interface-preserved c =
     let u = unit_tree c.args.self.now.unit.now in
-    let source = c.args.self.now in
     let xs = c.args.self.now.unit.now.interfaces.items in
     let k = c.loop-interface.interface-index in
     let x = c.interface-item.result in
+    let i = interface_tree x in
+    let all = c.loop-interface.classes.items in
     let within : k < length xs = subst (λ us. k < length us) c.deref-interface-items.ensures.value c.loop-interface-test.true in
     let same : x ≡ get_or xs k x = c.interface-item.is ∙ ap (λ us. get_or us k x) c.deref-interface-items.ensures.value in
-    let superclass = c.class_number-superclass.ensures ∙ ap (class_number_in source.names) c.deref-in-loop-interface.ensures.value
-    ∙ class_number_kept source.names u.interfaces x.superclass.items (c.requires.knows.class_places x.superclass.items) in
-    let one : declared.Class = record { superclass = c.class_number-superclass.result; methods = c.in_ok-methods.methods } in
-    made_turn class_of c.loop-interface.classes.items c.push-in-loop-interface.new.self.items one (rules.class_of u (interface_tree x)) (map (rules.class_of u) (interface_trees (drop (k + 1) xs))) _
-    c.in_ok-push-2.ensures.items (class_is u (interface_tree x) c.class_number-superclass.result c.in_ok-methods.methods.items superclass (c.in_ok-methods.ensures.made ∙ ap (rules.methods_named u (rules.bodies u.functions) u.implementations) c.deref.ensures.value))
-    (c.loop-interface.invariant ∙ ap (λ us. map class_of c.loop-interface.classes.items ++ map (rules.class_of u) (interface_trees us)) (drop_turn xs k x within same))
+    let few : k + 1 ≤ length u.interfaces = omega (arith, within, interfaces_count xs) in
+    let number : c.loop-interface.number + 1 ≡ k + 1 = ap (λ n. n + 1) c.loop-interface.invariant.numbered in
+    let count : c.count_among-count.result ≡ length (fields u (k + 1)) =
+    c.count_among-count.ensures ∙ ap (λ n. count_among c.args.fields.now (Some n)) number ∙ count_kept u c.args.fields.now c.requires.fields (k + 1) few in
+    let one : class_of c.in_ok-class.class ≡ running.class_of u (k + 1) i = c.in_ok-class.ensures.made ∙ ap (λ n. class_with u n i) count in
+    let next : suc (k + 1) ≡ k + 1 + 1 = omega arith in
+    record {
+      made = made_turn class_of all c.push-in-loop-interface.new.self.items c.in_ok-class.class (running.class_of u (k + 1) i) (classes_from u (suc (k + 1)) (interface_trees (drop (k + 1) xs))) _ c.in_ok-push-2.ensures.items one
+          (c.loop-interface.invariant.made ∙ ap (λ us. map class_of all ++ classes_from u (k + 1) (interface_trees us)) (drop_turn xs k x within same))
+          ∙ ap (λ n. map class_of c.push-in-loop-interface.new.self.items ++ classes_from u n (interface_trees (drop (k + 1) xs))) next;
+      numbered = ap (λ n. n + 1) c.loop-interface.invariant.numbered;
+      counted = pushed_length all c.push-in-loop-interface.new.self.items c.in_ok-class.class (k + 1) c.in_ok-push-2.ensures.items c.loop-interface.invariant.counted;
+    }

@@ -1,9 +1,13 @@
-use Rattle.std.proofs.Common.{◌≡◌, ◌++◌, map, drop}
+use Rattle.std.proofs.Common.{◌≡◌, ◌+◌, ◌++◌, length, drop}
 use Rattle.arc_ast.specs.Tree.{unit_tree, interface_trees}
 use Rattle.arc_spec.specs.Classes.{classes_of}
-use Rattle.arc_class.specs.Classes.{classes, class_of}
+use Rattle.arc_class.specs.Running.{classes, classes_from}
 use Rattle.arc_class.proofs.kept.Source.classes.Given as goal
 
 -- those so far with the rest are all
 abbrev pub invariant-loop-interface : goal.invariant-loop-interface
-invariant-loop-interface l = classes (unit_tree l.self.unit.now) ≡ classes_of l.classes.items ++ map (class_of (unit_tree l.self.unit.now)) (interface_trees (drop l.interface-index l.self.unit.now.interfaces.items))
+invariant-loop-interface l = record {
+  made : classes (unit_tree l.self.unit.now) ≡ classes_of l.classes.items ++ classes_from (unit_tree l.self.unit.now) (l.interface-index + 1) (interface_trees (drop l.interface-index l.self.unit.now.interfaces.items));
+  numbered : l.number ≡ l.interface-index;
+  counted : length l.classes.items ≡ l.interface-index + 1;
+}

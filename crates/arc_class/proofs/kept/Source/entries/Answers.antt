@@ -1,25 +1,18 @@
 use Rattle.std.proofs.Common.{◌≡◌, ◌<◌, ◌+◌, ◌++◌, length, map, get_or, drop, subst, ap, ◌∙◌}
 use Rattle.arc_ast.specs.Tree.{unit_tree, interface_tree, interface_trees}
-use Rattle.arc_class.specs.declared.table.Entry.{Entry}
 use Rattle.arc_class.specs.Entries.{entry_tree, class_entry}
-use Rattle.arc_class.specs.Table.{class_number_in}
 use Rattle.arc_class.proofs.Lists.{drop_turn}
-use Rattle.arc_class.proofs.Parts.{made_turn, entry_is}
-use Rattle.arc_class.proofs.Rules.{class_number_kept}
+use Rattle.arc_class.proofs.Parts.{made_turn}
 use Rattle.arc_class.proofs.kept.Source.entries.Goals as goal
 
 pub loop-interface-preserved : goal.loop-interface-preserved
 loop-interface-preserved c =
     let u = unit_tree c.args.self.now.unit.now in
-    let source = c.args.self.now in
     let xs = c.args.self.now.unit.now.interfaces.items in
     let k = c.loop-interface.interface-index in
     let x = c.interface-item.result in
     let within : k < length xs = subst (λ us. k < length us) c.deref-interface-items.ensures.value c.loop-interface-test.true in
     let same : x ≡ get_or xs k x = c.interface-item.is ∙ ap (λ us. get_or us k x) c.deref-interface-items.ensures.value in
-    let superclass = c.class_number-superclass.ensures ∙ ap (class_number_in source.names) c.deref.ensures.value
-    ∙ class_number_kept source.names u.interfaces x.superclass.items (c.requires.class_places x.superclass.items) in
-    let one : Entry = record { superclass = c.class_number-superclass.result; methods = c.in_ok-methods.methods } in
-    made_turn entry_tree c.loop-interface.entries.items c.push-in-loop-interface.new.self.items one (class_entry u (interface_tree x)) (map (class_entry u) (interface_trees (drop (k + 1) xs))) _
-    c.in_ok-push-2.ensures.items (entry_is u (interface_tree x) c.class_number-superclass.result c.in_ok-methods.methods superclass c.in_ok-methods.ensures)
+    made_turn entry_tree c.loop-interface.entries.items c.push-in-loop-interface.new.self.items c.in_ok-entry.entry (class_entry u (interface_tree x)) (map (class_entry u) (interface_trees (drop (k + 1) xs))) _
+    c.in_ok-push-2.ensures.items c.in_ok-entry.ensures
     (c.loop-interface.invariant ∙ ap (λ us. map entry_tree c.loop-interface.entries.items ++ map (class_entry u) (interface_trees us)) (drop_turn xs k x within same))

@@ -13,4 +13,5 @@ invariant-loop-interface l = record {
   fault : first (broken_interfaces (unit_tree l.self.unit.now) [] (unit_tree l.self.unit.now).interfaces)
       ≡ earlier_of (option_map told l.fault) (first (broken_interfaces (unit_tree l.self.unit.now) (interface_trees (take l.interface-index l.self.unit.now.interfaces.items)) (interface_trees (drop l.interface-index l.self.unit.now.interfaces.items))));
   held : (name : List ℕ) → holds l.before name ≡ is_some (interface_number (interface_trees (take l.interface-index l.self.unit.now.interfaces.items)) name);
+  counted : l.class ≡ l.interface-index;
 }

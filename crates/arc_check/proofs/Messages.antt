@@ -1,0 +1,37 @@
+-- What is built of messages and assignments.
+use Rattle.std.proofs.Common.{◌≡◌, ℕ, List, Option, Some, None, option_map, refl, sym, ap, ◌∙◌}
+use Rattle.arc_ast.specs.declared.tree.Kind.{Kind}
+use Rattle.arc_ast.specs.Tree.{ExprTree, ExprTrees, Send, SendSuper}
+use Rattle.arc_class.specs.Table.{number_of_class}
+use Rattle.arc_spec.specs.Resolved.{Values}
+use Rattle.arc_check.specs.declared.resolve.Typed.{Typed}
+use Rattle.arc_check.specs.Building.{Resolves, resolution}
+use Rattle.arc_check.specs.Resolving.{Resolution, number, resolved, resolved_all, sent, sent_super, to_super}
+use Rattle.arc_check.specs.Scopes.{Scope, above, class_of, class_receiver, sent_class, super_class, super_kind}
+
+-- a message to a class
+pub resolves_class : (s : Scope) (at part : ℕ) (r : ExprTree) (selector : List ℕ) (arguments : ExprTrees) (class : ℕ) (all : Values) (typed : Typed) → Some class ≡ class_receiver s r → all ≡ resolved_all s false arguments
+    → option_map number_of_class typed.class ≡ sent_class (Some class) None selector → resolution typed.value ≡ sent s r (Some class) (class_of s r) (resolved s r) selector all → Resolves s (Send at part r selector arguments) typed
+resolves_class s at part r selector arguments class all typed e m c v = record {
+  class = c ∙ ap (λ x. sent_class x (class_of s r) selector) e;
+  value = v ∙ ap (λ x. sent s r x (class_of s r) (resolved s r) selector all) e ∙ ap (sent s r (class_receiver s r) (class_of s r) (resolved s r) selector) m;
+}
+
+-- a message to an object
+pub resolves_object : (s : Scope) (at part : ℕ) (r : ExprTree) (selector : List ℕ) (arguments : ExprTrees) (object typed : Typed) (all : Values) → None ≡ class_receiver s r → Resolves s r object → all ≡ resolved_all s false arguments
+    → option_map number_of_class typed.class ≡ sent_class None (option_map number_of_class object.class) selector → resolution typed.value ≡ sent s r None (option_map number_of_class object.class) (resolution object.value) selector all
+    → Resolves s (Send at part r selector arguments) typed
+resolves_object s at part r selector arguments object typed all e o m c v = record {
+  class = c ∙ ap (λ x. sent_class None x selector) o.class ∙ ap (λ x. sent_class x (class_of s r) selector) e;
+  value = v ∙ ap (λ x. sent s r None x (resolution object.value) selector all) o.class ∙ ap (λ x. sent s r None (class_of s r) x selector all) o.value
+      ∙ ap (λ x. sent s r x (class_of s r) (resolved s r) selector all) e ∙ ap (sent s r (class_receiver s r) (class_of s r) (resolved s r) selector) m;
+}
+
+-- a message to `super`
+pub resolves_super : (s : Scope) (at part super_at : ℕ) (selector : List ℕ) (arguments : ExprTrees) (kind : Option Kind) (from n : ℕ) (all : Values) (typed : Typed) → kind ≡ super_kind s selector → from ≡ number (above s.known s.class) → n ≡ number (s.known.selector selector)
+    → all ≡ resolved_all s false arguments → option_map number_of_class typed.class ≡ super_class s selector → resolution typed.value ≡ to_super s.sign kind from n all → Resolves s (SendSuper at part super_at selector arguments) typed
+resolves_super s at part super_at selector arguments kind from n all typed k f m a c v = record {
+  class = c;
+  value = v ∙ ap (λ x. to_super s.sign x from n all) k ∙ ap (λ x. to_super s.sign (super_kind s selector) x n all) f ∙ ap (λ x. to_super s.sign (super_kind s selector) (number (above s.known s.class)) x all) m
+      ∙ ap (sent_super s selector) a;
+}

@@ -1,0 +1,98 @@
+//! The fields that names mean.
+ghost use Rattle.std.specs.Prelude.{◌≡◌, option_map};
+ghost use Rattle.arc_class.specs.Broken.{first};
+ghost use Rattle.arc_class.specs.Table.{number_of_class};
+ghost use Rattle.arc_check.specs.Fault.{told};
+ghost use Rattle.arc_check.specs.Rules as rules;
+ghost use Rattle.arc_check.specs.Scopes as scopes;
+ghost use Rattle.arc_check.specs.Views.{known_in, seen};
+
+use crate::fault::CheckFault;
+use crate::scope::Visible;
+use arc_ast::tree::{Kind, Visibility};
+use arc_class::table::{ClassId, ClassTable, FoundField};
+use arc_spec::class::descends_from;
+
+/// The field of `self` that the name means which is no variable's.
+pub fn own_field<'a>(
+    table: &ClassTable<'a>,
+    visible: &Visible<'a>,
+    name: &'a [u8],
+) -> Option<FoundField>
+    ensures { result ≡ scopes.own_field (seen table.now visible.now) name.now }
+{
+    table.field(visible.own_class(), name)
+}
+
+/// Whether the name means a variable or a field of `self`.
+pub fn is_variable<'a>(table: &ClassTable<'a>, visible: &Visible<'a>, name: &'a [u8]) -> bool
+    ensures { result ≡ scopes.is_variable (seen table.now visible.now) name.now }
+{
+    visible.local(name).is_some() || own_field(table, visible, name).is_some()
+}
+
+/// Whether the class is that one, or comes from it.
+fn descends(table: &ClassTable, class: Option<ClassId>, other: ClassId) -> bool
+    ensures { result ≡ (known_in table.now).descends (option_map number_of_class class) (number_of_class other) }
+{
+    let from = class.map(|class| class.0);
+    descends_from(&table.classes, from, other.0)
+}
+
+/// Whether the class is that one.
+fn is_class(class: Option<ClassId>, other: ClassId) -> bool
+    ensures { result ≡ scopes.is_class (option_map number_of_class class) (number_of_class other) }
+{
+    match class {
+        None => false,
+        Some(class) => class.0 == other.0,
+    }
+}
+
+/// Whether the field may be named where these variables are visible.
+fn is_visible(table: &ClassTable, visible: &Visible, field: FoundField) -> bool
+    ensures { result ≡ scopes.is_visible (seen table.now visible.now) field }
+{
+    match field.visibility {
+        Visibility::Public => true,
+        Visibility::Protected => descends(table, visible.class, field.owner),
+        Visibility::Private => is_class(visible.class, field.owner),
+    }
+}
+
+/// The kind of the field, where there is one that may be named.
+pub fn field_kind(table: &ClassTable, visible: &Visible, found: Option<FoundField>) -> Option<Kind>
+    ensures { result ≡ rules.field_kind (seen table.now visible.now) found }
+{
+    match found {
+        None => None,
+        Some(field) => {
+            if is_visible(table, visible, field) {
+                Some(Kind::Int)
+            } else {
+                None
+            }
+        }
+    }
+}
+
+/// The rule that is broken where there is no field that may be named.
+pub fn field_fault(
+    table: &ClassTable,
+    visible: &Visible,
+    found: Option<FoundField>,
+    at: usize,
+) -> Option<CheckFault>
+    ensures { option_map told result ≡ first (rules.no_field (seen table.now visible.now) found at) }
+{
+    match found {
+        None => Some(CheckFault::UnknownName(at)),
+        Some(field) => {
+            if is_visible(table, visible, field) {
+                None
+            } else {
+                Some(CheckFault::FieldHidden(at))
+            }
+        }
+    }
+}

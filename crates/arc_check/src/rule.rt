@@ -1,0 +1,226 @@
+//! The rules that expressions break, from what is told of their parts.
+ghost use Rattle.std.specs.Prelude.{◌≡◌, option_map};
+ghost use Rattle.arc_ast.specs.Tree as tree;
+ghost use Rattle.arc_ast.specs.Tree.{expr_tree};
+ghost use Rattle.arc_class.specs.Broken.{first};
+ghost use Rattle.arc_class.specs.declared.table.ClassTable.{ClassTable};
+ghost use Rattle.arc_check.specs.Fault.{told};
+ghost use Rattle.arc_check.specs.Kinds as kinds;
+ghost use Rattle.arc_check.specs.Rules as rules;
+ghost use Rattle.arc_check.specs.Rules.{broken_at, no_left, no_number, no_right, no_value, number_kind, other_rule};
+ghost use Rattle.arc_check.specs.Views.{seen};
+
+use crate::callee::Callee;
+use crate::fault::CheckFault;
+use crate::scope::Visible;
+use arc_ast::tree::{BinaryOperator, Expr, Kind};
+
+/// The largest int.
+const LARGEST_INT: i64 = 2147483647;
+
+/// The kind of an integer literal.
+pub fn literal_kind(number: i64) -> Kind
+    ensures { result ≡ kinds.literal_kind number }
+{
+    if number <= LARGEST_INT {
+        Kind::Int
+    } else {
+        Kind::Long
+    }
+}
+
+/// The kind in which an operator computes.
+pub fn wider(a: Kind, b: Kind) -> Kind
+    ensures { result ≡ kinds.wider a b }
+{
+    match (a, b) {
+        (Kind::Long, _) | (_, Kind::Long) => Kind::Long,
+        _ => Kind::Int,
+    }
+}
+
+/// The place at which an expression is told: an assignment's `=`, a field's name, a message's first selector part, and else
+/// the first byte.
+pub fn place(expr: &Expr) -> usize
+    ensures { result ≡ tree.place (expr_tree expr.now) }
+{
+    match expr {
+        Expr::Integer(at, _)
+        | Expr::Text(at, _)
+        | Expr::Paren(at, _)
+        | Expr::Call(at, _, _)
+        | Expr::Nil(at)
+        | Expr::Itself(at)
+        | Expr::Name(at, _)
+        | Expr::Negate(at, _)
+        | Expr::Cast(at, _, _)
+        | Expr::Binary(at, _, _, _)
+        | Expr::Arrow(_, at, _, _)
+        | Expr::Assign(_, at, _, _)
+        | Expr::Send(_, at, _, _, _)
+        | Expr::SendSuper(_, at, _, _, _) => *at,
+    }
+}
+
+/// Whether an assignment's left side is a name, a field or `self`, parentheses aside.
+pub fn is_assignable(expr: &Expr) -> bool
+    ensures { result ≡ rules.is_assignable (expr_tree expr.now) }
+{
+    match expr {
+        Expr::Paren(_, inside) => is_assignable(inside),
+        Expr::Itself(_) | Expr::Name(_, _) | Expr::Arrow(_, _, _, _) => true,
+        _ => false,
+    }
+}
+
+/// Whether an assignment's left side is a variable or `self`, which it doesn't read.
+pub fn is_unread(visible: &Visible, expr: &Expr) -> bool
+    ensures { (table : ClassTable) → result ≡ rules.is_unread (seen table visible.now) (expr_tree expr.now) }
+{
+    match expr {
+        Expr::Paren(_, inside) => is_unread(visible, inside),
+        Expr::Itself(_) => true,
+        Expr::Name(_, name) => visible.local(name).is_some(),
+        _ => false,
+    }
+}
+
+/// Whether the kind is that of objects.
+pub fn is_object(kind: Option<Kind>) -> bool
+    ensures { result ≡ rules.is_object kind }
+{
+    matches!(kind, Some(Kind::Object))
+}
+
+/// The kind of an operand with which an operator computes.
+pub fn number_kind(kind: Option<Kind>) -> Option<Kind>
+    ensures { result ≡ number_kind kind }
+{
+    match kind {
+        Some(Kind::Int) => Some(Kind::Int),
+        Some(Kind::Long) => Some(Kind::Long),
+        _ => None,
+    }
+}
+
+/// The kind of a sum, from those of its operands.
+fn both_kinds(a: Option<Kind>, b: Option<Kind>) -> Option<Kind>
+    ensures { result ≡ rules.both_kinds a b }
+{
+    match (a, b) {
+        (Some(a), Some(b)) => Some(wider(a, b)),
+        _ => None,
+    }
+}
+
+/// The kind of an operator's expression, from those of its operands.
+pub fn binary_kind(operator: BinaryOperator, a: Option<Kind>, b: Option<Kind>) -> Option<Kind>
+    ensures { result ≡ rules.binary_kind operator a b }
+{
+    match operator {
+        BinaryOperator::NotEqual => Some(Kind::Int),
+        BinaryOperator::Add
+        | BinaryOperator::Subtract
+        | BinaryOperator::Multiply
+        | BinaryOperator::Divide => both_kinds(number_kind(a), number_kind(b)),
+    }
+}
+
+/// The rule that an expression of the kind breaks where a value is needed.
+pub fn no_value(kind: Option<Kind>, at: usize) -> Option<CheckFault>
+    ensures { option_map told result ≡ first (no_value kind at) }
+{
+    match kind {
+        Some(Kind::Void) => Some(CheckFault::KindMismatch(at)),
+        _ => None,
+    }
+}
+
+/// The rule that an expression of the kind breaks where a number is needed.
+pub fn no_number(kind: Option<Kind>, at: usize) -> Option<CheckFault>
+    ensures { option_map told result ≡ first (no_number kind at) }
+{
+    match kind {
+        Some(Kind::Void) | Some(Kind::Object) => Some(CheckFault::KindMismatch(at)),
+        _ => None,
+    }
+}
+
+/// The rule that an expression of the kind breaks where an object is needed.
+pub fn no_object(kind: Option<Kind>, at: usize) -> Option<CheckFault>
+    ensures { option_map told result ≡ first (rules.no_object kind at) }
+{
+    match kind {
+        None | Some(Kind::Object) => None,
+        Some(_) => Some(CheckFault::KindMismatch(at)),
+    }
+}
+
+/// The rule that an expression of a kind breaks which is assigned to what holds the wanted one.
+pub fn no_such(wanted: Option<Kind>, given: Option<Kind>, at: usize) -> Option<CheckFault>
+    ensures { option_map told result ≡ first (rules.no_such wanted given at) }
+{
+    match wanted {
+        None => None,
+        Some(Kind::Object) => no_object(given, at),
+        Some(_) => no_number(given, at),
+    }
+}
+
+/// The rule that a left operand of the kind breaks.
+pub fn no_left(operator: BinaryOperator, kind: Option<Kind>, at: usize) -> Option<CheckFault>
+    ensures { option_map told result ≡ first (no_left operator kind at) }
+{
+    match operator {
+        BinaryOperator::NotEqual => no_value(kind, at),
+        BinaryOperator::Add
+        | BinaryOperator::Subtract
+        | BinaryOperator::Multiply
+        | BinaryOperator::Divide => no_number(kind, at),
+    }
+}
+
+/// The rule that the second of two things breaks, of these kinds, that are compared.
+fn no_other(left: Option<Kind>, right: Option<Kind>, at: usize) -> Option<CheckFault>
+    ensures { option_map told result ≡ first (no_right BinaryOperator.NotEqual left right at) }
+{
+    match (left, right) {
+        (Some(Kind::Object), Some(Kind::Object)) => None,
+        (Some(Kind::Object), Some(_)) => Some(CheckFault::KindMismatch(at)),
+        _ => no_number(right, at),
+    }
+}
+
+/// The rule that a right operand breaks, from the kinds of both.
+pub fn no_right(
+    operator: BinaryOperator,
+    left: Option<Kind>,
+    right: Option<Kind>,
+    at: usize,
+) -> Option<CheckFault>
+    ensures { option_map told result ≡ first (no_right operator left right at) }
+{
+    match operator {
+        BinaryOperator::NotEqual => no_other(left, right, at),
+        BinaryOperator::Add
+        | BinaryOperator::Subtract
+        | BinaryOperator::Multiply
+        | BinaryOperator::Divide => no_number(right, at),
+    }
+}
+
+/// The rule that a call of a function other than printf breaks at its name.
+pub fn call_fault(callee: Callee, at: usize, count: usize) -> Option<CheckFault>
+    ensures { option_map told result ≡ first (broken_at at (other_rule callee count)) }
+{
+    let wanted = match callee {
+        Callee::Unknown => return Some(CheckFault::UnknownName(at)),
+        Callee::Defined(_, wanted, _) => wanted,
+        Callee::Printf | Callee::GetChar => 0,
+    };
+    if count == wanted {
+        None
+    } else {
+        Some(CheckFault::ArgumentCount(at))
+    }
+}

@@ -1,0 +1,5 @@
+use Rattle.arc_class.proofs.Parts.{root_is}
+use Rattle.arc_class.proofs.building.root_entry.Goals as goal
+
+pub returns : goal.returns
+returns c = root_is c.new.result c.new.ensures

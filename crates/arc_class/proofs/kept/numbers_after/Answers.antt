@@ -1,0 +1,15 @@
+use Rattle.std.proofs.Common.{◌≡◌, ◌+◌, length, drop, sym, ap, ◌∙◌}
+use Rattle.arc_ast.specs.Tree.{method_trees, implementation_trees}
+use Rattle.arc_class.specs.Classes.{numbers_after}
+use Rattle.arc_class.proofs.Lists.{drop_turn}
+use Rattle.arc_class.proofs.Trees.{length-method_trees}
+use Rattle.arc_class.proofs.kept.numbers_after.Goals as goal
+
+pub loop-implementation-preserved : goal.loop-implementation-preserved
+loop-implementation-preserved c =
+    let xs = c.args.implementations.now in
+    let k = c.loop-implementation.implementation-index in
+    let x = c.implementation-item.result in
+    let many : length (method_trees x.methods.items) ≡ length c.deref-methods.result.now = length-method_trees x.methods.items ∙ ap length (sym c.deref-methods.ensures.value) in
+    c.loop-implementation.invariant ∙ ap (λ us. numbers_after c.loop-implementation.count (implementation_trees us)) (drop_turn xs k x c.loop-implementation-test.true c.implementation-item.is)
+    ∙ ap (λ n. numbers_after (c.loop-implementation.count + n) (implementation_trees (drop (k + 1) xs))) many

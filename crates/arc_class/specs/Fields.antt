@@ -1,0 +1,81 @@
+-- The fields of objects.
+use Rattle.std.specs.Prelude.{ℕ, zero, suc, ◌+◌, Bool, false, List, [], ◌∷◌, ◌++◌, length, map, Option, Some, None, nat_eq, slice_get, if◌then◌else◌}
+use Rattle.std.specs.Str.{bytes_eq}
+use Rattle.arc_ast.specs.declared.tree.Visibility.{Visibility}
+use Rattle.arc_ast.specs.Tree.{FieldTree, InterfaceTree, ImplementationTree, UnitTree}
+use Rattle.arc_class.specs.declared.table.FoundField.{FoundField}
+use Rattle.arc_class.specs.Classes.{class_number, superclass, nearest}
+
+-- a field that the objects of a class have, with the class that declares it
+pub record ClassField : Type 0 where
+  pub name : List ℕ
+  pub owner : ℕ
+  pub visibility : Visibility
+
+-- the fields that the first implementation with a name declares
+abbrev pub fields_by : List ImplementationTree → List ℕ → List FieldTree
+fields_by [] name = []
+fields_by (i ∷ others) name = if bytes_eq name i.name then i.fields else fields_by others name
+
+abbrev pub is_number : ℕ → Option ℕ → Bool
+is_number class None = false
+is_number class (Some n) = nat_eq n class
+
+-- the fields that an implementation adds to those of this interface, whose class has this number; the first interface with a name has the implementation
+abbrev pub fields_added : UnitTree → (class : ℕ) → InterfaceTree → List FieldTree
+fields_added u class i = if is_number class (class_number u.interfaces i.name) then fields_by u.implementations i.name else []
+
+-- The fields that a class declares: those in its interface's braces, and then those in its implementation's (OPL, "Instance Variables").
+abbrev pub fields_declared : UnitTree → (class : ℕ) → InterfaceTree → List FieldTree
+fields_declared u class i = i.fields ++ fields_added u class i
+
+abbrev pub fields_of : UnitTree → (class : ℕ) → Option InterfaceTree → List FieldTree
+fields_of u class None = []
+fields_of u class (Some i) = fields_declared u class i
+
+abbrev pub own_fields : UnitTree → (class : ℕ) → List FieldTree
+own_fields u zero = []
+own_fields u (suc n) = fields_of u (suc n) (slice_get u.interfaces n)
+
+abbrev pub owned : (owner : ℕ) → FieldTree → ClassField
+owned owner f = record { name = f.name; owner = owner; visibility = f.visibility }
+
+abbrev pub of_superclass : (superclass : Option ℕ) → (ℕ → List ClassField) → List ClassField
+of_superclass None these = []
+of_superclass (Some class) these = these class
+
+-- The fields of a class's objects, inherited ones first, where classes with lower numbers than n are looked at: a superclass stands before its subclasses
+-- (OPL, "Inheriting Instance Variables").
+abbrev pub fields_below : (n : ℕ) → UnitTree → (class : ℕ) → List ClassField
+fields_below zero u class = []
+fields_below (suc n) u class =
+    if nat_eq class n then of_superclass (superclass u.interfaces n) (λ above. fields_below n u above) ++ map (owned n) (own_fields u n) else fields_below n u class
+
+abbrev pub inherited_below : (n : ℕ) → UnitTree → (superclass : Option ℕ) → List ClassField
+inherited_below n u above = of_superclass above (fields_below n u)
+
+-- the fields of a class's objects, in the order of their numbers, which count from 0
+abbrev pub fields : UnitTree → (class : ℕ) → List ClassField
+fields u class = fields_below (suc class) u class
+
+-- the same of so many classes, from one on
+abbrev pub all_fields_from : UnitTree → (class count : ℕ) → List (List ClassField)
+all_fields_from u class zero = []
+all_fields_from u class (suc n) = fields u class ∷ all_fields_from u (suc class) n
+
+-- those of its superclass
+abbrev pub inherited : UnitTree → (class : ℕ) → List ClassField
+inherited u class = inherited_below class u (superclass u.interfaces class)
+
+-- the first field with a name among those that a class declares, of which the first has this number
+abbrev pub numbered : (owner number : ℕ) → List FieldTree → List ℕ → Option FoundField
+numbered owner number [] name = None
+numbered owner number (f ∷ others) name =
+    if bytes_eq name f.name then Some (record { owner = record { 0 = owner }; index = number; visibility = f.visibility }) else numbered owner (suc number) others name
+
+abbrev pub own_field : UnitTree → (class : ℕ) → List ℕ → Option FoundField
+own_field u class name = numbered class (length (inherited u class)) (own_fields u class) name
+
+-- the field with a name that the objects of a class have: the nearest that the class or a class above it declares
+abbrev pub known_field : UnitTree → Option ℕ → List ℕ → Option FoundField
+known_field u from name = nearest (length u.interfaces) (superclass u.interfaces) (λ class. own_field u class name) from

@@ -1,0 +1,338 @@
+//! The fields of objects.
+ghost use Rattle.std.specs.Prelude.{◌≡◌, ℕ, List, ◌+◌, ◌++◌, length, map, option_map, suc, IfOk, IfErr, OnOk};
+ghost use Rattle.arc_ast.specs.Tree.{UnitTree, FieldTree, unit_tree, interface_tree, field_trees};
+ghost use Rattle.arc_class.specs.Broken.{first};
+ghost use Rattle.arc_class.specs.Classes.{or_then};
+ghost use Rattle.arc_class.specs.ClassRules as rules;
+ghost use Rattle.arc_class.specs.ClassRules.{broken_fields, broken_pair, broken_pairs};
+ghost use Rattle.arc_class.specs.declared.fault.ClassFault.TheVariants.{Memory};
+ghost use Rattle.arc_class.specs.Entries.{fields_tree, root_fields, all_class_fields, class_fields_with, count_among};
+ghost use Rattle.arc_class.specs.Fault.{told};
+ghost use Rattle.arc_class.specs.Fields as specs;
+ghost use Rattle.arc_class.specs.Fields.{numbered, owned, fields_declared, all_fields_from};
+ghost use Rattle.arc_class.specs.Kept.{Knows};
+ghost use Rattle.arc_class.specs.Table.{at_name, field_among, field_tree, list_of, list_among, number_of_class};
+
+use crate::fault::{ClassFault, earlier, fault_if};
+use crate::heads::keep_first;
+use crate::kept::Source;
+use crate::table::{ClassId, Field, FoundField, at_name, class_number};
+use arc_ast::tree;
+use arc_ast::tree::Interface;
+use std::alloc::{AllocError, Global};
+use std::collections::BTreeMap;
+
+/// The place of the first field of each name.
+pub type FieldPlaces<'a> = BTreeMap<&'a [u8], usize>;
+
+/// What is known of the fields of a class.
+#[derive(Debug, Drop)]
+pub struct ClassFields<'a> {
+    pub superclass: Option<usize>,
+    /// The fields in the braces of its interface.
+    pub places: FieldPlaces<'a>,
+    /// Its own fields.
+    pub named: BTreeMap<&'a [u8], FoundField>,
+    /// How many fields its objects have, inherited ones too.
+    pub count: usize,
+}
+
+/// The place of the first of the fields with each name.
+pub fn field_places<'a>(
+    alloc: Global,
+    fields: &'a [tree::Field],
+) -> Result<FieldPlaces<'a>, AllocError>
+    ensures { IfOk result (λ places. (sought : List ℕ) → at_name places sought ≡ rules.field_place sought (field_trees fields.now)) }
+{
+    let mut places = FieldPlaces::new(alloc);
+    for field in fields {
+        keep_first(&mut places, &field.name, field.at)?;
+    }
+    Ok(places)
+}
+
+/// Keeps the first of the fields with each name, which are numbered from this number on, and gives
+/// the number behind them. Memory: there was none, or so many fields have no numbers.
+fn keep_fields<'a>(
+    named: &mut BTreeMap<&'a [u8], FoundField>,
+    owner: ClassId,
+    number: usize,
+    fields: &'a [tree::Field],
+) -> Result<usize, ClassFault>
+    ensures kept { OnOk result ((sought : List ℕ)
+        → at_name named.new sought ≡ or_then (at_name named.old sought) (numbered (number_of_class owner) number (field_trees fields.now) sought)) }
+    ensures counted { IfOk result (λ next. next ≡ number + length (field_trees fields.now)) }
+    ensures refused { IfErr result (λ fault. fault ≡ Memory) }
+{
+    let mut index = number;
+    for field in fields {
+        let found = FoundField {
+            owner,
+            index,
+            visibility: field.visibility,
+        };
+        keep_first(named, &field.name, found)?;
+        if index == usize::MAX {
+            return Err(ClassFault::Memory);
+        }
+        index += 1;
+    }
+    Ok(index)
+}
+
+/// How many fields the objects of the class have, and 0 where there is no such class yet.
+pub fn count_among<'a>(classes: &[ClassFields<'a>], class: Option<usize>) -> usize
+    ensures { result ≡ count_among classes.now class }
+{
+    let Some(number) = class else {
+        return 0;
+    };
+    match classes.get(number) {
+        None => 0,
+        Some(known) => known.count,
+    }
+}
+
+/// The field with the name that the class, or else the nearest class above it, declares.
+pub fn field_from<'a>(
+    classes: &[ClassFields<'a>],
+    class: Option<usize>,
+    name: &'a [u8],
+) -> Option<FoundField>
+    ensures { result ≡ field_among classes.now class name.now }
+{
+    let mut next = class;
+    for _passed in 0..classes.len() {
+        let Some(number) = next else {
+            return None;
+        };
+        let Some(known) = classes.get(number) else {
+            return None;
+        };
+        if let Some(field) = at_name(&known.named, name) {
+            return Some(field);
+        }
+        next = known.superclass;
+    }
+    None
+}
+
+/// Whether this is the number of the class.
+fn is_number(class: usize, found: Option<usize>) -> bool
+    ensures { result ≡ specs.is_number class found }
+{
+    match found {
+        None => false,
+        Some(number) => number == class,
+    }
+}
+
+/// Whether there is a place, and it is before the other.
+pub fn is_earlier(place: Option<usize>, at: usize) -> bool
+    ensures { result ≡ rules.is_earlier place at }
+{
+    match place {
+        None => false,
+        Some(place) => place < at,
+    }
+}
+
+/// The fault of a field at the place whose name has this other place too.
+fn pair_fault(place: Option<usize>, at: usize) -> Option<ClassFault>
+    ensures { option_map told result ≡ first (broken_pair place at) }
+{
+    match place {
+        None => None,
+        Some(place) if at < place => Some(ClassFault::Duplicate(place)),
+        Some(_) => Some(ClassFault::Duplicate(at)),
+    }
+}
+
+/// The first of the fields of an implementation with a name that its interface has in its braces.
+pub fn pairs_fault<'a>(places: &FieldPlaces<'a>, fields: &'a [tree::Field]) -> Option<ClassFault>
+    ensures { (all : List FieldTree) → ((name : List ℕ) → at_name places.now name ≡ rules.field_place name all)
+        → option_map told result ≡ first (broken_pairs all (field_trees fields.now)) }
+{
+    let mut fault = None;
+    for field in fields {
+        fault = earlier(fault, pair_fault(at_name(places, &field.name), field.at));
+    }
+    fault
+}
+
+/// The first of the fields with a name that the class above has too, or that has an earlier place.
+pub fn fields_fault<'a>(
+    classes: &[ClassFields<'a>],
+    above: Option<usize>,
+    places: &FieldPlaces<'a>,
+    fields: &'a [tree::Field],
+) -> Option<ClassFault>
+    ensures { (u : UnitTree) (all : List FieldTree) → map fields_tree classes.now ≡ all_class_fields u
+        → ((name : List ℕ) → at_name places.now name ≡ rules.field_place name all)
+        → option_map told result ≡ first (broken_fields u above all (field_trees fields.now)) }
+{
+    let mut fault = None;
+    for field in fields {
+        let inherited = field_from(classes, above, &field.name).is_some();
+        let stands = is_earlier(at_name(places, &field.name), field.at);
+        let again = inherited || stands;
+        fault = earlier(fault, fault_if(again, ClassFault::Duplicate(field.at)));
+    }
+    fault
+}
+
+/// Adds the fields that the class declares.
+fn add_fields<'a>(
+    all: &mut Vec<Field<'a>>,
+    owner: ClassId,
+    fields: &'a [tree::Field],
+) -> Result<(), AllocError>
+    ensures { OnOk result (map field_tree all.new.items ≡ map field_tree all.old.items ++ map (owned (number_of_class owner)) (field_trees fields.now)) }
+{
+    for field in fields {
+        all.push(Field {
+            name: &field.name,
+            owner,
+            visibility: field.visibility,
+        })?;
+    }
+    Ok(())
+}
+
+/// The fields that the class has, and none where there is no such class yet.
+fn inherited_fields<'a>(
+    alloc: Global,
+    all: &[Vec<Field<'a>>],
+    class: Option<usize>,
+) -> Result<Vec<Field<'a>>, AllocError>
+    ensures { IfOk result (λ fields. map field_tree fields.items ≡ list_among all.now class) }
+{
+    let Some(number) = class else {
+        return Ok(Vec::new(alloc));
+    };
+    match all.get(number) {
+        None => Ok(Vec::new(alloc)),
+        Some(fields) => Vec::from_slice(alloc, fields),
+    }
+}
+
+/// What is known of the fields of the root.
+fn root_fields<'a>(alloc: Global) -> ClassFields<'a>
+    ensures { fields_tree result ≡ root_fields }
+{
+    ClassFields {
+        superclass: None,
+        places: FieldPlaces::new(alloc),
+        named: BTreeMap::new(alloc),
+        count: 0,
+    }
+}
+
+impl<'a> Source<'a> {
+    /// The fields that the first implementation with the name declares.
+    fn fields_by(&self, name: &'a [u8]) -> &'a [tree::Field]
+        requires { Knows (unit_tree self.now.unit.now) self.now }
+        ensures { field_trees result.now ≡ specs.fields_by (unit_tree self.now.unit.now).implementations name.now }
+    {
+        match at_name(&self.implemented, name) {
+            None => &[],
+            Some(own) => &own.implementation.fields,
+        }
+    }
+
+    /// The fields that an implementation adds to those of the interface, whose class has this number.
+    fn fields_added(&self, class: usize, interface: &'a Interface) -> &'a [tree::Field]
+        requires { Knows (unit_tree self.now.unit.now) self.now }
+        ensures { field_trees result.now ≡ specs.fields_added (unit_tree self.now.unit.now) class (interface_tree interface.now) }
+    {
+        if is_number(class, class_number(&self.names, &interface.name)) {
+            self.fields_by(&interface.name)
+        } else {
+            &[]
+        }
+    }
+
+    /// What is known of the fields of the interface's class, which has this number, and whose
+    /// superclass has so many. Memory: there was none, or so many fields have no numbers.
+    fn fields_of(
+        &self,
+        alloc: Global,
+        class: usize,
+        inherited: usize,
+        interface: &'a Interface,
+    ) -> Result<ClassFields<'a>, ClassFault>
+        requires { Knows (unit_tree self.now.unit.now) self.now }
+        ensures known { IfOk result (λ known. fields_tree known ≡ class_fields_with (unit_tree self.now.unit.now) class inherited (interface_tree interface.now)) }
+        ensures refused { IfErr result (λ fault. fault ≡ Memory) }
+    {
+        let superclass = class_number(&self.names, &interface.superclass);
+        let owner = ClassId(class);
+        let places = field_places(alloc, &interface.fields)?;
+        let mut named = BTreeMap::new(alloc);
+        let next = keep_fields(&mut named, owner, inherited, &interface.fields)?;
+        let added = self.fields_added(class, interface);
+        let count = keep_fields(&mut named, owner, next, added)?;
+        Ok(ClassFields {
+            superclass,
+            places,
+            named,
+            count,
+        })
+    }
+
+    /// What is known of the fields of all classes. Memory: there was none, or so many fields have no
+    /// numbers.
+    pub fn class_fields(&self, alloc: Global) -> Result<Vec<ClassFields<'a>>, ClassFault>
+        requires { Knows (unit_tree self.now.unit.now) self.now }
+        ensures known { IfOk result (λ all. map fields_tree all.items ≡ all_class_fields (unit_tree self.now.unit.now)) }
+        ensures refused { IfErr result (λ fault. fault ≡ Memory) }
+    {
+        let mut all = Vec::new(alloc);
+        all.push(root_fields(alloc))?;
+        let mut class = 0;
+        for interface in &self.unit.interfaces {
+            class += 1;
+            let superclass = class_number(&self.names, &interface.superclass);
+            let inherited = count_among(&all, superclass);
+            let known = self.fields_of(alloc, class, inherited, interface)?;
+            all.push(known)?;
+        }
+        Ok(all)
+    }
+
+    /// All fields of the objects of the interface's class, which has this number and inherits these.
+    fn fields_with(
+        &self,
+        class: usize,
+        inherited: Vec<Field<'a>>,
+        interface: &'a Interface,
+    ) -> Result<Vec<Field<'a>>, AllocError>
+        requires { Knows (unit_tree self.now.unit.now) self.now }
+        ensures { IfOk result (λ fields. map field_tree fields.items
+            ≡ map field_tree inherited.entry.items ++ map (owned class) (fields_declared (unit_tree self.now.unit.now) class (interface_tree interface.now))) }
+    {
+        let mut fields = inherited;
+        let owner = ClassId(class);
+        add_fields(&mut fields, owner, &interface.fields)?;
+        add_fields(&mut fields, owner, self.fields_added(class, interface))?;
+        Ok(fields)
+    }
+
+    /// All fields of the objects of each class.
+    pub fn all_fields(&self, alloc: Global) -> Result<Vec<Vec<Field<'a>>>, AllocError>
+        requires { Knows (unit_tree self.now.unit.now) self.now }
+        ensures { IfOk result (λ all. map list_of all.items ≡ all_fields_from (unit_tree self.now.unit.now) 0 (suc (length (unit_tree self.now.unit.now).interfaces))) }
+    {
+        let mut all = Vec::new(alloc);
+        all.push(Vec::new(alloc))?;
+        let mut class = 0;
+        for interface in &self.unit.interfaces {
+            class += 1;
+            let superclass = class_number(&self.names, &interface.superclass);
+            let inherited = inherited_fields(alloc, &all, superclass)?;
+            let fields = self.fields_with(class, inherited, interface)?;
+            all.push(fields)?;
+        }
+        Ok(all)
+    }
+}

@@ -1,0 +1,89 @@
+//! Methods by their signs and selectors, and the first value of each name.
+ghost use Rattle.std.specs.Prelude.{◌≡◌, ℕ, List, [], ◌∷◌, None, OnOk};
+ghost use Rattle.arc_ast.specs.declared.tree.Sign.{Sign};
+ghost use Rattle.arc_ast.specs.Tree.{head_tree, head_trees, method_trees};
+ghost use Rattle.arc_class.specs.Classes.{heads, first_head, or_then};
+ghost use Rattle.arc_class.specs.Kept.{one_at, head_in};
+ghost use Rattle.arc_class.specs.Table.{at_name, head_at};
+
+use crate::table::at_name;
+use arc_ast::tree::{Method, MethodHead, Sign};
+use std::alloc::{AllocError, Global};
+use std::collections::BTreeMap;
+
+/// Keeps the value for the name, unless there is one.
+pub fn keep_first<'a, V: Copy>(
+    map: &mut BTreeMap<&'a [u8], V>,
+    name: &'a [u8],
+    value: V,
+) -> Result<(), AllocError>
+    ensures { OnOk result ((sought : List ℕ) → at_name map.new sought ≡ or_then (at_name map.old sought) (one_at name.now value sought)) }
+{
+    if at_name(map, name).is_some() {
+        return Ok(());
+    }
+    map.insert(name, value)?;
+    Ok(())
+}
+
+/// A method for each sign and selector.
+#[derive(Debug, Drop)]
+pub struct Heads<'a> {
+    pub class_methods: BTreeMap<&'a [u8], &'a MethodHead>,
+    pub instance_methods: BTreeMap<&'a [u8], &'a MethodHead>,
+}
+
+impl<'a> Heads<'a> {
+    /// No methods.
+    pub fn new(alloc: Global) -> Heads<'a>
+        ensures { (sign : Sign) (selector : List ℕ) → head_at result sign selector ≡ None }
+    {
+        Heads {
+            class_methods: BTreeMap::new(alloc),
+            instance_methods: BTreeMap::new(alloc),
+        }
+    }
+
+    /// The method with the selector.
+    pub fn get(&self, sign: Sign, selector: &'a [u8]) -> Option<&'a MethodHead>
+        ensures { result ≡ head_at self.now sign selector.now }
+    {
+        match sign {
+            Sign::Class => at_name(&self.class_methods, selector),
+            Sign::Instance => at_name(&self.instance_methods, selector),
+        }
+    }
+
+    /// Keeps the method, unless there is one of its sign with its selector.
+    pub fn keep(&mut self, head: &'a MethodHead) -> Result<(), AllocError>
+        ensures { OnOk result ((sign : Sign) (selector : List ℕ)
+            → head_in self.new sign selector ≡ or_then (head_in self.old sign selector) (first_head sign selector (head_tree head.now ∷ []))) }
+    {
+        match head.sign {
+            Sign::Class => keep_first(&mut self.class_methods, &head.selector, head),
+            Sign::Instance => keep_first(&mut self.instance_methods, &head.selector, head),
+        }
+    }
+
+    /// Keeps the first of the methods of each sign with each selector.
+    pub fn keep_heads(&mut self, heads: &'a [MethodHead]) -> Result<(), AllocError>
+        ensures { OnOk result ((sign : Sign) (selector : List ℕ)
+            → head_in self.new sign selector ≡ or_then (head_in self.old sign selector) (first_head sign selector (head_trees heads.now))) }
+    {
+        for head in heads {
+            self.keep(head)?;
+        }
+        Ok(())
+    }
+
+    /// Keeps the first of the methods of each sign with each selector.
+    pub fn keep_methods(&mut self, methods: &'a [Method]) -> Result<(), AllocError>
+        ensures { OnOk result ((sign : Sign) (selector : List ℕ)
+            → head_in self.new sign selector ≡ or_then (head_in self.old sign selector) (first_head sign selector (heads (method_trees methods.now)))) }
+    {
+        for method in methods {
+            self.keep(&method.head)?;
+        }
+        Ok(())
+    }
+}

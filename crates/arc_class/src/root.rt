@@ -1,0 +1,105 @@
+//! The methods of the root, which are built in.
+ghost use Rattle.std.specs.Prelude.{◌≡◌, IfOk, IfErr};
+ghost use Rattle.arc_class.specs.Classes as classes;
+ghost use Rattle.arc_class.specs.declared.fault.ClassFault.TheVariants.{Memory};
+ghost use Rattle.arc_class.specs.Table.{built_in_at, built_in_from};
+
+use crate::fault::ClassFault;
+use arc_ast::tree::{Kind, Sign};
+
+/// What the built-in method gives.
+pub fn built_in_result(sign: Sign, selector: &[u8]) -> Option<Kind>
+    ensures { result ≡ classes.built_in_result sign selector.now }
+{
+    match sign {
+        Sign::Class if selector == b"alloc".as_slice() || selector == b"new".as_slice() => {
+            Some(Kind::Object)
+        }
+        Sign::Instance if selector == b"init".as_slice() => Some(Kind::Object),
+        Sign::Instance if selector == b"dealloc".as_slice() => Some(Kind::Void),
+        _ => None,
+    }
+}
+
+/// What a message to an object gives that counts its owners.
+fn counting_result(sign: Sign, selector: &[u8]) -> Option<Kind>
+    ensures { result ≡ classes.counting_result sign selector.now }
+{
+    match sign {
+        Sign::Class => None,
+        Sign::Instance => {
+            if selector == b"retain".as_slice() || selector == b"autorelease".as_slice() {
+                Some(Kind::Object)
+            } else if selector == b"retainCount".as_slice() {
+                Some(Kind::Long)
+            } else if selector == b"release".as_slice() {
+                Some(Kind::Void)
+            } else {
+                None
+            }
+        }
+    }
+}
+
+/// What a message gives that the root knows.
+pub fn root_result(sign: Sign, selector: &[u8]) -> Option<Kind>
+    ensures { result ≡ classes.root_result sign selector.now }
+{
+    match built_in_result(sign, selector) {
+        Some(kind) => Some(kind),
+        None => counting_result(sign, selector),
+    }
+}
+
+/// The numbers of the functions that the built-in methods run.
+#[derive(Clone, Copy, Debug, PartialEq, Eq)]
+pub struct BuiltIn {
+    pub alloc_method: usize,
+    pub new_method: usize,
+    pub init_method: usize,
+    pub dealloc_method: usize,
+}
+
+impl BuiltIn {
+    /// The numbers from this one on. Memory: so many functions have no numbers.
+    pub fn from(first: usize) -> Result<BuiltIn, ClassFault>
+        ensures numbered { IfOk result (λ numbers. numbers ≡ built_in_from first) }
+        ensures refused { IfErr result (λ fault. fault ≡ Memory) }
+    {
+        if first > usize::MAX - 3 {
+            return Err(ClassFault::Memory);
+        }
+        Ok(BuiltIn {
+            alloc_method: first,
+            new_method: first + 1,
+            init_method: first + 2,
+            dealloc_method: first + 3,
+        })
+    }
+
+    /// The function that the built-in method with the selector runs.
+    pub fn at(&self, sign: Sign, selector: &[u8]) -> Option<usize>
+        ensures { result ≡ built_in_at self.now sign selector.now }
+    {
+        match sign {
+            Sign::Class => {
+                if selector == b"alloc".as_slice() {
+                    Some(self.alloc_method)
+                } else if selector == b"new".as_slice() {
+                    Some(self.new_method)
+                } else {
+                    None
+                }
+            }
+            Sign::Instance => {
+                if selector == b"init".as_slice() {
+                    Some(self.init_method)
+                } else if selector == b"dealloc".as_slice() {
+                    Some(self.dealloc_method)
+                } else {
+                    None
+                }
+            }
+        }
+    }
+}

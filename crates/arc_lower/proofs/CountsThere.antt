@@ -1,0 +1,88 @@
+-- What a place names is nil or an object that isn't gone.
+use Rattle.std.proofs.Common.{◌≡◌, ℕ, zero, suc, ◌<◌, true, List, [], ◌∷◌, ◌++◌, length, Option, Some, None, slice_get, slice_set, refl, sym, ◌∙◌, subst, ⊎_elim, arith}
+use Rattle.std.proofs.lemmas.Bool.{cases_eq}
+use Rattle.arc_spec.specs.Objects.{Object, Gone, object_at, in_phase}
+use Rattle.arc_spec.specs.Holding.{holders, is_there, gone_in}
+use Rattle.arc_lower.proofs.CountsPlaces.{tally_nil, tally_same, tally_other, holders_head, holders_set, holders_nil}
+use Rattle.arc_lower.proofs.CountsHeld.{set_other}
+
+-- nil, or an object that isn't gone
+abbrev pub IsThere : List Object → ℕ → Type 0
+IsThere objects zero = Unit {0}
+IsThere objects (suc k) = (o : Object) × (object_at objects (suc k) ≡ Some o) × (is_there o.phase ≡ true)
+
+-- each object that these places name is there
+abbrev pub AllThere : List Object → List ℕ → Type 0
+AllThere objects places = (k : ℕ) → 0 < holders (suc k) places → IsThere objects (suc k)
+
+-- ---- places
+
+-- no other object is named than before
+pub fewer_there : (objects : List Object) (old new : List ℕ) → ((k : ℕ) → 0 < holders (suc k) new → 0 < holders (suc k) old) → AllThere objects old → AllThere objects new
+fewer_there objects old new less all k some = all k (less k some)
+
+pub rest_there : (objects : List Object) (r : ℕ) (rest : List ℕ) → AllThere objects (r ∷ rest) → AllThere objects rest
+rest_there objects r rest = fewer_there objects (r ∷ rest) rest (λ k some. omega (arith, holders_head (suc k) r rest, some))
+
+pub placed_there : (objects : List Object) (r : ℕ) (places : List ℕ) → IsThere objects r → AllThere objects places → AllThere objects (r ∷ places)
+placed_there objects zero places there all k some = all k (omega (arith, holders_nil k places, some))
+placed_there objects (suc j) places there all k some = ⊎_elim (λ same. subst (λ i. IsThere objects (suc i)) (sym same) there) (λ ne. others ne) (cases_eq k j)
+  where
+    others : (k ≡ j → ⊥) → IsThere objects (suc k)
+    others ne = all k (omega (arith, holders_head (suc k) (suc j) places, tally_other (suc k) (suc j) (λ e. ne (omega (arith, e))), some))
+
+-- a place names another object
+pub stored_there : (objects : List Object) (depth old r : ℕ) (places : List ℕ) → slice_get places depth ≡ Some old → IsThere objects r → AllThere objects places → AllThere objects (old ∷ slice_set places depth r)
+stored_there objects depth old r places found there all =
+    fewer_there objects (r ∷ places) (old ∷ slice_set places depth r) (λ k some. omega (arith, holders_head (suc k) old (slice_set places depth r), holders_set (suc k) depth old r places found, holders_head (suc k) r places, some))
+    (placed_there objects r places there all)
+
+-- what a place names
+pub place_there : (objects : List Object) (depth r : ℕ) (places : List ℕ) → slice_get places depth ≡ Some r → AllThere objects places → IsThere objects r
+place_there objects depth zero places found all = tt
+place_there objects depth (suc k) places found all =
+    all k (omega (arith, holders_set (suc k) depth (suc k) 0 places found, tally_nil k, tally_same (suc k)))
+
+-- ---- objects
+
+pub set_here : {A : Type 0} (all : List A) (k : ℕ) (x a : A) → slice_get all k ≡ Some a → slice_get (slice_set all k x) k ≡ Some x
+set_here [] k x a e = cc
+set_here (b ∷ all) zero x a e = refl
+set_here (b ∷ all) (suc k) x a e = set_here all k x a e
+
+pub get_first : {A : Type 0} (all : List A) (k : ℕ) (x a : A) → slice_get all k ≡ Some a → slice_get (all ++ x ∷ []) k ≡ Some a
+get_first [] k x a e = cc
+get_first (b ∷ all) zero x a e = e
+get_first (b ∷ all) (suc k) x a e = get_first all k x a e
+
+get_new : {A : Type 0} (all : List A) (x : A) → slice_get (all ++ x ∷ []) (length all) ≡ Some x
+get_new [] x = refl
+get_new (b ∷ all) x = get_new all x
+
+-- an object is changed, which is there afterwards where a place names it
+pub changed_there : (objects : List Object) (places : List ℕ) (j : ℕ) (x : Object) → (0 < holders (suc j) places → is_there x.phase ≡ true) → AllThere objects places → AllThere (slice_set objects j x) places
+changed_there objects places j x there all k some = ⊎_elim this (λ ne. other ne (all k some)) (cases_eq k j)
+  where
+    this : k ≡ j → IsThere (slice_set objects j x) (suc k)
+    this same =
+        let here = subst (λ i. 0 < holders (suc i) places) same some in
+        subst (λ i. IsThere (slice_set objects j x) (suc i)) (sym same) (x, set_here objects j x (all j here).0 (all j here).1, there here)
+
+    other : (k ≡ j → ⊥) → IsThere objects (suc k) → IsThere (slice_set objects j x) (suc k)
+    other ne found = (found.0, set_other objects j k x ne ∙ found.1, found.2)
+
+-- an object is made, and a place takes it
+pub made_there : (objects : List Object) (places : List ℕ) (x : Object) → is_there x.phase ≡ true → AllThere objects places → AllThere (objects ++ x ∷ []) (suc (length objects) ∷ places)
+made_there objects places x there all =
+    placed_there (objects ++ x ∷ []) (suc (length objects)) places (x, get_new objects x, there) (λ k some. before k (all k some))
+  where
+    before : (k : ℕ) → IsThere objects (suc k) → IsThere (objects ++ x ∷ []) (suc k)
+    before k found = (found.0, get_first objects k x found.0 found.1, found.2)
+
+-- an object is gone, which no place names
+gone_found : (objects : List Object) (places : List ℕ) (j : ℕ) (found : Option Object) → object_at objects (suc j) ≡ found → holders (suc j) places ≡ 0 → AllThere objects places → AllThere (gone_in objects (suc j)) places
+gone_found objects places j None e none all = rw e all
+gone_found objects places j (Some ob) e none all = rw e (changed_there objects places j (in_phase Gone ob) (λ some. absurd (omega (arith, some, none))) all)
+
+pub gone_there : (objects : List Object) (places : List ℕ) (j : ℕ) → holders (suc j) places ≡ 0 → AllThere objects places → AllThere (gone_in objects (suc j)) places
+gone_there objects places j none all = gone_found objects places j (object_at objects (suc j)) refl none all

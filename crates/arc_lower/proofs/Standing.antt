@@ -1,0 +1,205 @@
+-- What a running program keeps: what places name is there, and an object whose end is running stays as it is.
+use Rattle.std.proofs.Common.{◌≡◌, ℕ, zero, suc, ◌+◌, ◌<◌, Bool, true, false, List, [], ◌∷◌, ◌++◌, length, Some, None, ⊎_elim, slice_get, slice_set, refl, sym, ap, ◌∙◌, subst, arith, append_assoc, length-append}
+use Rattle.std.proofs.lemmas.Bool.{cases_eq, false≢true}
+use Rattle.arc_spec.specs.Objects.{Object, Phase, Dying, object_at, object_live, is_live}
+use Rattle.arc_spec.specs.World as world
+use Rattle.arc_spec.specs.World.{World, frame_places, places}
+use Rattle.arc_spec.specs.Holding.{Frame, Calling, Ending, is_there, holders}
+use Rattle.arc_lower.proofs.CountsPlaces.{holders_append}
+use Rattle.arc_lower.proofs.CountsHeld.{set_other}
+use Rattle.arc_lower.proofs.CountsThere.{IsThere, AllThere, fewer_there, set_here, get_first}
+
+-- the objects whose ends are running
+abbrev pub ending : List Frame → List ℕ
+ending [] = []
+ending (Calling back self ∷ others) = ending others
+ending (Ending back self o next left ∷ others) = o ∷ ending others
+
+abbrev pub IsDying : List Object → ℕ → Type 0
+IsDying objects o = (ob : Object) × (object_at objects o ≡ Some ob) × (ob.phase ≡ Dying)
+
+abbrev pub AllDying : List Object → List ℕ → Type 0
+AllDying objects [] = Unit {0}
+AllDying objects (o ∷ others) = IsDying objects o × AllDying objects others
+
+-- what steps need of the objects
+pub record Fine (frames : List Frame) (objects : List Object) (held : List ℕ) : Type 0 where
+  pub there : AllThere objects held
+  pub dying : AllDying objects (ending frames)
+
+-- wherever what these places name is there, and what is ending is, this object is there, too
+abbrev pub Alive : List Frame → (held : List ℕ) → ℕ → Type 0
+Alive frames held o = (objects : List Object) → AllThere objects held → AllDying objects (ending frames) → IsThere objects o
+
+pub nil_alive : (frames : List Frame) (held : List ℕ) → Alive frames held 0
+nil_alive frames held objects there dying = tt
+
+pub dying_there : (objects : List Object) (o : ℕ) → IsDying objects o → IsThere objects o
+dying_there objects zero d = tt
+dying_there objects (suc k) d = (d.0, d.1, ap is_there d.2)
+
+pub ending_alive : (frames : List Frame) (back self o : ℕ) (next : _) (left : ℕ) (held : List ℕ) → Alive (Ending back self o next left ∷ frames) held o
+ending_alive frames back self o next left held objects there dying = dying_there objects o dying.0
+
+-- the last of some places
+pub last_there : (objects : List Object) (first last : List ℕ) → AllThere objects (first ++ last) → AllThere objects last
+last_there objects first last = fewer_there objects (first ++ last) last (λ k some. omega (arith, holders_append (suc k) first last, some))
+
+-- a running function with so many variables of each kind, with its `self`, and with these places of the functions that wait
+pub record IsFramed (frames : List Frame) (slots names self : ℕ) (waiting : List ℕ) (f : world.Frame) (behind : List ℕ) (objects : List Object) : Type 0 where
+  pub locals : length f.locals ≡ slots
+  pub strong : length f.strong ≡ names
+  pub itself : f.self ≡ self
+  pub waits : behind ≡ waiting
+  pub fine : Fine frames objects (frame_places f ++ behind)
+
+-- the places are as they were, and so are the variables
+pub record Kept (frames : List Frame) (w w1 : World) : Type 0 where
+  pub frame : w1.frame ≡ w.frame
+  pub waiting : w1.waiting ≡ w.waiting
+  pub fine : Fine frames w1.objects (places w1)
+
+pub kept_framed : (frames : List Frame) (slots names self : ℕ) (waiting : List ℕ) (w w1 : World) → IsFramed frames slots names self waiting w.frame w.waiting w.objects → Kept frames w w1 → IsFramed frames slots names self waiting w1.frame w1.waiting w1.objects
+kept_framed frames slots names self waiting w w1 g k = record {
+  locals = ap (λ (f : world.Frame). length f.locals) k.frame ∙ g.locals;
+  strong = ap (λ (f : world.Frame). length f.strong) k.frame ∙ g.strong;
+  itself = ap (λ (f : world.Frame). f.self) k.frame ∙ g.itself;
+  waits = k.waiting ∙ g.waits;
+  fine = k.fine;
+}
+
+-- so many temporaries more
+pub record Took (n : ℕ) (old new : List ℕ) : Type 0 where
+  pub taken : List ℕ
+  pub is : new ≡ taken ++ old
+  pub count : length taken ≡ n
+
+pub took_none : (n : ℕ) (old new : List ℕ) → n ≡ 0 → new ≡ old → Took n old new
+took_none n old new none same = record { taken = []; is = same; count = sym none }
+
+pub took_one : (r : ℕ) (old : List ℕ) → Took 1 old (r ∷ old)
+took_one r old = record { taken = r ∷ []; is = refl; count = refl }
+
+pub took_more : (n m : ℕ) (a b c : List ℕ) → Took n a b → Took m b c → Took (n + m) a c
+took_more n m a b c first next = record {
+  taken = next.taken ++ first.taken;
+  is = next.is ∙ ap (λ l. next.taken ++ l) first.is ∙ sym (append_assoc next.taken first.taken a);
+  count = omega (arith, length-append next.taken first.taken, first.count, next.count);
+}
+
+pub took_suc : (n : ℕ) (r : ℕ) (a b : List ℕ) → Took n a b → Took (suc n) a (r ∷ b)
+took_suc n r a b first = record { taken = r ∷ first.taken; is = ap (λ l. r ∷ l) first.is; count = ap suc first.count }
+
+-- how many there are then
+pub took_length : (n t : ℕ) (a b : List ℕ) → Took n a b → t ≡ length a → t + n ≡ length b
+took_length n t a b took e =
+    let h = ap length took.is ∙ length-append took.taken a in
+    omega (arith, h, took.count, e)
+
+-- ---- places one behind the other
+
+pub get_behind : (front behind : List ℕ) (n : ℕ) → slice_get (front ++ behind) (length front + n) ≡ slice_get behind n
+get_behind [] behind n = let e : 0 + n ≡ n = omega arith in ap (slice_get behind) e
+get_behind (r ∷ front) behind n =
+    let e : length (r ∷ front) + n ≡ suc (length front + n) = omega arith in
+    ap (slice_get (r ∷ front ++ behind)) e ∙ get_behind front behind n
+
+pub set_behind : (front behind : List ℕ) (n r : ℕ) → slice_set (front ++ behind) (length front + n) r ≡ front ++ slice_set behind n r
+set_behind [] behind n r = let e : 0 + n ≡ n = omega arith in ap (λ m. slice_set behind m r) e
+set_behind (q ∷ front) behind n r =
+    let e : length (q ∷ front) + n ≡ suc (length front + n) = omega arith in
+    ap (λ m. slice_set (q ∷ front ++ behind) m r) e ∙ ap (λ l. q ∷ l) (set_behind front behind n r)
+
+pub get_front : (strong behind : List ℕ) (i : ℕ) → i < length strong → slice_get (strong ++ behind) i ≡ Some (world.name_at strong i)
+get_front [] behind i lt = absurd (omega (arith, lt))
+get_front (r ∷ strong) behind zero lt = refl
+get_front (r ∷ strong) behind (suc i) lt = get_front strong behind i (omega (arith, lt))
+
+pub set_front : (strong behind : List ℕ) (i r : ℕ) → i < length strong → slice_set (strong ++ behind) i r ≡ slice_set strong i r ++ behind
+set_front [] behind i r lt = absurd (omega (arith, lt))
+set_front (q ∷ strong) behind zero r lt = refl
+set_front (q ∷ strong) behind (suc i) r lt = ap (λ l. q ∷ l) (set_front strong behind i r (omega (arith, lt)))
+
+-- a variable below so many temporaries
+pub get_variable : (temporaries strong waiting : List ℕ) (n i : ℕ) → n ≡ length temporaries → i < length strong → slice_get ((temporaries ++ strong) ++ waiting) (n + i) ≡ Some (world.name_at strong i)
+get_variable temporaries strong waiting n i e lt =
+    ap (λ m. slice_get ((temporaries ++ strong) ++ waiting) (m + i)) e
+    ∙ ap (λ l. slice_get l (length temporaries + i)) (append_assoc temporaries strong waiting)
+    ∙ get_behind temporaries (strong ++ waiting) i
+    ∙ get_front strong waiting i lt
+
+pub set_variable : (temporaries strong waiting : List ℕ) (n i r : ℕ) → n ≡ length temporaries → i < length strong → slice_set ((temporaries ++ strong) ++ waiting) (n + i) r ≡ (temporaries ++ slice_set strong i r) ++ waiting
+set_variable temporaries strong waiting n i r e lt =
+    ap (λ m. slice_set ((temporaries ++ strong) ++ waiting) (m + i) r) e
+    ∙ ap (λ l. slice_set l (length temporaries + i) r) (append_assoc temporaries strong waiting)
+    ∙ set_behind temporaries (strong ++ waiting) i r
+    ∙ ap (λ l. temporaries ++ l) (set_front strong waiting i r lt)
+    ∙ sym (append_assoc temporaries (slice_set strong i r) waiting)
+
+-- the place of what the last temporary named, before so many more were taken
+deep_place : (taken rest strong waiting : List ℕ) (r : ℕ) → slice_get (((taken ++ r ∷ rest) ++ strong) ++ waiting) (length taken) ≡ Some r
+deep_place [] rest strong waiting r = refl
+deep_place (q ∷ taken) rest strong waiting r = deep_place taken rest strong waiting r
+
+pub place_named : (n r : ℕ) (rest strong waiting old new : List ℕ) → old ≡ r ∷ rest → Took n old new → slice_get ((new ++ strong) ++ waiting) n ≡ Some r
+place_named n r rest strong waiting old new top took =
+    ap (λ l. slice_get ((l ++ strong) ++ waiting) n) (took.is ∙ ap (λ l. took.taken ++ l) top)
+    ∙ ap (slice_get (((took.taken ++ r ∷ rest) ++ strong) ++ waiting)) (sym took.count)
+    ∙ deep_place took.taken rest strong waiting r
+
+-- ---- objects that are ending
+
+-- an object is made
+made_dies : (objects : List Object) (x : Object) (o : ℕ) → IsDying objects o → IsDying (objects ++ x ∷ []) o
+made_dies objects x zero d = d
+made_dies objects x (suc j) d = (d.0, get_first objects j x d.0 d.1, d.2)
+
+pub made_dying : (objects : List Object) (x : Object) (all : List ℕ) → AllDying objects all → AllDying (objects ++ x ∷ []) all
+made_dying objects x [] d = tt
+made_dying objects x (o ∷ others) d = (made_dies objects x o d.0, made_dying objects x others d.1)
+
+-- an object is changed, which is ending afterwards where it was before
+changed_dies : (objects : List Object) (k : ℕ) (x : Object) → (IsDying objects (suc k) → x.phase ≡ Dying) → (o : ℕ) → IsDying objects o → IsDying (slice_set objects k x) o
+changed_dies objects k x still zero d = absurd (none d.1)
+  where
+    none : None ≡ Some d.0 → ⊥
+    none e = cc
+changed_dies objects k x still (suc j) d = ⊎_elim
+    (λ same. let here : IsDying objects (suc k) = subst (λ i. IsDying objects (suc i)) same d in subst (λ i. IsDying (slice_set objects k x) (suc i)) (sym same) (x, set_here objects k x here.0 here.1, still here))
+    (λ ne. (d.0, set_other objects k j x ne ∙ d.1, d.2))
+    (cases_eq j k)
+
+pub changed_dying : (objects : List Object) (k : ℕ) (x : Object) (all : List ℕ) → (IsDying objects (suc k) → x.phase ≡ Dying) → AllDying objects all → AllDying (slice_set objects k x) all
+changed_dying objects k x [] still d = tt
+changed_dying objects k x (o ∷ others) still d = (changed_dies objects k x still o d.0, changed_dying objects k x others still d.1)
+
+-- this object isn't one of these
+abbrev pub IsApart : ℕ → List ℕ → Type 0
+IsApart o [] = Unit {0}
+IsApart o (q ∷ others) = (q ≡ o → ⊥) × IsApart o others
+
+live_no_dying : (ob : Object) (found : Object) → Some ob ≡ Some found → is_live (Some ob) ≡ true → found.phase ≡ Dying → ⊥
+live_no_dying ob found e live dying =
+    let same : ob ≡ found = cc in
+    let no : false ≡ true = ap object_live_at (sym dying ∙ ap (λ (x : Object). x.phase) (sym same)) ∙ live in
+    false≢true no
+  where
+    object_live_at : Phase → Bool
+    object_live_at phase = object_live (record { class = 0; fields = []; phase = phase })
+
+-- what isn't ending yet is none of those that are
+pub live_apart : (objects : List Object) (k : ℕ) (ob : Object) (all : List ℕ) → object_at objects (suc k) ≡ Some ob → is_live (Some ob) ≡ true → AllDying objects all → IsApart (suc k) all
+live_apart objects k ob [] found live d = tt
+live_apart objects k ob (o ∷ others) found live d =
+    (λ same. live_no_dying ob d.0.0 (sym found ∙ ap (object_at objects) (sym same) ∙ d.0.1) live d.0.2, live_apart objects k ob others found live d.1)
+
+apart_dies : (objects : List Object) (k : ℕ) (x : Object) (o : ℕ) → (o ≡ suc k → ⊥) → IsDying objects o → IsDying (slice_set objects k x) o
+apart_dies objects k x zero ne d = absurd (none d.1)
+  where
+    none : None ≡ Some d.0 → ⊥
+    none e = cc
+apart_dies objects k x (suc j) ne d = (d.0, set_other objects k j x (λ e. ne (ap suc e)) ∙ d.1, d.2)
+
+pub apart_dying : (objects : List Object) (k : ℕ) (x : Object) (all : List ℕ) → IsApart (suc k) all → AllDying objects all → AllDying (slice_set objects k x) all
+apart_dying objects k x [] apart d = tt
+apart_dying objects k x (o ∷ others) apart d = (apart_dies objects k x o apart.0 d.0, apart_dying objects k x others apart.1 d.1)

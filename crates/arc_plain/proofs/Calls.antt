@@ -1,0 +1,181 @@
+-- Calls, ends of objects and places that are dropped, of which the parts are known.
+use Rattle.std.proofs.Common.{arith, ◌≡◌, ℕ, zero, suc, ◌+◌, ◌-◌, ◌<◌, ◌≤◌, ℤ, pos, List, [], ◌∷◌, ◌++◌, length, take, reverse, get_or, Option, Some, None, option_map, Result, Err, slice_get, refl, sym, ap, subst, ◌∙◌}
+use Rattle.std.proofs.lemmas.List.{reverse-reverse, length-reverse}
+use Rattle.std.proofs.lemmas.Option.{slice_get-map}
+use Rattle.arc_check.specs.declared.checked.CheckedFunction.{CheckedFunction}
+use Rattle.arc_check.specs.Checked.{functions, program_of}
+use Rattle.arc_spec.specs.declared.class.Class as declared
+use Rattle.arc_spec.specs.Classes.{class_of, classes_of, lookup}
+use Rattle.arc_ast.specs.declared.tree.Sign.TheVariants as signs
+use Rattle.arc_spec.specs.Resolved.{Function, Program, no_commands}
+use Rattle.arc_spec.specs.World.{Frame, World, Outcome, Done, then_do, Finished, finished, entered, left, stores, name_at, with_temporaries}
+use Rattle.arc_spec.specs.Meaning.{Deeper, Flow, given, called, all_executed, variables_dropped, released, temporaries_dropped, all_dropped, function_at, dealloc_run, dealloc_and_above, deallocs_run, sent_from, runs_found}
+use Rattle.arc_plain.specs.declared.context.Context.{Context}
+use Rattle.arc_plain.specs.declared.halt.Halt.{Halt}
+use Rattle.arc_plain.specs.Views.{Tells, left_at, function_of}
+use Rattle.arc_plain.proofs.Keeping.{After, Waits, Same, Steady, after_done, commands_wait, variables_wait, released_same}
+use Rattle.arc_plain.proofs.Turns.{tells_through, nothing_below, function_found, function_missing}
+
+-- ---- calls
+
+-- the places below those of a function that is left
+same_below : (old begun now : List ℕ) (count : ℕ) (w1 w3 : World) → w1.waiting ≡ reverse begun → w3.waiting ≡ reverse now → w3.waiting ≡ w1.waiting → take count begun ≡ old → take count now ≡ old
+same_below old begun now count w1 w3 first last same below =
+    let there : now ≡ begun = sym (reverse-reverse now) ∙ ap reverse (sym last ∙ (same ∙ first)) ∙ reverse-reverse begun in
+    ap (take count) there ∙ below
+
+module _ (D : Deeper) (steady : Steady D) (bound : ℕ) (f : Function) (self : ℕ) (arguments : List ℤ) (w0 w1 : World) (begins : w1 ≡ entered f.slots f.names self arguments w0) where
+  -- a call whose body and whose variables were done
+  pub call_told : (w2 w3 w4 : World) (flow : Flow) (n : ℤ) (count : ℕ) (old begun now : List ℕ)
+      → all_executed D bound f.body w1 ≡ Done flow w2 → variables_dropped D 0 f.names w2 ≡ Done finished w3
+      → w0.waiting ≡ reverse old → w1.waiting ≡ reverse begun → w3.waiting ≡ reverse now → take count begun ≡ old
+      → w4 ≡ left_at w0.frame (take count now) w3 → n ≡ given flow → called D bound f self arguments w0 ≡ Done n w4
+  call_told w2 w3 w4 flow n count old begun now body dropped waits first last below leaves gives =
+      let between : w2.waiting ≡ w1.waiting = after_done (Waits w1) (all_executed D bound f.body w1) flow w2 (commands_wait D steady bound f.body w1) body in
+      let behind : w3.waiting ≡ w2.waiting = after_done (Waits w2) (variables_dropped D 0 f.names w2) finished w3 (variables_wait D steady 0 f.names w2) dropped in
+      let back : reverse (take count now) ≡ w0.waiting = ap reverse (same_below old begun now count w1 w3 first last (behind ∙ between) below) ∙ sym waits in
+      let there : w4 ≡ left w0 w3 = leaves ∙ ap (λ (l : List ℕ). record { input = w3.input; trace = w3.trace; objects = w3.objects; frame = w0.frame; waiting = l }) back in
+      let meant : called D bound f self arguments w0 ≡ then_do (all_executed D bound f.body w1) (λ flow1 v1. then_do (variables_dropped D 0 f.names v1) (λ _ v2. Done (given flow1) (left w0 v2))) =
+      ap (λ w. then_do (all_executed D bound f.body w) (λ flow1 v1. then_do (variables_dropped D 0 f.names v1) (λ _ v2. Done (given flow1) (left w0 v2)))) (sym begins) in
+      meant ∙ ap (λ o. then_do o (λ flow1 v1. then_do (variables_dropped D 0 f.names v1) (λ _ v2. Done (given flow1) (left w0 v2)))) body
+      ∙ ap (λ o. then_do o (λ _ v2. Done (given flow) (left w0 v2))) dropped
+      ∙ ap (λ w. Done (given flow) w) (sym there) ∙ ap (λ m. Done m w4) (sym gives)
+
+  -- one whose body fails
+  pub body_failed : {A : Type 0} (view : A → Flow) (e : Halt) (r : Result ℤ Halt) (after : World) → r ≡ Err e → Tells view (Err e) (all_executed D bound f.body w1) after
+      → Tells (λ n. n) r (called D bound f self arguments w0) after
+  body_failed view e r after failed h =
+      let go = λ (flow1 : Flow) (v1 : World). then_do (variables_dropped D 0 f.names v1) (λ _ v2. Done (given flow1) (left w0 v2)) in
+      let meant : called D bound f self arguments w0 ≡ then_do (all_executed D bound f.body w1) go = ap (λ w. then_do (all_executed D bound f.body w) go) (sym begins) in
+      subst (λ x. Tells (λ n. n) x (called D bound f self arguments w0) after) (sym failed)
+      (tells_through e view (λ n. n) after go (all_executed D bound f.body w1) (called D bound f self arguments w0) meant h)
+
+  -- one whose variables fail to be dropped
+  pub drop_failed : {A : Type 0} (view : A → Finished) (flow : Flow) (w2 : World) (e : Halt) (r : Result ℤ Halt) (after : World) → all_executed D bound f.body w1 ≡ Done flow w2 → r ≡ Err e
+      → Tells view (Err e) (variables_dropped D 0 f.names w2) after → Tells (λ n. n) r (called D bound f self arguments w0) after
+  drop_failed view flow w2 e r after body failed h =
+      let go = λ (flow1 : Flow) (v1 : World). then_do (variables_dropped D 0 f.names v1) (λ _ v2. Done (given flow1) (left w0 v2)) in
+      let meant : called D bound f self arguments w0 ≡ then_do (variables_dropped D 0 f.names w2) (λ _ v2. Done (given flow) (left w0 v2)) =
+      ap (λ w. then_do (all_executed D bound f.body w) go) (sym begins) ∙ ap (λ o. then_do o go) body in
+      subst (λ x. Tells (λ n. n) x (called D bound f self arguments w0) after) (sym failed)
+      (tells_through e view (λ n. n) after (λ _ v2. Done (given flow) (left w0 v2)) (variables_dropped D 0 f.names w2) (called D bound f self arguments w0) meant h)
+
+-- the function of a number, where it was found and where it wasn't
+pub function_there : (context : Context) (all : List CheckedFunction) (f : ℕ) (g : CheckedFunction) → all ≡ context.program.now.functions.items → f < length all → g ≡ get_or all f g
+    → function_at (program_of context.program.now) f ≡ function_of g
+function_there context all f g same below is =
+    let program = context.program.now in
+    ap (λ l. function_at (record { functions = functions l; main = program.main; classes = classes_of program.classes.items }) f) (sym same) ∙ function_found all (classes_of program.classes.items) program.main f g below is
+
+pub function_absent : (context : Context) (all : List CheckedFunction) (f : ℕ) → all ≡ context.program.now.functions.items → length all ≤ f
+    → function_at (program_of context.program.now) f ≡ record { slots = 0; names = 0; body = no_commands }
+function_absent context all f same past =
+    let program = context.program.now in
+    ap (λ l. function_at (record { functions = functions l; main = program.main; classes = classes_of program.classes.items }) f) (sym same) ∙ function_missing all (classes_of program.classes.items) program.main f past
+
+-- a function that there isn't does nothing
+pub nothing_called : (D : Deeper) (bound self : ℕ) (arguments : List ℤ) (w : World) → called D bound (record { slots = 0; names = 0; body = no_commands }) self arguments w ≡ Done (pos 0) w
+nothing_called D bound self arguments w = refl
+
+-- ---- places that are dropped
+
+-- one temporary more
+pub temporary_step : (D : Deeper) → Steady D → (whole : Outcome Finished) (r : ℕ) (w between after : World)
+    → whole ≡ all_dropped D w → w.frame.temporaries ≡ r ∷ between.frame.temporaries → between ≡ with_temporaries w between.frame.temporaries
+    → released D r between ≡ Done finished after → whole ≡ all_dropped D after
+temporary_step D steady whole r w between after old last rest done =
+    let others = between.frame.temporaries in
+    let same : Same between after = after_done (Same between) (released D r between) finished after (released_same D steady r between) done in
+    old ∙ ap (λ l. temporaries_dropped D l w) last
+    ∙ ap (λ v. then_do (released D r v) (λ _ w1. temporaries_dropped D others w1)) (sym rest)
+    ∙ ap (λ o. then_do o (λ _ w1. temporaries_dropped D others w1)) done
+    ∙ ap (λ l. temporaries_dropped D l after) (sym (ap (λ (x : Frame). x.temporaries) same.frame))
+
+-- the temporaries are fewer behind it
+pub temporaries_fewer : (D : Deeper) → Steady D → (r : ℕ) (w between after : World) (before now : List ℕ) → w.frame.temporaries ≡ r ∷ between.frame.temporaries → released D r between ≡ Done finished after
+    → w.frame.temporaries ≡ reverse before → after.frame.temporaries ≡ reverse now → length now < length before
+temporaries_fewer D steady r w between after before now last done first behind =
+    let same : Same between after = after_done (Same between) (released D r between) finished after (released_same D steady r between) done in
+    let kept : reverse now ≡ between.frame.temporaries = sym behind ∙ ap (λ (x : Frame). x.temporaries) same.frame in
+    let one : length (reverse before) ≡ suc (length (reverse now)) = ap length (sym first ∙ last) ∙ ap (λ l. suc (length l)) (sym kept) in
+    omega (arith, one, length-reverse before, length-reverse now)
+
+-- one variable more
+pub variable_step : (D : Deeper) (whole : Outcome Finished) (first n offset r : ℕ) (w between after : World) → n ≡ suc offset
+    → whole ≡ variables_dropped D first n w → r ≡ name_at w.frame.strong (first + offset) → between ≡ stores (first + offset) 0 w
+    → released D r between ≡ Done finished after → whole ≡ variables_dropped D first offset after
+variable_step D whole first n offset r w between after one old named stored done =
+    old ∙ ap (λ m. variables_dropped D first m w) one
+    ∙ ap (λ q. then_do (released D q (stores (first + offset) 0 w)) (λ _ w1. variables_dropped D first offset w1)) (sym named)
+    ∙ ap (λ v. then_do (released D r v) (λ _ w1. variables_dropped D first offset w1)) (sym stored)
+    ∙ ap (λ o. then_do o (λ _ w1. variables_dropped D first offset w1)) done
+
+-- a variable whose object fails to end
+pub variable_failed : {A : Type 0} (D : Deeper) (whole : Outcome Finished) (first n offset r : ℕ) (w between after : World) (view other : A → Finished) (e : Halt) (result : Result A Halt) → n ≡ suc offset
+    → whole ≡ variables_dropped D first n w → r ≡ name_at w.frame.strong (first + offset) → between ≡ stores (first + offset) 0 w
+    → result ≡ Err e → Tells view (Err e) (released D r between) after → Tells other result whole after
+variable_failed D whole first n offset r w between after view other e result one old named stored failed h =
+    let go = λ (u : Finished) (w1 : World). variables_dropped D first offset w1 in
+    let meant : whole ≡ then_do (released D r between) go =
+    old ∙ ap (λ m. variables_dropped D first m w) one
+    ∙ ap (λ q. then_do (released D q (stores (first + offset) 0 w)) go) (sym named)
+    ∙ ap (λ v. then_do (released D r v) go) (sym stored) in
+    subst (λ x. Tells other x whole after) (sym failed) (tells_through e view other after go (released D r between) whole meant h)
+
+-- a temporary whose object fails to end
+pub temporary_failed : {A : Type 0} (D : Deeper) (whole : Outcome Finished) (r : ℕ) (w between after : World) (view other : A → Finished) (e : Halt) (result : Result A Halt)
+    → whole ≡ all_dropped D w → w.frame.temporaries ≡ r ∷ between.frame.temporaries → between ≡ with_temporaries w between.frame.temporaries
+    → result ≡ Err e → Tells view (Err e) (released D r between) after → Tells other result whole after
+temporary_failed D whole r w between after view other e result old last rest failed h =
+    let others = between.frame.temporaries in
+    let go = λ (u : Finished) (w1 : World). temporaries_dropped D others w1 in
+    let meant : whole ≡ then_do (released D r between) go =
+    old ∙ ap (λ l. temporaries_dropped D l w) last ∙ ap (λ v. then_do (released D r v) go) (sym rest) in
+    subst (λ x. Tells other x whole after) (sym failed) (tells_through e view other after go (released D r between) whole meant h)
+
+-- with none left
+pub no_temporary : (D : Deeper) (whole : Outcome Finished) (w after : World) → whole ≡ all_dropped D w → w.frame.temporaries ≡ [] → after ≡ with_temporaries w after.frame.temporaries → after.frame.temporaries ≡ w.frame.temporaries → whole ≡ Done finished after
+no_temporary D whole w after old none rest same =
+    old ∙ ap (λ l. temporaries_dropped D l w) none ∙ ap (λ v. Done finished v) (sym (rest ∙ ap (λ l. with_temporaries w l) same))
+
+-- ---- messages and ends of objects
+
+-- a message to what isn't nil
+pub object_sent : (D : Deeper) (from : Option ℕ) (self selector : ℕ) (arguments : List ℤ) (w : World) → 0 < self
+    → sent_from D from self selector arguments w ≡ runs_found D (lookup D.classes from signs.Instance selector (length arguments)) self arguments w
+object_sent D from zero selector arguments w some = nothing_below some
+object_sent D from (suc k) selector arguments w some = refl
+
+module _ (P : Program) (D : Deeper) (bound : ℕ) (all : List declared.Class) (o : ℕ) (classes : P.classes ≡ classes_of all) where
+  dealloc_here : (left i number : ℕ) (c : declared.Class) (w : World) → left ≡ suc i → slice_get all number ≡ Some c
+      → deallocs_run P D bound left (Some number) o w ≡ then_do (dealloc_run P D bound c.dealloc o w) (λ _ w1. deallocs_run P D bound i c.superclass o w1)
+  dealloc_here left i number c w one there =
+      let found : slice_get P.classes number ≡ Some (class_of c) = ap (λ l. slice_get l number) classes ∙ slice_get-map class_of all number ∙ ap (option_map class_of) there in
+      ap (λ n. deallocs_run P D bound n (Some number) o w) one ∙ ap (λ x. dealloc_and_above P D bound x o (λ above w1. deallocs_run P D bound i above o w1) w) found
+
+  -- one class more
+  pub dealloc_step : (whole : Outcome Finished) (i number : ℕ) (c : declared.Class) (w after : World) → i < length all
+      → whole ≡ deallocs_run P D bound (length all - i) (Some number) o w → slice_get all number ≡ Some c → dealloc_run P D bound c.dealloc o w ≡ Done finished after
+      → whole ≡ deallocs_run P D bound (length all - (i + 1)) c.superclass o after
+  dealloc_step whole i number c w after below old there done =
+      old ∙ dealloc_here (length all - i) (length all - (i + 1)) number c w (omega (arith, below)) there
+      ∙ ap (λ x. then_do x (λ _ w1. deallocs_run P D bound (length all - (i + 1)) c.superclass o w1)) done
+
+  pub dealloc_failed : {A : Type 0} (whole : Outcome Finished) (i number : ℕ) (c : declared.Class) (w after : World) (view other : A → Finished) (e : Halt) (result : Result A Halt) → i < length all
+      → whole ≡ deallocs_run P D bound (length all - i) (Some number) o w → slice_get all number ≡ Some c
+      → result ≡ Err e → Tells view (Err e) (dealloc_run P D bound c.dealloc o w) after → Tells other result whole after
+  dealloc_failed whole i number c w after view other e result below old there failed h =
+      let go = λ (u : Finished) (w1 : World). deallocs_run P D bound (length all - (i + 1)) c.superclass o w1 in
+      let meant : whole ≡ then_do (dealloc_run P D bound c.dealloc o w) go = old ∙ dealloc_here (length all - i) (length all - (i + 1)) number c w (omega (arith, below)) there in
+      subst (λ x. Tells other x whole after) (sym failed) (tells_through e view other after go (dealloc_run P D bound c.dealloc o w) whole meant h)
+
+  -- above the root, and above what is no class
+  pub no_class_left : (left : ℕ) (class : Option ℕ) (w : World) → class ≡ None → deallocs_run P D bound left class o w ≡ Done finished w
+  no_class_left zero class w none = refl
+  no_class_left (suc n) class w none = ap (λ c. deallocs_run P D bound (suc n) c o w) none
+
+  pub no_such_class : (left number : ℕ) (w : World) → slice_get all number ≡ None → deallocs_run P D bound left (Some number) o w ≡ Done finished w
+  no_such_class zero number w none = refl
+  no_such_class (suc n) number w none =
+      let missing : slice_get P.classes number ≡ None = ap (λ l. slice_get l number) classes ∙ slice_get-map class_of all number ∙ ap (option_map class_of) none in
+      ap (λ x. dealloc_and_above P D bound x o (λ above w1. deallocs_run P D bound n above o w1) w) missing

@@ -1,0 +1,284 @@
+-- What a part of a program leaves as it was: the places that wait and, where only objects end, the running function.
+use Rattle.std.proofs.Common.{◌≡◌, ℕ, zero, suc, ◌+◌, ℤ, pos, List, [], ◌∷◌, ◌++◌, length, Option, Some, None, Bool, true, false, not, ◌&&◌, slice_get, refl, sym, ap, ◌∙◌}
+use Rattle.std.specs.Prelude.{slice_set, slice_index_or, if◌then◌else◌}
+use Rattle.arc_spec.specs.Classes.{Class, class_at, descends}
+use Rattle.arc_spec.specs.Number.{converted, negated, combined, is_zero}
+use Rattle.arc_spec.specs.Objects.{Object, Phase, object_at, is_live, names, with_object, with_fields}
+use Rattle.arc_spec.specs.Resolved.{Value, Number, ReadByte, Print, Negated, Combined, Converted, Local, Assigned, Invoked, Sent, SentSuper, SentTo, SentToSuper, Field, FieldAssigned, Differ, IsObject, Reference, Nil, Itself, Variable, Stored, Made, Initialized, Values, no_values, and_value, Command, Sequence, Evaluate, EvaluateReference, Begin, Return, Choose, Repeat, Commands, no_commands, and_command, Function, Program}
+use Rattle.arc_spec.specs.World.{World, Outcome, Done, Faulted, Cut, then_do, Finished, finished, places, prints, entered, left, takes, stores, with_temporaries, with_locals, with_objects, local_at, name_at}
+use Rattle.arc_spec.specs.Meaning.{Deeper, formatted, byte_count, or_fault, released, temporaries_dropped, all_dropped, assigned, variables_dropped, dispatched, finds, runs_found, class_in, sent_from, sent_to, made, in_object, field_read, field_set, difference, evaluated, referred, all_evaluated, whole, whole_reference, begun, Flow, Normal, Returned, if_normal, chosen, turns, scope_left, normally, executed, all_executed, given, function_at, called, dealloc_run, dealloc_and_above, deallocs_run, turned, gone, dying, ended, level}
+
+-- what holds of the world behind a part that was done
+abbrev pub After : {A : Type 0} → (World → Type 0) → Outcome A → Type 0
+After P (Done a w) = P w
+After P (Faulted f w) = Unit {0}
+After P (Cut w) = Unit {0}
+
+-- the same places wait
+abbrev pub Waits : World → World → Type 0
+Waits before now = now.waiting ≡ before.waiting
+
+-- and the same function runs
+pub record Same (before now : World) : Type 0 where
+  pub frame : now.frame ≡ before.frame
+  pub waiting : now.waiting ≡ before.waiting
+
+pub same_refl : (w : World) → Same w w
+same_refl w = record { frame = refl; waiting = refl }
+
+same_trans : (a b c : World) → Same a b → Same b c → Same a c
+same_trans a b c h k = record { frame = k.frame ∙ h.frame; waiting = k.waiting ∙ h.waiting }
+
+after_weaker : {A : Type 0} → (P Q : World → Type 0) (o : Outcome A) → ((w : World) → P w → Q w) → After P o → After Q o
+after_weaker P Q (Done a w) weaker h = weaker w h
+after_weaker P Q (Faulted f w) weaker h = tt
+after_weaker P Q (Cut w) weaker h = tt
+
+after_any : {A : Type 0} → (o : Outcome A) → After (λ w. Unit {0}) o
+after_any (Done a w) = tt
+after_any (Faulted f w) = tt
+after_any (Cut w) = tt
+
+-- what is known of a part that was done
+pub after_done : {A : Type 0} → (P : World → Type 0) (o : Outcome A) (a : A) (w : World) → After P o → o ≡ Done a w → P w
+after_done P o a w h is = rw is at h
+
+after_then : {A B : Type 0} → (P Q : World → Type 0) (o : Outcome A) (go : A → World → Outcome B) → After P o → ((a : A) (w : World) → P w → After Q (go a w)) → After Q (then_do o go)
+after_then P Q (Done a w) go h next = next a w h
+after_then P Q (Faulted f w) go h next = tt
+after_then P Q (Cut w) go h next = tt
+
+same_then : {A B : Type 0} → (w : World) (o : Outcome A) (go : A → World → Outcome B) → After (Same w) o → ((a : A) (w1 : World) → After (Same w1) (go a w1)) → After (Same w) (then_do o go)
+same_then w o go h next = after_then (Same w) (Same w) o go h (λ a w1 s. after_weaker (Same w1) (Same w) (go a w1) (λ w2 t. same_trans w w1 w2 s t) (next a w1))
+
+waits_then : {A B : Type 0} → (w : World) (o : Outcome A) (go : A → World → Outcome B) → After (Waits w) o → ((a : A) (w1 : World) → After (Waits w1) (go a w1)) → After (Waits w) (then_do o go)
+waits_then w o go h next = after_then (Waits w) (Waits w) o go h (λ a w1 s. after_weaker (Waits w1) (Waits w) (go a w1) (λ w2 t. t ∙ s) (next a w1))
+
+after_if : {A : Type 0} → (P : World → Type 0) (b : Bool) (x y : Outcome A) → After P x → After P y → After P (if b then x else y)
+after_if P true x y h k = h
+after_if P false x y h k = k
+
+after_chosen : {A : Type 0} → (P : World → Type 0) (b : Bool) (x y : Outcome A) → After P x → After P y → After P (chosen b x y)
+after_chosen P true x y h k = k
+after_chosen P false x y h k = h
+
+-- ---- calls and ends of objects
+
+-- a level at which calls and ends leave these as they were
+pub record Steady (D : Deeper) : Type 0 where
+  pub calls : (f self : ℕ) (arguments : List ℤ) (w : World) → After (Same w) (D.call f self arguments w)
+  pub ends : (o : ℕ) (w : World) → After (Same w) (D.end_of o w)
+
+called_same : (D : Deeper) (bound : ℕ) (f : Function) (self : ℕ) (arguments : List ℤ) (w : World) → After (Same w) (called D bound f self arguments w)
+called_same D bound f self arguments w =
+    after_then (λ w1. Unit {0}) (Same w) (all_executed D bound f.body (entered f.slots f.names self arguments w)) (λ flow w1. then_do (variables_dropped D 0 f.names w1) (λ _ w2. Done (given flow) (left w w2)))
+    (after_any (all_executed D bound f.body (entered f.slots f.names self arguments w)))
+    (λ flow w1 _. after_then (λ w2. Unit {0}) (Same w) (variables_dropped D 0 f.names w1) (λ _ w2. Done (given flow) (left w w2))
+    (after_any (variables_dropped D 0 f.names w1)) (λ _ w2 _. record { frame = refl; waiting = refl }))
+
+dealloc_same : (P : Program) (D : Deeper) (bound : ℕ) (f : Option ℕ) (o : ℕ) (w : World) → After (Same w) (dealloc_run P D bound f o w)
+dealloc_same P D bound None o w = same_refl w
+dealloc_same P D bound (Some f) o w =
+    same_then w (called D bound (function_at P f) o [] w) (λ _ w1. Done finished w1) (called_same D bound (function_at P f) o [] w) (λ _ w1. same_refl w1)
+
+above_same : (P : Program) (D : Deeper) (bound : ℕ) (c : Option Class) (o : ℕ) (above : Option ℕ → World → Outcome Finished) (w : World)
+    → ((class : Option ℕ) (w1 : World) → After (Same w1) (above class w1)) → After (Same w) (dealloc_and_above P D bound c o above w)
+above_same P D bound None o above w next = same_refl w
+above_same P D bound (Some c) o above w next =
+    same_then w (dealloc_run P D bound c.dealloc o w) (λ _ w1. above c.superclass w1) (dealloc_same P D bound c.dealloc o w) (λ _ w1. next c.superclass w1)
+
+deallocs_same : (P : Program) (D : Deeper) (bound n : ℕ) (class : Option ℕ) (o : ℕ) (w : World) → After (Same w) (deallocs_run P D bound n class o w)
+deallocs_same P D bound zero class o w = same_refl w
+deallocs_same P D bound (suc n) None o w = same_refl w
+deallocs_same P D bound (suc n) (Some c) o w =
+    above_same P D bound (slice_get P.classes c) o (λ above w1. deallocs_run P D bound n above o w1) w (λ above w1. deallocs_same P D bound n above o w1)
+
+turned_same : (phase : Phase) (o : ℕ) (ob : Option Object) (w : World) → Same w (turned phase o ob w)
+turned_same phase o None w = same_refl w
+turned_same phase o (Some ob) w = record { frame = refl; waiting = refl }
+
+dying_same : (o : ℕ) (ob : Option Object) (w : World) → Same w (dying o ob w)
+dying_same o None w = same_refl w
+dying_same o (Some ob) w = record { frame = refl; waiting = refl }
+
+gone_same : (o : ℕ) (w : World) → After (Same w) (gone o w)
+gone_same o w = after_if (Same w) (names o (places w)) _ _ tt (turned_same _ o (object_at w.objects o) w)
+
+ended_same : (P : Program) (D : Deeper) (bound o : ℕ) (w : World) → After (Same w) (ended P D bound o w)
+ended_same P D bound o w =
+    let first = dying o (object_at w.objects o) w in
+    let run = deallocs_run P D bound (length P.classes) (class_in (object_at w.objects o)) o first in
+    after_weaker (Same first) (Same w) (then_do run (λ _ w1. gone o w1)) (λ w1 s. same_trans w first w1 (dying_same o (object_at w.objects o) w) s)
+    (same_then first run (λ _ w1. gone o w1) (deallocs_same P D bound (length P.classes) (class_in (object_at w.objects o)) o first) (λ _ w1. gone_same o w1))
+
+pub level_steady : (P : Program) (bound levels : ℕ) → Steady (level P bound levels)
+level_steady P bound zero = record { calls = λ f self arguments w. tt; ends = λ o w. tt }
+level_steady P bound (suc n) = record {
+  calls = λ f self arguments w. called_same (level P bound n) bound (function_at P f) self arguments w;
+  ends = λ o w. ended_same P (level P bound n) bound o w;
+}
+
+-- ---- places that are dropped
+
+module _ (D : Deeper) (steady : Steady D) where
+  pub released_same : (r : ℕ) (w : World) → After (Same w) (released D r w)
+  released_same r w = after_if (Same w) (is_live (object_at w.objects r) && not (names r (places w))) (D.end_of r w) (Done finished w) (steady.ends r w) (same_refl w)
+
+  temporaries_wait : (all : List ℕ) (w : World) → After (Waits w) (temporaries_dropped D all w)
+  temporaries_wait [] w = refl
+  temporaries_wait (r ∷ others) w =
+      let next = with_temporaries w others in
+      waits_then w (released D r next) (λ _ w1. temporaries_dropped D others w1)
+      (after_weaker (Same next) (Waits w) (released D r next) (λ w1 s. s.waiting) (released_same r next)) (λ _ w1. temporaries_wait others w1)
+
+  assigned_wait : (i r : ℕ) (w : World) → After (Waits w) (assigned D i r w)
+  assigned_wait i r w =
+      let next = stores i r w in
+      after_weaker (Same next) (Waits w) (released D (name_at w.frame.strong i) next) (λ w1 s. s.waiting) (released_same (name_at w.frame.strong i) next)
+
+  pub variables_wait : (first count : ℕ) (w : World) → After (Waits w) (variables_dropped D first count w)
+  variables_wait first zero w = refl
+  variables_wait first (suc n) w = waits_then w (assigned D (first + n) 0 w) (λ _ w1. variables_dropped D first n w1) (assigned_wait (first + n) 0 w) (λ _ w1. variables_wait first n w1)
+
+  -- ---- expressions
+
+  call_waits : (f self : ℕ) (arguments : List ℤ) (w : World) → After (Waits w) (D.call f self arguments w)
+  call_waits f self arguments w = after_weaker (Same w) (Waits w) (D.call f self arguments w) (λ w1 s. s.waiting) (steady.calls f self arguments w)
+
+  dispatched_waits : (f : Option ℕ) (class : ℤ) (arguments : List ℤ) (w : World) → After (Waits w) (dispatched D f class arguments w)
+  dispatched_waits None class arguments w = tt
+  dispatched_waits (Some f) class arguments w = call_waits f 0 (class ∷ arguments) w
+
+  found_waits : (f : Option ℕ) (self : ℕ) (arguments : List ℤ) (w : World) → After (Waits w) (runs_found D f self arguments w)
+  found_waits None self arguments w = tt
+  found_waits (Some f) self arguments w = call_waits f self arguments w
+
+  sent_waits : (from : Option ℕ) (self selector : ℕ) (arguments : List ℤ) (w : World) → After (Waits w) (sent_from D from self selector arguments w)
+  sent_waits from zero selector arguments w = refl
+  sent_waits from (suc k) selector arguments w = found_waits _ (suc k) arguments w
+
+  made_waits : (class : Option ℕ) (w : World) → After (Waits w) (made D class w)
+  made_waits None w = tt
+  made_waits (Some c) w = refl
+
+  in_object_waits : (class : ℕ) (ob : Option Object) (go : Object → Outcome ℤ) (w : World) → ((o : Object) → After (Waits w) (go o)) → After (Waits w) (in_object D class ob go w)
+  in_object_waits class None go w h = tt
+  in_object_waits class (Some o) go w h = after_if (Waits w) (descends D.classes (Some o.class) class) (go o) (Faulted _ w) (h o) tt
+
+  fault_waits : (v : Option ℤ) (w : World) → After (Waits w) (or_fault v w)
+  fault_waits (Some v) w = refl
+  fault_waits None w = tt
+
+  mutual
+    value_waits : (a : Value) (w : World) → After (Waits w) (evaluated D a w)
+    value_waits (Number n) w = refl
+    value_waits ReadByte w = refl
+    value_waits (Print pieces arguments) w =
+        waits_then w (all_evaluated D arguments w) (λ values w1. let bytes = formatted pieces values in Done (byte_count bytes) (prints bytes w1)) (values_wait arguments w) (λ values w1. refl)
+    value_waits (Negated kind a) w = waits_then w (evaluated D a w) (λ x w1. Done (negated kind x) w1) (value_waits a w) (λ x w1. refl)
+    value_waits (Combined operator kind a b) w =
+        waits_then w (evaluated D a w) (λ x w1. then_do (evaluated D b w1) (λ y w2. or_fault (combined operator kind x y) w2)) (value_waits a w)
+        (λ x w1. waits_then w1 (evaluated D b w1) (λ y w2. or_fault (combined operator kind x y) w2) (value_waits b w1) (λ y w2. fault_waits (combined operator kind x y) w2))
+    value_waits (Converted kind a) w = waits_then w (evaluated D a w) (λ x w1. Done (converted kind x) w1) (value_waits a w) (λ x w1. refl)
+    value_waits (Local i) w = refl
+    value_waits (Assigned i a) w = waits_then w (evaluated D a w) (λ x w1. Done x (with_locals w1 (slice_set w1.frame.locals i x))) (value_waits a w) (λ x w1. refl)
+    value_waits (Invoked f arguments) w = waits_then w (all_evaluated D arguments w) (λ given w1. D.call f 0 given w1) (values_wait arguments w) (λ given w1. call_waits f 0 given w1)
+    value_waits (Sent a selector arguments) w =
+        waits_then w (evaluated D a w) (λ self w1. then_do (all_evaluated D arguments w1) (λ given w2. dispatched D (finds D (class_at self) selector given) self given w2)) (value_waits a w)
+        (λ self w1. waits_then w1 (all_evaluated D arguments w1) (λ given w2. dispatched D (finds D (class_at self) selector given) self given w2) (values_wait arguments w1)
+        (λ given w2. dispatched_waits (finds D (class_at self) selector given) self given w2))
+    value_waits (SentSuper from selector arguments) w =
+        waits_then w (all_evaluated D arguments w) (λ given w1. dispatched D (finds D (Some from) selector given) (local_at w.frame.locals 0) given w1) (values_wait arguments w)
+        (λ given w1. dispatched_waits (finds D (Some from) selector given) (local_at w.frame.locals 0) given w1)
+    value_waits (SentTo a selector arguments) w =
+        waits_then w (referred D a w) (λ self w1. then_do (all_evaluated D arguments w1) (λ given w2. sent_to D self selector given w2)) (reference_waits a w)
+        (λ self w1. waits_then w1 (all_evaluated D arguments w1) (λ given w2. sent_to D self selector given w2) (values_wait arguments w1)
+        (λ given w2. sent_waits (class_in (object_at w2.objects self)) self selector given w2))
+    value_waits (SentToSuper from selector arguments) w =
+        waits_then w (all_evaluated D arguments (takes w.frame.self w)) (λ given w1. sent_from D (Some from) w.frame.self selector given w1) (values_wait arguments (takes w.frame.self w))
+        (λ given w1. sent_waits (Some from) w.frame.self selector given w1)
+    value_waits (Field a class index) w =
+        waits_then w (referred D a w) (λ r w1. field_read D r class index w1) (reference_waits a w)
+        (λ r w1. in_object_waits class (object_at w1.objects r) (λ o. Done (slice_index_or o.fields index (pos 0)) w1) w1 (λ o. refl))
+    value_waits (FieldAssigned a class index b) w =
+        waits_then w (referred D a w) (λ r w1. then_do (evaluated D b w1) (λ v w2. field_set D r class index v w2)) (reference_waits a w)
+        (λ r w1. waits_then w1 (evaluated D b w1) (λ v w2. field_set D r class index v w2) (value_waits b w1)
+        (λ v w2. in_object_waits class (object_at w2.objects r) (λ o. Done v (with_objects w2 (with_object w2.objects r (with_fields o (slice_set o.fields index v))))) w2 (λ o. refl)))
+    value_waits (Differ a b) w =
+        waits_then w (referred D a w) (λ x w1. then_do (referred D b w1) (λ y w2. Done (difference x y) w2)) (reference_waits a w)
+        (λ x w1. waits_then w1 (referred D b w1) (λ y w2. Done (difference x y) w2) (reference_waits b w1) (λ y w2. refl))
+    value_waits (IsObject a) w = waits_then w (referred D a w) (λ x w1. Done (difference x 0) w1) (reference_waits a w) (λ x w1. refl)
+
+    reference_waits : (a : Reference) (w : World) → After (Waits w) (referred D a w)
+    reference_waits Nil w = refl
+    reference_waits Itself w = refl
+    reference_waits (Variable i) w = refl
+    reference_waits (Stored i a) w =
+        waits_then w (referred D a w) (λ r w1. then_do (assigned D i r w1) (λ _ w2. Done r (takes r w2))) (reference_waits a w)
+        (λ r w1. waits_then w1 (assigned D i r w1) (λ _ w2. Done r (takes r w2)) (assigned_wait i r w1) (λ _ w2. refl))
+    reference_waits (Made a) w = waits_then w (evaluated D a w) (λ class w1. made D (class_at class) w1) (value_waits a w) (λ class w1. made_waits (class_at class) w1)
+    reference_waits (Initialized a) w = waits_then w (referred D a w) (λ r w1. Done r (takes r w1)) (reference_waits a w) (λ r w1. refl)
+
+    values_wait : (all : Values) (w : World) → After (Waits w) (all_evaluated D all w)
+    values_wait no_values w = refl
+    values_wait (and_value a others) w =
+        waits_then w (evaluated D a w) (λ x w1. then_do (all_evaluated D others w1) (λ xs w2. Done (x ∷ xs) w2)) (value_waits a w)
+        (λ x w1. waits_then w1 (all_evaluated D others w1) (λ xs w2. Done (x ∷ xs) w2) (values_wait others w1) (λ xs w2. refl))
+
+  -- ---- statements
+
+  dropped_waits : (w : World) → After (Waits w) (all_dropped D w)
+  dropped_waits w = temporaries_wait w.frame.temporaries w
+
+  whole_waits : (a : Value) (w : World) → After (Waits w) (whole D a w)
+  whole_waits a w =
+      waits_then w (evaluated D a w) (λ v w1. then_do (all_dropped D w1) (λ _ w2. Done v w2)) (value_waits a w)
+      (λ v w1. waits_then w1 (all_dropped D w1) (λ _ w2. Done v w2) (dropped_waits w1) (λ _ w2. refl))
+
+  whole_reference_waits : (a : Reference) (w : World) → After (Waits w) (whole_reference D a w)
+  whole_reference_waits a w = waits_then w (referred D a w) (λ _ w1. all_dropped D w1) (reference_waits a w) (λ _ w1. dropped_waits w1)
+
+  begun_waits : (i : ℕ) (a : Reference) (w : World) → After (Waits w) (begun D i a w)
+  begun_waits i a w =
+      waits_then w (referred D a w) (λ r w1. then_do (assigned D i r w1) (λ _ w2. all_dropped D w2)) (reference_waits a w)
+      (λ r w1. waits_then w1 (assigned D i r w1) (λ _ w2. all_dropped D w2) (assigned_wait i r w1) (λ _ w2. dropped_waits w2))
+
+  normally_waits : (o : Outcome Finished) (w : World) → After (Waits w) o → After (Waits w) (normally o)
+  normally_waits o w h = waits_then w o (λ _ w1. Done Normal w1) h (λ _ w1. refl)
+
+  scope_waits : (first count : ℕ) (flow : Flow) (w : World) → After (Waits w) (scope_left D first count flow w)
+  scope_waits first count Normal w = normally_waits (variables_dropped D first count w) w (variables_wait first count w)
+  scope_waits first count (Returned v) w = refl
+
+  flow_waits : (flow : Flow) (go : World → Outcome Flow) (w : World) → ((w1 : World) → After (Waits w1) (go w1)) → After (Waits w) (if_normal flow go w)
+  flow_waits Normal go w h = h w
+  flow_waits (Returned v) go w h = refl
+
+  turns_wait : (bound : ℕ) (test : World → Outcome ℤ) (body : World → Outcome Flow) (w : World)
+      → ((w1 : World) → After (Waits w1) (test w1)) → ((w1 : World) → After (Waits w1) (body w1)) → After (Waits w) (turns bound test body w)
+  turns_wait zero test body w tests bodies =
+      waits_then w (test w) (λ v w1. chosen (is_zero v) (Cut w1) (Done Normal w1)) (tests w) (λ v w1. after_chosen (Waits w1) (is_zero v) (Cut w1) (Done Normal w1) tt refl)
+  turns_wait (suc n) test body w tests bodies =
+      waits_then w (test w) (λ v w1. chosen (is_zero v) (then_do (body w1) (λ flow w2. if_normal flow (turns n test body) w2)) (Done Normal w1)) (tests w)
+      (λ v w1. after_chosen (Waits w1) (is_zero v) (then_do (body w1) (λ flow w2. if_normal flow (turns n test body) w2)) (Done Normal w1)
+      (waits_then w1 (body w1) (λ flow w2. if_normal flow (turns n test body) w2) (bodies w1) (λ flow w2. flow_waits flow (turns n test body) w2 (λ w3. turns_wait n test body w3 tests bodies))) refl)
+
+  mutual
+    command_waits : (bound : ℕ) (c : Command) (w : World) → After (Waits w) (executed D bound c w)
+    command_waits bound (Sequence first count all) w =
+        waits_then w (all_executed D bound all w) (λ flow w1. scope_left D first count flow w1) (commands_wait bound all w) (λ flow w1. scope_waits first count flow w1)
+    command_waits bound (Evaluate a) w = waits_then w (whole D a w) (λ _ w1. Done Normal w1) (whole_waits a w) (λ _ w1. refl)
+    command_waits bound (EvaluateReference a) w = normally_waits (whole_reference D a w) w (whole_reference_waits a w)
+    command_waits bound (Begin i a) w = normally_waits (begun D i a w) w (begun_waits i a w)
+    command_waits bound (Return None) w = refl
+    command_waits bound (Return (Some a)) w = waits_then w (whole D a w) (λ v w1. Done (Returned v) w1) (whole_waits a w) (λ v w1. refl)
+    command_waits bound (Choose test a b) w =
+        waits_then w (whole D test w) (λ v w1. chosen (is_zero v) (executed D bound a w1) (executed D bound b w1)) (whole_waits test w)
+        (λ v w1. after_chosen (Waits w1) (is_zero v) (executed D bound a w1) (executed D bound b w1) (command_waits bound a w1) (command_waits bound b w1))
+    command_waits bound (Repeat test body) w = turns_wait bound (whole D test) (executed D bound body) w (λ w1. whole_waits test w1) (λ w1. command_waits bound body w1)
+
+    pub commands_wait : (bound : ℕ) (all : Commands) (w : World) → After (Waits w) (all_executed D bound all w)
+    commands_wait bound no_commands w = refl
+    commands_wait bound (and_command c others) w =
+        waits_then w (executed D bound c w) (λ flow w1. if_normal flow (all_executed D bound others) w1) (command_waits bound c w)
+        (λ flow w1. flow_waits flow (all_executed D bound others) w1 (λ w2. commands_wait bound others w2))

@@ -1,0 +1,12 @@
+//! What a running function is given beside the program's progress.
+
+use arc_check::checked::Checked;
+
+/// The program, how many turns each loop may make, and how many calls and ends of objects within one another
+/// may still begin.
+#[derive(Clone, Copy)]
+pub struct Context<'a> {
+    pub program: &'a Checked<'a>,
+    pub bound: u64,
+    pub levels: u32,
+}

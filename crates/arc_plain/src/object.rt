@@ -1,0 +1,210 @@
+//! Objects. They go by their numbers, which count from 1 in the order of their making; 0 is nil.
+ghost use Rattle.std.specs.Prelude.{◌≡◌, map, IfOk, MatchOption, None, Some, OnOk, slice_get, slice_set};
+ghost use Rattle.arc_spec.specs.Classes.{classes_of};
+ghost use Rattle.arc_spec.specs.Meaning.{made, field_read, field_set, field_count, dying, gone, class_in};
+ghost use Rattle.arc_spec.specs.Objects.{object_at, is_live, new_object, in_phase, with_fields};
+ghost use Rattle.arc_plain.specs.Views.{world, deeper, Tells, nothing_of, object_of, phase_of, changed};
+
+use crate::context::Context;
+use crate::halt::Halt;
+use crate::place::{is_named, take};
+use crate::progress::Progress;
+use arc_spec::class::{Class, descends_from};
+use arc_spec::event::{Event, Fault, NoMemory};
+use std::alloc::Global;
+
+/// How far an object is on its way: its dealloc hasn't begun, has begun, or is done.
+#[derive(Clone, Copy, Debug, PartialEq, Eq)]
+pub enum Phase {
+    Live,
+    Dying,
+    Gone,
+}
+
+/// An object: the number of its class, its fields, and its phase.
+#[derive(Drop)]
+pub struct Object {
+    pub class: usize,
+    pub fields: Vec<i64>,
+    pub phase: Phase,
+}
+
+/// The object with this number.
+fn object_at(objects: &[Object], number: usize) -> Option<&Object>
+    ensures { MatchOption result (object_at (map object_of objects.now) number ≡ None) (λ object. object_at (map object_of objects.now) number ≡ Some (object_of object.now)) }
+{
+    if number == 0 {
+        return None;
+    }
+    objects.get(number - 1)
+}
+
+/// Whether there is an object with this number whose dealloc hasn't begun.
+pub fn is_live(objects: &[Object], number: usize) -> bool
+    ensures { result ≡ is_live (object_at (map object_of objects.now) number) }
+{
+    match object_at(objects, number) {
+        Some(object) => match object.phase {
+            Phase::Live => true,
+            Phase::Dying | Phase::Gone => false,
+        },
+        None => false,
+    }
+}
+
+/// The class of the object with this number.
+pub fn class_of(objects: &[Object], number: usize) -> Option<usize>
+    ensures { result ≡ class_in (object_at (map object_of objects.now) number) }
+{
+    match object_at(objects, number) {
+        Some(object) => Some(object.class),
+        None => None,
+    }
+}
+
+/// Makes an object of a class, which a temporary takes; what is no class is a fault.
+pub fn make(
+    alloc: Global,
+    context: &Context,
+    progress: &mut Progress,
+    class: Option<usize>,
+) -> Result<usize, Halt>
+    ensures { Tells (λ n. n) result (made (deeper context.now) class (world progress.old)) (world progress.new) }
+{
+    let Some(class) = class else {
+        return Err(Halt::Stopped(Fault::Unrecognized));
+    };
+    let count = field_count(&context.program.classes, class);
+    let object = new_object(alloc, class, count)?;
+    progress.objects.push(object)?;
+    let number = progress.objects.len();
+    take(progress, number)
+}
+
+/// How many fields the objects of a class have.
+fn field_count(classes: &[Class], class: usize) -> usize
+    ensures { result ≡ field_count (slice_get (classes_of classes.now) class) }
+{
+    match classes.get(class) {
+        Some(class) => class.fields,
+        None => 0,
+    }
+}
+
+/// An object of a class as it is made, with so many fields.
+fn new_object(alloc: Global, class: usize, fields: usize) -> Result<Object, NoMemory>
+    ensures { IfOk result (λ object. object_of object ≡ new_object class fields) }
+{
+    Ok(Object {
+        class,
+        fields: vec![in alloc; 0; fields]?,
+        phase: Phase::Live,
+    })
+}
+
+/// The field with this number of an object, whose own class this is.
+pub fn read_field(
+    context: &Context,
+    progress: &Progress,
+    number: usize,
+    class: usize,
+    index: usize,
+) -> Result<i64, Halt>
+    ensures { Tells (λ n. n) result (field_read (deeper context.now) number class index (world progress.now)) (world progress.now) }
+{
+    let Some(object) = object_at(&progress.objects, number) else {
+        return Err(Halt::Stopped(Fault::NilField));
+    };
+    if !descends_from(&context.program.classes, Some(object.class), class) {
+        return Err(Halt::Stopped(Fault::FieldClass));
+    }
+    match object.fields.get(index) {
+        Some(field) => Ok(*field),
+        None => Ok(0),
+    }
+}
+
+/// Gives the field with this number of an object a number, which is given too.
+pub fn set_field(
+    context: &Context,
+    progress: &mut Progress,
+    number: usize,
+    class: usize,
+    index: usize,
+    value: i64,
+) -> Result<i64, Halt>
+    ensures { Tells (λ n. n) result (field_set (deeper context.now) number class index value (world progress.old)) (world progress.new) }
+{
+    let Some(own) = class_of(&progress.objects, number) else {
+        return Err(Halt::Stopped(Fault::NilField));
+    };
+    if !descends_from(&context.program.classes, Some(own), class) {
+        return Err(Halt::Stopped(Fault::FieldClass));
+    }
+    write_field(&mut progress.objects, number, index, value);
+    Ok(value)
+}
+
+/// Gives the field with this number of an object a number.
+fn write_field(objects: &mut [Object], number: usize, index: usize, value: i64)
+    ensures { map object_of objects.new ≡ changed (map object_of objects.old) number (λ o. with_fields o (slice_set o.fields index value)) }
+{
+    if number == 0 {
+        return;
+    }
+    let count = objects.len();
+    if number > count {
+        return;
+    }
+    let object = &mut objects[number - 1];
+    write(&mut object.fields, index, value);
+}
+
+/// Writes a number into a place, where there is that place.
+fn write(fields: &mut [i64], index: usize, value: i64)
+    ensures { fields.new ≡ slice_set fields.old index value }
+{
+    let count = fields.len();
+    if index >= count {
+        return;
+    }
+    fields[index] = value;
+}
+
+/// Turns the object with this number into another phase.
+fn turn(objects: &mut [Object], number: usize, phase: Phase)
+    ensures { map object_of objects.new ≡ changed (map object_of objects.old) number (in_phase (phase_of phase)) }
+{
+    if number == 0 {
+        return;
+    }
+    let count = objects.len();
+    if number > count {
+        return;
+    }
+    let object = &mut objects[number - 1];
+    object.phase = phase;
+}
+
+/// The dealloc of an object begins, which is shown.
+pub fn begin_end(progress: &mut Progress, number: usize) -> Result<(), NoMemory>
+    ensures { OnOk result (world progress.new ≡ dying number (object_at (world progress.old).objects number) (world progress.old)) }
+{
+    let Some(class) = class_of(&progress.objects, number) else {
+        return Ok(());
+    };
+    turn(&mut progress.objects, number, Phase::Dying);
+    progress.trace.push(Event::Dealloc(number as u64, class))?;
+    Ok(())
+}
+
+/// The dealloc of an object is done; that a strong place names it again is a fault.
+pub fn finish_end(progress: &mut Progress, number: usize) -> Result<(), Halt>
+    ensures { Tells nothing_of result (gone number (world progress.old)) (world progress.new) }
+{
+    if is_named(progress, number) {
+        return Err(Halt::Stopped(Fault::Resurrected));
+    }
+    turn(&mut progress.objects, number, Phase::Gone);
+    Ok(())
+}

@@ -1,0 +1,60 @@
+-- Objects, and the places that hold them.
+use Rattle.std.specs.Prelude.{ℕ, zero, suc, ℤ, pos, List, [], ◌∷◌, Bool, true, false, nat_eq, Option, Some, None, slice_get, slice_set, if◌then◌else◌}
+
+-- how far an object is on its way (ARC, "Object liveness"): its dealloc hasn't begun, has begun, or is done
+pub data Phase : Type 0 where
+  Live : Phase
+  Dying : Phase
+  Gone : Phase
+
+pub record Object : Type 0 where
+  pub class : ℕ
+  pub fields : List ℤ
+  pub phase : Phase
+
+-- The object of a number: objects are counted from 1, in the order of their making, and no number is used twice; 0 stands for nil.
+abbrev pub object_at : List Object → ℕ → Option Object
+object_at all zero = None
+object_at all (suc k) = slice_get all k
+
+abbrev pub with_object : List Object → ℕ → Object → List Object
+with_object all zero o = all
+with_object all (suc k) o = slice_set all k o
+
+abbrev pub in_phase : Phase → Object → Object
+in_phase phase o = record { class = o.class; fields = o.fields; phase = phase }
+
+abbrev pub with_fields : Object → List ℤ → Object
+with_fields o fields = record { class = o.class; fields = fields; phase = o.phase }
+
+abbrev pub object_live : Object → Bool
+object_live o = phase_live o.phase
+  where
+    phase_live : Phase → Bool
+    phase_live Live = true
+    phase_live Dying = false
+    phase_live Gone = false
+
+-- whether the dealloc of an object hasn't begun
+abbrev pub is_live : Option Object → Bool
+is_live None = false
+is_live (Some o) = object_live o
+
+-- so many numbers, all 0
+abbrev pub zeros : ℕ → List ℤ
+zeros zero = []
+zeros (suc n) = pos 0 ∷ zeros n
+
+-- so many places, none of which names an object
+abbrev pub nils : ℕ → List ℕ
+nils zero = []
+nils (suc n) = 0 ∷ nils n
+
+-- an object of a class as it is made: all of its fields are 0 (OPL, "Allocating and Initializing Objects")
+abbrev pub new_object : (class fields : ℕ) → Object
+new_object class fields = record { class = class; fields = zeros fields; phase = Live }
+
+-- whether one of the places names the object
+abbrev pub names : ℕ → List ℕ → Bool
+names o [] = false
+names o (p ∷ others) = if nat_eq o p then true else names o others
