@@ -14,7 +14,7 @@ use Rattle.arc_class.specs.declared.table.FoundField.{FoundField}
 use Rattle.arc_class.specs.ClassRules.{field_place, fields_in_braces, fields_of_interface, class_above, broken_pairs}
 use Rattle.arc_class.specs.Classes.{class_number, superclass, superclass_of, or_then, nearest}
 use Rattle.arc_class.specs.Entries.{FieldsTree, fields_tree, root_fields, class_fields, class_fields_from, class_fields_with, all_class_fields, count_at, count_among, fields_at}
-use Rattle.arc_class.specs.Fields.{ClassField, fields_added, fields_declared, fields_of, own_fields, owned, of_superclass, fields_below, inherited_below, fields, all_fields_from, inherited, numbered, own_field, known_field}
+use Rattle.arc_class.specs.Fields.{ClassField, fields_added, fields_declared, fields_of, own_fields, owned, fields_below, inherited_below, fields, all_fields_from, inherited, numbered, own_field, known_field}
 use Rattle.arc_class.specs.Table.{at_name, own_field_in, superclass_of_fields, field_among, list_of, list_at, list_among}
 use Rattle.arc_class.proofs.Parts.{kept_none}
 use Rattle.arc_class.proofs.Results.{nearest_same}

@@ -1,7 +1,7 @@
 -- The methods of a class as a running program knows them, one more.
 use Rattle.std.proofs.Common.{◌≡◌, ℕ, suc, ◌+◌, ◌<◌, Bool, true, false, List, [], ◌∷◌, ◌++◌, length, Some, Option, if◌then◌else◌, append_assoc, drop, get_or, refl, sym, ap, ◌∙◌, arith}
 use Rattle.arc_ast.specs.declared.tree.Method as ast
-use Rattle.arc_ast.specs.Tree.{MethodTree, UnitTree, head_tree, method_tree, method_trees}
+use Rattle.arc_ast.specs.Tree.{UnitTree, head_tree, method_trees}
 use Rattle.arc_spec.specs.declared.class.Method.{Method}
 use Rattle.arc_class.specs.Classes.{is_dealloc, selectors}
 use Rattle.arc_class.specs.Running.{method_made, with_method, methods_from, dealloc_from}

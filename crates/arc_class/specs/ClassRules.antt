@@ -1,5 +1,5 @@
 -- The rules for classes, their methods and their fields.
-use Rattle.std.specs.Prelude.{ℕ, zero, suc, Bool, true, false, ◌&&◌, ◌||◌, not, nat_lt, List, [], ◌∷◌, ◌++◌, length, Option, Some, None, is_some, is_none, codes, slice_get, if◌then◌else◌}
+use Rattle.std.specs.Prelude.{ℕ, zero, suc, Bool, false, ◌&&◌, ◌||◌, not, nat_lt, List, [], ◌∷◌, ◌++◌, length, Option, Some, None, is_some, is_none, codes, slice_get, if◌then◌else◌}
 use Rattle.std.specs.Str.{bytes_eq}
 use Rattle.arc_ast.specs.declared.tree.Kind.{Kind}
 use Rattle.arc_ast.specs.declared.tree.Sign.TheVariants as signs
@@ -7,7 +7,7 @@ use Rattle.arc_ast.specs.Tree.{FunctionTree, HeadTree, MethodTree, FieldTree, In
 use Rattle.arc_spec.specs.Classes.{same_sign}
 use Rattle.arc_class.specs.Bodies.{Missing, broken_if, broken_parameters, broken_stmts, names_taken, no_name}
 use Rattle.arc_class.specs.Broken.{Broken}
-use Rattle.arc_class.specs.Classes.{is_root, interface_number, class_number, superclass, heads, first_head, built_in_result, declared, defined}
+use Rattle.arc_class.specs.Classes.{is_root, interface_number, class_number, superclass, first_head, built_in_result, declared, defined}
 use Rattle.arc_class.specs.Fields.{fields, known_field}
 use Rattle.arc_class.specs.Functions.{is_library, same_kind, lacks_body_in, broken_in_functions}
 use Rattle.arc_class.specs.Names.{first_named}

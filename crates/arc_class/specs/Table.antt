@@ -120,6 +120,11 @@ field_tree f = record { name = f.name.now; owner = number_of_class f.owner; visi
 abbrev pub list_of : Vec Field Global → List ClassField
 list_of all = map field_tree all.items
 
+-- what is in the list at a place; there is nothing where there is no list
+abbrev pub items_at : {X : Type 0} → Option (Vec X Global) → List X
+items_at None = []
+items_at (Some all) = all.items
+
 abbrev pub list_at : Option (Vec Field Global) → List ClassField
 list_at None = []
 list_at (Some all) = list_of all

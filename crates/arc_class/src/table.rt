@@ -1,5 +1,5 @@
 //! The table that the later stages look names up in.
-ghost use Rattle.std.specs.Prelude.{◌≡◌, [], Some, map, option_map, IfOk, IfErr, OnErr};
+ghost use Rattle.std.specs.Prelude.{◌≡◌, [], Some, map, option_map, slice_get, IfOk, IfErr, OnErr};
 ghost use Rattle.arc_ast.specs.Tree.{unit_tree};
 ghost use Rattle.arc_spec.specs.Classes.{classes_of};
 ghost use Rattle.arc_class.specs.Broken.{first};
@@ -11,7 +11,7 @@ ghost use Rattle.arc_class.specs.Fault.{Refuses, told};
 ghost use Rattle.arc_class.specs.Functions.{missing_main};
 ghost use Rattle.arc_class.specs.Kept.{Knows};
 ghost use Rattle.arc_class.specs.Names.{number_of, is_main};
-ghost use Rattle.arc_class.specs.Table.{IsTableOf, at_name, function_in, class_number_in, class_in, superclass_in, own_result_in, result_at, result_in_table, any_result_in, field_tree, field_in_table, fields_in, ends_object, nearest_dealloc, defined_in, built_in_method, method_in, selector_in, selector_name, colons, number_of_class, number_of_selector, number_of_method, IsSameTable, Registers};
+ghost use Rattle.arc_class.specs.Table.{IsTableOf, at_name, function_in, class_number_in, class_in, superclass_in, own_result_in, result_at, result_in_table, any_result_in, field_tree, field_in_table, items_at, fields_in, ends_object, nearest_dealloc, defined_in, built_in_method, method_in, selector_in, selector_name, colons, number_of_class, number_of_selector, number_of_method, IsSameTable, Registers};
 
 use crate::building::{Selectors, selectors};
 use crate::fault::{ClassFault, earlier};
@@ -203,6 +203,16 @@ fn nearest_dealloc(classes: &[Class], class: Option<usize>) -> Option<usize>
     None
 }
 
+/// What the list with the number has, and nothing where there is no such list.
+fn items_at<T>(lists: &[Vec<T>], number: usize) -> &[T]
+    ensures { result.now ≡ items_at (slice_get lists.now number) }
+{
+    let Some(list) = lists.get(number) else {
+        return &[];
+    };
+    list
+}
+
 /// What a source declares: its functions, its classes with their methods and fields, and its selectors.
 #[derive(Debug, Drop)]
 pub struct ClassTable<'a> {
@@ -294,10 +304,7 @@ impl<'a> ClassTable<'a> {
     pub fn fields(&self, class: ClassId) -> &[Field<'a>]
         ensures { map field_tree result.now ≡ fields_in self.now (number_of_class class) }
     {
-        let Some(all) = self.fields.get(class.0) else {
-            return &[];
-        };
-        all
+        items_at(&self.fields, class.0)
     }
 
     /// The function that a method of the source runs which a message with the selector finds, from the class up.

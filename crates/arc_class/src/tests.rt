@@ -446,10 +446,10 @@ fn with_fields(
 
 /// One field of the name, which anyone may name.
 fn one_field(alloc: Global, at: usize, name: &[u8]) -> Result<Vec<tree::Field>, AllocError> {
-    vec![in alloc; field(alloc, at, name, Visibility::Public)?]
+    Ok(vec![in alloc; field(alloc, at, name, Visibility::Public)?]?)
 }
 
-fn told_of_fields(alloc: Global) -> Result<Vec<String>, AllocError> {
+fn told_of_fields(alloc: Global) -> Result<String, AllocError> {
     let none = || Vec::new(alloc);
     let mut told = Vec::new(alloc);
     told.push(with_fields(alloc, one_field(alloc, 60, b"z")?, none(), none())?)?;
@@ -468,20 +468,20 @@ fn told_of_fields(alloc: Global) -> Result<Vec<String>, AllocError> {
         one_field(alloc, 115, b"v")?,
         one_field(alloc, 215, b"v")?,
     )?)?;
-    Ok(told)
+    told.join(alloc, "\n")
 }
 
 #[test]
 fn finds_fields(rt: HostRuntime) {
     let told = told_of_fields(rt.alloc()).expect(&rt, "no memory");
-    let found = "Some(FoundField { owner: ClassId(2), index: 2, visibility: Public })";
-    assert_eq!(rt; told[0].as_str(), found);
-    assert_eq!(rt; told[1].as_str(), found);
-    assert_eq!(rt; told[2].as_str(), "21 Duplicate at 60");
-    assert_eq!(rt; told[3].as_str(), "21 Duplicate at 115");
-    assert_eq!(rt; told[4].as_str(), "21 Duplicate at 30");
-    assert_eq!(rt; told[5].as_str(), "21 Duplicate at 64");
-    assert_eq!(rt; told[6].as_str(), "21 Duplicate at 215");
+    let found = "Some(FoundField { owner: ClassId(2), index: 2, visibility: Public })\n\
+        Some(FoundField { owner: ClassId(2), index: 2, visibility: Public })\n\
+        21 Duplicate at 60\n\
+        21 Duplicate at 115\n\
+        21 Duplicate at 30\n\
+        21 Duplicate at 64\n\
+        21 Duplicate at 215";
+    assert_eq!(rt; told.as_str(), found);
 }
 
 /// What is told of a class that inherits `above` fields and has `own` ones.
@@ -529,7 +529,7 @@ fn declaring(alloc: Global, made: MethodHead) -> Result<String, AllocError> {
     }
 }
 
-fn told_of_heads(alloc: Global) -> Result<Vec<String>, AllocError> {
+fn told_of_heads(alloc: Global) -> Result<String, AllocError> {
     let mut told = Vec::new(alloc);
     told.push(declaring(alloc, object_head(alloc, 60, b"init", Kind::Int)?)?)?;
     told.push(declaring(alloc, object_head(alloc, 60, b"dealloc", Kind::Int)?)?)?;
@@ -540,21 +540,22 @@ fn told_of_heads(alloc: Global) -> Result<Vec<String>, AllocError> {
     told.push(declaring(alloc, head(alloc, 60, b"class", Kind::Int)?)?)?;
     told.push(declaring(alloc, object_head(alloc, 60, b"load", Kind::Void)?)?)?;
     told.push(declaring(alloc, head(alloc, 60, b"load", Kind::Void)?)?)?;
-    Ok(told)
+    told.join(alloc, "\n")
 }
 
 #[test]
 fn refuses_heads(rt: HostRuntime) {
     let told = told_of_heads(rt.alloc()).expect(&rt, "no memory");
-    assert_eq!(rt; told[0].as_str(), "24 SelectorKinds at 60");
-    assert_eq!(rt; told[1].as_str(), "24 SelectorKinds at 60");
-    assert_eq!(rt; told[2].as_str(), "0");
-    assert_eq!(rt; told[3].as_str(), "24 SelectorKinds at 60");
-    assert_eq!(rt; told[4].as_str(), "0");
-    assert_eq!(rt; told[5].as_str(), "28 HookMethod at 60");
-    assert_eq!(rt; told[6].as_str(), "28 HookMethod at 60");
-    assert_eq!(rt; told[7].as_str(), "0");
-    assert_eq!(rt; told[8].as_str(), "28 HookMethod at 60");
+    let found = "24 SelectorKinds at 60\n\
+        24 SelectorKinds at 60\n\
+        0\n\
+        24 SelectorKinds at 60\n\
+        0\n\
+        28 HookMethod at 60\n\
+        28 HookMethod at 60\n\
+        0\n\
+        28 HookMethod at 60";
+    assert_eq!(rt; told.as_str(), found);
 }
 
 /// A call of `f`, which has no body, at 920.
@@ -571,7 +572,7 @@ fn told_of(alloc: Global, statement: Stmt) -> Result<String, AllocError> {
     answer(alloc, vec![in alloc; declared]?, vec![in alloc; statement]?)
 }
 
-fn told_of_expressions(alloc: Global) -> Result<Vec<String>, AllocError> {
+fn told_of_expressions(alloc: Global) -> Result<String, AllocError> {
     let mut told = Vec::new(alloc);
     let no_class = TypeName::Object(905, Vec::from_slice(alloc, b"C")?);
     let unknown = Expr::Cast(904, no_class, Box::new(alloc, Expr::Nil(908))?);
@@ -598,19 +599,20 @@ fn told_of_expressions(alloc: Global) -> Result<Vec<String>, AllocError> {
     let call = Expr::Call(920, Vec::from_slice(alloc, b"f")?, Vec::new(alloc));
     let sent = Expr::SendSuper(909, 916, 910, selector, vec![in alloc; call]?);
     told.push(told_of(alloc, Stmt::Expr(sent))?)?;
-    Ok(told)
+    told.join(alloc, "\n")
 }
 
 #[test]
 fn refuses_inside_expressions(rt: HostRuntime) {
     let told = told_of_expressions(rt.alloc()).expect(&rt, "no memory");
-    assert_eq!(rt; told[0].as_str(), "22 UnknownClass at 905");
-    assert_eq!(rt; told[1].as_str(), "22 UnknownClass at 905");
-    assert!(rt; told[2].as_str().starts_with("0 Some"));
-    assert_eq!(rt; told[3].as_str(), "30 UndefinedFunction at 920");
-    assert_eq!(rt; told[4].as_str(), "30 UndefinedFunction at 920");
-    assert_eq!(rt; told[5].as_str(), "30 UndefinedFunction at 920");
-    assert_eq!(rt; told[6].as_str(), "30 UndefinedFunction at 920");
+    let found = "22 UnknownClass at 905\n\
+        22 UnknownClass at 905\n\
+        0 Some(Declared { signature: Signature { result: Int, takes: Some(0) }, body: None })\n\
+        30 UndefinedFunction at 920\n\
+        30 UndefinedFunction at 920\n\
+        30 UndefinedFunction at 920\n\
+        30 UndefinedFunction at 920";
+    assert_eq!(rt; told.as_str(), found);
 }
 
 /// `@interface A : NSObject + (int)f; - (int)f; @end @interface B : A - (void)g; @end`, where `A` defines both and `B` has a `dealloc`.

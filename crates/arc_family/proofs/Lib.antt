@@ -1,3 +1,2 @@
-pub mod Trees
 pub mod Walks
 pub mod Components

@@ -8,12 +8,18 @@ use thiserror::Error;
 /// Why a program is refused: the first rule of ownership that it breaks, or no memory.
 #[derive(Clone, Copy, Debug, PartialEq, Eq, Error)]
 pub enum OwnFault {
+    /// An assignment to `self` outside of the methods of the init family, at its `=`.
+    #[error("self is assigned at {0}")]
+    SelfConst(usize),
     /// A method `retain`, `release`, `autorelease` or `retainCount`, at its `+`; or such a message, at the first part of its selector.
     #[error("references are counted by hand at {0}")]
     ManualMemory(usize),
     /// A message `dealloc`; the place is that of its selector.
     #[error("dealloc is sent at {0}")]
     DeallocSent(usize),
+    /// A message of an init method to `self` or `super` outside of the methods of the init family; the place is that of its selector.
+    #[error("an init method is delegated at {0}")]
+    DelegateInit(usize),
     /// There was no memory.
     #[error("no memory")]
     Memory,
@@ -25,8 +31,10 @@ impl OwnFault {
         ensures { result ≡ fault_number self.now }
     {
         match self {
+            OwnFault::SelfConst(_) => 47,
             OwnFault::ManualMemory(_) => 61,
             OwnFault::DeallocSent(_) => 62,
+            OwnFault::DelegateInit(_) => 63,
             OwnFault::Memory => 69,
         }
     }
@@ -36,8 +44,10 @@ impl OwnFault {
         ensures { result.now ≡ fault_name self.now }
     {
         match self {
+            OwnFault::SelfConst(_) => "SelfConst",
             OwnFault::ManualMemory(_) => "ManualMemory",
             OwnFault::DeallocSent(_) => "DeallocSent",
+            OwnFault::DelegateInit(_) => "DelegateInit",
             OwnFault::Memory => "Memory",
         }
     }
@@ -47,8 +57,10 @@ impl OwnFault {
         ensures { result ≡ fault_at self.now }
     {
         match self {
+            OwnFault::SelfConst(at) => *at,
             OwnFault::ManualMemory(at) => *at,
             OwnFault::DeallocSent(at) => *at,
+            OwnFault::DelegateInit(at) => *at,
             OwnFault::Memory => 0,
         }
     }

@@ -5,7 +5,7 @@ use crate::owned::own;
 use crate::signature::{Family, Signature};
 use arc_ast::tree::{
     BinaryOperator, Expr, Function, Implementation, Interface, Kind, Method, MethodHead,
-    Parameters, Receiver, Stmt, TranslationUnit, Variable,
+    Parameters, Sign, Stmt, TranslationUnit, TypeName, Variable,
 };
 use arc_check::checked::Checked;
 use std::alloc::{AllocError, Global};
@@ -18,12 +18,19 @@ fn send(
     arguments: Vec<Expr>,
 ) -> Result<Expr, AllocError> {
     let selector = Vec::from_slice(alloc, selector)?;
-    Ok(Expr::Send(900, part, Receiver::Itself(900), selector, arguments))
+    Ok(Expr::Send(
+        900,
+        part,
+        Box::new(alloc, Expr::Itself(900))?,
+        selector,
+        arguments,
+    ))
 }
 
 fn head(alloc: Global, at: usize, selector: &[u8]) -> Result<MethodHead, AllocError> {
     Ok(MethodHead {
         at,
+        sign: Sign::Class,
         selector: Vec::from_slice(alloc, selector)?,
         result: Kind::Void,
         parameters: Vec::new(alloc),
@@ -54,6 +61,7 @@ fn unit(
         name: Vec::from_slice(alloc, b"A")?,
         superclass_at: 14,
         superclass: Vec::from_slice(alloc, b"NSObject")?,
+        fields: Vec::new(alloc),
         methods: vec![in alloc; head(alloc, 30, declared)?]?,
     };
     let method = Method {
@@ -63,6 +71,7 @@ fn unit(
     let implementation = Implementation {
         at: 110,
         name: Vec::from_slice(alloc, b"A")?,
+        fields: Vec::new(alloc),
         methods: vec![in alloc; method]?,
     };
     Ok(TranslationUnit {
@@ -153,7 +162,7 @@ fn in_loop(alloc: Global) -> Result<String, AllocError> {
         name: Vec::from_slice(alloc, b"a")?,
         initial: Some(send(alloc, 941, b"release", Vec::new(alloc))?),
     };
-    let declared = Stmt::Variables(930, vec![in alloc; variable]?);
+    let declared = Stmt::Variables(930, TypeName::Int, vec![in alloc; variable]?);
     let block = Stmt::Block(928, vec![in alloc; declared]?);
     of_statement(
         alloc,
@@ -190,6 +199,73 @@ fn tells(rt: HostRuntime) {
         (fault.number(), fault.name(), fault.at()),
         (69, "Memory", 0)
     );
+}
+
+/// What is told of a source whose method has the statement and the sign.
+fn of_method(alloc: Global, sign: Sign, statement: Stmt) -> Result<String, AllocError> {
+    let body = vec![in alloc; statement]?;
+    let mut unit = unit(alloc, b"go", b"go", body, Vec::new(alloc))?;
+    for implementation in unit.implementations.iter_mut() {
+        for method in implementation.methods.iter_mut() {
+            method.head.sign = sign;
+        }
+    }
+    told(alloc, &unit)
+}
+
+/// `(self) = nil;`
+fn assigned(alloc: Global) -> Result<Stmt, AllocError> {
+    let left = Expr::Paren(920, Box::new(alloc, Expr::Itself(921))?);
+    let right = Expr::Nil(930);
+    Ok(Stmt::Expr(Expr::Assign(920, 927, Box::new(alloc, left)?, Box::new(alloc, right)?)))
+}
+
+/// `[super init];`
+fn delegated(alloc: Global) -> Result<Stmt, AllocError> {
+    Ok(Stmt::Expr(Expr::SendSuper(
+        920,
+        927,
+        921,
+        Vec::from_slice(alloc, b"init")?,
+        Vec::new(alloc),
+    )))
+}
+
+/// `f()->x` with `[self dealloc]` in place of the call.
+fn in_object(alloc: Global) -> Result<Stmt, AllocError> {
+    let object = send(alloc, 941, b"dealloc", Vec::new(alloc))?;
+    let field = Vec::from_slice(alloc, b"x")?;
+    Ok(Stmt::Expr(Expr::Arrow(920, 950, Box::new(alloc, object)?, field)))
+}
+
+#[test]
+fn refuses_self_assigned(rt: HostRuntime) {
+    let alloc = rt.alloc();
+    let statement = assigned(alloc).expect(&rt, "no memory");
+    let found = of_method(alloc, Sign::Instance, statement).expect(&rt, "no memory");
+    assert_eq!(rt; found.as_str(), "47 SelfConst at 927");
+}
+
+#[test]
+fn refuses_delegated_init(rt: HostRuntime) {
+    let alloc = rt.alloc();
+    let to_self = send(alloc, 931, b"init", Vec::new(alloc)).expect(&rt, "no memory");
+    let found = of_method(alloc, Sign::Instance, Stmt::Expr(to_self)).expect(&rt, "no memory");
+    assert_eq!(rt; found.as_str(), "63 DelegateInit at 931");
+    let to_super = delegated(alloc).expect(&rt, "no memory");
+    let found = of_method(alloc, Sign::Instance, to_super).expect(&rt, "no memory");
+    assert_eq!(rt; found.as_str(), "63 DelegateInit at 927");
+    let to_super = delegated(alloc).expect(&rt, "no memory");
+    let found = of_method(alloc, Sign::Class, to_super).expect(&rt, "no memory");
+    assert_eq!(rt; found.as_str(), "kept, of 1 classes");
+}
+
+#[test]
+fn looks_into_objects(rt: HostRuntime) {
+    let alloc = rt.alloc();
+    let statement = in_object(alloc).expect(&rt, "no memory");
+    let found = of_method(alloc, Sign::Instance, statement).expect(&rt, "no memory");
+    assert_eq!(rt; found.as_str(), "62 DeallocSent at 941");
 }
 
 /// The family of an instance method that returns an object.

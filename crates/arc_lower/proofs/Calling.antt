@@ -1,18 +1,16 @@
 -- A run calls functions and methods, and ends objects, to the most levels.
-use Rattle.std.proofs.Common.{◌≡◌, ℕ, zero, suc, ◌+◌, ◌≤◌, ℤ, Bool, true, false, not, nat_eq, nat_lt, if◌then◌else◌, List, [], ◌∷◌, ◌++◌, length, Option, Some, None, slice_get, slice_set, slice_index_or, refl, sym, ap, ◌∙◌, subst, arith}
+use Rattle.std.proofs.Common.{◌≡◌, ℕ, zero, suc, ◌+◌, ℤ, Bool, true, false, not, nat_lt, if◌then◌else◌, List, [], ◌∷◌, ◌++◌, length, Option, Some, None, slice_get, slice_index_or, refl, sym, ap, ◌∙◌, subst, arith}
 use Rattle.std.proofs.lemmas.Bool.{lt-ltb, le-ltb, ltb-false}
 use Rattle.std.proofs.lemmas.List.{append-nil}
-use Rattle.arc_ast.specs.declared.tree.Sign.{Sign}
 use Rattle.arc_spec.specs.declared.event.Fault.TheVariants.{Unrecognized, Depth, Resurrected}
-use Rattle.arc_spec.specs.declared.event.Event.TheVariants.{Dealloc}
 use Rattle.arc_spec.specs.Classes.{Class, lookup}
-use Rattle.arc_spec.specs.Objects.{Object, Dying, Gone, object_at, with_object, in_phase, is_live, names}
+use Rattle.arc_spec.specs.Objects.{Object, Dying, Gone, object_at, with_object, in_phase, names}
 use Rattle.arc_spec.specs.Resolved as resolved
-use Rattle.arc_spec.specs.Meaning.{Deeper, function_at, called, class_in, dealloc_run, dealloc_and_above, deallocs_run, turned, gone, dying, ended, level, most_levels}
+use Rattle.arc_spec.specs.Meaning.{function_at, called, class_in, dealloc_run, dealloc_and_above, deallocs_run, turned, gone, dying, level, most_levels}
 use Rattle.arc_spec.specs.World as world
 use Rattle.arc_spec.specs.World.{World, Outcome, Done, Faulted, Cut, Finished, finished, then_do, places, frame_places, with_objects, first_locals, entered}
 use Rattle.arc_spec.specs.Holding.{Held, Frame, Calling, Ending, holders, gone_in}
-use Rattle.arc_spec.specs.Stepping.{Next, Goes, Faults, Reached, Running, on_found, follow}
+use Rattle.arc_spec.specs.Stepping.{Goes, Faults, Reached, Running, on_found, follow}
 use Rattle.arc_ir.specs.Acting.{Program, State, has_level, enters, answers, begins_end, ends_object, runs_dealloc, ends_class}
 use Rattle.arc_lower.specs.Order.{Call, Jump, EndStep}
 use Rattle.arc_lower.specs.Lowered.{number_of, slots_of, entry_of, entries_of, fit_orders, leave_orders, body_orders, passes}
@@ -221,7 +219,7 @@ module _ (p : Program) (R : resolved.Program) (bound : ℕ) (begins : (f : ℕ) 
       by_class n c w None None still same e go = last_runs (Some c) (suc n) w still e
       by_class n c w (Some x) (Some d) still same e go =
           let inner = Ending back self (suc k) (Some c) (suc n) ∷ frames in
-          let h = record { places = places w; self = suc k; objects = w.objects; counts = λ i. holders i (places w) } in
+          let h : Held = record { places = places w; self = suc k; objects = w.objects; counts = λ i. holders i (places w) } in
           let s = at inner p.end_step stack h in
           let next = recount (runs_dealloc d.dealloc (at [] p.end_step stack h) (Ending back self (suc k) x.superclass n ∷ frames)) in
           let step : moves p s ≡ next = e ∙ ap (λ up. recount (runs_dealloc d.dealloc s (Ending back self (suc k) up n ∷ frames))) same.0 ∙ deallocs_alike d.dealloc s (at [] p.end_step stack h) (Ending back self (suc k) x.superclass n ∷ frames) refl refl refl in

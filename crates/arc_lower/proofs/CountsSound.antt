@@ -1,12 +1,11 @@
 -- The counts of holders are right in all states that a program comes to, and what places name is there: only the rooms and the steps are left to be shown.
 use Rattle.std.proofs.Common.{ℕ, zero, suc, ◌≤◌, length}
-use Rattle.arc_spec.specs.Stepping.{Along, Safe, Sound}
+use Rattle.arc_spec.specs.Stepping.{Along, Safe}
 use Rattle.arc_spec.specs.Holding.{Counted}
 use Rattle.arc_ir.specs.Acting.{Program, State, start, step, Fits, IsSound}
-use Rattle.arc_lower.proofs.CountsHeld.{nothing_counted}
 use Rattle.arc_lower.proofs.CountsKept.{Sane, nothing_sane}
 use Rattle.arc_lower.proofs.CountsSteps.{along_both}
-use Rattle.arc_lower.proofs.CountsActing.{counts_kept, sanity_kept}
+use Rattle.arc_lower.proofs.CountsActing.{sanity_kept}
 
 -- the stack and the places are within their rooms
 pub record Rooms (p : Program) (s : State) : Type 0 where
@@ -15,17 +14,6 @@ pub record Rooms (p : Program) (s : State) : Type 0 where
 
 pub fits_too : (p : Program) (s : State) → Rooms p s → Counted s.held → Fits p s
 fits_too p s rooms c = record { numbers = rooms.numbers; places = rooms.places; counts = c }
-
-pub safe_too : (p : Program) (n : ℕ) (s : State) → Safe (step p) (Rooms p) n s → Counted s.held → Safe (step p) (Fits p) n s
-safe_too p zero s safe c = fits_too p s safe c
-safe_too p (suc n) s safe c = along_both (Safe (step p) (Rooms p) n) (λ s1. Counted s1.held) (Safe (step p) (Fits p) n) (safe_too p n) (step p s) safe (counts_kept p s c)
-
-pub sound_too : (p : Program) (s : State) → Sound (step p) (Rooms p) s → Counted s.held → Sound (step p) (Fits p) s
-sound_too p s sound c = record { safe = λ n. safe_too p n s (sound.safe n) c }
-
--- a program is sound where its rooms are never left and it is never stuck
-pub sound_from_rooms : (p : Program) → Sound (step p) (Rooms p) start → IsSound p
-sound_from_rooms p sound = sound_too p start sound nothing_counted
 
 -- for n steps, whatever is read, each state that is sane is within the rooms and has a step
 abbrev pub SafeIfSane : Program → ℕ → State → Type 0

@@ -107,10 +107,12 @@ has_from : (p : Program) (is before : List Action) → p.actions ≡ before ++ i
 has_from p [] before e = tt
 has_from p (x ∷ is) before e =
     let n : length (before ++ x ∷ []) ≡ length before + 1 = omega (arith, length-append before (x ∷ [])) in
-    let rest = has_from p is (before ++ x ∷ []) (e ∙ sym (append_assoc before (x ∷ []) is)) in
-    (λ frames stack held.
-    let s = at frames (length before) stack held in
-    ap (λ l. acts p (slice_get l (length before)) s) e ∙ ap (λ o. acts p o s) (get_seam before is x) ∙ acts_does p x s, subst (λ m. HasAt p m (orders is)) n rest)
+    let rest = has_from p is (before ++ x ∷ []) (e ∙ sym (append_assoc before (x ∷ []) is)) in (
+      λ frames stack held.
+          let s = at frames (length before) stack held in
+          ap (λ l. acts p (slice_get l (length before)) s) e ∙ ap (λ o. acts p o s) (get_seam before is x) ∙ acts_does p x s,
+      subst (λ m. HasAt p m (orders is)) n rest,
+    )
 
 pub has_all : (p : Program) → HasAt p 0 (orders p.actions)
 has_all p = has_from p p.actions [] refl

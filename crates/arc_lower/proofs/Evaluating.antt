@@ -1,11 +1,11 @@
 -- A run evaluates expressions, and leaves their values on the stack, and objects in temporaries.
 use Rattle.std.proofs.Common.{◌≡◌, ℕ, zero, suc, ◌+◌, ◌-◌, ◌<◌, ◌≤◌, ℤ, pos, Bool, true, false, nat_lt, if◌then◌else◌, List, [], ◌∷◌, ◌++◌, length, Option, Some, None, refl, sym, ap, ◌∙◌, subst, arith, length-append, slice_get, slice_set, slice_index_or}
 use Rattle.std.proofs.lemmas.Bool.{ltb-true, ltb-false}
-use Rattle.std.proofs.lemmas.List.{length-set, get_or_past, set_past, append-nil}
+use Rattle.std.proofs.lemmas.List.{length-set, get_or_past, set_past}
 use Rattle.arc_ast.specs.declared.tree.Sign.{Sign}
 use Rattle.arc_ast.specs.declared.tree.Sign.TheVariants as signs
 use Rattle.arc_spec.specs.declared.event.Event.{Event}
-use Rattle.arc_spec.specs.declared.event.Fault.TheVariants.{Unrecognized, NilField, FieldClass}
+use Rattle.arc_spec.specs.declared.event.Fault.TheVariants.{Unrecognized, FieldClass}
 use Rattle.arc_spec.specs.Classes.{class_at, lookup, descends}
 use Rattle.arc_spec.specs.Number.{converted, negated, combined, byte_or_end}
 use Rattle.arc_spec.specs.Objects.{Object, Dying, object_at, with_object, with_fields, new_object}
@@ -16,21 +16,20 @@ use Rattle.arc_spec.specs.World as world
 use Rattle.arc_spec.specs.World.{World, Outcome, Done, Faulted, Finished, then_do, prints, places, next_number, after_next, has_read, with_locals, with_objects, local_at, name_at, first_locals, takes, stores}
 use Rattle.arc_spec.specs.Holding.{Held, Frame, is_there, holds, on_place, on_field, count_of, with_field}
 use Rattle.arc_spec.specs.Stepping.{Next, Goes, Faults, Reached, follow, fed, on_found}
-use Rattle.arc_spec.specs.Stepping as stepping
 use Rattle.arc_ir.specs.Acting.{Program, State, onward, goes, keeps, answers, taken, sends, sends_up, allocates}
 use Rattle.arc_ir.specs.Acting as acting
 use Rattle.arc_lower.specs.Order.{Order, Num, Bin, Un, Narrow, Get, Set, GetChar, Call, Send, SendSuper, Nil, HoldSelf, Hold, Alloc, GetField, SetField, Differ, IsObject, SendTo, SendToSuper}
 use Rattle.arc_lower.specs.Lowered.{value_count, value_takes, reference_takes, values_take, print_orders, get_orders, set_orders, fit_orders, hold_orders, store_orders, number_of, slots_of, passes, call_orders, value_orders, reference_orders, all_value_orders}
 use Rattle.arc_lower.proofs.CountsThere.{IsThere, AllThere, placed_there, place_there, changed_there, made_there}
 use Rattle.arc_lower.proofs.CountsAgreeing.{object_goes, holds_goes}
-use Rattle.arc_lower.proofs.Leading.{Leads, leads_same, leads_trans, leads_step, Runs, leads_runs, then_runs, better_runs}
+use Rattle.arc_lower.proofs.Leading.{Leads, leads_same, leads_step, Runs, leads_runs, then_runs, better_runs}
 use Rattle.arc_lower.proofs.Recounting.{fresh, recount, moves, at, held_of}
 use Rattle.arc_lower.proofs.Doing.{does, HasAt, has_front, has_back}
 use Rattle.arc_lower.proofs.Segments.{running, leaves, Segment, then_segment, one_segment, quiet, Passes, then_passes, one_passes, no_passes}
 use Rattle.arc_lower.proofs.Stacking.{onto, Peels, peels_onto, get_onto, get_local, set_local, get_below, set_below}
 use Rattle.arc_lower.proofs.Printing.{print_passes}
 use Rattle.arc_lower.proofs.Fitting.{fit_passes}
-use Rattle.arc_lower.proofs.Standing.{ending, AllDying, Fine, Alive, nil_alive, last_there, IsFramed, Kept, kept_framed, Took, took_none, took_one, took_more, took_suc, took_length, get_variable, place_named, made_dying, changed_dying, IsDying}
+use Rattle.arc_lower.proofs.Standing.{ending, Fine, Alive, nil_alive, last_there, IsFramed, Kept, kept_framed, Took, took_none, took_more, took_suc, took_length, get_variable, place_named, made_dying, changed_dying}
 use Rattle.arc_lower.proofs.Releasing.{Ends, stays, store_segment}
 
 read_next : (frames : List Frame) (pc : ℕ) (stack : List ℤ) (w : World) (i : List ℕ) (t : List Event) → fed (λ answer. fresh (onward (at frames pc stack (held_of w)) (byte_or_end answer ∷ stack))) i t ≡ running frames (pc + 1) (next_number i ∷ stack) (record { input = after_next i; trace = t; objects = w.objects; frame = w.frame; waiting = w.waiting })
@@ -277,14 +276,17 @@ module _ (p : Program) (frames : List Frame) (bound : ℕ) (R : resolved.Program
   stored_referred : (n i r : ℕ) (w0 w w1 : World) → Referred n w0 r w → Kept frames (stores i r w) w1 → Referred n w0 r w1
   stored_referred n i r w0 w w1 h k =
       let g = h.0 in
-      let same = ap (λ (f : world.Frame). f.temporaries) k.frame in
-      (record {
-        locals = ap (λ (f : world.Frame). length f.locals) k.frame ∙ g.locals;
-        strong = ap (λ (f : world.Frame). length f.strong) k.frame ∙ length-set w.frame.strong i r ∙ g.strong;
-        itself = ap (λ (f : world.Frame). f.self) k.frame ∙ g.itself;
-        waits = k.waiting ∙ g.waits;
-        fine = k.fine;
-      }, subst (Took n w0.frame.temporaries) (sym same) h.1, (h.2.0, same ∙ h.2.1))
+      let same = ap (λ (f : world.Frame). f.temporaries) k.frame in (
+        record {
+          locals = ap (λ (f : world.Frame). length f.locals) k.frame ∙ g.locals;
+          strong = ap (λ (f : world.Frame). length f.strong) k.frame ∙ length-set w.frame.strong i r ∙ g.strong;
+          itself = ap (λ (f : world.Frame). f.self) k.frame ∙ g.itself;
+          waits = k.waiting ∙ g.waits;
+          fine = k.fine;
+        },
+        subst (Took n w0.frame.temporaries) (sym same) h.1,
+        (h.2.0, same ∙ h.2.1),
+      )
 
   -- ---- objects
 

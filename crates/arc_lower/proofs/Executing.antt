@@ -1,6 +1,6 @@
 -- A run executes statements, and leaves its function.
 use Rattle.std.proofs.Common.{◌≡◌, ℕ, zero, suc, ◌+◌, ◌-◌, ◌≤◌, ℤ, pos, Bool, true, false, List, [], ◌∷◌, ◌++◌, length, Some, None, refl, sym, ap, ◌∙◌, subst, arith, length-append, slice_set}
-use Rattle.std.proofs.lemmas.List.{length-set, append-nil}
+use Rattle.std.proofs.lemmas.List.{length-set}
 use Rattle.arc_spec.specs.Number.{is_zero}
 use Rattle.arc_spec.specs.Objects.{nils}
 use Rattle.arc_spec.specs.Resolved.{Value, Reference, Command, Sequence, Evaluate, EvaluateReference, Begin, Choose, Repeat, Commands, no_commands, and_command, Function}
@@ -8,7 +8,7 @@ use Rattle.arc_spec.specs.Resolved as resolved
 use Rattle.arc_spec.specs.Meaning.{Deeper, evaluated, referred, all_dropped, assigned, variables_dropped, whole, whole_reference, begun, Flow, Normal, Returned, if_normal, chosen, turns, scope_left, executed, all_executed, given, called}
 use Rattle.arc_spec.specs.World as world
 use Rattle.arc_spec.specs.World.{World, Outcome, Done, Faulted, Cut, Finished, then_do, places, first_locals, entered, left, with_temporaries, stores}
-use Rattle.arc_spec.specs.Holding.{Held, Frame, holders, with_places, forgets}
+use Rattle.arc_spec.specs.Holding.{Frame, holders, with_places, forgets}
 use Rattle.arc_spec.specs.Stepping.{Next, Reached, Goes, follow}
 use Rattle.arc_ir.specs.Acting.{Program, State, keeps}
 use Rattle.arc_ir.specs.Acting as acting
@@ -16,7 +16,7 @@ use Rattle.arc_lower.specs.Order.{Order, Num, Pop, Jump, JumpZero, Return, Nil, 
 use Rattle.arc_lower.specs.Lowered.{value_takes, reference_takes, keep_orders, nil_orders, store_orders, drop_orders, all_empty_orders, value_orders, reference_orders, whole_orders, whole_reference_orders, begin_orders, leave_orders, command_orders, all_command_orders, body_orders}
 use Rattle.arc_lower.proofs.CountsThere.{AllThere, placed_there}
 use Rattle.arc_lower.proofs.Leading.{Leads, leads_same, leads_trans, leads_step, Runs, leads_runs, later_runs, fewer_runs, then_runs, better_runs}
-use Rattle.arc_lower.proofs.Recounting.{fresh, recount, moves, at, held_of}
+use Rattle.arc_lower.proofs.Recounting.{recount, moves, at, held_of}
 use Rattle.arc_lower.proofs.Doing.{does, HasAt, has_front, has_back}
 use Rattle.arc_lower.proofs.Segments.{running, then_at, then_segment, one_segment, quiet, Passes, then_passes, one_passes, no_passes}
 use Rattle.arc_lower.proofs.Stacking.{onto}
@@ -73,13 +73,16 @@ module _ (p : Program) (frames : List Frame) (bound : ℕ) (R : resolved.Program
 
   -- the temporaries are dropped
   dropped_calm : (w w1 : World) → IsFramed frames slots names self (places before) w.frame w.waiting w.objects → Kept frames (with_temporaries w []) w1 → Calm w1
-  dropped_calm w w1 g k = (record {
-    locals = ap (λ (f : world.Frame). length f.locals) k.frame ∙ g.locals;
-    strong = ap (λ (f : world.Frame). length f.strong) k.frame ∙ g.strong;
-    itself = ap (λ (f : world.Frame). f.self) k.frame ∙ g.itself;
-    waits = k.waiting ∙ g.waits;
-    fine = k.fine;
-  }, ap (λ (f : world.Frame). f.temporaries) k.frame)
+  dropped_calm w w1 g k = (
+    record {
+      locals = ap (λ (f : world.Frame). length f.locals) k.frame ∙ g.locals;
+      strong = ap (λ (f : world.Frame). length f.strong) k.frame ∙ g.strong;
+      itself = ap (λ (f : world.Frame). f.self) k.frame ∙ g.itself;
+      waits = k.waiting ∙ g.waits;
+      fine = k.fine;
+    },
+    ap (λ (f : world.Frame). f.temporaries) k.frame,
+  )
 
   no_temporaries : (w : World) → Calm w → 0 ≡ length w.frame.temporaries
   no_temporaries w g = sym (ap length g.1)
@@ -208,13 +211,16 @@ module _ (p : Program) (frames : List Frame) (bound : ℕ) (R : resolved.Program
 
   -- variables are emptied
   emptied_calm : (first n : ℕ) (w w1 : World) → Calm w → Kept frames (emptied first n w) w1 → Calm w1
-  emptied_calm first n w w1 g k = (record {
-    locals = ap (λ (f : world.Frame). length f.locals) k.frame ∙ g.0.locals;
-    strong = ap (λ (f : world.Frame). length f.strong) k.frame ∙ empties_length first n w.frame.strong ∙ g.0.strong;
-    itself = ap (λ (f : world.Frame). f.self) k.frame ∙ g.0.itself;
-    waits = k.waiting ∙ g.0.waits;
-    fine = k.fine;
-  }, ap (λ (f : world.Frame). f.temporaries) k.frame ∙ g.1)
+  emptied_calm first n w w1 g k = (
+    record {
+      locals = ap (λ (f : world.Frame). length f.locals) k.frame ∙ g.0.locals;
+      strong = ap (λ (f : world.Frame). length f.strong) k.frame ∙ empties_length first n w.frame.strong ∙ g.0.strong;
+      itself = ap (λ (f : world.Frame). f.self) k.frame ∙ g.0.itself;
+      waits = k.waiting ∙ g.0.waits;
+      fine = k.fine;
+    },
+    ap (λ (f : world.Frame). f.temporaries) k.frame ∙ g.1,
+  )
 
   -- the end of a block
   scope_runs : (first n : ℕ) (flow : Flow) (q : ℕ) (w : World) → Calm w → HasAt p q (all_empty_orders names first n) → Runs (moves p) Good bound (flows q flow w) (flows (q + length (all_empty_orders names first n))) (scope_left D first n flow w)
@@ -349,13 +355,16 @@ module _ (p : Program) (frames : List Frame) (bound : ℕ) (R : resolved.Program
       let e : names + 0 ≡ names = omega arith in
       let first = subst (λ n. Leads (moves p) (running frames entry stack (entered slots 0 self arguments before)) (running frames place stack (entered slots n self arguments before))) e (nils_pass names 0 arguments stack entry (has_front p entry none (xs ++ ys) has)) in
       let rest = has_back p entry none (xs ++ ys) has in
-      let calm : Calm w0 = (record {
-        locals = size;
-        strong = nils_length names;
-        itself = refl;
-        waits = refl;
-        fine = record { there = nils_there names before.objects fine.there; dying = fine.dying };
-      }, refl) in
+      let calm : Calm w0 = (
+        record {
+          locals = size;
+          strong = nils_length names;
+          itself = refl;
+          waits = refl;
+          fine = record { there = nils_there names before.objects fine.there; dying = fine.dying };
+        },
+        refl,
+      ) in
       leads_runs (moves p) (λ (x : ℤ) w2. Kept frames before w2) bound (running frames entry stack (entered slots 0 self arguments before)) (running frames place stack w0) leaving (called D bound (record { slots = slots; names = names; body = body }) self arguments before) first
       (then_runs (moves p) Good (λ (x : ℤ) w2. Kept frames before w2) bound (running frames place stack w0) (flows (place + length xs)) leaving (all_executed D bound body w0) (λ flow w1. then_do (variables_dropped D 0 names w1) (λ _ w2. Done (given flow) (left before w2))) (all_runs body place (has_front p place xs ys rest) w0 calm) (λ flow w1 g1.
       flow_leaves flow (place + length xs) w1 g1 (has_back p place xs ys rest) leave))

@@ -9,7 +9,7 @@ use Rattle.arc_spec.specs.Meaning.{field_count}
 use Rattle.arc_spec.specs.Holding.{count_of}
 use Rattle.arc_spec.specs.Resolved as resolved
 use Rattle.arc_ir.specs.Acting.{Program}
-use Rattle.arc_lower.specs.Lowered.{entries_of, passes, stub_orders, dealloc_orders, methods_orders, class_orders, classes_orders, linked_methods, linked_dealloc, linked_class, linked_classes, running_orders, classes_linked}
+use Rattle.arc_lower.specs.Lowered.{entries_of, passes, stub_orders, dealloc_orders, methods_orders, class_orders, classes_orders, linked_methods, linked_dealloc, linked_classes, running_orders, classes_linked}
 use Rattle.arc_lower.proofs.Doing.{HasAt, has_front, has_back}
 
 -- a function's stub for so many numbers stands at a place

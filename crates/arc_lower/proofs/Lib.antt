@@ -29,6 +29,7 @@ mod Calling
 mod Rising
 mod Safety
 mod Staying
+mod Leaving
 mod Sounding
 mod Transferring
 mod Whole

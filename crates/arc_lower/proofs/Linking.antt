@@ -1,14 +1,17 @@
 -- Each function stands at its entry.
-use Rattle.std.proofs.Common.{◌≡◌, ℕ, zero, suc, ◌+◌, ◌<◌, ◌≤◌, Bool, true, false, max, nat_lt, if◌then◌else◌, List, [], ◌∷◌, ◌++◌, length, Some, refl, ap, ◌∙◌, subst, arith, slice_get, slice_index_or}
+use Rattle.std.proofs.Common.{◌≡◌, ℕ, ℤ, zero, suc, ◌+◌, ◌<◌, ◌≤◌, Bool, true, false, max, nat_lt, if◌then◌else◌, List, [], ◌∷◌, ◌++◌, length, Some, refl, ap, ◌∙◌, subst, arith, slice_get, slice_index_or}
 use Rattle.std.proofs.lemmas.Bool.{ltb-true, ltb-false}
 use Rattle.arc_spec.specs.Classes.{Class}
 use Rattle.arc_spec.specs.Resolved.{Function}
 use Rattle.arc_spec.specs.Resolved as resolved
-use Rattle.arc_spec.specs.Meaning.{function_at}
-use Rattle.arc_ir.specs.Acting.{Program}
+use Rattle.arc_spec.specs.Meaning.{function_at, most_levels}
+use Rattle.arc_spec.specs.Holding.{Held, Frame}
+use Rattle.arc_spec.specs.Stepping.{on_found}
+use Rattle.arc_ir.specs.Acting.{Program, has_level, enters, step}
 use Rattle.arc_lower.specs.Order.{Order, Call, Return, EndStep, orders}
-use Rattle.arc_lower.specs.Lowered.{nothing, all_functions, number_of, slots_of, zero_orders, end_step_of, leave_orders, body_orders, entry_of, function_orders, functions_orders, entries_from, longest_from, start_orders, running_orders, lowered, entries_of, classes_orders}
+use Rattle.arc_lower.specs.Lowered.{nothing, all_functions, number_of, slots_of, zero_orders, end_step_of, entry_of, function_orders, functions_orders, entries_from, longest_from, start_orders, running_orders, lowered, entries_of, classes_orders}
 use Rattle.arc_lower.proofs.Rows.{zeros_length}
+use Rattle.arc_lower.proofs.Recounting.{at}
 use Rattle.arc_lower.proofs.Doing.{HasAt, has_front, has_back, has_all}
 
 -- how many actions the longest function has, or the start
@@ -22,6 +25,12 @@ pub record Begins (p : Program) (R : resolved.Program) (n : ℕ) (f : Function) 
   pub first : slice_index_or (entries_of R) n 0 ≡ entry_of place f
   pub code : HasAt p place (function_orders R place f)
   pub small : length (function_orders R place f) ≤ longest R
+
+-- the step of a call
+pub call_enters : (p : Program) (R : resolved.Program) (f : ℕ) (b : Begins p R (number_of R f) (function_at R f)) (pc : ℕ) (frames : List Frame) (stack : List ℤ) (held : Held) (more : Bool) → HasAt p pc (Call (number_of R f) ∷ []) → nat_lt (length frames) most_levels ≡ more → step p (at frames pc stack held) ≡ enters (at frames pc stack held) (entry_of b.place (function_at R f)) 0 more
+call_enters p R f b pc frames stack held more has e =
+    let s = at frames pc stack held in
+    has.0 frames stack held ∙ ap (λ o. on_found o (λ to. enters s to 0 (has_level s))) b.entry ∙ ap (enters s (entry_of b.place (function_at R f)) 0) e
 
 record Found (p : Program) (R : resolved.Program) (entries : List ℕ) (most n : ℕ) (f : Function) : Type 0 where
   place : ℕ

@@ -6,17 +6,17 @@ use Rattle.arc_spec.specs.Objects.{Object, Dying, object_at, with_object, in_pha
 use Rattle.arc_spec.specs.World as world
 use Rattle.arc_spec.specs.World.{World, Outcome, Done, finished, Finished, places, with_temporaries, with_strong, stores, name_at}
 use Rattle.arc_spec.specs.Meaning.{Deeper, released, temporaries_dropped, all_dropped, assigned, variables_dropped}
-use Rattle.arc_spec.specs.Holding.{Held, Frame, holders, with_places, with_things, raised, lowered, placed, holds}
-use Rattle.arc_spec.specs.Stepping.{Next, Reached, on_found, follow}
+use Rattle.arc_spec.specs.Holding.{Held, Frame, holders, with_places, with_things, raised, lowered, holds}
+use Rattle.arc_spec.specs.Stepping.{Reached, on_found, follow}
 use Rattle.arc_ir.specs.Acting.{Program, State, keeps, has_level, begins_end, releases}
-use Rattle.arc_lower.specs.Order.{Order, Drop, StoreStrong, Empty}
+use Rattle.arc_lower.specs.Order.{Drop, StoreStrong, Empty}
 use Rattle.arc_lower.specs.Lowered.{drop_orders, store_orders, empty_orders, all_empty_orders}
 use Rattle.arc_lower.proofs.CountsPlaces.{tally, one_more_if, tally_same, holders_head, holders_set, last_one}
 use Rattle.arc_lower.proofs.CountsThere.{IsThere, AllThere, rest_there, stored_there, place_there}
 use Rattle.arc_lower.proofs.CountsAgreeing.{object_goes, holds_goes}
-use Rattle.arc_lower.proofs.Leading.{Leads, leads_same, Runs, then_runs, better_runs}
+use Rattle.arc_lower.proofs.Leading.{leads_same, Runs, better_runs}
 use Rattle.arc_lower.proofs.Recounting.{recount, moves, at, held_of}
-use Rattle.arc_lower.proofs.Doing.{does, HasAt}
+use Rattle.arc_lower.proofs.Doing.{does}
 use Rattle.arc_lower.proofs.Segments.{running, Segment, then_segment, one_segment, quiet}
 use Rattle.arc_lower.proofs.Standing.{Fine, Kept, get_variable, set_variable, get_front, set_front}
 
@@ -108,11 +108,14 @@ module _ (p : Program) (frames : List Frame) (bound : ℕ) (D : Deeper) (ends : 
       let fine2 : Fine frames w2.objects (places (with_temporaries w2 others)) = subst (λ (x : World). Fine frames w2.objects (places x)) (sym e) k.fine in
       let behind = q + length (drop_orders (length others)) in
       subst (λ (x : World). Runs (moves p) (λ (done : Finished) w3. Kept frames none w3) bound (running frames q stack x) (stays stack behind) (temporaries_dropped D others x)) e
-      (better_runs (moves p) (λ (done : Finished) w3. Kept frames (with_temporaries w2 []) w3) (λ (done : Finished) w3. Kept frames none w3) bound (running frames q stack (with_temporaries w2 others)) (stays stack behind) (stays stack behind) (temporaries_dropped D others (with_temporaries w2 others)) (λ done w3 k3. (record {
-        frame = k3.frame ∙ ap (λ (f : world.Frame). (with_temporaries (world.with_frame w2 f) []).frame) k.frame;
-        waiting = k3.waiting ∙ k.waiting;
-        fine = k3.fine;
-      }, refl)) (drops_segment others stack w2 fine2 q has)))
+      (better_runs (moves p) (λ (done : Finished) w3. Kept frames (with_temporaries w2 []) w3) (λ (done : Finished) w3. Kept frames none w3) bound (running frames q stack (with_temporaries w2 others)) (stays stack behind) (stays stack behind) (temporaries_dropped D others (with_temporaries w2 others)) (λ done w3 k3. (
+        record {
+          frame = k3.frame ∙ ap (λ (f : world.Frame). (with_temporaries (world.with_frame w2 f) []).frame) k.frame;
+          waiting = k3.waiting ∙ k.waiting;
+          fine = k3.fine;
+        },
+        refl,
+      )) (drops_segment others stack w2 fine2 q has)))
 
   -- all temporaries, of which there are so many
   pub dropped_segment : (n : ℕ) (stack : List ℤ) (w : World) → n ≡ length w.frame.temporaries → Fine frames w.objects (places w) → Segment p frames bound (λ (done : Finished) w2. Kept frames (with_temporaries w []) w2) (drop_orders n) stack w (stays stack) (all_dropped D w)
@@ -207,8 +210,11 @@ module _ (p : Program) (frames : List Frame) (bound : ℕ) (D : Deeper) (ends : 
       let behind = q + length (all_empty_orders names' first n) in
       let size2 = ap (λ (f : world.Frame). length f.strong) k.frame ∙ length-set w.frame.strong i 0 ∙ size in
       let none2 = ap (λ (f : world.Frame). f.temporaries) k.frame ∙ none in
-      better_runs (moves p) (λ (done : Finished) w3. Kept frames (emptied first n w2) w3) (λ (done : Finished) w3. Kept frames end w3) bound (running frames q stack w2) (stays stack behind) (stays stack behind) (variables_dropped D first n w2) (λ done w3 k3. (record {
-        frame = k3.frame ∙ ap (λ (f : world.Frame). (emptied first n (world.with_frame w2 f)).frame) k.frame;
-        waiting = k3.waiting ∙ k.waiting;
-        fine = k3.fine;
-      }, refl)) (empties_segment names' first n stack w2 size2 none2 k.fine q has))
+      better_runs (moves p) (λ (done : Finished) w3. Kept frames (emptied first n w2) w3) (λ (done : Finished) w3. Kept frames end w3) bound (running frames q stack w2) (stays stack behind) (stays stack behind) (variables_dropped D first n w2) (λ done w3 k3. (
+        record {
+          frame = k3.frame ∙ ap (λ (f : world.Frame). (emptied first n (world.with_frame w2 f)).frame) k.frame;
+          waiting = k3.waiting ∙ k.waiting;
+          fine = k3.fine;
+        },
+        refl,
+      )) (empties_segment names' first n stack w2 size2 none2 k.fine q has))

@@ -129,6 +129,14 @@ pub rise_zeros : (n : ℕ) → rise (zero_orders n) ≡ n
 rise_zeros zero = refl
 rise_zeros (suc n) = let h = rise_zeros n in omega (arith, h)
 
+pub grow_pops : (n : ℕ) → grow (pop_orders n) ≡ 0
+grow_pops zero = refl
+grow_pops (suc n) = let h = grow_pops n in omega (arith, h)
+
+pub grow_zeros : (n : ℕ) → grow (zero_orders n) ≡ 0
+grow_zeros zero = refl
+grow_zeros (suc n) = let h = grow_zeros n in omega (arith, h)
+
 pub grow_nils : (n : ℕ) → grow (nil_orders n) ≡ n
 grow_nils zero = refl
 grow_nils (suc n) = let h = grow_nils n in omega (arith, h)

@@ -15,7 +15,7 @@ use Rattle.arc_spec.specs.Resolved as resolved
 use Rattle.arc_spec.specs.Holding.{Held, Frame, with_places, with_things, lowered, raised, placed, holds, on_place, on_field, makes, with_field}
 use Rattle.arc_spec.specs.Stepping.{Next, Faults, Along, on_top, on_found}
 use Rattle.arc_ir.specs.Acting.{Program, State, keeps, or_fault, has_level, answers, taken, sends, sends_up, allocates, difference, begins_end, releases}
-use Rattle.arc_lower.specs.Order.{Order, Num, Bin, Un, Narrow, Pop, Get, Set, PrintText, PrintNum, PrintByte, GetChar, Call, Send, SendSuper, Nil, HoldSelf, Hold, StoreStrong, Drop, Empty, Alloc, GetField, SetField, Differ, IsObject, SendTo, SendToSuper}
+use Rattle.arc_lower.specs.Order.{Order, Num, Bin, Un, Narrow, Pop, Get, Set, PrintText, PrintNum, PrintByte, GetChar, Jump, Call, Send, SendSuper, Nil, HoldSelf, Hold, StoreStrong, Drop, Empty, Alloc, GetField, SetField, Differ, IsObject, SendTo, SendToSuper}
 use Rattle.arc_lower.specs.Lowered.{value_count, value_takes, reference_takes, values_take, format_orders, pop_orders, keep_orders, print_orders, get_orders, set_orders, zero_orders, fit_orders, drop_orders, store_orders, number_of, slots_of, passes, call_orders, value_orders, reference_orders, all_value_orders}
 use Rattle.arc_lower.proofs.CountsThere.{IsThere, AllThere, place_there}
 use Rattle.arc_lower.proofs.CountsKept.{Sane}
@@ -105,8 +105,8 @@ module _ (p : Program) (g : Stage) (limit few : ℕ) (within : limit ≤ p.room)
   }
     where
       steps : (x : Order) (height own after left : ℕ) → ((n pc : ℕ) (stack : List ℤ) (held : Held) (mine : List ℕ) → height + lift x ≤ limit → own + makes_place x ≤ few → length stack ≡ height → length mine ≡ own → Owns g mine held → Sane held → Until p g n (pc + 1) after left → Along (SafeIfSane p n) (does p x (at g.frames pc stack held))) → height + lift x ≤ limit → own + makes_place x ≤ few → (n pc : ℕ) → HasAt p pc (x ∷ []) → Until p g n (pc + 1) after left → SafeAt p g n pc height own
-      steps x height own after left h fits some zero pc has behind stack held mine e f o sane = roomy height own zero pc (omega (arith, fits)) (omega (arith, some)) stack held mine e f o
-      steps x height own after left h fits some (suc n) pc has behind stack held mine e f o sane = subst (Along (SafeIfSane p n)) (sym (has.0 g.frames stack held)) (h n pc stack held mine fits some e f o sane (λ m le. behind m (omega (arith, le))))
+      steps x height own after left h fits some zero pc has behind stack held mine e f o = λ sane. roomy height own zero pc (omega (arith, fits)) (omega (arith, some)) stack held mine e f o
+      steps x height own after left h fits some (suc n) pc has behind stack held mine e f o = λ sane. subst (Along (SafeIfSane p n)) (sym (has.0 g.frames stack held)) (h n pc stack held mine fits some e f o sane (λ m le. behind m (omega (arith, le))))
 
   pub no_keeps : (height own after left : ℕ) → height ≡ after → own ≡ left → Keeps [] height own after left
   no_keeps height own after left same alike = record {
@@ -116,6 +116,11 @@ module _ (p : Program) (g : Stage) (limit few : ℕ) (within : limit ≤ p.room)
         let h : pc + 0 ≡ pc = omega arith in
         subst (λ q. SafeIfSane p n (at g.frames q stack held)) h (behind n (omega arith) stack held mine (e ∙ same) (f ∙ alike) o);
   }
+
+  -- a jump is safe where the place that it leads to is
+  pub jump_safe : (height own : ℕ) → height ≤ limit → own ≤ few → (n pc to : ℕ) → HasAt p pc (Jump to ∷ []) → ((m : ℕ) → m < n → SafeAt p g m to height own) → SafeAt p g n pc height own
+  jump_safe height own fits some zero pc to has there stack held mine e f o = λ sane. roomy height own zero pc fits some stack held mine e f o
+  jump_safe height own fits some (suc n) pc to has there stack held mine e f o = λ sane. subst (Along (SafeIfSane p n)) (sym (has.0 g.frames stack held)) (there n (omega arith) stack held mine e f o)
 
   pub num_keeps : (v : ℤ) (height own : ℕ) → Keeps (Num v ∷ []) height own (suc height) own
   num_keeps v height own = one_keeps (Num v) height own (suc height) own (omega arith) (omega arith) (λ n pc stack held mine fits some e f o sane behind. behind n (omega arith) (v ∷ stack) held mine (ap suc e) f o)
@@ -272,12 +277,16 @@ module _ (p : Program) (g : Stage) (limit few : ℕ) (within : limit ≤ p.room)
     pub store_keeps : (depth height own : ℕ) → depth < own → Keeps (StoreStrong depth ∷ []) height (suc own) height (suc own)
     store_keeps depth height own lt = one_keeps (StoreStrong depth) height (suc own) height (suc own) (omega arith) (omega arith) (λ n pc stack held mine fits some e f o sane behind. store_by depth height own n pc stack held mine lt (omega (arith, fits)) (omega (arith, some)) e f o sane behind)
 
-    pub empty_keeps : (depth height own : ℕ) → depth < own → Keeps (Empty depth ∷ []) height own height own
-    empty_keeps depth height own lt = one_keeps (Empty depth) height own height own (omega arith) (omega arith) (λ n pc stack held mine fits some e f o sane behind.
-        found_along p n held.places depth _ (within_own depth own mine held lt f o) (λ r found.
+    -- a place is emptied, and the others are as they were
+    pub empty_safe : (depth height own n pc : ℕ) (stack : List ℤ) (held : Held) (mine : List ℕ) → depth < own → height ≤ limit → own ≤ few → length stack ≡ height → length mine ≡ own → Owns g mine held → Sane held → UntilOn p g n (pc + 1) height (slice_set mine depth 0) → Along (SafeIfSane p n) (does p (Empty depth) (at g.frames pc stack held))
+    empty_safe depth height own n pc stack held mine lt fits some e f o sane behind = found_along p n held.places depth _ (within_own depth own mine held lt f o) (λ r found.
         let set = ap (λ l. slice_set l depth 0) o.is ∙ set_front mine g.waiting depth 0 (omega (arith, lt, f)) in
         let many : length (slice_set mine depth 0) ≡ own = length-set mine depth 0 ∙ f in
-        releases_safe r n pc height stack held (raised 0 (with_places held (slice_set held.places depth 0))) (slice_set mine depth 0) (omega (arith, fits)) (omega (arith, many, some)) e o.itself (place_there held.objects depth r held.places found sane.there) (record { is = set; itself = o.itself; dying = o.dying }) (until_on p g n (pc + 1) height own (slice_set mine depth 0) many behind)))
+        releases_safe r n pc height stack held (raised 0 (with_places held (slice_set held.places depth 0))) (slice_set mine depth 0) fits (omega (arith, many, some)) e o.itself (place_there held.objects depth r held.places found sane.there) (record { is = set; itself = o.itself; dying = o.dying }) behind)
+
+    pub empty_keeps : (depth height own : ℕ) → depth < own → Keeps (Empty depth ∷ []) height own height own
+    empty_keeps depth height own lt = one_keeps (Empty depth) height own height own (omega arith) (omega arith) (λ n pc stack held mine fits some e f o sane behind.
+        empty_safe depth height own n pc stack held mine lt (omega (arith, fits)) (omega (arith, some)) e f o sane (until_on p g n (pc + 1) height own (slice_set mine depth 0) (length-set mine depth 0 ∙ f) behind))
 
     -- ---- objects
 

@@ -4,7 +4,7 @@ use Rattle.std.proofs.lemmas.Bool.{cases_eq, false≢true}
 use Rattle.arc_spec.specs.Objects.{Object, Phase, Dying, object_at, object_live, is_live}
 use Rattle.arc_spec.specs.World as world
 use Rattle.arc_spec.specs.World.{World, frame_places, places}
-use Rattle.arc_spec.specs.Holding.{Frame, Calling, Ending, is_there, holders}
+use Rattle.arc_spec.specs.Holding.{Frame, Calling, Ending, is_there}
 use Rattle.arc_lower.proofs.CountsPlaces.{holders_append}
 use Rattle.arc_lower.proofs.CountsHeld.{set_other}
 use Rattle.arc_lower.proofs.CountsThere.{IsThere, AllThere, fewer_there, set_here, get_first}

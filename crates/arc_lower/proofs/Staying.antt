@@ -1,21 +1,19 @@
 -- Statements keep the stack and the places to limits.
-use Rattle.std.proofs.Common.{◌≡◌, ℕ, zero, suc, ◌+◌, ◌-◌, ◌<◌, ◌≤◌, ℤ, pos, Bool, true, false, nat_lt, if◌then◌else◌, List, [], ◌∷◌, ◌++◌, length, Some, None, slice_get, slice_set, refl, sym, ap, ◌∙◌, subst, arith, length-append}
+use Rattle.std.proofs.Common.{◌≡◌, ℕ, zero, suc, ◌+◌, ◌-◌, ◌≤◌, pos, Bool, true, false, nat_lt, if◌then◌else◌, List, [], ◌∷◌, ◌++◌, length, Some, None, refl, sym, subst, arith, length-append}
 use Rattle.std.proofs.lemmas.Bool.{ltb-true}
 use Rattle.arc_spec.specs.Number.{is_zero}
 use Rattle.arc_spec.specs.Resolved.{Value, Reference, Command, Sequence, Evaluate, EvaluateReference, Begin, Choose, Repeat, Commands, no_commands, and_command}
 use Rattle.arc_spec.specs.Resolved as resolved
 use Rattle.arc_spec.specs.Meaning.{chosen}
-use Rattle.arc_spec.specs.Holding.{Held}
 use Rattle.arc_spec.specs.Stepping.{Next, Goes, Along}
-use Rattle.arc_ir.specs.Acting.{Program, State, leaves}
+use Rattle.arc_ir.specs.Acting.{Program, State}
 use Rattle.arc_lower.specs.Order.{Order, Num, Pop, Jump, JumpZero, Empty}
 use Rattle.arc_lower.specs.Lowered.{value_takes, reference_takes, value_orders, reference_orders, drop_orders, store_orders, empty_orders, all_empty_orders, whole_orders, whole_reference_orders, begin_orders, command_orders, all_command_orders}
-use Rattle.arc_lower.proofs.CountsKept.{Sane}
 use Rattle.arc_lower.proofs.CountsSound.{SafeIfSane}
 use Rattle.arc_lower.proofs.Recounting.{at}
 use Rattle.arc_lower.proofs.Doing.{HasAt, has_front, has_back}
 use Rattle.arc_lower.proofs.Rising.{rise, rise_append, grow, grow_append}
-use Rattle.arc_lower.proofs.Safety.{Stage, Owns, SafeAt, Until, CallsSafe, top_along, Keeps, roomy, then_keeps, no_keeps, num_keeps, pop_keeps, empty_keeps, drops_keep, alike, stored_keeps, positive, value_keeps, reference_keeps}
+use Rattle.arc_lower.proofs.Safety.{Stage, SafeAt, Until, CallsSafe, top_along, Keeps, roomy, then_keeps, no_keeps, num_keeps, jump_safe, pop_keeps, empty_keeps, drops_keep, alike, stored_keeps, positive, value_keeps, reference_keeps}
 
 module _ (p : Program) (g : Stage) (limit few : ℕ) (within : limit ≤ p.room) (enough : few + length g.waiting ≤ p.places) (R : resolved.Program) (slots names below : ℕ) (safe_calls : CallsSafe p R limit few g) (exit : ℕ) where
   -- the variables alone
@@ -70,18 +68,14 @@ module _ (p : Program) (g : Stage) (limit few : ℕ) (within : limit ≤ p.room)
   chosen_along true n x y h i = i
 
   branch_safe : suc high ≤ limit → names ≤ few → (n pc to : ℕ) → HasAt p pc (JumpZero to ∷ []) → Until p g n (pc + 1) high names → Until p g n to high names → SafeAt p g n pc (suc high) names
-  branch_safe fits some zero pc to has one two stack held mine e f o sane = roomy p g limit few within enough (suc high) names zero pc fits some stack held mine e f o
-  branch_safe fits some (suc n) pc to has one two stack held mine e f o sane =
+  branch_safe fits some zero pc to has one two stack held mine e f o = λ sane. roomy p g limit few within enough (suc high) names zero pc fits some stack held mine e f o
+  branch_safe fits some (suc n) pc to has one two stack held mine e f o = λ sane.
       subst (Along (SafeIfSane p n)) (sym (has.0 g.frames stack held)) (top_along p n high stack _ e (λ v rest r. chosen_along (is_zero v) n (Goes (at g.frames (pc + 1) rest held) []) (Goes (at g.frames to rest held) []) (one n (omega arith) rest held mine r f o) (two n (omega arith) rest held mine r f o)))
 
-  jump_safe : (height : ℕ) → height ≤ limit → names ≤ few → (n pc to : ℕ) → HasAt p pc (Jump to ∷ []) → ((m : ℕ) → m < n → SafeAt p g m to height names) → SafeAt p g n pc height names
-  jump_safe height fits some zero pc to has there stack held mine e f o sane = roomy p g limit few within enough height names zero pc fits some stack held mine e f o
-  jump_safe height fits some (suc n) pc to has there stack held mine e f o sane = subst (Along (SafeIfSane p n)) (sym (has.0 g.frames stack held)) (there n (omega arith) stack held mine e f o)
-
   returns : suc high ≤ limit → names ≤ few → (n pc : ℕ) → HasAt p pc (Jump exit ∷ []) → Until p g n exit (suc high) names → SafeAt p g n pc (suc high) names
-  returns fits some n pc has left = jump_safe (suc high) fits some n pc exit has (λ m lt. left m (omega (arith, lt)))
+  returns fits some n pc has left = jump_safe p g limit few within enough (suc high) names fits some n pc exit has (λ m lt. left m (omega (arith, lt)))
 
-  zero_returns : suc high ≤ limit → names ≤ few → (n pc : ℕ) → HasAt p pc (Num (pos 0) ∷ Jump exit ∷ []) → Until p g n exit (suc high) names → SafeAt p g n pc high names
+  pub zero_returns : suc high ≤ limit → names ≤ few → (n pc : ℕ) → HasAt p pc (Num (pos 0) ∷ Jump exit ∷ []) → Until p g n exit (suc high) names → SafeAt p g n pc high names
   zero_returns fits some n pc has left =
       let keeps = num_keeps p g limit few within enough (pos 0) high names in
       keeps.safe (omega (arith, fits)) (omega (arith, some)) n pc (has.0, tt) (λ m le. returns fits some m (pc + 1) has.1 (λ j le2. left j (omega (arith, le, le2))))
@@ -101,7 +95,7 @@ module _ (p : Program) (g : Stage) (limit few : ℕ) (within : limit ≤ p.room)
         (whole test).safe fit_test few_test n place h1 (λ m le1.
         branch_safe top (omega (arith, some)) m tested behind_loop h2
         (λ m2 le2. body fits some m2
-        (λ m3 le3. jump_safe high (omega (arith, top)) (omega (arith, some)) m3 (tested + 1 + length xs) place h3 (λ m4 lt. loop_safe fuel m4 (omega (arith, le, le1, le2, le3, lt)) h1 h2 h3 (λ j le5. behind j (omega (arith, le1, le2, le3, lt, le5))) (λ j le5. left j (omega (arith, le1, le2, le3, lt, le5)))))
+        (λ m3 le3. jump_safe p g limit few within enough high names (omega (arith, top)) (omega (arith, some)) m3 (tested + 1 + length xs) place h3 (λ m4 lt. loop_safe fuel m4 (omega (arith, le, le1, le2, le3, lt)) h1 h2 h3 (λ j le5. behind j (omega (arith, le1, le2, le3, lt, le5))) (λ j le5. left j (omega (arith, le1, le2, le3, lt, le5)))))
         (λ j le3. left j (omega (arith, le1, le2, le3))))
         (λ m2 le2. behind m2 (omega (arith, le1, le2))))
 
@@ -147,7 +141,7 @@ module _ (p : Program) (g : Stage) (limit few : ℕ) (within : limit ≤ p.room)
         (whole test).safe (omega (arith, r1, r2, fits)) (omega (arith, q1, q2, some)) n place (has_front p place t rest has) (λ m le.
         branch_safe top (omega (arith, some)) m q two (behind_test.0, tt)
         (λ m2 le2. command_safe a one top (has_front p one xs (Jump end ∷ ys) behind_test.1) (omega (arith, r1, r2, fits)) (omega (arith, q1, q2, some)) m2
-        (λ m3 le3. jump_safe high (omega (arith, top)) (omega (arith, some)) m3 (one + length xs) end (behind_one.0, tt) (λ m4 lt. last m4 (omega (arith, le, le2, le3, lt))))
+        (λ m3 le3. jump_safe p g limit few within enough high names (omega (arith, top)) (omega (arith, some)) m3 (one + length xs) end (behind_one.0, tt) (λ m4 lt. last m4 (omega (arith, le, le2, le3, lt))))
         (λ j le3. left j (omega (arith, le, le2, le3))))
         (λ m2 le2. command_safe b two top behind_one.1 (omega (arith, r1, r2, fits)) (omega (arith, q1, q2, some)) m2 (λ m3 le3. last m3 (omega (arith, le, le2, le3))) (λ j le3. left j (omega (arith, le, le2, le3)))))
     command_safe (Repeat test c) place top has = λ fits some n behind left.

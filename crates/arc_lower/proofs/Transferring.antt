@@ -1,22 +1,22 @@
 -- Steps show what they show where each count is the number of places.
-use Rattle.std.proofs.Common.{◌≡◌, ℕ, zero, suc, ◌+◌, ◌-◌, Bool, true, false, ◌&&◌, nat_eq, if◌then◌else◌, ℤ, pos, List, [], ◌∷◌, Option, Some, None, slice_get, slice_set, slice_index_or, refl, sym, ap, ◌∙◌, subst}
+use Rattle.std.proofs.Common.{◌≡◌, ℕ, zero, suc, ◌+◌, ◌-◌, Bool, true, false, ◌&&◌, nat_eq, if◌then◌else◌, ℤ, List, [], ◌∷◌, Option, Some, None, slice_get, slice_set, refl, sym, ap, ◌∙◌, subst}
 use Rattle.arc_ast.specs.declared.tree.Sign.TheVariants as signs
 use Rattle.arc_spec.specs.declared.event.Event.{Event}
 use Rattle.arc_spec.specs.declared.event.Fault.TheVariants.{Resurrected}
 use Rattle.arc_spec.specs.Classes.{Class, class_at, lookup, descends}
-use Rattle.arc_spec.specs.Number.{combined, is_zero, byte_or_end}
+use Rattle.arc_spec.specs.Number.{combined, is_zero}
 use Rattle.arc_spec.specs.Meaning.{chosen}
 use Rattle.arc_spec.specs.Objects.{Object, Dying, object_at, with_object, in_phase, is_live}
 use Rattle.arc_spec.specs.Stepping.{Next, Goes, Asks, Ends, Faults, Stuck, Reached, Running, Ended, Faulted, Wedged, fed, follow, further, after_steps, on_top, on_two, on_found, only_if}
 use Rattle.arc_spec.specs.Correct.{run_seen}
-use Rattle.arc_spec.specs.Holding.{Held, Frame, Calling, Ending, Counted, holders, with_places, with_things, lowered, raised, is_there, on_object, on_place, holds, forgets, on_field, with_field, gone_in}
+use Rattle.arc_spec.specs.Holding.{Held, Frame, Calling, Ending, Counted, holders, with_things, lowered, is_there, on_object, on_place, holds, forgets, on_field, gone_in}
 use Rattle.arc_ir.specs.declared.action.Action.{Action}
 use Rattle.arc_ir.specs.declared.action.Action.TheVariants.{Num, Bin, Un, Narrow, Pop, Get, Set, PrintText, PrintNum, PrintByte, GetChar, Jump, JumpZero, Call, Send, SendSuper, Return, Nil, HoldSelf, Hold, StoreStrong, Drop, Empty, Forget, Alloc, GetField, SetField, Differ, IsObject, SendTo, SendToSuper, EndStep}
 use Rattle.arc_ir.specs.Acting.{Program, State, start, or_fault, has_level, enters, answers, taken, sends, sends_up, begins_end, releases, ends_object, runs_dealloc, ends_class, end_goes_on, leaves, allocates, acts, step, seen}
 use Rattle.arc_lower.proofs.CountsHeld.{nothing_counted}
 use Rattle.arc_lower.proofs.CountsSteps.{After, top_after, two_after, found_after, if_after, object_after, place_after, holds_after, field_after}
 use Rattle.arc_lower.proofs.CountsActing.{counts_kept}
-use Rattle.arc_lower.proofs.Recounting.{recounted, fresh, recount, moves}
+use Rattle.arc_lower.proofs.Recounting.{fresh, recount, moves}
 
 -- no end of nil is running
 abbrev pub NamedEnds : List Frame → Type 0

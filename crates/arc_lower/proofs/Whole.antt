@@ -1,5 +1,5 @@
 -- The actions of a checked program perform it.
-use Rattle.std.proofs.Common.{◌≡◌, ℕ, ◌+◌, ℤ, List, [], ◌∷◌, length, refl, ap, ◌∙◌, arith}
+use Rattle.std.proofs.Common.{◌≡◌, ℕ, ◌+◌, ℤ, List, [], ◌∷◌, length, ap, ◌∙◌, arith}
 use Rattle.arc_ast.specs.declared.tree.Kind.TheVariants as k
 use Rattle.arc_spec.specs.Number.{converted}
 use Rattle.arc_spec.specs.Resolved as resolved
@@ -23,6 +23,7 @@ use Rattle.arc_lower.proofs.Standing.{Fine, Kept}
 use Rattle.arc_lower.proofs.Linking.{has_start, has_end, has_stubs, begins}
 use Rattle.arc_lower.proofs.Finding.{Linked, linked}
 use Rattle.arc_lower.proofs.Calling.{calls_run}
+use Rattle.arc_lower.proofs.Sounding.{lowered_sound}
 use Rattle.arc_lower.proofs.Transferring.{seen_moves}
 
 -- what is seen of a run that does what is meant
@@ -61,5 +62,5 @@ module _ (p : Program) (R : resolved.Program) (is : orders p.actions ≡ lowered
       record {
         behaves = behaves (λ input bound. meaning_seen (mean R input bound)) (seen p) calm (λ input bound. shows p (λ v w. Unit {0}) input bound (mean R input bound) (program_runs input bound));
         steady = calm;
-        sound = ?;
+        sound = lowered_sound p R is entries classes end room places;
       }

@@ -57,7 +57,11 @@ pub(crate) fn append_value(
         Value::Combined(operator, kind, left, right) => {
             let temporaries = append_value(alloc, actions, program, frame, left)?;
             let operands = one_more(frame.operands)?;
-            let above = Frame { operands, temporaries, ..frame };
+            let above = Frame {
+                operands,
+                temporaries,
+                ..frame
+            };
             let there = append_value(alloc, actions, program, above, right)?;
             append(actions, Action::Bin(*operator, *kind))?;
             Ok(there)
@@ -84,7 +88,11 @@ pub(crate) fn append_value(
         Value::Sent(receiver, selector, arguments) => {
             let temporaries = append_value(alloc, actions, program, frame, receiver)?;
             let operands = one_more(frame.operands)?;
-            let above_receiver = Frame { operands, temporaries, ..frame };
+            let above_receiver = Frame {
+                operands,
+                temporaries,
+                ..frame
+            };
             let there = append_values(alloc, actions, program, above_receiver, arguments)?;
             append(actions, Action::Send(*selector, arguments.len()))?;
             Ok(there)
@@ -100,7 +108,10 @@ pub(crate) fn append_value(
         }
         Value::SentTo(receiver, selector, arguments) => {
             let temporaries = append_reference(alloc, actions, program, frame, receiver)?;
-            let above = Frame { temporaries, ..frame };
+            let above = Frame {
+                temporaries,
+                ..frame
+            };
             let there = append_values(alloc, actions, program, above, arguments)?;
             let depth = there.saturating_sub(temporaries);
             let count = arguments.len();
@@ -110,7 +121,10 @@ pub(crate) fn append_value(
         Value::SentToSuper(from, selector, arguments) => {
             append(actions, Action::HoldSelf)?;
             let temporaries = one_more(frame.temporaries)?;
-            let above = Frame { temporaries, ..frame };
+            let above = Frame {
+                temporaries,
+                ..frame
+            };
             let there = append_values(alloc, actions, program, above, arguments)?;
             let count = arguments.len();
             append(actions, Action::SendToSuper(*from, *selector, count))?;
@@ -123,7 +137,10 @@ pub(crate) fn append_value(
         }
         Value::FieldAssigned(object, class, index, operand) => {
             let temporaries = append_reference(alloc, actions, program, frame, object)?;
-            let above = Frame { temporaries, ..frame };
+            let above = Frame {
+                temporaries,
+                ..frame
+            };
             let there = append_value(alloc, actions, program, above, operand)?;
             let depth = there.saturating_sub(temporaries);
             append(actions, Action::SetField(depth, *class, *index))?;
@@ -131,7 +148,10 @@ pub(crate) fn append_value(
         }
         Value::Differ(left, right) => {
             let temporaries = append_reference(alloc, actions, program, frame, left)?;
-            let above = Frame { temporaries, ..frame };
+            let above = Frame {
+                temporaries,
+                ..frame
+            };
             let there = append_reference(alloc, actions, program, above, right)?;
             let taken = there.saturating_sub(temporaries);
             append(actions, Action::Differ(taken.saturating_sub(1)))?;

@@ -211,6 +211,72 @@ fn class_of_objects(alloc: Global) -> Result<Vec<Class>, AllocError> {
     Ok(classes)
 }
 
+/// `int main() { P *p = nil; P *q = p; p = q; return p != q; }`
+fn comparer(alloc: Global) -> Result<CheckedFunction, AllocError> {
+    let stored = Reference::Stored(0, Box::new(alloc, Reference::Variable(1))?);
+    let left = Box::new(alloc, Reference::Variable(0))?;
+    let right = Box::new(alloc, Reference::Variable(1))?;
+    let statements = vec![in alloc;
+        Command::Begin(0, Reference::Nil),
+        Command::Begin(1, Reference::Variable(0)),
+        Command::EvaluateReference(stored),
+        Command::Return(Some(Value::Differ(left, right))),
+    ]?;
+    let body = vec![in alloc; Command::Sequence(0, 2, statements)]?;
+    Ok(CheckedFunction {
+        slots: 0,
+        names: 2,
+        body,
+    })
+}
+
+/// Q's `- (int)value { return [super value] + (self != nil); }`, with `value` as selector 0 and P, its
+/// superclass, as class 0
+fn value_of_object(alloc: Global) -> Result<CheckedFunction, AllocError> {
+    let above = Value::SentToSuper(0, 0, Vec::new(alloc));
+    let own = Value::IsObject(Box::new(alloc, Reference::Itself)?);
+    let sum = Value::Combined(
+        BinaryOperator::Add,
+        Kind::Int,
+        Box::new(alloc, above)?,
+        Box::new(alloc, own)?,
+    );
+    let body = vec![in alloc; Command::Return(Some(sum))]?;
+    Ok(CheckedFunction {
+        slots: 0,
+        names: 0,
+        body,
+    })
+}
+
+/// The classes P, and Q, whose superclass is P and whose instance method runs the function with number
+/// 1.
+fn root_and_branch(alloc: Global) -> Result<Vec<Class>, AllocError> {
+    let methods = vec![in alloc;
+        Method {
+            sign: Sign::Instance,
+            selector: 0,
+            takes: 0,
+            runs: 1
+        },
+    ]?;
+    let classes = vec![in alloc;
+        Class {
+            superclass: None,
+            methods: Vec::new(alloc),
+            dealloc: None,
+            fields: 2
+        },
+        Class {
+            superclass: Some(0),
+            methods,
+            dealloc: None,
+            fields: 2
+        },
+    ]?;
+    Ok(classes)
+}
+
 #[test]
 fn prints(rt: HostRuntime) -> Result<(), Fail> {
     let alloc = rt.alloc();
@@ -291,6 +357,47 @@ fn holds(rt: HostRuntime) -> Result<(), Fail> {
     assert_eq!(rt;
         lowered(alloc, &program)?.as_str(),
         "Ir { actions: [Call(0), Return, EndStep, Empty(0), Forget(1), Return, Nil, Num(0), Alloc, Hold(0), StoreStrong(1), Drop, Drop, Hold(0), Num(3), SetField(0, 0, 0), Drop, Pop, Hold(0), Num(1), SendTo(0, 0, 1), Drop, Jump(3), Empty(0), Num(0), Jump(3), Forget(0), Set(0), Return, HoldSelf, GetField(0, 0), Drop, Jump(26), Num(0), Jump(26), Forget(0), Return, Num(0), Jump(35), Forget(0), Return, Num(0), Jump(39), Jump(37), Jump(29)], entries: [6, 29, 37, 41], end_step: 2, room: 46000, places: 46000, classes: [Class { superclass: None, methods: [Method { sign: Instance, selector: 0, takes: 1, runs: 44 }], dealloc: Some(43), fields: 1 }] }"
+    );
+    Ok(())
+}
+
+#[test]
+fn compares(rt: HostRuntime) -> Result<(), Fail> {
+    let alloc = rt.alloc();
+    let unit = no_source(alloc);
+    let functions = vec![in alloc; comparer(alloc)?]?;
+    let program = Checked {
+        unit: &unit,
+        functions,
+        main: 0,
+        classes: Vec::new(alloc),
+    };
+    assert_eq!(rt;
+        lowered(alloc, &program)?.as_str(),
+        "Ir { actions: [Call(0), Return, EndStep, Empty(1), Empty(0), Forget(2), Return, Nil, Nil, Nil, StoreStrong(0), Drop, Hold(0), StoreStrong(1), Drop, Hold(1), StoreStrong(0), Hold(0), Drop, Drop, Hold(0), Hold(2), Differ(0), Drop, Drop, Jump(3), Empty(1), Empty(0), Num(0), Jump(3), Forget(0), Return, Num(0), Jump(30)], entries: [7, 32], end_step: 2, room: 54000, places: 54000, classes: [] }"
+    );
+    Ok(())
+}
+
+#[test]
+fn sends_to_super(rt: HostRuntime) -> Result<(), Fail> {
+    let alloc = rt.alloc();
+    let unit = no_source(alloc);
+    let idle = CheckedFunction {
+        slots: 0,
+        names: 0,
+        body: Vec::new(alloc),
+    };
+    let functions = vec![in alloc; idle, value_of_object(alloc)?]?;
+    let program = Checked {
+        unit: &unit,
+        functions,
+        main: 0,
+        classes: root_and_branch(alloc)?,
+    };
+    assert_eq!(rt;
+        lowered(alloc, &program)?.as_str(),
+        "Ir { actions: [Call(0), Return, EndStep, Forget(0), Return, Num(0), Jump(3), Forget(0), Return, HoldSelf, SendToSuper(0, 0, 0), HoldSelf, IsObject, Bin(Add, Int), Drop, Drop, Jump(7), Num(0), Jump(7), Forget(0), Return, Num(0), Jump(19), Jump(9)], entries: [5, 9, 21], end_step: 2, room: 24000, places: 24000, classes: [Class { superclass: None, methods: [], dealloc: None, fields: 2 }, Class { superclass: Some(0), methods: [Method { sign: Instance, selector: 0, takes: 0, runs: 23 }], dealloc: None, fields: 2 }] }"
     );
     Ok(())
 }

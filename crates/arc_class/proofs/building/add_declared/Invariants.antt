@@ -1,4 +1,4 @@
-use Rattle.std.proofs.Common.{◌≡◌, ◌++◌, ◌∷◌, ℕ, List, map, drop}
+use Rattle.std.proofs.Common.{◌≡◌, drop}
 use Rattle.arc_ast.specs.Tree.{interface_trees}
 use Rattle.arc_class.specs.Classes.{declared_selectors}
 use Rattle.arc_class.specs.Table.{names_of}

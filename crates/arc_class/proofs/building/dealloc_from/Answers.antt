@@ -1,5 +1,5 @@
 use Rattle.std.proofs.Common.{sym, ◌∙◌}
-use Rattle.arc_class.proofs.Runnings.{found_dealloc, no_dealloc}
+use Rattle.arc_class.proofs.Runnings.{found_dealloc}
 use Rattle.arc_class.proofs.building.dealloc_from.Goals as goal
 
 pub returns-then-is_dealloc-clause-found : goal.returns-then-is_dealloc-clause-found

@@ -1,4 +1,3 @@
-use Rattle.std.proofs.Common.{◌≡◌}
 use Rattle.arc_class.specs.Table.{names_of}
 use Rattle.arc_class.proofs.Runnings.{method_turn}
 use Rattle.arc_class.proofs.building.methods_from.Goals as goal

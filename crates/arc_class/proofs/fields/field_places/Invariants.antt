@@ -1,4 +1,4 @@
-use Rattle.std.proofs.Common.{◌≡◌, ◌+◌, ℕ, List, drop}
+use Rattle.std.proofs.Common.{◌≡◌, ℕ, List, drop}
 use Rattle.arc_ast.specs.Tree.{field_trees}
 use Rattle.arc_class.specs.Classes.{or_then}
 use Rattle.arc_class.specs.ClassRules.{field_place}

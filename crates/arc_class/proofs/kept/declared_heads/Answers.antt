@@ -1,4 +1,4 @@
-use Rattle.std.proofs.Common.{◌≡◌, ◌+◌, ap, ◌∙◌, drop, sym, None, option_map}
+use Rattle.std.proofs.Common.{◌+◌, ap, ◌∙◌, drop, sym, option_map}
 use Rattle.arc_ast.specs.Tree.{head_tree, head_trees, interface_trees}
 use Rattle.arc_class.specs.Classes.{first_head, declared, or_then}
 use Rattle.arc_class.specs.Kept.{head_in}

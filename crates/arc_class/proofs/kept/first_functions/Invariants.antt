@@ -1,4 +1,4 @@
-use Rattle.std.proofs.Common.{◌≡◌, ◌+◌, ℕ, List, drop}
+use Rattle.std.proofs.Common.{◌≡◌, ℕ, List, drop}
 use Rattle.arc_ast.specs.Tree.{function_trees}
 use Rattle.arc_class.specs.Names.{first_named}
 use Rattle.arc_class.specs.Kept.{function_kept}

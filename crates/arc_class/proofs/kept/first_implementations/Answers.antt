@@ -1,4 +1,4 @@
-use Rattle.std.proofs.Common.{◌≡◌, ℕ, List, ◌+◌, ap, ◌∙◌, sym, drop, length, Some}
+use Rattle.std.proofs.Common.{◌≡◌, ℕ, ◌+◌, ap, ◌∙◌, sym, drop, length}
 use Rattle.arc_ast.specs.Tree.{ImplementationTree, method_trees, implementation_tree, implementation_trees}
 use Rattle.arc_class.specs.Kept.{one_at, implemented_in, implemented_tree}
 use Rattle.arc_class.specs.Classes.{or_then}

@@ -7,4 +7,4 @@ use Rattle.arc_family.proofs.walk.+statements.Given as goal
 
 -- what is told so far and what is told of the rest is told of all
 abbrev pub invariant-statements-loop-stmt : goal.invariant-statements-loop-stmt
-invariant-statements-loop-stmt l = first (broken_stmts (stmt_trees l.all)) ≡ earlier_of (option_map told l.fault) (first (broken_stmts (stmt_trees (drop l.stmt-index l.all))))
+invariant-statements-loop-stmt l = first (broken_stmts l.in_instance (stmt_trees l.all)) ≡ earlier_of (option_map told l.fault) (first (broken_stmts l.in_instance (stmt_trees (drop l.stmt-index l.all))))

@@ -7,4 +7,4 @@ use Rattle.arc_family.proofs.walk.variables.Given as goal
 
 -- what is told so far and what is told of the rest is told of all
 abbrev pub invariant-loop-variable : goal.invariant-loop-variable
-invariant-loop-variable l = first (flat_map broken_variable (variable_trees l.all)) ≡ earlier_of (option_map told l.fault) (first (flat_map broken_variable (variable_trees (drop l.variable-index l.all))))
+invariant-loop-variable l = first (flat_map (broken_variable l.in_instance) (variable_trees l.all)) ≡ earlier_of (option_map told l.fault) (first (flat_map (broken_variable l.in_instance) (variable_trees (drop l.variable-index l.all))))

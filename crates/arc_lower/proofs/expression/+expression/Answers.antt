@@ -1,4 +1,4 @@
-use Rattle.std.proofs.Common.{◌≡◌, suc, ◌+◌, ◌-◌, List, [], ◌∷◌, ◌++◌, ap, sym, ◌∙◌, append_assoc, arith}
+use Rattle.std.proofs.Common.{◌≡◌, suc, ◌+◌, List, [], ◌∷◌, ◌++◌, ap, sym, ◌∙◌, append_assoc, arith}
 use Rattle.arc_check.specs.Checked.{pieces, value, reference, values, program_of}
 use Rattle.arc_lower.specs.Order.{Order, Send, SendSuper, HoldSelf, SendTo, SendToSuper, orders}
 use Rattle.arc_lower.specs.Lowered.{value_takes, reference_takes, values_take, value_orders, reference_orders, all_value_orders, print_orders, call_orders, get_orders, value_count}

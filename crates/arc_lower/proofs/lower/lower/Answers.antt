@@ -4,7 +4,6 @@ use Rattle.arc_spec.specs.Meaning.{most_levels}
 use Rattle.arc_check.specs.Checked.{program_of}
 use Rattle.arc_lower.specs.Order.{orders}
 use Rattle.arc_lower.specs.Lowered.{all_functions, functions_orders, entries_from, longest_from, start_orders, end_step_of, running_orders, entries_of, classes_orders, linked_classes}
-use Rattle.arc_lower.proofs.Staying.{all_safe}
 use Rattle.arc_lower.proofs.Whole.{performs}
 use Rattle.arc_lower.proofs.lower.lower.Goals as goal
 

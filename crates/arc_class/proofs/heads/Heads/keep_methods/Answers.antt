@@ -1,4 +1,4 @@
-use Rattle.std.proofs.Common.{◌≡◌, ◌∷◌, [], ◌+◌, drop, ap, ◌∙◌}
+use Rattle.std.proofs.Common.{◌∷◌, [], ◌+◌, drop, ap, ◌∙◌}
 use Rattle.arc_ast.specs.Tree.{head_tree, method_trees}
 use Rattle.arc_class.specs.Classes.{heads, first_head, or_then}
 use Rattle.arc_class.specs.Kept.{head_in}

@@ -1,4 +1,4 @@
-use Rattle.std.proofs.Common.{◌≡◌, ◌<◌, ◌≤◌, ◌+◌, ◌-◌, ◌++◌, suc, length, map, get_or, subst, sym, ap, ◌∙◌, arith}
+use Rattle.std.proofs.Common.{◌≡◌, ◌<◌, ◌≤◌, ◌+◌, ◌-◌, ◌++◌, suc, length, map, get_or, subst, sym, ap, append-nil, ◌∙◌, arith}
 use Rattle.arc_ast.specs.Tree.{unit_tree, interface_tree}
 use Rattle.arc_class.specs.Classes.{class_number}
 use Rattle.arc_class.specs.Fields.{owned, fields, all_fields_from, fields_declared, inherited_below}
@@ -41,3 +41,13 @@ loop-interface-preserved c =
       numbered = ap (λ n. n + 1) c.loop-interface.invariant.numbered;
       counted = pushed_length all c.push-in-loop-interface.new.self.items made (k + 1) c.in_ok-push-2.ensures.items c.loop-interface.invariant.counted;
     }
+
+pub returns : goal.returns
+returns c =
+    let u = unit_tree c.args.self.now.unit.now in
+    let xs = c.args.self.now.unit.now.interfaces.items in
+    let k = c.loop-interface.interface-index in
+    let all = c.loop-interface.all.items in
+    let same : length c.deref-interface-items.result.now ≡ length xs = ap length c.deref-interface-items.ensures.value in
+    let none : length u.interfaces - k ≡ 0 = omega (arith, c.loop-interface-test.false, same, interfaces_count xs) in
+    sym (c.loop-interface.invariant.made ∙ ap (λ n. map list_of all ++ all_fields_from u (k + 1) n) none ∙ append-nil (map list_of all))

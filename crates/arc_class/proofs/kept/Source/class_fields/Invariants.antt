@@ -1,4 +1,4 @@
-use Rattle.std.proofs.Common.{◌≡◌, ◌+◌, ◌++◌, suc, length, map, drop}
+use Rattle.std.proofs.Common.{◌≡◌, ◌+◌, ◌++◌, length, map, drop}
 use Rattle.arc_ast.specs.Tree.{unit_tree, interface_trees}
 use Rattle.arc_class.specs.Entries.{fields_tree, all_class_fields, class_fields_from}
 use Rattle.arc_class.proofs.kept.Source.class_fields.Given as goal

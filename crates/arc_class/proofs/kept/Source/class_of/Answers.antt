@@ -1,4 +1,4 @@
-use Rattle.std.proofs.Common.{◌≡◌, Some, None, option_map, sym, ap, ◌∙◌}
+use Rattle.std.proofs.Common.{◌≡◌, None, option_map, sym, ap, ◌∙◌}
 use Rattle.arc_ast.specs.Tree.{unit_tree, interface_tree, method_trees}
 use Rattle.arc_class.specs.Kept.{implemented_tree}
 use Rattle.arc_class.specs.Running.{methods_of, dealloc_of, implementation_of, methods_from, dealloc_from}

@@ -1,4 +1,4 @@
-use Rattle.std.proofs.Common.{◌≡◌, ◌<◌, ◌≤◌, ◌+◌, ◌++◌, Some, suc, length, map, get_or, drop, subst, sym, ap, ◌∙◌, arith}
+use Rattle.std.proofs.Common.{◌≡◌, ◌<◌, ◌≤◌, ◌+◌, ◌++◌, Some, suc, length, map, get_or, drop, subst, ap, ◌∙◌, arith}
 use Rattle.arc_ast.specs.Tree.{unit_tree, interface_tree, interface_trees}
 use Rattle.arc_spec.specs.Classes.{class_of}
 use Rattle.arc_class.specs.Entries.{count_among}

@@ -1,4 +1,4 @@
-use Rattle.std.proofs.Common.{◌≡◌, ◌++◌, map, append_assoc, sym, ap, ◌∙◌}
+use Rattle.std.proofs.Common.{◌++◌, map, append_assoc, sym, ap, ◌∙◌}
 use Rattle.arc_ast.specs.Tree.{unit_tree, interface_tree, field_trees}
 use Rattle.arc_class.specs.Fields.{owned, fields_added}
 use Rattle.arc_class.specs.Table.{field_tree}

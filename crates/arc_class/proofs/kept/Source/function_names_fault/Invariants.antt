@@ -1,4 +1,4 @@
-use Rattle.std.proofs.Common.{◌≡◌, [], ℕ, List, is_some, option_map, take, drop}
+use Rattle.std.proofs.Common.{◌≡◌, option_map, drop}
 use Rattle.arc_class.specs.Broken.{first, earlier_of}
 use Rattle.arc_class.specs.Fault.{told}
 use Rattle.arc_ast.specs.Tree.{unit_tree, function_trees}

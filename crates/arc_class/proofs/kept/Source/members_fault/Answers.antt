@@ -1,4 +1,4 @@
-use Rattle.std.proofs.Common.{◌≡◌, ◌++◌, ◌<◌, Some, length, nat_lt, option_map, ap, ◌∙◌}
+use Rattle.std.proofs.Common.{◌≡◌, ◌++◌, length, nat_lt, option_map, ap, ◌∙◌}
 use Rattle.arc_ast.specs.Tree.{unit_tree, field_trees, head_trees}
 use Rattle.arc_class.specs.Bodies.{broken_if}
 use Rattle.arc_class.specs.Broken.{first}
@@ -6,7 +6,7 @@ use Rattle.arc_class.specs.ClassRules.{broken_fields, broken_heads, field_place,
 use Rattle.arc_class.specs.Fault.{told}
 use Rattle.arc_class.specs.Classes.{class_number}
 use Rattle.arc_class.specs.Fields.{fields}
-use Rattle.arc_class.specs.Table.{class_number_in, at_name}
+use Rattle.arc_class.specs.Table.{class_number_in}
 use Rattle.arc_class.proofs.FieldLists.{count_kept}
 use Rattle.arc_class.proofs.Firsts.{first_both}
 use Rattle.arc_class.proofs.Rules.{class_number_kept}

@@ -1,4 +1,4 @@
-use Rattle.std.proofs.Common.{◌≡◌, is_some, option_map, ap, ◌∙◌, sym}
+use Rattle.std.proofs.Common.{◌≡◌, is_some, ap, ◌∙◌, sym}
 use Rattle.arc_ast.specs.Tree.{unit_tree, head_tree, method_tree}
 use Rattle.arc_class.specs.Bodies.{broken_if}
 use Rattle.arc_class.specs.Broken.{first}

@@ -1,4 +1,4 @@
-use Rattle.std.proofs.Common.{◌≡◌, take, ap, option_map, refl}
+use Rattle.std.proofs.Common.{take, ap, option_map, refl}
 use Rattle.arc_ast.specs.Tree.{unit_tree, head_tree, method_trees}
 use Rattle.arc_class.specs.Classes.{heads}
 use Rattle.arc_class.specs.ClassRules.{missing_of}

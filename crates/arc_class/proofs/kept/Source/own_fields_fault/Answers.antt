@@ -1,6 +1,6 @@
-use Rattle.std.proofs.Common.{◌≡◌, ◌++◌, [], ℕ, List, None, Some, Option, option_map, sym, ap, ◌∙◌}
+use Rattle.std.proofs.Common.{◌≡◌, ◌++◌, ℕ, List, None, Some, option_map, sym, ap, ◌∙◌}
 use Rattle.std.proofs.lemmas.List.{append-nil}
-use Rattle.arc_ast.specs.Tree.{FieldTree, unit_tree, field_trees}
+use Rattle.arc_ast.specs.Tree.{unit_tree, field_trees}
 use Rattle.arc_class.specs.Broken.{first}
 use Rattle.arc_class.specs.ClassRules.{broken_fields, broken_pairs, field_place, fields_of_interface, class_above}
 use Rattle.arc_class.specs.Classes.{class_number}

@@ -1,6 +1,6 @@
-use Rattle.std.proofs.Common.{◌≡◌, [], ◌++◌, None, Some, Option, option_map, sym, ap, ◌∙◌}
+use Rattle.std.proofs.Common.{◌≡◌, [], ◌++◌, None, option_map, sym, ap, ◌∙◌}
 use Rattle.std.proofs.lemmas.List.{append-nil}
-use Rattle.arc_ast.specs.Tree.{HeadTree, unit_tree, head_tree, head_trees, method_trees}
+use Rattle.arc_ast.specs.Tree.{unit_tree, head_tree, head_trees, method_trees}
 use Rattle.arc_class.specs.Classes.{heads, first_head, defined_by, bodies, or_then}
 use Rattle.arc_class.specs.Kept.{head_in, implemented_tree}
 use Rattle.arc_class.specs.Table.{at_name}

@@ -2,7 +2,7 @@ use Rattle.std.proofs.Common.{◌≡◌, sym, ap, ◌∙◌, option_map}
 use Rattle.std.proofs.lemmas.Result.{IfOk-weaker}
 use Rattle.arc_ast.specs.Tree.{unit_tree}
 use Rattle.arc_class.specs.Broken.{first}
-use Rattle.arc_class.specs.ClassRules.{broken, missing_of}
+use Rattle.arc_class.specs.ClassRules.{broken}
 use Rattle.arc_class.specs.Fault.{told}
 use Rattle.arc_class.specs.Functions.{broken_functions}
 use Rattle.arc_class.specs.Look.{Sums}
