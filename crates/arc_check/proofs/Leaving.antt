@@ -38,14 +38,14 @@ variables_same type s [] = same s
 variables_same type s (v ∷ all) = after _ _ _ (variables_same type (declare v.name type s) all) (declare_same v.name type s)
 
 pub behind_same : (s : Scope) (a : StmtTree) → SameBody (behind s a) s
-behind_same s (Block at all) = same s
+behind_same s (Block at all) = record { class = refl; sign = refl; hidden = refl }
 behind_same s (Empty at) = same s
 behind_same s (Simple a) = same s
 behind_same s (Return at a) = same s
 behind_same s (Variables at type all) = variables_same type s all
-behind_same s (If at c a) = same s
-behind_same s (IfElse at c a b) = same s
-behind_same s (While at c a) = same s
+behind_same s (If at c a) = record { class = refl; sign = refl; hidden = refl }
+behind_same s (IfElse at c a b) = record { class = refl; sign = refl; hidden = refl }
+behind_same s (While at c a) = record { class = refl; sign = refl; hidden = refl }
 
 pub behind_all_same : (s : Scope) (all : StmtTrees) → SameBody (behind_all s all) s
 behind_all_same s no_stmts = same s

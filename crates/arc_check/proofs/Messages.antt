@@ -1,12 +1,14 @@
 -- What is built of messages and assignments.
-use Rattle.std.proofs.Common.{◌≡◌, ℕ, List, Option, Some, None, option_map, refl, sym, ap, ◌∙◌}
+use Rattle.std.proofs.Common.{◌≡◌, ℕ, false, List, Option, Some, None, Vec, Box, Global, option_map, refl, sym, ap, ◌∙◌}
+use Rattle.arc_ast.specs.declared.tree.Expr as ast
+use Rattle.arc_ast.specs.declared.tree.Expr.{Expr}
 use Rattle.arc_ast.specs.declared.tree.Kind.{Kind}
-use Rattle.arc_ast.specs.Tree.{ExprTree, ExprTrees, Send, SendSuper}
+use Rattle.arc_ast.specs.Tree.{ExprTree, ExprTrees, Send, SendSuper, expr_tree}
 use Rattle.arc_class.specs.Table.{number_of_class}
 use Rattle.arc_spec.specs.Resolved.{Values}
 use Rattle.arc_check.specs.declared.resolve.Typed.{Typed}
 use Rattle.arc_check.specs.Building.{Resolves, resolution}
-use Rattle.arc_check.specs.Resolving.{Resolution, number, resolved, resolved_all, sent, sent_super, to_super}
+use Rattle.arc_check.specs.Resolving.{Resolution, assigned, number, resolved, resolved_all, sent, sent_super, to_super}
 use Rattle.arc_check.specs.Scopes.{Scope, above, class_of, class_receiver, sent_class, super_class, super_kind}
 
 -- a message to a class
@@ -35,3 +37,15 @@ resolves_super s at part super_at selector arguments kind from n all typed k f m
   value = v ∙ ap (λ x. to_super s.sign x from n all) k ∙ ap (λ x. to_super s.sign (super_kind s selector) x n all) f ∙ ap (λ x. to_super s.sign (super_kind s selector) (number (above s.known s.class)) x all) m
       ∙ ap (sent_super s selector) a;
 }
+
+-- where an expression lies
+abbrev boxed : Box (Unit {0}) Global → Expr → Box Expr Global
+boxed q a = record { ptr = q.ptr; alloc = q.alloc; value = a }
+
+-- an assignment to what is no name and no field
+pub assigned_other : (s : Scope) (a : Expr) (b : Resolution) → ((at : ℕ) (x : Box Expr Global) → a ≡ ast.Paren at x → ⊥) → ((at : ℕ) (name : Vec ℕ Global) → a ≡ ast.Name at name → ⊥)
+    → ((at name_at : ℕ) (x : Box Expr Global) (name : Vec ℕ Global) → a ≡ ast.Arrow at name_at x name → ⊥) → b ≡ assigned s (expr_tree a) b
+assigned_other s (ast.Paren' at q x) b p n r = absurd (p at (boxed q x) refl)
+assigned_other s (ast.Name at name) b p n r = absurd (n at name refl)
+assigned_other s (ast.Arrow' at name_at q x name) b p n r = absurd (r at name_at (boxed q x) name refl)
+assigned_other s _ b p n r = refl

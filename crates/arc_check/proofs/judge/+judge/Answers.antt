@@ -11,6 +11,21 @@ use Rattle.arc_check.proofs.Judgements.{judges_call, judges_send, judges_super, 
 use Rattle.arc_check.proofs.judge.+judge.Goals as goal
 use Rattle.arc_check.proofs.judge.+judge.Goals.{judge_arguments-then-told, judge_arguments-else-told}
 
+pub judge-returns-in-Itself : goal.judge-returns-in-Itself
+judge-returns-in-Itself t c = rw c.in-Itself.is (c.judge_itself.ensures c.args.table.now)
+
+pub judge-returns-in-Negate : goal.judge-returns-in-Negate
+judge-returns-in-Negate t c = rw c.in-Negate.is (rw c.deref-in-Negate.ensures at (c.judge_negation.ensures c.in-Negate.field-0))
+
+pub judge-returns-in-Cast : goal.judge-returns-in-Cast
+judge-returns-in-Cast t c = rw c.in-Cast.is (rw c.deref-in-Cast.ensures at (c.judge_cast.ensures c.in-Cast.field-0))
+
+pub judge-returns-in-Arrow : goal.judge-returns-in-Arrow
+judge-returns-in-Arrow t c = rw c.in-Arrow.is (rw (c.deref-in-Arrow.ensures, c.deref-in-Arrow-2.ensures.value) at (c.judge_arrow.ensures c.in-Arrow.field-0))
+
+pub judge-returns-in-Assign : goal.judge-returns-in-Assign
+judge-returns-in-Assign t c = rw c.in-Assign.is (rw (c.deref-in-Assign.ensures, c.deref-in-Assign-2.ensures) at (c.judge_assignment.ensures c.in-Assign.field-0))
+
 pub judge-returns-in-Call : goal.judge-returns-in-Call
 judge-returns-in-Call t c =
     judges_call (seen c.args.table.now c.args.visible.now) c.args.before c.args.expr.now c.in-Call.at c.in-Call.name c.in-Call.arguments c.deref-in-Call.result.now c.deref-in-Call-2.result.now c.judge_call.result c.in-Call.is c.deref-in-Call.ensures.value c.deref-in-Call-2.ensures.value c.judge_call.ensures

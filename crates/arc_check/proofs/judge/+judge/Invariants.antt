@@ -1,4 +1,6 @@
-use Rattle.std.proofs.Common.{◌≡◌, ◌&&◌, false, option_map, drop}
+use Rattle.std.proofs.Common.{◌≡◌, ◌+◌, ◌*◌, ◌&&◌, false, max, option_map, drop}
+use denote.Param.Weighed.{most}
+use Rattle.arc_ast.specs.declared.tree.Expr.{size-Expr}
 use Rattle.arc_ast.specs.Tree.{expr_trees}
 use Rattle.arc_class.specs.Broken.{first, earlier_of}
 use Rattle.arc_check.specs.Fault.{told}
@@ -7,6 +9,40 @@ use Rattle.arc_check.specs.Judging.{counted}
 use Rattle.arc_check.specs.Rules.{kinds, all_taken, broken_arguments}
 use Rattle.arc_check.specs.Views.{seen}
 use Rattle.arc_check.proofs.judge.+judge.Given as goal
+
+-- the deepest of what is still to be judged, and in front of it what calls what
+abbrev pub decreases-judge : goal.decreases-judge
+decreases-judge l = 8 * goal.size-judge l
+
+abbrev pub decreases-judge_negation : goal.decreases-judge_negation
+decreases-judge_negation l = 8 * goal.size-judge_negation l + 1
+
+abbrev pub decreases-judge_cast : goal.decreases-judge_cast
+decreases-judge_cast l = 8 * goal.size-judge_cast l + 1
+
+abbrev pub decreases-judge_arrow : goal.decreases-judge_arrow
+decreases-judge_arrow l = 8 * goal.size-judge_arrow l + 1
+
+abbrev pub decreases-judge_argument : goal.decreases-judge_argument
+decreases-judge_argument l = 8 * goal.size-judge_argument l + 1
+
+abbrev pub decreases-judge_arguments : goal.decreases-judge_arguments
+decreases-judge_arguments l = 8 * goal.size-judge_arguments l + 2
+
+abbrev pub decreases-judge_print : goal.decreases-judge_print
+decreases-judge_print l = 8 * goal.size-judge_print l + 3
+
+abbrev pub decreases-judge_super : goal.decreases-judge_super
+decreases-judge_super l = 8 * goal.size-judge_super l + 3
+
+abbrev pub decreases-judge_call : goal.decreases-judge_call
+decreases-judge_call l = 8 * goal.size-judge_call l + 4
+
+abbrev pub decreases-judge_assignment : goal.decreases-judge_assignment
+decreases-judge_assignment l = 8 * max (size-Expr l.left.now) (size-Expr l.right.now) + 1
+
+abbrev pub decreases-judge_send : goal.decreases-judge_send
+decreases-judge_send l = 8 * max (size-Expr l.receiver.now) (most size-Expr l.arguments.now) + 3
 
 -- what is told so far and what is told of the rest is told of all
 abbrev pub invariant-judge_arguments-loop-argument : goal.invariant-judge_arguments-loop-argument

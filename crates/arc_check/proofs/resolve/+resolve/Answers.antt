@@ -1,4 +1,4 @@
-use Rattle.std.proofs.Common.{sym, ap, ◌∙◌}
+use Rattle.std.proofs.Common.{refl, sym, ap, ◌∙◌}
 use Rattle.arc_class.specs.Table.{number_of_class}
 use Rattle.arc_spec.specs.Resolved.{Invoked}
 use Rattle.arc_check.specs.declared.callee.Callee.TheVariants.{Printf, GetChar, Defined, Unknown}
@@ -9,7 +9,7 @@ use Rattle.arc_check.specs.Scopes.{class_of, result_kind}
 use Rattle.arc_check.specs.Views.{seen}
 use Rattle.arc_check.proofs.Trees.{call_tree, send_tree, super_tree, print_value, invoked_value}
 use Rattle.arc_check.proofs.Buildings.{values_turn, values_end, printing_some, printing_none, resolves_call}
-use Rattle.arc_check.proofs.Messages.{resolves_class, resolves_object, resolves_super}
+use Rattle.arc_check.proofs.Messages.{assigned_other, resolves_class, resolves_object, resolves_super}
 use Rattle.arc_check.proofs.resolve.+resolve.Goals as goal
 use Rattle.arc_check.proofs.resolve.+resolve.Goals.{call-in-Printf+in_ok-value-in-Printf, call-in-Defined+in_ok-values-in-Defined, call-in-GetChar, call-in-Unknown}
 
@@ -26,6 +26,12 @@ pub expression-returns-in_ok-typed-in-SendSuper : goal.expression-returns-in_ok-
 expression-returns-in_ok-typed-in-SendSuper t c =
     rw (c.in-SendSuper.is, super_tree c.in-SendSuper.field-0 c.in-SendSuper.field-1 c.in-SendSuper.field-2 c.in-SendSuper.selector c.in-SendSuper.arguments, sym c.deref-in-SendSuper.ensures.value, sym c.deref-in-SendSuper-2.ensures.value)
     (c.in_ok-typed-in-SendSuper.ensures c.in-SendSuper.field-0 c.in-SendSuper.field-1 c.in-SendSuper.field-2)
+
+pub expression-returns-in-Itself : goal.expression-returns-in-Itself
+expression-returns-in-Itself t c = rw c.in-Itself.is (record { class = c.own_class.ensures c.args.table.now; value = refl })
+
+pub assigned-returns-in_ok-expression-in_default : goal.assigned-returns-in_ok-expression-in_default
+assigned-returns-in_ok-expression-in_default t c = record { class = c.in_ok-expression-in_default.ensures.class; value = assigned_other (seen c.args.table.now c.args.visible.now) c.args.left.now _ c.in_default.not-Paren c.in_default.not-Name c.in_default.not-Arrow }
 
 pub message-returns-in_ok-class_message-in-Some : goal.message-returns-in_ok-class_message-in-Some
 message-returns-in_ok-class_message-in-Some t c = λ at part.

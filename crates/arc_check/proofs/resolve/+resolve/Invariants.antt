@@ -1,9 +1,36 @@
-use Rattle.std.proofs.Common.{◌≡◌, drop}
+use Rattle.std.proofs.Common.{◌≡◌, ◌+◌, ◌*◌, max, drop}
+use denote.Param.Weighed.{most}
+use Rattle.arc_ast.specs.declared.tree.Expr.{size-Expr}
 use Rattle.arc_ast.specs.Tree.{expr_trees}
 use Rattle.arc_check.specs.Building.{in_front}
 use Rattle.arc_check.specs.Resolving.{resolved_all}
 use Rattle.arc_check.specs.Views.{seen}
 use Rattle.arc_check.proofs.resolve.+resolve.Given as goal
+
+-- the deepest of what is still to be resolved, and in front of it what calls what
+abbrev pub decreases-expression : goal.decreases-expression
+decreases-expression l = 8 * goal.size-expression l
+
+abbrev pub decreases-assigned : goal.decreases-assigned
+decreases-assigned l = 8 * goal.size-assigned l + 1
+
+abbrev pub decreases-argument : goal.decreases-argument
+decreases-argument l = 8 * goal.size-argument l + 1
+
+abbrev pub decreases-values : goal.decreases-values
+decreases-values l = 8 * goal.size-values l + 2
+
+abbrev pub decreases-print : goal.decreases-print
+decreases-print l = 8 * goal.size-print l + 3
+
+abbrev pub decreases-super_message : goal.decreases-super_message
+decreases-super_message l = 8 * goal.size-super_message l + 3
+
+abbrev pub decreases-call : goal.decreases-call
+decreases-call l = 8 * goal.size-call l + 4
+
+abbrev pub decreases-message : goal.decreases-message
+decreases-message l = 8 * max (size-Expr l.receiver.now) (most size-Expr l.arguments.now) + 3
 
 -- the values so far and those of the rest are all
 abbrev pub invariant-values-loop-one : goal.invariant-values-loop-one
