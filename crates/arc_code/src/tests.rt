@@ -79,6 +79,16 @@ fn interruptions_are_retried(rt: HostRuntime) {
 }
 
 #[test]
+fn failures_of_another_device(rt: HostRuntime) {
+    let mut other = Counted::new(Interrupted { times: 100 });
+    assert_eq!(rt; other.get(), Err(Failed));
+    let mut reader = Counted::new(Terminal { ended: false });
+    reader.count_failures(&other);
+    assert_eq!(rt; reader.failures(), 1);
+    assert_eq!(rt; reader.get(), Ok(None));
+}
+
+#[test]
 fn an_end_is_kept(rt: HostRuntime) {
     let mut reader = Counted::new(Terminal { ended: false });
     assert_eq!(rt; reader.get(), Ok(None));
