@@ -1,6 +1,6 @@
 #!/usr/bin/env bash
-# Times `arcc run` on a loop of calls and on recursion, next to Lua 5.4 and Python 3 where these are
-# installed, and `arcc check` on sources of 1 KiB, 32 KiB and 1 MiB. Prints seconds (the least of five
+# Times `arcc run` on a loop of calls, on recursion, on a loop of messages to an object, and on a loop
+# that makes objects and drops them, next to Lua 5.4 and Python 3 where these are installed, and `arcc check` on sources of 1 KiB, 32 KiB and 1 MiB. Prints seconds (the least of five
 # runs) and ratios. It isn't part of the gate.
 set -eu
 top=$(cd "$(dirname "${BASH_SOURCE[0]}")/.." && pwd)
@@ -67,9 +67,86 @@ def fib(n):
     return n
 print(fib(32))
 END
+cat >"$work/sends.m" <<'END'
+@interface Adder : NSObject { int _sum; }
+- (int)add:(int)n;
+@end
+@implementation Adder
+- (int)add:(int)n { _sum = _sum + n; return _sum; }
+@end
+int main(void) {
+  Adder *a = [Adder new];
+  int i = 0;
+  while (i != 5000000) { [a add:i]; i = i + 1; }
+  printf("%d\n", [a add:0]);
+}
+END
+cat >"$work/sends.lua" <<'END'
+local Adder = {}
+Adder.__index = Adder
+function Adder:add(n) self.sum = (self.sum + n) & 0xffffffff; return self.sum end
+local a = setmetatable({ sum = 0 }, Adder)
+local i = 0
+while i ~= 5000000 do a:add(i); i = i + 1 end
+print(a:add(0))
+END
+cat >"$work/sends.py" <<'END'
+class Adder:
+    def __init__(self):
+        self.sum = 0
+    def add(self, n):
+        self.sum = (self.sum + n) & 0xffffffff
+        return self.sum
+def main():
+    a = Adder()
+    i = 0
+    while i != 5000000:
+        a.add(i)
+        i = i + 1
+    print(a.add(0))
+main()
+END
+cat >"$work/objects.m" <<'END'
+@interface Leaf : NSObject { @public int _v; }
+@end
+@implementation Leaf
+@end
+int main(void) {
+  int i = 0;
+  int sum = 0;
+  while (i != 2000000) { Leaf *l = [Leaf new]; l->_v = i; sum = sum + l->_v; i = i + 1; }
+  printf("%d\n", sum);
+}
+END
+cat >"$work/objects.lua" <<'END'
+local Leaf = {}
+Leaf.__index = Leaf
+local i, sum = 0, 0
+while i ~= 2000000 do
+  local l = setmetatable({ v = 0 }, Leaf)
+  l.v = i
+  sum = (sum + l.v) & 0xffffffff
+  i = i + 1
+end
+print(sum)
+END
+cat >"$work/objects.py" <<'END'
+class Leaf:
+    __slots__ = ("v",)
+def main():
+    i = 0
+    total = 0
+    while i != 2000000:
+        leaf = Leaf()
+        leaf.v = i
+        total = (total + leaf.v) & 0xffffffff
+        i = i + 1
+    print(total)
+main()
+END
 
 echo "machine: $(uname -m), $(nproc) processors, $(awk -F': ' '/model name/ { print $2; exit }' /proc/cpuinfo)"
-for name in calls fib; do
+for name in calls fib sends objects; do
   ours=$(least "$arcc" run "$work/$name.m" --steps 9000000000)
   line="$name: arcc $ours s"
   if command -v lua5.4 >/dev/null; then
