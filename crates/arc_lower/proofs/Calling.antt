@@ -10,7 +10,7 @@ use Rattle.arc_spec.specs.Meaning.{function_at, called, class_in, dealloc_run, d
 use Rattle.arc_spec.specs.World as world
 use Rattle.arc_spec.specs.World.{World, Outcome, Done, Faulted, Cut, Finished, finished, then_do, places, frame_places, with_objects, first_locals, entered}
 use Rattle.arc_spec.specs.Holding.{Held, Frame, Calling, Ending, holders, gone_in}
-use Rattle.arc_spec.specs.Stepping.{Goes, Faults, Reached, Running, on_found, follow}
+use Rattle.arc_spec.specs.Stepping.{Goes, Faults, Reached, Running, follow}
 use Rattle.arc_ir.specs.Acting.{Program, State, has_level, enters, answers, begins_end, ends_object, runs_dealloc, ends_class}
 use Rattle.arc_lower.specs.Order.{Call, Jump, EndStep}
 use Rattle.arc_lower.specs.Lowered.{number_of, slots_of, entry_of, entries_of, fit_orders, leave_orders, body_orders, passes}
@@ -26,7 +26,7 @@ use Rattle.arc_lower.proofs.Standing.{ending, IsDying, AllDying, Fine, Alive, ni
 use Rattle.arc_lower.proofs.Releasing.{Ends, dying_in}
 use Rattle.arc_lower.proofs.Evaluating.{behind_call, answered, Deep}
 use Rattle.arc_lower.proofs.Executing.{leaving, function_runs}
-use Rattle.arc_lower.proofs.Linking.{Begins}
+use Rattle.arc_lower.proofs.Linking.{Begins, call_enters}
 use Rattle.arc_lower.proofs.Finding.{Stub, Meets, Same, Linked, lookup_meets, descent_same, fields_same}
 
 then_thrice : {A B C E : Type 0} (o : Outcome A) (f : A → World → Outcome B) (g : B → World → Outcome C) (h : C → World → Outcome E) → then_do o (λ a w. then_do (then_do (f a w) g) h) ≡ then_do (then_do (then_do o f) g) h
@@ -53,9 +53,7 @@ module _ (p : Program) (R : resolved.Program) (bound : ℕ) (begins : (f : ℕ) 
 
   -- the step of a call
   pub call_steps : (f pc : ℕ) (frames : List Frame) (stack : List ℤ) (held : Held) (b : Bool) → HasAt p pc (Call (number_of R f) ∷ []) → nat_lt (length frames) most_levels ≡ b → moves p (at frames pc stack held) ≡ recount (enters (at frames pc stack held) (entry f) 0 b)
-  call_steps f pc frames stack held b has e =
-      let s = at frames pc stack held in
-      (ap recount (has.0 frames stack held)) ∙ ap recount (ap (λ o. on_found o (λ to. enters s to 0 (has_level s))) (begins f).entry ∙ ap (enters s (entry f) 0) e)
+  call_steps f pc frames stack held b has e = ap recount (call_enters p R f (begins f) pc frames stack held b has e)
 
   enter_leads : (frames : List Frame) (pc to self slots : ℕ) (arguments stack : List ℤ) (w : World) → moves p (at frames pc stack (held_of w)) ≡ recount (enters (at frames pc stack (held_of w)) to self true) → Leads (moves p) (running frames pc stack w) (running (Calling (pc + 1) w.frame.self ∷ frames) to stack (entered slots 0 self arguments w))
   enter_leads frames pc to self slots arguments stack w e =

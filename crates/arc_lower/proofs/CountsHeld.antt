@@ -1,7 +1,7 @@
 -- What keeps the counts of holders right.
 use Rattle.std.proofs.Common.{◌≡◌, ℕ, zero, suc, ◌+◌, ◌-◌, ◌<◌, true, false, ◌&&◌, nat_eq, List, [], ◌∷◌, ◌++◌, length, Option, Some, None, slice_get, slice_set, refl, sym, ap, ◌∙◌, subst, ⊎_elim, arith}
 use Rattle.std.proofs.lemmas.Bool.{cases_eq, eq-eqb, and_from, false≢true}
-use Rattle.arc_spec.specs.Objects.{Object, Phase, Live, Dying, Gone, object_at, with_object, in_phase, with_fields, is_live, new_object}
+use Rattle.arc_spec.specs.Objects.{Object, Live, Dying, Gone, object_at, with_object, in_phase, with_fields, is_live, new_object}
 use Rattle.arc_spec.specs.Holding.{Held, nothing_held, holders, Counted, with_places, with_self, with_things, raised, lowered, placed, makes, gone_in, count_of}
 use Rattle.arc_spec.specs.Classes.{Class}
 use Rattle.arc_lower.proofs.CountsPlaces.{tally, one_more_if, one_less_if, tally_nil, tally_same, tally_other, holders_head, holders_nil, holders_set}
@@ -156,10 +156,3 @@ gone_covered objects counts (suc o) (Some ob) e c = rw e (changed_covered object
 -- an object is gone
 pub gone_counted : (h : Held) (o self : ℕ) → Counted h → Counted (with_self (with_things h (gone_in h.objects o)) self)
 gone_counted h o self c = record { counted = c.counted; held = gone_covered h.objects h.counts o (object_at h.objects o) refl c.held }
-
--- an object is in a phase in which its dealloc has begun
-pub phase_counted : (h : Held) (r : ℕ) (o : Object) (phase : Phase) → (phase ≡ Live → ⊥) → Counted h → Counted (with_things h (with_object h.objects (suc r) (in_phase phase o)))
-phase_counted h r o phase begun c = record {
-  counted = c.counted;
-  held = changed_covered h.objects h.counts r (in_phase phase o) (λ k other ne. c.held k other) (λ live. absurd (begun live));
-}

@@ -1,8 +1,9 @@
 -- What a place names is nil or an object that isn't gone.
-use Rattle.std.proofs.Common.{◌≡◌, ℕ, zero, suc, ◌<◌, true, List, [], ◌∷◌, ◌++◌, length, Option, Some, None, slice_get, slice_set, refl, sym, ◌∙◌, subst, ⊎_elim, arith}
+use Rattle.std.proofs.Common.{◌≡◌, ℕ, zero, suc, ◌<◌, true, List, [], ◌∷◌, ◌++◌, length, Option, Some, None, slice_get, slice_set, refl, sym, ap, ◌∙◌, subst, ⊎_elim, arith}
 use Rattle.std.proofs.lemmas.Bool.{cases_eq}
 use Rattle.arc_spec.specs.Objects.{Object, Gone, object_at, in_phase}
-use Rattle.arc_spec.specs.Holding.{holders, is_there, gone_in}
+use Rattle.arc_spec.specs.Stepping.{Next, only_if}
+use Rattle.arc_spec.specs.Holding.{Held, holders, is_there, gone_in, placed, on_object, holds}
 use Rattle.arc_lower.proofs.CountsPlaces.{tally_nil, tally_same, tally_other, holders_head, holders_set, holders_nil}
 use Rattle.arc_lower.proofs.CountsHeld.{set_other}
 
@@ -86,3 +87,14 @@ gone_found objects places j (Some ob) e none all = rw e (changed_there objects p
 
 pub gone_there : (objects : List Object) (places : List ℕ) (j : ℕ) → holders (suc j) places ≡ 0 → AllThere objects places → AllThere (gone_in objects (suc j)) places
 gone_there objects places j none all = gone_found objects places j (object_at objects (suc j)) refl none all
+
+-- ---- steps
+
+-- an object that isn't gone is used
+pub object_goes : {S : Type 0} (found : Option Object) (o : Object) (go : Object → Next S) → found ≡ Some o → is_there o.phase ≡ true → on_object found go ≡ go o
+object_goes found o go e there = ap (λ f. on_object f go) e ∙ ap (λ b. only_if b (go o)) there
+
+-- what is there can be held
+pub holds_goes : {S : Type 0} (r : ℕ) (h : Held) (go : Held → Next S) → IsThere h.objects r → holds r h go ≡ go (placed r h)
+holds_goes zero h go there = refl
+holds_goes (suc k) h go there = object_goes (object_at h.objects (suc k)) there.0 _ there.1 there.2

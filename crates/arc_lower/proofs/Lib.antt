@@ -1,6 +1,5 @@
 mod CountsPlaces
 mod CountsHeld
-mod CountsAgreeing
 mod CountsThere
 mod CountsKept
 mod CountsSteps

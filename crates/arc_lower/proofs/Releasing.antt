@@ -12,8 +12,7 @@ use Rattle.arc_ir.specs.Acting.{Program, State, keeps, has_level, begins_end, re
 use Rattle.arc_lower.specs.Order.{Drop, StoreStrong, Empty}
 use Rattle.arc_lower.specs.Lowered.{drop_orders, store_orders, empty_orders, all_empty_orders}
 use Rattle.arc_lower.proofs.CountsPlaces.{tally, one_more_if, tally_same, holders_head, holders_set, last_one}
-use Rattle.arc_lower.proofs.CountsThere.{IsThere, AllThere, rest_there, stored_there, place_there}
-use Rattle.arc_lower.proofs.CountsAgreeing.{object_goes, holds_goes}
+use Rattle.arc_lower.proofs.CountsThere.{IsThere, AllThere, rest_there, stored_there, place_there, object_goes, holds_goes}
 use Rattle.arc_lower.proofs.Leading.{leads_same, Runs, better_runs}
 use Rattle.arc_lower.proofs.Recounting.{recount, moves, at, held_of}
 use Rattle.arc_lower.proofs.Doing.{does}

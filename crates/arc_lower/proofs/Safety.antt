@@ -17,9 +17,8 @@ use Rattle.arc_spec.specs.Stepping.{Next, Faults, Along, on_top, on_found}
 use Rattle.arc_ir.specs.Acting.{Program, State, keeps, or_fault, has_level, answers, taken, sends, sends_up, allocates, difference, begins_end, releases}
 use Rattle.arc_lower.specs.Order.{Order, Num, Bin, Un, Narrow, Pop, Get, Set, PrintText, PrintNum, PrintByte, GetChar, Jump, Call, Send, SendSuper, Nil, HoldSelf, Hold, StoreStrong, Drop, Empty, Alloc, GetField, SetField, Differ, IsObject, SendTo, SendToSuper}
 use Rattle.arc_lower.specs.Lowered.{value_count, value_takes, reference_takes, values_take, format_orders, pop_orders, keep_orders, print_orders, get_orders, set_orders, zero_orders, fit_orders, drop_orders, store_orders, number_of, slots_of, passes, call_orders, value_orders, reference_orders, all_value_orders}
-use Rattle.arc_lower.proofs.CountsThere.{IsThere, AllThere, place_there}
+use Rattle.arc_lower.proofs.CountsThere.{IsThere, AllThere, place_there, object_goes, holds_goes}
 use Rattle.arc_lower.proofs.CountsKept.{Sane}
-use Rattle.arc_lower.proofs.CountsAgreeing.{object_goes, holds_goes}
 use Rattle.arc_lower.proofs.CountsSound.{Rooms, SafeIfSane}
 use Rattle.arc_lower.proofs.Recounting.{at}
 use Rattle.arc_lower.proofs.Doing.{does, HasAt, has_front, has_back}

@@ -77,9 +77,6 @@ pub record Took (n : ℕ) (old new : List ℕ) : Type 0 where
 pub took_none : (n : ℕ) (old new : List ℕ) → n ≡ 0 → new ≡ old → Took n old new
 took_none n old new none same = record { taken = []; is = same; count = sym none }
 
-pub took_one : (r : ℕ) (old : List ℕ) → Took 1 old (r ∷ old)
-took_one r old = record { taken = r ∷ []; is = refl; count = refl }
-
 pub took_more : (n m : ℕ) (a b c : List ℕ) → Took n a b → Took m b c → Took (n + m) a c
 took_more n m a b c first next = record {
   taken = next.taken ++ first.taken;
