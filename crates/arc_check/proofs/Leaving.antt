@@ -1,5 +1,5 @@
 -- Where a scope stands stays the same behind its statements.
-use Rattle.std.proofs.Common.{◌≡◌, ℕ, ◌+◌, Bool, true, false, List, [], ◌∷◌, Option, option_map, refl, ap, ◌∙◌}
+use Rattle.std.proofs.Common.{◌≡◌, ℕ, Bool, true, false, List, [], ◌∷◌, option_map, refl, ap, ◌∙◌}
 use Rattle.arc_ast.specs.Tree as tree
 use Rattle.arc_ast.specs.Tree.{TypeTree, VariableTree, StmtTree, StmtTrees, Block, Empty, Simple, Return, Variables, If, IfElse, While, no_stmts, and_stmt}
 use Rattle.arc_class.specs.declared.table.ClassTable.{ClassTable}

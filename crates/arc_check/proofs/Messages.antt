@@ -1,5 +1,5 @@
 -- What is built of messages and assignments.
-use Rattle.std.proofs.Common.{◌≡◌, ℕ, false, List, Option, Some, None, Vec, Box, Global, option_map, refl, sym, ap, ◌∙◌}
+use Rattle.std.proofs.Common.{◌≡◌, ℕ, false, List, Option, Some, None, Vec, Box, Global, option_map, refl, ap, ◌∙◌}
 use Rattle.arc_ast.specs.declared.tree.Expr as ast
 use Rattle.arc_ast.specs.declared.tree.Expr.{Expr}
 use Rattle.arc_ast.specs.declared.tree.Kind.{Kind}

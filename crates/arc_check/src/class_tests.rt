@@ -183,7 +183,8 @@ fn both(alloc: Global) -> Result<String, AllocError> {
 #[test]
 fn resolves_methods(rt: HostRuntime) {
     let found = both(rt.alloc()).expect(&rt, "no memory");
-    let wanted = "[CheckedFunction { slots: 0, names: 0, body: [Evaluate(Sent(Number(2), 1, []))] }, \
+    let wanted =
+        "[CheckedFunction { slots: 0, names: 0, body: [Evaluate(Sent(Number(2), 1, []))] }, \
                   CheckedFunction { slots: 2, names: 0, body: [Return(Some(Local(1)))] }, \
                   CheckedFunction { slots: 2, names: 0, body: [Sequence(0, 0, [Evaluate(Assigned(1, Number(0)))]), \
                   Evaluate(Sent(Local(0), 0, [Local(1)])), Evaluate(SentSuper(1, 0, [Number(1)]))] }] main 0 \

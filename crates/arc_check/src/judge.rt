@@ -19,8 +19,13 @@ use crate::callee::{Callee, callee_of, result_kind};
 use crate::fault::{CheckFault, earlier};
 use crate::field::{field_fault, field_kind, own_field};
 use crate::format::{next_conversion, take_conversion};
-use crate::message::{class_receiver, sent_class, sent_kind, static_class, super_class, super_kind};
-use crate::rule::{binary_kind, call_fault, is_assignable, is_object, is_unread, literal_kind, no_left, no_number, no_object, no_right, no_such, no_value, number_kind, place};
+use crate::message::{
+    class_receiver, sent_class, sent_kind, static_class, super_class, super_kind,
+};
+use crate::rule::{
+    binary_kind, call_fault, is_assignable, is_object, is_unread, literal_kind, no_left, no_number,
+    no_object, no_right, no_such, no_value, number_kind, place,
+};
 use crate::scope::{Local, Visible};
 use crate::taken::Taken;
 use arc_ast::tree::{BinaryOperator, Expr, Kind, TypeName};
@@ -300,7 +305,13 @@ fn taken_by_left(
 }
 
 /// What is told of an assignment, from its sides.
-fn assigned(is_assignable: bool, sign: usize, left: Judged, right: Judged, right_at: usize) -> Judged
+fn assigned(
+    is_assignable: bool,
+    sign: usize,
+    left: Judged,
+    right: Judged,
+    right_at: usize,
+) -> Judged
     ensures kind { result.kind ≡ (if is_assignable then left.kind else None) }
     ensures class { result.class ≡ left.class }
     ensures fault { option_map told result.fault

@@ -186,7 +186,11 @@ fn sends_to_self(rt: HostRuntime) {
 /// What is told of a message to `super` without arguments in a method of the class, or else in a function.
 fn upward(alloc: Global, class: Option<&[u8]>, selector: &[u8]) -> Result<String, AllocError> {
     let selector = Vec::from_slice(alloc, selector)?;
-    answer(alloc, class, Expr::SendSuper(9, 20, 10, selector, Vec::new(alloc)))
+    answer(
+        alloc,
+        class,
+        Expr::SendSuper(9, 20, 10, selector, Vec::new(alloc)),
+    )
 }
 
 #[test]

@@ -1,10 +1,11 @@
 //! Objects by hand, what is told of them and what they become.
+use crate::check::check;
 use crate::judge::{judge_whole, test_fault};
 use crate::resolve::expression;
 use crate::scope::Visible;
 use arc_ast::tree::{
     BinaryOperator, Expr, Field, Function, Implementation, Interface, Kind, MethodHead, Parameters,
-    Sign, TranslationUnit, TypeName, Visibility,
+    Sign, Stmt, TranslationUnit, TypeName, Variable, Visibility,
 };
 use arc_class::table::ClassTable;
 use std::alloc::{AllocError, Global};
@@ -99,27 +100,53 @@ fn told<'a>(
     format!(in alloc; "{:?} {}", typed.value, is_test)
 }
 
-/// What is told of the expression in a method of the class, or else in a function, where `n` is an int, `x` an `id` and `a` an `A *`.
-fn answer(
-    alloc: Global,
-    method: Option<(Sign, &[u8])>,
+/// An expression in a method of the sign of the class, or else in a function, the types of two variables that are visible there, and the source.
+#[derive(Drop)]
+struct Place {
+    unit: TranslationUnit,
+    sign: Sign,
+    class: Option<Vec<u8>>,
+    x: TypeName,
+    a: TypeName,
     expr: Expr,
-) -> Result<String, AllocError> {
-    let unit = source(alloc)?;
-    let table = match ClassTable::build(alloc, &unit) {
+}
+
+/// What is told of the expression, where `n` is an int.
+fn told_in(alloc: Global, place: &Place) -> Result<String, AllocError> {
+    let table = match ClassTable::build(alloc, &place.unit) {
         Ok(table) => table,
         Err(fault) => return format!(in alloc; "{fault}"),
     };
-    let any = TypeName::Id;
-    let class = TypeName::Object(8, Vec::from_slice(alloc, b"A")?);
-    let mut visible = match method {
-        Some((sign, name)) => Visible::in_method(alloc, table.objc_get_class(name), sign),
+    let mut visible = match &place.class {
+        Some(name) => Visible::in_method(alloc, table.objc_get_class(name), place.sign),
         None => Visible::new(alloc),
     };
     visible.declare_int(b"n")?;
-    visible.declare(&table, &any, b"x")?;
-    visible.declare(&table, &class, b"a")?;
-    told(alloc, &table, &visible, &expr)
+    visible.declare(&table, &place.x, b"x")?;
+    visible.declare(&table, &place.a, b"a")?;
+    told(alloc, &table, &visible, &place.expr)
+}
+
+/// The same, where `x` is an `id` and `a` an `A *`.
+fn answer(
+    alloc: Global,
+    sign: Sign,
+    class: Option<&[u8]>,
+    expr: Expr,
+) -> Result<String, AllocError> {
+    let class = match class {
+        Some(name) => Some(Vec::from_slice(alloc, name)?),
+        None => None,
+    };
+    let place = Place {
+        unit: source(alloc)?,
+        sign,
+        class,
+        x: TypeName::Id,
+        a: TypeName::Object(8, Vec::from_slice(alloc, b"A")?),
+        expr,
+    };
+    told_in(alloc, &place)
 }
 
 fn name(alloc: Global, at: usize, bytes: &[u8]) -> Result<Expr, AllocError> {
@@ -147,7 +174,7 @@ fn arrow(alloc: Global, base: Expr, name: &[u8]) -> Result<Expr, AllocError> {
 /// `name = value` in a function, with the value at 20
 fn stored(alloc: Global, variable: &[u8], value: Expr) -> Result<String, AllocError> {
     let left = name(alloc, 10, variable)?;
-    answer(alloc, None, assigned(alloc, left, value)?)
+    answer(alloc, Sign::Class, None, assigned(alloc, left, value)?)
 }
 
 #[test]
@@ -166,27 +193,40 @@ fn assigns_objects(rt: HostRuntime) {
 /// `[receiver selector]` with the receiver at 10 and the selector at 20
 fn message(
     alloc: Global,
-    method: Option<(Sign, &[u8])>,
+    sign: Sign,
+    class: Option<&[u8]>,
     receiver: Expr,
     selector: &[u8],
 ) -> Result<String, AllocError> {
-    answer(alloc, method, sent(alloc, receiver, 20, selector)?)
+    answer(alloc, sign, class, sent(alloc, receiver, 20, selector)?)
 }
 
 /// `[receiver selector]` with a name as its receiver, in a function
 fn named(alloc: Global, receiver: &[u8], selector: &[u8]) -> Result<String, AllocError> {
-    message(alloc, None, name(alloc, 10, receiver)?, selector)
+    message(
+        alloc,
+        Sign::Class,
+        None,
+        name(alloc, 10, receiver)?,
+        selector,
+    )
 }
 
 #[test]
 fn sends_to_objects(rt: HostRuntime) {
     let alloc = rt.alloc();
     let found = named(alloc, b"a", b"size").expect(&rt, "no memory");
-    assert_eq!(rt; found.as_str(), "Gives(Int, SentTo(Variable(1), 1, [])) true");
+    assert_eq!(rt;
+        found.as_str(),
+        "Gives(Int, SentTo(Variable(1), 1, [])) true"
+    );
     let found = named(alloc, b"a", b"own").expect(&rt, "no memory");
     assert_eq!(rt; found.as_str(), "42 NoSuchMethod at 20");
     let found = named(alloc, b"x", b"own").expect(&rt, "no memory");
-    assert_eq!(rt; found.as_str(), "Gives(Int, SentTo(Variable(0), 2, [])) true");
+    assert_eq!(rt;
+        found.as_str(),
+        "Gives(Int, SentTo(Variable(0), 2, [])) true"
+    );
     let found = named(alloc, b"n", b"own").expect(&rt, "no memory");
     assert_eq!(rt; found.as_str(), "43 KindMismatch at 10");
     let found = named(alloc, b"A", b"alloc").expect(&rt, "no memory");
@@ -200,52 +240,60 @@ fn sends_to_objects(rt: HostRuntime) {
 #[test]
 fn sends_to_self_of_classes(rt: HostRuntime) {
     let alloc = rt.alloc();
-    let class: Option<(Sign, &[u8])> = Some((Sign::Class, b"B"));
-    let found = message(alloc, class, Expr::Itself(10), b"new").expect(&rt, "no memory");
+    let class: Option<&[u8]> = Some(b"B");
+    let found = message(alloc, Sign::Class, class, Expr::Itself(10), b"new").expect(
+        &rt,
+        "no memory",
+    );
     assert_eq!(rt; found.as_str(), "Refers(Made(Local(0))) true");
-    let found = answer(alloc, class, Expr::Itself(10)).expect(&rt, "no memory");
+    let found = answer(alloc, Sign::Class, class, Expr::Itself(10)).expect(&rt, "no memory");
     assert_eq!(rt; found.as_str(), "43 KindMismatch at 10");
-    let object: Option<(Sign, &[u8])> = Some((Sign::Instance, b"B"));
-    let found = answer(alloc, object, Expr::Itself(10)).expect(&rt, "no memory");
+    let found = answer(alloc, Sign::Instance, class, Expr::Itself(10)).expect(&rt, "no memory");
     assert_eq!(rt; found.as_str(), "Refers(Itself) true");
-    let found = answer(alloc, None, Expr::Itself(10)).expect(&rt, "no memory");
+    let found = answer(alloc, Sign::Class, None, Expr::Itself(10)).expect(&rt, "no memory");
     assert_eq!(rt; found.as_str(), "41 UnknownName at 10");
 }
 
 /// `base->name`, with the base at 10
 fn read(
     alloc: Global,
-    method: Option<(Sign, &[u8])>,
+    sign: Sign,
+    class: Option<&[u8]>,
     base: &[u8],
     field: &[u8],
 ) -> Result<String, AllocError> {
-    answer(alloc, method, arrow(alloc, name(alloc, 10, base)?, field)?)
+    answer(
+        alloc,
+        sign,
+        class,
+        arrow(alloc, name(alloc, 10, base)?, field)?,
+    )
 }
 
 #[test]
 fn names_fields(rt: HostRuntime) {
     let alloc = rt.alloc();
-    let above: Option<(Sign, &[u8])> = Some((Sign::Class, b"A"));
-    let below: Option<(Sign, &[u8])> = Some((Sign::Instance, b"B"));
-    let found = read(alloc, None, b"a", b"r").expect(&rt, "no memory");
+    let above: Option<&[u8]> = Some(b"A");
+    let below: Option<&[u8]> = Some(b"B");
+    let found = read(alloc, Sign::Class, None, b"a", b"r").expect(&rt, "no memory");
     assert_eq!(rt; found.as_str(), "Gives(Int, Field(Variable(1), 1, 2)) true");
-    let found = read(alloc, None, b"a", b"q").expect(&rt, "no memory");
+    let found = read(alloc, Sign::Class, None, b"a", b"q").expect(&rt, "no memory");
     assert_eq!(rt; found.as_str(), "49 FieldHidden at 14");
-    let found = read(alloc, below, b"a", b"q").expect(&rt, "no memory");
+    let found = read(alloc, Sign::Instance, below, b"a", b"q").expect(&rt, "no memory");
     assert_eq!(rt; found.as_str(), "Gives(Int, Field(Variable(1), 1, 1)) true");
-    let found = read(alloc, below, b"a", b"p").expect(&rt, "no memory");
+    let found = read(alloc, Sign::Instance, below, b"a", b"p").expect(&rt, "no memory");
     assert_eq!(rt; found.as_str(), "49 FieldHidden at 14");
-    let found = read(alloc, above, b"a", b"p").expect(&rt, "no memory");
+    let found = read(alloc, Sign::Class, above, b"a", b"p").expect(&rt, "no memory");
     assert_eq!(rt; found.as_str(), "Gives(Int, Field(Variable(1), 1, 0)) true");
-    let found = read(alloc, None, b"x", b"r").expect(&rt, "no memory");
+    let found = read(alloc, Sign::Class, None, b"x", b"r").expect(&rt, "no memory");
     assert_eq!(rt; found.as_str(), "41 UnknownName at 14");
-    let found = read(alloc, None, b"n", b"r").expect(&rt, "no memory");
+    let found = read(alloc, Sign::Class, None, b"n", b"r").expect(&rt, "no memory");
     assert_eq!(rt; found.as_str(), "43 KindMismatch at 10");
     let bare = name(alloc, 10, b"q").expect(&rt, "no memory");
-    let found = answer(alloc, below, bare).expect(&rt, "no memory");
+    let found = answer(alloc, Sign::Instance, below, bare).expect(&rt, "no memory");
     assert_eq!(rt; found.as_str(), "Gives(Int, Field(Itself, 1, 1)) true");
     let bare = name(alloc, 10, b"q").expect(&rt, "no memory");
-    let found = answer(alloc, above, bare).expect(&rt, "no memory");
+    let found = answer(alloc, Sign::Class, above, bare).expect(&rt, "no memory");
     assert_eq!(rt; found.as_str(), "41 UnknownName at 10");
 }
 
@@ -253,7 +301,12 @@ fn names_fields(rt: HostRuntime) {
 fn compared(alloc: Global, right: Expr) -> Result<String, AllocError> {
     let left = Box::new(alloc, name(alloc, 10, b"a")?)?;
     let right = Box::new(alloc, right)?;
-    answer(alloc, None, Expr::Binary(10, BinaryOperator::NotEqual, left, right))
+    answer(
+        alloc,
+        Sign::Class,
+        None,
+        Expr::Binary(10, BinaryOperator::NotEqual, left, right),
+    )
 }
 
 #[test]
@@ -266,12 +319,12 @@ fn compares_objects(rt: HostRuntime) {
 }
 
 /// `[..[[a init] init].. init]` with so many messages, of which the innermost has its selector at 1000, the next one at 1001 and so on
-fn nested(alloc: Global, count: usize) -> Result<String, AllocError> {
+fn nested(alloc: Global, count: u8) -> Result<String, AllocError> {
     let mut expr = name(alloc, 10, b"a")?;
     for index in 0..count {
-        expr = sent(alloc, expr, 1000 + index, b"init")?;
+        expr = sent(alloc, expr, 1000 + usize::from(index), b"init")?;
     }
-    answer(alloc, None, expr)
+    answer(alloc, Sign::Class, None, expr)
 }
 
 #[test]
@@ -281,4 +334,60 @@ fn refuses_many_objects(rt: HostRuntime) {
     assert!(rt; found.starts_with("Refers(Initialized("));
     let found = nested(alloc, 200).expect(&rt, "no memory");
     assert_eq!(rt; found.as_str(), "50 TooManyLocals at 1199");
+}
+
+fn variable(alloc: Global, name: &[u8], initial: Option<Expr>) -> Result<Variable, AllocError> {
+    Ok(Variable {
+        at: 10,
+        name: Vec::from_slice(alloc, name)?,
+        initial,
+    })
+}
+
+/// `int main(void) { id x = nil; { id y; x; } }`
+fn declaring(alloc: Global) -> Result<TranslationUnit, AllocError> {
+    let outer = variable(alloc, b"x", Some(Expr::Nil(11)))?;
+    let inner = variable(alloc, b"y", None)?;
+    let block = vec![in alloc;
+        Stmt::Variables(12, TypeName::Id, vec![in alloc; inner]?),
+        Stmt::Expr(name(alloc, 13, b"x")?),
+    ]?;
+    let body = vec![in alloc;
+        Stmt::Variables(14, TypeName::Id, vec![in alloc; outer]?),
+        Stmt::Block(15, block),
+    ]?;
+    let main = Function {
+        at: 900,
+        name: Vec::from_slice(alloc, b"main")?,
+        result: Kind::Int,
+        parameters: Parameters::Ints(Vec::new(alloc)),
+        body: Some(body),
+    };
+    Ok(TranslationUnit {
+        functions: vec![in alloc; main]?,
+        interfaces: Vec::new(alloc),
+        implementations: Vec::new(alloc),
+    })
+}
+
+/// The functions that `check` answers for that source.
+fn declared(alloc: Global) -> Result<String, AllocError> {
+    let unit = declaring(alloc)?;
+    let table = match ClassTable::build(alloc, &unit) {
+        Ok(table) => table,
+        Err(fault) => return format!(in alloc; "{fault}"),
+    };
+    match check(alloc, &unit, &table) {
+        Ok(program) => format!(in alloc; "{:?}", program.functions),
+        Err(fault) => format!(in alloc; "{fault}"),
+    }
+}
+
+#[test]
+fn declares_objects(rt: HostRuntime) {
+    let found = declared(rt.alloc()).expect(&rt, "no memory");
+    assert_eq!(rt;
+        found.as_str(),
+        "[CheckedFunction { slots: 0, names: 2, body: [Sequence(0, 0, [Begin(0, Nil)]), Sequence(1, 1, [Sequence(0, 0, []), EvaluateReference(Variable(0))])] }]"
+    );
 }

@@ -15,7 +15,9 @@ use crate::callee::{Callee, callee_of, result_kind};
 use crate::checked::{Reference, Value};
 use crate::field::own_field;
 use crate::format::pieces;
-use crate::message::{above, class_receiver, sent_class, sent_kind, static_class, super_class, super_kind};
+use crate::message::{
+    above, class_receiver, sent_class, sent_kind, static_class, super_class, super_kind,
+};
 use crate::rule::{is_object, literal_kind, wider};
 use crate::scope::{Local, Visible};
 use arc_ast::tree::{BinaryOperator, Expr, Kind, Sign};

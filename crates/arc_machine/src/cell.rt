@@ -7,8 +7,11 @@ ghost use Rattle.arc_machine.specs.Cells.{Cell, IsCell, HasField, Becomes, Makes
 use arc_heap::store::{Ref, Store};
 
 const CLASS: usize = 0;
+
 const COUNT: usize = 1;
+
 const PHASE: usize = 2;
+
 const NUMBER: usize = 3;
 
 /// How many words stand before those of the fields.

@@ -1,4 +1,4 @@
-use Rattle.std.proofs.Common.{◌≡◌, refl, sym, ap, ◌∙◌, cond, option_map}
+use Rattle.std.proofs.Common.{sym, ap, ◌∙◌, cond}
 use Rattle.std.proofs.lemmas.Result.{on_ok_weaker}
 use Rattle.arc_ast.specs.Tree.{type_tree}
 use Rattle.arc_check.specs.Scopes.{has_place, with_object, declare}
