@@ -1,6 +1,11 @@
-pub mod Words
 pub mod Cells
-pub mod Standing
-pub mod Views
-pub mod Steps
+pub mod Entering
+pub mod Places
+pub mod Releases
 pub mod Runs
+pub mod Sample
+pub mod Standing
+pub mod Steps
+pub mod Told
+pub mod Views
+pub mod Words

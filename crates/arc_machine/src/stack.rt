@@ -1,5 +1,5 @@
 //! A stack, in room that was reserved.
-ghost use Rattle.std.specs.Prelude.{◌≡◌, ◌+◌, ◌<◌, ◌∷◌, length, IfOk, List, Some, slice_get};
+ghost use Rattle.std.specs.Prelude.{◌≡◌, ◌+◌, ◌<◌, ◌≤◌, ◌∷◌, length, drop, IfOk, List, Some, slice_get};
 ghost use Rattle.arc_machine.specs.Words.{empty, pushed, with_item, Took};
 
 use arc_spec::event::NoMemory;
@@ -114,5 +114,16 @@ impl<T: Copy + Drop> Stack<T> {
     {
         let place = self.items.len() - 1 - depth;
         self.items[place] = item;
+    }
+
+    /// Takes so many from the top.
+    #[inline(always)]
+    pub fn forget(&mut self, count: usize)
+        requires { count ≤ length self.old.items }
+        ensures items { self.new.items ≡ drop count self.old.items }
+        ensures room { self.new.room ≡ self.old.room }
+    {
+        let left = self.items.len() - count;
+        self.items.truncate(left);
     }
 }
