@@ -25,7 +25,7 @@ use Rattle.arc_emit.specs.Faults as emitting
 use Rattle.arc_emit.specs.Emitted.{IsLarge}
 use Rattle.arc_code.specs.Running.{Program, seen, IsSound}
 use Rattle.arc_tool.specs.declared.refusal.Refusal.{Refusal}
-use Rattle.arc_tool.specs.Accepted.{Accepted, program_meant, meant, Compiles}
+use Rattle.arc_tool.specs.Accepted.{Accepted, program_meant, meant, Compiles, CompilesNamed, class_names}
 use Rattle.arc_tool.specs.Refused.{IsRefusal, too_large, no_memory}
 use Rattle.arc_tool.specs.Told.{Tells}
 
@@ -44,13 +44,16 @@ module _ (source : List ℕ) (tokens : List Token) (unit : TranslationUnit) (tab
   pub performed : Performs (program_meant accepted) actions
   performed = subst (λ program. Performs program actions) (ap program_of same ∙ resolved) performs
 
-  pub compiled : (code : Program) → IsSound code → Refines (acting.seen actions) (seen code) → Steady (seen code) → Compiles source code
+  abbrev pub compiled : (code : Program) → IsSound code → Refines (acting.seen actions) (seen code) → Steady (seen code) → Compiles source code
   compiled code sound refines steady = record {
     program = accepted;
     behaves = composed (meant accepted) (acting.seen actions) (seen code) performed.behaves performed.steady refines;
     steady = steady;
     sound = sound;
   }
+
+  pub compiled_named : (code : Program) (names : List (List ℕ)) → IsSound code → Refines (acting.seen actions) (seen code) → Steady (seen code) → names ≡ class_names (unit_tree unit) → CompilesNamed source code names
+  compiled_named code names sound refines steady named = record { compiled = compiled code sound refines steady; named = named }
 
   pub not_emitted : (e : EmitFault) (r : Refusal) → (e ≡ f.TooLarge → IsLarge actions) → Tells (emitting.fault_number e) (emitting.fault_name e) 0 r → IsRefusal source r
   not_emitted f.TooLarge r large tells = too_large accepted actions performed (large refl) tells

@@ -4,28 +4,26 @@ use Rattle.std.proofs.lemmas.List.{append-nil}
 use Rattle.std.specs.Io.KnownBytes.{Appends, Consumes, Keeps}
 use Rattle.std.proofs.KnownBytes.{Appends-kept}
 use Rattle.arc_spec.specs.declared.event.Event.{Event}
-use Rattle.arc_spec.specs.declared.event.Event.TheVariants.{Byte}
 use Rattle.arc_spec.specs.Stepping.{Next, Goes, Asks, Ends, Faults, Stuck, Running, follow, further, after_steps}
 use Rattle.arc_spec.specs.Correct as correct
 use Rattle.arc_spec.specs.Correct.{IsPrefix, Sight, Behaves, Steady, run_seen}
 use Rattle.arc_code.specs.declared.code.IoFault.TheVariants.{Read, Write}
 use Rattle.arc_code.specs.Running.{Program, State, start, step, seen}
+use Rattle.arc_heap.specs.Blocks.{Blocks}
 use Rattle.arc_machine.specs.declared.stop.Stop.{Stop}
 use Rattle.arc_machine.specs.declared.stop.Stop.TheVariants as stop
 use Rattle.arc_machine.specs.declared.stop.Answer.{Answer}
 use Rattle.arc_machine.specs.declared.stop.Answer.TheVariants as answer
 use Rattle.arc_machine.specs.Views.{Seen, fresh, said}
-use Rattle.arc_machine.specs.Runs.{Leaves, Writes, Runs, reached, next_bytes}
+use Rattle.arc_machine.specs.Runs.{Leaves, Writes, Moves, Runs, reached, next_bytes}
 use Rattle.arc_machine.specs.Steps.{bytes_of}
+use Rattle.arc_machine.proofs.Farther.{bytes_of-append}
 use Rattle.arc_tool.specs.declared.run.ToolFault.{ToolFault}
 use Rattle.arc_tool.specs.Accepted.{Compiles, meant}
 use Rattle.arc_tool.specs.declared.refusal.Refusal.{Refusal}
 use Rattle.arc_tool.specs.Refused.{IsRefusal}
+use Rattle.arc_tool.proofs.Following.{fresh_stands}
 use Rattle.arc_tool.specs.Ran.{Starts, Shown, Meant, Ran, Answered, Becomes}
-
-bytes_of-append : (a b : List Event) → bytes_of (a ++ b) ≡ bytes_of a ++ bytes_of b
-bytes_of-append [] b = refl
-bytes_of-append (Byte x ∷ a) b = ap (λ l. x ∷ l) (bytes_of-append a b)
 
 -- the bytes of more events
 starts_so : (a b : List Event) → IsPrefix a b → Starts (bytes_of a) (bytes_of b)
@@ -54,6 +52,7 @@ reached_trace answer.Going s i t = refl
 reached_trace (answer.Ended n) s i t = refl
 reached_trace (answer.Faulted f) s i t = refl
 reached_trace (answer.Broken f) s i t = refl
+reached_trace answer.NoHeap s i t = refl
 
 module _ (source : List ℕ) (p : Program) (compiled : Compiles source p) (steps made : ℕ) (within : made ≤ steps) where
   grown : (input : List ℕ) → IsPrefix (seen p input made).trace (seen p input (suc made)).trace
@@ -73,6 +72,11 @@ module _ (source : List ℕ) (p : Program) (compiled : Compiles source p) (steps
   meant_so (Ok (stop.Ended n)) written input h = let e = over input (correct.Ends n) h.1 in (ap (λ (x : Sight). bytes_of x.trace) e ∙ h.0, ap (λ (x : Sight). x.stop) e ∙ h.1)
   meant_so (Ok (stop.Fault f)) written input h = let e = over input (correct.Faults f) h.1 in (ap (λ (x : Sight). bytes_of x.trace) e ∙ h.0, ap (λ (x : Sight). x.stop) e ∙ h.1)
   meant_so (Ok stop.StepsUsed) written input h =
+      let now = bytes_of (seen p input made).trace in
+      let next = bytes_of (seen p input (suc made)).trace in
+      let all = bytes_of (meant compiled.program input (suc made)).trace in
+      starts_along now written all h.0 (starts_trans now next all (starts_so (seen p input made).trace (seen p input (suc made)).trace (grown input)) (on_way input))
+  meant_so (Ok stop.NoHeap) written input h =
       let now = bytes_of (seen p input made).trace in
       let next = bytes_of (seen p input (suc made)).trace in
       let all = bytes_of (meant compiled.program input (suc made)).trace in
@@ -135,37 +139,43 @@ module _ (source : List ℕ) (p : Program) (compiled : Compiles source p) (steps
         subst (λ x. Ran source steps (Ok x) in0 in1 out0 out2) there
         (ran (Ok (stop.Fault f)) (bytes_of trace) writes (λ rest l. (ap (λ r. bytes_of (run_seen r).trace) (run rest l), ap (λ r. (run_seen r).stop) (run rest l))))
     stopped (answer.Broken f) t is run writes used = absurd (cc)
+    stopped answer.NoHeap t is run writes used =
+        let there : stop.NoHeap ≡ t = cc in
+        subst (λ x. Ran source steps (Ok x) in0 in1 out0 out2) there
+        (ran (Ok stop.NoHeap) (bytes_of trace) writes (λ rest l. (ap (λ r. bytes_of (run_seen r).trace) (run rest l), ap (λ r. (run_seen r).stop) (run rest l))))
 
     -- a device failed, in the run or behind it
     pub failed : (a : Answer) (e : ToolFault) → Runs_to a → Writes a (step p s) trace out0 out1 → Ran source steps (Err e) in0 in1 out0 out2
     failed answer.Going e run writes = all_written answer.Going e run writes
     failed (answer.Ended n) e run writes = all_written (answer.Ended n) e run writes
     failed (answer.Faulted f) e run writes = all_written (answer.Faulted f) e run writes
+    failed answer.NoHeap e run writes = all_written answer.NoHeap e run writes
     failed (answer.Broken Read) e run writes = all_written (answer.Broken Read) e run writes
     failed (answer.Broken Write) e run writes = part_written e writes.0 writes.1 run writes.2 writes.3
 
 -- ---- a run of a machine that was made for the code
 
-module _ (source : List ℕ) (p : Program) (compiled : Compiles source p) (steps : ℕ) (limit : steps < 2 ^ 64) (old new : Seen) (in0 in1 out0 out1 out2 : Option (List ℕ)) (first : old ≡ fresh p)
-    (moves : old.answer ≡ answer.Going → Runs steps old new in0 in1 out0 out1) (used : new.answer ≡ answer.Going → (new.steps ≡ old.steps + steps) ⊎ (new.steps ≡ 2 ^ 64 - 1)) (kept : Keeps out1 out2) where
-  runs : Runs steps (fresh p) new in0 in1 out0 out1
-  runs = subst (λ (m : Seen). m.answer ≡ answer.Going → Runs steps m new in0 in1 out0 out1) first moves refl
+module _ {S : Type 0} (out : S → Blocks) (store : S) (source : List ℕ) (p : Program) (compiled : Compiles source p) (steps : ℕ) (limit : steps < 2 ^ 64) (old new : Seen S) (in0 in1 out0 out1 out2 : Option (List ℕ))
+    (first : old ≡ fresh p store) (moves : old.answer ≡ answer.Going → Runs out steps old new in0 in1 out0 out1)
+    (used : new.answer ≡ answer.Going → (new.steps ≡ old.steps + steps) ⊎ (new.steps ≡ 2 ^ 64 - 1)) (kept : Keeps out1 out2) where
+  runs : (made : ℕ) × (taken : List ℕ) × (trace : List Event) × (made ≤ steps) × Moves out (fresh p store) new start in0 in1 out0 out1 made taken trace
+  runs = subst (λ (m : Seen S). m.answer ≡ answer.Going → Runs out steps m new in0 in1 out0 out1) first moves refl start (fresh_stands out p store) compiled.sound
 
-  wrote : Writes new.answer (step p new.state) runs.2 out0 out1
-  wrote = subst (λ (q : Program). Writes new.answer (step q new.state) runs.2 out0 out1) runs.4.program runs.4.writes
+  wrote : Writes new.answer (step p runs.4.state) runs.2 out0 out1
+  wrote = subst (λ (q : Program). Writes new.answer (step q runs.4.state) runs.2 out0 out1) runs.4.program runs.4.writes
 
   all_made : new.answer ≡ answer.Going → runs.0 ≡ steps
   all_made going =
-      let none : old.steps ≡ 0 = ap (λ (m : Seen). m.steps) first in
+      let none : old.steps ≡ 0 = ap (λ (m : Seen S). m.steps) first in
       let made : new.steps ≡ 0 + runs.0 = runs.4.steps in
       let within : runs.0 ≤ steps = runs.3 in
       ⊎_elim (λ e. omega arith) (λ e. omega arith) (used going)
 
   pub machine_stopped : (t : Stop) → said new.answer ≡ Ok t → Ran source steps (Ok t) in0 in1 out0 out2
-  machine_stopped t is = stopped source p compiled steps runs.0 runs.3 in0 in1 out0 out1 out2 runs.1 runs.2 new.state runs.4.reads kept new.answer t is runs.4.run wrote all_made
+  machine_stopped t is = stopped source p compiled steps runs.0 runs.3 in0 in1 out0 out1 out2 runs.1 runs.2 runs.4.state runs.4.reads kept new.answer t is runs.4.run wrote all_made
 
   pub machine_failed : (e : ToolFault) → Ran source steps (Err e) in0 in1 out0 out2
-  machine_failed e = failed source p compiled steps runs.0 runs.3 in0 in1 out0 out1 out2 runs.1 runs.2 new.state runs.4.reads kept new.answer e runs.4.run wrote
+  machine_failed e = failed source p compiled steps runs.0 runs.3 in0 in1 out0 out1 out2 runs.1 runs.2 runs.4.state runs.4.reads kept new.answer e runs.4.run wrote
 
 -- ---- a source that is refused
 

@@ -11,7 +11,8 @@ use Rattle.arc_tool.specs.declared.run.ToolFault.TheVariants.{Refused, Memory, I
 use Rattle.arc_tool.specs.Refused.{IsRefusal}
 use Rattle.arc_tool.specs.Ran.{Answered}
 use Rattle.arc_tool.specs.Status.{BecomesTrouble, trouble_of, status_of, line_of}
-use Rattle.arc_tool.specs.Served.{Checks, Lists, RunsSource, Reported}
+use Rattle.arc_tool.specs.Traced.{AnsweredTrace}
+use Rattle.arc_tool.specs.Served.{Checks, Lists, RunsSource, TracesSource, Reported}
 
 pub check_refused : (source : List ℕ) (o : Option (List ℕ)) (r : Refusal) (t : Trouble) → IsRefusal source r → BecomesTrouble r t → Checks source (Err t) o o
 check_refused source o r t is becomes = ⊎_elim
@@ -29,6 +30,12 @@ pub run_refused : (source : List ℕ) (steps : ℕ) (i0 i1 o0 o1 : Option (List 
 run_refused source steps i0 i1 o0 o1 (Refused r) h = h.0
 run_refused source steps i0 i1 o0 o1 Memory h = tt
 run_refused source steps i0 i1 o0 o1 (Io f) h = h
+
+pub trace_refused : (source : List ℕ) (steps : ℕ) (i0 i1 o0 o1 : Option (List ℕ)) (w0 w1 : ℕ) (f : ToolFault) → AnsweredTrace source steps (Err f) i0 i1 o0 o1 w0 w1
+    → TracesSource source steps (Err (trouble_of f)) i0 i1 o0 o1 w0 w1
+trace_refused source steps i0 i1 o0 o1 w0 w1 (Refused r) h = h.0
+trace_refused source steps i0 i1 o0 o1 w0 w1 Memory h = tt
+trace_refused source steps i0 i1 o0 o1 w0 w1 (Io f) h = h
 
 -- a line that was written, and a flush behind it
 pub told_whole : (t : Trouble) (e0 e1 e2 : Option (List ℕ)) (f0 f1 f2 : ℕ) → Written (Ok tt) (line_of t) e0 e1 f0 f1 → Keeps e1 e2 → Reported (Err t) (status_of t) e0 e2 f0 f2

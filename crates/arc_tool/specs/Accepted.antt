@@ -1,8 +1,9 @@
 -- When a source is a program, what it means, and when code does that.
-use Rattle.std.specs.Prelude.{◌≡◌, ℕ, List, []}
+use Rattle.std.specs.Prelude.{◌≡◌, ℕ, List, [], ◌∷◌, codes, Vec}
+use Rattle.std.specs.Global.{Global}
 use Rattle.arc_lex.specs.Tokens.{Tok}
 use Rattle.arc_lex.specs.Source.{Tokens}
-use Rattle.arc_ast.specs.Tree.{UnitTree}
+use Rattle.arc_ast.specs.Tree.{InterfaceTree, UnitTree}
 use Rattle.arc_parse.specs.Grammar.{SpellsUnit}
 use Rattle.arc_parse.specs.Limits.{these}
 use Rattle.arc_class.specs.declared.table.ClassTable.{ClassTable}
@@ -42,3 +43,21 @@ pub record Compiles (source : List ℕ) (code : Program) : Type 0 where
   pub behaves : Behaves (meant program) (seen code)
   pub steady : Steady (seen code)
   pub sound : IsSound code
+
+-- the names of interfaces
+abbrev pub names_of : List InterfaceTree → List (List ℕ)
+names_of [] = []
+names_of (i ∷ others) = i.name ∷ names_of others
+
+-- the names of the classes of a source, in the order of their numbers: the root's, which is built in, and then those of the interfaces
+abbrev pub class_names : UnitTree → List (List ℕ)
+class_names u = codes "NSObject" ∷ names_of u.interfaces
+
+-- a name, without where it lies in memory
+abbrev pub bytes_of_name : Vec ℕ Global → List ℕ
+bytes_of_name name = name.items
+
+-- the same code, and the names of the source's classes
+pub record CompilesNamed (source : List ℕ) (code : Program) (names : List (List ℕ)) : Type 0 where
+  pub compiled : Compiles source code
+  pub named : names ≡ class_names compiled.program.tree

@@ -5,7 +5,7 @@ use Rattle.arc_spec.specs.Correct.{Sight, Ends, Faults}
 use Rattle.arc_code.specs.declared.code.IoFault.TheVariants.{Read, Write}
 use Rattle.arc_code.specs.Running.{Program, seen}
 use Rattle.arc_machine.specs.declared.stop.Stop.{Stop}
-use Rattle.arc_machine.specs.declared.stop.Stop.TheVariants.{Ended, Fault, StepsUsed}
+use Rattle.arc_machine.specs.declared.stop.Stop.TheVariants.{Ended, Fault, StepsUsed, NoHeap}
 use Rattle.arc_machine.specs.Runs.{Leaves}
 use Rattle.arc_machine.specs.Steps.{bytes_of}
 use Rattle.arc_tool.specs.declared.refusal.Refusal.{Refusal}
@@ -24,13 +24,15 @@ abbrev pub Shown : Result Stop ToolFault → (most made : ℕ) → (written : Li
 Shown (Ok (Ended n)) most made written now next = (bytes_of now.trace ≡ written) × (now.stop ≡ Some (Ends n))
 Shown (Ok (Fault f)) most made written now next = (bytes_of now.trace ≡ written) × (now.stop ≡ Some (Faults f))
 Shown (Ok StepsUsed) most made written now next = (bytes_of now.trace ≡ written) × (now.stop ≡ None) × (made ≡ most)
+Shown (Ok NoHeap) most made written now next = (bytes_of now.trace ≡ written) × (now.stop ≡ None)
 Shown (Err e) most made written now next = Starts (bytes_of now.trace) written × Starts written (bytes_of next.trace)
 
--- What was written is what the program means to print, and the stop is the one that it means; of a program that goes on it is the first part.
+-- What was written is what the program means to print, and the stop is the one that it means; of a program that goes on, or was left where there was no room for an object, it is the first part.
 abbrev pub Meant : Result Stop ToolFault → (written : List ℕ) → Sight → Type 0
 Meant (Ok (Ended n)) written m = (bytes_of m.trace ≡ written) × (m.stop ≡ Some (Ends n))
 Meant (Ok (Fault f)) written m = (bytes_of m.trace ≡ written) × (m.stop ≡ Some (Faults f))
 Meant (Ok StepsUsed) written m = Starts written (bytes_of m.trace)
+Meant (Ok NoHeap) written m = Starts written (bytes_of m.trace)
 Meant (Err e) written m = Starts written (bytes_of m.trace)
 
 -- A run of the source's code, of at most so many steps. It took some first bytes of the reader's known ones, and added what it wrote to the

@@ -9,7 +9,7 @@ use Rattle.arc_code.specs.Running.{Program}
 use Rattle.arc_machine.specs.declared.stop.Stop.{Stop}
 use Rattle.arc_machine.specs.declared.stop.Stop.TheVariants as stop
 use Rattle.arc_tool.specs.declared.request.Command.{Command}
-use Rattle.arc_tool.specs.declared.request.Command.TheVariants.{Check, Run, Code}
+use Rattle.arc_tool.specs.declared.request.Command.TheVariants.{Check, Run, Trace, Code}
 use Rattle.arc_tool.specs.declared.request.Words.{Words}
 use Rattle.arc_tool.specs.declared.request.WordsFault.{WordsFault}
 use Rattle.arc_tool.specs.declared.request.WordsFault.TheVariants as words_fault
@@ -17,10 +17,11 @@ use Rattle.arc_tool.specs.declared.serve.FileFault.{FileFault}
 use Rattle.arc_tool.specs.declared.serve.FileFault.TheVariants as file_fault
 use Rattle.arc_tool.specs.declared.run.ToolFault.TheVariants as tool_fault
 use Rattle.arc_tool.specs.declared.report.Trouble.{Trouble}
-use Rattle.arc_tool.specs.declared.report.Trouble.TheVariants.{Usage, Refused, Memory, Fault, StepsUsed, Io, File}
+use Rattle.arc_tool.specs.declared.report.Trouble.TheVariants.{Usage, Refused, Memory, Fault, NoHeap, StepsUsed, Io, File}
 use Rattle.arc_tool.specs.Accepted.{Accepted, Compiles}
 use Rattle.arc_tool.specs.Refused.{IsRefusal}
 use Rattle.arc_tool.specs.Ran.{Ran}
+use Rattle.arc_tool.specs.Traced.{AnsweredTrace}
 use Rattle.arc_tool.specs.Status.{status_of, line_of}
 
 -- the text was printed, or where the device failed some first bytes of it
@@ -40,16 +41,29 @@ Checks source (Err _) o0 o1 = ⊥
 abbrev pub RunsSource : List ℕ → (steps : ℕ) → Result ℕ Trouble → (in0 in1 out0 out1 : Option (List ℕ)) → Type 0
 RunsSource source steps (Ok s) i0 i1 o0 o1 = (n : ℤ) × (s ≡ low_byte n) × Ran source steps (Ok (stop.Ended n)) i0 i1 o0 o1
 RunsSource source steps (Err (Fault f)) i0 i1 o0 o1 = Ran source steps (Ok (stop.Fault f)) i0 i1 o0 o1
+RunsSource source steps (Err NoHeap) i0 i1 o0 o1 = Ran source steps (Ok stop.NoHeap) i0 i1 o0 o1
 RunsSource source steps (Err StepsUsed) i0 i1 o0 o1 = Ran source steps (Ok stop.StepsUsed) i0 i1 o0 o1
 RunsSource source steps (Err (Io f)) i0 i1 o0 o1 = Ran source steps (Err (tool_fault.Io f)) i0 i1 o0 o1
 RunsSource source steps (Err (Refused r)) i0 i1 o0 o1 = IsRefusal source r
 RunsSource source steps (Err Memory) i0 i1 o0 o1 = Unit {0}
 RunsSource source steps (Err _) i0 i1 o0 o1 = ⊥
 
+-- `trace` shows what a program does, with the same status
+abbrev pub TracesSource : List ℕ → (steps : ℕ) → Result ℕ Trouble → (in0 in1 out0 out1 : Option (List ℕ)) → (writes0 writes1 : ℕ) → Type 0
+TracesSource source steps (Ok s) i0 i1 o0 o1 w0 w1 = (n : ℤ) × (s ≡ low_byte n) × AnsweredTrace source steps (Ok (stop.Ended n)) i0 i1 o0 o1 w0 w1
+TracesSource source steps (Err (Fault f)) i0 i1 o0 o1 w0 w1 = AnsweredTrace source steps (Ok (stop.Fault f)) i0 i1 o0 o1 w0 w1
+TracesSource source steps (Err NoHeap) i0 i1 o0 o1 w0 w1 = AnsweredTrace source steps (Ok stop.NoHeap) i0 i1 o0 o1 w0 w1
+TracesSource source steps (Err StepsUsed) i0 i1 o0 o1 w0 w1 = AnsweredTrace source steps (Ok stop.StepsUsed) i0 i1 o0 o1 w0 w1
+TracesSource source steps (Err (Io f)) i0 i1 o0 o1 w0 w1 = AnsweredTrace source steps (Err (tool_fault.Io f)) i0 i1 o0 o1 w0 w1
+TracesSource source steps (Err (Refused r)) i0 i1 o0 o1 w0 w1 = IsRefusal source r
+TracesSource source steps (Err Memory) i0 i1 o0 o1 w0 w1 = Unit {0}
+TracesSource source steps (Err _) i0 i1 o0 o1 w0 w1 = ⊥
+
 -- the status of an end, or the trouble
 abbrev pub ended_with : Stop → Result ℕ Trouble
 ended_with (stop.Ended n) = Ok (low_byte n)
 ended_with (stop.Fault f) = Err (Fault f)
+ended_with stop.NoHeap = Err NoHeap
 ended_with stop.StepsUsed = Err StepsUsed
 
 -- `code` lists the code of a program
@@ -60,10 +74,11 @@ Lists source (Err (Refused r)) o0 o1 = IsRefusal source r × (o1 ≡ o0)
 Lists source (Err Memory) o0 o1 = o1 ≡ o0
 Lists source (Err _) o0 o1 = ⊥
 
-abbrev pub Obeyed : Command → List ℕ → (steps : ℕ) → Result ℕ Trouble → (in0 in1 out0 out1 : Option (List ℕ)) → Type 0
-Obeyed Check source steps answer i0 i1 o0 o1 = Checks source answer o0 o1
-Obeyed Run source steps answer i0 i1 o0 o1 = RunsSource source steps answer i0 i1 o0 o1
-Obeyed Code source steps answer i0 i1 o0 o1 = Lists source answer o0 o1
+abbrev pub Obeyed : Command → List ℕ → (steps : ℕ) → Result ℕ Trouble → (in0 in1 out0 out1 : Option (List ℕ)) → (writes0 writes1 : ℕ) → Type 0
+Obeyed Check source steps answer i0 i1 o0 o1 w0 w1 = Checks source answer o0 o1
+Obeyed Run source steps answer i0 i1 o0 o1 w0 w1 = RunsSource source steps answer i0 i1 o0 o1
+Obeyed Trace source steps answer i0 i1 o0 o1 w0 w1 = TracesSource source steps answer i0 i1 o0 o1 w0 w1
+Obeyed Code source steps answer i0 i1 o0 o1 w0 w1 = Lists source answer o0 o1
 
 -- this trouble, and nothing is read or printed
 abbrev pub Only : Trouble → Result ℕ Trouble → (in0 in1 out0 out1 : Option (List ℕ)) → Type 0
@@ -81,13 +96,13 @@ source_or (Err file_fault.Failed) = Err File
 source_or (Err file_fault.NoMemory) = Err Memory
 
 -- first the words are looked at, then the file, and then the source
-abbrev pub Attempted : Result Words WordsFault → Result (Bor (List ℕ)) FileFault → Result ℕ Trouble → (in0 in1 out0 out1 : Option (List ℕ)) → Type 0
-Attempted (Err words_fault.Usage) file answer i0 i1 o0 o1 = Only Usage answer i0 i1 o0 o1
-Attempted (Err words_fault.Memory) file answer i0 i1 o0 o1 = Only Memory answer i0 i1 o0 o1
-Attempted (Err (words_fault.Help text)) file answer i0 i1 o0 o1 = Helps (string_bytes text) answer o0 o1
-Attempted (Ok words) (Err file_fault.Failed) answer i0 i1 o0 o1 = Only File answer i0 i1 o0 o1
-Attempted (Ok words) (Err file_fault.NoMemory) answer i0 i1 o0 o1 = Only Memory answer i0 i1 o0 o1
-Attempted (Ok words) (Ok source) answer i0 i1 o0 o1 = Obeyed words.command source.now words.steps answer i0 i1 o0 o1
+abbrev pub Attempted : Result Words WordsFault → Result (Bor (List ℕ)) FileFault → Result ℕ Trouble → (in0 in1 out0 out1 : Option (List ℕ)) → (writes0 writes1 : ℕ) → Type 0
+Attempted (Err words_fault.Usage) file answer i0 i1 o0 o1 w0 w1 = Only Usage answer i0 i1 o0 o1
+Attempted (Err words_fault.Memory) file answer i0 i1 o0 o1 w0 w1 = Only Memory answer i0 i1 o0 o1
+Attempted (Err (words_fault.Help text)) file answer i0 i1 o0 o1 w0 w1 = Helps (string_bytes text) answer o0 o1
+Attempted (Ok words) (Err file_fault.Failed) answer i0 i1 o0 o1 w0 w1 = Only File answer i0 i1 o0 o1
+Attempted (Ok words) (Err file_fault.NoMemory) answer i0 i1 o0 o1 w0 w1 = Only Memory answer i0 i1 o0 o1
+Attempted (Ok words) (Ok source) answer i0 i1 o0 o1 w0 w1 = Obeyed words.command source.now words.steps answer i0 i1 o0 o1 w0 w1
 
 -- the status, and what is told: nothing, or trouble in one line, of which a failing device may take some first bytes alone
 abbrev pub Reported : Result ℕ Trouble → (status : ℕ) → (told0 told1 : Option (List ℕ)) → (failures0 failures1 : ℕ) → Type 0

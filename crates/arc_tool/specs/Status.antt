@@ -7,13 +7,14 @@ use Rattle.arc_tool.specs.declared.run.ToolFault.{ToolFault}
 use Rattle.arc_tool.specs.declared.run.ToolFault.TheVariants as tool_fault
 use Rattle.arc_tool.specs.Told.{Names}
 use Rattle.arc_tool.specs.declared.report.Trouble.{Trouble}
-use Rattle.arc_tool.specs.declared.report.Trouble.TheVariants.{Usage, Refused, Memory, Fault, StepsUsed, Io, File}
+use Rattle.arc_tool.specs.declared.report.Trouble.TheVariants.{Usage, Refused, Memory, Fault, NoHeap, StepsUsed, Io, File}
 
 abbrev pub status_of : Trouble → ℕ
 status_of Usage = 101
 status_of (Refused refusal) = 102
 status_of Memory = 102
 status_of (Fault fault) = 103
+status_of NoHeap = 104
 status_of StepsUsed = 105
 status_of (Io fault) = 106
 status_of File = 106
@@ -27,6 +28,7 @@ message_of Usage = codes "usage: check, run, trace or code, and FILE"
 message_of (Refused refusal) = named (codes "refused ") refusal.number refusal.name.now ++ codes " at " ++ decimal refusal.at
 message_of Memory = codes "no memory"
 message_of (Fault fault) = named (codes "fault ") (stopped.number_of fault) (stopped.name_of fault)
+message_of NoHeap = codes "no heap"
 message_of StepsUsed = codes "steps used"
 message_of (Io fault) = named (codes "io ") (faulty.fault_number fault) (faulty.fault_name fault)
 message_of File = named (codes "io ") 93 (codes "File")

@@ -2,6 +2,7 @@
 #![tactic(auto)]
 
 pub mod compile;
+mod lines;
 pub mod refusal;
 pub mod report;
 pub mod request;
@@ -9,4 +10,5 @@ pub mod run;
 pub mod serve;
 #[cfg(test)]
 mod tests;
+pub mod trace;
 pub mod words;

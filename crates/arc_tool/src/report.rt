@@ -1,8 +1,12 @@
 //! What is told on standard error, and the status with which the program ends.
-ghost use Rattle.std.specs.Prelude.{◌≡◌, ◌-◌, ◌^◌, ◌<◌, ◌++◌, codes, decimal};
+ghost use Rattle.std.specs.Prelude.{◌≡◌, ◌+◌, ◌-◌, ◌^◌, ◌<◌, ◌++◌, codes, decimal, IfErr, OnOk, OnErr};
+ghost use Rattle.std.specs.Io.KnownBytes.{Keeps};
 ghost use Rattle.arc_code.specs.Counting.{failures_of, held_by};
 ghost use Rattle.arc_code.specs.Written.{Written};
+ghost use Rattle.arc_code.specs.Faulty as faulty;
+ghost use Rattle.arc_machine.specs.Told as stopped;
 ghost use Rattle.arc_tool.specs.Status.{status_of, line_of, message_of, named};
+ghost use Rattle.arc_code.specs.declared.code.IoFault.TheVariants as fault;
 
 use crate::refusal::Refusal;
 use crate::run::ToolFault;
@@ -24,6 +28,8 @@ pub enum Trouble {
     Memory,
     /// The source's program was stopped.
     Fault(Fault),
+    /// There was no room for an object.
+    NoHeap,
     /// All steps were made, and the source's program goes on.
     StepsUsed,
     /// Standard input or output failed.
@@ -80,6 +86,7 @@ pub fn status(trouble: &Trouble) -> u8
         Trouble::Usage => 101,
         Trouble::Refused(_) | Trouble::Memory => 102,
         Trouble::Fault(_) => 103,
+        Trouble::NoHeap => 104,
         Trouble::StepsUsed => 105,
         Trouble::Io(_) | Trouble::File => 106,
     }
@@ -107,13 +114,34 @@ fn put_message<E: Write>(trouble: &Trouble, errors: &mut Counted<E>) -> Result<(
         Trouble::Usage => put(b"usage: check, run, trace or code, and FILE", errors),
         Trouble::Refused(refusal) => put_refusal(refusal, errors),
         Trouble::Memory => put(b"no memory", errors),
-        Trouble::Fault(fault) => {
-            put_named(b"fault ", fault_number(*fault), fault_name(*fault), errors)
-        }
+        Trouble::Fault(fault) => put_fault(*fault, errors),
+        Trouble::NoHeap => put(b"no heap", errors),
         Trouble::StepsUsed => put(b"steps used", errors),
-        Trouble::Io(fault) => put_named(b"io ", fault.number(), fault.name(), errors),
-        Trouble::File => put_named(b"io ", 93, "File", errors),
+        Trouble::Io(fault) => put_broken(*fault, errors),
+        Trouble::File => put_named(b"io ", 93, b"File", errors),
     }
+}
+
+/// Writes why a program was stopped.
+pub(crate) fn put_fault<W: Write>(fault: Fault, writer: &mut Counted<W>) -> Result<(), IoFault>
+    requires { failures_of writer.old < 2 ^ 64 - 1 }
+    ensures { Written result (named (codes "fault ") (stopped.number_of fault) (stopped.name_of fault))
+        (held_by W.contents writer.old) (held_by W.contents writer.new)
+        (failures_of writer.old) (failures_of writer.new) }
+{
+    let name = fault_name(fault).as_bytes();
+    put_named(b"fault ", fault_number(fault) as u64, name, writer)
+}
+
+/// Writes which device failed.
+pub(crate) fn put_broken<W: Write>(fault: IoFault, writer: &mut Counted<W>) -> Result<(), IoFault>
+    requires { failures_of writer.old < 2 ^ 64 - 1 }
+    ensures { Written result (named (codes "io ") (faulty.fault_number fault) (faulty.fault_name fault))
+        (held_by W.contents writer.old) (held_by W.contents writer.new)
+        (failures_of writer.old) (failures_of writer.new) }
+{
+    let name = fault.name().as_bytes();
+    put_named(b"io ", fault.number() as u64, name, writer)
 }
 
 fn put_refusal<E: Write>(refusal: &Refusal, errors: &mut Counted<E>) -> Result<(), IoFault>
@@ -122,27 +150,28 @@ fn put_refusal<E: Write>(refusal: &Refusal, errors: &mut Counted<E>) -> Result<(
         (held_by E.contents errors.old) (held_by E.contents errors.new)
         (failures_of errors.old) (failures_of errors.new) }
 {
-    put_named(b"refused ", refusal.number, refusal.name, errors)?;
+    let name = refusal.name.as_bytes();
+    put_named(b"refused ", refusal.number as u64, name, errors)?;
     put(b" at ", errors)?;
     put_number(refusal.at as u64, errors)
 }
 
-/// Writes what kind of trouble it is, and its number and name.
-fn put_named<E: Write>(
+/// Writes what kind of thing it is, and its number and name.
+pub(crate) fn put_named<W: Write>(
     kind: &[u8],
-    number: u8,
-    name: &str,
-    errors: &mut Counted<E>,
+    number: u64,
+    name: &[u8],
+    writer: &mut Counted<W>,
 ) -> Result<(), IoFault>
-    requires { failures_of errors.old < 2 ^ 64 - 1 }
+    requires { failures_of writer.old < 2 ^ 64 - 1 }
     ensures { Written result (named kind.now number name.now)
-        (held_by E.contents errors.old) (held_by E.contents errors.new)
-        (failures_of errors.old) (failures_of errors.new) }
+        (held_by W.contents writer.old) (held_by W.contents writer.new)
+        (failures_of writer.old) (failures_of writer.new) }
 {
-    put(kind, errors)?;
-    put_number(number as u64, errors)?;
-    put(b" ", errors)?;
-    put(name.as_bytes(), errors)
+    put(kind, writer)?;
+    put_number(number, writer)?;
+    put(b" ", writer)?;
+    put(name, writer)
 }
 
 fn put_number<E: Write>(number: u64, errors: &mut Counted<E>) -> Result<(), IoFault>
@@ -162,6 +191,20 @@ pub fn put<E: Write>(bytes: &[u8], writer: &mut Counted<E>) -> Result<(), IoFaul
         (failures_of writer.old) (failures_of writer.new) }
 {
     match writer.put_all(bytes) {
+        Ok(()) => Ok(()),
+        Err(_) => Err(IoFault::Write),
+    }
+}
+
+/// Has the device pass on what it holds back. The error is a failure of the device.
+pub(crate) fn flush<W: Write>(writer: &mut Counted<W>) -> Result<(), IoFault>
+    requires { failures_of writer.old < 2 ^ 64 - 1 }
+    ensures kept { Keeps (held_by W.contents writer.old) (held_by W.contents writer.new) }
+    ensures fine { OnOk result (failures_of writer.new ≡ failures_of writer.old) }
+    ensures fault { IfErr result (λ f. f ≡ fault.Write) }
+    ensures cause { OnErr result (failures_of writer.new ≡ failures_of writer.old + 1) }
+{
+    match writer.flush() {
         Ok(()) => Ok(()),
         Err(_) => Err(IoFault::Write),
     }

@@ -10,6 +10,8 @@ pub enum Command {
     Check,
     /// Run it.
     Run,
+    /// Run it, and show what it does.
+    Trace,
     /// List its code.
     Code,
 }

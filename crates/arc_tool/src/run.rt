@@ -7,6 +7,7 @@ use crate::compile::compile;
 use crate::refusal::Refusal;
 use arc_code::code::IoFault;
 use arc_code::counted::Counted;
+use arc_heap::plain::PlainStore;
 use arc_machine::machine::Machine;
 use arc_machine::stop::Stop;
 use arc_spec::event::NoMemory;
@@ -53,9 +54,20 @@ impl From<NoMemory> for ToolFault {
     }
 }
 
+impl From<IoFault> for ToolFault {
+    ghost use Rattle.std.specs.Prelude.{◌≡◌};
+    ghost use Rattle.arc_tool.specs.declared.run.ToolFault.TheVariants.{Io};
+
+    ghost from_gives = { λ e f. f ≡ Io e };
+
+    fn from(fault: IoFault) -> ToolFault {
+        ToolFault::Io(fault)
+    }
+}
+
 /// Compiles the source and runs its code for at most so many steps. What was printed is flushed at the end, whatever the stop; a flush
 /// that fails is the writer's failure. Nothing is read or written before the code and the machine are made. The heap's words aren't
-/// used yet: no program has objects.
+/// used yet: objects are kept in a store that grows.
 pub fn run_text<R: Read, W: Write>(
     alloc: Global,
     source: &[u8],
@@ -74,7 +86,7 @@ pub fn run_text<R: Read, W: Write>(
         (failures_of writer.old) (failures_of writer.new) }
 {
     let code = compile(alloc, source)?;
-    let mut machine = Machine::new(alloc, code)?;
+    let mut machine = Machine::new(alloc, code, PlainStore::new(alloc))?;
     match machine.run(steps, reader, writer) {
         Ok(stop) => match writer.flush() {
             Ok(()) => Ok(stop),

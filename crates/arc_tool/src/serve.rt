@@ -1,14 +1,14 @@
 //! The whole program, but for reading its file.
 ghost use Rattle.std.specs.Prelude.{◌≡◌, ◌-◌, ◌^◌, ◌<◌, ℕ, Result, Err};
-ghost use Rattle.std.specs.Io.KnownBytes.{Keeps};
 ghost use Rattle.arc_code.specs.Counting.{failures_of, left_in, held_by};
 ghost use Rattle.arc_tool.specs.declared.report.Trouble.{Trouble};
 ghost use Rattle.arc_tool.specs.Served.{Attempted, Obeyed, Reported, Printed, Checks, Lists, source_or, ended_with};
 
 use crate::compile::compile;
-use crate::report::{Trouble, put, status, tell};
+use crate::report::{Trouble, flush, put, status, tell};
 use crate::request::{Command, Words, WordsFault};
 use crate::run::run_text;
+use crate::trace::trace_text;
 use arc_code::code::IoFault;
 use arc_code::counted::Counted;
 use arc_code::lines::list;
@@ -40,6 +40,7 @@ pub fn serve<R: Read, W: Write, E: Write>(
     ensures { (answer : Result ℕ Trouble) × Attempted words file.entry answer
         (left_in R.remaining input.old) (left_in R.remaining input.new)
         (held_by W.contents output.old) (held_by W.contents output.new)
+        (failures_of output.old) (failures_of output.new)
         × Reported answer result (held_by E.contents errors.old) (held_by E.contents errors.new)
         (failures_of errors.old) (failures_of errors.new) }
 {
@@ -76,7 +77,8 @@ fn attempt<R: Read, W: Write>(
     requires writes { failures_of output.old < 2 ^ 64 - 1 }
     ensures { Attempted words file.entry result
         (left_in R.remaining input.old) (left_in R.remaining input.new)
-        (held_by W.contents output.old) (held_by W.contents output.new) }
+        (held_by W.contents output.old) (held_by W.contents output.new)
+        (failures_of output.old) (failures_of output.new) }
 {
     match words {
         Ok(words) => {
@@ -115,12 +117,17 @@ fn obey<R: Read, W: Write>(
     requires writes { failures_of output.old < 2 ^ 64 - 1 }
     ensures { Obeyed words.now.command source.now words.now.steps result
         (left_in R.remaining input.old) (left_in R.remaining input.new)
-        (held_by W.contents output.old) (held_by W.contents output.new) }
+        (held_by W.contents output.old) (held_by W.contents output.new)
+        (failures_of output.old) (failures_of output.new) }
 {
     match words.command {
         Command::Check => check_source(alloc, source, output),
         Command::Run => {
             let stop = run_text(alloc, source, words.heap, words.steps, input, output)?;
+            ended(stop)
+        }
+        Command::Trace => {
+            let stop = trace_text(alloc, source, words.heap, words.steps, input, output)?;
             ended(stop)
         }
         Command::Code => list_source(alloc, source, output),
@@ -163,6 +170,7 @@ fn ended(stop: Stop) -> Result<u8, Trouble>
     match stop {
         Stop::Ended(number) => Ok(low_byte(i64::from(number))),
         Stop::Fault(fault) => Err(Trouble::Fault(fault)),
+        Stop::NoHeap => Err(Trouble::NoHeap),
         Stop::StepsUsed => Err(Trouble::StepsUsed),
     }
 }
@@ -174,14 +182,4 @@ fn print<W: Write>(text: &[u8], output: &mut Counted<W>) -> Result<(), IoFault>
 {
     put(text, output)?;
     flush(output)
-}
-
-fn flush<W: Write>(output: &mut Counted<W>) -> Result<(), IoFault>
-    requires { failures_of output.old < 2 ^ 64 - 1 }
-    ensures { Keeps (held_by W.contents output.old) (held_by W.contents output.new) }
-{
-    match output.flush() {
-        Ok(()) => Ok(()),
-        Err(_) => Err(IoFault::Write),
-    }
 }

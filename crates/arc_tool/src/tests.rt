@@ -3,7 +3,9 @@
 mod classes;
 mod devices;
 mod hostile;
+mod objects;
 mod rows;
 mod served;
+mod traces;
 mod wider;
 mod words;

@@ -38,6 +38,10 @@ fn reader<'a>(alloc: Global) -> Result<clap::Command<'a>, AllocError> {
         .about("Compile FILE and run it")
         .arg(file(alloc))?
         .arg(steps(alloc))?;
+    let trace = clap::Command::new(alloc, "trace")
+        .about("Compile FILE, run it and show what it prints and which objects end")
+        .arg(file(alloc))?
+        .arg(steps(alloc))?;
     let code = clap::Command::new(alloc, "code")
         .about("List the code of FILE")
         .arg(file(alloc))?;
@@ -46,6 +50,7 @@ fn reader<'a>(alloc: Global) -> Result<clap::Command<'a>, AllocError> {
         .subcommand_required(true)
         .subcommand(check)?
         .subcommand(run)?
+        .subcommand(trace)?
         .subcommand(code)
 }
 
@@ -96,6 +101,7 @@ fn command_of(name: &str) -> Option<Command> {
     match name {
         "check" => Some(Command::Check),
         "run" => Some(Command::Run),
+        "trace" => Some(Command::Trace),
         "code" => Some(Command::Code),
         _ => None,
     }

@@ -5,6 +5,7 @@ ghost use Rattle.arc_code.specs.Counting.{failures_of};
 
 use crate::refusal::Refusal;
 use crate::run::{ToolFault, run_text};
+use crate::trace::trace_text;
 use arc_check::check::check;
 use arc_class::table::ClassTable;
 use arc_code::counted::Counted;
@@ -12,6 +13,7 @@ use arc_lex::lex::lex;
 use arc_machine::stop::Stop;
 use arc_parse::parse::parse;
 use arc_plain::interpret::{Answer, PlainStop, interpret};
+use arc_spec::event::Event;
 use std::alloc::{AllocError, Global};
 use std::io;
 use std::io::{ErrorKind, Read, Write};
@@ -80,14 +82,50 @@ pub fn ran(alloc: Global, source: &[u8], input: &[u8]) -> Result<(Vec<u8>, Stop)
     Ok((output, stop))
 }
 
-/// What the plain interpreter says of the same.
-fn plain(alloc: Global, source: &[u8], input: &[u8]) -> Result<Answer, Refusal> {
+/// The trace of a source's program on no input, and its stop.
+pub fn traced(alloc: Global, source: &[u8]) -> Result<(Vec<u8>, Stop), Fail> {
+    let mut reader = Counted::new(b"".as_slice());
+    let mut writer = Counted::new(Vec::new(alloc));
+    let stop = trace_text(
+        alloc,
+        source,
+        1_048_576,
+        1_000_000_000,
+        &mut reader,
+        &mut writer,
+    )?;
+    let text = writer.get_ref().clone()?;
+    Ok((text, stop))
+}
+
+/// What the plain interpreter says of a source's program.
+pub fn plain(alloc: Global, source: &[u8], input: &[u8]) -> Result<Answer, Refusal> {
     let tokens = lex(alloc, source)?;
     let unit = parse(alloc, &tokens)?;
     let table = ClassTable::build(alloc, &unit)?;
     let program = check(alloc, &unit, &table)?;
     let answer = interpret(alloc, &program, input, 1_000_000)?;
     Ok(answer)
+}
+
+/// The bytes that are printed among the events.
+fn printed(alloc: Global, events: &[Event]) -> Result<Vec<u8>, AllocError> {
+    let mut text = Vec::new(alloc);
+    for event in events {
+        if let Event::Byte(byte) = event {
+            text.push(*byte)?;
+        }
+    }
+    Ok(text)
+}
+
+/// Whether a machine stopped as the plain interpreter did.
+fn same_stop(stop: Stop, plain: PlainStop) -> bool {
+    match stop {
+        Stop::Ended(number) => PlainStop::Ended(number) == plain,
+        Stop::Fault(fault) => PlainStop::Fault(fault) == plain,
+        Stop::StepsUsed | Stop::NoHeap => false,
+    }
 }
 
 /// Whether a source's program, compiled and interpreted, prints this on the input and stops so.
@@ -99,14 +137,10 @@ pub fn shows(
     stop: PlainStop,
 ) -> Result<bool, Fail> {
     let (output, last) = ran(alloc, source, input)?;
-    let same_stop = match last {
-        Stop::Ended(number) => PlainStop::Ended(number) == stop,
-        Stop::Fault(fault) => PlainStop::Fault(fault) == stop,
-        Stop::StepsUsed => false,
-    };
     let answer = plain(alloc, source, input)?;
-    let same_text = output.as_slice() == text && answer.output.as_slice() == text;
-    Ok(same_stop && answer.stop == stop && same_text)
+    let known = printed(alloc, &answer.trace)?;
+    let same_text = output.as_slice() == text && known.as_slice() == text;
+    Ok(same_stop(last, stop) && answer.stop == stop && same_text)
 }
 
 /// The number and the place of a source's refusal, as a run answers it.

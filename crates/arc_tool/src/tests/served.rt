@@ -100,11 +100,57 @@ fn checks_and_lists(rt: HostRuntime) -> Result<(), Fail> {
     assert_eq!(rt; shown.status, 0);
     assert_eq!(rt;
         shown.output.as_slice(),
-        b"0 Call 2\n1 Return\n2 Num 7\n3 Return\n4 Num 0\n5 Return\n6 Num 0\n7 Return\n".as_slice()
+        b"0 Call 5\n1 Return\n2 EndStep\n3 Forget 0\n4 Return\n5 Num 7\n6 Jump 3\n7 Num 0\n8 Jump 3\n\
+        9 Forget 0\n10 Return\n11 Num 0\n12 Jump 9\n"
+            .as_slice()
     );
     let shown = served(alloc, &["arcc", "check", "a.m"], Ok(b";"))?;
     assert_eq!(rt; shown.status, 102);
     assert_eq!(rt; shown.output.len(), 0);
+    Ok(())
+}
+
+#[test]
+fn traces(rt: HostRuntime) -> Result<(), Fail> {
+    let alloc = rt.alloc();
+    let rows: [(&[u8], u8, &[u8], &[u8]); 4] = [
+        (
+            b"int main(void) { printf(\"42\"); return 263; }",
+            7,
+            b"out 3432\nend 263\n",
+            b"",
+        ),
+        (
+            b"int main(void) { return 1 / 0; }",
+            103,
+            b"fault 81 Arithmetic\n",
+            b"arcc: fault 81 Arithmetic\n",
+        ),
+        (
+            b"@interface A:NSObject @end @implementation A @end int main(void) { [A new]; printf(\"x\"); }",
+            0,
+            b"dealloc 1 A\nout 78\nend 0\n",
+            b"",
+        ),
+        (
+            b"int main(void){",
+            102,
+            b"",
+            b"arcc: refused 11 Unexpected at 15\n",
+        ),
+    ];
+    for (source, status, text, told) in rows {
+        let shown = served(alloc, &["arcc", "trace", "a.m"], Ok(source))?;
+        assert_eq!(rt; shown.status, status);
+        assert_eq!(rt; shown.output.as_slice(), text);
+        assert_eq!(rt; shown.errors.as_slice(), told);
+    }
+    let source = b"int main(void) { printf(\"42\"); return 7; }";
+    let line = ["arcc", "trace", "--steps", "1", "a.m"];
+    let shown = served(alloc, &line, Ok(source))?;
+    assert_eq!(rt; shown.status, 105);
+    assert_eq!(rt; shown.output.as_slice(), b"steps\n".as_slice());
+    assert_eq!(rt; shown.errors.as_slice(), b"arcc: steps used\n".as_slice());
     Ok(())
 }
 

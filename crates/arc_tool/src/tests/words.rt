@@ -30,6 +30,10 @@ fn commands(rt: HostRuntime) -> Result<(), Fail> {
     assert_eq!(rt; command, Command::Run);
     assert_eq!(rt; file.as_str(), "a.m");
     assert_eq!(rt; steps, 1_000_000_000);
+    let (command, file, steps) = said(alloc, &["arcc", "trace", "--steps", "3", "c.m"])?;
+    assert_eq!(rt; command, Command::Trace);
+    assert_eq!(rt; file.as_str(), "c.m");
+    assert_eq!(rt; steps, 3);
     let (command, file, _) = said(alloc, &["arcc", "check", "b.m"])?;
     assert_eq!(rt; command, Command::Check);
     assert_eq!(rt; file.as_str(), "b.m");
@@ -63,7 +67,7 @@ fn refused_lines(rt: HostRuntime) -> Result<(), Fail> {
     assert!(rt; is_usage(alloc, &["arcc"])?);
     assert!(rt; is_usage(alloc, &["arcc", "run"])?);
     assert!(rt; is_usage(alloc, &["arcc", "walk", "a.m"])?);
-    assert!(rt; is_usage(alloc, &["arcc", "trace", "a.m"])?);
+    assert!(rt; is_usage(alloc, &["arcc", "trace", "a.m", "--heap", "64"])?);
     assert!(rt; is_usage(alloc, &["arcc", "run", "a.m", "b.m"])?);
     assert!(rt; is_usage(alloc, &["arcc", "run", "a.m", "--heap", "64"])?);
     assert!(rt; is_usage(alloc, &["arcc", "run", "a.m", "--keep-holds"])?);

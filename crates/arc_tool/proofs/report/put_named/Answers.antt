@@ -31,4 +31,4 @@ returns g c =
     let number = decimal c.args.number in
     let one = then_ok _ _ _ _ _ _ kind number c.in_ok-put.ensures c.in_ok-put_number.ensures in
     let two = then_ok _ _ _ _ _ _ (kind ++ number) (32 ∷ []) one c.in_ok-put-2.ensures in
-    rw (← c.as_bytes.ensures.value) (then_written _ _ _ _ _ _ _ ((kind ++ number) ++ 32 ∷ []) c.as_bytes.result.now two c.put-3.ensures)
+    then_written _ _ _ _ _ _ _ ((kind ++ number) ++ 32 ∷ []) c.args.name.now two c.put-3.ensures

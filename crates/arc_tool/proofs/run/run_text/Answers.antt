@@ -15,28 +15,28 @@ returns-in_err-code-clause-answered g c =
 
 pub returns-in-Ok-flush-clause-answered : goal.returns-in-Ok-flush-clause-answered
 returns-in-Ok-flush-clause-answered g c =
-    machine_stopped c.args.source.now (program_of c.in_ok-code.code) c.in_ok-code.ensures.compiled c.args.steps (omega arith) c.in_ok-machine.machine c.run.new.self
+    machine_stopped _ _ c.args.source.now (program_of c.in_ok-code.code) c.in_ok-code.ensures.compiled c.args.steps (omega arith) c.in_ok-machine.machine c.run.new.self
     (left_in g.R.Read.remaining c.args.reader.now) (left_in g.R.Read.remaining c.run.new.reader) (held_by g.W.Write.contents c.args.writer.now) (held_by g.W.Write.contents c.run.new.writer)
     (held_by g.W.Write.contents c.flush.new.self)
     c.in_ok-machine.ensures c.run.ensures.moves c.run.ensures.used c.flush.ensures.kept c.in-Ok.stop (sym c.in-Ok.ensures.answer)
 
 pub returns-in-Ok-clause-answered : goal.returns-in-Ok-clause-answered
 returns-in-Ok-clause-answered g c =
-    machine_failed c.args.source.now (program_of c.in_ok-code.code) c.in_ok-code.ensures.compiled c.args.steps (omega arith) c.in_ok-machine.machine c.run.new.self
+    machine_failed _ _ c.args.source.now (program_of c.in_ok-code.code) c.in_ok-code.ensures.compiled c.args.steps (omega arith) c.in_ok-machine.machine c.run.new.self
     (left_in g.R.Read.remaining c.args.reader.now) (left_in g.R.Read.remaining c.run.new.reader) (held_by g.W.Write.contents c.args.writer.now) (held_by g.W.Write.contents c.run.new.writer)
     (held_by g.W.Write.contents c.flush.new.self)
     c.in_ok-machine.ensures c.run.ensures.moves c.run.ensures.used c.flush.ensures.kept (Io Write)
 
 pub returns-in-Err-Read-clause-answered : goal.returns-in-Err-Read-clause-answered
 returns-in-Err-Read-clause-answered g c =
-    machine_failed c.args.source.now (program_of c.in_ok-code.code) c.in_ok-code.ensures.compiled c.args.steps (omega arith) c.in_ok-machine.machine c.run.new.self
+    machine_failed _ _ c.args.source.now (program_of c.in_ok-code.code) c.in_ok-code.ensures.compiled c.args.steps (omega arith) c.in_ok-machine.machine c.run.new.self
     (left_in g.R.Read.remaining c.args.reader.now) (left_in g.R.Read.remaining c.run.new.reader) (held_by g.W.Write.contents c.args.writer.now) (held_by g.W.Write.contents c.run.new.writer)
     (held_by g.W.Write.contents c.flush-in-Err-Read.new.self)
     c.in_ok-machine.ensures c.run.ensures.moves c.run.ensures.used c.flush-in-Err-Read.ensures.kept (Io Read)
 
 pub returns-clause-answered : goal.returns-clause-answered
 returns-clause-answered g c =
-    machine_failed c.args.source.now (program_of c.in_ok-code.code) c.in_ok-code.ensures.compiled c.args.steps (omega arith) c.in_ok-machine.machine c.run.new.self
+    machine_failed _ _ c.args.source.now (program_of c.in_ok-code.code) c.in_ok-code.ensures.compiled c.args.steps (omega arith) c.in_ok-machine.machine c.run.new.self
     (left_in g.R.Read.remaining c.args.reader.now) (left_in g.R.Read.remaining c.run.new.reader) (held_by g.W.Write.contents c.args.writer.now) (held_by g.W.Write.contents c.run.new.writer)
     (held_by g.W.Write.contents c.run.new.writer)
     c.in_ok-machine.ensures c.run.ensures.moves c.run.ensures.used (Keeps-refl (held_by g.W.Write.contents c.run.new.writer)) (Io Write)

@@ -1,6 +1,6 @@
 use Rattle.std.proofs.lemmas.Result.{err_from_is_err_and}
-use Rattle.arc_code.specs.Counting.{left_in, held_by}
-use Rattle.arc_tool.proofs.Serving.{run_refused}
+use Rattle.arc_code.specs.Counting.{failures_of, left_in, held_by}
+use Rattle.arc_tool.proofs.Serving.{run_refused, trace_refused}
 use Rattle.arc_tool.proofs.serve.obey.Goals as goal
 
 pub returns-in_err-stop-in-Run : goal.returns-in_err-stop-in-Run
@@ -9,3 +9,11 @@ returns-in_err-stop-in-Run g c =
     rw (c.in-Run.is, p.1, p.2)
     (run_refused c.args.source.now c.args.words.now.steps (left_in g.R.Read.remaining c.args.input.now) (left_in g.R.Read.remaining c.run_text.new.reader)
     (held_by g.W.Write.contents c.args.output.now) (held_by g.W.Write.contents c.run_text.new.writer) c.in_err-stop-in-Run.field-0.0 c.in_err-stop-in-Run.ensures.answered)
+
+pub returns-in_err-stop-in-Trace : goal.returns-in_err-stop-in-Trace
+returns-in_err-stop-in-Trace g c =
+    let p = err_from_is_err_and c.from_residual-in_err-stop-in-Trace.result c.from_residual-in_err-stop-in-Trace.ensures.1 in
+    rw (c.in-Trace.is, p.1, p.2)
+    (trace_refused c.args.source.now c.args.words.now.steps (left_in g.R.Read.remaining c.args.input.now) (left_in g.R.Read.remaining c.trace_text.new.reader)
+    (held_by g.W.Write.contents c.args.output.now) (held_by g.W.Write.contents c.trace_text.new.writer)
+    (failures_of c.args.output.now) (failures_of c.trace_text.new.writer) c.in_err-stop-in-Trace.field-0.0 c.in_err-stop-in-Trace.ensures.answered)

@@ -7,8 +7,8 @@ use Rattle.arc_family.specs.Rules.{broken}
 use Rattle.arc_ir.specs.Acting as acting
 use Rattle.arc_code.specs.Running.{program_of}
 use Rattle.arc_tool.specs.Refused.{in_lexing, in_parsing, in_building, in_checking, in_owning}
-use Rattle.arc_tool.proofs.Compiling.{passed, compiled, not_emitted}
-use Rattle.arc_tool.proofs.compile.compile.Goals as goal
+use Rattle.arc_tool.proofs.Compiling.{passed, compiled_named, not_emitted}
+use Rattle.arc_tool.proofs.compile.compile_named.Goals as goal
 
 pub returns-in_err-tokens-clause-refused : goal.returns-in_err-tokens-clause-refused
 returns-in_err-tokens-clause-refused c =
@@ -54,7 +54,7 @@ returns-in_err-code-clause-refused c =
 pub returns-clause-compiled : goal.returns-clause-compiled
 returns-clause-compiled c =
     let cut = passed c.args.source.now c.in_ok-tokens.tokens.items c.deref.result.now c.deref.ensures.value c.in_ok-tokens.ensures.tokens in
-    compiled c.args.source.now c.deref.result.now c.in_ok-unit.unit c.in_ok-table.table c.in_ok-program.program c.in_ok-owned.owned.program.now (acting.program_of c.in_ok-actions.actions)
+    compiled_named c.args.source.now c.deref.result.now c.in_ok-unit.unit c.in_ok-table.table c.in_ok-program.program c.in_ok-owned.owned.program.now (acting.program_of c.in_ok-actions.actions)
     cut c.in_ok-unit.ensures.within c.in_ok-table.ensures.unbroken c.in_ok-table.ensures.table c.in_ok-program.ensures.unbroken c.in_ok-program.ensures.resolved
     (ap unit_tree c.in_ok-program.ensures.source) c.in_ok-owned.ensures.accepted
-    c.in_ok-owned.ensures.same c.in_ok-actions.ensures (program_of c.in_ok-code.code) c.in_ok-code.ensures.sound c.in_ok-code.ensures.refines c.in_ok-code.ensures.steady
+    c.in_ok-owned.ensures.same c.in_ok-actions.ensures (program_of c.in_ok-code.code) _ c.in_ok-code.ensures.sound c.in_ok-code.ensures.refines c.in_ok-code.ensures.steady c.in_ok-classes.ensures

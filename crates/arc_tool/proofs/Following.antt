@@ -1,0 +1,189 @@
+-- A run that is made step by step is one run of the code.
+use Rattle.std.proofs.Common.{◌≡◌, ◌≢◌, Bool, true, false, nat_eq, if◌then◌else◌, ℕ, zero, suc, ◌+◌, ◌≤◌, List, [], ◌++◌, Option, Some, None, Ok, Err, refl, sym, ap, subst, ◌∙◌, arith}
+use Rattle.std.proofs.lemmas.Bool.{eq-eqb, eqb-true}
+use Rattle.std.proofs.KnownBytes.{Consumes-nil}
+use Rattle.arc_spec.specs.declared.event.Event.{Event}
+use Rattle.arc_spec.specs.Correct.{run_seen}
+use Rattle.arc_code.specs.declared.code.IoFault.TheVariants.{Read, Write}
+use Rattle.arc_code.specs.Running.{Program, State, start, IsSound}
+use Rattle.arc_heap.specs.Blocks.{Blocks}
+use Rattle.arc_machine.specs.declared.stop.Stop.{Stop}
+use Rattle.arc_machine.specs.declared.stop.Stop.TheVariants as stop
+use Rattle.arc_machine.specs.declared.stop.Answer.{Answer}
+use Rattle.arc_machine.specs.declared.stop.Answer.TheVariants as answer
+use Rattle.arc_machine.specs.Views.{Seen, StandsAs, fresh, said}
+use Rattle.arc_machine.specs.Runs.{Leaves, Moves, Runs, Troubled, reached}
+use Rattle.arc_machine.proofs.Chained.{moves_on}
+use Rattle.arc_tool.specs.declared.lines.Left.{Left}
+use Rattle.arc_tool.specs.declared.lines.Left.TheVariants.{Stopped, Unread}
+use Rattle.arc_tool.specs.Traced.{Follows, UsesAll, stop_seen, new_events}
+
+-- something that may be left
+leavable : (i : Option (List ℕ)) → (rest : List ℕ) × Leaves i rest
+leavable None = ([], tt)
+leavable (Some known) = (known, refl)
+
+-- ---- the events of a step
+
+none_new : {S : Type 0} → (m : Seen S) (before : ℕ) → m.steps ≡ before → new_events m before ≡ []
+none_new m before e = go (nat_eq m.steps before) (eq-eqb m.steps before e)
+  where
+    go : (b : Bool) → b ≡ true → (if b then [] else m.events) ≡ []
+    go true h = refl
+    go false h = absurd (cc)
+
+all_new : {S : Type 0} → (m : Seen S) (before : ℕ) → m.steps ≢ before → new_events m before ≡ m.events
+all_new m before ne = go (nat_eq m.steps before) refl
+  where
+    go : (b : Bool) → nat_eq m.steps before ≡ b → (if b then [] else m.events) ≡ m.events
+    go true h = absurd (ne (eqb-true m.steps before h))
+    go false h = refl
+
+-- ---- a machine that runs the code
+
+-- a machine stands for the start of its code
+pub fresh_stands : {S : Type 0} → (out : S → Blocks) (p : Program) (store : S) → StandsAs out (fresh p store) start
+fresh_stands out p store = record {
+  at = refl;
+  stack = refl;
+  memory = ((λ _. 1), record {
+    made = refl;
+    some = λ k. omega arith;
+    kept = λ k o e. absurd (cc);
+    places = refl;
+    self = refl;
+    waits = refl;
+    known_places = λ k d e. absurd (omega (arith, e));
+    known_self = omega arith;
+    known_frames = λ k d e. absurd (omega (arith, e));
+    ends = tt;
+  });
+}
+
+-- The machine was made for the code, has taken these bytes since then, and shown these events; nothing is known of what it wrote.
+pub record Reaches {S : Type 0} (out : S → Blocks) (p : Program) (m : Seen S) (in0 in1 : Option (List ℕ)) (events : List Event) : Type 0 where
+  pub store : S
+  pub taken : List ℕ
+  pub moves : Moves out (fresh p store) m start in0 in1 None None m.steps taken events
+
+pub starts : {S : Type 0} → (out : S → Blocks) (p : Program) (store : S) (i : Option (List ℕ)) → IsSound p → Reaches out p (fresh p store) i i []
+starts out p store i sound = record {
+  store = store;
+  taken = [];
+  moves = record {
+    program = refl;
+    steps = refl;
+    reads = Consumes-nil i;
+    state = start;
+    stands = fresh_stands out p store;
+    sound = λ _. sound;
+    run = λ rest l. refl;
+    writes = tt;
+    none = λ _. (refl, refl);
+    last = λ k rest e l. absurd (omega (arith, e));
+  };
+}
+
+module _ {S : Type 0} (out : S → Blocks) (p : Program) (old new : Seen S) (i0 i1 i2 : Option (List ℕ)) (events : List Event) (way : Reaches out p old i0 i1 events) (going : old.answer ≡ answer.Going) where
+  module _ (n : ℕ) (taken : List ℕ) (trace : List Event) (m : Moves out old new way.moves.state i1 i2 None None n taken trace) where
+    reaches_on : Reaches out p new i0 i2 (events ++ trace)
+    reaches_on =
+        let count : n + old.steps ≡ new.steps = omega (arith, m.steps) in
+        let all = moves_on out (fresh p way.store) old new start i0 i1 i2 None None None old.steps n way.taken taken events trace going way.moves m in
+        record { store = way.store; taken = way.taken ++ taken; moves = subst (λ k. Moves out (fresh p way.store) new start i0 i2 None None k (way.taken ++ taken) (events ++ trace)) count all }
+
+    -- the events of one step or none are those that the machine has of it
+    trace_is : (k : ℕ) → n ≡ k → k ≤ 1 → trace ≡ new_events new old.steps
+    trace_is zero e l = let same : new.steps ≡ old.steps = omega (arith, m.steps, e) in (m.none e).0 ∙ sym (none_new new old.steps same)
+    trace_is (suc zero) e l =
+        let other : new.steps ≢ old.steps = λ h. omega (arith, m.steps, e, h) in
+        let rest = leavable i2 in
+        m.last 0 rest.0 e rest.1 ∙ sym (all_new new old.steps other)
+    trace_is (suc (suc k)) e l = absurd (omega (arith, l))
+
+  -- one step more or none
+  pub goes_on : Runs out 1 old new i1 i2 None None → Reaches out p new i0 i2 (events ++ new_events new old.steps) × (new.steps ≤ old.steps + 1)
+  goes_on runs =
+      let r = runs way.moves.state way.moves.stands (way.moves.sound going) in
+      let all = reaches_on r.0 r.1 r.2 r.4 in
+      (subst (λ es. Reaches out p new i0 i2 (events ++ es)) (trace_is r.0 r.1 r.2 r.4 r.0 refl r.3) all, omega (arith, r.3, r.4.steps))
+
+-- ---- how a run was left
+
+abbrev pub left_of : Answer → Left
+left_of answer.Going = Stopped stop.StepsUsed
+left_of (answer.Ended n) = Stopped (stop.Ended n)
+left_of (answer.Faulted f) = Stopped (stop.Fault f)
+left_of (answer.Broken Read) = Unread
+left_of (answer.Broken Write) = Stopped stop.StepsUsed
+left_of answer.NoHeap = Stopped stop.NoHeap
+
+seen_of : (a : Answer) (s : State) (i : List ℕ) (t : List Event) → run_seen (reached a s i t) ≡ record { trace = t; stop = stop_seen (left_of a) }
+seen_of answer.Going s i t = refl
+seen_of (answer.Ended n) s i t = refl
+seen_of (answer.Faulted f) s i t = refl
+seen_of (answer.Broken Read) s i t = refl
+seen_of (answer.Broken Write) s i t = refl
+seen_of answer.NoHeap s i t = refl
+
+pub follows : {S : Type 0} → (out : S → Blocks) (p : Program) (m : Seen S) (i0 i1 : Option (List ℕ)) (events : List Event) → Reaches out p m i0 i1 events → Follows p m.steps (left_of m.answer) i0 i1 events
+follows out p m i0 i1 events way = record {
+  taken = way.taken;
+  reads = way.moves.reads;
+  shown = λ rest l. ap run_seen (way.moves.run rest l) ∙ seen_of m.answer way.moves.state rest events;
+}
+
+pub left_stopped : (a : Answer) (t : Stop) → said a ≡ Ok t → left_of a ≡ Stopped t
+left_stopped answer.Going t e = let there : stop.StepsUsed ≡ t = cc in ap Stopped there
+left_stopped (answer.Ended n) t e = let there : stop.Ended n ≡ t = cc in ap Stopped there
+left_stopped (answer.Faulted f) t e = let there : stop.Fault f ≡ t = cc in ap Stopped there
+left_stopped (answer.Broken f) t e = absurd (cc)
+left_stopped answer.NoHeap t e = let there : stop.NoHeap ≡ t = cc in ap Stopped there
+
+pub left_unread : (a : Answer) → said a ≡ Err Read → left_of a ≡ Unread
+left_unread answer.Going e = absurd (cc)
+left_unread (answer.Ended n) e = absurd (cc)
+left_unread (answer.Faulted f) e = absurd (cc)
+left_unread (answer.Broken Read) e = refl
+left_unread (answer.Broken Write) e = absurd (cc)
+left_unread answer.NoHeap e = absurd (cc)
+
+-- the steps are used only by a machine that goes on
+pub going_on : (a : Answer) → said a ≡ Ok stop.StepsUsed → a ≡ answer.Going
+going_on answer.Going e = refl
+going_on (answer.Ended n) e = absurd (cc)
+going_on (answer.Faulted f) e = absurd (cc)
+going_on (answer.Broken f) e = absurd (cc)
+going_on answer.NoHeap e = absurd (cc)
+
+-- ---- whose failures rose
+
+pub reader_kept : (a : Answer) (t : Stop) (r0 r1 w0 w1 : ℕ) → said a ≡ Ok t → Troubled a r0 r1 w0 w1 → r1 ≡ r0
+reader_kept answer.Going t r0 r1 w0 w1 e h = h.0
+reader_kept (answer.Ended n) t r0 r1 w0 w1 e h = h.0
+reader_kept (answer.Faulted f) t r0 r1 w0 w1 e h = h.0
+reader_kept (answer.Broken f) t r0 r1 w0 w1 e h = absurd (cc)
+reader_kept answer.NoHeap t r0 r1 w0 w1 e h = h.0
+
+pub reader_failed : (a : Answer) (r0 r1 w0 w1 : ℕ) → said a ≡ Err Read → Troubled a r0 r1 w0 w1 → r1 ≡ r0 + 1
+reader_failed answer.Going r0 r1 w0 w1 e h = absurd (cc)
+reader_failed (answer.Ended n) r0 r1 w0 w1 e h = absurd (cc)
+reader_failed (answer.Faulted f) r0 r1 w0 w1 e h = absurd (cc)
+reader_failed (answer.Broken Read) r0 r1 w0 w1 e h = h.0
+reader_failed (answer.Broken Write) r0 r1 w0 w1 e h = absurd (cc)
+reader_failed answer.NoHeap r0 r1 w0 w1 e h = absurd (cc)
+
+pub writer_failed : (a : Answer) (r0 r1 w0 w1 : ℕ) → said a ≡ Err Write → Troubled a r0 r1 w0 w1 → w1 ≡ w0 + 1
+writer_failed answer.Going r0 r1 w0 w1 e h = absurd (cc)
+writer_failed (answer.Ended n) r0 r1 w0 w1 e h = absurd (cc)
+writer_failed (answer.Faulted f) r0 r1 w0 w1 e h = absurd (cc)
+writer_failed (answer.Broken Read) r0 r1 w0 w1 e h = absurd (cc)
+writer_failed (answer.Broken Write) r0 r1 w0 w1 e h = h.1
+writer_failed answer.NoHeap r0 r1 w0 w1 e h = absurd (cc)
+
+-- only a run that says that its steps are used has to have made all of them
+pub uses_other : (t : Stop) (made steps : ℕ) → (t ≡ stop.StepsUsed → ⊥) → UsesAll (Stopped t) made steps
+uses_other (stop.Ended n) made steps h = tt
+uses_other (stop.Fault f) made steps h = tt
+uses_other stop.StepsUsed made steps h = absurd (h refl)
+uses_other stop.NoHeap made steps h = tt

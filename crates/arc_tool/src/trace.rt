@@ -1,0 +1,135 @@
+//! Compiles a source and shows what its program does, in lines.
+ghost use Rattle.std.specs.Prelude.{◌≡◌, ◌-◌, ◌^◌, ◌<◌, map, IfOk, IfErr, Ok, Err};
+ghost use Rattle.arc_code.specs.Counting.{failures_of, left_in, held_by};
+ghost use Rattle.arc_code.specs.Running.{IsSound, Program, program_of};
+ghost use Rattle.arc_code.specs.Written.{Written};
+ghost use Rattle.arc_machine.specs.Views.{fresh};
+ghost use Rattle.arc_tool.specs.Accepted.{bytes_of_name};
+ghost use Rattle.arc_tool.specs.Ran.{Untouched};
+ghost use Rattle.arc_tool.specs.Lines.{events_text, open_after};
+ghost use Rattle.arc_tool.specs.Traced.{AnsweredTrace, Blames, Followed, Interrupted, new_events};
+
+use crate::compile::compile_named;
+use crate::lines::{Left, open_after, put_end, put_events};
+use crate::report::flush;
+use crate::run::ToolFault;
+use arc_code::code::IoFault;
+use arc_code::counted::Counted;
+use arc_heap::plain::PlainStore;
+use arc_machine::machine::Machine;
+use arc_machine::stop::Stop;
+use std::alloc::Global;
+use std::io;
+use std::io::{Read, Write};
+
+/// Compiles the source and runs its code for at most so many steps, and writes what it shows in place of what it
+/// prints: a line `out ` with two hexadecimal digits for each byte that is printed between two deallocs, a line
+/// `dealloc ` with the object's number and its class for each dealloc, and at last how the run was left: `end ` with
+/// the program's number, `fault ` with the fault's number and name, `noheap`, `steps`, or `io 91 Read` where the
+/// reader failed. What was written is flushed at the end. Nothing is read or written before the code and the machine
+/// are made. The heap's words aren't used yet: objects are kept in a store that grows.
+pub fn trace_text<R: Read, W: Write>(
+    alloc: Global,
+    source: &[u8],
+    _heap_words: usize,
+    steps: u64,
+    reader: &mut Counted<R>,
+    writer: &mut Counted<W>,
+) -> Result<Stop, ToolFault>
+    requires reads { failures_of reader.old < 2 ^ 64 - 1 }
+    requires writes { failures_of writer.old < 2 ^ 64 - 1 }
+    ensures answered { AnsweredTrace source.now steps result
+        (left_in R.remaining reader.old) (left_in R.remaining reader.new)
+        (held_by W.contents writer.old) (held_by W.contents writer.new)
+        (failures_of writer.old) (failures_of writer.new) }
+    ensures untouched { Untouched result reader.old reader.new writer.old writer.new }
+    ensures caused { Blames result (failures_of reader.old) (failures_of reader.new)
+        (failures_of writer.old) (failures_of writer.new) }
+{
+    let named = compile_named(alloc, source)?;
+    let mut machine = Machine::new(alloc, named.code, PlainStore::new(alloc))?;
+    let (left, begun) = follow(&mut machine, steps, &named.classes, reader, writer)?;
+    let ended = put_end(left, begun, writer);
+    match left {
+        Left::Stopped(stop) => {
+            ended?;
+            flush(writer)?;
+            Ok(stop)
+        }
+        Left::Unread => {
+            if ended.is_ok() {
+                let _ = flush(writer);
+            }
+            Err(ToolFault::Io(IoFault::Read))
+        }
+    }
+}
+
+/// Makes at most so many steps, and writes what each one shows. Gives how the run was left, and whether a line of
+/// printed bytes is open. The error is a failure of the writer.
+fn follow<R: Read, W: Write>(
+    machine: &mut Machine<PlainStore>,
+    steps: u64,
+    classes: &[Vec<u8>],
+    reader: &mut Counted<R>,
+    writer: &mut Counted<W>,
+) -> Result<(Left, bool), IoFault>
+    requires starts { (p : Program) × (store : PlainStore) × IsSound p × (machine.old ≡ fresh p store) }
+    requires reads { failures_of reader.old < 2 ^ 64 - 1 }
+    requires writes { failures_of writer.old < 2 ^ 64 - 1 }
+    ensures followed { IfOk result (λ left. Followed machine.old.program (map bytes_of_name classes.now) steps left.0 left.1
+        (left_in R.remaining reader.old) (left_in R.remaining reader.new)
+        (held_by W.contents writer.old) (held_by W.contents writer.new)
+        (failures_of reader.old) (failures_of reader.new)
+        (failures_of writer.old) (failures_of writer.new)) }
+    ensures interrupted { IfErr result (λ fault. Interrupted machine.old.program (map bytes_of_name classes.now) steps fault
+        (left_in R.remaining reader.old) (left_in R.remaining reader.new)
+        (held_by W.contents writer.old) (held_by W.contents writer.new)
+        (failures_of writer.old) (failures_of writer.new)) }
+{
+    let mut begun = false;
+    for _ in 0..steps {
+        let before = machine.steps_done();
+        let mut nowhere = Counted::new(io::sink());
+        let answer = machine.run(1, reader, &mut nowhere);
+        begun = show(machine, before, classes, begun, writer)?;
+        match answer {
+            Ok(stop) => {
+                if stop != Stop::StepsUsed {
+                    return Ok((Left::Stopped(stop), begun));
+                }
+            }
+            Err(IoFault::Read) => return Ok((Left::Unread, begun)),
+            Err(IoFault::Write) => {
+                writer.count_failures(&nowhere);
+                return Err(IoFault::Write);
+            }
+        }
+    }
+    Ok((Left::Stopped(Stop::StepsUsed), begun))
+}
+
+/// Writes the events of the last step, where the machine has made one since it had made so many. Gives whether a
+/// line of printed bytes is open.
+fn show<W: Write>(
+    machine: &Machine<PlainStore>,
+    before: u64,
+    classes: &[Vec<u8>],
+    begun: bool,
+    writer: &mut Counted<W>,
+) -> Result<bool, IoFault>
+    requires { failures_of writer.old < 2 ^ 64 - 1 }
+    ensures shown { IfOk result (λ more. Written (Ok tt) (events_text (map bytes_of_name classes.now) begun (new_events machine.now before))
+        (held_by W.contents writer.old) (held_by W.contents writer.new)
+        (failures_of writer.old) (failures_of writer.new)) }
+    ensures opens { IfOk result (λ more. more ≡ open_after begun (new_events machine.now before)) }
+    ensures broken { IfErr result (λ fault. Written (Err fault) (events_text (map bytes_of_name classes.now) begun (new_events machine.now before))
+        (held_by W.contents writer.old) (held_by W.contents writer.new)
+        (failures_of writer.old) (failures_of writer.new)) }
+{
+    if machine.steps_done() == before {
+        return Ok(begun);
+    }
+    put_events(machine.events(), classes, begun, writer)?;
+    Ok(open_after(begun, machine.events()))
+}
