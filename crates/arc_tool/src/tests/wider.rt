@@ -4,6 +4,7 @@ use crate::run::{ToolFault, run_text};
 use crate::tests::devices::{Broken, refused, shows};
 use arc_code::code::IoFault;
 use arc_code::counted::Counted;
+use arc_heap::plain::PlainStore;
 use arc_machine::machine::Machine;
 use arc_machine::stop::Stop;
 use arc_plain::interpret::PlainStop;
@@ -44,7 +45,7 @@ fn a_loop_without_input(rt: HostRuntime) -> Result<(), Fail> {
 fn a_loop_without_end(rt: HostRuntime) -> Result<(), Fail> {
     let alloc = rt.alloc();
     let code = compile(alloc, b"int main(void){while(1)printf(\"a\");}")?;
-    let mut machine = Machine::new(alloc, code)?;
+    let mut machine = Machine::new(alloc, code, PlainStore::new(alloc))?;
     let mut reader = Counted::new(b"".as_slice());
     let mut writer = Counted::new(Vec::new(alloc));
     let stop = machine.run(1000, &mut reader, &mut writer)?;
