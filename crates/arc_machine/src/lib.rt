@@ -2,18 +2,18 @@
 #![tactic(auto)]
 
 mod calling;
-pub mod cell;
+mod cell;
 mod engine;
 pub mod fault;
-pub mod field;
+mod field;
 mod holding;
 pub mod machine;
 mod number;
-pub mod objects;
-pub mod place;
+mod objects;
+mod place;
 mod releasing;
-pub mod stack;
+mod stack;
 pub mod stop;
 #[cfg(test)]
 mod tests;
-pub mod waiting;
+mod waiting;

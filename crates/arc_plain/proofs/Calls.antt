@@ -1,5 +1,5 @@
 -- Calls, ends of objects and places that are dropped, of which the parts are known.
-use Rattle.std.proofs.Common.{arith, ◌≡◌, ℕ, zero, suc, ◌+◌, ◌-◌, ◌<◌, ◌≤◌, ℤ, pos, List, [], ◌∷◌, ◌++◌, length, take, reverse, get_or, Option, Some, None, option_map, Result, Err, slice_get, refl, sym, ap, subst, ◌∙◌}
+use Rattle.std.proofs.Common.{arith, ◌≡◌, ℕ, zero, suc, ◌+◌, ◌-◌, ◌<◌, ◌≤◌, ℤ, pos, List, [], ◌∷◌, length, take, reverse, get_or, Option, Some, None, option_map, Result, Err, slice_get, refl, sym, ap, subst, ◌∙◌}
 use Rattle.std.proofs.lemmas.List.{reverse-reverse, length-reverse}
 use Rattle.std.proofs.lemmas.Option.{slice_get-map}
 use Rattle.arc_check.specs.declared.checked.CheckedFunction.{CheckedFunction}
@@ -13,7 +13,7 @@ use Rattle.arc_spec.specs.Meaning.{Deeper, Flow, given, called, all_executed, va
 use Rattle.arc_plain.specs.declared.context.Context.{Context}
 use Rattle.arc_plain.specs.declared.halt.Halt.{Halt}
 use Rattle.arc_plain.specs.Views.{Tells, left_at, function_of}
-use Rattle.arc_plain.proofs.Keeping.{After, Waits, Same, Steady, after_done, commands_wait, variables_wait, released_same}
+use Rattle.arc_plain.proofs.Keeping.{Waits, Same, Steady, after_done, commands_wait, variables_wait, released_same}
 use Rattle.arc_plain.proofs.Turns.{tells_through, nothing_below, function_found, function_missing}
 
 -- ---- calls

@@ -46,18 +46,21 @@ pub fresh_stands : {S : Type 0} → (out : S → Blocks) (p : Program) (store : 
 fresh_stands out p store = record {
   at = refl;
   stack = refl;
-  memory = ((λ _. 1), record {
-    made = refl;
-    some = λ k. omega arith;
-    kept = λ k o e. absurd (cc);
-    places = refl;
-    self = refl;
-    waits = refl;
-    known_places = λ k d e. absurd (omega (arith, e));
-    known_self = omega arith;
-    known_frames = λ k d e. absurd (omega (arith, e));
-    ends = tt;
-  });
+  memory = (
+    (λ _. 1),
+    record {
+      made = refl;
+      some = λ k. omega arith;
+      kept = λ k o e. absurd (cc);
+      places = refl;
+      self = refl;
+      waits = refl;
+      known_places = λ k d e. absurd (omega (arith, e));
+      known_self = omega arith;
+      known_frames = λ k d e. absurd (omega (arith, e));
+      ends = tt;
+    },
+  );
 }
 
 -- The machine was made for the code, has taken these bytes since then, and shown these events; nothing is known of what it wrote.

@@ -80,15 +80,15 @@ module _ {S : Type 0} (out : S → Blocks) (p : Program) (names : List (List ℕ
   pub is_left : (left : Left) (r0 r1 : ℕ) → left_of m.answer ≡ left → UsesAll left m.steps steps → Reads left r0 r1 → Followed p names steps left begun i0 i1 o0 o1 r0 r1 w0 w1
   is_left left r0 r1 e all reads = subst (λ l. UsesAll l m.steps steps → Reads l r0 r1 → Followed p names steps l begun i0 i1 o0 o1 r0 r1 w0 w1) e
       (λ all reads. record {
-      made = m.steps;
-      events = way.events;
-      within = within;
-      all = all;
-      follows = follows out p m i0 i1 way.events way.reaches;
-      opens = way.opens;
-      written = way.written;
-      reader = reads;
-    }) all reads
+        made = m.steps;
+        events = way.events;
+        within = within;
+        all = all;
+        follows = follows out p m i0 i1 way.events way.reaches;
+        opens = way.opens;
+        written = way.written;
+        reader = reads;
+      }) all reads
 
   -- what stood in for the writer failed
   pub is_broken : (w2 : ℕ) → w2 ≡ w1 + 1 → Interrupted p names steps Write i0 i1 o0 o1 w0 w2

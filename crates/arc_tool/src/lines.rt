@@ -163,11 +163,7 @@ fn name_at(classes: &[Vec<u8>], class: usize) -> &[u8]
 /// Ends the text with the line that says how the run was left: `end ` with the number with which it ended,
 /// `fault ` with the fault's number and name, `noheap`, `steps`, or `io ` with the number and the name of the
 /// reader's failure. The error is a failure of the writer; then some of the first bytes are written.
-pub fn put_end<W: Write>(
-    left: Left,
-    begun: bool,
-    writer: &mut Counted<W>,
-) -> Result<(), IoFault>
+pub fn put_end<W: Write>(left: Left, begun: bool, writer: &mut Counted<W>) -> Result<(), IoFault>
     requires { failures_of writer.old < 2 ^ 64 - 1 }
     ensures { Written result (end_text begun left)
         (held_by W.contents writer.old) (held_by W.contents writer.new)

@@ -82,7 +82,8 @@ fn messages_that_are_not_answered(rt: HostRuntime) -> Result<(), Fail> {
 #[test]
 fn methods_of_many_names(rt: HostRuntime) -> Result<(), Fail> {
     let alloc = rt.alloc();
-    let source = b"@interface C : NSObject -(int)m0; -(int)m1; -(int)m2; -(int)m3; -(int)m4; -(int)m5; -(int)m6; -(int)m7; -(int)m8; @end \
+    let source =
+        b"@interface C : NSObject -(int)m0; -(int)m1; -(int)m2; -(int)m3; -(int)m4; -(int)m5; -(int)m6; -(int)m7; -(int)m8; @end \
         @implementation C -(int)m0 { return 0; } -(int)m1 { return 1; } -(int)m2 { return 2; } -(int)m3 { return 3; } \
         -(int)m4 { return 4; } -(int)m5 { return 5; } -(int)m6 { return 6; } -(int)m7 { return 7; } -(int)m8 { return 8; } @end \
         @interface D : C @end @implementation D -(int)m8 { return 80; } @end \
@@ -186,10 +187,7 @@ fn objects_that_are_refused(rt: HostRuntime) {
         refused(alloc, b"int main(void){id x=nil;[x zork];}"),
         Some((42, 27))
     );
-    assert_eq!(rt;
-        refused(alloc, b"int main(void){id x=1;}"),
-        Some((43, 20))
-    );
+    assert_eq!(rt; refused(alloc, b"int main(void){id x=1;}"), Some((43, 20)));
     assert_eq!(rt;
         refused(alloc, b"int main(void){P *x=nil;}"),
         Some((22, 15))

@@ -1,4 +1,4 @@
-use Rattle.std.proofs.Common.{refl, ap, ◌∙◌, sym, slice_get}
+use Rattle.std.proofs.Common.{refl, ap, ◌∙◌, slice_get}
 use Rattle.arc_check.specs.Checked.{program_of}
 use Rattle.arc_spec.specs.Classes.{classes_of}
 use Rattle.arc_spec.specs.Meaning.{field_count}
