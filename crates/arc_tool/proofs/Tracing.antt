@@ -1,8 +1,7 @@
 -- What the text of a run says of the source.
 use Rattle.std.proofs.Common.{◌≡◌, ℕ, suc, ◌+◌, ◌≤◌, List, [], ◌++◌, codes, Bool, false, Option, Some, Result, Ok, Err, refl, sym, ap, subst, ◌∙◌, arith, ⊎_elim}
-use Rattle.std.proofs.lemmas.List.{append-nil}
-use Rattle.std.specs.Io.KnownBytes.{Appends, Keeps}
-use Rattle.std.proofs.KnownBytes.{Appends-kept}
+use Rattle.std.specs.Io.KnownBytes.{Appends}
+use Rattle.std.proofs.KnownBytes.{Appends-trans}
 use Rattle.arc_spec.specs.declared.event.Event.{Event}
 use Rattle.arc_spec.specs.Correct as correct
 use Rattle.arc_spec.specs.Correct.{IsPrefix, Sight}
@@ -12,7 +11,7 @@ use Rattle.arc_code.specs.declared.code.IoFault.TheVariants.{Read, Write}
 use Rattle.arc_code.specs.Counting.{AppendsPart}
 use Rattle.arc_code.specs.Running.{Program, seen}
 use Rattle.arc_code.specs.Written.{Written}
-use Rattle.arc_code.proofs.Parts.{part_wider, then_written}
+use Rattle.arc_code.proofs.Parts.{part_wider, part_after}
 use Rattle.arc_machine.specs.declared.stop.Stop.{Stop}
 use Rattle.arc_machine.specs.declared.stop.Stop.TheVariants as stop
 use Rattle.arc_machine.specs.Runs.{Leaves}
@@ -20,12 +19,12 @@ use Rattle.arc_tool.specs.declared.lines.Left.{Left}
 use Rattle.arc_tool.specs.declared.lines.Left.TheVariants.{Stopped, Unread}
 use Rattle.arc_tool.specs.declared.refusal.Refusal.{Refusal}
 use Rattle.arc_tool.specs.declared.run.ToolFault.{ToolFault}
-use Rattle.arc_tool.specs.declared.run.ToolFault.TheVariants.{Io}
+use Rattle.arc_tool.specs.declared.run.ToolFault.TheVariants.{Refused, Memory, Io}
 use Rattle.arc_tool.specs.Accepted.{Compiles, CompilesNamed, meant}
 use Rattle.arc_tool.specs.Lines.{trace_text, events_text, end_text, open_after}
-use Rattle.arc_tool.specs.Ran.{Becomes}
+use Rattle.arc_tool.specs.Ran.{Becomes, Untouched}
 use Rattle.arc_tool.specs.Refused.{IsRefusal}
-use Rattle.arc_tool.specs.Traced.{Follows, Followed, Interrupted, Means, Traced, AnsweredTrace, Blames, stop_seen}
+use Rattle.arc_tool.specs.Traced.{Follows, Followed, Interrupted, Means, Traced, AnsweredTrace, Blames, EndsTrace, stop_seen}
 use Rattle.arc_tool.proofs.Lining.{whole_text}
 
 -- ---- the meaning
@@ -77,47 +76,68 @@ module _ (source : List ℕ) (p : Program) (names : List (List ℕ)) (compiled :
     abbrev text : List ℕ
     text = trace_text names run.events left
 
-    pub told : (r : Result (Unit {0}) IoFault) → Written r (end_text begun left) o1 o2 w1 w2 → Written r text o0 o2 w0 w2
-    told r end =
-        let same : events_text names false run.events ++ end_text begun left ≡ text = ap (λ b. events_text names false run.events ++ end_text b left) run.opens ∙ sym (whole_text names run.events left) in
-        subst (λ l. Written r l o0 o2 w0 w2) same (then_written r o0 o1 o2 w0 w1 w2 (events_text names false run.events) (end_text begun left) run.written end)
+    abbrev front : List ℕ
+    front = events_text names false run.events
+
+    same_text : front ++ end_text begun left ≡ text
+    same_text = ap (λ b. front ++ end_text b left) run.opens ∙ sym (whole_text names run.events left)
+
+    all_text : Appends o1 o2 (end_text begun left) → Appends o0 o2 text
+    all_text end = subst (Appends o0 o2) same_text (Appends-trans o0 o1 o2 front (end_text begun left) run.written.0 end)
+
+    some_text : AppendsPart o1 o2 (end_text begun left) → AppendsPart o0 o2 text
+    some_text end = subst (AppendsPart o0 o2) same_text (part_after o0 o1 o2 front (end_text begun left) run.written.0 end)
 
     shows_text : Traced source run.made left i0 i1 text
     shows_text = traced run.made left run.events run.follows
 
-    -- the writer failed at the end of the text
-    pub end_cut : (f : IoFault) → Written (Err f) (end_text begun left) o1 o2 w1 w2 → AnsweredTrace source steps (Err (Io f)) i0 i1 o0 o2 w0 w2
-    end_cut Read end = absurd (let no = end.0 in cc)
-    end_cut Write end = (run.made, left, text, run.within, shows_text, (told (Err Write) end).1)
+  module _ (begun : Bool) (o0 o1 o2 : Option (List ℕ)) (r0 r1 w0 w1 w2 : ℕ) where
+    pub ended : (left : Left) (r : Result Stop ToolFault) → Followed p names steps left begun i0 i1 o0 o1 r0 r1 w0 w1 → EndsTrace left begun r o1 o2 w1 w2 → AnsweredTrace source steps r i0 i1 o0 o2 w0 w2
+    ended (Stopped t) (Ok s) run end = subst (λ x. AnsweredTrace source steps (Ok x) i0 i1 o0 o2 w0 w2) (sym end.0)
+        (run.made, text (Stopped t) begun o0 o1 o2 r0 r1 w0 w1 w2 run, run.within, run.all, shows_text (Stopped t) begun o0 o1 o2 r0 r1 w0 w1 w2 run, all_text (Stopped t) begun o0 o1 o2 r0 r1 w0 w1 w2 run end.1)
+    ended (Stopped t) (Err (Io Write)) run end =
+        (run.made, Stopped t, text (Stopped t) begun o0 o1 o2 r0 r1 w0 w1 w2 run, run.within, shows_text (Stopped t) begun o0 o1 o2 r0 r1 w0 w1 w2 run, some_text (Stopped t) begun o0 o1 o2 r0 r1 w0 w1 w2 run end.0)
+    ended (Stopped t) (Err (Io Read)) run end = absurd end
+    ended (Stopped t) (Err (Refused x)) run end = absurd end
+    ended (Stopped t) (Err Memory) run end = absurd end
+    ended Unread (Ok s) run end = absurd end
+    ended Unread (Err (Io Write)) run end = absurd end
+    ended Unread (Err (Io Read)) run end = (
+      run.made,
+      text Unread begun o0 o1 o2 r0 r1 w0 w1 w2 run,
+      run.within,
+      shows_text Unread begun o0 o1 o2 r0 r1 w0 w1 w2 run,
+      (some_text Unread begun o0 o1 o2 r0 r1 w0 w1 w2 run end.0, λ h. all_text Unread begun o0 o1 o2 r0 r1 w0 w1 w2 run (end.1 (h ∙ sym run.written.1))),
+    )
+    ended Unread (Err (Refused x)) run end = absurd end
+    ended Unread (Err Memory) run end = absurd end
 
-    -- it failed to pass the text on
-    pub not_passed : (o3 : Option (List ℕ)) (w3 : ℕ) → Written (Ok tt) (end_text begun left) o1 o2 w1 w2 → Keeps o2 o3 → AnsweredTrace source steps (Err (Io Write)) i0 i1 o0 o3 w0 w3
-    not_passed o3 w3 end kept =
-        (run.made, left, text, run.within, shows_text, (text, [], sym (append-nil text), Appends-kept o0 o2 o3 text (told (Ok tt) end).0 kept))
+    -- whose failures rose
+    pub blamed : (left : Left) (r : Result Stop ToolFault) → Followed p names steps left begun i0 i1 o0 o1 r0 r1 w0 w1 → EndsTrace left begun r o1 o2 w1 w2 → Blames r r0 r1 w0 w2
+    blamed (Stopped t) (Ok s) run end = (run.reader, end.2 ∙ run.written.1)
+    blamed (Stopped t) (Err (Io Write)) run end = end.1 ∙ ap (λ w. w + 1) run.written.1
+    blamed (Stopped t) (Err (Io Read)) run end = absurd end
+    blamed (Stopped t) (Err (Refused x)) run end = absurd end
+    blamed (Stopped t) (Err Memory) run end = absurd end
+    blamed Unread (Ok s) run end = absurd end
+    blamed Unread (Err (Io Write)) run end = absurd end
+    blamed Unread (Err (Io Read)) run end = run.reader
+    blamed Unread (Err (Refused x)) run end = absurd end
+    blamed Unread (Err Memory) run end = absurd end
 
-  module _ (t : Stop) (begun : Bool) (o0 o1 o2 o3 : Option (List ℕ)) (r0 r1 w0 w1 w2 w3 : ℕ) (run : Followed p names steps (Stopped t) begun i0 i1 o0 o1 r0 r1 w0 w1) where
-    -- all was written
-    pub all_told : Written (Ok tt) (end_text begun (Stopped t)) o1 o2 w1 w2 → Keeps o2 o3 → AnsweredTrace source steps (Ok t) i0 i1 o0 o3 w0 w3
-    all_told end kept =
-        let wrote = told (Stopped t) begun o0 o1 o2 r0 r1 w0 w1 w2 run (Ok tt) end in
-        (run.made, trace_text names run.events (Stopped t), run.within, run.all, traced run.made (Stopped t) run.events run.follows, Appends-kept o0 o2 o3 (trace_text names run.events (Stopped t)) wrote.0 kept)
+  -- a writer's failure is told as its own
+  pub interrupted_blamed : (f : IoFault) (o0 o1 : Option (List ℕ)) (r0 r1 w0 w1 : ℕ) → Interrupted p names steps f i0 i1 o0 o1 w0 w1 → Blames (Err (Io f)) r0 r1 w0 w1
+  interrupted_blamed Read o0 o1 r0 r1 w0 w1 run = absurd (let no = run.written.0 in cc)
+  interrupted_blamed Write o0 o1 r0 r1 w0 w1 run = run.written.2
 
-  module _ (begun : Bool) (o0 o1 o2 : Option (List ℕ)) (r0 r1 w0 w1 w2 : ℕ) (run : Followed p names steps Unread begun i0 i1 o0 o1 r0 r1 w0 w1) where
-    abbrev unread_text : List ℕ
-    unread_text = trace_text names run.events Unread
-
-    -- the reader failed, and that was written
-    pub unread_told : (o3 : Option (List ℕ)) (w3 : ℕ) → Written (Ok tt) (end_text begun Unread) o1 o2 w1 w2 → Keeps o2 o3 → AnsweredTrace source steps (Err (Io Read)) i0 i1 o0 o3 w0 w3
-    unread_told o3 w3 end kept =
-        let wrote = told Unread begun o0 o1 o2 r0 r1 w0 w1 w2 run (Ok tt) end in
-        let all = Appends-kept o0 o2 o3 unread_text wrote.0 kept in
-        (run.made, unread_text, run.within, traced run.made Unread run.events run.follows, ((unread_text, [], sym (append-nil unread_text), all), λ _. all))
-
-    -- the writer failed too
-    pub unread_cut : (f : IoFault) → Written (Err f) (end_text begun Unread) o1 o2 w1 w2 → AnsweredTrace source steps (Err (Io Read)) i0 i1 o0 o2 w0 w2
-    unread_cut f end =
-        let wrote = told Unread begun o0 o1 o2 r0 r1 w0 w1 w2 run (Err f) end in
-        (run.made, unread_text, run.within, traced run.made Unread run.events run.follows, (wrote.1, λ e. absurd (omega (arith, wrote.2, e))))
+-- something was run
+pub run_untouched : {R W : Type 0} → (left : Left) (begun : Bool) (r : Result Stop ToolFault) (o1 o2 : Option (List ℕ)) (w1 w2 : ℕ) (a b : R) (c d : W) → EndsTrace left begun r o1 o2 w1 w2 → Untouched r a b c d
+run_untouched left begun (Ok s) o1 o2 w1 w2 a b c d end = tt
+run_untouched left begun (Err (Io f)) o1 o2 w1 w2 a b c d end = tt
+run_untouched (Stopped t) begun (Err (Refused x)) o1 o2 w1 w2 a b c d end = absurd end
+run_untouched Unread begun (Err (Refused x)) o1 o2 w1 w2 a b c d end = absurd end
+run_untouched (Stopped t) begun (Err Memory) o1 o2 w1 w2 a b c d end = absurd end
+run_untouched Unread begun (Err Memory) o1 o2 w1 w2 a b c d end = absurd end
 
 -- ---- a source that is refused
 

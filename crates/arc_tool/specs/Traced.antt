@@ -19,7 +19,7 @@ use Rattle.arc_tool.specs.declared.refusal.Refusal.{Refusal}
 use Rattle.arc_tool.specs.declared.run.ToolFault.{ToolFault}
 use Rattle.arc_tool.specs.declared.run.ToolFault.TheVariants.{Refused, Memory, Io}
 use Rattle.arc_tool.specs.Accepted.{Compiles, class_names, meant}
-use Rattle.arc_tool.specs.Lines.{trace_text, events_text, open_after}
+use Rattle.arc_tool.specs.Lines.{trace_text, events_text, end_text, open_after}
 use Rattle.arc_tool.specs.Refused.{IsRefusal}
 use Rattle.arc_tool.specs.Told.{Names}
 
@@ -91,6 +91,13 @@ pub record Traced (source : List ℕ) (made : ℕ) (left : Left) (in0 in1 : Opti
 -- all of a text was written, or where the writer failed some first bytes of it
 abbrev pub Tells : List ℕ → (out0 out1 : Option (List ℕ)) → (writes0 writes1 : ℕ) → Type 0
 Tells text o0 o1 w0 w1 = AppendsPart o0 o1 text × (w1 ≡ w0 → Appends o0 o1 text)
+
+-- The end of a text was written and passed on, and the answer is the run's; or the writer failed, and some first bytes of it were written. Where the reader failed before, that is the answer, whatever the writer does.
+abbrev pub EndsTrace : Left → (begun : Bool) → Result Stop ToolFault → (out0 out1 : Option (List ℕ)) → (writes0 writes1 : ℕ) → Type 0
+EndsTrace (Stopped stop) begun (Ok answer) o0 o1 w0 w1 = (answer ≡ stop) × Appends o0 o1 (end_text begun (Stopped stop)) × (w1 ≡ w0)
+EndsTrace (Stopped stop) begun (Err (Io Write)) o0 o1 w0 w1 = AppendsPart o0 o1 (end_text begun (Stopped stop)) × (w1 ≡ w0 + 1)
+EndsTrace Unread begun (Err (Io Read)) o0 o1 w0 w1 = Tells (end_text begun Unread) o0 o1 w0 w1
+EndsTrace _ begun _ o0 o1 w0 w1 = ⊥
 
 -- what each answer says
 abbrev pub AnsweredTrace : List ℕ → (steps : ℕ) → Result Stop ToolFault → (in0 in1 out0 out1 : Option (List ℕ)) → (writes0 writes1 : ℕ) → Type 0

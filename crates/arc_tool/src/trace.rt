@@ -7,7 +7,7 @@ ghost use Rattle.arc_machine.specs.Views.{fresh};
 ghost use Rattle.arc_tool.specs.Accepted.{bytes_of_name};
 ghost use Rattle.arc_tool.specs.Ran.{Untouched};
 ghost use Rattle.arc_tool.specs.Lines.{events_text, open_after};
-ghost use Rattle.arc_tool.specs.Traced.{AnsweredTrace, Blames, Followed, Interrupted, new_events};
+ghost use Rattle.arc_tool.specs.Traced.{AnsweredTrace, Blames, EndsTrace, Followed, Interrupted, new_events};
 
 use crate::compile::compile_named;
 use crate::lines::{Left, open_after, put_end, put_events};
@@ -49,19 +49,30 @@ pub fn trace_text<R: Read, W: Write>(
     let named = compile_named(alloc, source)?;
     let mut machine = Machine::new(alloc, named.code, PlainStore::new(alloc))?;
     let (left, begun) = follow(&mut machine, steps, &named.classes, reader, writer)?;
-    let ended = put_end(left, begun, writer);
+    end_trace(left, begun, writer)
+}
+
+/// Writes the end of the text, and has it passed on. Gives how the run stopped, or which device failed: the reader,
+/// where it did so before, whatever the writer does now.
+fn end_trace<W: Write>(left: Left, begun: bool, writer: &mut Counted<W>) -> Result<Stop, ToolFault>
+    requires { failures_of writer.old < 2 ^ 64 - 1 }
+    ensures { EndsTrace left begun result
+        (held_by W.contents writer.old) (held_by W.contents writer.new)
+        (failures_of writer.old) (failures_of writer.new) }
+{
     match left {
         Left::Stopped(stop) => {
-            ended?;
+            put_end(left, begun, writer)?;
             flush(writer)?;
             Ok(stop)
         }
-        Left::Unread => {
-            if ended.is_ok() {
+        Left::Unread => match put_end(left, begun, writer) {
+            Ok(()) => {
                 let _ = flush(writer);
+                Err(ToolFault::Io(IoFault::Read))
             }
-            Err(ToolFault::Io(IoFault::Read))
-        }
+            Err(_) => Err(ToolFault::Io(IoFault::Read)),
+        },
     }
 }
 
