@@ -385,13 +385,16 @@ fn registers(rt: HostRuntime) {
     let alloc = rt.alloc();
     let unit = two_classes(alloc).expect(&rt, "no memory");
     let mut table = ClassTable::build(alloc, &unit).expect(&rt, "no table");
-    let first = table.sel_register_name(b"h:").expect(&rt, "no memory");
-    let second = table.sel_register_name(b"h:").expect(&rt, "no memory");
+    let first = table.sel_register_name(b"zip:").expect(&rt, "no memory");
+    let second = table.sel_register_name(b"zip:").expect(&rt, "no memory");
+    let other = table.sel_register_name(b"zip").expect(&rt, "no memory");
     assert_eq!(rt; first, Sel(2));
     assert_eq!(rt; second, Sel(2));
-    assert_eq!(rt; table.sel_get_name(first), b"h:".as_slice());
+    assert_eq!(rt; other, Sel(3));
+    assert_eq!(rt; table.sel_get_name(first), b"zip:".as_slice());
+    assert_eq!(rt; table.sel_get_name(other), b"zip".as_slice());
     assert_eq!(rt; table.sel_get_name(Sel(1)), b"g".as_slice());
-    assert_eq!(rt; table.sel_get_name(Sel(3)), b"".as_slice());
+    assert_eq!(rt; table.sel_get_name(Sel(4)), b"".as_slice());
 }
 
 fn field(
