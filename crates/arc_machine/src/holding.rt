@@ -10,6 +10,7 @@ use arc_code::code::{Code, Op};
 use arc_heap::store::Store;
 
 impl Place {
+    /// A further place, which is nil.
     #[inline(always)]
     pub fn nil<S: Store + Drop>(&mut self, _code: &Code, objects: &mut Objects<S>) -> Answer
         requires ready { Ready S.out (program_of _code.now) Op.Nil (spot self.old objects.old) }
@@ -25,6 +26,7 @@ impl Place {
         Answer::Going
     }
 
+    /// A further place takes `self`.
     #[inline(always)]
     pub fn hold_self<S: Store + Drop>(&mut self, code: &Code, objects: &mut Objects<S>) -> Answer
         requires ready { Ready S.out (program_of code.now) Op.HoldSelf (spot self.old objects.old) }
@@ -44,6 +46,7 @@ impl Place {
         Answer::Going
     }
 
+    /// A further place takes what the place at this depth names.
     #[inline(always)]
     pub fn hold<S: Store + Drop>(
         &mut self,
@@ -68,6 +71,7 @@ impl Place {
         Answer::Going
     }
 
+    /// So many last places, which are nil, are gone.
     #[inline(always)]
     pub fn forget<S: Store + Drop>(
         &mut self,
@@ -88,6 +92,7 @@ impl Place {
         Answer::Going
     }
 
+    /// Puts 1 on the stack where the last place and the one at this depth below it differ, and else 0.
     #[inline(always)]
     pub fn differ<S: Store + Drop>(
         &mut self,
@@ -111,6 +116,7 @@ impl Place {
         Answer::Going
     }
 
+    /// Puts 1 on the stack where the last place isn't nil, and else 0.
     #[inline(always)]
     pub fn is_object<S: Store + Drop>(&mut self, _code: &Code, objects: &mut Objects<S>) -> Answer
         requires ready { Ready S.out (program_of _code.now) Op.IsObject (spot self.old objects.old) }
