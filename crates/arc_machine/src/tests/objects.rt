@@ -1,5 +1,4 @@
-//! Small programs that make objects, and a store that has no block for them.
-ghost use Rattle.arc_heap.specs.Blocks.{no_blocks};
+//! Small programs that make objects, and a store that has too few blocks for them.
 ghost use Rattle.arc_machine.specs.Sample.{with_dealloc, root_and};
 ghost use Rattle.arc_spec.specs.Classes.{class_of, classes_of};
 ghost use Rattle.std.specs.Prelude.{◌≡◌, [], ◌∷◌, None, IfOk};
@@ -16,29 +15,36 @@ use arc_spec::event::{Event, Fault};
 use std::alloc::Global;
 use std::test::Fail;
 
-/// A store that never has a block.
+/// A store that gives so many of another's blocks, and then no more.
 #[derive(Drop)]
-struct NoBlocks;
+struct Few<S: Store + Drop> {
+    store: S,
+    left: usize,
+}
 
-impl Store for NoBlocks {
-    ghost out = { λ _. no_blocks };
+impl<S: Store + Drop> Store for Few<S> {
+    ghost out = { λ s. S.out s.store };
 
     ghost stock = { λ _. None };
 
-    fn take(&mut self, _words: usize) -> Option<Ref> {
-        None
+    fn take(&mut self, words: usize) -> Option<Ref> {
+        if self.left == 0 {
+            return None;
+        }
+        self.left -= 1;
+        self.store.take(words)
     }
 
-    fn give(&mut self, _block: Ref) {
-        unreachable!()
+    fn give(&mut self, block: Ref) {
+        self.store.give(block);
     }
 
-    fn load(&self, _block: Ref, _i: usize) -> u64 {
-        unreachable!()
+    fn load(&self, block: Ref, i: usize) -> u64 {
+        self.store.load(block, i)
     }
 
-    fn store(&mut self, _block: Ref, _i: usize, _value: u64) {
-        unreachable!()
+    fn store(&mut self, block: Ref, i: usize, value: u64) {
+        self.store.store(block, i, value);
     }
 }
 
@@ -272,7 +278,11 @@ fn an_object_that_is_held_again_stops_it(rt: HostRuntime) -> Result<(), Fail> {
 
 #[test]
 fn a_store_with_no_block_stops_it(rt: HostRuntime) -> Result<(), Fail> {
-    let mut machine = life(rt.alloc(), NoBlocks)?;
+    let store = Few {
+        store: PlainStore::new(rt.alloc()),
+        left: 0,
+    };
+    let mut machine = life(rt.alloc(), store)?;
     for _ in 0..2 {
         let stop = runs(rt.alloc(), &mut machine, 100);
         assert_eq!(rt; stop, Ok(Stop::NoHeap));

@@ -149,13 +149,8 @@ fn objects_in_a_loop(rt: HostRuntime) -> Result<(), Fail> {
     assert_eq!(rt; output.as_slice(), b"k".as_slice());
     assert!(rt; stop == Stop::Ended(0));
     let (text, _) = traced(alloc, source)?;
-    let mut ends = 0;
-    for byte in &text {
-        if *byte == b'E' {
-            ends += 1;
-        }
-    }
-    assert_eq!(rt; ends, 10_000);
+    let last = b"dealloc 10000 E\nout 6b\nend 0\n";
+    assert!(rt; text.as_slice().ends_with(last.as_slice()));
     Ok(())
 }
 
