@@ -14,6 +14,7 @@ pub mod ExprComplete
 pub mod Front
 pub mod UnitLocal
 pub mod UnitSound
+pub mod UnitViable
 pub mod UnitBegin
 pub mod UnitBelow
 pub mod UnitComplete

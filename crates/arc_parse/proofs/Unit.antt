@@ -1,5 +1,6 @@
 -- What is read of all tokens is what they spell, and what is refused is spelled by nothing.
 use Rattle.std.proofs.Common.{◌≡◌, suc, List, ◌++◌, length, append-nil, Ok, Err, refl, sym, ap, subst, ◌∙◌, arith}
+use Rattle.std.proofs.lemmas.List.{append_cancel_right}
 use Rattle.arc_lex.specs.Tokens.{Tok}
 use Rattle.arc_ast.specs.Tree.{UnitTree}
 use Rattle.arc_parse.specs.Reader.{Read, Fault, misfit, bind, ret, first}
@@ -12,6 +13,7 @@ use Rattle.arc_parse.proofs.Sound.{ok_is}
 use Rattle.arc_parse.proofs.UnitLocal.{unit_local}
 use Rattle.arc_parse.proofs.UnitSound.{read_sound}
 use Rattle.arc_parse.proofs.UnitComplete.{complete_unit}
+use Rattle.arc_parse.proofs.UnitViable.{unit_begins}
 
 ok_not_err : {x : UnitTree × List Tok} {e : Fault × List Tok} {y : Read UnitTree} → y ≡ Ok x → y ≡ Err e → ⊥
 ok_not_err p q = cc
@@ -34,17 +36,21 @@ pub unit_accepted : (limits : Limits) (ts : List Tok) (u : UnitTree) (e : Fault 
 unit_accepted limits ts u e r h = ok_not_err (complete_unit limits u ts h) r
 
 pub unit_refuses : (ts rest : List Tok) → unit unlimited ts ≡ Err (misfit, rest) → FitsNone ts (place_of ts rest)
-unit_refuses ts rest e = go (unit unlimited ts) e ((unit_local (suc (length ts))).each ts (omega arith))
+unit_refuses ts rest whole = go (unit unlimited ts) whole ((unit_local (suc (length ts))).each ts (omega arith))
   where
     go : (x : Read UnitTree) → x ≡ Err (misfit, rest) → StopsAt (Unit {0}) 0 x (unit unlimited) ts → FitsNone ts (place_of ts rest)
     go (Ok x) e s = cc
     go (Err r) e s =
         let same : r.1 ≡ rest = ap rest_of e in
-        let why : r.0 ≡ misfit = ap fault_of e in (
+        let why : r.0 ≡ misfit = ap fault_of e in
+        let cut : ts ≡ s.before ++ rest = s.cut ∙ ap (λ u. s.before ++ u) same in
+        let begun = unit_begins ts misfit rest whole in
+        let as_begun : begun.0 ≡ s.before = append_cancel_right begun.0 s.before rest (sym begun.3 ∙ cut) in (
           s.before,
           rest,
-          s.cut ∙ ap (λ u. s.before ++ u) same,
+          cut,
           refl,
+          (begun.1, begun.2, subst (λ v. SpellsUnit unlimited begun.2 (v ++ begun.1)) as_begun begun.4),
           λ others u f h.
               let no : unit unlimited (s.before ++ others) ≡ Err (misfit, others) = s.same tt others (f ∙ ap first (sym same)) ∙ ap (λ y. Err (y, others)) why in
               ok_not_err (complete_unit unlimited u (s.before ++ others) h) no,

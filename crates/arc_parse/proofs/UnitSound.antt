@@ -44,7 +44,7 @@ to_nested {A = A} {f = f} {L = L} (Some n) d test s = go (is_above (Some n) d) r
     go false e = to_as s (λ a r xs h. (ltb-false n d e, h))
 
 -- the last part of a rule
-last : (L : Language) (xs : List Tok) → L xs → L (xs ++ [])
+pub last : (L : Language) (xs : List Tok) → L xs → L (xs ++ [])
 last L xs x = subst L (sym (append-nil xs)) x
 
 -- ---- the head of a function
@@ -62,7 +62,7 @@ unfolding perhaps_const
 perhaps_const_sound = sound_if _ (sound_then (sound_keyword _) (λ const. sound_ret tt (λ xs x. inr (last (TheWord w.Const) xs (const, x))))) (sound_ret tt (inl refl))
 
 -- what is behind the first parameter of `main` and a comma
-abbrev Texts : Language
+abbrev pub Texts : Language
 Texts = (Nothing ∣ TheWord w.Const) ⨾ TheWord w.Char ⨾ The m.Star ⨾ TextsName
 
 texts_sound : Sound texts (λ ps xs. (ps ≡ CountAndTexts) × Texts xs)
@@ -76,7 +76,7 @@ parameter_sound = sound_then (sound_keyword _) (λ int. sound_then sound_name (�
     (λ ys y xs x. (xs, ys ++ [], refl, (int, x), last (One (tokens.Name called.1) called.0) ys y))))
 
 -- a comma and a parameter
-abbrev NextParameter : ParameterTree → Language
+abbrev pub NextParameter : ParameterTree → Language
 NextParameter p = The m.Comma ⨾ SpellsParameter p
 
 next_parameter_sound : Sound next_parameter NextParameter
@@ -102,7 +102,7 @@ typed_sound = sound_then (sound_expect _) (λ colon. sound_then (sound_expect _)
     )))))))
 
 -- a part of a selector
-abbrev NextPart : List ℕ × ParameterTree → Language
+abbrev pub NextPart : List ℕ × ParameterTree → Language
 NextPart one = λ ts. (at : ℕ) × (One (tokens.Name one.0) at ⨾ SpellsTyped one.1) ts
 
 next_part_sound : Sound next_part NextPart
@@ -125,14 +125,14 @@ sign_sound = sound_if _ (sound_then (sound_expect _) (λ at. sound_ret (at, sign
 -- ---- fields
 
 -- a field that is visible so
-abbrev AField : Visibility → FieldTree → Language
+abbrev pub AField : Visibility → FieldTree → Language
 AField v f = λ xs. (f.visibility ≡ v) × One (tokens.Name f.name) f.at xs
 
 field_sound : (v : Visibility) → Sound (field v) (AField v)
 unfolding field
 field_sound v = sound_then sound_name (λ called. sound_ret (record { at = called.0; name = called.1; visibility = v }) (λ xs x. (refl, last (One (tokens.Name called.1) called.0) xs x)))
 
-abbrev NextField : Visibility → FieldTree → Language
+abbrev pub NextField : Visibility → FieldTree → Language
 NextField v f = λ xs. (f.visibility ≡ v) × (The m.Comma ⨾ One (tokens.Name f.name) f.at) xs
 
 next_field_sound : (v : Visibility) → Sound (next_field v) (NextField v)
@@ -143,14 +143,14 @@ next_field_sound v = sound_then (sound_expect _) (λ comma. sound_as (field_soun
 abbrev pub a_field : Visibility → ℕ × List ℕ → FieldTree
 a_field v n = record { at = n.0; name = n.1; visibility = v }
 
-and_field : (v : Visibility) (f : FieldTree) (others : List FieldTree) (names : List (ℕ × List ℕ)) → f.visibility ≡ v → others ≡ named_fields v names [] → f ∷ others ≡ named_fields v ((f.at, f.name) ∷ names) []
+pub and_field : (v : Visibility) (f : FieldTree) (others : List FieldTree) (names : List (ℕ × List ℕ)) → f.visibility ≡ v → others ≡ named_fields v names [] → f ∷ others ≡ named_fields v ((f.at, f.name) ∷ names) []
 and_field v f others names e h = ap (λ x. a_field x (f.at, f.name) ∷ others) e ∙ ap (λ x. a_field v (f.at, f.name) ∷ x) h
 
 pub named_append : (v : Visibility) (names : List (ℕ × List ℕ)) (others : List FieldTree) → named_fields v names others ≡ named_fields v names [] ++ others
 named_append v [] others = refl
 named_append v (n ∷ names) others = ap (λ x. a_field v n ∷ x) (named_append v names others)
 
-visibility_sound : Sound visibility (λ v. TheAt (word_of v))
+pub visibility_sound : Sound visibility (λ v. TheAt (word_of v))
 visibility_sound = sound_as (sound_token (λ t. visibility_of t.sort)) (λ v xs h. (h.0.from, (h.0, h.1, go v h.0 h.0.sort refl h.2, refl)))
   where
     go : (v : Visibility) (t : Tok) (s : Sort) → t.sort ≡ s → visibility_of s ≡ Some v → t.sort ≡ tokens.At (word_of v)
@@ -165,7 +165,7 @@ visibility_sound = sound_as (sound_token (λ t. visibility_of t.sort)) (λ v xs 
     go v t (Sign mark) e h = cc
 
 -- a comma and a name
-abbrev NextName : Language
+abbrev pub NextName : Language
 NextName = The m.Comma ⨾ SomeName
 
 next_name_sound : Sound next_name (λ _. NextName)
@@ -192,7 +192,7 @@ abbrev pub AreSound : Limits → Rules → Type 0
 AreSound limits g = (rule : Rule) → SoundTo (g rule) (Given limits rule)
 
 -- a statement, behind which no `else` would belong to it
-abbrev Ended : Limits → ℕ → StmtTree → List Tok → Language
+abbrev pub Ended : Limits → ℕ → StmtTree → List Tok → Language
 Ended limits d s r xs = SpellsStmt limits d s xs × (is_open s ≡ true → sees_word w.Else r ≡ false)
 
 -- a statement to which no `else` may belong
@@ -209,7 +209,7 @@ sees_else : (at : ℕ) (xs ys r : List Tok) → One (Key w.Else) at xs → sees_
 sees_else at xs ys r (t, c, s, p) = rw (c, s) refl
 
 -- where an `else` is, the statement before it is not open
-closed : (s : StmtTree) (r : List Tok) → (is_open s ≡ true → sees_word w.Else r ≡ false) → sees_word w.Else r ≡ true → is_open s ≡ false
+pub closed : (s : StmtTree) (r : List Tok) → (is_open s ≡ true → sees_word w.Else r ≡ false) → sees_word w.Else r ≡ true → is_open s ≡ false
 closed s r none here = go (is_open s) refl
   where
     differ : true ≡ false → ⊥
@@ -220,11 +220,11 @@ closed s r none here = go (is_open s) refl
     go false e = refl
 
 -- two languages in turn, and a third behind them
-grouped : (L M N : Language) (xs ys : List Tok) → (L ⨾ M) xs → N ys → (L ⨾ M ⨾ N) (xs ++ ys)
+pub grouped : (L M N : Language) (xs ys : List Tok) → (L ⨾ M) xs → N ys → (L ⨾ M ⨾ N) (xs ++ ys)
 grouped L M N xs ys x y = (x.0, x.1 ++ ys, ap (λ v. v ++ ys) x.2 ∙ append_assoc x.0 x.1 ys, x.3, (x.1, ys, refl, x.4, y))
 
 -- three in turn, and a fourth
-grouped_three : (L M N O : Language) (xs ys : List Tok) → (L ⨾ M ⨾ N) xs → O ys → (L ⨾ M ⨾ N ⨾ O) (xs ++ ys)
+pub grouped_three : (L M N O : Language) (xs ys : List Tok) → (L ⨾ M ⨾ N) xs → O ys → (L ⨾ M ⨾ N ⨾ O) (xs ++ ys)
 grouped_three L M N O xs ys x y = (x.0, x.1 ++ ys, ap (λ v. v ++ ys) x.2 ∙ append_assoc x.0 x.1 ys, x.3, grouped M N O x.1 ys x.4 y)
 
 -- what does not begin so with others behind it does not without them
@@ -234,7 +234,7 @@ front_reference (t ∷ []) r h = refl
 front_reference (t ∷ u ∷ xs) r h = h
 
 -- this parameter and others, of which the tokens spell the others
-abbrev WithOthers : ParameterTree → List ParameterTree → Language
+abbrev pub WithOthers : ParameterTree → List ParameterTree → Language
 WithOthers p all = λ xs. (q : ParameterTree) × (others : List ParameterTree) × (all ≡ p ∷ q ∷ others) × (SpellsParameter q ⨾ SpellsMoreParameters others) xs
 
 no_more : (r : List Tok) → begins any r ≡ false → r ≡ []
@@ -242,7 +242,7 @@ no_more [] e = refl
 no_more (t ∷ r) e = cc
 
 -- a function that may take texts is named `main`
-texts_main : (called : List ℕ) (us : List Tok) → begins (begins_texts called) us ≡ true → called ≡ main_bytes
+pub texts_main : (called : List ℕ) (us : List Tok) → begins (begins_texts called) us ≡ true → called ≡ main_bytes
 texts_main called [] e = cc
 texts_main called (t ∷ us) e = (bytes_eq-Decides called main_bytes).0 (both (bytes_eq called main_bytes) _ e)
   where
@@ -261,7 +261,7 @@ module _ (limits : Limits) where
   abbrev Told : StmtTree → Language
   Told s = λ xs. (e : ExprTree) × (s ≡ Simple e) × (Full limits e ⨾ The m.Semicolon) xs
 
-  simple_sound : (d : ℕ) → SoundTo (simple_by limits) (Ended limits d)
+  pub simple_sound : (d : ℕ) → SoundTo (simple_by limits) (Ended limits d)
   unfolding simple_by
   simple_sound d = to_looked begins_reference (to_then (to_of sound_name) (λ called. to_unexpected)) (to_as (to_of told) (λ s r xs h no.
       subst (λ v. Ended limits d v r xs) (sym h.1) ((front_reference xs r no, h.2), λ o. cc)))
@@ -352,7 +352,7 @@ module _ (limits : Limits) where
     block_sound d = to_then (to_of (sound_expect _)) (λ at. to_then (rec (items (suc d))) (λ all. to_then (to_of (sound_expect _)) (λ end. to_ret (Block at all)
         (λ r zs z ys y xs x. ((xs, ys ++ (zs ++ []), refl, x, (ys, zs ++ [], refl, y, last (The m.CloseBrace) zs (end, z))), λ o. cc)))))
 
-    else_sound : (d at : ℕ) (c : ExprTree) (a : StmtTree) → SoundTo (else_by g d at c a)
+    pub else_sound : (d at : ℕ) (c : ExprTree) (a : StmtTree) → SoundTo (else_by g d at c a)
         (λ s r ys. (as' : List Tok) → Given limits (stmt (suc d)) a (ys ++ r) as' → (xs : List Tok) → SpellsTest limits c xs → (ks : List Tok) → One (Key w.If) at ks → Ended limits d s r (ks ++ (xs ++ (as' ++ ys))))
     unfolding else_by
     else_sound d at c a = to_if _ (to_then (to_of (sound_keyword _)) (λ other. to_then (rec (stmt (suc d))) (λ b. to_ret (IfElse at c a b)

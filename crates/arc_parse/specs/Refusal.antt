@@ -22,10 +22,14 @@ abbrev pub place_of : List Tok → List Tok → ℕ
 place_of all [] = end_of all
 place_of all (t ∷ rest) = t.from
 
--- The token at this place is one such that no list that a unit spells begins with the tokens up to and including it; or the
--- place is the end, and no unit spells the tokens.
+-- Some unit begins with these tokens.
+abbrev pub StartsUnit : List Tok → Type 0
+StartsUnit before = (others : List Tok) × (u : UnitTree) × SpellsUnit unlimited u (before ++ others)
+
+-- The token at this place is the first that does not fit: some unit begins with the tokens before it, and no list that a unit
+-- spells begins with the tokens up to and including it; or the place is the end, and no unit spells the tokens.
 abbrev pub FitsNone : List Tok → ℕ → Type 0
-FitsNone all at = (before rest : List Tok) × (all ≡ before ++ rest) × (at ≡ place_of all rest)
+FitsNone all at = (before rest : List Tok) × (all ≡ before ++ rest) × (at ≡ place_of all rest) × StartsUnit before
     × ((others : List Tok) (u : UnitTree) → first others ≡ first rest → SpellsUnit unlimited u (before ++ others) → ⊥)
 
 -- The token at this place passes a limit.

@@ -16,7 +16,7 @@ use arc_lex::token::{AtWord, Token};
 use std::alloc::{AllocError, Global};
 
 /// What stands outside of all else. The names that `@class` declares aren't kept.
-#[derive(Debug, Drop)]
+#[derive(Drop)]
 pub enum Top {
     Names,
     Function(Function),
