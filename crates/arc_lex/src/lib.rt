@@ -7,7 +7,5 @@ pub mod lex;
 mod number;
 mod piece;
 mod spelling;
-#[cfg(test)]
-mod tests;
 mod text;
 pub mod token;

@@ -1,7 +1,7 @@
 //! Sources and their answers, as worked out by hand.
-use crate::fault::LexFault;
-use crate::lex::lex;
-use crate::token::{Mark, Span, Token, TokenKind, Word};
+use arc_lex::fault::LexFault;
+use arc_lex::lex::lex;
+use arc_lex::token::{Mark, Span, Token, TokenKind, Word};
 use std::test::Fail;
 
 #[test]
