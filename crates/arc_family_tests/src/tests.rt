@@ -1,13 +1,13 @@
 //! Sources by hand, and which rules of ownership they break; and methods, with their families.
-use crate::family::family;
-use crate::fault::OwnFault;
-use crate::owned::own;
-use crate::signature::{Family, Signature};
 use arc_ast::tree::{
     BinaryOperator, Expr, Function, Implementation, Interface, Kind, Method, MethodHead,
     Parameters, Sign, Stmt, TranslationUnit, TypeName, Variable,
 };
 use arc_check::checked::Checked;
+use arc_family::family::family;
+use arc_family::fault::OwnFault;
+use arc_family::owned::own;
+use arc_family::signature::{Family, Signature};
 use std::alloc::{AllocError, Global};
 
 /// A message to `self`, whose selector stands at the place; all else of it stands at 900.
@@ -194,10 +194,10 @@ fn finds_messages(rt: HostRuntime) {
 
 #[test]
 fn tells(rt: HostRuntime) {
-    let fault = OwnFault::Memory;
+    let fault = OwnFault::SelfConst(7);
     assert_eq!(rt;
         (fault.number(), fault.name(), fault.at()),
-        (69, "Memory", 0)
+        (47, "SelfConst", 7)
     );
 }
 
