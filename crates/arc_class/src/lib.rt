@@ -7,6 +7,7 @@ pub mod fault;
 mod fields;
 mod heads;
 mod kept;
+pub mod law;
 mod look;
 mod methods;
 mod root;
