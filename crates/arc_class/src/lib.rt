@@ -12,6 +12,4 @@ mod look;
 mod methods;
 mod root;
 pub mod table;
-#[cfg(test)]
-mod tests;
 mod walk;

@@ -1,11 +1,11 @@
 //! Sources by hand, and what their tables are.
-use crate::fault::ClassFault;
-use crate::table::{ClassId, ClassTable, Field, FoundField, MethodId, Sel};
 use arc_ast::tree;
 use arc_ast::tree::{
     Expr, Function, Implementation, Interface, Kind, Method, MethodHead, Parameter, Parameters,
     Sign, Stmt, TranslationUnit, TypeName, Variable, Visibility,
 };
+use arc_class::fault::ClassFault;
+use arc_class::table::{ClassId, ClassTable, MethodId, Sel};
 use std::alloc::{AllocError, Global};
 
 fn parameter(alloc: Global, at: usize, name: &[u8]) -> Result<Parameter, AllocError> {
