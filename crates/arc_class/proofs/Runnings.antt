@@ -1,9 +1,9 @@
 -- The methods of a class as a running program knows them, one more.
-use Rattle.std.proofs.Common.{◌≡◌, ℕ, suc, ◌+◌, ◌<◌, Bool, true, false, List, [], ◌∷◌, ◌++◌, length, Some, Option, if◌then◌else◌, append_assoc, drop, get_or, refl, sym, ap, ◌∙◌, arith}
+use Rattle.std.proofs.Common.{◌≡◌, ℕ, suc, ◌+◌, ◌<◌, ◌≤◌, Bool, true, false, List, [], ◌∷◌, ◌++◌, length, Some, Option, if◌then◌else◌, append_assoc, drop, get_or, refl, sym, ap, ◌∙◌, arith}
 use Rattle.arc_ast.specs.declared.tree.Method as ast
-use Rattle.arc_ast.specs.Tree.{UnitTree, head_tree, method_trees}
+use Rattle.arc_ast.specs.Tree.{UnitTree, ImplementationTree, head_tree, method_trees}
 use Rattle.arc_spec.specs.declared.class.Method.{Method}
-use Rattle.arc_class.specs.Classes.{is_dealloc, selectors}
+use Rattle.arc_class.specs.Classes.{is_dealloc, selectors, numbers_after}
 use Rattle.arc_class.specs.Running.{method_made, with_method, methods_from, dealloc_from}
 use Rattle.arc_class.proofs.Lists.{drop_turn}
 
@@ -53,3 +53,8 @@ pub no_dealloc : (xs : List ast.Method) (k : ℕ) (x : ast.Method) (runs : ℕ) 
     → whole ≡ dealloc_from runs (method_trees (drop k xs)) → whole ≡ dealloc_from (runs + 1) (method_trees (drop (k + 1) xs))
 no_dealloc xs k x runs whole l e d w =
     w ∙ next_dealloc xs k x runs l e ∙ ap (λ b. if b then Some runs else dealloc_from (suc runs) (method_trees (drop (k + 1) xs))) d ∙ ap (λ m. dealloc_from m (method_trees (drop (k + 1) xs))) (one_more runs)
+
+-- there are no fewer functions with some implementations than before them
+pub numbers_grow : (first : ℕ) (all : List ImplementationTree) → first ≤ numbers_after first all
+numbers_grow first [] = omega arith
+numbers_grow first (i ∷ others) = omega (arith, numbers_grow (first + length i.methods) others)

@@ -1,5 +1,6 @@
 -- Broken rules, of which the first is told (this project's own choice).
-use Rattle.std.specs.Prelude.{ℕ, Bool, ◌&&◌, ◌||◌, nat_lt, nat_eq, List, [], ◌∷◌, Option, Some, None, if◌then◌else◌}
+use Rattle.std.specs.Prelude.{◌≡◌, ℕ, Bool, false, ◌&&◌, ◌||◌, nat_lt, nat_eq, List, [], ◌∷◌, Option, Some, None, if◌then◌else◌}
+use Rattle.std.specs.List.{All, Contains}
 
 -- a rule, by its number, and the place where it is broken: a byte of the source, counted from 0
 pub record Broken : Type 0 where
@@ -24,3 +25,8 @@ earlier_of (Some a) (Some b) = Some (earlier a b)
 abbrev pub first : List Broken → Option Broken
 first [] = None
 first (a ∷ others) = earlier_of (Some a) (first others)
+
+-- a rule is the first of these: it is one of them, and none of them is told before it
+pub record IsFirst (all : List Broken) (b : Broken) : Type 0 where
+  pub among : Contains all b
+  pub least : All (λ c. is_before c b ≡ false) all

@@ -1,5 +1,5 @@
 //! The parts of a table: selectors, entries and classes.
-ghost use Rattle.std.specs.Prelude.{◌≡◌, ◌++◌, ◌∷◌, List, ℕ, map, IfOk, IfErr, OnOk};
+ghost use Rattle.std.specs.Prelude.{◌≡◌, ◌<◌, ◌+◌, ◌++◌, ◌∷◌, List, ℕ, length, map, IfOk, IfErr, OnOk};
 ghost use Rattle.arc_ast.specs.declared.tree.Sign.{Sign};
 ghost use Rattle.arc_ast.specs.Tree.{UnitTree, unit_tree, head_tree, head_trees, method_trees, interface_trees, implementation_trees, interface_tree};
 ghost use Rattle.arc_spec.specs.Classes.{class_of, classes_of};
@@ -159,6 +159,7 @@ fn methods_from<'a>(
 fn dealloc_from(first: usize, methods: &[Method]) -> Result<Option<usize>, ClassFault>
     ensures found { IfOk result (λ function. function ≡ dealloc_from first (method_trees methods.now)) }
     ensures refused { IfErr result (λ fault. fault ≡ Memory) }
+    ensures too_many { IfErr result (λ fault. usize.MAX < first + length methods.now) }
 {
     let mut runs = first;
     for method in methods {

@@ -9,7 +9,7 @@ use std::alloc::{AllocError, AllocFailed};
 use thiserror::Error;
 
 /// Why a source has no table: the first rule that its declarations break, or no memory.
-#[derive(Clone, Copy, Debug, Drop, PartialEq, Eq, Error)]
+#[derive(Clone, Copy, Debug, Drop, Error)]
 pub enum ClassFault {
     /// A second body of a function, a declaration that differs from an earlier one, a function or a class of the library's name, a second
     /// class or implementation of a name, a name for both a class and a function, a second variable of a name in a scope, or a second field

@@ -26,7 +26,7 @@ use std::collections::BTreeMap;
 pub type FieldPlaces<'a> = BTreeMap<&'a [u8], usize>;
 
 /// What is known of the fields of a class.
-#[derive(Debug, Drop)]
+#[derive(Drop)]
 pub struct ClassFields<'a> {
     pub superclass: Option<usize>,
     /// The fields in the braces of its interface.

@@ -27,7 +27,7 @@ pub fn keep_first<'a, V: Copy>(
 }
 
 /// A method for each sign and selector.
-#[derive(Debug, Drop)]
+#[derive(Drop)]
 pub struct Heads<'a> {
     pub class_methods: BTreeMap<&'a [u8], &'a MethodHead>,
     pub instance_methods: BTreeMap<&'a [u8], &'a MethodHead>,

@@ -1,5 +1,5 @@
 //! What is kept of the names of a source: the first that each of them is declared with.
-ghost use Rattle.std.specs.Prelude.{◌≡◌, ℕ, List, IfOk, IfErr};
+ghost use Rattle.std.specs.Prelude.{◌≡◌, ◌<◌, ℕ, List, IfOk, IfErr};
 ghost use Rattle.arc_ast.specs.declared.tree.Sign.{Sign};
 ghost use Rattle.arc_ast.specs.Tree.{unit_tree, function_trees, interface_trees, implementation_trees};
 ghost use Rattle.arc_class.specs.Classes as classes;
@@ -22,14 +22,14 @@ use std::collections::BTreeMap;
 pub type Functions<'a> = BTreeMap<&'a [u8], &'a Function>;
 
 /// An implementation, and the number of the function that the first of its methods runs.
-#[derive(Clone, Copy, Debug)]
+#[derive(Clone, Copy)]
 pub struct Implemented<'a> {
     pub first: usize,
     pub implementation: &'a Implementation,
 }
 
 /// A source, and what is known of its names.
-#[derive(Debug, Drop)]
+#[derive(Drop)]
 pub struct Source<'a> {
     pub unit: &'a TranslationUnit,
     pub known: Known<'a>,
@@ -135,6 +135,7 @@ fn first_implementations<'a>(
 fn numbers_after(first: usize, implementations: &[Implementation]) -> Result<usize, ClassFault>
     ensures counted { IfOk result (λ count. count ≡ classes.numbers_after first (implementation_trees implementations.now)) }
     ensures refused { IfErr result (λ fault. fault ≡ Memory) }
+    ensures too_many { IfErr result (λ fault. usize.MAX < classes.numbers_after first (implementation_trees implementations.now)) }
 {
     let mut count = first;
     for implementation in implementations {

@@ -7,10 +7,9 @@ pub mod fault;
 mod fields;
 mod heads;
 mod kept;
+pub mod law;
 mod look;
 mod methods;
 mod root;
 pub mod table;
-#[cfg(test)]
-mod tests;
 mod walk;

@@ -13,7 +13,7 @@ use arc_ast::tree::{Function, Kind, Parameter, Parameters};
 use std::alloc::{AllocError, Global};
 
 /// What is known of some functions.
-#[derive(Debug, Drop)]
+#[derive(Drop)]
 pub struct Seen<'a> {
     pub known: Known<'a>,
     /// How many have a body.

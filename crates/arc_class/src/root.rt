@@ -1,5 +1,5 @@
 //! The methods of the root, which are built in.
-ghost use Rattle.std.specs.Prelude.{◌≡◌, IfOk, IfErr};
+ghost use Rattle.std.specs.Prelude.{◌≡◌, ◌<◌, ◌+◌, IfOk, IfErr};
 ghost use Rattle.arc_class.specs.Classes as classes;
 ghost use Rattle.arc_class.specs.declared.fault.ClassFault.TheVariants.{Memory};
 ghost use Rattle.arc_class.specs.Table.{built_in_at, built_in_from};
@@ -52,7 +52,7 @@ pub fn root_result(sign: Sign, selector: &[u8]) -> Option<Kind>
 }
 
 /// The numbers of the functions that the built-in methods run.
-#[derive(Clone, Copy, Debug, PartialEq, Eq)]
+#[derive(Clone, Copy)]
 pub struct BuiltIn {
     pub alloc_method: usize,
     pub new_method: usize,
@@ -65,6 +65,7 @@ impl BuiltIn {
     pub fn from(first: usize) -> Result<BuiltIn, ClassFault>
         ensures numbered { IfOk result (λ numbers. numbers ≡ built_in_from first) }
         ensures refused { IfErr result (λ fault. fault ≡ Memory) }
+        ensures too_many { IfErr result (λ fault. usize.MAX < first + 3) }
     {
         if first > usize::MAX - 3 {
             return Err(ClassFault::Memory);

@@ -28,14 +28,14 @@ use std::alloc::Global;
 use std::collections::BTreeMap;
 
 /// What a function gives, and how many numbers it takes: none at a count and the arguments' texts.
-#[derive(Clone, Copy, Debug, PartialEq, Eq)]
+#[derive(Clone, Copy, Debug)]
 pub struct Signature {
     pub result: Kind,
     pub takes: Option<usize>,
 }
 
 /// What is known of the functions of one name.
-#[derive(Clone, Copy, Debug, PartialEq, Eq)]
+#[derive(Clone, Copy, Debug)]
 pub struct Declared {
     pub signature: Signature,
     /// Which of the functions with a body is the first of the name, counted from 0.
@@ -53,7 +53,7 @@ pub(crate) fn at_name<'a, V: Copy>(map: &BTreeMap<&'a [u8], V>, name: &'a [u8]) 
 }
 
 /// The first interface of a name: the number of its class, and the place of the name.
-#[derive(Clone, Copy, Debug, PartialEq, Eq)]
+#[derive(Clone, Copy)]
 pub struct Place {
     pub number: usize,
     pub at: usize,
@@ -128,7 +128,7 @@ pub struct Sel(pub usize);
 pub struct MethodId(pub usize);
 
 /// A field of a class's objects, and the class that declares it.
-#[derive(Clone, Copy, Debug, PartialEq, Eq)]
+#[derive(Clone, Copy)]
 pub struct Field<'a> {
     pub name: &'a [u8],
     pub owner: ClassId,
@@ -137,7 +137,7 @@ pub struct Field<'a> {
 
 /// A field that a name stands for: the class that declares it, and its number in the objects of
 /// that class and of those below it, counted from 0.
-#[derive(Clone, Copy, Debug, PartialEq, Eq)]
+#[derive(Clone, Copy, Debug)]
 pub struct FoundField {
     pub owner: ClassId,
     pub index: usize,
@@ -145,7 +145,7 @@ pub struct FoundField {
 }
 
 /// What a table knows of a class: its superclass, and its own methods.
-#[derive(Debug, Drop)]
+#[derive(Drop)]
 pub struct Entry<'a> {
     pub superclass: Option<usize>,
     pub methods: Heads<'a>,
@@ -214,7 +214,7 @@ fn items_at<T>(lists: &[Vec<T>], number: usize) -> &[T]
 }
 
 /// What a source declares: its functions, its classes with their methods and fields, and its selectors.
-#[derive(Debug, Drop)]
+#[derive(Drop)]
 pub struct ClassTable<'a> {
     functions: Known<'a>,
     /// Which of the functions with a body is `main`, counted from 0.

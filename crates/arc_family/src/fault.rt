@@ -5,8 +5,8 @@ ghost use Rattle.arc_family.specs.Fault.{fault_number, fault_name, fault_at, tol
 
 use thiserror::Error;
 
-/// Why a program is refused: the first rule of ownership that it breaks, or no memory.
-#[derive(Clone, Copy, Debug, PartialEq, Eq, Error)]
+/// Why a program is refused: the first rule of ownership that it breaks.
+#[derive(Clone, Copy, Debug, Error)]
 pub enum OwnFault {
     /// An assignment to `self` outside of the methods of the init family, at its `=`.
     #[error("self is assigned at {0}")]
@@ -20,9 +20,6 @@ pub enum OwnFault {
     /// A message of an init method to `self` or `super` outside of the methods of the init family; the place is that of its selector.
     #[error("an init method is delegated at {0}")]
     DelegateInit(usize),
-    /// There was no memory.
-    #[error("no memory")]
-    Memory,
 }
 
 impl OwnFault {
@@ -35,7 +32,6 @@ impl OwnFault {
             OwnFault::ManualMemory(_) => 61,
             OwnFault::DeallocSent(_) => 62,
             OwnFault::DelegateInit(_) => 63,
-            OwnFault::Memory => 69,
         }
     }
 
@@ -48,11 +44,10 @@ impl OwnFault {
             OwnFault::ManualMemory(_) => "ManualMemory",
             OwnFault::DeallocSent(_) => "DeallocSent",
             OwnFault::DelegateInit(_) => "DelegateInit",
-            OwnFault::Memory => "Memory",
         }
     }
 
-    /// The byte of the source that the fault names, counted from 0: 0 for want of memory.
+    /// The byte of the source that the fault names, counted from 0.
     pub fn at(&self) -> usize
         ensures { result ≡ fault_at self.now }
     {
@@ -61,7 +56,6 @@ impl OwnFault {
             OwnFault::ManualMemory(at) => *at,
             OwnFault::DeallocSent(at) => *at,
             OwnFault::DelegateInit(at) => *at,
-            OwnFault::Memory => 0,
         }
     }
 }

@@ -6,6 +6,4 @@ pub mod fault;
 pub mod law;
 pub mod owned;
 pub mod signature;
-#[cfg(test)]
-mod tests;
 mod walk;

@@ -10,7 +10,7 @@ use arc_check::checked::Checked;
 use std::alloc::Global;
 
 /// A program that keeps the rules of ownership.
-#[derive(Debug, Drop)]
+#[derive(Drop)]
 pub struct Owned<'a> {
     pub program: &'a Checked<'a>,
 }

@@ -13,7 +13,7 @@ pub enum Family {
 }
 
 /// What a method is sent to, and what it returns.
-#[derive(Clone, Copy, Debug, PartialEq, Eq)]
+#[derive(Clone, Copy)]
 pub struct Signature {
     /// Whether it is an instance method; else it is a class method.
     pub instance: bool,

@@ -1,0 +1,5 @@
+//! Tests of `arc_class`.
+#![tactic(auto)]
+
+#[cfg(test)]
+mod tests;

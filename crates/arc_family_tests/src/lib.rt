@@ -1,0 +1,5 @@
+//! Tests of `arc_family`.
+#![tactic(auto)]
+
+#[cfg(test)]
+mod tests;
