@@ -2,6 +2,7 @@
 import os
 import tempfile
 
+from expressions import CLASSES, FUNCTIONS, MOST_TOKENS, NUMBERS
 from running import MOST_SOURCE, Ended, Refused, Shown, StepsUsed, filled, names, padded
 
 MAIN = b"int main(void) { printf(\"e\"); return 3; }"
@@ -173,6 +174,31 @@ def body_cases(runner):
     runner.case("an unknown name at the end", source, stop=Refused(41, source.index(b"zork")))
 
 
+def expression_cases(runner):
+    """1 MiB of full-expressions of 1,000 tokens, of each form."""
+    for name, form in NUMBERS.items():
+        # the statement's own two tokens
+        part = ("a=" + " ".join(form(MOST_TOKENS - 2)[0]) + ";").encode()
+        head = CLASSES + b"@implementation B -(int)go { return 0; } @end " + FUNCTIONS + b"int main(void){int a=0;"
+        source, times = filled(head, part, b'printf("e");return 3;}')
+        runner.case(f"{times} statements of 1,000 tokens: {name}", source, **END)
+    objects = {
+        "messages in receivers": b"[" * 200 + b"A alloc]" + b" init]" * 199 + b";",
+        "messages in receivers in parentheses": b"[(" * 199 + b"[A alloc]" + b") init]" * 199 + b";",
+        "casts": b"(id)" * 330 + b"o;",
+        "casts of messages": b"[(A*)" * 140 + b"[A alloc]" + b" init]" * 140 + b";",
+        "assignments of objects": b"o=" * 200 + b"nil;",
+        "messages to self": b"[self m:" * 199 + b"1" + b"]" * 199 + b";",
+        "messages to super": b"[super m:" * 199 + b"1" + b"]" * 199 + b";",
+        "fields": b"_v=" * 199 + b"1;",
+    }
+    for name, part in objects.items():
+        head = CLASSES + b"@implementation B -(int)go{id o=nil;"
+        source, times = filled(head, part, b"return 3;}@end int main(void){B*b=[B new];return [b go];}")
+        ends = [(n, b"A") for n in range(2, times + 2)] if b"alloc" in part else []
+        runner.case(f"{times} statements of objects: {name}", source, Shown(*ends, (1, b"B")), Ended(3))
+
+
 def text_cases(runner):
     head, tail = b'int main(void) { return printf("', b'"); }'
     room = MOST_SOURCE - len(head) - len(tail)
@@ -286,6 +312,7 @@ def run(runner):
     top_cases(runner)
     chain_cases(runner)
     body_cases(runner)
+    expression_cases(runner)
     text_cases(runner)
     name_cases(runner)
     steps_cases(runner)

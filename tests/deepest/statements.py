@@ -58,6 +58,14 @@ def run(runner):
                     runner.case(f"200 statements within one another: {name}, {body}", source.encode(), Shown(*events, b"x"))
                 else:
                     runner.case(f"201 statements within one another: {name}, {body}", source.encode(), stop=Refused(12, len(head) + first))
+    for name, form in FORMS.items():
+        if any("int " in layer[0] or "id " in layer[0] for layer in form):
+            # a body has at most 200 variables
+            continue
+        before, after, _ = nested(form, MOST_DEPTH)
+        part = "i=1;" + before + 'i=printf("x")-1;' + after
+        source, times = filled(b"int main(void){int i=1;", part.encode(), b"}")
+        runner.case(f"{times} times 200 statements: {name}", source, Shown(b"x" * times))
     head = "int main(void) "
     for depth in (MOST_DEPTH, MOST_DEPTH + 1):
         source = (head + "{" * depth + 'int a = printf("x");' + "}" * depth).encode()
