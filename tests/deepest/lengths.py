@@ -199,6 +199,37 @@ def expression_cases(runner):
         runner.case(f"{times} statements of objects: {name}", source, Shown(*ends, (1, b"B")), Ended(3))
 
 
+def limit_cases(runner):
+    """As many variables, parameters and fields as there may be, and one more."""
+    for count in (200, 201):
+        names = [b"v%d" % n for n in range(count)]
+        head = b"int main(void){int " + b"=1,".join(names[:-1]) + b"=2,"
+        stop = Ended(3) if count == 200 else Refused(50, len(head))
+        runner.case(f"{count} variables", head + names[-1] + b"=3;return %s;}" % names[-1], stop=stop)
+        head = b"int main(void){"
+        parts = [b"{id %s=nil;" % name for name in names]
+        runner.case(f"{count} references in blocks", head + b"}".join(parts) + b"}return 3;}",
+                    stop=Ended(3) if count == 200 else Refused(50, len(head + b"}".join(parts[:-1])) + 5))
+    for count in (16, 17):
+        names = [b"p%d" % n for n in range(count)]
+        declared = b",".join(b"int " + name for name in names)
+        given = b",".join(b"%d" % n for n in range(count))
+        source = b"int f(%s){return %s;} int main(void){return f(%s);}" % (declared, names[-1], given)
+        runner.case(f"{count} parameters", source, stop=Ended(15) if count == 16 else Refused(45, 4))
+        declared = b" ".join(b"%s:(int)%s" % (name, name) for name in names)
+        given = b" ".join(b"%s:%d" % (name, n) for n, name in enumerate(names))
+        head = b"@interface A:NSObject "
+        source = head + b"+(int)%s;@end@implementation A+(int)%s{return %s;}@end int main(void){return [A %s];}" % (declared, declared, names[-1], given)
+        runner.case(f"{count} parameters of a method", source, stop=Ended(15) if count == 16 else Refused(45, len(head)))
+    for count in (120, 121):
+        names = b",".join(b"f%d" % n for n in range(60))
+        more = b",".join(b"f%d" % n for n in range(60, count))
+        first = b"@interface A:NSObject{@public int %s;}@end@implementation A@end " % names
+        second = b"@interface B:A{@public int %s;}@end@implementation B@end " % more
+        source = first + second + b"int main(void){B*b=[B new];b->f0=1;b->f%d=2;return b->f0+b->f%d;}" % (count - 1, count - 1)
+        runner.case(f"{count} fields", source, Shown((1, b"B")), Ended(3) if count == 120 else Refused(27, len(first) + 11))
+
+
 def text_cases(runner):
     head, tail = b'int main(void) { return printf("', b'"); }'
     room = MOST_SOURCE - len(head) - len(tail)
@@ -313,6 +344,7 @@ def run(runner):
     chain_cases(runner)
     body_cases(runner)
     expression_cases(runner)
+    limit_cases(runner)
     text_cases(runner)
     name_cases(runner)
     steps_cases(runner)
