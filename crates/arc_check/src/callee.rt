@@ -7,7 +7,7 @@ use arc_ast::tree::Kind;
 use arc_class::table::{ClassTable, Declared};
 
 /// The function that a name calls.
-#[derive(Clone, Copy, Debug, PartialEq, Eq)]
+#[derive(Clone, Copy)]
 pub enum Callee {
     Printf,
     GetChar,

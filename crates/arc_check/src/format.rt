@@ -11,7 +11,7 @@ use arc_ast::tree::Kind;
 use std::alloc::{AllocError, Global};
 
 /// What is read of a conversion: nothing, `%`, `%l` or `%ll`.
-#[derive(Clone, Copy, Debug, PartialEq, Eq)]
+#[derive(Clone, Copy)]
 pub enum Begun {
     Nothing,
     Percent,
@@ -20,7 +20,7 @@ pub enum Begun {
 }
 
 /// A part of a format.
-#[derive(Clone, Copy, Debug, PartialEq, Eq)]
+#[derive(Clone, Copy)]
 pub enum Part {
     /// A byte that is printed as it is.
     Plain(u8),
@@ -33,7 +33,7 @@ pub enum Part {
 }
 
 /// What a further byte makes of what is read so far.
-#[derive(Clone, Copy, Debug, PartialEq, Eq)]
+#[derive(Clone, Copy)]
 pub enum Reading {
     Goes(Begun),
     Gives(Part),
@@ -108,7 +108,7 @@ fn suits(wanted: Kind, kind: Kind) -> bool
 }
 
 /// What is printed so far, and the plain bytes behind it.
-#[derive(Debug, Drop)]
+#[derive(Drop)]
 struct Printed {
     pieces: Vec<Piece>,
     run: Vec<u8>,

@@ -33,7 +33,7 @@ use arc_class::table::{ClassId, ClassTable, FoundField};
 
 /// What is told of an expression: its kind, where it has one, its static class, the first rule that is broken in it, and how many objects the full-expression has
 /// taken behind it.
-#[derive(Clone, Copy, Debug, PartialEq, Eq)]
+#[derive(Clone, Copy)]
 pub struct Judged {
     pub kind: Option<Kind>,
     pub class: Option<ClassId>,
@@ -43,7 +43,7 @@ pub struct Judged {
 
 /// What is told of a call's arguments: whether they suit a format, the first rule that is broken in them, and how many objects the full-expression has taken
 /// behind them.
-#[derive(Clone, Copy, Debug, PartialEq, Eq)]
+#[derive(Clone, Copy)]
 pub struct Arguments {
     pub fit: bool,
     pub fault: Option<CheckFault>,

@@ -25,14 +25,14 @@ use arc_class::table::{ClassId, ClassTable, FoundField, Sel};
 use std::alloc::{AllocError, Global};
 
 /// What an expression is resolved to: a number of a kind, or an object.
-#[derive(Debug, Drop)]
+#[derive(Drop)]
 pub enum Resolution {
     Gives(Kind, Value),
     Refers(Reference),
 }
 
 /// What an expression is resolved to, and its static class.
-#[derive(Debug, Drop)]
+#[derive(Drop)]
 pub struct Typed {
     pub class: Option<ClassId>,
     pub value: Resolution,

@@ -11,7 +11,7 @@ use arc_class::table::{ClassId, ClassTable};
 use std::alloc::{AllocError, Global};
 
 /// A variable, by its number among those of its sort in its function.
-#[derive(Clone, Copy, Debug, PartialEq, Eq)]
+#[derive(Clone, Copy)]
 pub enum Local {
     Int(usize),
     /// One that names objects, with its static class, of which `id` has none.
@@ -19,7 +19,7 @@ pub enum Local {
 }
 
 /// A variable that is visible, and its name.
-#[derive(Clone, Copy, Debug)]
+#[derive(Clone, Copy)]
 pub struct Bound<'a> {
     pub name: &'a [u8],
     pub local: Local,
@@ -29,7 +29,7 @@ pub struct Bound<'a> {
 const MOST_VARIABLES: u32 = 200;
 
 /// The visible variables, outer ones first.
-#[derive(Debug, Drop)]
+#[derive(Drop)]
 pub struct Visible<'a> {
     /// The class in whose method they are.
     pub class: Option<ClassId>,

@@ -8,7 +8,7 @@ ghost use Rattle.arc_check.specs.Rules.{at_if, one_too_many};
 use crate::fault::CheckFault;
 
 /// How many objects more an expression may take, and the first place past them at which it takes one.
-#[derive(Clone, Copy, Debug, PartialEq, Eq)]
+#[derive(Clone, Copy)]
 pub struct Taken {
     left: u8,
     past: Option<usize>,
