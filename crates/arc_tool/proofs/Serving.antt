@@ -1,5 +1,5 @@
 -- What the program answers where a stage before the end refuses, or a device fails.
-use Rattle.std.proofs.Common.{ℕ, List, [], Option, Ok, Err, refl, sym, subst, ⊎_elim}
+use Rattle.std.proofs.Common.{ℕ, List, [], Option, Ok, Err, refl, sym, ap, subst, ⊎_elim}
 use Rattle.std.proofs.lemmas.List.{append-nil}
 use Rattle.std.specs.Io.KnownBytes.{Keeps}
 use Rattle.std.proofs.KnownBytes.{Appends-kept}
@@ -9,15 +9,15 @@ use Rattle.arc_tool.specs.declared.report.Trouble.{Trouble}
 use Rattle.arc_tool.specs.declared.run.ToolFault.{ToolFault}
 use Rattle.arc_tool.specs.declared.run.ToolFault.TheVariants.{Refused, Memory, Io}
 use Rattle.arc_tool.specs.Refused.{IsRefusal}
-use Rattle.arc_tool.specs.Ran.{Answered}
+use Rattle.arc_tool.specs.Ran.{Answered, Untouched}
 use Rattle.arc_tool.specs.Status.{BecomesTrouble, trouble_of, status_of, line_of}
 use Rattle.arc_tool.specs.Traced.{AnsweredTrace}
 use Rattle.arc_tool.specs.Served.{Checks, Lists, RunsSource, TracesSource, Reported}
 
-pub check_refused : (source : List ℕ) (o : Option (List ℕ)) (r : Refusal) (t : Trouble) → IsRefusal source r → BecomesTrouble r t → Checks source (Err t) o o
-check_refused source o r t is becomes = ⊎_elim
-    (λ memory. subst (λ x. Checks source (Err x) o o) (sym memory.1) refl)
-    (λ other. subst (λ x. Checks source (Err x) o o) (sym other.1) (is, refl))
+pub check_refused : (source : List ℕ) (o : Option (List ℕ)) (w : ℕ) (r : Refusal) (t : Trouble) → IsRefusal source r → BecomesTrouble r t → Checks source (Err t) o o w w
+check_refused source o w r t is becomes = ⊎_elim
+    (λ memory. subst (λ x. Checks source (Err x) o o w w) (sym memory.1) refl)
+    (λ other. subst (λ x. Checks source (Err x) o o w w) (sym other.1) (is, refl))
     becomes
 
 pub list_refused : (source : List ℕ) (o : Option (List ℕ)) (r : Refusal) (t : Trouble) → IsRefusal source r → BecomesTrouble r t → Lists source (Err t) o o
@@ -26,16 +26,17 @@ list_refused source o r t is becomes = ⊎_elim
     (λ other. subst (λ x. Lists source (Err x) o o) (sym other.1) (is, refl))
     becomes
 
-pub run_refused : (source : List ℕ) (steps : ℕ) (i0 i1 o0 o1 : Option (List ℕ)) (f : ToolFault) → Answered source steps (Err f) i0 i1 o0 o1 → RunsSource source steps (Err (trouble_of f)) i0 i1 o0 o1
-run_refused source steps i0 i1 o0 o1 (Refused r) h = h.0
-run_refused source steps i0 i1 o0 o1 Memory h = tt
-run_refused source steps i0 i1 o0 o1 (Io f) h = h
+module _ {R W : Type 0} (left : R → Option (List ℕ)) (held : W → Option (List ℕ)) (r0 r1 : R) (w0 w1 : W) (source : List ℕ) (steps : ℕ) where
+  pub run_refused : (f : ToolFault) → Answered source steps (Err f) (left r0) (left r1) (held w0) (held w1) → Untouched (Err f) r0 r1 w0 w1 → RunsSource source steps (Err (trouble_of f)) (left r0) (left r1) (held w0) (held w1)
+  run_refused (Refused r) h u = (h.0, ap left u.0, ap held u.1)
+  run_refused Memory h u = (ap left u.0, ap held u.1)
+  run_refused (Io f) h u = h
 
-pub trace_refused : (source : List ℕ) (steps : ℕ) (i0 i1 o0 o1 : Option (List ℕ)) (w0 w1 : ℕ) (f : ToolFault) → AnsweredTrace source steps (Err f) i0 i1 o0 o1 w0 w1
-    → TracesSource source steps (Err (trouble_of f)) i0 i1 o0 o1 w0 w1
-trace_refused source steps i0 i1 o0 o1 w0 w1 (Refused r) h = h.0
-trace_refused source steps i0 i1 o0 o1 w0 w1 Memory h = tt
-trace_refused source steps i0 i1 o0 o1 w0 w1 (Io f) h = h
+  pub trace_refused : (f0 f1 : ℕ) (f : ToolFault) → AnsweredTrace source steps (Err f) (left r0) (left r1) (held w0) (held w1) f0 f1 → Untouched (Err f) r0 r1 w0 w1
+      → TracesSource source steps (Err (trouble_of f)) (left r0) (left r1) (held w0) (held w1) f0 f1
+  trace_refused f0 f1 (Refused r) h u = (h.0, ap left u.0, ap held u.1)
+  trace_refused f0 f1 Memory h u = (ap left u.0, ap held u.1)
+  trace_refused f0 f1 (Io f) h u = h
 
 -- a line that was written, and a flush behind it
 pub told_whole : (t : Trouble) (e0 e1 e2 : Option (List ℕ)) (f0 f1 f2 : ℕ) → Written (Ok tt) (line_of t) e0 e1 f0 f1 → Keeps e1 e2 → Reported (Err t) (status_of t) e0 e2 f0 f2

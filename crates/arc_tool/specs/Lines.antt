@@ -1,5 +1,5 @@
 -- The text of a trace, which is this project's own choice: a line for the bytes that are printed between two deallocs, one for each dealloc, and one for how the run stopped.
-use Rattle.std.specs.Prelude.{ℕ, ◌/◌, ◌%◌, Bool, true, false, List, [], ◌∷◌, ◌++◌, get_or, codes, decimal}
+use Rattle.std.specs.Prelude.{ℕ, ◌/◌, ◌%◌, Bool, true, false, List, [], ◌∷◌, ◌++◌, get_or, codes}
 use Rattle.std.specs.Fmt.{signed_decimal}
 use Rattle.arc_spec.specs.declared.event.Event.{Event}
 use Rattle.arc_spec.specs.declared.event.Event.TheVariants.{Byte, Dealloc}

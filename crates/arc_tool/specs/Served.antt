@@ -6,6 +6,7 @@ use Rattle.arc_spec.specs.Number.{low_byte}
 use Rattle.arc_code.specs.Counting.{AppendsPart}
 use Rattle.arc_code.specs.Listing.{listing}
 use Rattle.arc_code.specs.Running.{Program}
+use Rattle.arc_code.specs.Written.{Written}
 use Rattle.arc_machine.specs.declared.stop.Stop.{Stop}
 use Rattle.arc_machine.specs.declared.stop.Stop.TheVariants as stop
 use Rattle.arc_tool.specs.declared.request.Command.{Command}
@@ -24,18 +25,13 @@ use Rattle.arc_tool.specs.Ran.{Ran}
 use Rattle.arc_tool.specs.Traced.{AnsweredTrace}
 use Rattle.arc_tool.specs.Status.{status_of, line_of}
 
--- the text was printed, or where the device failed some first bytes of it
-abbrev pub Printed : {T F : Type 0} → List ℕ → Result T F → (out0 out1 : Option (List ℕ)) → Type 0
-Printed text (Ok _) o0 o1 = Appends o0 o1 text
-Printed text (Err _) o0 o1 = AppendsPart o0 o1 text
-
 -- `check` says `ok` of a program
-abbrev pub Checks : List ℕ → Result ℕ Trouble → (out0 out1 : Option (List ℕ)) → Type 0
-Checks source (Ok s) o0 o1 = (s ≡ 0) × Accepted source × Appends o0 o1 (codes "ok\n")
-Checks source (Err (Io f)) o0 o1 = AppendsPart o0 o1 (codes "ok\n")
-Checks source (Err (Refused r)) o0 o1 = IsRefusal source r × (o1 ≡ o0)
-Checks source (Err Memory) o0 o1 = o1 ≡ o0
-Checks source (Err _) o0 o1 = ⊥
+abbrev pub Checks : List ℕ → Result ℕ Trouble → (out0 out1 : Option (List ℕ)) → (writes0 writes1 : ℕ) → Type 0
+Checks source (Ok s) o0 o1 w0 w1 = (s ≡ 0) × Accepted source × Appends o0 o1 (codes "ok\n")
+Checks source (Err (Io f)) o0 o1 w0 w1 = Accepted source × Written (Err f) (codes "ok\n") o0 o1 w0 w1
+Checks source (Err (Refused r)) o0 o1 w0 w1 = IsRefusal source r × (o1 ≡ o0)
+Checks source (Err Memory) o0 o1 w0 w1 = o1 ≡ o0
+Checks source (Err _) o0 o1 w0 w1 = ⊥
 
 -- `run` runs a program, and its status is the low 8 bits of the number with which it ends
 abbrev pub RunsSource : List ℕ → (steps : ℕ) → Result ℕ Trouble → (in0 in1 out0 out1 : Option (List ℕ)) → Type 0
@@ -44,8 +40,8 @@ RunsSource source steps (Err (Fault f)) i0 i1 o0 o1 = Ran source steps (Ok (stop
 RunsSource source steps (Err NoHeap) i0 i1 o0 o1 = Ran source steps (Ok stop.NoHeap) i0 i1 o0 o1
 RunsSource source steps (Err StepsUsed) i0 i1 o0 o1 = Ran source steps (Ok stop.StepsUsed) i0 i1 o0 o1
 RunsSource source steps (Err (Io f)) i0 i1 o0 o1 = Ran source steps (Err (tool_fault.Io f)) i0 i1 o0 o1
-RunsSource source steps (Err (Refused r)) i0 i1 o0 o1 = IsRefusal source r
-RunsSource source steps (Err Memory) i0 i1 o0 o1 = Unit {0}
+RunsSource source steps (Err (Refused r)) i0 i1 o0 o1 = IsRefusal source r × (i1 ≡ i0) × (o1 ≡ o0)
+RunsSource source steps (Err Memory) i0 i1 o0 o1 = (i1 ≡ i0) × (o1 ≡ o0)
 RunsSource source steps (Err _) i0 i1 o0 o1 = ⊥
 
 -- `trace` shows what a program does, with the same status
@@ -55,8 +51,8 @@ TracesSource source steps (Err (Fault f)) i0 i1 o0 o1 w0 w1 = AnsweredTrace sour
 TracesSource source steps (Err NoHeap) i0 i1 o0 o1 w0 w1 = AnsweredTrace source steps (Ok stop.NoHeap) i0 i1 o0 o1 w0 w1
 TracesSource source steps (Err StepsUsed) i0 i1 o0 o1 w0 w1 = AnsweredTrace source steps (Ok stop.StepsUsed) i0 i1 o0 o1 w0 w1
 TracesSource source steps (Err (Io f)) i0 i1 o0 o1 w0 w1 = AnsweredTrace source steps (Err (tool_fault.Io f)) i0 i1 o0 o1 w0 w1
-TracesSource source steps (Err (Refused r)) i0 i1 o0 o1 w0 w1 = IsRefusal source r
-TracesSource source steps (Err Memory) i0 i1 o0 o1 w0 w1 = Unit {0}
+TracesSource source steps (Err (Refused r)) i0 i1 o0 o1 w0 w1 = IsRefusal source r × (i1 ≡ i0) × (o1 ≡ o0)
+TracesSource source steps (Err Memory) i0 i1 o0 o1 w0 w1 = (i1 ≡ i0) × (o1 ≡ o0)
 TracesSource source steps (Err _) i0 i1 o0 o1 w0 w1 = ⊥
 
 -- the status of an end, or the trouble
@@ -75,19 +71,20 @@ Lists source (Err Memory) o0 o1 = o1 ≡ o0
 Lists source (Err _) o0 o1 = ⊥
 
 abbrev pub Obeyed : Command → List ℕ → (steps : ℕ) → Result ℕ Trouble → (in0 in1 out0 out1 : Option (List ℕ)) → (writes0 writes1 : ℕ) → Type 0
-Obeyed Check source steps answer i0 i1 o0 o1 w0 w1 = Checks source answer o0 o1
+Obeyed Check source steps answer i0 i1 o0 o1 w0 w1 = Checks source answer o0 o1 w0 w1 × (i1 ≡ i0)
 Obeyed Run source steps answer i0 i1 o0 o1 w0 w1 = RunsSource source steps answer i0 i1 o0 o1
 Obeyed Trace source steps answer i0 i1 o0 o1 w0 w1 = TracesSource source steps answer i0 i1 o0 o1 w0 w1
-Obeyed Code source steps answer i0 i1 o0 o1 w0 w1 = Lists source answer o0 o1
+Obeyed Code source steps answer i0 i1 o0 o1 w0 w1 = Lists source answer o0 o1 × (i1 ≡ i0)
 
 -- this trouble, and nothing is read or printed
 abbrev pub Only : Trouble → Result ℕ Trouble → (in0 in1 out0 out1 : Option (List ℕ)) → Type 0
 Only trouble answer i0 i1 o0 o1 = (answer ≡ Err trouble) × (i1 ≡ i0) × (o1 ≡ o0)
 
 -- help is printed, with the status 0
-abbrev pub Helps : List ℕ → Result ℕ Trouble → (out0 out1 : Option (List ℕ)) → Type 0
-Helps text (Ok s) o0 o1 = (s ≡ 0) × Appends o0 o1 text
-Helps text (Err t) o0 o1 = AppendsPart o0 o1 text
+abbrev pub Helps : List ℕ → Result ℕ Trouble → (out0 out1 : Option (List ℕ)) → (writes0 writes1 : ℕ) → Type 0
+Helps text (Ok s) o0 o1 w0 w1 = (s ≡ 0) × Appends o0 o1 text
+Helps text (Err (Io f)) o0 o1 w0 w1 = Written (Err f) text o0 o1 w0 w1
+Helps text (Err _) o0 o1 w0 w1 = ⊥
 
 -- the bytes of the file, or why there are none
 abbrev pub source_or : {B : Type 0} → Result B FileFault → Result B Trouble
@@ -99,7 +96,7 @@ source_or (Err file_fault.NoMemory) = Err Memory
 abbrev pub Attempted : Result Words WordsFault → Result (Bor (List ℕ)) FileFault → Result ℕ Trouble → (in0 in1 out0 out1 : Option (List ℕ)) → (writes0 writes1 : ℕ) → Type 0
 Attempted (Err words_fault.Usage) file answer i0 i1 o0 o1 w0 w1 = Only Usage answer i0 i1 o0 o1
 Attempted (Err words_fault.Memory) file answer i0 i1 o0 o1 w0 w1 = Only Memory answer i0 i1 o0 o1
-Attempted (Err (words_fault.Help text)) file answer i0 i1 o0 o1 w0 w1 = Helps (string_bytes text) answer o0 o1
+Attempted (Err (words_fault.Help text)) file answer i0 i1 o0 o1 w0 w1 = Helps (string_bytes text) answer o0 o1 w0 w1 × (i1 ≡ i0)
 Attempted (Ok words) (Err file_fault.Failed) answer i0 i1 o0 o1 w0 w1 = Only File answer i0 i1 o0 o1
 Attempted (Ok words) (Err file_fault.NoMemory) answer i0 i1 o0 o1 w0 w1 = Only Memory answer i0 i1 o0 o1
 Attempted (Ok words) (Ok source) answer i0 i1 o0 o1 w0 w1 = Obeyed words.command source.now words.steps answer i0 i1 o0 o1 w0 w1

@@ -15,7 +15,6 @@ use Rattle.arc_machine.specs.Runs.{Leaves}
 use Rattle.arc_machine.specs.Views.{Seen}
 use Rattle.arc_tool.specs.declared.lines.Left.{Left}
 use Rattle.arc_tool.specs.declared.lines.Left.TheVariants.{Stopped, Unread}
-use Rattle.arc_tool.specs.declared.refusal.Refusal.{Refusal}
 use Rattle.arc_tool.specs.declared.run.ToolFault.{ToolFault}
 use Rattle.arc_tool.specs.declared.run.ToolFault.TheVariants.{Refused, Memory, Io}
 use Rattle.arc_tool.specs.Accepted.{Compiles, class_names, meant}

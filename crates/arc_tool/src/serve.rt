@@ -1,8 +1,9 @@
 //! The whole program, but for reading its file.
 ghost use Rattle.std.specs.Prelude.{◌≡◌, ◌-◌, ◌^◌, ◌<◌, ℕ, Result, Err};
 ghost use Rattle.arc_code.specs.Counting.{failures_of, left_in, held_by};
+ghost use Rattle.arc_code.specs.Written.{Written};
 ghost use Rattle.arc_tool.specs.declared.report.Trouble.{Trouble};
-ghost use Rattle.arc_tool.specs.Served.{Attempted, Obeyed, Reported, Printed, Checks, Lists, source_or, ended_with};
+ghost use Rattle.arc_tool.specs.Served.{Attempted, Obeyed, Reported, Checks, Lists, source_or, ended_with};
 
 use crate::compile::compile;
 use crate::report::{Trouble, flush, put, status, tell};
@@ -141,7 +142,8 @@ fn check_source<W: Write>(
     output: &mut Counted<W>,
 ) -> Result<u8, Trouble>
     requires { failures_of output.old < 2 ^ 64 - 1 }
-    ensures { Checks source.now result (held_by W.contents output.old) (held_by W.contents output.new) }
+    ensures { Checks source.now result (held_by W.contents output.old) (held_by W.contents output.new)
+        (failures_of output.old) (failures_of output.new) }
 {
     let _code = compile(alloc, source)?;
     print(b"ok\n", output)?;
@@ -178,7 +180,8 @@ fn ended(stop: Stop) -> Result<u8, Trouble>
 /// Writes the text, and has it passed on.
 fn print<W: Write>(text: &[u8], output: &mut Counted<W>) -> Result<(), IoFault>
     requires { failures_of output.old < 2 ^ 64 - 1 }
-    ensures { Printed text.now result (held_by W.contents output.old) (held_by W.contents output.new) }
+    ensures { Written result text.now (held_by W.contents output.old) (held_by W.contents output.new)
+        (failures_of output.old) (failures_of output.new) }
 {
     put(text, output)?;
     flush(output)

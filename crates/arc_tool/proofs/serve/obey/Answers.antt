@@ -7,13 +7,13 @@ pub returns-in_err-stop-in-Run : goal.returns-in_err-stop-in-Run
 returns-in_err-stop-in-Run g c =
     let p = err_from_is_err_and c.from_residual.result c.from_residual.ensures.1 in
     rw (c.in-Run.is, p.1, p.2)
-    (run_refused c.args.source.now c.args.words.now.steps (left_in g.R.Read.remaining c.args.input.now) (left_in g.R.Read.remaining c.run_text.new.reader)
-    (held_by g.W.Write.contents c.args.output.now) (held_by g.W.Write.contents c.run_text.new.writer) c.in_err-stop-in-Run.field-0.0 c.in_err-stop-in-Run.ensures.answered)
+    (run_refused (left_in g.R.Read.remaining) (held_by g.W.Write.contents) c.args.input.now c.run_text.new.reader c.args.output.now c.run_text.new.writer
+    c.args.source.now c.args.words.now.steps c.in_err-stop-in-Run.field-0.0 c.in_err-stop-in-Run.ensures.answered c.in_err-stop-in-Run.ensures.untouched)
 
 pub returns-in_err-stop-in-Trace : goal.returns-in_err-stop-in-Trace
 returns-in_err-stop-in-Trace g c =
     let p = err_from_is_err_and c.from_residual-in_err-stop-in-Trace.result c.from_residual-in_err-stop-in-Trace.ensures.1 in
     rw (c.in-Trace.is, p.1, p.2)
-    (trace_refused c.args.source.now c.args.words.now.steps (left_in g.R.Read.remaining c.args.input.now) (left_in g.R.Read.remaining c.trace_text.new.reader)
-    (held_by g.W.Write.contents c.args.output.now) (held_by g.W.Write.contents c.trace_text.new.writer)
-    (failures_of c.args.output.now) (failures_of c.trace_text.new.writer) c.in_err-stop-in-Trace.field-0.0 c.in_err-stop-in-Trace.ensures.answered)
+    (trace_refused (left_in g.R.Read.remaining) (held_by g.W.Write.contents) c.args.input.now c.trace_text.new.reader c.args.output.now c.trace_text.new.writer
+    c.args.source.now c.args.words.now.steps (failures_of c.args.output.now) (failures_of c.trace_text.new.writer)
+    c.in_err-stop-in-Trace.field-0.0 c.in_err-stop-in-Trace.ensures.answered c.in_err-stop-in-Trace.ensures.untouched)
