@@ -14,6 +14,4 @@ pub mod parse;
 mod source;
 mod step;
 mod stmt;
-#[cfg(test)]
-mod tests;
 mod variable;

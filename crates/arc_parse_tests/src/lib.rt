@@ -1,0 +1,5 @@
+//! Tests of `arc_parse`, through its public calls.
+#![tactic(auto)]
+
+#[cfg(test)]
+mod tests;
