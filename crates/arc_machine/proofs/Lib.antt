@@ -21,6 +21,7 @@ pub mod Named
 pub mod Naming
 pub mod Needs
 pub mod Newest
+pub mod Patterning
 pub mod Piles
 pub mod Released
 pub mod Sample

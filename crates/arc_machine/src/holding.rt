@@ -1,5 +1,5 @@
 //! The instructions that keep strong places.
-ghost use Rattle.std.specs.Prelude.{◌≡◌, ◌-◌, ◌^◌, ◌<◌, ◌≤◌, []};
+ghost use Rattle.std.specs.Prelude.{◌≡◌, ◌+◌, ◌-◌, ◌^◌, ◌<◌, ◌≤◌, []};
 ghost use Rattle.arc_code.specs.Running.{program_of};
 ghost use Rattle.arc_machine.specs.Places.{Ready, Executes, spot};
 
@@ -85,6 +85,8 @@ impl Place {
         requires places { _code.now.places ≤ objects.old.room }
         ensures went { Executes S.out (program_of _code.now) (Op.Forget count) result []
             (spot self.old objects.old) (spot self.new objects.new) }
+        ensures going { result ≡ Answer.Going }
+        ensures at { self.new.at ≡ self.old.at + 1 }
         ensures room { self.new.stack.room ≡ self.old.stack.room }
     {
         objects.forget(count);

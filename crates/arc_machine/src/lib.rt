@@ -10,10 +10,13 @@ mod holding;
 pub mod machine;
 mod number;
 mod objects;
+mod pattern;
 mod place;
 mod releasing;
 mod stack;
+mod step;
 pub mod stop;
 #[cfg(test)]
 mod tests;
+mod turn;
 mod waiting;
