@@ -5,3 +5,5 @@ pub mod code;
 pub mod counted;
 pub mod fault;
 pub mod lines;
+#[cfg(test)]
+mod tests;

@@ -6,3 +6,5 @@ pub mod emit;
 pub mod fault;
 mod layout;
 mod pieces;
+#[cfg(test)]
+mod tests;

@@ -9,4 +9,6 @@ mod place;
 mod print;
 mod statement;
 mod stub;
+#[cfg(test)]
+mod tests;
 mod variable;

@@ -1,8 +1,8 @@
 //! Actions of a few programs, written by hand.
+use crate::lower::lower;
 use arc_ast::tree::{BinaryOperator, Kind, Sign, TranslationUnit};
 use arc_check::checked::{Checked, CheckedFunction, Command, Piece, Reference, Value};
 use arc_family::owned::Owned;
-use arc_lower::lower::lower;
 use arc_spec::class::{Class, Method};
 use std::alloc::{AllocError, Global};
 use std::test::Fail;

@@ -1,9 +1,9 @@
 //! Devices that fail, and a listing.
 
+use crate::code::{Code, IoFault, Op};
+use crate::counted::{Counted, Failed};
+use crate::lines::list;
 use arc_ast::tree::{BinaryOperator, Kind};
-use arc_code::code::{Code, IoFault, Op};
-use arc_code::counted::{Counted, Failed};
-use arc_code::lines::list;
 use std::alloc::{AllocError, Global};
 use std::io;
 use std::io::{ErrorKind, Read, Write};
