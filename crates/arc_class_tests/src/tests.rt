@@ -143,6 +143,12 @@ fn again(alloc: Global) -> Result<String, AllocError> {
     answer(alloc, Vec::new(alloc), body)
 }
 
+/// `int NSObject(void);`
+fn root(alloc: Global) -> Result<String, AllocError> {
+    let declared = function(alloc, 4, b"NSObject", Vec::new(alloc), None)?;
+    answer(alloc, vec![in alloc; declared]?, Vec::new(alloc))
+}
+
 /// `int printf(void);`
 fn library(alloc: Global) -> Result<String, AllocError> {
     let declared = function(alloc, 4, b"printf", Vec::new(alloc), None)?;
@@ -164,6 +170,8 @@ fn refuses(rt: HostRuntime) {
     assert_eq!(rt; found.as_str(), "21 Duplicate at 18");
     let found = again(alloc).expect(&rt, "no memory");
     assert_eq!(rt; found.as_str(), "21 Duplicate at 944");
+    let found = root(alloc).expect(&rt, "no memory");
+    assert_eq!(rt; found.as_str(), "21 Duplicate at 4");
     let found = library(alloc).expect(&rt, "no memory");
     assert_eq!(rt; found.as_str(), "21 Duplicate at 4");
 }
@@ -540,7 +548,13 @@ fn told_of_heads(alloc: Global) -> Result<String, AllocError> {
     told.push(declaring(alloc, head(alloc, 60, b"new", Kind::Int)?)?)?;
     told.push(declaring(alloc, object_head(alloc, 60, b"new", Kind::Int)?)?)?;
     told.push(declaring(alloc, object_head(alloc, 60, b"isKindOfClass:", Kind::Int)?)?)?;
+    told.push(declaring(
+        alloc,
+        object_head(alloc, 60, b"isKindOfClass:", Kind::Bool)?,
+    )?)?;
+    told.push(declaring(alloc, head(alloc, 60, b"isKindOfClass:", Kind::Int)?)?)?;
     told.push(declaring(alloc, head(alloc, 60, b"class", Kind::Int)?)?)?;
+    told.push(declaring(alloc, object_head(alloc, 60, b"class", Kind::Int)?)?)?;
     told.push(declaring(alloc, object_head(alloc, 60, b"load", Kind::Void)?)?)?;
     told.push(declaring(alloc, head(alloc, 60, b"load", Kind::Void)?)?)?;
     told.join(alloc, "\n")
@@ -553,6 +567,9 @@ fn refuses_heads(rt: HostRuntime) {
         24 SelectorKinds at 60\n\
         0\n\
         24 SelectorKinds at 60\n\
+        0\n\
+        24 SelectorKinds at 60\n\
+        28 HookMethod at 60\n\
         0\n\
         28 HookMethod at 60\n\
         28 HookMethod at 60\n\
@@ -658,6 +675,8 @@ fn knows_methods_of_objects(rt: HostRuntime) {
         table.result(b, Sign::Instance, b"release"),
         Some(Kind::Void)
     );
+    assert_eq!(rt; table.result(b, Sign::Class, b"release"), Some(Kind::Void));
+    assert_eq!(rt; table.result(b, Sign::Class, b"dealloc"), Some(Kind::Void));
     assert_eq!(rt; table.result_of_any(b"g"), Some(Kind::Void));
     assert_eq!(rt; table.result_of_any(b"init"), Some(Kind::Object));
     assert_eq!(rt; table.result_of_any(b"alloc"), None);
