@@ -197,9 +197,17 @@ is_visible s f = may_name f.visibility s (number_of_class f.owner)
 
 -- ---- messages
 
--- The class that a receiver is, where it is one: a name that means no variable and no field, or `self` in a class method (OPL, "Class Names in Source Code").
+-- the class that `self` is in a class method, also in parentheses
+abbrev pub itself_in : Scope → ExprTree → Option ℕ
+itself_in s (Paren at a) = itself_in s a
+itself_in s (Itself at) = class_itself s
+itself_in s _ = None
+
+-- The class that a receiver is, where it is one: a name that means no variable and no field (OPL, "Class Names in Source Code"), or `self` in a class method, also
+-- in parentheses.
 abbrev pub class_receiver : Scope → ExprTree → Option ℕ
 class_receiver s (Name at name) = if is_variable s name then None else s.known.class name
+class_receiver s (Paren at a) = itself_in s a
 class_receiver s (Itself at) = class_itself s
 class_receiver s _ = None
 

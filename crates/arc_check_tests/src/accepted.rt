@@ -103,7 +103,7 @@ fn whole_programs(rt: HostRuntime) -> Result<(), Fail> {
 
 #[test]
 fn statements_with_classes(rt: HostRuntime) -> Result<(), Fail> {
-    let rows: [(&str, &str, &str); 24] = [
+    let rows: [(&str, &str, &str); 26] = [
         (IN_MAIN, "x = nil; }", "EvaluateReference(Stored(0, Nil))"),
         (IN_MAIN, "a = nil; }", "EvaluateReference(Stored(1, Nil))"),
         (
@@ -165,6 +165,16 @@ fn statements_with_classes(rt: HostRuntime) -> Result<(), Fail> {
         (
             IN_CLASS_B,
             "[self new]; } @end",
+            "EvaluateReference(Made(Local(0)))",
+        ),
+        (
+            IN_CLASS_B,
+            "[(self) count]; } @end",
+            "Evaluate(Sent(Local(0), 1, []))",
+        ),
+        (
+            IN_CLASS_B,
+            "[((self)) new]; } @end",
             "EvaluateReference(Made(Local(0)))",
         ),
         (
