@@ -91,7 +91,7 @@ abbrev pub with_parameters : Scope → List ParameterTree → Scope
 with_parameters s [] = s
 with_parameters s (p ∷ others) = with_parameters (declare p.name tree.Int s) others
 
--- behind an inner scope: the names mean what they meant before it, and the numbers that it gave aren't given again
+-- behind an inner scope (C99, section 6.2.1): the names mean what they meant before it, and the numbers that it gave aren't given again
 abbrev pub leave : (outer inner : Scope) → Scope
 leave outer inner =
     record { known = outer.known; class = outer.class; sign = outer.sign; hidden = outer.hidden; variables = outer.variables; next = inner.next; names = inner.names }
@@ -112,7 +112,7 @@ abbrev mutual
   behind_all s no_stmts = s
   behind_all s (and_stmt a others) = behind_all (behind s a) others
 
--- before the parameters of a function
+-- before the parameters of a function (C99, section 6.9.1)
 abbrev pub outermost : Known → Scope
 outermost known = record { known = known; class = None; sign = signs.Class; hidden = 0; variables = λ name. None; next = 0; names = 0 }
 
