@@ -126,13 +126,13 @@ name_assigned (Some (scopes.Object n class)) own a = Refers (Stored n (object_in
 
 -- ---- messages
 
--- the value of a receiver that is the class of a number: `self` is the first int of a class method
+-- the value of a receiver that is the class of a number: that number, where it is a name, and else `self`, the first int of a class method
 abbrev pub class_value : ExprTree → (class : ℕ) → Value
-class_value (tree.Itself at) class = Local 0
-class_value _ class = Number (pos class)
+class_value (Name at name) class = Number (pos class)
+class_value _ class = Local 0
 
--- What gives an object is built in: `alloc` and `new` of classes, and `init` of objects. (What else gives the object that gets it is refused by the rules of
--- ownership, and stands here as `init`.)
+-- What gives an object is built in: `alloc` and `new` of classes, and `init` of objects. (`retain` and `autorelease` are refused by the rules of ownership, and
+-- stand here as `alloc` and `init`.)
 abbrev pub to_class : Option Kind → Value → (selector : ℕ) → Values → Resolution
 to_class kind class selector all = if is_object kind then Refers (Made class) else Gives (kind_or_int kind) (Sent class selector all)
 

@@ -91,7 +91,7 @@ abbrev pub with_parameters : Scope → List ParameterTree → Scope
 with_parameters s [] = s
 with_parameters s (p ∷ others) = with_parameters (declare p.name tree.Int s) others
 
--- behind an inner scope: the names mean what they meant before it, and the numbers that it gave aren't given again
+-- behind an inner scope (C99, section 6.2.1): the names mean what they meant before it, and the numbers that it gave aren't given again
 abbrev pub leave : (outer inner : Scope) → Scope
 leave outer inner =
     record { known = outer.known; class = outer.class; sign = outer.sign; hidden = outer.hidden; variables = outer.variables; next = inner.next; names = inner.names }
@@ -112,7 +112,7 @@ abbrev mutual
   behind_all s no_stmts = s
   behind_all s (and_stmt a others) = behind_all (behind s a) others
 
--- before the parameters of a function
+-- before the parameters of a function (C99, section 6.9.1)
 abbrev pub outermost : Known → Scope
 outermost known = record { known = known; class = None; sign = signs.Class; hidden = 0; variables = λ name. None; next = 0; names = 0 }
 
@@ -197,9 +197,17 @@ is_visible s f = may_name f.visibility s (number_of_class f.owner)
 
 -- ---- messages
 
--- The class that a receiver is, where it is one: a name that means no variable and no field, or `self` in a class method (OPL, "Class Names in Source Code").
+-- the class that `self` is in a class method, also in parentheses
+abbrev pub itself_in : Scope → ExprTree → Option ℕ
+itself_in s (Paren at a) = itself_in s a
+itself_in s (Itself at) = class_itself s
+itself_in s _ = None
+
+-- The class that a receiver is, where it is one: a name that means no variable and no field (OPL, "Class Names in Source Code"), or `self` in a class method, also
+-- in parentheses.
 abbrev pub class_receiver : Scope → ExprTree → Option ℕ
 class_receiver s (Name at name) = if is_variable s name then None else s.known.class name
+class_receiver s (Paren at a) = itself_in s a
 class_receiver s (Itself at) = class_itself s
 class_receiver s _ = None
 

@@ -21,6 +21,17 @@ pub fn static_class<'a>(table: &ClassTable<'a>, type_name: &'a TypeName) -> Opti
     }
 }
 
+/// The class that `self` is in a class method, also in parentheses.
+fn itself_in(visible: &Visible, expr: &Expr) -> Option<ClassId>
+    ensures { (table : ClassTable) → option_map number_of_class result ≡ scopes.itself_in (seen table visible.now) (expr_tree expr.now) }
+{
+    match expr {
+        Expr::Paren(_, inside) => itself_in(visible, inside),
+        Expr::Itself(_) => visible.class_itself(),
+        _ => None,
+    }
+}
+
 /// The class that the receiver is, where it is one.
 pub fn class_receiver<'a>(
     table: &ClassTable<'a>,
@@ -37,6 +48,7 @@ pub fn class_receiver<'a>(
                 table.objc_get_class(name)
             }
         }
+        Expr::Paren(_, inside) => itself_in(visible, inside),
         Expr::Itself(_) => visible.class_itself(),
         _ => None,
     }

@@ -258,12 +258,12 @@ fn name_assigned(
 fn class_value(receiver: &Expr, number: usize) -> Result<Value, AllocError>
     ensures { IfOk result (λ new. checked.value new ≡ resolving.class_value (expr_tree receiver.now) number) }
 {
-    if let Expr::Itself(_) = receiver {
-        return Ok(Value::Local(0));
-    }
-    match i64::try_from(number) {
-        Ok(number) => Ok(Value::Number(number)),
-        Err(_) => Err(AllocError),
+    match receiver {
+        Expr::Name(_, _) => match i64::try_from(number) {
+            Ok(number) => Ok(Value::Number(number)),
+            Err(_) => Err(AllocError),
+        },
+        _ => Ok(Value::Local(0)),
     }
 }
 

@@ -20,6 +20,27 @@ fn first_wrong(
     Ok(None)
 }
 
+/// What counts owners by hand is refused by the rules of ownership, which come later.
+#[test]
+fn counting_messages_to_classes(rt: HostRuntime) -> Result<(), Fail> {
+    let rows: [(&str, &str, &str); 4] = [
+        (IN_MAIN, "[A release]; }", "Evaluate(Sent(Number(1), "),
+        (IN_MAIN, "[A dealloc]; }", "Evaluate(Sent(Number(1), "),
+        (
+            IN_CLASS_B,
+            "[self retainCount]; } @end",
+            "Evaluate(Sent(Local(0), ",
+        ),
+        (
+            IN_CLASS_B,
+            "[super release]; } @end",
+            "Evaluate(SentSuper(1, ",
+        ),
+    ];
+    assert_eq!(rt; first_wrong(rt.alloc(), CLASSES, &rows)?, None);
+    Ok(())
+}
+
 #[test]
 fn whole_programs(rt: HostRuntime) -> Result<(), Fail> {
     let rows: [(&str, &str, &str); 6] = [
@@ -82,7 +103,7 @@ fn whole_programs(rt: HostRuntime) -> Result<(), Fail> {
 
 #[test]
 fn statements_with_classes(rt: HostRuntime) -> Result<(), Fail> {
-    let rows: [(&str, &str, &str); 24] = [
+    let rows: [(&str, &str, &str); 26] = [
         (IN_MAIN, "x = nil; }", "EvaluateReference(Stored(0, Nil))"),
         (IN_MAIN, "a = nil; }", "EvaluateReference(Stored(1, Nil))"),
         (
@@ -144,6 +165,16 @@ fn statements_with_classes(rt: HostRuntime) -> Result<(), Fail> {
         (
             IN_CLASS_B,
             "[self new]; } @end",
+            "EvaluateReference(Made(Local(0)))",
+        ),
+        (
+            IN_CLASS_B,
+            "[(self) count]; } @end",
+            "Evaluate(Sent(Local(0), 1, []))",
+        ),
+        (
+            IN_CLASS_B,
+            "[((self)) new]; } @end",
             "EvaluateReference(Made(Local(0)))",
         ),
         (

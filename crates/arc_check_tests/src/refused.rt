@@ -112,7 +112,7 @@ fn functions(rt: HostRuntime) -> Result<(), Fail> {
 
 #[test]
 fn statements_with_classes(rt: HostRuntime) -> Result<(), Fail> {
-    let rows: [(&str, &str, &str, &str); 25] = [
+    let rows: [(&str, &str, &str, &str); 28] = [
         (IN_MAIN, "n = ", "nil; }", "43 KindMismatch"),
         (IN_MAIN, "x = ", "0; }", "43 KindMismatch"),
         (IN_MAIN, "a != ", "0; }", "43 KindMismatch"),
@@ -127,11 +127,14 @@ fn statements_with_classes(rt: HostRuntime) -> Result<(), Fail> {
         (IN_MAIN, "[a ", "mine]; }", "42 NoSuchMethod"),
         (IN_MAIN, "[super ", "count]; }", "42 NoSuchMethod"),
         (IN_MAIN, "[", "self count]; }", "41 UnknownName"),
+        (IN_MAIN, "[(", "self) count]; }", "41 UnknownName"),
+        (IN_MAIN, "[(", "A) count]; }", "41 UnknownName"),
         (IN_MAIN, "", "self; }", "41 UnknownName"),
         (IN_MAIN, "a->", "q; }", "49 FieldHidden"),
         (IN_MAIN, "x->", "r; }", "41 UnknownName"),
         (IN_MAIN, "", "n->r; }", "43 KindMismatch"),
         (IN_CLASS_A, "[self ", "own]; } @end", "42 NoSuchMethod"),
+        (IN_CLASS_A, "[(self) ", "own]; } @end", "42 NoSuchMethod"),
         (IN_CLASS_A, "", "q; } @end", "41 UnknownName"),
         (IN_CLASS_B, "", "self; } @end", "43 KindMismatch"),
         (IN_CLASS_B, "[super ", "own]; } @end", "42 NoSuchMethod"),

@@ -2,12 +2,13 @@
 use Rattle.std.specs.Prelude.{ℕ, zero, suc, Bool, false, ◌&&◌, ◌||◌, not, nat_lt, List, [], ◌∷◌, ◌++◌, length, Option, Some, None, is_some, is_none, codes, slice_get, if◌then◌else◌}
 use Rattle.std.specs.Str.{bytes_eq}
 use Rattle.arc_ast.specs.declared.tree.Kind.{Kind}
+use Rattle.arc_ast.specs.declared.tree.Kind.TheVariants as k
+use Rattle.arc_ast.specs.declared.tree.Sign.{Sign}
 use Rattle.arc_ast.specs.declared.tree.Sign.TheVariants as signs
 use Rattle.arc_ast.specs.Tree.{FunctionTree, HeadTree, MethodTree, FieldTree, InterfaceTree, ImplementationTree, UnitTree}
-use Rattle.arc_spec.specs.Classes.{same_sign}
 use Rattle.arc_class.specs.Bodies.{Missing, broken_if, broken_parameters, broken_stmts, names_taken, no_name}
 use Rattle.arc_class.specs.Broken.{Broken}
-use Rattle.arc_class.specs.Classes.{is_root, interface_number, class_number, superclass, first_head, built_in_result, declared, defined}
+use Rattle.arc_class.specs.Classes.{is_root, interface_number, class_number, superclass, first_head, built_in_result, or_then, declared, defined}
 use Rattle.arc_class.specs.Fields.{fields, known_field}
 use Rattle.arc_class.specs.Functions.{is_library, same_kind, lacks_body_in, broken_in_functions}
 use Rattle.arc_class.specs.Names.{first_named}
@@ -24,23 +25,37 @@ abbrev pub differs_from : Option Kind → HeadTree → Bool
 differs_from None h = false
 differs_from (Some kind) h = not (same_kind kind h.result)
 
+-- the selectors of the methods of the root that tell of an object's class (OPL, "Introspection")
+abbrev pub tells_class : List ℕ → Bool
+tells_class selector = bytes_eq selector (codes "isKindOfClass:") || (bytes_eq selector (codes "isMemberOfClass:")
+    || (bytes_eq selector (codes "respondsToSelector:") || bytes_eq selector (codes "conformsToProtocol:")))
+
+-- these give a BOOL; no source can send them yet
+abbrev pub told_kind : Sign → List ℕ → Option Kind
+told_kind signs.Class selector = None
+told_kind signs.Instance selector = if tells_class selector then Some k.Bool else None
+
+-- what the methods of the root give, which are built in
+abbrev pub built_in_kind : Sign → List ℕ → Option Kind
+built_in_kind sign selector = or_then (built_in_result sign selector) (told_kind sign selector)
+
 -- 24 SelectorKinds: a method whose result is of another kind than that of an earlier method of its sign with its selector, those of the root being built in, at
 -- its `+` or `-` (this project's own choice)
 abbrev pub changes_kind : UnitTree → HeadTree → Bool
 changes_kind u h = differs_before (first_head h.sign h.selector (declared u.interfaces)) h
-    || (differs_before (first_head h.sign h.selector (defined u.implementations)) h || differs_from (built_in_result h.sign h.selector) h)
+    || (differs_before (first_head h.sign h.selector (defined u.implementations)) h || differs_from (built_in_kind h.sign h.selector) h)
 
--- 28 HookMethod: a class method that would change how classes are loaded or objects are made, or a method that tells of an object's class, at its `+` or `-`
--- (this project's own choice)
+-- 28 HookMethod: a class method that would change how classes are loaded or objects are made (Runtime Reference, "+load" and "+initialize"; OPL, "Allocating
+-- and Initializing Objects"), a method of objects that tells of their class, or one of either sign that gives the class, at its `+` or `-` (this project's own choice)
 abbrev pub is_class_hook : List ℕ → Bool
 is_class_hook selector = bytes_eq selector (codes "load") || (bytes_eq selector (codes "initialize") || bytes_eq selector (codes "alloc"))
 
-abbrev pub tells_class : List ℕ → Bool
-tells_class selector = bytes_eq selector (codes "class") || (bytes_eq selector (codes "isKindOfClass:") || (bytes_eq selector (codes "isMemberOfClass:")
-    || (bytes_eq selector (codes "respondsToSelector:") || bytes_eq selector (codes "conformsToProtocol:"))))
+abbrev pub is_hook_of : Sign → List ℕ → Bool
+is_hook_of signs.Class selector = is_class_hook selector
+is_hook_of signs.Instance selector = tells_class selector
 
 abbrev pub is_hook : HeadTree → Bool
-is_hook h = (same_sign h.sign signs.Class && is_class_hook h.selector) || tells_class h.selector
+is_hook h = is_hook_of h.sign h.selector || bytes_eq h.selector (codes "class")
 
 abbrev pub broken_head : UnitTree → HeadTree → List Broken
 broken_head u h = broken_if (changes_kind u h) h.at 24 ++ broken_if (is_hook h) h.at 28
@@ -160,10 +175,14 @@ abbrev pub interface_before : List InterfaceTree → List ℕ → ℕ → Bool
 interface_before [] name at = false
 interface_before (i ∷ others) name at = if bytes_eq name i.name then nat_lt i.at at else interface_before others name at
 
--- 21 Duplicate: a function with the name of an earlier interface's class, at its name
+-- whether a class has the name whose interface stands before a place; the root is before all
+abbrev pub class_before : List InterfaceTree → List ℕ → ℕ → Bool
+class_before interfaces name at = is_root name || interface_before interfaces name at
+
+-- 21 Duplicate: a function with the name of the root or of an earlier interface's class, at its name (this project's own choice)
 abbrev pub named_as_classes : List InterfaceTree → List FunctionTree → List Broken
 named_as_classes interfaces [] = []
-named_as_classes interfaces (f ∷ others) = broken_if (interface_before interfaces f.name f.at) f.at 21 ++ named_as_classes interfaces others
+named_as_classes interfaces (f ∷ others) = broken_if (class_before interfaces f.name f.at) f.at 21 ++ named_as_classes interfaces others
 
 -- what a source doesn't have
 abbrev pub missing_of : UnitTree → Missing

@@ -65,12 +65,13 @@ built_in_result signs.Class selector = if bytes_eq selector (codes "alloc") || b
 built_in_result signs.Instance selector =
     if bytes_eq selector (codes "init") then Some k.Object else if bytes_eq selector (codes "dealloc") then Some k.Void else None
 
--- what the messages to objects give that count their owners (OPL, "Retaining and releasing"; no source may send them under ARC, which a later rule says)
-abbrev pub counting_result : Sign → List ℕ → Option Kind
-counting_result signs.Class selector = None
-counting_result signs.Instance selector =
+-- What the messages give that count owners by hand, and `dealloc`. No source may send them under ARC, not to an object and not to a class, which a later rule
+-- tells by their names (ARC, "Memory management methods" and "dealloc"); so they are known here.
+abbrev pub counting_result : List ℕ → Option Kind
+counting_result selector =
     if bytes_eq selector (codes "retain") || bytes_eq selector (codes "autorelease") then Some k.Object
-    else if bytes_eq selector (codes "retainCount") then Some k.Long else if bytes_eq selector (codes "release") then Some k.Void else None
+    else if bytes_eq selector (codes "retainCount") then Some k.Long
+    else if bytes_eq selector (codes "release") || bytes_eq selector (codes "dealloc") then Some k.Void else None
 
 -- the first of two, if there is one
 abbrev pub or_then : {X : Type 0} → Option X → Option X → Option X
@@ -78,7 +79,7 @@ or_then (Some a) b = Some a
 or_then None b = b
 
 abbrev pub root_result : Sign → List ℕ → Option Kind
-root_result sign selector = or_then (built_in_result sign selector) (counting_result sign selector)
+root_result sign selector = or_then (built_in_result sign selector) (counting_result selector)
 
 abbrev pub result_in : UnitTree → (class : ℕ) → Sign → List ℕ → Option Kind
 result_in u zero sign selector = root_result sign selector

@@ -64,14 +64,22 @@ fn known_fields<'a, 'b>(
 }
 
 impl<'a> Source<'a> {
-    /// The first function with the name of an earlier interface's class.
+    /// Whether the root has the name, or a class whose interface stands before the place.
+    fn class_before(&self, name: &'a [u8], at: usize) -> bool
+        requires { Knows (unit_tree self.now.unit.now) self.now }
+        ensures { result ≡ rules.class_before (unit_tree self.now.unit.now).interfaces name.now at }
+    {
+        is_root(name) || place_before(at_name(&self.names, name), at)
+    }
+
+    /// The first function with the name of the root or of an earlier interface's class.
     fn function_names_fault(&self) -> Option<ClassFault>
         requires { Knows (unit_tree self.now.unit.now) self.now }
         ensures { option_map told result ≡ first (named_as_classes (unit_tree self.now.unit.now).interfaces (unit_tree self.now.unit.now).functions) }
     {
         let mut fault = None;
         for function in &self.unit.functions {
-            let taken = place_before(at_name(&self.names, &function.name), function.at);
+            let taken = self.class_before(&function.name, function.at);
             fault = earlier(fault, fault_if(taken, ClassFault::Duplicate(function.at)));
         }
         fault

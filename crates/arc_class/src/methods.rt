@@ -27,15 +27,50 @@ fn is_class_hook(selector: &[u8]) -> bool
         || selector == b"alloc".as_slice()
 }
 
-/// Whether a method with the selector tells of an object's class.
+/// Whether a method of the root with the selector tells of an object's class.
 fn tells_class(selector: &[u8]) -> bool
     ensures { result ≡ rules.tells_class selector.now }
 {
-    selector == b"class".as_slice()
-        || selector == b"isKindOfClass:".as_slice()
+    selector == b"isKindOfClass:".as_slice()
         || selector == b"isMemberOfClass:".as_slice()
         || selector == b"respondsToSelector:".as_slice()
         || selector == b"conformsToProtocol:".as_slice()
+}
+
+/// The kind of what a method of the root gives that tells of an object's class.
+fn told_kind(sign: Sign, selector: &[u8]) -> Option<Kind>
+    ensures { result ≡ rules.told_kind sign selector.now }
+{
+    match sign {
+        Sign::Class => None,
+        Sign::Instance => {
+            if tells_class(selector) {
+                Some(Kind::Bool)
+            } else {
+                None
+            }
+        }
+    }
+}
+
+/// The kind of what the root's method gives, which is built in.
+fn built_in_kind(sign: Sign, selector: &[u8]) -> Option<Kind>
+    ensures { result ≡ rules.built_in_kind sign selector.now }
+{
+    match built_in_result(sign, selector) {
+        Some(kind) => Some(kind),
+        None => told_kind(sign, selector),
+    }
+}
+
+/// Whether a method of the sign with the selector would change how classes work, or tells of them.
+fn is_hook_of(sign: Sign, selector: &[u8]) -> bool
+    ensures { result ≡ rules.is_hook_of sign selector.now }
+{
+    match sign {
+        Sign::Class => is_class_hook(selector),
+        Sign::Instance => tells_class(selector),
+    }
 }
 
 /// Whether the method has a name that classes cannot take.
@@ -43,7 +78,7 @@ fn is_hook(head: &MethodHead) -> bool
     ensures { result ≡ rules.is_hook (head_tree head.now) }
 {
     let selector: &[u8] = &head.selector;
-    head.sign == Sign::Class && is_class_hook(selector) || tells_class(selector)
+    is_hook_of(head.sign, selector) || selector == b"class".as_slice()
 }
 
 /// Whether the earlier method stands before this one and gives another kind of value.
@@ -74,7 +109,7 @@ impl<'a> Source<'a> {
     {
         differs_before(self.declared.get(head.sign, &head.selector), head)
             || differs_before(self.defined.get(head.sign, &head.selector), head)
-            || differs_from(built_in_result(head.sign, &head.selector), head)
+            || differs_from(built_in_kind(head.sign, &head.selector), head)
     }
 
     /// The first rule that a method breaks as it is declared.

@@ -21,23 +21,18 @@ pub fn built_in_result(sign: Sign, selector: &[u8]) -> Option<Kind>
     }
 }
 
-/// What a message to an object gives that counts its owners.
-fn counting_result(sign: Sign, selector: &[u8]) -> Option<Kind>
-    ensures { result ≡ classes.counting_result sign selector.now }
+/// What a message gives that counts owners by hand, and `dealloc`, which no source may send.
+fn counting_result(selector: &[u8]) -> Option<Kind>
+    ensures { result ≡ classes.counting_result selector.now }
 {
-    match sign {
-        Sign::Class => None,
-        Sign::Instance => {
-            if selector == b"retain".as_slice() || selector == b"autorelease".as_slice() {
-                Some(Kind::Object)
-            } else if selector == b"retainCount".as_slice() {
-                Some(Kind::Long)
-            } else if selector == b"release".as_slice() {
-                Some(Kind::Void)
-            } else {
-                None
-            }
-        }
+    if selector == b"retain".as_slice() || selector == b"autorelease".as_slice() {
+        Some(Kind::Object)
+    } else if selector == b"retainCount".as_slice() {
+        Some(Kind::Long)
+    } else if selector == b"release".as_slice() || selector == b"dealloc".as_slice() {
+        Some(Kind::Void)
+    } else {
+        None
     }
 }
 
@@ -47,7 +42,7 @@ pub fn root_result(sign: Sign, selector: &[u8]) -> Option<Kind>
 {
     match built_in_result(sign, selector) {
         Some(kind) => Some(kind),
-        None => counting_result(sign, selector),
+        None => counting_result(selector),
     }
 }
 

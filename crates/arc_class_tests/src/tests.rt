@@ -40,6 +40,7 @@ fn refuses_functions(rt: HostRuntime) {
             Some((21, 39)),
         ),
         ("int printf(void); int main(void) { }", Some((21, 4))),
+        ("int NSObject(void); int main(void) { }", Some((21, 4))),
     ] {
         let unit = tree(alloc, source.as_bytes()).expect(&rt, "no tree");
         assert_eq!(rt; fault(alloc, &unit), wanted, "{source}");
@@ -129,6 +130,14 @@ fn refuses_heads(rt: HostRuntime) {
         ),
         (
             "@interface A : NSObject - (int)isKindOfClass:(int)a; @end @implementation A @end int main(void) { }",
+            Some((24, 24)),
+        ),
+        (
+            "@interface A : NSObject + (int)isKindOfClass:(int)a; @end @implementation A @end int main(void) { }",
+            None,
+        ),
+        (
+            "@interface A : NSObject - (int)class; @end @implementation A @end int main(void) { }",
             Some((28, 24)),
         ),
         (

@@ -7,7 +7,7 @@ use Rattle.arc_family.specs.declared.signature.Family.{Family}
 use Rattle.arc_family.specs.declared.signature.Family.TheVariants as family
 use Rattle.arc_family.specs.declared.signature.Signature.{Signature}
 
--- a name without the underscores that lead it
+-- a name without the underscores that lead it (ARC, "Method families", as all that follows)
 unfoldable pub without_underscores : List ℕ → List ℕ
 without_underscores [] = []
 without_underscores (c ∷ others) = if c == 95 then without_underscores others else c ∷ others

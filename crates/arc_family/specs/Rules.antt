@@ -17,7 +17,7 @@ is_manual selector =
 abbrev pub is_dealloc : List ℕ → Bool
 is_dealloc selector = bytes_eq selector (codes "dealloc")
 
--- 61 ManualMemory: a method that counts references by hand, declared or defined, at its `+`. ARC, "Memory management methods", refuses a definition; that a
+-- 61 ManualMemory: a method that counts references by hand, declared or defined, at its `+` or `-`. ARC, "Memory management methods", refuses a definition; that a
 -- declaration is refused too is this project's own choice.
 abbrev pub broken_head : HeadTree → List Broken
 broken_head h = broken_if (is_manual h.selector) h.at 61

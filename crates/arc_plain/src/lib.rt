@@ -11,5 +11,3 @@ mod object;
 mod place;
 mod progress;
 mod run;
-#[cfg(test)]
-mod tests;

@@ -24,7 +24,7 @@ formatted (Character ∷ pieces) (v ∷ values) = low_byte v ∷ formatted piece
 abbrev pub byte_count : List ℕ → ℤ
 byte_count bytes = converted k.Int (pos (length bytes))
 
--- a value, or a division's fault where it has none
+-- a value, or a division's fault where it has none (that it stops the program is this project's own choice)
 abbrev pub or_fault : Option ℤ → World → Outcome ℤ
 or_fault (Some v) w = Done v w
 or_fault None w = Faulted Arithmetic w
@@ -41,12 +41,12 @@ pub record Deeper : Type 0 where
 abbrev pub released : Deeper → ℕ → World → Outcome Finished
 released D r w = if is_live (object_at w.objects r) && not (names r (places w)) then D.end_of r w else Done finished w
 
--- temporaries are dropped, the last one that was taken first
+-- temporaries are dropped, the last one that was taken first (the order is this project's own choice)
 abbrev pub temporaries_dropped : Deeper → List ℕ → World → Outcome Finished
 temporaries_dropped D [] w = Done finished w
 temporaries_dropped D (r ∷ others) w = then_do (released D r (with_temporaries w others)) (λ _ w1. temporaries_dropped D others w1)
 
--- the end of a full-expression
+-- the end of a full-expression (C99, section 6.8, paragraph 4; ARC, "Object operands")
 abbrev pub all_dropped : Deeper → World → Outcome Finished
 all_dropped D w = temporaries_dropped D w.frame.temporaries w
 
@@ -54,19 +54,21 @@ all_dropped D w = temporaries_dropped D w.frame.temporaries w
 abbrev pub assigned : Deeper → ℕ → ℕ → World → Outcome Finished
 assigned D i r w = released D (name_at w.frame.strong i) (stores i r w)
 
--- so many variables are dropped, from the first one on, in the reverse of their order
+-- So many variables are dropped, from the first one on, in the reverse of their order: their scope ends (C99, section 6.2.4; ARC, "Ownership qualification"; the
+-- order is this project's own choice).
 abbrev pub variables_dropped : Deeper → (first count : ℕ) → World → Outcome Finished
 variables_dropped D first zero w = Done finished w
 variables_dropped D first (suc n) w = then_do (assigned D (first + n) 0 w) (λ _ w1. variables_dropped D first n w1)
 
 -- ---- messages
 
--- A message to a class with what it has found: that function runs with the class as its first argument, `self`; with none it is a fault.
+-- A message to a class with what it has found: that function runs with the class as its first argument, `self` (OPL, "Using Hidden Arguments"); with none it is a
+-- fault.
 abbrev pub dispatched : Deeper → Option ℕ → (class : ℤ) → List ℤ → World → Outcome ℤ
 dispatched D None class given w = Faulted Unrecognized w
 dispatched D (Some f) class given w = D.call f 0 (class ∷ given) w
 
--- the function that a message to a class finds from a class up
+-- the function that a message to a class finds from a class up (OPL, "How Messaging Works")
 abbrev pub finds : Deeper → (from : Option ℕ) → (selector : ℕ) → List ℤ → Option ℕ
 finds D from selector given = lookup D.classes from signs.Class selector (length given)
 
@@ -169,11 +171,11 @@ whole D a w = then_do (evaluated D a w) (λ v w1. then_do (all_dropped D w1) (λ
 abbrev pub whole_reference : Deeper → Reference → World → Outcome Finished
 whole_reference D a w = then_do (referred D a w) (λ _ w1. all_dropped D w1)
 
--- a variable begins with an object
+-- a variable begins with an object (ARC, "Ownership qualification")
 abbrev pub begun : Deeper → ℕ → Reference → World → Outcome Finished
 begun D i a w = then_do (referred D a w) (λ r w1. then_do (assigned D i r w1) (λ _ w2. all_dropped D w2))
 
--- how a statement is left: behind it, or by a return with a value
+-- how a statement is left: behind it, or by a return with a value (C99, section 6.8.6.4)
 pub data Flow : Type 0 where
   Normal : Flow
   Returned : ℤ → Flow
@@ -183,7 +185,7 @@ abbrev pub if_normal : Flow → (World → Outcome Flow) → World → Outcome F
 if_normal Normal go w = go w
 if_normal (Returned v) go w = Done (Returned v) w
 
--- the first where the test isn't 0, else the second
+-- the first where the test isn't 0, else the second (C99, section 6.8.4.1)
 abbrev pub chosen : {A : Type 0} → Bool → A → A → A
 chosen true a b = b
 chosen false a b = a
@@ -250,7 +252,7 @@ abbrev pub dealloc_and_above : Program → Deeper → (bound : ℕ) → Option C
 dealloc_and_above P D bound None o above w = Done finished w
 dealloc_and_above P D bound (Some c) o above w = then_do (dealloc_run P D bound c.dealloc o w) (λ _ w1. above c.superclass w1)
 
--- what the deallocs of the next n classes do, from this one up to the root, each once
+-- what the deallocs of the next n classes do, from this one up to the root, each once (ARC, "dealloc")
 abbrev pub deallocs_run : Program → Deeper → (bound n : ℕ) → (class : Option ℕ) → (o : ℕ) → World → Outcome Finished
 deallocs_run P D bound zero class o w = Done finished w
 deallocs_run P D bound (suc n) None o w = Done finished w
@@ -265,7 +267,7 @@ turned phase o (Some ob) w = with_objects w (with_object w.objects o (in_phase p
 abbrev pub gone : (o : ℕ) → World → Outcome Finished
 gone o w = if names o (places w) then Faulted Resurrected w else Done finished (turned Gone o (object_at w.objects o) w)
 
--- its dealloc begins: this is shown with its number and its class
+-- its dealloc begins: this is shown with its number and its class (the event is this project's own choice)
 abbrev pub dying : (o : ℕ) → Option Object → World → World
 dying o None w = w
 dying o (Some ob) w = shows (Dealloc o ob.class ∷ []) (turned Dying o (Some ob) w)

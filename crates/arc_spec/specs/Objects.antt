@@ -12,7 +12,7 @@ pub record Object : Type 0 where
   pub fields : List ℤ
   pub phase : Phase
 
--- The object of a number: objects are counted from 1, in the order of their making, and no number is used twice; 0 stands for nil.
+-- The object of a number: objects are counted from 1, in the order of their making, and no number is used twice; 0 stands for nil (this project's own choice).
 abbrev pub object_at : List Object → ℕ → Option Object
 object_at all zero = None
 object_at all (suc k) = slice_get all k

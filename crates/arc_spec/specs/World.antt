@@ -58,13 +58,13 @@ local_at locals i = slice_index_or locals i (pos 0)
 abbrev pub name_at : List ℕ → ℕ → ℕ
 name_at strong i = slice_index_or strong i 0
 
--- the variables of a function that begins: what it was given, and 0 for all others
+-- the variables of a function that begins: what it was given, and 0 for all others (this project's own choice, where C99, section 6.7.8, leaves them open)
 abbrev pub first_locals : (slots : ℕ) → List ℤ → List ℤ
 first_locals zero given = []
 first_locals (suc n) [] = pos 0 ∷ first_locals n []
 first_locals (suc n) (v ∷ given) = v ∷ first_locals n given
 
--- a function begins: the running one waits for it
+-- a function begins (C99, section 6.5.2.2): the running one waits for it
 abbrev pub entered : (slots count self : ℕ) → List ℤ → World → World
 entered slots count self given w = record {
   input = w.input;

@@ -8,7 +8,5 @@ pub mod report;
 pub mod request;
 pub mod run;
 pub mod serve;
-#[cfg(test)]
-mod tests;
 pub mod trace;
 pub mod words;

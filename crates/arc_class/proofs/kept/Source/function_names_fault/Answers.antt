@@ -2,11 +2,9 @@ use Rattle.std.proofs.Common.{◌≡◌, ◌<◌, length, get_or, option_map, su
 use Rattle.arc_ast.specs.Tree.{unit_tree}
 use Rattle.arc_class.specs.Bodies.{broken_if}
 use Rattle.arc_class.specs.Broken.{first}
-use Rattle.arc_class.specs.ClassRules.{interface_before}
+use Rattle.arc_class.specs.ClassRules.{class_before}
 use Rattle.arc_class.specs.Fault.{told}
-use Rattle.arc_class.specs.Kept.{place_before}
-use Rattle.arc_class.specs.Table.{at_name}
-use Rattle.arc_class.proofs.Rules.{names_turn, before_places}
+use Rattle.arc_class.proofs.Rules.{names_turn}
 use Rattle.arc_class.proofs.kept.Source.function_names_fault.Goals as goal
 
 pub loop-function-preserved : goal.loop-function-preserved
@@ -17,7 +15,6 @@ loop-function-preserved c =
     let x = c.function-item.result in
     let within : k < length xs = subst (λ us. k < length us) c.deref-function-items.ensures.value c.loop-function-test.true in
     let same : x ≡ get_or xs k x = c.function-item.is ∙ ap (λ us. get_or us k x) c.deref-function-items.ensures.value in
-    let one : option_map told c.fault_if.result ≡ first (broken_if (interface_before u.interfaces x.name.items x.at) x.at 21) =
-    c.fault_if.ensures ∙ ap (λ b. first (broken_if b x.at 21)) (c.place_before-taken.ensures
-    ∙ ap (λ o. place_before o x.at) (c.at_name.ensures ∙ ap (at_name c.args.self.now.names) c.deref.ensures.value ∙ c.requires.class_places x.name.items) ∙ before_places 1 u.interfaces x.name.items x.at) in
+    let one : option_map told c.fault_if.result ≡ first (broken_if (class_before u.interfaces x.name.items x.at) x.at 21) =
+    c.fault_if.ensures ∙ ap (λ b. first (broken_if b x.at 21)) (c.class_before-taken.ensures ∙ ap (λ name. class_before u.interfaces name x.at) c.deref.ensures.value) in
     names_turn u.interfaces xs k x _ _ _ _ within same one c.earlier-fault.ensures c.loop-function.invariant

@@ -1,6 +1,4 @@
 //! Functions, variables, branches and loops, from the source to what is printed.
-use crate::compile::compile;
-use crate::run::{ToolFault, run_text};
 use crate::tests::devices::{Broken, refused, shows};
 use arc_code::code::IoFault;
 use arc_code::counted::Counted;
@@ -9,6 +7,8 @@ use arc_machine::machine::Machine;
 use arc_machine::stop::Stop;
 use arc_plain::interpret::PlainStop;
 use arc_spec::event::Fault;
+use arc_tool::compile::compile;
+use arc_tool::run::{ToolFault, run_text};
 use std::test::Fail;
 
 const ECHO: &[u8] = b"int main(void){int c=getchar();while(c!=-1){printf(\"%c\",c);c=getchar();}}";

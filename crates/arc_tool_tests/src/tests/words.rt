@@ -1,5 +1,5 @@
-use crate::request::{Command, WordsFault};
-use crate::words::words;
+use arc_tool::request::{Command, WordsFault};
+use arc_tool::words::words;
 use std::alloc::{AllocError, Global};
 use std::test::Fail;
 

@@ -175,6 +175,13 @@ fn objects_that_are_refused(rt: HostRuntime) {
         Some((61, 27))
     );
     assert_eq!(rt;
+        refused(
+            alloc,
+            b"@interface A:NSObject @end @implementation A @end int main(void){[A release];}"
+        ),
+        Some((61, 68))
+    );
+    assert_eq!(rt;
         refused(alloc, b"int main(void){id x=nil;[x dealloc];}"),
         Some((62, 27))
     );

@@ -1,10 +1,10 @@
-use crate::run::{ToolFault, run_text};
 use crate::tests::devices::{Broken, Narrow, shows, with_room};
 use arc_code::code::IoFault;
 use arc_code::counted::Counted;
 use arc_machine::stop::Stop;
 use arc_plain::interpret::PlainStop;
 use arc_spec::event::Fault;
+use arc_tool::run::{ToolFault, run_text};
 use std::alloc::Global;
 use std::test::Fail;
 

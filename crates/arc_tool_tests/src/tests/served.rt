@@ -1,8 +1,8 @@
-use crate::request::WordsFault;
-use crate::serve::{FileFault, serve};
 use crate::tests::devices::{Broken, with_room};
-use crate::words::words;
 use arc_code::counted::Counted;
+use arc_tool::request::WordsFault;
+use arc_tool::serve::{FileFault, serve};
+use arc_tool::words::words;
 use std::alloc::{AllocError, Global};
 use std::test::Fail;
 

@@ -1,8 +1,8 @@
 mod objects;
 
-use crate::interpret::{PlainStop, interpret};
 use arc_ast::tree::{BinaryOperator, Kind, Sign, TranslationUnit};
 use arc_check::checked::{Checked, CheckedFunction, Command, Piece, Value};
+use arc_plain::interpret::{PlainStop, interpret};
 use arc_spec::class::{Class, Method};
 use arc_spec::event::{Event, Fault};
 use std::alloc::{AllocError, Global};

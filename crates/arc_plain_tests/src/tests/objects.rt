@@ -1,7 +1,7 @@
-use crate::interpret::{Answer, PlainStop, interpret};
 use crate::tests::{class, function, method, no_source, says};
 use arc_ast::tree::{Sign, TranslationUnit};
 use arc_check::checked::{Checked, CheckedFunction, Command, Piece, Reference, Value};
+use arc_plain::interpret::{Answer, PlainStop, interpret};
 use arc_spec::class::Class;
 use arc_spec::event::{Event, Fault};
 use std::alloc::{AllocError, Global};

@@ -1,10 +1,10 @@
 //! Traces on devices that fail.
-use crate::run::ToolFault;
 use crate::tests::devices::{Broken, Narrow, traced, with_room};
-use crate::trace::trace_text;
 use arc_code::code::IoFault;
 use arc_code::counted::Counted;
 use arc_machine::stop::Stop;
+use arc_tool::run::ToolFault;
+use arc_tool::trace::trace_text;
 use std::alloc::Global;
 use std::test::Fail;
 

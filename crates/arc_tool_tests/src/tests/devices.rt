@@ -3,9 +3,6 @@
 ghost use Rattle.std.specs.Prelude.{◌≡◌};
 ghost use Rattle.arc_code.specs.Counting.{failures_of};
 
-use crate::refusal::Refusal;
-use crate::run::{ToolFault, run_text};
-use crate::trace::trace_text;
 use arc_check::check::check;
 use arc_class::table::ClassTable;
 use arc_code::counted::Counted;
@@ -14,6 +11,9 @@ use arc_machine::stop::Stop;
 use arc_parse::parse::parse;
 use arc_plain::interpret::{Answer, PlainStop, interpret};
 use arc_spec::event::Event;
+use arc_tool::refusal::Refusal;
+use arc_tool::run::{ToolFault, run_text};
+use arc_tool::trace::trace_text;
 use std::alloc::{AllocError, Global};
 use std::io;
 use std::io::{ErrorKind, Read, Write};
