@@ -40,7 +40,7 @@ pub enum Visibility {
 }
 
 /// A type, as it is written of a variable or in a cast.
-#[derive(Debug, Drop)]
+#[derive(Drop)]
 pub enum TypeName {
     Int,
     /// `id`
@@ -50,7 +50,7 @@ pub enum TypeName {
 }
 
 /// An expression, with the place of its first byte; a call has that of its function's name.
-#[derive(Debug, Drop)]
+#[derive(Drop)]
 pub enum Expr {
     Integer(usize, i64),
     /// The bytes that a text literal stands for.
@@ -80,7 +80,7 @@ pub enum Expr {
 }
 
 /// A variable that a declaration makes, with the place of its name.
-#[derive(Debug, Drop)]
+#[derive(Drop)]
 pub struct Variable {
     pub at: usize,
     pub name: Vec<u8>,
@@ -88,7 +88,7 @@ pub struct Variable {
 }
 
 /// A statement, or a declaration of variables among those of a block, with the place of its first byte.
-#[derive(Debug, Drop)]
+#[derive(Drop)]
 pub enum Stmt {
     Block(usize, Vec<Stmt>),
     /// `;` alone
@@ -103,14 +103,14 @@ pub enum Stmt {
 }
 
 /// An `int` that a function or a method takes, with the place of its name.
-#[derive(Debug, Drop)]
+#[derive(Drop)]
 pub struct Parameter {
     pub at: usize,
     pub name: Vec<u8>,
 }
 
 /// What a function takes: some numbers or, as `main` may, a count and the arguments' texts.
-#[derive(Debug, Drop)]
+#[derive(Drop)]
 pub enum Parameters {
     Ints(Vec<Parameter>),
     CountAndTexts,
@@ -118,7 +118,7 @@ pub enum Parameters {
 
 /// A declaration or, with a body, a definition of a function; the place is that of its name. The result
 /// is Int or Void.
-#[derive(Debug, Drop)]
+#[derive(Drop)]
 pub struct Function {
     pub at: usize,
     pub name: Vec<u8>,
@@ -129,7 +129,7 @@ pub struct Function {
 
 /// A method as it is declared, with the place of its `+` or `-` and its selector with all colons. The
 /// result is Int or Void.
-#[derive(Debug, Drop)]
+#[derive(Drop)]
 pub struct MethodHead {
     pub at: usize,
     pub sign: Sign,
@@ -139,14 +139,14 @@ pub struct MethodHead {
 }
 
 /// A method that an implementation defines.
-#[derive(Debug, Drop)]
+#[derive(Drop)]
 pub struct Method {
     pub head: MethodHead,
     pub body: Vec<Stmt>,
 }
 
 /// An `int` field that each object of a class has, with the place of its name.
-#[derive(Debug, Drop)]
+#[derive(Drop)]
 pub struct Field {
     pub at: usize,
     pub name: Vec<u8>,
@@ -154,7 +154,7 @@ pub struct Field {
 }
 
 /// A class's interface, with the place of its name and that of its superclass's.
-#[derive(Debug, Drop)]
+#[derive(Drop)]
 pub struct Interface {
     pub at: usize,
     pub name: Vec<u8>,
@@ -165,7 +165,7 @@ pub struct Interface {
 }
 
 /// A class's implementation, with the place of its name.
-#[derive(Debug, Drop)]
+#[derive(Drop)]
 pub struct Implementation {
     pub at: usize,
     pub name: Vec<u8>,
@@ -175,7 +175,7 @@ pub struct Implementation {
 
 /// All of a source (C99, section 6.9): the functions, the interfaces and the implementations, each
 /// of them in their order. Names that `@class` declares are known without it, so they aren't kept.
-#[derive(Debug, Drop)]
+#[derive(Drop)]
 pub struct TranslationUnit {
     pub functions: Vec<Function>,
     pub interfaces: Vec<Interface>,

@@ -4,7 +4,7 @@ use arc_ast::tree::{BinaryOperator, Kind, TranslationUnit};
 use arc_spec::class::Class;
 
 /// What a format prints in turn.
-#[derive(Debug, Drop)]
+#[derive(Drop)]
 pub enum Piece {
     /// These bytes, as they are.
     Bytes(Vec<u8>),
@@ -16,7 +16,7 @@ pub enum Piece {
 
 /// An expression that gives a number; an operator has the kind in which it computes.
 #[cycle(expression)]
-#[derive(Debug, Drop)]
+#[derive(Drop)]
 pub enum Value {
     Number(i64),
     /// A call of `getchar`.
@@ -54,7 +54,7 @@ pub enum Value {
 
 /// An expression that gives an object or nil.
 #[cycle(expression)]
-#[derive(Debug, Drop)]
+#[derive(Drop)]
 pub enum Reference {
     Nil,
     /// `self`
@@ -70,7 +70,7 @@ pub enum Reference {
 }
 
 /// A statement.
-#[derive(Debug, Drop)]
+#[derive(Drop)]
 pub enum Command {
     /// Statements, and how many variables of their own that name objects they have, from the first of
     /// these on.
@@ -88,7 +88,7 @@ pub enum Command {
 
 /// A function with how many variables it has that hold numbers, of which the first are its parameters,
 /// and how many that name objects; the first number of a class method is `self`.
-#[derive(Debug, Drop)]
+#[derive(Drop)]
 pub struct CheckedFunction {
     pub slots: usize,
     pub names: usize,
@@ -97,7 +97,7 @@ pub struct CheckedFunction {
 
 /// A checked program: the source that it comes from; its functions with a body, in their order, and then
 /// its methods; which of them is `main`; and its classes, whose methods run functions.
-#[derive(Debug, Drop)]
+#[derive(Drop)]
 pub struct Checked<'a> {
     pub unit: &'a TranslationUnit,
     pub functions: Vec<CheckedFunction>,

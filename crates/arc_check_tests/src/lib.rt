@@ -2,8 +2,4 @@
 #![tactic(auto)]
 
 #[cfg(test)]
-mod accepted;
-#[cfg(test)]
-mod answers;
-#[cfg(test)]
-mod refused;
+mod tests;
