@@ -11,10 +11,8 @@ use std::alloc::Global;
 
 /// The tree of a source, if it has one.
 fn tree(alloc: Global, source: &[u8]) -> Option<TranslationUnit> {
-    match lex(alloc, source) {
-        Ok(tokens) => parse(alloc, &tokens).ok(),
-        Err(_fault) => None,
-    }
+    let tokens = lex(alloc, source).ok()?;
+    parse(alloc, &tokens).ok()
 }
 
 /// The number and the place of the rule that a tree breaks.
