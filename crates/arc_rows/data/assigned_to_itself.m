@@ -1,0 +1,22 @@
+@interface A : NSObject {
+@public
+    int _v;
+}
+- (int)v;
+@end
+
+@implementation A
+- (int)v {
+    return _v;
+}
+- (void)dealloc {
+    printf("d%d", _v);
+}
+@end
+
+int main(void) {
+    A *x = [A new];
+    x->_v = 1;
+    x = x;
+    printf("k");
+}

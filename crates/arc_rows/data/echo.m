@@ -1,0 +1,7 @@
+int main(void) {
+    int c = getchar();
+    while (c != -1) {
+        printf("%c", c);
+        c = getchar();
+    }
+}

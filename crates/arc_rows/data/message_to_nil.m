@@ -1,0 +1,21 @@
+@interface A : NSObject {
+@public
+    int _v;
+}
+- (int)v;
+@end
+
+@implementation A
+- (int)v {
+    return _v;
+}
+- (void)dealloc {
+    printf("d%d", _v);
+}
+@end
+
+int main(void) {
+    A *a = nil;
+    printf("%d", [a v]);
+    return a != nil;
+}

@@ -1,0 +1,25 @@
+@interface A : NSObject {
+@public
+    int _v;
+}
+- (int)v;
+@end
+
+@implementation A
+- (int)v {
+    return _v;
+}
+- (void)dealloc {
+    printf("d%d", _v);
+}
+@end
+
+int main(void) {
+    A *a = [A new];
+    a->_v = 3;
+    printf("%d", [a v]);
+    [[A new] v];
+    printf("x");
+    a = nil;
+    printf("y");
+}

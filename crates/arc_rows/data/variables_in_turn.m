@@ -1,0 +1,28 @@
+@interface A : NSObject {
+@public
+    int _v;
+}
+- (int)v;
+@end
+
+@implementation A
+- (int)v {
+    return _v;
+}
+- (void)dealloc {
+    printf("d%d", _v);
+}
+@end
+
+int main(void) {
+    A *x = [A new];
+    x->_v = 1;
+    A *y = [A new];
+    y->_v = 2;
+    {
+        A *z = x;
+        x = nil;
+        printf("z");
+    }
+    printf("e");
+}

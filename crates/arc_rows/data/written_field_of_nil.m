@@ -1,0 +1,20 @@
+@interface A : NSObject {
+@public
+    int _v;
+}
+- (int)v;
+@end
+
+@implementation A
+- (int)v {
+    return _v;
+}
+- (void)dealloc {
+    printf("d%d", _v);
+}
+@end
+
+int main(void) {
+    A *a;
+    a->_v = printf("p");
+}

@@ -1,0 +1,27 @@
+//! The program `arc_rows`: does what each line of the file `rows` asks `arcc` for, and prints what that gives
+//! and whether the plain interpreter tells the same.
+//!
+//! A line that begins with `#` is a heading. Any other is `WORDS`, the words behind `arcc`; `WORDS < INPUT`, with the
+//! file of the standard input; or either one with `: SOURCE` behind, where the source stands in the line and not in
+//! the file that the words name. Where what was written leaves a line open, a backslash ends it.
+#![tactic(auto)]
+
+mod compare;
+mod lines;
+mod row;
+mod show;
+
+use crate::show::show;
+use std::fs;
+
+fn main(rt: HostRuntime) -> anyhow::Result<()> {
+    let rows = fs::read_to_string(&rt, "rows")?;
+    for line in rows.as_str().lines() {
+        if line.starts_with('#') {
+            println!(rt; "{line}\n")?;
+        } else {
+            show(&rt, line)?;
+        }
+    }
+    Ok(())
+}
