@@ -7,7 +7,16 @@ use std::test::Fail;
 #[test]
 fn blocks_have_the_least_size(rt: HostRuntime) -> Result<(), Fail> {
     let mut store = PlainStore::new(rt.alloc());
-    let rows = [(1, 1), (4, 2), (5, 3), (128, 5), (17, 37), (16, 45), (33, 49), (1, 65)];
+    let rows = [
+        (1, 1),
+        (4, 2),
+        (5, 3),
+        (128, 5),
+        (17, 37),
+        (16, 45),
+        (33, 49),
+        (1, 65),
+    ];
     for (words, at) in rows {
         let block = store.take(words).ok_or("no memory")?;
         assert_eq!(rt; block.at, at);
@@ -28,7 +37,13 @@ fn free_blocks_are_kept_by_size(rt: HostRuntime) -> Result<(), Fail> {
     store.give(small);
     store.give(large);
     store.give(last);
-    for (words, at) in [(8, 19), (4, last.at), (50, large.at), (4, small.at), (4, 21)] {
+    for (words, at) in [
+        (8, 19),
+        (4, last.at),
+        (50, large.at),
+        (4, small.at),
+        (4, 21),
+    ] {
         assert_eq!(rt; store.take(words).ok_or("no memory")?.at, at);
     }
     Ok(())
