@@ -5,5 +5,3 @@ pub mod code;
 pub mod counted;
 pub mod fault;
 pub mod lines;
-#[cfg(test)]
-mod tests;

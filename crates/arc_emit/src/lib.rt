@@ -6,5 +6,3 @@ pub mod emit;
 pub mod fault;
 mod layout;
 mod pieces;
-#[cfg(test)]
-mod tests;

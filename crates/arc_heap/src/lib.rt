@@ -16,5 +16,3 @@ pub mod class;
 pub mod mark;
 pub mod plain;
 pub mod store;
-#[cfg(test)]
-mod tests;

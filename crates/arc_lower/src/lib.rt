@@ -9,6 +9,4 @@ mod place;
 mod print;
 mod statement;
 mod stub;
-#[cfg(test)]
-mod tests;
 mod variable;

@@ -2,7 +2,6 @@ pub mod Advancing
 pub mod Allocated
 pub mod Alterations
 pub mod Blocking
-pub mod Calls
 pub mod Chained
 pub mod Differing
 pub mod Ending
@@ -14,9 +13,7 @@ pub mod Fields
 pub mod Holdings
 pub mod Letting
 pub mod Lifting
-pub mod Living
 pub mod Making
-pub mod Messaging
 pub mod Named
 pub mod Naming
 pub mod Needs
@@ -24,7 +21,6 @@ pub mod Newest
 pub mod Patterning
 pub mod Piles
 pub mod Released
-pub mod Sample
 pub mod Sliding
 pub mod Standings
 pub mod Starting

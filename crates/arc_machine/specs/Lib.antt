@@ -4,7 +4,6 @@ pub mod Patterns
 pub mod Places
 pub mod Releases
 pub mod Runs
-pub mod Sample
 pub mod Standing
 pub mod Steps
 pub mod Told

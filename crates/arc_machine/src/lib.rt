@@ -16,7 +16,5 @@ mod releasing;
 mod stack;
 mod step;
 pub mod stop;
-#[cfg(test)]
-mod tests;
 mod turn;
 mod waiting;

@@ -1,0 +1,151 @@
+//! Devices that fail, and a listing.
+
+use arc_ast::tree::{BinaryOperator, Kind};
+use arc_code::code::{Code, IoFault, Op};
+use arc_code::counted::{Counted, Failed};
+use arc_code::lines::list;
+use std::alloc::{AllocError, Global};
+use std::io;
+use std::io::{ErrorKind, Read, Write};
+use std::test::Fail;
+
+/// Interrupted so many times, and then a reader of `A`.
+#[derive(Drop)]
+struct Interrupted {
+    times: u32,
+}
+
+impl Read for Interrupted {
+    fn read(&mut self, bytes: &mut [u8]) -> io::Result<usize> {
+        if self.times > 0 {
+            self.times -= 1;
+            return Err(io::Error::from(ErrorKind::Interrupted));
+        }
+        if bytes.is_empty() {
+            return Ok(0);
+        }
+        bytes[0] = b'A';
+        Ok(1)
+    }
+}
+
+/// Takes so many bytes, one at a time, then takes none, and can't be flushed.
+#[derive(Drop)]
+struct Narrow {
+    taken: Vec<u8>,
+    room: usize,
+}
+
+impl Write for Narrow {
+    fn write(&mut self, bytes: &[u8]) -> io::Result<usize> {
+        if self.taken.len() >= self.room || bytes.is_empty() {
+            return Ok(0);
+        }
+        self.taken.extend_from_slice(&bytes[..1])?;
+        Ok(1)
+    }
+
+    fn flush(&mut self) -> io::Result<()> {
+        Err(io::Error::from(ErrorKind::BrokenPipe))
+    }
+}
+
+#[test]
+fn interruptions_are_retried(rt: HostRuntime) {
+    let mut few = Counted::new(Interrupted { times: 99 });
+    assert_eq!(rt; few.get(), Ok(Some(b'A')));
+    assert_eq!(rt; few.failures(), 0);
+    let mut many = Counted::new(Interrupted { times: 100 });
+    assert_eq!(rt; many.get(), Err(Failed));
+    few.count_failures(&many);
+    assert_eq!(rt; (few.failures(), many.get_ref().times), (1, 0));
+}
+
+/// Code with each instruction.
+fn each_instruction(alloc: Global) -> Result<Code, AllocError> {
+    let ops = [
+        Op::Num(-42),
+        Op::Bin(BinaryOperator::Divide, Kind::Int),
+        Op::Un(Kind::Long),
+        Op::Narrow(Kind::Bool),
+        Op::Pop,
+        Op::Get(2),
+        Op::Set(3),
+        Op::PrintText(10, 6),
+        Op::PrintNum,
+        Op::PrintByte,
+        Op::GetChar,
+        Op::Jump(12),
+        Op::JumpZero(7),
+        Op::Call(0),
+        Op::Send(3, 1),
+        Op::SendSuper(1, 2, 0),
+        Op::Return,
+        Op::Nil,
+        Op::HoldSelf,
+        Op::Hold(1),
+        Op::StoreStrong(2),
+        Op::Drop,
+        Op::Empty(3),
+        Op::Forget(4),
+        Op::Alloc,
+        Op::GetField(5, 6),
+        Op::SetField(7, 8, 9),
+        Op::Differ(10),
+        Op::IsObject,
+        Op::SendTo(11, 12, 13),
+        Op::SendToSuper(14, 15, 16),
+        Op::EndStep,
+    ];
+    Ok(Code {
+        ops: Vec::from_slice(alloc, &ops)?,
+        texts: Vec::new(alloc),
+        end_step: 0,
+        room: 0,
+        places: 0,
+        classes: Vec::new(alloc),
+    })
+}
+
+/// The listing of that code.
+const LISTING: &str = "0 Num -42\n1 Bin 3 2\n2 Un 3\n3 Narrow 1\n4 Pop\n5 Get 2\n6 Set 3\n\
+    7 PrintText 10 6\n8 PrintNum\n9 PrintByte\n10 GetChar\n11 Jump 12\n12 JumpZero 7\n13 Call 0\n\
+    14 Send 3 1\n15 SendSuper 1 2 0\n16 Return\n17 Nil\n18 HoldSelf\n19 Hold 1\n20 StoreStrong 2\n\
+    21 Drop\n22 Empty 3\n23 Forget 4\n24 Alloc\n25 GetField 5 6\n26 SetField 7 8 9\n27 Differ 10\n\
+    28 IsObject\n29 SendTo 11 12 13\n30 SendToSuper 14 15 16\n31 EndStep\n";
+
+#[test]
+fn code_is_listed(rt: HostRuntime) -> Result<(), Fail> {
+    let code = each_instruction(rt.alloc())?;
+    let mut writer = Counted::new(Vec::new(rt.alloc()));
+    assert_eq!(rt; list(&code, &mut writer), Ok(()));
+    assert_eq!(rt; writer.flush(), Ok(()));
+    assert_eq!(rt; writer.get_ref().as_slice(), LISTING.as_bytes());
+    Ok(())
+}
+
+/// A write of no byte is a failure, and so is a flush that fails.
+#[test]
+fn a_failing_writer_ends_a_listing(rt: HostRuntime) -> Result<(), Fail> {
+    let code = each_instruction(rt.alloc())?;
+    let mut writer = Counted::new(Narrow {
+        taken: Vec::new(rt.alloc()),
+        room: 12,
+    });
+    assert_eq!(rt; list(&code, &mut writer), Err(IoFault::Write));
+    assert_eq!(rt; writer.failures(), 1);
+    assert_eq!(rt; writer.flush(), Err(Failed));
+    assert_eq!(rt; writer.failures(), 2);
+    assert_eq!(rt;
+        writer.get_ref().taken.as_slice(),
+        b"0 Num -42\n1 ".as_slice()
+    );
+    Ok(())
+}
+
+#[test]
+fn faults_are_told(rt: HostRuntime) {
+    for (fault, number, name) in [(IoFault::Read, 91, "Read"), (IoFault::Write, 92, "Write")] {
+        assert_eq!(rt; (fault.number(), fault.name()), (number, name));
+    }
+}

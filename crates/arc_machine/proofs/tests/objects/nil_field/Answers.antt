@@ -1,7 +1,0 @@
-use Rattle.arc_machine.specs.Sample.{nil_field}
-use Rattle.arc_machine.proofs.Living.{nil_field_sound}
-use Rattle.arc_machine.proofs.Sample.{at_code}
-use Rattle.arc_machine.proofs.tests.objects.nil_field.Goals as goal
-
-pub new-requires-3 : goal.new-requires-3
-new-requires-3 c = at_code nil_field _ _ _ nil_field_sound c.in_ok-ops.ensures.items c.new.ensures.items c.in_ok-only.ensures

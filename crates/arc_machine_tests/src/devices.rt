@@ -1,0 +1,165 @@
+//! Readers and writers that fail, and a store that has too few blocks.
+ghost use Rattle.std.specs.Prelude.{◌≡◌, None};
+ghost use Rattle.arc_code.specs.Counting.{failures_of};
+
+use crate::programs::{PRINTING, machine_of};
+use arc_code::code::IoFault;
+use arc_code::counted::Counted;
+use arc_heap::plain::PlainStore;
+use arc_heap::store::{Ref, Store};
+use arc_machine::stop::Stop;
+use std::alloc::Global;
+use std::io;
+use std::io::{ErrorKind, Read, Write};
+use std::test::Fail;
+
+/// Takes so many bytes, one at a time, and then fails; its flush may fail too.
+#[derive(Drop)]
+struct Narrow {
+    taken: Vec<u8>,
+    room: usize,
+    flushes: bool,
+}
+
+impl Write for Narrow {
+    fn write(&mut self, bytes: &[u8]) -> io::Result<usize> {
+        if self.taken.len() >= self.room || bytes.is_empty() {
+            return Err(io::Error::from(ErrorKind::BrokenPipe));
+        }
+        self.taken.extend_from_slice(&bytes[..1])?;
+        Ok(1)
+    }
+
+    fn flush(&mut self) -> io::Result<()> {
+        if self.flushes {
+            Ok(())
+        } else {
+            Err(io::Error::from(ErrorKind::BrokenPipe))
+        }
+    }
+}
+
+/// A reader whose every read fails.
+#[derive(Drop)]
+struct Broken;
+
+impl Read for Broken {
+    fn read(&mut self, _bytes: &mut [u8]) -> io::Result<usize> {
+        Err(io::Error::from(ErrorKind::BrokenPipe))
+    }
+}
+
+/// A store that gives so many of another's blocks, and then no more.
+#[derive(Drop)]
+struct Few<S: Store + Drop> {
+    store: S,
+    left: usize,
+}
+
+impl<S: Store + Drop> Store for Few<S> {
+    ghost out = { λ s. S.out s.store };
+
+    ghost stock = { λ _. None };
+
+    fn take(&mut self, words: usize) -> Option<Ref> {
+        if self.left == 0 {
+            return None;
+        }
+        self.left -= 1;
+        self.store.take(words)
+    }
+
+    fn give(&mut self, block: Ref) {
+        self.store.give(block);
+    }
+
+    fn load(&self, block: Ref, i: usize) -> u64 {
+        self.store.load(block, i)
+    }
+
+    fn store(&mut self, block: Ref, i: usize, value: u64) {
+        self.store.store(block, i, value);
+    }
+}
+
+/// The failure that breaks the printing program on these devices, where a second run answers it again and makes no step.
+fn failure_of<R: Read, W: Write>(
+    alloc: Global,
+    reader: &mut Counted<R>,
+    writer: &mut Counted<W>,
+) -> Result<Option<IoFault>, Fail>
+    requires reads { failures_of reader.old ≡ 0 }
+    requires writes { failures_of writer.old ≡ 0 }
+{
+    let mut machine = machine_of(alloc, PRINTING, PlainStore::new(alloc))?;
+    let first = machine.run(1_000, reader, writer);
+    let steps = machine.steps_done();
+    let second = machine.run(1_000, reader, writer);
+    if first != second || machine.steps_done() != steps {
+        return Ok(None);
+    }
+    Ok(first.err())
+}
+
+#[test]
+fn a_failing_writer_breaks_a_step(rt: HostRuntime) -> Result<(), Fail> {
+    let mut reader = Counted::new(b"\x06".as_slice());
+    let mut writer = Counted::new(Narrow {
+        taken: Vec::new(rt.alloc()),
+        room: 2,
+        flushes: true,
+    });
+    let fault = failure_of(rt.alloc(), &mut reader, &mut writer)?;
+    assert_eq!(rt; fault, Some(IoFault::Write));
+    assert_eq!(rt; writer.failures(), 1);
+    assert_eq!(rt; writer.get_ref().taken.as_slice(), b"ab".as_slice());
+    Ok(())
+}
+
+#[test]
+fn what_was_printed_is_flushed_before_a_read(rt: HostRuntime) -> Result<(), Fail> {
+    let mut reader = Counted::new(b"\x06".as_slice());
+    let mut writer = Counted::new(Narrow {
+        taken: Vec::new(rt.alloc()),
+        room: 100,
+        flushes: false,
+    });
+    let fault = failure_of(rt.alloc(), &mut reader, &mut writer)?;
+    assert_eq!(rt; fault, Some(IoFault::Write));
+    assert_eq!(rt; reader.get_ref().len(), 1);
+    assert_eq!(rt; writer.get_ref().taken.as_slice(), b"abcdef".as_slice());
+    Ok(())
+}
+
+#[test]
+fn a_failing_reader_breaks_a_step(rt: HostRuntime) -> Result<(), Fail> {
+    let mut reader = Counted::new(Broken);
+    let mut writer = Counted::new(Vec::new(rt.alloc()));
+    let fault = failure_of(rt.alloc(), &mut reader, &mut writer)?;
+    assert_eq!(rt; fault, Some(IoFault::Read));
+    assert_eq!(rt; (reader.failures(), writer.failures()), (1, 0));
+    Ok(())
+}
+
+/// Makes two objects.
+const MAKING: &str = "@interface A : NSObject @end @implementation A @end \
+    int main(void) { A *a = [A new]; printf(\"a\"); A *b = [A new]; printf(\"b\"); }";
+
+#[test]
+fn a_store_with_no_block_stops_it(rt: HostRuntime) -> Result<(), Fail> {
+    let store = Few {
+        store: PlainStore::new(rt.alloc()),
+        left: 1,
+    };
+    let mut machine = machine_of(rt.alloc(), MAKING, store)?;
+    let mut reader = Counted::new(b"".as_slice());
+    let mut writer = Counted::new(Vec::new(rt.alloc()));
+    let stop = machine.run(1_000, &mut reader, &mut writer);
+    assert_eq!(rt; stop, Ok(Stop::NoHeap));
+    let steps = machine.steps_done();
+    let stop = machine.run(1_000, &mut reader, &mut writer);
+    assert_eq!(rt; stop, Ok(Stop::NoHeap));
+    assert_eq!(rt; machine.steps_done(), steps);
+    assert_eq!(rt; writer.get_ref().as_slice(), b"a".as_slice());
+    Ok(())
+}
