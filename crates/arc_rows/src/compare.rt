@@ -1,7 +1,9 @@
 //! Compares the trace of a compiled program with what the plain interpreter tells.
 
-use crate::lines::{write_event, write_stop};
+use crate::lines::trace_lines;
+use arc_ast::tree::TranslationUnit;
 use arc_check::check::check;
+use arc_check::checked::Checked;
 use arc_class::table::ClassTable;
 use arc_code::counted::Counted;
 use arc_lex::lex::lex;
@@ -42,42 +44,53 @@ pub fn compare(
     source: &[u8],
     input: &[u8],
 ) -> anyhow::Result<Verdict> {
-    if matches!(words.command, Command::Check | Command::Code) {
+    let Some(text) = ended_trace(alloc, words, source, input) else {
         return Ok(Verdict::Uncompared);
+    };
+    let told = plain_trace(alloc, source, input)?;
+    if told.as_slice() == text.as_slice() {
+        Ok(Verdict::Agrees)
+    } else {
+        Ok(Verdict::Differs)
+    }
+}
+
+/// The text of the compiled program's trace, where the words run or trace it, and it ends.
+fn ended_trace(alloc: Global, words: &Words, source: &[u8], input: &[u8]) -> Option<Vec<u8>> {
+    if matches!(words.command, Command::Check | Command::Code) {
+        return None;
     }
     let mut reader = Counted::new(input);
     let mut writer = Counted::new(Vec::new(alloc));
-    match trace_text(
+    let stop = trace_text(
         alloc,
         source,
         words.heap,
         words.steps,
         &mut reader,
         &mut writer,
-    ) {
-        Ok(Stop::Ended(_)) | Ok(Stop::Fault(_)) => {
-            let told = plain_trace(alloc, source, input)?;
-            if told.as_slice() == writer.get_ref().as_slice() {
-                Ok(Verdict::Agrees)
-            } else {
-                Ok(Verdict::Differs)
-            }
-        }
-        Ok(Stop::NoHeap) | Ok(Stop::StepsUsed) | Err(_) => Ok(Verdict::Uncompared),
+    );
+    match stop {
+        Ok(Stop::Ended(_)) | Ok(Stop::Fault(_)) => writer.get_ref().clone().ok(),
+        Ok(Stop::NoHeap) | Ok(Stop::StepsUsed) | Err(_) => None,
     }
 }
 
-/// The text of a trace, as the plain interpreter tells it.
+/// The text of a source's trace, as the plain interpreter tells it.
 fn plain_trace(alloc: Global, source: &[u8], input: &[u8]) -> anyhow::Result<Vec<u8>> {
     let tokens = lex(alloc, source)?;
     let unit = parse(alloc, &tokens)?;
-    let table = ClassTable::build(alloc, &unit)?;
-    let program = check(alloc, &unit, &table)?;
-    let answer = interpret(alloc, &program, input, MOST_TURNS)?;
-    let mut text = Vec::new(alloc);
-    for event in &answer.trace {
-        write_event(&mut text, event, &unit)?;
-    }
-    write_stop(&mut text, answer.stop)?;
+    trace_of_unit(alloc, &unit, input)
+}
+
+fn trace_of_unit(alloc: Global, unit: &TranslationUnit, input: &[u8]) -> anyhow::Result<Vec<u8>> {
+    let table = ClassTable::build(alloc, unit)?;
+    let program = check(alloc, unit, &table)?;
+    trace_of_program(alloc, &program, input)
+}
+
+fn trace_of_program(alloc: Global, program: &Checked, input: &[u8]) -> anyhow::Result<Vec<u8>> {
+    let answer = interpret(alloc, program, input, MOST_TURNS)?;
+    let text = trace_lines(alloc, &answer, program.unit)?;
     Ok(text)
 }

@@ -2,10 +2,21 @@
 
 use arc_ast::tree::TranslationUnit;
 use arc_machine::fault::{fault_name, fault_number};
-use arc_plain::interpret::PlainStop;
+use arc_plain::interpret::{Answer, PlainStop};
 use arc_spec::event::Event;
+use std::alloc::Global;
 use std::io;
 use std::io::Write;
+
+/// The text of the trace of a program with this tree, of which this is told.
+pub fn trace_lines(alloc: Global, answer: &Answer, unit: &TranslationUnit) -> io::Result<Vec<u8>> {
+    let mut text = Vec::new(alloc);
+    for event in &answer.trace {
+        write_event(&mut text, event, unit)?;
+    }
+    write_stop(&mut text, answer.stop)?;
+    Ok(text)
+}
 
 /// Whether the text leaves a line open.
 pub fn is_open(text: &[u8]) -> bool {
@@ -24,7 +35,7 @@ fn end_line(text: &mut Vec<u8>) -> io::Result<()> {
 }
 
 /// Writes what an event adds to a trace.
-pub fn write_event(text: &mut Vec<u8>, event: &Event, unit: &TranslationUnit) -> io::Result<()> {
+fn write_event(text: &mut Vec<u8>, event: &Event, unit: &TranslationUnit) -> io::Result<()> {
     match event {
         Event::Byte(byte) => {
             if !is_open(text) {
@@ -53,7 +64,7 @@ fn class_name(unit: &TranslationUnit, class: usize) -> &[u8] {
 }
 
 /// Writes how a run stopped.
-pub fn write_stop(text: &mut Vec<u8>, stop: PlainStop) -> io::Result<()> {
+fn write_stop(text: &mut Vec<u8>, stop: PlainStop) -> io::Result<()> {
     end_line(text)?;
     match stop {
         PlainStop::Ended(number) => writeln!(text, "end {number}"),

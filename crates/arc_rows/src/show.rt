@@ -24,11 +24,25 @@ pub fn show<R: Files + Print + AllocGlobal>(rt: &R, line: &str) -> anyhow::Resul
         (Ok(words), Ok(source)) => compare(alloc, words, source, &input)?,
         _ => Verdict::Uncompared,
     };
-    let file: Result<&[u8], FileFault> = match &source {
+    println!(rt; "$ arcc {line}")?;
+    let status = serve_row(rt, words, &source, &input)?;
+    println!(rt; "status {status}{verdict}\n")?;
+    Ok(())
+}
+
+/// Does what the words ask for, prints what that writes, and gives the status.
+fn serve_row<R: Print + AllocGlobal>(
+    rt: &R,
+    words: Result<Words, WordsFault>,
+    source: &Result<Vec<u8>, FileFault>,
+    input: &[u8],
+) -> io::Result<u8> {
+    let alloc = rt.alloc();
+    let file: Result<&[u8], FileFault> = match source {
         Ok(bytes) => Ok(bytes),
         Err(fault) => Err(*fault),
     };
-    let mut reader = Counted::new(input.as_slice());
+    let mut reader = Counted::new(input);
     let mut output = Counted::new(Vec::new(alloc));
     let mut errors = Counted::new(Vec::new(alloc));
     let status = serve(
@@ -39,11 +53,9 @@ pub fn show<R: Files + Print + AllocGlobal>(rt: &R, line: &str) -> anyhow::Resul
         &mut output,
         &mut errors,
     );
-    println!(rt; "$ arcc {line}")?;
     put_lines(rt, output.get_ref())?;
     put_lines(rt, errors.get_ref())?;
-    println!(rt; "status {status}{verdict}\n")?;
-    Ok(())
+    Ok(status)
 }
 
 /// The bytes of the standard input.
