@@ -17,9 +17,24 @@ fn commands(rt: HostRuntime) -> Result<(), Fail> {
     let alloc = rt.alloc();
     let rows: [(&[&str], Command, &str, u64); 5] = [
         (&["arcc", "run", "a.m"], Command::Run, "a.m", 1_000_000_000),
-        (&["arcc", "trace", "--steps", "3", "c.m"], Command::Trace, "c.m", 3),
-        (&["arcc", "check", "b.m"], Command::Check, "b.m", 1_000_000_000),
-        (&["arcc", "code", "--", "--steps"], Command::Code, "--steps", 1_000_000_000),
+        (
+            &["arcc", "trace", "--steps", "3", "c.m"],
+            Command::Trace,
+            "c.m",
+            3,
+        ),
+        (
+            &["arcc", "check", "b.m"],
+            Command::Check,
+            "b.m",
+            1_000_000_000,
+        ),
+        (
+            &["arcc", "code", "--", "--steps"],
+            Command::Code,
+            "--steps",
+            1_000_000_000,
+        ),
         (
             &["arcc", "run", "a.m", "--steps=9223372036854775807"],
             Command::Run,
