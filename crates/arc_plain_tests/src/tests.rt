@@ -52,10 +52,7 @@ fn turns(alloc: Global, bound: u64) -> Result<Answer, Fail> {
     pieces.push(Piece::Bytes(Vec::from_slice(alloc, b"x")?))?;
     let print = Command::Evaluate(Value::Print(pieces, Vec::new(alloc)));
     let mut functions = Vec::new(alloc);
-    functions.push(single(
-        alloc,
-        Command::Repeat(test, Box::new(alloc, print)?),
-    )?)?;
+    functions.push(single(alloc, Command::Repeat(test, Box::new(alloc, print)?))?)?;
     shown(alloc, functions, Vec::new(alloc), bound)
 }
 

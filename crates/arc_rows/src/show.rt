@@ -45,14 +45,7 @@ fn serve_row<R: Print + AllocGlobal>(
     let mut reader = Counted::new(input);
     let mut output = Counted::new(Vec::new(alloc));
     let mut errors = Counted::new(Vec::new(alloc));
-    let status = serve(
-        alloc,
-        words,
-        file,
-        &mut reader,
-        &mut output,
-        &mut errors,
-    );
+    let status = serve(alloc, words, file, &mut reader, &mut output, &mut errors);
     put_lines(rt, output.get_ref())?;
     put_lines(rt, errors.get_ref())?;
     Ok(status)

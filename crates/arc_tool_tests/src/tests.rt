@@ -1,11 +1,7 @@
-//! Worked rows on the public calls.
+//! What no row of arc_rows shows: devices that fail, want of memory, steps that go on, and long sources.
 
-mod classes;
 mod devices;
+mod failing;
 mod hostile;
-mod objects;
-mod rows;
 mod served;
-mod traces;
-mod wider;
 mod words;

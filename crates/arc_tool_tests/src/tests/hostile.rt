@@ -1,27 +1,24 @@
-use crate::tests::devices::{append_times, ran, refused, shows};
+//! Sources of one byte, and as long as they may be.
+use arc_code::counted::Counted;
 use arc_machine::stop::Stop;
-use arc_plain::interpret::PlainStop;
+use arc_tool::run::{ToolFault, run_text};
+use std::alloc::{AllocError, Global};
 use std::test::Fail;
 
-#[test]
-fn sources_that_are_refused(rt: HostRuntime) -> Result<(), Fail> {
-    let alloc = rt.alloc();
-    let rows: [(&[u8], (u8, usize)); 12] = [
-        (b"", (29, 0)),
-        (b"$", (1, 0)),
-        (b"@", (5, 0)),
-        (b"\"", (3, 0)),
-        (b";", (11, 0)),
-        (b"int main(void){", (11, 15)),
-        (b"int main(void){printf(\"abc", (3, 22)),
-        (b"int main(void);", (29, 0)),
-        (b"int main(void){}int main(void){}", (21, 20)),
-        (b"int main(void){zork();}", (41, 15)),
-        (b"int main(void){printf(\"%ld\", 1);}", (46, 15)),
-        (b"int main(void){printf(1, \"a\");}", (46, 15)),
-    ];
-    for (source, (number, at)) in rows {
-        assert_eq!(rt; refused(alloc, source), Some((number, at)));
+/// The number and the place of a source's refusal, as a run answers it.
+fn refused(alloc: Global, source: &[u8]) -> Option<(u8, usize)> {
+    let mut reader = Counted::new(b"".as_slice());
+    let mut writer = Counted::new(Vec::new(alloc));
+    match run_text(alloc, source, 1_048_576, 1, &mut reader, &mut writer) {
+        Err(ToolFault::Refused(refusal)) => Some((refusal.number, refusal.at)),
+        _ => None,
+    }
+}
+
+/// Appends the part, so many times.
+fn append_times(text: &mut Vec<u8>, part: &[u8], times: usize) -> Result<(), AllocError> {
+    for _ in 0..times {
+        text.extend_from_slice(part)?;
     }
     Ok(())
 }
@@ -58,42 +55,17 @@ fn long_sources(rt: HostRuntime) -> Result<(), Fail> {
     let mut calls = Vec::from_slice(alloc, b"int main(void){")?;
     append_times(&mut calls, b"printf(\"a\");", 87_000)?;
     append_times(&mut calls, b"}", 1)?;
-    let (output, stop) = ran(alloc, &calls, b"")?;
-    assert_eq!(rt; output.len(), 87_000);
+    let mut reader = Counted::new(b"".as_slice());
+    let mut writer = Counted::new(Vec::new(alloc));
+    let stop = run_text(
+        alloc,
+        &calls,
+        1_048_576,
+        1_000_000_000,
+        &mut reader,
+        &mut writer,
+    )?;
+    assert_eq!(rt; writer.get_ref().len(), 87_000);
     assert!(rt; stop == Stop::Ended(0));
-    Ok(())
-}
-
-#[test]
-fn deep_blocks(rt: HostRuntime) -> Result<(), Fail> {
-    let alloc = rt.alloc();
-    let mut deepest = Vec::from_slice(alloc, b"int main(void)")?;
-    append_times(&mut deepest, b"{", 200)?;
-    append_times(&mut deepest, b"}", 200)?;
-    assert!(rt; shows(alloc, &deepest, b"", b"", PlainStop::Ended(0))?);
-    let mut deeper = Vec::from_slice(alloc, b"int main(void)")?;
-    append_times(&mut deeper, b"{", 201)?;
-    append_times(&mut deeper, b"}", 201)?;
-    assert_eq!(rt; refused(alloc, &deeper), Some((12, 214)));
-    Ok(())
-}
-
-#[test]
-fn deep_expressions(rt: HostRuntime) -> Result<(), Fail> {
-    let alloc = rt.alloc();
-    let mut deepest = Vec::from_slice(alloc, b"int main(void){return ")?;
-    append_times(&mut deepest, b"(", 499)?;
-    append_times(&mut deepest, b"1", 1)?;
-    append_times(&mut deepest, b")", 499)?;
-    append_times(&mut deepest, b";}", 1)?;
-    assert!(rt; shows(alloc, &deepest, b"", b"", PlainStop::Ended(1))?);
-    let mut negated = Vec::from_slice(alloc, b"int main(void){return ")?;
-    append_times(&mut negated, b"- ", 999)?;
-    append_times(&mut negated, b"1;}", 1)?;
-    assert!(rt; shows(alloc, &negated, b"", b"", PlainStop::Ended(-1))?);
-    let mut more = Vec::from_slice(alloc, b"int main(void){return ")?;
-    append_times(&mut more, b"- ", 1000)?;
-    append_times(&mut more, b"1;}", 1)?;
-    assert_eq!(rt; refused(alloc, &more), Some((12, 2022)));
     Ok(())
 }

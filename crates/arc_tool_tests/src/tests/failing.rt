@@ -1,0 +1,146 @@
+//! Runs and traces on devices that fail.
+use crate::tests::devices::{Broken, Narrow, unflushed, with_room};
+use arc_code::code::IoFault;
+use arc_code::counted::Counted;
+use arc_heap::plain::PlainStore;
+use arc_machine::machine::Machine;
+use arc_machine::stop::Stop;
+use arc_tool::compile::compile;
+use arc_tool::run::{ToolFault, run_text};
+use arc_tool::trace::trace_text;
+use std::alloc::{AllocError, Global};
+use std::test::Fail;
+
+/// A program that prints, makes an object, and ends with a number below 0.
+const SOURCE: &[u8] = b"@interface Leaf:NSObject @end @implementation Leaf @end \
+    int main(void) { printf(\"a\"); printf(\"\"); printf(\"\\n\"); [Leaf new]; [Leaf new]; printf(\"b\"); return 0 - 1; }";
+
+/// What it prints.
+const TEXT: &[u8] = b"a\nb";
+
+/// What it shows.
+const LINES: &[u8] = b"out 610a\ndealloc 1 Leaf\ndealloc 2 Leaf\nout 62\nend -1\n";
+
+/// How a source was left on a reader that fails, what the writer took, and how often each of them failed.
+#[derive(Drop)]
+struct Left {
+    answer: Result<Stop, ToolFault>,
+    taken: Vec<u8>,
+    unread: u64,
+    unwritten: u64,
+}
+
+/// Runs a source on a reader that fails.
+fn ran(alloc: Global, source: &[u8], writer: Narrow) -> Result<Left, AllocError> {
+    let mut reader = Counted::new(Broken);
+    let mut writer = Counted::new(writer);
+    let answer = run_text(
+        alloc,
+        source,
+        1_048_576,
+        1_000_000,
+        &mut reader,
+        &mut writer,
+    );
+    Ok(Left {
+        answer,
+        taken: writer.get_ref().taken.clone()?,
+        unread: reader.failures(),
+        unwritten: writer.failures(),
+    })
+}
+
+/// Traces a source on a reader that fails.
+fn traced(alloc: Global, source: &[u8], writer: Narrow) -> Result<Left, AllocError> {
+    let mut reader = Counted::new(Broken);
+    let mut writer = Counted::new(writer);
+    let answer = trace_text(
+        alloc,
+        source,
+        1_048_576,
+        1_000_000,
+        &mut reader,
+        &mut writer,
+    );
+    Ok(Left {
+        answer,
+        taken: writer.get_ref().taken.clone()?,
+        unread: reader.failures(),
+        unwritten: writer.failures(),
+    })
+}
+
+/// A writer that holds what it had room for of the text is told as the fault, once; one with room for it all isn't.
+#[test]
+fn a_writer_that_fails(rt: HostRuntime) -> Result<(), Fail> {
+    let alloc = rt.alloc();
+    let broken = Err(ToolFault::Io(IoFault::Write));
+    for room in 0..TEXT.len() {
+        let left = ran(alloc, SOURCE, with_room(alloc, room))?;
+        assert!(rt; left.answer == broken && left.unwritten == 1);
+        assert!(rt; left.taken.as_slice() == &TEXT[..room]);
+    }
+    for room in 0..LINES.len() {
+        let left = traced(alloc, SOURCE, with_room(alloc, room))?;
+        assert!(rt; left.answer == broken && left.unwritten == 1);
+        assert!(rt; left.taken.as_slice() == &LINES[..room]);
+    }
+    Ok(())
+}
+
+#[test]
+fn a_writer_with_room(rt: HostRuntime) -> Result<(), Fail> {
+    let alloc = rt.alloc();
+    let left = ran(alloc, SOURCE, with_room(alloc, TEXT.len()))?;
+    assert!(rt; left.answer == Ok(Stop::Ended(-1)) && left.unwritten == 0);
+    assert!(rt; left.taken.as_slice() == TEXT);
+    let left = traced(alloc, SOURCE, with_room(alloc, LINES.len()))?;
+    assert!(rt; left.answer == Ok(Stop::Ended(-1)) && left.unwritten == 0);
+    assert!(rt; left.taken.as_slice() == LINES);
+    Ok(())
+}
+
+#[test]
+fn a_flush_that_fails(rt: HostRuntime) -> Result<(), Fail> {
+    let alloc = rt.alloc();
+    let broken = Err(ToolFault::Io(IoFault::Write));
+    let left = ran(alloc, SOURCE, unflushed(alloc))?;
+    assert!(rt; left.answer == broken && left.taken.as_slice() == TEXT);
+    let left = traced(alloc, SOURCE, unflushed(alloc))?;
+    assert!(rt; left.answer == broken && left.taken.as_slice() == LINES);
+    Ok(())
+}
+
+#[test]
+fn a_reader_that_fails(rt: HostRuntime) -> Result<(), Fail> {
+    let alloc = rt.alloc();
+    let source = b"int main(void) { printf(\"a\"); getchar(); printf(\"b\"); }";
+    let broken = Err(ToolFault::Io(IoFault::Read));
+    let left = ran(alloc, source, with_room(alloc, 100))?;
+    assert!(rt; left.answer == broken && left.unread == 1);
+    assert_eq!(rt; left.taken.as_slice(), b"a".as_slice());
+    let left = traced(alloc, source, with_room(alloc, 100))?;
+    assert!(rt; left.answer == broken && left.unread == 1);
+    assert_eq!(rt; left.taken.as_slice(), b"out 61\nio 91 Read\n".as_slice());
+    Ok(())
+}
+
+#[test]
+fn steps_that_go_on(rt: HostRuntime) -> Result<(), Fail> {
+    let alloc = rt.alloc();
+    let code = compile(alloc, b"int main(void){while(1)printf(\"a\");}")?;
+    let mut machine = Machine::new(alloc, code, PlainStore::new(alloc))?;
+    let mut reader = Counted::new(b"".as_slice());
+    let mut writer = Counted::new(Vec::new(alloc));
+    let stop = machine.run(1000, &mut reader, &mut writer)?;
+    assert!(rt; stop == Stop::StepsUsed);
+    let first = writer.get_ref().len();
+    assert!(rt; first > 0);
+    let stop = machine.run(1000, &mut reader, &mut writer)?;
+    assert!(rt; stop == Stop::StepsUsed);
+    assert!(rt; writer.get_ref().len() > first);
+    for byte in writer.get_ref() {
+        assert_eq!(rt; *byte, b'a');
+    }
+    Ok(())
+}
