@@ -17,7 +17,7 @@ fn reads(rt: HostRuntime) {
     let body = main.body.as_ref().expect(&rt, "no body");
     assert!(rt; matches!(
         body.first(),
-        Some(Stmt::Return(17, Some(Expr::Binary(26, BinaryOperator::Add, _, _))))
+        Some(Stmt::Return(17, Some(Expr::Binary(24, BinaryOperator::Add, _, _))))
     ));
 }
 
