@@ -27,7 +27,12 @@ fn checks(rt: HostRuntime) {
     let main = program.functions.get(1).expect(&rt, "no main");
     assert_eq!(rt; (main.slots, main.names), (1, 1));
     let first = program.functions.get(0).expect(&rt, "no function");
-    assert!(rt; matches!(first.body.first(), Some(Command::Return(Some(Value::Number(7))))));
+    assert!(rt;
+        matches!(
+            first.body.first(),
+            Some(Command::Return(Some(Value::Number(7))))
+        )
+    );
 }
 
 #[test]
@@ -38,7 +43,10 @@ fn refuses(rt: HostRuntime) {
     match check(alloc, &unit, &table) {
         Ok(_program) => assert!(rt; false, "nobody knows zork"),
         Err(fault) => {
-            assert_eq!(rt; (fault.number(), fault.name(), fault.at()), (41, "UnknownName", 17));
+            assert_eq!(rt;
+                (fault.number(), fault.name(), fault.at()),
+                (41, "UnknownName", 17)
+            );
         }
     }
 }
@@ -46,5 +54,8 @@ fn refuses(rt: HostRuntime) {
 #[test]
 fn tells_want_of_memory(rt: HostRuntime) {
     let fault = CheckFault::Memory;
-    assert_eq!(rt; (fault.number(), fault.name(), fault.at()), (51, "Memory", 0));
+    assert_eq!(rt;
+        (fault.number(), fault.name(), fault.at()),
+        (51, "Memory", 0)
+    );
 }

@@ -14,11 +14,16 @@ fn tree(alloc: Global, source: &[u8]) -> Option<TranslationUnit> {
 #[test]
 fn tells(rt: HostRuntime) {
     let alloc = rt.alloc();
-    let unit = tree(alloc, b"int f(void); int f(int a) { } int main(void) { }").expect(&rt, "no tree");
+    let unit = tree(alloc, b"int f(void); int f(int a) { } int main(void) { }").expect(
+        &rt, "no tree",
+    );
     match ClassTable::build(alloc, &unit) {
         Ok(_table) => assert!(rt; false, "two kinds of function"),
         Err(fault) => {
-            assert_eq!(rt; (fault.number(), fault.name(), fault.at()), (21, "Duplicate", 17));
+            assert_eq!(rt;
+                (fault.number(), fault.name(), fault.at()),
+                (21, "Duplicate", 17)
+            );
         }
     }
 }

@@ -7,7 +7,10 @@ use arc_parse::parse::parse;
 #[test]
 fn reads(rt: HostRuntime) {
     let alloc = rt.alloc();
-    let tokens = lex(alloc, b"int main(void) { return 1 + 2; } @interface A : B @end");
+    let tokens = lex(
+        alloc,
+        b"int main(void) { return 1 + 2; } @interface A : B @end",
+    );
     let tokens = tokens.expect(&rt, "no tokens");
     let unit = parse(alloc, &tokens).expect(&rt, "no tree");
     let interface = unit.interfaces.first().expect(&rt, "no interface");
@@ -15,17 +18,22 @@ fn reads(rt: HostRuntime) {
     let main = unit.functions.first().expect(&rt, "no function");
     assert_eq!(rt; (main.at, main.result), (4, Kind::Int));
     let body = main.body.as_ref().expect(&rt, "no body");
-    assert!(rt; matches!(
-        body.first(),
-        Some(Stmt::Return(17, Some(Expr::Binary(24, BinaryOperator::Add, _, _))))
-    ));
+    assert!(rt;
+        matches!(
+            body.first(),
+            Some(Stmt::Return(17, Some(Expr::Binary(24, BinaryOperator::Add, _, _))))
+        )
+    );
 }
 
 #[test]
 fn refuses(rt: HostRuntime) {
     let alloc = rt.alloc();
     let tokens = lex(alloc, b"int main(void) { 1 + ; }").expect(&rt, "no tokens");
-    assert_eq!(rt; parse(alloc, &tokens).err(), Some(ParseFault::Unexpected(21)));
+    assert_eq!(rt;
+        parse(alloc, &tokens).err(),
+        Some(ParseFault::Unexpected(21))
+    );
 }
 
 #[test]
