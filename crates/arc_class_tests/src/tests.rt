@@ -1,6 +1,6 @@
 //! Sources, and what their tables are.
 use arc_ast::tree::{Sign, TranslationUnit};
-use arc_class::table::{ClassId, ClassTable, MethodId};
+use arc_class::table::{ClassId, ClassTable, MethodId, Sel};
 use arc_lex::lex::lex;
 use arc_parse::parse::parse;
 use std::alloc::Global;
@@ -38,8 +38,12 @@ fn registers(rt: HostRuntime) {
     let alloc = rt.alloc();
     let unit = tree(alloc, TWO_CLASSES).expect(&rt, "no tree");
     let mut table = ClassTable::build(alloc, &unit).expect(&rt, "no table");
-    let selector = table.sel_register_name(b"zip:").expect(&rt, "no memory");
-    assert_eq!(rt; table.sel_get_name(selector), b"zip:".as_slice());
+    let first = table.sel_register_name(b"zip:").expect(&rt, "no memory");
+    let second = table.sel_register_name(b"zip:").expect(&rt, "no memory");
+    let other = table.sel_register_name(b"zip").expect(&rt, "no memory");
+    assert_eq!(rt; (first, second, other), (Sel(1), Sel(1), Sel(2)));
+    assert_eq!(rt; table.sel_get_name(first), b"zip:".as_slice());
+    assert_eq!(rt; table.sel_get_name(other), b"zip".as_slice());
     let selector = table.selector(b"f").expect(&rt, "no selector");
     let found = table.method(ClassId(2), Sign::Instance, selector);
     assert_eq!(rt; found, Some(MethodId(1)));

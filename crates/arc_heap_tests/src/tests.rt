@@ -8,7 +8,7 @@ use std::test::Fail;
 fn blocks_have_the_least_size(rt: HostRuntime) -> Result<(), Fail> {
     let mut store = PlainStore::new(rt.alloc());
     let rows = [
-        (1, 1),
+        (3, 1),
         (4, 2),
         (5, 3),
         (128, 5),

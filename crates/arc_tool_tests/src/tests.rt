@@ -1,4 +1,4 @@
-//! What no row of arc_rows shows: devices that fail, want of memory, and long sources.
+//! What no row of arc_rows shows: devices that fail, want of memory, steps that go on, and long sources.
 
 mod devices;
 mod failing;

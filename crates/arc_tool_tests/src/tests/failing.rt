@@ -2,7 +2,10 @@
 use crate::tests::devices::{Broken, Narrow, unflushed, with_room};
 use arc_code::code::IoFault;
 use arc_code::counted::Counted;
+use arc_heap::plain::PlainStore;
+use arc_machine::machine::Machine;
 use arc_machine::stop::Stop;
+use arc_tool::compile::compile;
 use arc_tool::run::{ToolFault, run_text};
 use arc_tool::trace::trace_text;
 use std::alloc::{AllocError, Global};
@@ -119,5 +122,25 @@ fn a_reader_that_fails(rt: HostRuntime) -> Result<(), Fail> {
     let left = traced(alloc, source, with_room(alloc, 100))?;
     assert!(rt; left.answer == broken && left.unread == 1);
     assert_eq!(rt; left.taken.as_slice(), b"out 61\nio 91 Read\n".as_slice());
+    Ok(())
+}
+
+#[test]
+fn steps_that_go_on(rt: HostRuntime) -> Result<(), Fail> {
+    let alloc = rt.alloc();
+    let code = compile(alloc, b"int main(void){while(1)printf(\"a\");}")?;
+    let mut machine = Machine::new(alloc, code, PlainStore::new(alloc))?;
+    let mut reader = Counted::new(b"".as_slice());
+    let mut writer = Counted::new(Vec::new(alloc));
+    let stop = machine.run(1000, &mut reader, &mut writer)?;
+    assert!(rt; stop == Stop::StepsUsed);
+    let first = writer.get_ref().len();
+    assert!(rt; first > 0);
+    let stop = machine.run(1000, &mut reader, &mut writer)?;
+    assert!(rt; stop == Stop::StepsUsed);
+    assert!(rt; writer.get_ref().len() > first);
+    for byte in writer.get_ref() {
+        assert_eq!(rt; *byte, b'a');
+    }
     Ok(())
 }
