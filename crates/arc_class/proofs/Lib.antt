@@ -13,3 +13,4 @@ pub mod Parts
 pub mod Tables
 pub mod FieldLists
 pub mod Runnings
+pub mod Digits

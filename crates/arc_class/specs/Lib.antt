@@ -12,3 +12,4 @@ pub mod Look
 pub mod Walk
 pub mod Kept
 pub mod Entries
+pub mod Numbered

@@ -10,6 +10,7 @@ mod kept;
 pub mod law;
 mod look;
 mod methods;
+mod numbered;
 mod root;
 pub mod table;
 mod walk;
