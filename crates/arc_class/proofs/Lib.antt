@@ -14,3 +14,5 @@ pub mod Tables
 pub mod FieldLists
 pub mod Runnings
 pub mod Digits
+pub mod Holding
+pub mod Chains

@@ -6,6 +6,7 @@ pub mod Classes
 pub mod Fields
 pub mod Running
 pub mod ClassRules
+pub mod Lookups
 pub mod Table
 pub mod Fault
 pub mod Look
@@ -13,3 +14,4 @@ pub mod Walk
 pub mod Kept
 pub mod Entries
 pub mod Numbered
+pub mod Owners

@@ -11,6 +11,7 @@ pub mod law;
 mod look;
 mod methods;
 mod numbered;
+mod owners;
 mod root;
 pub mod table;
 mod walk;

@@ -6,6 +6,9 @@ ghost use Rattle.arc_class.specs.Numbered.{at_number, IsWithin, Puts};
 
 use crate::fault::ClassFault;
 
+/// How many binary digits the numbers have that are kept.
+pub const LEVELS: usize = 20;
+
 /// A part of a map: the parts that have its even numbers and its odd ones, halved, by their own
 /// numbers. Behind the last binary digit these are the map's values.
 #[derive(Clone, Copy)]
