@@ -8,7 +8,7 @@ use Rattle.arc_class.specs.declared.owners.Maps.{Maps}
 use Rattle.arc_class.specs.declared.owners.Owners.{Owners}
 use Rattle.arc_class.specs.declared.numbered.TheConstants.{LEVELS}
 use Rattle.arc_class.specs.Classes.{or_then, nearest, number_among}
-use Rattle.arc_class.specs.Numbered.{at_number}
+use Rattle.arc_class.specs.Numbered.{at_number, IsWithin}
 use Rattle.arc_class.specs.Owners.{names_in, at_number_of, in_map, IsMap, Keeps, Adds, view_of, views, IsOwners, joined, view_at, has_at, with_own, own_of, Tells}
 use Rattle.arc_class.proofs.Digits.{none_within, at_none, slice_get_left}
 use Rattle.arc_class.proofs.Keeping.{or_none}
@@ -21,7 +21,7 @@ nothing_at maps (Some number) = at_none LEVELS maps.nodes.items number
 
 pub empty_is_map : (maps : Maps) (map : Map) → map.first ≡ None → IsMap maps map
 empty_is_map maps map e = record {
-  within = let P : Option ℕ → Type 0 = λ first. Rattle.arc_class.specs.Numbered.IsWithin LEVELS maps.nodes.items first in subst P (sym e) (none_within LEVELS maps.nodes.items);
+  within = let P : Option ℕ → Type 0 = λ first. IsWithin LEVELS maps.nodes.items first in subst P (sym e) (none_within LEVELS maps.nodes.items);
   unnamed = λ number le lt. ap (λ first. at_number LEVELS maps.nodes.items first number) e ∙ at_none LEVELS maps.nodes.items number;
 }
 
@@ -146,3 +146,13 @@ module _ {X : Type 0} (above : ℕ → Option ℕ) (own : ℕ → List ℕ → O
         go (inr h) =
             let here : class ≤ n = omega (arith, h.0) in
             ap (λ c. nearest n above (λ c. own c name) (Some c)) h.0 ∙ further_up superclass up view h.1 n here name
+
+pub known_is_map : (owners : Owners) (number : ℕ) (made : Option Map) → IsOwners owners → slice_get owners.classes.items number ≡ Some made → IfSome made (λ m. IsMap owners.maps m)
+known_is_map owners number None h e = tt
+known_is_map owners number (Some m) h e = h.maps number m e
+
+pub known_view : (owners : Owners) (number : ℕ) (made : Option Map) → slice_get owners.classes.items number ≡ Some made → view_of owners.maps made ≡ view_at (views owners) (Some number)
+known_view owners number made e = ap joined (sym (slice_get-map (view_of owners.maps) owners.classes.items number ∙ ap (option_map (view_of owners.maps)) e))
+
+pub no_view : (owners : Owners) (number : ℕ) → slice_get owners.classes.items number ≡ None → None ≡ view_at (views owners) (Some number)
+no_view owners number e = ap joined (sym (slice_get-map (view_of owners.maps) owners.classes.items number ∙ ap (option_map (view_of owners.maps)) e))

@@ -16,3 +16,4 @@ pub mod Runnings
 pub mod Digits
 pub mod Holding
 pub mod Chains
+pub mod Nearests

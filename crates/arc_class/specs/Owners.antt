@@ -1,12 +1,14 @@
 -- For each class and each name, the nearest class from that one up that has the name.
-use Rattle.std.specs.Prelude.{◌≡◌, ℕ, ◌<◌, ◌≤◌, ◌^◌, Bool, List, [], ◌∷◌, length, map, slice_get, Option, Some, None, if◌then◌else◌}
+use Rattle.std.specs.Prelude.{◌≡◌, ℕ, zero, suc, ◌<◌, ◌≤◌, ◌^◌, Bool, List, [], ◌∷◌, length, map, slice_get, Option, Some, None, is_some, if◌then◌else◌}
+use Rattle.arc_ast.specs.declared.tree.Sign.{Sign}
+use Rattle.arc_class.specs.declared.table.Entry.{Entry}
 use Rattle.arc_class.specs.declared.owners.Map.{Map}
 use Rattle.arc_class.specs.declared.owners.Maps.{Maps}
 use Rattle.arc_class.specs.declared.owners.Owners.{Owners}
 use Rattle.arc_class.specs.declared.numbered.TheConstants.{LEVELS}
 use Rattle.arc_class.specs.Classes.{or_then, nearest, number_among}
 use Rattle.arc_class.specs.Numbered.{at_number, IsWithin}
-use Rattle.arc_class.specs.Lookups.{names_of}
+use Rattle.arc_class.specs.Lookups.{head_at, names_of}
 
 -- the names that maps have, in the order of their numbers
 abbrev pub names_in : Maps → List (List ℕ)
@@ -82,3 +84,8 @@ own_of own (Some class) = own class
 abbrev pub Tells : {X : Type 0} → (count : ℕ) → (above : ℕ → Option ℕ) → (own : ℕ → List ℕ → Option X) → List (Option (List ℕ → Option ℕ)) → Type 0
 Tells count above own all = (class : ℕ) (view : List ℕ → Option ℕ) → slice_get all class ≡ Some (Some view) → (name : List ℕ)
     → nearest count above (λ c. own c name) (Some class) ≡ own_of (λ c. own c name) (view name)
+
+-- what is known of a class behind others by its methods of a sign; the root, which is the first, has all
+abbrev pub entry_view : (class : ℕ) → Entry → Sign → List (Option (List ℕ → Option ℕ)) → Option (List ℕ → Option ℕ)
+entry_view zero e sign all = Some (λ name. Some 0)
+entry_view (suc n) e sign all = with_own (λ name. is_some (head_at e.methods sign name)) (suc n) (view_at all e.superclass)

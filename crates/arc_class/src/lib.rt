@@ -11,6 +11,7 @@ pub mod law;
 mod look;
 mod methods;
 mod numbered;
+mod nearest;
 mod owners;
 mod root;
 pub mod table;
