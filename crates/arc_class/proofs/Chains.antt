@@ -9,7 +9,7 @@ use Rattle.arc_class.specs.declared.owners.Owners.{Owners}
 use Rattle.arc_class.specs.declared.numbered.TheConstants.{LEVELS}
 use Rattle.arc_class.specs.Classes.{or_then, nearest, number_among}
 use Rattle.arc_class.specs.Numbered.{at_number, IsWithin}
-use Rattle.arc_class.specs.Owners.{names_in, at_number_of, in_map, IsMap, Keeps, Adds, view_of, views, IsOwners, joined, view_at, has_at, with_own, own_of, Tells}
+use Rattle.arc_class.specs.Owners.{names_in, at_number_of, in_map, IsMap, Keeps, Adds, view_of, views, IsOwners, joined, view_at, has_at, with_own, own_of, owner_by, Tells}
 use Rattle.arc_class.proofs.Digits.{none_within, at_none, slice_get_left}
 use Rattle.arc_class.proofs.Keeping.{or_none}
 
@@ -156,3 +156,39 @@ known_view owners number made e = ap joined (sym (slice_get-map (view_of owners.
 
 pub no_view : (owners : Owners) (number : ℕ) → slice_get owners.classes.items number ≡ None → None ≡ view_at (views owners) (Some number)
 no_view owners number e = ap joined (sym (slice_get-map (view_of owners.maps) owners.classes.items number ∙ ap (option_map (view_of owners.maps)) e))
+
+-- ---- what is nearest, by the class that has it
+
+owned_again : {X : Type 0} (own : ℕ → Option X) (o : Option ℕ) → own_of own (own_of (λ c. option_map (λ found. c) (own c)) o) ≡ own_of own o
+owned_again own None = refl
+owned_again {X} own (Some c) = go (own c) refl
+  where
+    go : (x : Option X) → own c ≡ x → own_of own (option_map (λ found. c) x) ≡ own c
+    go None e = sym e
+    go (Some a) e = refl
+
+nearest_owner : {X : Type 0} (n : ℕ) (above : ℕ → Option ℕ) (own : ℕ → Option X) (from : Option ℕ) → nearest n above own from ≡ own_of own (nearest n above (λ c. option_map (λ found. c) (own c)) from)
+nearest_owner zero above own None = refl
+nearest_owner (suc n) above own None = refl
+nearest_owner zero above own (Some c) = sym (owned_again own (Some c))
+nearest_owner {X} (suc n) above own (Some c) = go (own c) refl (nearest_owner n above own (above c))
+  where
+    go : (x : Option X) → own c ≡ x → nearest n above own (above c) ≡ own_of own (nearest n above (λ c. option_map (λ found. c) (own c)) (above c))
+        → or_then x (nearest n above own (above c)) ≡ own_of own (or_then (option_map (λ found. c) x) (nearest n above (λ c. option_map (λ found. c) (own c)) (above c)))
+    go None e h = h
+    go (Some a) e h = sym e
+
+pub told_nearest : {X : Type 0} (count : ℕ) (above : ℕ → Option ℕ) (own : ℕ → List ℕ → Option X) (all : List (Option (List ℕ → Option ℕ))) → Tells count above (owner_by own) all
+    → (number : ℕ) (view : List ℕ → Option ℕ) → slice_get all number ≡ Some (Some view) → (name : List ℕ) → nearest count above (λ c. own c name) (Some number) ≡ own_of (λ c. own c name) (view name)
+told_nearest count above own all t number view e name =
+    nearest_owner count above (λ c. own c name) (Some number) ∙ ap (own_of (λ c. own c name)) (t number view e name) ∙ owned_again (λ c. own c name) (view name)
+
+pub told_at : {X : Type 0} (count : ℕ) (above : ℕ → Option ℕ) (own : ℕ → List ℕ → Option X) (all : List (Option (List ℕ → Option ℕ))) → Tells count above (owner_by own) all
+    → (number : ℕ) → is_some (view_at all (Some number)) ≡ true → (name : List ℕ) (found : Option ℕ) → found ≡ has_at (view_at all (Some number)) name
+    → own_of (λ c. own c name) found ≡ nearest count above (λ c. own c name) (Some number)
+told_at {X} count above own all t number known name found is = ap (own_of (λ c. own c name)) is ∙ go (slice_get all number) refl known
+  where
+    go : (o : Option (Option (List ℕ → Option ℕ))) → slice_get all number ≡ o → is_some (joined o) ≡ true → own_of (λ c. own c name) (has_at (joined o) name) ≡ nearest count above (λ c. own c name) (Some number)
+    go None e h = absurd (true≢false (sym h))
+    go (Some None) e h = absurd (true≢false (sym h))
+    go (Some (Some view)) e h = sym (told_nearest count above own all t number view e name)

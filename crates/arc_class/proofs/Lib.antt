@@ -17,3 +17,4 @@ pub mod Digits
 pub mod Holding
 pub mod Chains
 pub mod Nearests
+pub mod Asking

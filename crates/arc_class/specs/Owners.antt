@@ -1,6 +1,7 @@
 -- For each class and each name, the nearest class from that one up that has the name.
-use Rattle.std.specs.Prelude.{◌≡◌, ℕ, zero, suc, ◌<◌, ◌≤◌, ◌^◌, Bool, List, [], ◌∷◌, length, map, slice_get, Option, Some, None, is_some, if◌then◌else◌}
+use Rattle.std.specs.Prelude.{◌≡◌, ℕ, zero, suc, ◌<◌, ◌≤◌, ◌^◌, Bool, List, [], ◌∷◌, length, map, slice_get, Option, Some, None, is_some, option_map, ◌-◌, if◌then◌else◌}
 use Rattle.arc_ast.specs.declared.tree.Sign.{Sign}
+use Rattle.arc_class.specs.declared.fields.ClassFields.{ClassFields}
 use Rattle.arc_class.specs.declared.table.Entry.{Entry}
 use Rattle.arc_class.specs.declared.owners.Map.{Map}
 use Rattle.arc_class.specs.declared.owners.Maps.{Maps}
@@ -8,7 +9,7 @@ use Rattle.arc_class.specs.declared.owners.Owners.{Owners}
 use Rattle.arc_class.specs.declared.numbered.TheConstants.{LEVELS}
 use Rattle.arc_class.specs.Classes.{or_then, nearest, number_among}
 use Rattle.arc_class.specs.Numbered.{at_number, IsWithin}
-use Rattle.arc_class.specs.Lookups.{head_at, names_of}
+use Rattle.arc_class.specs.Lookups.{head_at, superclass_among, own_result_in, superclass_of_fields, own_field_in, names_of}
 
 -- the names that maps have, in the order of their numbers
 abbrev pub names_in : Maps → List (List ℕ)
@@ -80,6 +81,10 @@ abbrev pub own_of : {X : Type 0} → (own : ℕ → Option X) → Option ℕ →
 own_of own None = None
 own_of own (Some class) = own class
 
+-- a class, where it has something of its own
+abbrev pub owner_by : {X : Type 0} → (own : ℕ → List ℕ → Option X) → (class : ℕ) → List ℕ → Option ℕ
+owner_by own class name = option_map (λ found. class) (own class name)
+
 -- where the maps of classes are known, they say which class has the nearest of a name
 abbrev pub Tells : {X : Type 0} → (count : ℕ) → (above : ℕ → Option ℕ) → (own : ℕ → List ℕ → Option X) → List (Option (List ℕ → Option ℕ)) → Type 0
 Tells count above own all = (class : ℕ) (view : List ℕ → Option ℕ) → slice_get all class ≡ Some (Some view) → (name : List ℕ)
@@ -89,3 +94,11 @@ Tells count above own all = (class : ℕ) (view : List ℕ → Option ℕ) → s
 abbrev pub entry_view : (class : ℕ) → Entry → Sign → List (Option (List ℕ → Option ℕ)) → Option (List ℕ → Option ℕ)
 entry_view zero e sign all = Some (λ name. Some 0)
 entry_view (suc n) e sign all = with_own (λ name. is_some (head_at e.methods sign name)) (suc n) (view_at all e.superclass)
+
+-- The owners of the methods of a sign, and of the fields: which class has the nearest, by what is known of each class.
+abbrev pub TellsMethods : List Entry → Sign → Owners → Type 0
+TellsMethods entries sign owners =
+    Tells (length entries - 1) (superclass_among entries) (owner_by (λ class selector. own_result_in class (slice_get entries class) sign selector)) (views owners)
+
+abbrev pub TellsFields : List ClassFields → Owners → Type 0
+TellsFields classes owners = Tells (length classes - 1) (superclass_of_fields classes) (owner_by (λ class name. own_field_in (slice_get classes class) name)) (views owners)

@@ -8,6 +8,7 @@ use Rattle.arc_ast.specs.declared.tree.Sign.{Sign}
 use Rattle.arc_ast.specs.declared.tree.Sign.TheVariants as signs
 use Rattle.arc_ast.specs.Tree.{UnitTree}
 use Rattle.arc_spec.specs.Classes.{classes_of, lookup, descends}
+use Rattle.arc_class.specs.declared.owners.Owners.{Owners}
 use Rattle.arc_class.specs.declared.table.ClassTable.{ClassTable}
 use Rattle.arc_class.specs.declared.table.Declared.{Declared}
 use Rattle.arc_class.specs.declared.table.FoundField.{FoundField}
@@ -32,6 +33,11 @@ superclass_in table = superclass_among table.entries.items
 
 abbrev pub result_in_table : ClassTable → Option ℕ → Sign → List ℕ → Option Kind
 result_in_table table = result_among table.entries.items
+
+-- which class has the nearest method of a sign, by a table
+abbrev pub owners_in : ClassTable → Sign → Owners
+owners_in table signs.Class = table.class_methods
+owners_in table signs.Instance = table.instance_methods
 
 -- what a message to an object gives of which no class is known
 abbrev pub any_result_in : ClassTable → List ℕ → Option Kind

@@ -1,8 +1,8 @@
 //! Which class, from each one up, has the nearest method or field of each name.
-ghost use Rattle.std.specs.Prelude.{◌≡◌, ◌-◌, ◌++◌, ◌∷◌, [], None, length, slice_get, IfOk, IfErr, OnOk};
+ghost use Rattle.std.specs.Prelude.{◌≡◌, ◌++◌, ◌∷◌, [], None, length, IfOk, IfErr, OnOk};
 ghost use Rattle.arc_class.specs.declared.fault.ClassFault.TheVariants.{Memory};
-ghost use Rattle.arc_class.specs.Lookups.{superclass_among, own_result_in, superclass_of_fields, own_field_in};
-ghost use Rattle.arc_class.specs.Owners.{IsOwners, views, entry_view, Tells};
+ghost use Rattle.arc_class.specs.Lookups.{superclass_among};
+ghost use Rattle.arc_class.specs.Owners.{IsOwners, views, entry_view, TellsMethods, TellsFields};
 
 use crate::fault::ClassFault;
 use crate::fields::ClassFields;
@@ -40,8 +40,7 @@ pub fn method_owners<'a>(
     sign: Sign,
 ) -> Result<Owners<'a>, ClassFault>
     requires { superclass_among entries.now 0 ≡ None }
-    ensures tells { IfOk result (λ owners. Tells (length entries.now - 1) (superclass_among entries.now)
-        (λ class selector. own_result_in class (slice_get entries.now class) sign selector) (views owners)) }
+    ensures tells { IfOk result (λ owners. TellsMethods entries.now sign owners) }
     ensures refused { IfErr result (λ fault. fault ≡ Memory) }
 {
     let mut owners = Owners::new(alloc);
@@ -57,8 +56,7 @@ pub fn field_owners<'a>(
     alloc: Global,
     classes: &[ClassFields<'a>],
 ) -> Result<Owners<'a>, ClassFault>
-    ensures tells { IfOk result (λ owners. Tells (length classes.now - 1) (superclass_of_fields classes.now)
-        (λ class name. own_field_in (slice_get classes.now class) name) (views owners)) }
+    ensures tells { IfOk result (λ owners. TellsFields classes.now owners) }
     ensures refused { IfErr result (λ fault. fault ≡ Memory) }
 {
     let mut owners = Owners::new(alloc);

@@ -1,7 +1,7 @@
 use Rattle.std.proofs.Common.{◌≡◌, ◌-◌, ◌+◌, ◌≤◌, ◌∙◌, Some, length, slice_get, refl, sym, ap, arith}
 use Rattle.std.proofs.lemmas.Option.{slice_get_read}
 use Rattle.arc_class.specs.Lookups.{superclass_of_fields, own_field_in}
-use Rattle.arc_class.specs.Owners.{views}
+use Rattle.arc_class.specs.Owners.{views, owner_by}
 use Rattle.arc_class.proofs.Chains.{tells_all}
 use Rattle.arc_class.proofs.Nearests.{follows_none, one_more_class, field_turn}
 use Rattle.arc_class.proofs.nearest.field_owners.Goals as goal
@@ -12,7 +12,7 @@ loop-known-init c =
     record {
       owners = c.new-owners.ensures.owners;
       counted = ap length c.new-owners.ensures.none;
-      follows = follows_none (superclass_of_fields all) (λ class name. own_field_in (slice_get all class) name) (views c.new-owners.result) c.new-owners.ensures.none;
+      follows = follows_none (superclass_of_fields all) (owner_by (λ class name. own_field_in (slice_get all class) name)) (views c.new-owners.result) c.new-owners.ensures.none;
     }
 
 pub loop-known-preserved : goal.loop-known-preserved
@@ -34,4 +34,4 @@ pub returns-clause-tells : goal.returns-clause-tells
 returns-clause-tells c =
     let all = c.args.classes.now in
     let few : length (views c.loop-known.owners) ≤ length all - 1 + 1 = omega (arith, c.loop-known.invariant.counted, c.loop-known.auto.known-index-end) in
-    tells_all (superclass_of_fields all) (λ class name. own_field_in (slice_get all class) name) (views c.loop-known.owners) (length all - 1) few c.loop-known.invariant.follows
+    tells_all (superclass_of_fields all) (owner_by (λ class name. own_field_in (slice_get all class) name)) (views c.loop-known.owners) (length all - 1) few c.loop-known.invariant.follows

@@ -1,14 +1,26 @@
-use Rattle.std.proofs.Common.{◌≡◌, sym, ap, ◌∙◌, option_map}
+use Rattle.std.proofs.Common.{◌≡◌, List, sym, ap, subst, ◌∙◌, option_map}
 use Rattle.std.proofs.lemmas.Result.{IfOk-weaker}
 use Rattle.arc_ast.specs.Tree.{unit_tree}
+use Rattle.arc_class.specs.declared.fields.ClassFields.{ClassFields}
 use Rattle.arc_class.specs.Broken.{first}
 use Rattle.arc_class.specs.ClassRules.{broken}
 use Rattle.arc_class.specs.Fault.{told}
 use Rattle.arc_class.specs.Functions.{broken_functions}
 use Rattle.arc_class.specs.Look.{Sums}
+use Rattle.arc_class.specs.Owners.{TellsFields}
 use Rattle.arc_class.specs.Walk.{missing_in}
 use Rattle.arc_class.proofs.Answering.{in_classes, refuses, whole_known, nothing, missing_kept}
 use Rattle.arc_class.proofs.table.ClassTable.build.Goals as goal
+
+pub classes_fault-requires-clause-owners : goal.classes_fault-requires-clause-owners
+classes_fault-requires-clause-owners c =
+    let Told : List ClassFields → Type 0 = λ fields. TellsFields fields c.in_ok-owners.owners in
+    subst Told (c.deref-3.ensures.value ∙ sym c.deref-4.ensures.value) c.in_ok-owners.ensures.tells
+
+pub of-requires-clause-owners : goal.of-requires-clause-owners
+of-requires-clause-owners c =
+    let Told : List ClassFields → Type 0 = λ fields. TellsFields fields c.in_ok-owners.owners in
+    subst Told c.deref-3.ensures.value c.in_ok-owners.ensures.tells
 
 pub returns-in-Some-default-clause-refused : goal.returns-in-Some-default-clause-refused
 returns-in-Some-default-clause-refused c =
