@@ -18,7 +18,8 @@ use Rattle.arc_check.specs.Checked as checked
 use Rattle.arc_check.specs.Resolving.{declared, resolved_variables, resolved_stmt, resolved_stmts, resolved_body, with_function, resolved_functions}
 use Rattle.arc_check.specs.Scopes.{Known, Scope, declare, with_parameters, leave, behind, behind_all, outermost}
 use Rattle.arc_check.proofs.Lists.{drop_turn, drop_end}
-use Rattle.arc_check.proofs.Trees.{block_tree, sequence_command}
+use Rattle.arc_ast.proofs.Trees.{block_tree}
+use Rattle.arc_check.proofs.Trees.{sequence_command}
 
 ahead_of-push : (all : List Command) (a : Command) (others : Commands) → ahead_of (all ++ a ∷ []) others ≡ ahead_of all (and_command (checked.command a) others)
 ahead_of-push [] a others = refl

@@ -25,7 +25,7 @@ use Rattle.arc_check.specs.Rules.{all_taken, arrow_kind, at_if, binary_kind, bro
 use Rattle.arc_check.specs.Scopes.{Scope, callee, class_of, class_receiver, is_printf, own_class, result_kind, sent_class, static_class, super_class, super_kind}
 use Rattle.arc_check.proofs.Counting.{counted_both, past_is}
 use Rattle.arc_check.proofs.Lists.{drop_turn}
-use Rattle.arc_check.proofs.Trees.{call_tree, send_tree, super_tree}
+use Rattle.arc_ast.proofs.Trees.{call_tree, send_tree, send_super_tree}
 
 -- what is told of an expression, and then one rule more of its kind
 pub with_rule : (s : Scope) (all : List Broken) (a : ExprTree) (rule : Option Kind → ℕ → List Broken) (fault new : Option Broken) (kind : Option Kind) (at : ℕ) → fault ≡ first all → kind ≡ kind_of s a → at ≡ place a
@@ -55,7 +55,7 @@ judges_send s before a at part receiver r selector arguments bytes all judged e 
 
 pub judges_super : (s : Scope) (before : Taken) (a : Expr) (at part super_at : ℕ) (selector : Vec ℕ Global) (arguments : Vec Expr Global) (bytes : List ℕ) (all : List Expr) (judged : Judged) → a ≡ ast.SendSuper at part super_at selector arguments
     → bytes ≡ selector.items → all ≡ arguments.items → ((at : ℕ) → Judges s before (SendSuper at part super_at bytes (expr_trees all)) judged) → Judges s before (expr_tree a) judged
-judges_super s before a at part super_at selector arguments bytes all judged e n m h = rw (e, super_tree at part super_at selector arguments, sym n, sym m) (h at)
+judges_super s before a at part super_at selector arguments bytes all judged e n m h = rw (e, send_super_tree at part super_at selector arguments, sym n, sym m) (h at)
 
 -- ---- `self`
 

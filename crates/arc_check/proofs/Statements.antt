@@ -9,7 +9,7 @@ use Rattle.arc_class.proofs.Firsts.{first_turn}
 use Rattle.arc_check.specs.Rules.{broken_parameters, broken_stmt, broken_stmts, broken_body, broken_function, broken_functions}
 use Rattle.arc_check.specs.Scopes.{Known, Scope, outermost, with_parameters, leave, behind, behind_all}
 use Rattle.arc_check.proofs.Lists.{drop_turn}
-use Rattle.arc_check.proofs.Trees.{block_tree}
+use Rattle.arc_ast.proofs.Trees.{block_tree}
 
 -- one statement more is told
 pub statements_turn : (gives_nothing : Bool) (s after : Scope) (xs : List Stmt) (i : ℕ) (x : Stmt) (so_far one now whole : Option Broken) → i < length xs → x ≡ get_or xs i x → one ≡ first (broken_stmt gives_nothing s (stmt_tree x))

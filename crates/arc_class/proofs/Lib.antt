@@ -1,7 +1,6 @@
 pub mod Names
 pub mod Lists
 pub mod Firsts
-pub mod Trees
 pub mod Scopes
 pub mod Walks
 pub mod Looks

@@ -13,7 +13,7 @@ use Rattle.arc_class.specs.Bodies.{Missing, broken_if, broken_expr, broken_exprs
 use Rattle.arc_class.specs.Functions.{broken_functions}
 use Rattle.arc_class.proofs.Firsts.{first_turn, first_both}
 use Rattle.arc_class.proofs.Lists.{drop_turn}
-use Rattle.arc_class.proofs.Trees.{call_tree, send_tree, send_super_tree, block_tree}
+use Rattle.arc_ast.proofs.Trees.{call_tree, send_tree, send_super_tree, block_tree}
 
 pub expressions_turn : (L : Missing) (xs : List Expr) (i : ℕ) (x : Expr) (so_far one now whole : Option Broken) → i < length xs → x ≡ get_or xs i x → one ≡ first (broken_expr L (expr_tree x)) → now ≡ earlier_of so_far one
     → whole ≡ earlier_of so_far (first (broken_exprs L (expr_trees (drop i xs)))) → whole ≡ earlier_of now (first (broken_exprs L (expr_trees (drop (i + 1) xs))))

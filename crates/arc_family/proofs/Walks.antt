@@ -8,7 +8,7 @@ use Rattle.arc_ast.specs.Tree.{expr_tree, expr_trees, stmt_tree, stmt_trees}
 use Rattle.arc_class.specs.Broken.{Broken, first, earlier_of}
 use Rattle.arc_class.proofs.Firsts.{first_turn}
 use Rattle.arc_family.specs.Rules.{is_itself, broken_message, broken_expr, broken_exprs, broken_stmt, broken_stmts}
-use Rattle.arc_class.proofs.Trees.{call_tree, send_tree, send_super_tree, block_tree}
+use Rattle.arc_ast.proofs.Trees.{call_tree, send_tree, send_super_tree, block_tree}
 
 drop_turn : {A : Type 0} (xs : List A) (i : ℕ) (x : A) → i < length xs → x ≡ get_or xs i x → drop i xs ≡ x ∷ drop (i + 1) xs
 drop_turn xs i x l e = drop-cons xs i x l ∙ rw (sym e, add-one) refl

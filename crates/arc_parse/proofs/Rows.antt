@@ -15,31 +15,6 @@ use Rattle.arc_parse.specs.Grammar.{and_part}
 use Rattle.arc_parse.specs.ExprRules.{Sent, read, expr, parts, part_by, sent_by}
 use Rattle.arc_parse.specs.Views.{AppendsArguments, AppendsParts}
 
-abbrev row_of : Expr → (n : Count) × Row_of-Expr n
-row_of (Call' at called _ row) = (_, row)
-row_of (Send' at part q a selector _ row) = (_, row)
-row_of (SendSuper' at part super_at selector _ row) = (_, row)
-row_of _ = (_, end_of-Expr)
-
-row_is : (n : _) (row : Row_of-Expr n) → row_exprs row ≡ expr_trees (items-the_row-Expr n row)
-row_is n end_of-Expr = refl
-row_is n (more_of-Expr a row) = ap (and_expr (expr_tree a)) (row_is _ row)
-
-pub call_tree : (at : ℕ) (called : Vec ℕ Global) (all : Vec Expr Global) → expr_tree (Call at called all) ≡ tree.Call at called.items (expr_trees all.items)
-call_tree at called all =
-    let row = row_of (Call at called all) in
-    ap (tree.Call at called.items) (row_is row.0 row.1 ∙ ap expr_trees (items_hidden-the_row-Expr-0 all))
-
-pub send_tree : (at part : ℕ) (object : Box Expr Global) (selector : Vec ℕ Global) (all : Vec Expr Global) → expr_tree (Send at part object selector all) ≡ tree.Send at part (expr_tree object.value) selector.items (expr_trees all.items)
-send_tree at part object selector all =
-    let row = row_of (Send at part object selector all) in
-    ap (tree.Send at part (expr_tree object.value) selector.items) (row_is row.0 row.1 ∙ ap expr_trees (items_hidden-the_row-Expr-0 all))
-
-pub send_super_tree : (at part super_at : ℕ) (selector : Vec ℕ Global) (all : Vec Expr Global) → expr_tree (SendSuper at part super_at selector all) ≡ tree.SendSuper at part super_at selector.items (expr_trees all.items)
-send_super_tree at part super_at selector all =
-    let row = row_of (SendSuper at part super_at selector all) in
-    ap (tree.SendSuper at part super_at selector.items) (row_is row.0 row.1 ∙ ap expr_trees (items_hidden-the_row-Expr-0 all))
-
 -- one argument in front of what is appended behind it
 pub appends_more : (old mid new : List Expr) (one : Expr) (r : Result (Bor (List Token)) Fail) (f whole : Read ExprTrees)
     → whole ≡ bind f (λ others. ret (and_expr (expr_tree one) others)) → mid ≡ old ++ one ∷ [] → AppendsArguments mid new r f → AppendsArguments old new r whole

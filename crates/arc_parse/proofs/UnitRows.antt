@@ -13,19 +13,6 @@ use Rattle.arc_parse.specs.Limits.{these}
 use Rattle.arc_parse.specs.UnitRules.{Rules, items, read, item_by, items_by, block_by}
 use Rattle.arc_parse.proofs.UnitFix.{read_items}
 
-abbrev row_of : Stmt → (n : Count) × Row_of-Stmt n
-row_of (Block' at _ row) = (_, row)
-row_of _ = (_, end_of-Stmt)
-
-row_is : (n : _) (row : Row_of-Stmt n) → row_stmts row ≡ stmt_trees (items-the_row-Stmt n row)
-row_is n end_of-Stmt = refl
-row_is n (more_of-Stmt a row) = ap (and_stmt (stmt_tree a)) (row_is _ row)
-
-pub block_tree : (at : ℕ) (all : Vec Stmt Global) → stmt_tree (Block at all) ≡ tree.Block at (stmt_trees all.items)
-block_tree at all =
-    let row = row_of (Block at all) in
-    ap (tree.Block at) (row_is row.0 row.1 ∙ ap stmt_trees (items_hidden-the_row-Stmt-0 all))
-
 abbrev rd : Rules
 rd = read these
 

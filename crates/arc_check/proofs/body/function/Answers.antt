@@ -3,7 +3,7 @@ use Rattle.arc_ast.specs.Tree.{parameter_trees, parameters_tree, stmt_trees}
 use Rattle.arc_class.specs.Bodies.{broken_if, named_parameters}
 use Rattle.arc_class.specs.Broken.{first}
 use Rattle.arc_class.proofs.Firsts.{first_both}
-use Rattle.arc_class.proofs.Trees.{length-parameter_trees}
+use Rattle.arc_ast.proofs.Trees.{length-parameter_trees}
 use Rattle.arc_check.specs.Fault.{told}
 use Rattle.arc_check.specs.Rules.{broken_body, is_void}
 use Rattle.arc_check.specs.Views.{known_in}

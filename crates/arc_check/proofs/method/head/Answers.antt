@@ -1,7 +1,7 @@
 use Rattle.std.proofs.Common.{nat_lt, sym, ap, ◌∙◌}
 use Rattle.arc_class.specs.Bodies.{broken_if}
 use Rattle.arc_class.specs.Broken.{first}
-use Rattle.arc_class.proofs.Trees.{length-parameter_trees}
+use Rattle.arc_ast.proofs.Trees.{length-parameter_trees}
 use Rattle.arc_check.proofs.method.head.Goals as goal
 
 pub returns : goal.returns

@@ -7,7 +7,8 @@ use Rattle.arc_ast.specs.Tree.{expr_tree, expr_trees}
 use Rattle.arc_check.specs.Resolving.{number, resolved, resolved_all}
 use Rattle.arc_check.specs.Scopes.{class_of, result_kind}
 use Rattle.arc_check.specs.Views.{seen}
-use Rattle.arc_check.proofs.Trees.{call_tree, send_tree, super_tree, print_value, invoked_value}
+use Rattle.arc_ast.proofs.Trees.{call_tree, send_tree, send_super_tree}
+use Rattle.arc_check.proofs.Trees.{print_value, invoked_value}
 use Rattle.arc_check.proofs.Buildings.{values_turn, values_end, printing_some, printing_none, resolves_call}
 use Rattle.arc_check.proofs.Messages.{assigned_other, resolves_class, resolves_object, resolves_super}
 use Rattle.arc_check.proofs.resolve.+resolve.Goals as goal
@@ -24,7 +25,7 @@ expression-returns-in_ok-typed-in-Send t c =
 
 pub expression-returns-in_ok-typed-in-SendSuper : goal.expression-returns-in_ok-typed-in-SendSuper
 expression-returns-in_ok-typed-in-SendSuper t c =
-    rw (c.in-SendSuper.is, super_tree c.in-SendSuper.field-0 c.in-SendSuper.field-1 c.in-SendSuper.field-2 c.in-SendSuper.selector c.in-SendSuper.arguments, sym c.deref-in-SendSuper.ensures.value, sym c.deref-in-SendSuper-2.ensures.value)
+    rw (c.in-SendSuper.is, send_super_tree c.in-SendSuper.field-0 c.in-SendSuper.field-1 c.in-SendSuper.field-2 c.in-SendSuper.selector c.in-SendSuper.arguments, sym c.deref-in-SendSuper.ensures.value, sym c.deref-in-SendSuper-2.ensures.value)
     (c.in_ok-typed-in-SendSuper.ensures c.in-SendSuper.field-0 c.in-SendSuper.field-1 c.in-SendSuper.field-2)
 
 pub expression-returns-in-Itself : goal.expression-returns-in-Itself

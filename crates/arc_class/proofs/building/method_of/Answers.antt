@@ -4,7 +4,7 @@ use Rattle.arc_ast.specs.Tree.{parameter_trees}
 use Rattle.arc_spec.specs.declared.class.Method.{Method}
 use Rattle.arc_class.specs.Classes.{or_zero, number_among}
 use Rattle.arc_class.specs.Table.{names_of}
-use Rattle.arc_class.proofs.Trees.{length-parameter_trees}
+use Rattle.arc_ast.proofs.Trees.{length-parameter_trees}
 use Rattle.arc_class.proofs.building.method_of.Goals as goal
 
 abbrev method_with : Sign → (selector takes runs : ℕ) → Method

@@ -7,7 +7,7 @@ use Rattle.arc_class.specs.Kept.{one_at}
 use Rattle.arc_class.specs.Table.{at_name, number_of_class}
 use Rattle.arc_class.proofs.Keeping.{kept_turn, or_one}
 use Rattle.arc_class.proofs.Lists.{drop_turn}
-use Rattle.arc_class.proofs.Trees.{length-field_trees}
+use Rattle.arc_ast.proofs.Trees.{length-field_trees}
 use Rattle.arc_class.proofs.fields.keep_fields.Goals as goal
 
 pub loop-field-preserved : goal.loop-field-preserved

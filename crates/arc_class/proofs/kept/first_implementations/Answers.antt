@@ -6,7 +6,7 @@ use Rattle.arc_class.specs.Running.{implemented}
 use Rattle.arc_class.specs.Table.{at_name}
 use Rattle.arc_class.proofs.Keeping.{kept_turn, kept_map, or_one}
 use Rattle.arc_class.proofs.Lists.{drop_turn}
-use Rattle.arc_class.proofs.Trees.{length-method_trees}
+use Rattle.arc_ast.proofs.Trees.{length-method_trees}
 use Rattle.arc_class.proofs.kept.first_implementations.Goals as goal
 
 pub loop-implementation-preserved : goal.loop-implementation-preserved

@@ -3,7 +3,7 @@ use Rattle.arc_ast.specs.Tree.{method_trees, implementation_trees}
 use Rattle.arc_class.specs.Classes.{numbers_after}
 use Rattle.arc_class.proofs.Lists.{drop_turn}
 use Rattle.arc_class.proofs.Runnings.{numbers_grow}
-use Rattle.arc_class.proofs.Trees.{length-method_trees}
+use Rattle.arc_ast.proofs.Trees.{length-method_trees}
 use Rattle.arc_class.proofs.kept.numbers_after.Goals as goal
 
 pub loop-implementation-preserved : goal.loop-implementation-preserved

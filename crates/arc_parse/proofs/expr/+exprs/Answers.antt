@@ -7,7 +7,8 @@ use Rattle.arc_parse.specs.Reader.{sees_mark}
 use Rattle.arc_parse.specs.ExprRules.{read, call_by, arguments_by, part_by, parts_by, super_by, object_by}
 use Rattle.arc_parse.specs.ExprRules as rule
 use Rattle.arc_parse.proofs.ExprFix.{read_arguments, read_expr, read_parts}
-use Rattle.arc_parse.proofs.Rows.{call_tree, send_tree, send_super_tree, appends_more, appends_none, appends_named, sent_parts, sent_fails}
+use Rattle.arc_ast.proofs.Trees.{call_tree, send_tree, send_super_tree}
+use Rattle.arc_parse.proofs.Rows.{appends_more, appends_none, appends_named, sent_parts, sent_fails}
 use Rattle.arc_parse.proofs.expr.+exprs.Goals as goal
 
 pub call-returns-clause-gives : goal.call-returns-clause-gives

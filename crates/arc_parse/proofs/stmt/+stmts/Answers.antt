@@ -4,7 +4,8 @@ use Rattle.arc_lex.specs.Tokens.{toks}
 use Rattle.arc_ast.specs.Tree.{Block, stmt_trees}
 use Rattle.arc_parse.specs.Limits.{these}
 use Rattle.arc_parse.specs.UnitRules.{read, items, block_by}
-use Rattle.arc_parse.proofs.UnitRows.{block_tree, with_stmts, item_more, items_end, item_fails, block_fails}
+use Rattle.arc_ast.proofs.Trees.{block_tree}
+use Rattle.arc_parse.proofs.UnitRows.{with_stmts, item_more, items_end, item_fails, block_fails}
 use Rattle.arc_parse.proofs.stmt.+stmts.Goals as goal
 
 pub block-returns-clause-gives : goal.block-returns-clause-gives
