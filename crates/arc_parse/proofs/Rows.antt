@@ -1,13 +1,11 @@
 -- The arguments of a call and of a message, as lists.
-use Rattle.std.proofs.Common.{◌≡◌, ℕ, List, [], ◌∷◌, ◌++◌, Vec, Box, Global, Result, Ok, Err, true, append_assoc, append-nil, refl, sym, ap, ◌∙◌}
+use Rattle.std.proofs.Common.{◌≡◌, ℕ, List, [], ◌∷◌, ◌++◌, Result, Ok, Err, true, append_assoc, append-nil, refl, sym, ap, ◌∙◌}
 use denote.Bor.{Bor}
-use mathlib.Core.Former.{Count}
 use Rattle.arc_lex.specs.declared.token.Mark.TheVariants as m
 use Rattle.arc_lex.specs.declared.token.Token.{Token}
 use Rattle.arc_lex.specs.Tokens.{Tok, toks}
-use Rattle.arc_ast.specs.declared.tree.Expr.{Expr, Call, Call', Send, Send', SendSuper, SendSuper', Row_of-Expr, end_of-Expr, more_of-Expr, items-the_row-Expr, items_hidden-the_row-Expr-0}
-use Rattle.arc_ast.specs.Tree.{ExprTree, ExprTrees, no_exprs, and_expr, expr_tree, row_exprs, expr_trees}
-use Rattle.arc_ast.specs.Tree as tree
+use Rattle.arc_ast.specs.declared.tree.Expr.{Expr}
+use Rattle.arc_ast.specs.Tree.{ExprTree, ExprTrees, no_exprs, and_expr, expr_tree, expr_trees}
 use Rattle.arc_parse.specs.declared.fail.Fail.{Fail}
 use Rattle.arc_parse.specs.declared.fail.Fail.TheVariants.{Memory, Unexpected, TooDeep}
 use Rattle.arc_parse.specs.Reader.{Read, Fails, bind, ret, expect, sees_mark, ◌>>=◌}

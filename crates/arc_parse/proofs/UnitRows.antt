@@ -1,11 +1,9 @@
 -- The statements of a block, as lists, and the loop that reads them.
-use Rattle.std.proofs.Common.{◌≡◌, ℕ, suc, List, [], ◌∷◌, ◌++◌, Vec, Global, Ok, Err, true, false, refl, sym, ap, ◌∙◌}
-use mathlib.Core.Former.{Count}
+use Rattle.std.proofs.Common.{◌≡◌, ℕ, suc, List, [], ◌∷◌, ◌++◌, Ok, Err, true, false, refl, sym, ap, ◌∙◌}
 use Rattle.arc_lex.specs.declared.token.Mark.TheVariants as m
 use Rattle.arc_lex.specs.Tokens.{Tok, toks}
-use Rattle.arc_ast.specs.declared.tree.Stmt.{Stmt, Block, Block', Row_of-Stmt, end_of-Stmt, more_of-Stmt, items-the_row-Stmt, items_hidden-the_row-Stmt-0}
-use Rattle.arc_ast.specs.Tree.{StmtTrees, no_stmts, and_stmt, stmt_tree, stmt_trees, row_stmts}
-use Rattle.arc_ast.specs.Tree as tree
+use Rattle.arc_ast.specs.declared.tree.Stmt.{Stmt}
+use Rattle.arc_ast.specs.Tree.{StmtTrees, no_stmts, and_stmt, stmt_tree, stmt_trees}
 use Rattle.arc_parse.specs.declared.fail.Fail.{Fail}
 use Rattle.arc_parse.specs.declared.fail.Fail.TheVariants.{Memory, Unexpected, TooDeep}
 use Rattle.arc_parse.specs.Reader.{Read, Fault, misfit, too_deep, Fails, bind, ret, sees_mark, expect}
