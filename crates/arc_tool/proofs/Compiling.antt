@@ -5,8 +5,6 @@ use Rattle.arc_lex.specs.Tokens.{toks}
 use Rattle.arc_lex.specs.Source.{Tokens}
 use Rattle.arc_ast.specs.declared.tree.TranslationUnit.{TranslationUnit}
 use Rattle.arc_ast.specs.Tree.{unit_tree}
-use Rattle.arc_parse.specs.Grammar.{SpellsUnit}
-use Rattle.arc_parse.specs.Limits.{these}
 use Rattle.arc_class.specs.declared.table.ClassTable.{ClassTable}
 use Rattle.arc_class.specs.ClassRules.{broken}
 use Rattle.arc_class.specs.Table.{IsTableOf}
@@ -25,7 +23,7 @@ use Rattle.arc_emit.specs.Faults as emitting
 use Rattle.arc_emit.specs.Emitted.{IsLarge}
 use Rattle.arc_code.specs.Running.{Program, seen, IsSound}
 use Rattle.arc_tool.specs.declared.refusal.Refusal.{Refusal}
-use Rattle.arc_tool.specs.Accepted.{Accepted, program_meant, meant, Compiles, CompilesNamed, class_names}
+use Rattle.arc_tool.specs.Accepted.{Spelled, Accepted, program_meant, meant, Compiles, CompilesNamed, class_names}
 use Rattle.arc_tool.specs.Refused.{IsRefusal, too_large, no_memory}
 use Rattle.arc_tool.specs.Told.{Tells}
 
@@ -33,13 +31,13 @@ use Rattle.arc_tool.specs.Told.{Tells}
 pub passed : (source : List ℕ) (items these_tokens : List Token) → these_tokens ≡ items → Tokens source (toks items) → Tokens source (toks these_tokens)
 passed source items these_tokens same h = subst (λ ts. Tokens source (toks ts)) (sym same) h
 
-module _ (source : List ℕ) (tokens : List Token) (unit : TranslationUnit) (table : ClassTable) (program owned : Checked) (actions : acting.Program)
-    (cut : Tokens source (toks tokens)) (spelled : SpellsUnit these (unit_tree unit) (toks tokens)) (declared : broken (unit_tree unit) ≡ []) (has_main : IsTableOf (unit_tree unit) table)
+module _ (source : List ℕ) (unit : TranslationUnit) (table : ClassTable) (program owned : Checked) (actions : acting.Program)
+    (spelled : Spelled source (unit_tree unit)) (declared : broken (unit_tree unit) ≡ []) (has_main : IsTableOf (unit_tree unit) table)
     (checked : broken_unit (unit_tree unit) ≡ []) (resolved : program_of program ≡ resolved_unit (unit_tree unit))
     (source_is : unit_tree program.unit.now ≡ unit_tree unit) (ruled : ownership.broken (unit_tree program.unit.now) ≡ [])
     (same : owned ≡ program) (performs : Performs (program_of owned) actions) where
   abbrev pub accepted : Accepted source
-  accepted = record { tokens = toks tokens; tree = unit_tree unit; table = table; cut = cut; spelled = spelled; declared = declared; has_main = has_main; checked = checked; owned = subst (λ u. ownership.broken u ≡ []) source_is ruled }
+  accepted = record { tokens = spelled.tokens; tree = unit_tree unit; table = table; cut = spelled.cut; spelled = spelled.spelled; declared = declared; has_main = has_main; checked = checked; owned = subst (λ u. ownership.broken u ≡ []) source_is ruled }
 
   pub performed : Performs (program_meant accepted) actions
   performed = subst (λ program. Performs program actions) (ap program_of same ∙ resolved) performs
@@ -52,8 +50,8 @@ module _ (source : List ℕ) (tokens : List Token) (unit : TranslationUnit) (tab
     sound = sound;
   }
 
-  pub compiled_named : (code : Program) (names : List (List ℕ)) → IsSound code → Refines (acting.seen actions) (seen code) → Steady (seen code) → names ≡ class_names (unit_tree unit) → CompilesNamed source code names
-  compiled_named code names sound refines steady named = record { compiled = compiled code sound refines steady; named = named }
+  pub compiled_named : (code : Program) → IsSound code → Refines (acting.seen actions) (seen code) → Steady (seen code) → CompilesNamed source code (class_names (unit_tree unit))
+  compiled_named code sound refines steady = record { compiled = compiled code sound refines steady; named = refl }
 
   pub not_emitted : (e : EmitFault) (r : Refusal) → (e ≡ f.TooLarge → IsLarge actions) → Tells (emitting.fault_number e) (emitting.fault_name e) 0 r → IsRefusal source r
   not_emitted f.TooLarge r large tells = too_large accepted actions performed (large refl) tells

@@ -17,6 +17,12 @@ use Rattle.arc_spec.specs.Meaning.{mean}
 use Rattle.arc_spec.specs.Correct.{Behaves, Steady, Sight, meaning_seen}
 use Rattle.arc_code.specs.Running.{Program, seen, IsSound}
 
+-- The source has tokens, which spell this tree within the limits.
+pub record Spelled (source : List ℕ) (tree : UnitTree) : Type 0 where
+  pub tokens : List Tok
+  pub cut : Tokens source tokens
+  pub spelled : SpellsUnit these tree tokens
+
 -- The source has these tokens, which spell this tree within the limits; the tree has a main, and breaks no rule.
 pub record Accepted (source : List ℕ) : Type 0 where
   pub tokens : List Tok

@@ -1,8 +1,8 @@
 //! From the bytes of a source to code.
-ghost use Rattle.std.specs.Prelude.{◌≡◌, map, IfOk, IfErr};
+ghost use Rattle.std.specs.Prelude.{◌≡◌, ℕ, List, map, IfOk, IfErr};
 ghost use Rattle.arc_ast.specs.Tree.{unit_tree};
 ghost use Rattle.arc_code.specs.Running.{IsSound, program_of};
-ghost use Rattle.arc_tool.specs.Accepted.{Compiles, CompilesNamed, class_names, bytes_of_name};
+ghost use Rattle.arc_tool.specs.Accepted.{Spelled, Compiles, CompilesNamed, class_names, bytes_of_name};
 ghost use Rattle.arc_tool.specs.Refused.{IsRefusal};
 
 use crate::refusal::Refusal;
@@ -19,7 +19,7 @@ use arc_spec::event::NoMemory;
 use std::alloc::Global;
 
 /// Code, and the names of the classes that it knows by their numbers.
-#[derive(Debug, Drop)]
+#[derive(Drop)]
 pub(crate) struct Named {
     pub code: Code,
     pub classes: Vec<Vec<u8>>,
@@ -42,15 +42,35 @@ pub(crate) fn compile_named(alloc: Global, source: &[u8]) -> Result<Named, Refus
     ensures sound { IfOk result (λ named. IsSound (program_of named.code)) }
     ensures refused { IfErr result (λ refusal. IsRefusal source.now refusal) }
 {
+    let unit = read_source(alloc, source)?;
+    let code = translate(alloc, &unit)?;
+    let classes = class_names(alloc, &unit)?;
+    Ok(Named { code, classes })
+}
+
+/// The tree of a source.
+fn read_source(alloc: Global, source: &[u8]) -> Result<TranslationUnit, Refusal>
+    ensures read { IfOk result (λ unit. Spelled source.now (unit_tree unit)) }
+    ensures refused { IfErr result (λ refusal. IsRefusal source.now refusal) }
+{
     let tokens = lex(alloc, source)?;
     let unit = parse(alloc, &tokens)?;
-    let table = ClassTable::build(alloc, &unit)?;
-    let program = check(alloc, &unit, &table)?;
+    Ok(unit)
+}
+
+/// The code of a tree, whatever source spells it.
+fn translate(alloc: Global, unit: &TranslationUnit) -> Result<Code, Refusal>
+    ensures compiled { (source : List ℕ) → Spelled source (unit_tree unit.now)
+        → IfOk result (λ code. CompilesNamed source (program_of code) (class_names (unit_tree unit.now))) }
+    ensures sound { IfOk result (λ code. IsSound (program_of code)) }
+    ensures refused { (source : List ℕ) → Spelled source (unit_tree unit.now) → IfErr result (λ refusal. IsRefusal source refusal) }
+{
+    let table = ClassTable::build(alloc, unit)?;
+    let program = check(alloc, unit, &table)?;
     let owned = own(alloc, &program)?;
     let actions = lower(alloc, &owned)?;
     let code = emit(alloc, &actions, &table)?;
-    let classes = class_names(alloc, &unit)?;
-    Ok(Named { code, classes })
+    Ok(code)
 }
 
 /// The names of a source's classes in the order of their numbers, of which the root has the first.

@@ -15,7 +15,7 @@ use itoa::Buffer;
 use std::io::Write;
 
 /// How a run was left.
-#[derive(Clone, Copy, Debug, PartialEq, Eq)]
+#[derive(Clone, Copy)]
 pub enum Left {
     Stopped(Stop),
     /// The reader failed.

@@ -145,7 +145,7 @@ fn check_source<W: Write>(
     ensures { Checks source.now result (held_by W.contents output.old) (held_by W.contents output.new)
         (failures_of output.old) (failures_of output.new) }
 {
-    let _code = compile(alloc, source)?;
+    let _ = compile(alloc, source)?;
     print(b"ok\n", output)?;
     Ok(0)
 }

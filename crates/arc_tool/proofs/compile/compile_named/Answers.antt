@@ -1,60 +1,9 @@
-use Rattle.std.proofs.Common.{Err, ap, subst}
-use Rattle.std.proofs.lemmas.Result.{err_from_is_err_and}
-use Rattle.arc_lex.specs.Tokens.{toks}
-use Rattle.arc_ast.specs.Tree.{unit_tree}
-use Rattle.arc_family.specs.Fault.{Refuses}
-use Rattle.arc_family.specs.Rules.{broken}
-use Rattle.arc_ir.specs.Acting as acting
+use Rattle.std.proofs.Common.{sym, subst}
 use Rattle.arc_code.specs.Running.{program_of}
-use Rattle.arc_tool.specs.Refused.{in_lexing, in_parsing, in_building, in_checking, in_owning}
-use Rattle.arc_tool.proofs.Compiling.{passed, compiled_named, not_emitted}
+use Rattle.arc_tool.specs.Accepted.{CompilesNamed}
 use Rattle.arc_tool.proofs.compile.compile_named.Goals as goal
-
-pub returns-in_err-tokens-clause-refused : goal.returns-in_err-tokens-clause-refused
-returns-in_err-tokens-clause-refused c =
-    let p = err_from_is_err_and c.from_residual.result c.from_residual.ensures.1 in
-    rw p.1 (in_lexing c.in_err-tokens.field-0.0 c.in_err-tokens.ensures.fault p.2)
-
-pub returns-in_err-unit-clause-refused : goal.returns-in_err-unit-clause-refused
-returns-in_err-unit-clause-refused c =
-    let p = err_from_is_err_and c.from_residual-in_err-unit.result c.from_residual-in_err-unit.ensures.1 in
-    let cut = passed c.args.source.now c.in_ok-tokens.tokens.items c.deref.result.now c.deref.ensures.value c.in_ok-tokens.ensures.tokens in
-    rw p.1 (in_parsing c.in_err-unit.field-0.0 (toks c.deref.result.now) cut c.in_err-unit.ensures.refused p.2)
-
-pub returns-in_err-table-clause-refused : goal.returns-in_err-table-clause-refused
-returns-in_err-table-clause-refused c =
-    let p = err_from_is_err_and c.from_residual-in_err-table.result c.from_residual-in_err-table.ensures.1 in
-    let cut = passed c.args.source.now c.in_ok-tokens.tokens.items c.deref.result.now c.deref.ensures.value c.in_ok-tokens.ensures.tokens in
-    rw p.1 (in_building c.in_err-table.field-0.0 (toks c.deref.result.now) (unit_tree c.in_ok-unit.unit) cut c.in_ok-unit.ensures.within c.in_err-table.ensures.refused p.2)
-
-pub returns-in_err-program-clause-refused : goal.returns-in_err-program-clause-refused
-returns-in_err-program-clause-refused c =
-    let p = err_from_is_err_and c.from_residual-in_err-program.result c.from_residual-in_err-program.ensures.1 in
-    let cut = passed c.args.source.now c.in_ok-tokens.tokens.items c.deref.result.now c.deref.ensures.value c.in_ok-tokens.ensures.tokens in
-    rw p.1 (in_checking c.in_err-program.field-0.0 (toks c.deref.result.now) (unit_tree c.in_ok-unit.unit) c.in_ok-table.table cut c.in_ok-unit.ensures.within
-    c.in_ok-table.ensures.unbroken c.in_ok-table.ensures.table c.in_err-program.ensures.refused p.2)
-
-pub returns-in_err-owned-clause-refused : goal.returns-in_err-owned-clause-refused
-returns-in_err-owned-clause-refused c =
-    let p = err_from_is_err_and c.from_residual-in_err-owned.result c.from_residual-in_err-owned.ensures.1 in
-    let cut = passed c.args.source.now c.in_ok-tokens.tokens.items c.deref.result.now c.deref.ensures.value c.in_ok-tokens.ensures.tokens in
-    rw p.1 (in_owning c.in_err-owned.field-0.0 (toks c.deref.result.now) (unit_tree c.in_ok-unit.unit) c.in_ok-table.table cut c.in_ok-unit.ensures.within
-    c.in_ok-table.ensures.unbroken c.in_ok-table.ensures.table c.in_ok-program.ensures.unbroken
-    (subst (λ u. Refuses (broken u) c.in_err-owned.field-0.0) (ap unit_tree c.in_ok-program.ensures.source) c.in_err-owned.ensures.refused) p.2)
-
-pub returns-in_err-code-clause-refused : goal.returns-in_err-code-clause-refused
-returns-in_err-code-clause-refused c =
-    let p = err_from_is_err_and c.from_residual-in_err-code.result c.from_residual-in_err-code.ensures.1 in
-    let cut = passed c.args.source.now c.in_ok-tokens.tokens.items c.deref.result.now c.deref.ensures.value c.in_ok-tokens.ensures.tokens in
-    rw p.1 (not_emitted c.args.source.now c.deref.result.now c.in_ok-unit.unit c.in_ok-table.table c.in_ok-program.program c.in_ok-owned.owned.program.now (acting.program_of c.in_ok-actions.actions)
-    cut c.in_ok-unit.ensures.within c.in_ok-table.ensures.unbroken c.in_ok-table.ensures.table c.in_ok-program.ensures.unbroken c.in_ok-program.ensures.resolved
-    (ap unit_tree c.in_ok-program.ensures.source) c.in_ok-owned.ensures.accepted
-    c.in_ok-owned.ensures.same c.in_ok-actions.ensures c.in_err-code.field-0.0 p.0 (λ e. c.in_err-code.ensures.large (ap Err e)) p.2)
 
 pub returns-clause-compiled : goal.returns-clause-compiled
 returns-clause-compiled c =
-    let cut = passed c.args.source.now c.in_ok-tokens.tokens.items c.deref.result.now c.deref.ensures.value c.in_ok-tokens.ensures.tokens in
-    compiled_named c.args.source.now c.deref.result.now c.in_ok-unit.unit c.in_ok-table.table c.in_ok-program.program c.in_ok-owned.owned.program.now (acting.program_of c.in_ok-actions.actions)
-    cut c.in_ok-unit.ensures.within c.in_ok-table.ensures.unbroken c.in_ok-table.ensures.table c.in_ok-program.ensures.unbroken c.in_ok-program.ensures.resolved
-    (ap unit_tree c.in_ok-program.ensures.source) c.in_ok-owned.ensures.accepted
-    c.in_ok-owned.ensures.same c.in_ok-actions.ensures (program_of c.in_ok-code.code) _ c.in_ok-code.ensures.sound c.in_ok-code.ensures.refines c.in_ok-code.ensures.steady c.in_ok-classes.ensures
+    subst (λ names. CompilesNamed c.args.source.now (program_of c.in_ok-code.code) names) (sym c.in_ok-classes.ensures)
+    (c.in_ok-code.ensures.compiled c.args.source.now c.in_ok-unit.ensures.read)
