@@ -8,7 +8,7 @@ use thiserror::Error;
 /// Why actions have no code.
 #[derive(Clone, Copy, Debug, Drop, PartialEq, Eq, Error)]
 pub enum EmitFault {
-    /// The code would have over 16,777,216 instructions, or its texts over 4,294,967,295 bytes.
+    /// The code would have over 16,777,216 instructions.
     #[error("the code is too large")]
     TooLarge,
     /// There was no memory for the code.
