@@ -1,4 +1,4 @@
-use Rattle.std.proofs.Common.{◌≡◌, ◌||◌, Bool, false, sym, ap, ◌∙◌}
+use Rattle.std.proofs.Common.{◌≡◌, ◌||◌, false, sym, ap, ◌∙◌}
 use Rattle.arc_ast.specs.Tree.{unit_tree}
 use Rattle.arc_class.specs.ClassRules.{interface_before}
 use Rattle.arc_class.specs.Classes.{is_root}

@@ -1,4 +1,4 @@
-use Rattle.std.proofs.Common.{◌≡◌, option_map, sym, ap, ◌∙◌}
+use Rattle.std.proofs.Common.{option_map, sym, ap, ◌∙◌}
 use Rattle.arc_ast.specs.Tree.{unit_tree, method_trees}
 use Rattle.arc_class.specs.Classes.{bodies}
 use Rattle.arc_class.specs.Kept.{implemented_tree}

@@ -1,4 +1,4 @@
-use Rattle.std.proofs.Common.{◌≡◌, ◌++◌, None, option_map, sym, ap, ◌∙◌}
+use Rattle.std.proofs.Common.{◌≡◌, None, option_map, sym, ap, ◌∙◌}
 use Rattle.arc_ast.specs.Tree.{unit_tree, head_tree, head_trees, method_trees}
 use Rattle.arc_class.specs.Classes.{heads, first_head, defined_by, or_then}
 use Rattle.arc_class.specs.Kept.{head_in}
