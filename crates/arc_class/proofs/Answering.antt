@@ -1,7 +1,8 @@
 -- From what is known of all functions of a source to an answer.
-use Rattle.std.proofs.Common.{◌≡◌, ℕ, Bool, List, [], ◌++◌, Option, Some, None, is_none, option_map, append_assoc, sym, ap, ◌∙◌}
+use Rattle.std.proofs.Common.{◌≡◌, ℕ, Bool, List, [], ◌++◌, Option, Some, None, is_none, option_map, append_assoc, sym, ap, subst, ◌∙◌}
 use Rattle.std.proofs.Math.Path.{fun_ext}
-use Rattle.arc_ast.specs.Tree.{FunctionTree, UnitTree}
+use Rattle.arc_ast.specs.Tree.{FunctionTree, UnitTree, unit_tree}
+use Rattle.arc_ast.specs.declared.tree.TranslationUnit.{TranslationUnit}
 use Rattle.arc_class.specs.declared.fault.ClassFault.{ClassFault}
 use Rattle.arc_class.specs.declared.fault.ClassFault.TheVariants as f
 use Rattle.arc_class.specs.declared.kept.Source.{Source}
@@ -52,6 +53,10 @@ pub whole_known : (u : UnitTree) (seen : Seen) (own inside gone functions classe
     → inside ≡ first (broken_functions (missing_of u) u.functions) → functions ≡ earlier_of own inside → classes ≡ first (in_classes u) → all ≡ earlier_of functions classes → all ≡ first (broken u)
 whole_known u seen own inside gone functions classes all h m o i f k a =
     first_both (broken_in_functions (missing_of u) u.functions) (in_classes u) functions classes all (first_known u.functions (missing_of u) seen own inside gone functions h m o i f) k a
+
+-- a source knows its own names
+pub own_known : (t : TranslationUnit) (source : Source) → source.unit.now ≡ t → Knows (unit_tree t) source → Knows (unit_tree source.unit.now) source
+own_known t source e = subst (λ s. Knows (unit_tree s) source) (sym e)
 
 pub nothing : (all : List Broken) → None ≡ first all → all ≡ []
 nothing all e = none_broken all (sym e)

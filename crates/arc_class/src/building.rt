@@ -1,5 +1,5 @@
 //! The parts of a table: selectors, entries and classes.
-ghost use Rattle.std.specs.Prelude.{◌≡◌, ◌<◌, ◌+◌, ◌++◌, ◌∷◌, List, ℕ, length, map, IfOk, IfErr, OnOk};
+ghost use Rattle.std.specs.Prelude.{◌≡◌, ◌<◌, ◌+◌, ◌++◌, ◌∷◌, List, ℕ, suc, length, map, IfOk, IfErr, OnOk};
 ghost use Rattle.arc_ast.specs.declared.tree.Sign.{Sign};
 ghost use Rattle.arc_ast.specs.Tree.{UnitTree, unit_tree, head_tree, head_trees, method_trees, interface_trees, implementation_trees, interface_tree};
 ghost use Rattle.arc_spec.specs.Classes.{class_of, classes_of};
@@ -7,16 +7,18 @@ ghost use Rattle.arc_class.specs.Classes as classes;
 ghost use Rattle.arc_class.specs.Classes.{heads, first_head, with_selectors, declared_selectors, defined_selectors, selectors, number_among, or_zero, defined_by};
 ghost use Rattle.arc_class.specs.declared.fault.ClassFault.TheVariants.{Memory};
 ghost use Rattle.arc_class.specs.Entries.{entry_tree, root_entry, class_entry, fields_tree, all_class_fields};
+ghost use Rattle.arc_class.specs.Fields.{all_fields_from};
 ghost use Rattle.arc_class.specs.Kept.{head_in, Knows};
 ghost use Rattle.arc_class.specs.Running as running;
 ghost use Rattle.arc_class.specs.Running.{method_made, with_method, methods_from, dealloc_from, class_with};
-ghost use Rattle.arc_class.specs.Table.{names_of};
+ghost use Rattle.arc_class.specs.Table.{names_of, list_of, built_in_from};
 
 use crate::fault::ClassFault;
 use crate::fields::{ClassFields, count_among};
 use crate::heads::Heads;
 use crate::kept::Source;
-use crate::table::{Entry, at_name, class_number};
+use crate::root::BuiltIn;
+use crate::table::{Entry, Field, at_name, class_number};
 use arc_ast::tree::{
     Implementation, Interface, Method, MethodHead, Parameter, Sign, TranslationUnit,
 };
@@ -185,6 +187,17 @@ fn root_entry<'a>(alloc: Global) -> Entry<'a>
 }
 
 impl<'a> Source<'a> {
+    /// The methods that the first implementation of the name defines.
+    fn defined_methods(&self, name: &'a [u8]) -> &'a [Method]
+        requires { Knows (unit_tree self.now.unit.now) self.now }
+        ensures { method_trees result.now ≡ defined_by (unit_tree self.now.unit.now).implementations name.now }
+    {
+        match at_name(&self.implemented, name) {
+            None => &[],
+            Some(own) => &own.implementation.methods,
+        }
+    }
+
     /// The methods that a class's interface declares and its implementation defines.
     fn own_methods(&self, alloc: Global, interface: &'a Interface) -> Result<Heads<'a>, AllocError>
         requires { Knows (unit_tree self.now.unit.now) self.now }
@@ -193,13 +206,8 @@ impl<'a> Source<'a> {
     {
         let mut map = Heads::new(alloc);
         map.keep_heads(&interface.methods)?;
-        match at_name(&self.implemented, &interface.name) {
-            None => Ok(map),
-            Some(own) => {
-                map.keep_methods(&own.implementation.methods)?;
-                Ok(map)
-            }
-        }
+        map.keep_methods(self.defined_methods(&interface.name))?;
+        Ok(map)
     }
 
     /// What a table knows of the interface's class.
@@ -293,5 +301,47 @@ impl<'a> Source<'a> {
             classes.push(class)?;
         }
         Ok(classes)
+    }
+}
+
+/// What a table has of a source's classes and selectors.
+#[derive(Drop)]
+pub struct Parts<'a> {
+    pub selectors: Selectors<'a>,
+    pub entries: Vec<Entry<'a>>,
+    pub fields: Vec<Vec<Field<'a>>>,
+    pub classes: Vec<Class>,
+    pub built_in: BuiltIn,
+}
+
+impl<'a> Parts<'a> {
+    /// The parts of the table of a source whose names and fields are known. Memory: there was none,
+    /// or so many methods have no numbers.
+    pub fn of(
+        alloc: Global,
+        source: &Source<'a>,
+        named_fields: &[ClassFields<'a>],
+    ) -> Result<Parts<'a>, ClassFault>
+        requires knows { Knows (unit_tree source.now.unit.now) source.now }
+        requires fields { map fields_tree named_fields.now ≡ all_class_fields (unit_tree source.now.unit.now) }
+        ensures selectors { IfOk result (λ parts. names_of parts.selectors.keys ≡ selectors (unit_tree source.now.unit.now)) }
+        ensures entries { IfOk result (λ parts. map entry_tree parts.entries.items ≡ root_entry ∷ map (class_entry (unit_tree source.now.unit.now)) (unit_tree source.now.unit.now).interfaces) }
+        ensures fields { IfOk result (λ parts. map list_of parts.fields.items ≡ all_fields_from (unit_tree source.now.unit.now) 0 (suc (length (unit_tree source.now.unit.now).interfaces))) }
+        ensures classes { IfOk result (λ parts. classes_of parts.classes.items ≡ running.classes (unit_tree source.now.unit.now)) }
+        ensures built_in { IfOk result (λ parts. parts.built_in ≡ built_in_from source.now.function_count) }
+        ensures refused { IfErr result (λ fault. fault ≡ Memory) }
+    {
+        let built_in = BuiltIn::from(source.function_count)?;
+        let selectors = selectors(alloc, source.unit)?;
+        let classes = source.classes(alloc, &selectors, named_fields)?;
+        let entries = source.entries(alloc)?;
+        let fields = source.all_fields(alloc)?;
+        Ok(Parts {
+            selectors,
+            entries,
+            fields,
+            classes,
+            built_in,
+        })
     }
 }

@@ -12,12 +12,22 @@ pub fn built_in_result(sign: Sign, selector: &[u8]) -> Option<Kind>
     ensures { result ≡ classes.built_in_result sign selector.now }
 {
     match sign {
-        Sign::Class if selector == b"alloc".as_slice() || selector == b"new".as_slice() => {
-            Some(Kind::Object)
+        Sign::Class => {
+            if selector == b"alloc".as_slice() || selector == b"new".as_slice() {
+                Some(Kind::Object)
+            } else {
+                None
+            }
         }
-        Sign::Instance if selector == b"init".as_slice() => Some(Kind::Object),
-        Sign::Instance if selector == b"dealloc".as_slice() => Some(Kind::Void),
-        _ => None,
+        Sign::Instance => {
+            if selector == b"init".as_slice() {
+                Some(Kind::Object)
+            } else if selector == b"dealloc".as_slice() {
+                Some(Kind::Void)
+            } else {
+                None
+            }
+        }
     }
 }
 

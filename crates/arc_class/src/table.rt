@@ -13,7 +13,7 @@ ghost use Rattle.arc_class.specs.Kept.{Knows};
 ghost use Rattle.arc_class.specs.Names.{number_of, is_main};
 ghost use Rattle.arc_class.specs.Table.{IsTableOf, at_name, function_in, class_number_in, class_in, superclass_in, own_result_in, result_at, result_in_table, any_result_in, field_tree, field_in_table, items_at, fields_in, ends_object, nearest_dealloc, defined_in, built_in_method, method_in, selector_in, selector_name, colons, number_of_class, number_of_selector, number_of_method, IsSameTable, Registers};
 
-use crate::building::{Selectors, selectors};
+use crate::building::{Parts, Selectors};
 use crate::fault::{ClassFault, earlier};
 use crate::fields::{ClassFields, field_from};
 use crate::heads::Heads;
@@ -28,14 +28,14 @@ use std::alloc::Global;
 use std::collections::BTreeMap;
 
 /// What a function gives, and how many numbers it takes: none at a count and the arguments' texts.
-#[derive(Clone, Copy, Debug)]
+#[derive(Clone, Copy)]
 pub struct Signature {
     pub result: Kind,
     pub takes: Option<usize>,
 }
 
 /// What is known of the functions of one name.
-#[derive(Clone, Copy, Debug)]
+#[derive(Clone, Copy)]
 pub struct Declared {
     pub signature: Signature,
     /// Which of the functions with a body is the first of the name, counted from 0.
@@ -106,7 +106,7 @@ fn colons(name: &[u8]) -> usize
 }
 
 /// A class of a table, by its number.
-#[derive(Clone, Copy, Debug, PartialEq, Eq)]
+#[derive(Clone, Copy)]
 pub struct ClassId(pub usize);
 
 /// The number of the class, if there is one.
@@ -116,6 +116,16 @@ fn number_of(class: Option<ClassId>) -> Option<usize>
     match class {
         None => None,
         Some(class) => Some(class.0),
+    }
+}
+
+/// The class with the number, if there is one.
+fn class_id(number: Option<usize>) -> Option<ClassId>
+    ensures { option_map number_of_class result ≡ number }
+{
+    match number {
+        None => None,
+        Some(number) => Some(ClassId(number)),
     }
 }
 
@@ -137,7 +147,7 @@ pub struct Field<'a> {
 
 /// A field that a name stands for: the class that declares it, and its number in the objects of
 /// that class and of those below it, counted from 0.
-#[derive(Clone, Copy, Debug)]
+#[derive(Clone, Copy)]
 pub struct FoundField {
     pub owner: ClassId,
     pub index: usize,
@@ -245,7 +255,7 @@ impl<'a> ClassTable<'a> {
     pub fn objc_get_class(&self, name: &'a [u8]) -> Option<ClassId>
         ensures { option_map number_of_class result ≡ class_in self.now name.now }
     {
-        class_number(&self.names, name).map(ClassId)
+        class_id(class_number(&self.names, name))
     }
 
     /// The superclass of the class, which the root has none of (Runtime Reference, `class_getSuperclass`).
@@ -254,7 +264,7 @@ impl<'a> ClassTable<'a> {
     {
         match self.entries.get(class.0) {
             None => None,
-            Some(entry) => entry.superclass.map(ClassId),
+            Some(entry) => class_id(entry.superclass),
         }
     }
 
@@ -333,9 +343,12 @@ impl<'a> ClassTable<'a> {
     pub fn method(&self, class: ClassId, sign: Sign, selector: Sel) -> Option<MethodId>
         ensures { option_map number_of_method result ≡ method_in self.now (number_of_class class) sign (number_of_selector selector) }
     {
-        match self.defined_method(class, sign, selector) {
+        if let Some(function) = self.defined_method(class, sign, selector) {
+            return Some(MethodId(function));
+        }
+        match self.built_in_method(class, sign, selector) {
+            None => None,
             Some(function) => Some(MethodId(function)),
-            None => self.built_in_method(class, sign, selector).map(MethodId),
         }
     }
 
@@ -343,7 +356,10 @@ impl<'a> ClassTable<'a> {
     pub fn selector(&self, name: &'a [u8]) -> Option<Sel>
         ensures { option_map number_of_selector result ≡ selector_in self.now name.now }
     {
-        self.selectors.get_index_of(&name).map(Sel)
+        match self.selectors.get_index_of(&name) {
+            None => None,
+            Some(number) => Some(Sel(number)),
+        }
     }
 
     /// The selector with the name, which gets the next number where it has none yet (Runtime Reference, `sel_registerName`). NoMemory: it
@@ -380,11 +396,7 @@ impl<'a> ClassTable<'a> {
         ensures table { IfOk result (λ table. IsTableOf (unit_tree source.entry.unit.now) table) }
         ensures refused { IfErr result (λ fault. fault ≡ Memory) }
     {
-        let selectors = selectors(alloc, source.unit)?;
-        let entries = source.entries(alloc)?;
-        let fields = source.all_fields(alloc)?;
-        let classes = source.classes(alloc, &selectors, &named_fields)?;
-        let built_in = BuiltIn::from(source.function_count)?;
+        let parts = Parts::of(alloc, &source, &named_fields)?;
         let Source {
             known,
             names,
@@ -392,6 +404,13 @@ impl<'a> ClassTable<'a> {
             defined,
             ..
         } = source;
+        let Parts {
+            selectors,
+            entries,
+            fields,
+            classes,
+            built_in,
+        } = parts;
         Ok(ClassTable {
             functions: known,
             main,

@@ -1,14 +1,28 @@
-use Rattle.std.proofs.Common.{◌≡◌, sym, ap, ◌∙◌, option_map}
+use Rattle.std.proofs.Common.{◌≡◌, sym, ap, subst, ◌∙◌, option_map}
 use Rattle.std.proofs.lemmas.Result.{IfOk-weaker}
-use Rattle.arc_ast.specs.Tree.{unit_tree}
+use Rattle.arc_ast.specs.Tree.{unit_tree, function_trees}
 use Rattle.arc_class.specs.Broken.{first}
 use Rattle.arc_class.specs.ClassRules.{broken}
 use Rattle.arc_class.specs.Fault.{told}
 use Rattle.arc_class.specs.Functions.{broken_functions}
 use Rattle.arc_class.specs.Look.{Sums}
+use Rattle.arc_class.specs.Names.{number_of, is_main}
+use Rattle.arc_class.specs.Table.{IsTableOf}
 use Rattle.arc_class.specs.Walk.{missing_in}
-use Rattle.arc_class.proofs.Answering.{in_classes, refuses, whole_known, nothing, missing_kept}
+use Rattle.arc_class.proofs.Answering.{in_classes, refuses, whole_known, nothing, missing_kept, own_known}
 use Rattle.arc_class.proofs.table.ClassTable.build.Goals as goal
+
+pub class_fields-requires : goal.class_fields-requires
+class_fields-requires c = own_known c.args.unit.now c.in_ok-source.source c.in_ok-source.ensures.unit c.in_ok-source.ensures.knows
+
+pub classes_fault-requires-clause-knows : goal.classes_fault-requires-clause-knows
+classes_fault-requires-clause-knows c = own_known c.args.unit.now c.in_ok-source.source c.in_ok-source.ensures.unit c.in_ok-source.ensures.knows
+
+pub of-requires-clause-knows : goal.of-requires-clause-knows
+of-requires-clause-knows c = own_known c.args.unit.now c.in_ok-source.source c.in_ok-source.ensures.unit c.in_ok-source.ensures.knows
+
+pub of-requires-clause-main : goal.of-requires-clause-main
+of-requires-clause-main c = ap (λ t. number_of is_main (unit_tree t).functions) c.in_ok-source.ensures.unit ∙ sym (ap (λ fs. number_of is_main (function_trees fs)) c.deref.ensures.value) ∙ sym c.in_ok-seen.ensures.main ∙ c.in-None-Some.is-1
 
 pub returns-in-Some-default-clause-refused : goal.returns-in-Some-default-clause-refused
 returns-in-Some-default-clause-refused c =
@@ -37,3 +51,7 @@ returns-in-None-Some-clause-unbroken c =
     whole_known u seen (option_map told c.earlier-own.result) (option_map told c.in_ok-walk.field-0) (option_map told c.missing_main.result) (option_map told c.earlier-functions.result) (option_map told c.in_ok-classes.classes) (option_map told c.earlier.result)
     sums c.missing_main.ensures c.earlier-own.ensures inside_u c.earlier-functions.ensures classes c.earlier.ensures in
     IfOk-weaker c.of.result _ _ (λ table h. nothing (broken u) (sym (ap (option_map told) c.in-None-Some.is-0) ∙ whole)) c.of.ensures.table
+
+pub returns-in-None-Some-clause-table : goal.returns-in-None-Some-clause-table
+returns-in-None-Some-clause-table c =
+    IfOk-weaker c.of.result _ _ (λ table h. subst (λ t. IsTableOf (unit_tree t) table) c.in_ok-source.ensures.unit h) c.of.ensures.table

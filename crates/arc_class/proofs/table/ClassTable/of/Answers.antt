@@ -13,29 +13,30 @@ use Rattle.arc_class.proofs.table.ClassTable.of.Goals as goal
 pub returns-clause-table : goal.returns-clause-table
 returns-clause-table c =
     let u = unit_tree c.args.source.unit.now in
+    let parts = c.in_ok-parts.parts in
     let table : ClassTable = record {
       functions = c.args.source.known;
       main = c.args.main;
       names = c.args.source.names;
-      entries = c.in_ok-entries.entries;
+      entries = parts.entries;
       declared = c.args.source.declared;
       defined = c.args.source.defined;
       named_fields = c.args.named_fields;
-      fields = c.in_ok-fields.fields;
-      selectors = c.in_ok-selectors.selectors;
-      classes = c.in_ok-classes.classes;
-      built_in = c.in_ok-built_in.built_in;
+      fields = parts.fields;
+      selectors = parts.selectors;
+      classes = parts.classes;
+      built_in = parts.built_in;
     } in
     record {
       knows = c.requires.knows.knows;
       main = c.requires.main;
       numbers = λ name. class_number_kept table.names u.interfaces name (c.requires.knows.class_places name);
-      superclasses = λ class. superclass_is u table class c.in_ok-entries.ensures;
-      results = λ from sign selector. result_is u table from sign selector c.in_ok-entries.ensures;
+      superclasses = λ class. superclass_is u table class c.in_ok-parts.ensures.entries;
+      results = λ from sign selector. result_is u table from sign selector c.in_ok-parts.ensures.entries;
       any_results = λ selector. any_is u table selector (c.requires.knows.declared_heads signs.Instance selector) (c.requires.knows.defined_heads signs.Instance selector);
-      selectors = λ name. position_number table.selectors.keys name ∙ ap (λ names. number_among names name) c.in_ok-selectors.ensures;
+      selectors = λ name. position_number table.selectors.keys name ∙ ap (λ names. number_among names name) c.in_ok-parts.ensures.selectors;
       named = λ from name. field_kept u table.named_fields.items c.requires.fields from name;
-      all_fields = λ class. lists_kept u table.fields.items c.in_ok-fields.ensures class;
-      classes = c.in_ok-classes.ensures.made;
-      built_in = c.in_ok-built_in.ensures.numbered ∙ ap built_in_from c.requires.knows.counts;
+      all_fields = λ class. lists_kept u table.fields.items c.in_ok-parts.ensures.fields class;
+      classes = c.in_ok-parts.ensures.classes;
+      built_in = c.in_ok-parts.ensures.built_in ∙ ap built_in_from c.requires.knows.counts;
     }
