@@ -106,7 +106,7 @@ fn colons(name: &[u8]) -> usize
 }
 
 /// A class of a table, by its number.
-#[derive(Clone, Copy)]
+#[derive(Clone, Copy, Debug, PartialEq, Eq)]
 pub struct ClassId(pub usize);
 
 /// The number of the class, if there is one.
