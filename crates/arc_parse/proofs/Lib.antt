@@ -27,3 +27,4 @@ pub mod UnitRows
 pub mod CommaRows
 pub mod ClassRows
 pub mod FieldRows
+pub mod Signs
