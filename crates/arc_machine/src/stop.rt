@@ -17,7 +17,7 @@ pub enum Stop {
 }
 
 /// Whether a machine goes on, and else why not.
-#[derive(Clone, Copy, Debug, PartialEq, Eq)]
+#[derive(Clone, Copy, PartialEq, Eq)]
 pub enum Answer {
     Going,
     Ended(i32),

@@ -2,7 +2,7 @@
 
 /// A call, or the end of an object, behind which the running function goes on at the instruction
 /// `back` with its `receiver`, which is the place of a block, or 0 for nil.
-#[derive(Clone, Copy, Debug, PartialEq, Eq)]
+#[derive(Clone, Copy)]
 pub enum Waiting {
     Call {
         back: usize,

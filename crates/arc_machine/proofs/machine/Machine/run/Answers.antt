@@ -29,3 +29,6 @@ loop-turns-preserved-then-made-most g c =
     let slid = turned_slid g.S.Store.out _ engine _ _ _ _ _ _ _ _ _ _ _ c.loop-turns.invariant.2 going s.slid s.sound in
     let e = c.advance.ensures in
     (omega arith, c.loop-turns.invariant.1, rw add-one (turned g.S.Store.out _ _ _ _ _ _ _ _ _ _ _ _ _ _ _ _ slid (s.slid.answer ∙ going) c.advance.result e.ok e.fine e.err e.cause))
+
+pub loop-turns-smaller : goal.loop-turns-smaller
+loop-turns-smaller g c = omega arith

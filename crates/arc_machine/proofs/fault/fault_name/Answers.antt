@@ -1,0 +1,6 @@
+use Rattle.std.proofs.Common.{ap, sym}
+use Rattle.arc_machine.specs.Told.{name_of}
+use Rattle.arc_machine.proofs.fault.fault_name.Goals as goal
+
+pub returns-in-Depth : goal.returns-in-Depth
+returns-in-Depth c = ap name_of (sym c.in-Depth.is)
