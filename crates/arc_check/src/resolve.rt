@@ -89,6 +89,13 @@ fn converted(alloc: Global, wanted: Kind, of: Resolution) -> Result<Value, Alloc
     as_kind(alloc, wanted, kind, value)
 }
 
+/// The number as one of the kind, in a box.
+fn boxed(alloc: Global, wanted: Kind, of: Resolution) -> Result<Box<Value>, AllocError>
+    ensures { IfOk result (λ new. checked.value new.value ≡ resolving.converted wanted (resolution of)) }
+{
+    Ok(Box::new(alloc, converted(alloc, wanted, of)?)?)
+}
+
 /// The kind of what an operator gives that computes in the kind.
 fn given_kind(operator: BinaryOperator, kind: Kind) -> Kind
     ensures { result ≡ kinds.given_kind operator kind }
@@ -121,8 +128,8 @@ fn combined(
 ) -> Result<Resolution, AllocError>
     ensures { IfOk result (λ new. resolution new ≡ resolving.combined operator kind (resolution left) (resolution right)) }
 {
-    let left = Box::new(alloc, converted(alloc, kind, left)?)?;
-    let right = Box::new(alloc, converted(alloc, kind, right)?)?;
+    let left = boxed(alloc, kind, left)?;
+    let right = boxed(alloc, kind, right)?;
     let value = Value::Combined(operator, kind, left, right);
     Ok(Resolution::Gives(given_kind(operator, kind), value))
 }
@@ -211,8 +218,8 @@ fn field_assigned(
     let Some(field) = found else {
         return Ok(of);
     };
+    let value = boxed(alloc, Kind::Int, of)?;
     let object = Box::new(alloc, object)?;
-    let value = Box::new(alloc, converted(alloc, Kind::Int, of)?)?;
     let value = Value::FieldAssigned(object, field.owner.0, field.index, value);
     Ok(Resolution::Gives(Kind::Int, value))
 }
@@ -244,7 +251,7 @@ fn name_assigned(
     match local {
         None => field_assigned(alloc, Reference::Itself, own, of),
         Some(Local::Int(number)) => {
-            let value = Box::new(alloc, converted(alloc, Kind::Int, of)?)?;
+            let value = boxed(alloc, Kind::Int, of)?;
             Ok(Resolution::Gives(Kind::Int, Value::Assigned(number, value)))
         }
         Some(Local::Object(number, _)) => {
@@ -443,6 +450,13 @@ fn local_class(local: Option<Local>) -> Option<ClassId>
     }
 }
 
+/// The static class of what is resolved.
+fn class_in(of: Typed) -> Option<ClassId>
+    ensures { result ≡ of.class }
+{
+    of.class
+}
+
 /// An assignment to the left side, of what is resolved, with the left side's static class.
 #[cycle(resolve)]
 fn assigned<'a>(
@@ -473,7 +487,7 @@ fn assigned<'a>(
             })
         }
         _ => Ok(Typed {
-            class: expression(alloc, table, visible, left)?.class,
+            class: class_in(expression(alloc, table, visible, left)?),
             value: of,
         }),
     }

@@ -1,4 +1,4 @@
-use Rattle.std.proofs.Common.{refl, sym, ap, ◌∙◌}
+use Rattle.std.proofs.Common.{option_map, refl, sym, ap, ◌∙◌}
 use Rattle.arc_class.specs.Table.{number_of_class}
 use Rattle.arc_spec.specs.Resolved.{Invoked}
 use Rattle.arc_check.specs.declared.callee.Callee.TheVariants.{Printf, GetChar, Defined, Unknown}
@@ -31,7 +31,7 @@ pub expression-returns-in-Itself : goal.expression-returns-in-Itself
 expression-returns-in-Itself t c = rw c.in-Itself.is (record { class = c.own_class.ensures c.args.table.now; value = refl })
 
 pub assigned-returns-in_ok-expression-in_default : goal.assigned-returns-in_ok-expression-in_default
-assigned-returns-in_ok-expression-in_default t c = record { class = c.in_ok-expression-in_default.ensures.class; value = assigned_other (seen c.args.table.now c.args.visible.now) c.args.left.now _ c.in_default.not-Paren c.in_default.not-Name c.in_default.not-Arrow }
+assigned-returns-in_ok-expression-in_default t c = record { class = ap (option_map number_of_class) c.class_in.ensures ∙ c.in_ok-expression-in_default.ensures.class; value = assigned_other (seen c.args.table.now c.args.visible.now) c.args.left.now _ c.in_default.not-Paren c.in_default.not-Name c.in_default.not-Arrow }
 
 pub message-returns-in_ok-class_message-in-Some : goal.message-returns-in_ok-class_message-in-Some
 message-returns-in_ok-class_message-in-Some t c = λ at part.
