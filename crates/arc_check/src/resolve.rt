@@ -382,10 +382,7 @@ pub fn expression<'a>(
         Expr::Integer(_, number) => Ok(gives(literal_kind(*number), Value::Number(*number))),
         Expr::Text(_, _) => Ok(gives(Kind::Int, Value::Number(0))),
         Expr::Paren(_, inside) => expression(alloc, table, visible, inside),
-        Expr::Call(_, name, arguments) => {
-            let typed = call(alloc, table, visible, name, arguments)?;
-            Ok(typed)
-        }
+        Expr::Call(_, name, arguments) => call(alloc, table, visible, name, arguments),
         Expr::Nil(_) => Ok(Typed {
             class: None,
             value: Resolution::Refers(Reference::Nil),
@@ -430,12 +427,10 @@ pub fn expression<'a>(
             assigned(alloc, table, visible, left, right.value)
         }
         Expr::Send(_, _, receiver, selector, arguments) => {
-            let typed = message(alloc, table, visible, receiver, selector, arguments)?;
-            Ok(typed)
+            message(alloc, table, visible, receiver, selector, arguments)
         }
         Expr::SendSuper(_, _, _, selector, arguments) => {
-            let typed = super_message(alloc, table, visible, selector, arguments)?;
-            Ok(typed)
+            super_message(alloc, table, visible, selector, arguments)
         }
     }
 }

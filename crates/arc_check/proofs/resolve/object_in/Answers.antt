@@ -5,6 +5,3 @@ use Rattle.arc_check.proofs.resolve.object_in.Goals as goal
 
 pub returns-in-Gives : goal.returns-in-Gives
 returns-in-Gives c = ap (λ r. object_in (resolution r)) (sym c.in-Gives.is)
-
-pub returns-in-Refers : goal.returns-in-Refers
-returns-in-Refers c = ap (λ r. object_in (resolution r)) (sym c.in-Refers.is)
