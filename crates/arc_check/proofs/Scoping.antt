@@ -72,3 +72,11 @@ keeps_turn (a ∷ old) (b ∷ mid) (d ∷ new) p q =
     let g : take (length mid) new ≡ mid = cc in
     let r : take (length old) new ≡ old = keeps_turn old mid new h g in
     cc
+
+-- and so it does where nothing is changed
+take_whole : {A : Type 0} (all : List A) → take (length all) all ≡ all
+take_whole [] = refl
+take_whole (a ∷ all) = ap (λ us. a ∷ us) (take_whole all)
+
+pub keeps_same : {A : Type 0} (old new : List A) → new ≡ old → take (length old) new ≡ old
+keeps_same old new e = ap (take (length old)) e ∙ take_whole old

@@ -8,7 +8,7 @@ use std::alloc::AllocError;
 use thiserror::Error;
 
 /// Why a source is refused: the first rule that its functions break, or no memory.
-#[derive(Clone, Copy, Debug, Drop, PartialEq, Eq, Error)]
+#[derive(Clone, Copy, Debug, Drop, Error)]
 pub enum CheckFault {
     /// A name that means neither a variable nor a field, a field that the object's class hasn't, a call of a function that is not known or of `main`, or a `self`
     /// outside methods; the place is that of the name.

@@ -380,6 +380,16 @@ fn receiver_fault(class: Option<ClassId>, receiver: Judged, at: usize) -> Option
     }
 }
 
+/// The rule that a message of no kind breaks.
+fn unknown_method(kind: Option<Kind>, part: usize) -> Option<CheckFault>
+    ensures { option_map told result ≡ first (broken_if (is_none kind) part 42) }
+{
+    match kind {
+        Some(_) => None,
+        None => Some(CheckFault::NoSuchMethod(part)),
+    }
+}
+
 /// The rule that a message breaks for which no method is known: to the class or, with none, to what this is told of.
 fn method_fault<'a>(
     table: &ClassTable<'a>,
@@ -394,10 +404,7 @@ fn method_fault<'a>(
     if class.is_none() && !is_object(receiver.kind) {
         return None;
     }
-    match sent_kind(table, class, receiver.class, selector) {
-        Some(_) => None,
-        None => Some(CheckFault::NoSuchMethod(part)),
-    }
+    unknown_method(sent_kind(table, class, receiver.class, selector), part)
 }
 
 /// What is told of a message.
@@ -425,16 +432,6 @@ fn judge_send<'a>(
         class: sent_class(class, judged.class, selector),
         fault: earlier(earlier(own, unknown), passed.fault),
         taken: passed.taken,
-    }
-}
-
-/// The rule that a message of no kind breaks.
-fn unknown_method(kind: Option<Kind>, part: usize) -> Option<CheckFault>
-    ensures { option_map told result ≡ first (broken_if (is_none kind) part 42) }
-{
-    match kind {
-        Some(_) => None,
-        None => Some(CheckFault::NoSuchMethod(part)),
     }
 }
 

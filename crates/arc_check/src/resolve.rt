@@ -89,6 +89,13 @@ fn converted(alloc: Global, wanted: Kind, of: Resolution) -> Result<Value, Alloc
     as_kind(alloc, wanted, kind, value)
 }
 
+/// The number as one of the kind, in a box.
+fn boxed(alloc: Global, wanted: Kind, of: Resolution) -> Result<Box<Value>, AllocError>
+    ensures { IfOk result (λ new. checked.value new.value ≡ resolving.converted wanted (resolution of)) }
+{
+    Ok(Box::new(alloc, converted(alloc, wanted, of)?)?)
+}
+
 /// The kind of what an operator gives that computes in the kind.
 fn given_kind(operator: BinaryOperator, kind: Kind) -> Kind
     ensures { result ≡ kinds.given_kind operator kind }
@@ -121,8 +128,8 @@ fn combined(
 ) -> Result<Resolution, AllocError>
     ensures { IfOk result (λ new. resolution new ≡ resolving.combined operator kind (resolution left) (resolution right)) }
 {
-    let left = Box::new(alloc, converted(alloc, kind, left)?)?;
-    let right = Box::new(alloc, converted(alloc, kind, right)?)?;
+    let left = boxed(alloc, kind, left)?;
+    let right = boxed(alloc, kind, right)?;
     let value = Value::Combined(operator, kind, left, right);
     Ok(Resolution::Gives(given_kind(operator, kind), value))
 }
@@ -211,8 +218,8 @@ fn field_assigned(
     let Some(field) = found else {
         return Ok(of);
     };
+    let value = boxed(alloc, Kind::Int, of)?;
     let object = Box::new(alloc, object)?;
-    let value = Box::new(alloc, converted(alloc, Kind::Int, of)?)?;
     let value = Value::FieldAssigned(object, field.owner.0, field.index, value);
     Ok(Resolution::Gives(Kind::Int, value))
 }
@@ -244,7 +251,7 @@ fn name_assigned(
     match local {
         None => field_assigned(alloc, Reference::Itself, own, of),
         Some(Local::Int(number)) => {
-            let value = Box::new(alloc, converted(alloc, Kind::Int, of)?)?;
+            let value = boxed(alloc, Kind::Int, of)?;
             Ok(Resolution::Gives(Kind::Int, Value::Assigned(number, value)))
         }
         Some(Local::Object(number, _)) => {
@@ -375,10 +382,7 @@ pub fn expression<'a>(
         Expr::Integer(_, number) => Ok(gives(literal_kind(*number), Value::Number(*number))),
         Expr::Text(_, _) => Ok(gives(Kind::Int, Value::Number(0))),
         Expr::Paren(_, inside) => expression(alloc, table, visible, inside),
-        Expr::Call(_, name, arguments) => {
-            let typed = call(alloc, table, visible, name, arguments)?;
-            Ok(typed)
-        }
+        Expr::Call(_, name, arguments) => call(alloc, table, visible, name, arguments),
         Expr::Nil(_) => Ok(Typed {
             class: None,
             value: Resolution::Refers(Reference::Nil),
@@ -423,12 +427,10 @@ pub fn expression<'a>(
             assigned(alloc, table, visible, left, right.value)
         }
         Expr::Send(_, _, receiver, selector, arguments) => {
-            let typed = message(alloc, table, visible, receiver, selector, arguments)?;
-            Ok(typed)
+            message(alloc, table, visible, receiver, selector, arguments)
         }
         Expr::SendSuper(_, _, _, selector, arguments) => {
-            let typed = super_message(alloc, table, visible, selector, arguments)?;
-            Ok(typed)
+            super_message(alloc, table, visible, selector, arguments)
         }
     }
 }
@@ -441,6 +443,13 @@ fn local_class(local: Option<Local>) -> Option<ClassId>
         None | Some(Local::Int(_)) => None,
         Some(Local::Object(_, class)) => class,
     }
+}
+
+/// The static class of what is resolved.
+fn class_in(of: Typed) -> Option<ClassId>
+    ensures { result ≡ of.class }
+{
+    of.class
 }
 
 /// An assignment to the left side, of what is resolved, with the left side's static class.
@@ -473,7 +482,7 @@ fn assigned<'a>(
             })
         }
         _ => Ok(Typed {
-            class: expression(alloc, table, visible, left)?.class,
+            class: class_in(expression(alloc, table, visible, left)?),
             value: of,
         }),
     }

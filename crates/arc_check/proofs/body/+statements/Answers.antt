@@ -1,5 +1,6 @@
-use Rattle.std.proofs.Common.{◌≡◌, option_map, subst, take, Option, IfOk, OnOk, ap, ◌∙◌}
+use Rattle.std.proofs.Common.{◌≡◌, option_map, subst, take, Option, IfOk, OnOk, refl, ap, ◌∙◌}
 use Rattle.arc_ast.specs.Tree.{stmt_tree, stmt_trees, expr_tree}
+use Rattle.std.proofs.lemmas.Result.{on_ok_weaker}
 use Rattle.arc_class.specs.Broken.{Broken, first}
 use Rattle.arc_class.proofs.Firsts.{first_both}
 use Rattle.arc_check.specs.Fault.{told}
@@ -7,7 +8,7 @@ use Rattle.arc_check.specs.Rules.{broken_test, broken_stmt}
 use Rattle.arc_check.specs.Scopes.{Scope, leave, behind}
 use Rattle.arc_check.specs.Views.{seen}
 use Rattle.arc_check.proofs.Leaving.{behind_same, behind_all_same, leave_is}
-use Rattle.arc_check.proofs.Scoping.{keeps_turn}
+use Rattle.arc_check.proofs.Scoping.{keeps_turn, keeps_same}
 use Rattle.arc_check.proofs.Statements.{statements_turn, behind_turn, block_is, block_behind}
 use Rattle.arc_check.proofs.body.+statements.Goals as goal
 
@@ -78,3 +79,42 @@ statements-loop-one-preserved t c =
       scope = behind_turn s new _ xs i x c.loop-one-test.true c.one-item.is c.in_ok-statement.ensures.scope c.loop-one.invariant.scope;
       keeps = keeps_turn c.args.visible.now.bound.items c.loop-one.visible.bound.items c.statement.new.visible.bound.items c.loop-one.invariant.keeps c.in_ok-statement.ensures.keeps;
     }
+
+pub block-returns-clause-keeps : goal.block-returns-clause-keeps
+block-returns-clause-keeps t c = c.leave.ensures.bound ∙ ap (λ n. take n c.statements.new.visible.bound.items) (c.len-count.ensures ∙ c.args.visible.now.bound.ok.0) ∙ c.in_ok-fault.ensures.keeps
+
+pub scoped-returns-clause-keeps : goal.scoped-returns-clause-keeps
+scoped-returns-clause-keeps t c = c.leave.ensures.bound ∙ ap (λ n. take n c.statement.new.visible.bound.items) (c.len-count.ensures ∙ c.args.visible.now.bound.ok.0) ∙ c.in_ok-fault.ensures.keeps
+
+pub statement-returns-in-Block-clause-keeps : goal.statement-returns-in-Block-clause-keeps
+statement-returns-in-Block-clause-keeps t c = on_ok_weaker c.block.result (keeps_same c.args.visible.now.bound.items c.block.new.visible.bound.items) c.block.ensures.keeps
+
+pub statement-returns-in-Empty-clause-keeps : goal.statement-returns-in-Empty-clause-keeps
+statement-returns-in-Empty-clause-keeps t c = keeps_same c.args.visible.now.bound.items _ refl
+
+pub statement-returns-in-Expr-clause-keeps : goal.statement-returns-in-Expr-clause-keeps
+statement-returns-in-Expr-clause-keeps t c = keeps_same c.args.visible.now.bound.items _ refl
+
+pub statement-returns-in-Return-clause-keeps : goal.statement-returns-in-Return-clause-keeps
+statement-returns-in-Return-clause-keeps t c = keeps_same c.args.visible.now.bound.items _ refl
+
+pub statement-returns-in_ok-inside-in-If-clause-scope : goal.statement-returns-in_ok-inside-in-If-clause-scope
+statement-returns-in_ok-inside-in-If-clause-scope t c = rw c.in-If.is (rw c.deref-in-If.ensures at c.in_ok-inside-in-If.ensures.scope)
+
+pub statement-returns-in_ok-inside-in-If-clause-keeps : goal.statement-returns-in_ok-inside-in-If-clause-keeps
+statement-returns-in_ok-inside-in-If-clause-keeps t c = keeps_same c.args.visible.now.bound.items _ c.in_ok-inside-in-If.ensures.keeps
+
+pub statement-returns-in_ok-inside-in-While-clause-scope : goal.statement-returns-in_ok-inside-in-While-clause-scope
+statement-returns-in_ok-inside-in-While-clause-scope t c = rw c.in-While.is (rw c.deref-in-While.ensures at c.in_ok-inside-in-While.ensures.scope)
+
+pub statement-returns-in_ok-inside-in-While-clause-keeps : goal.statement-returns-in_ok-inside-in-While-clause-keeps
+statement-returns-in_ok-inside-in-While-clause-keeps t c = keeps_same c.args.visible.now.bound.items _ c.in_ok-inside-in-While.ensures.keeps
+
+pub statement-returns-in_ok-second-in-IfElse-clause-scope : goal.statement-returns-in_ok-second-in-IfElse-clause-scope
+statement-returns-in_ok-second-in-IfElse-clause-scope t c =
+    let between : seen c.args.table.now c.scoped-in-IfElse.new.visible ≡ leave (seen c.args.table.now c.args.visible.now) (behind (seen c.args.table.now c.args.visible.now) (stmt_tree c.in-IfElse.then.value)) =
+    rw c.deref-in-IfElse.ensures at c.in_ok-first-in-IfElse.ensures.scope in
+    rw c.in-IfElse.is ((rw c.deref-in-IfElse-2.ensures at c.in_ok-second-in-IfElse.ensures.scope) ∙ ap (λ p. leave p (behind p (stmt_tree c.in-IfElse.other.value))) between)
+
+pub statement-returns-in_ok-second-in-IfElse-clause-keeps : goal.statement-returns-in_ok-second-in-IfElse-clause-keeps
+statement-returns-in_ok-second-in-IfElse-clause-keeps t c = keeps_same c.args.visible.now.bound.items _ (c.in_ok-second-in-IfElse.ensures.keeps ∙ c.in_ok-first-in-IfElse.ensures.keeps)

@@ -1,13 +1,14 @@
-use Rattle.std.proofs.Common.{◌≡◌, ◌-◌, OnOk, IfOk, take, ap, subst, ◌∙◌}
+use Rattle.std.proofs.Common.{◌≡◌, ◌-◌, OnOk, IfOk, take, refl, ap, subst, ◌∙◌}
+use Rattle.std.proofs.lemmas.Result.{on_ok_weaker}
 use Rattle.arc_ast.specs.Tree.{expr_tree, stmt_tree, stmt_trees}
 use Rattle.arc_spec.specs.Resolved as spec
 use Rattle.arc_check.specs.Checked as checked
 use Rattle.arc_check.specs.Resolving.{nothing, number_in, resolved, resolved_stmt, resolved_stmts}
-use Rattle.arc_check.specs.Scopes.{Scope, behind_all}
+use Rattle.arc_check.specs.Scopes.{Scope, leave, behind, behind_all}
 use Rattle.arc_check.specs.Views.{seen}
 use Rattle.arc_check.proofs.Commands.{commands_turn, commands_end, behind_turn, block_command, block_scope, declaration_command, choose_is}
 use Rattle.arc_check.proofs.Leaving.{behind_same, behind_all_same, leave_is}
-use Rattle.arc_check.proofs.Scoping.{keeps_turn}
+use Rattle.arc_check.proofs.Scoping.{keeps_turn, keeps_same}
 use Rattle.arc_check.proofs.Trees.{sequence_command}
 use Rattle.arc_check.proofs.program.+commands.Goals as goal
 
@@ -75,3 +76,42 @@ pub commands-returns-clause-commands : goal.commands-returns-clause-commands
 commands-returns-clause-commands t c =
     let s = seen c.args.table.now c.loop-statement.visible in
     commands_end s c.args.statements.now c.loop-statement.statement-index c.loop-statement.all.items (resolved_stmts (seen c.args.table.now c.args.visible.now) (stmt_trees c.args.statements.now)) c.loop-statement-test.false c.loop-statement.invariant.commands
+
+pub block-returns-clause-keeps : goal.block-returns-clause-keeps
+block-returns-clause-keeps t c = c.leave.ensures.bound ∙ ap (λ n. take n c.commands.new.visible.bound.items) (c.len-count.ensures ∙ c.args.visible.now.bound.ok.0) ∙ c.in_ok-all.ensures.keeps
+
+pub scoped-returns-clause-keeps : goal.scoped-returns-clause-keeps
+scoped-returns-clause-keeps t c = c.leave.ensures.bound ∙ ap (λ n. take n c.command.new.visible.bound.items) (c.len-count.ensures ∙ c.args.visible.now.bound.ok.0) ∙ c.in_ok-new.ensures.keeps
+
+pub command-returns-in-Block-clause-keeps : goal.command-returns-in-Block-clause-keeps
+command-returns-in-Block-clause-keeps t c = on_ok_weaker c.block.result (keeps_same c.args.visible.now.bound.items c.block.new.visible.bound.items) c.block.ensures.keeps
+
+pub command-returns-in-Empty-clause-keeps : goal.command-returns-in-Empty-clause-keeps
+command-returns-in-Empty-clause-keeps t c = keeps_same c.args.visible.now.bound.items _ refl
+
+pub command-returns-in_ok-expression-in-Expr-clause-keeps : goal.command-returns-in_ok-expression-in-Expr-clause-keeps
+command-returns-in_ok-expression-in-Expr-clause-keeps t c = keeps_same c.args.visible.now.bound.items _ refl
+
+pub command-returns-in_ok-returned-in-Return-clause-keeps : goal.command-returns-in_ok-returned-in-Return-clause-keeps
+command-returns-in_ok-returned-in-Return-clause-keeps t c = keeps_same c.args.visible.now.bound.items _ refl
+
+pub command-returns-in_ok-nothing-in-If-clause-scope : goal.command-returns-in_ok-nothing-in-If-clause-scope
+command-returns-in_ok-nothing-in-If-clause-scope t c = rw c.in-If.is (rw c.deref-in-If.ensures at c.in_ok-then-in-If.ensures.scope)
+
+pub command-returns-in_ok-nothing-in-If-clause-keeps : goal.command-returns-in_ok-nothing-in-If-clause-keeps
+command-returns-in_ok-nothing-in-If-clause-keeps t c = keeps_same c.args.visible.now.bound.items _ c.in_ok-then-in-If.ensures.keeps
+
+pub command-returns-in_ok-other-in-IfElse-clause-scope : goal.command-returns-in_ok-other-in-IfElse-clause-scope
+command-returns-in_ok-other-in-IfElse-clause-scope t c =
+    let between : seen c.args.table.now c.scoped-in-IfElse.new.visible ≡ leave (seen c.args.table.now c.args.visible.now) (behind (seen c.args.table.now c.args.visible.now) (stmt_tree c.in-IfElse.then.value)) =
+    rw c.deref-in-IfElse.ensures at c.in_ok-then-in-IfElse.ensures.scope in
+    rw c.in-IfElse.is ((rw c.deref-in-IfElse-2.ensures at c.in_ok-other-in-IfElse.ensures.scope) ∙ ap (λ p. leave p (behind p (stmt_tree c.in-IfElse.other.value))) between)
+
+pub command-returns-in_ok-other-in-IfElse-clause-keeps : goal.command-returns-in_ok-other-in-IfElse-clause-keeps
+command-returns-in_ok-other-in-IfElse-clause-keeps t c = keeps_same c.args.visible.now.bound.items _ (c.in_ok-other-in-IfElse.ensures.keeps ∙ c.in_ok-then-in-IfElse.ensures.keeps)
+
+pub command-returns-in_ok-body-in-While-clause-scope : goal.command-returns-in_ok-body-in-While-clause-scope
+command-returns-in_ok-body-in-While-clause-scope t c = rw c.in-While.is (rw c.deref-in-While.ensures at c.in_ok-body-in-While.ensures.scope)
+
+pub command-returns-in_ok-body-in-While-clause-keeps : goal.command-returns-in_ok-body-in-While-clause-keeps
+command-returns-in_ok-body-in-While-clause-keeps t c = keeps_same c.args.visible.now.bound.items _ c.in_ok-body-in-While.ensures.keeps

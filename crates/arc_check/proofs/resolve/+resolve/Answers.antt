@@ -1,4 +1,5 @@
-use Rattle.std.proofs.Common.{refl, sym, ap, ◌∙◌}
+use Rattle.std.proofs.Common.{option_map, refl, sym, ap, ◌∙◌}
+use Rattle.std.proofs.lemmas.Result.{IfOk-weaker}
 use Rattle.arc_class.specs.Table.{number_of_class}
 use Rattle.arc_spec.specs.Resolved.{Invoked}
 use Rattle.arc_check.specs.declared.callee.Callee.TheVariants.{Printf, GetChar, Defined, Unknown}
@@ -14,25 +15,25 @@ use Rattle.arc_check.proofs.Messages.{assigned_other, resolves_class, resolves_o
 use Rattle.arc_check.proofs.resolve.+resolve.Goals as goal
 use Rattle.arc_check.proofs.resolve.+resolve.Goals.{call-in-Printf+in_ok-value-in-Printf, call-in-Defined+in_ok-values-in-Defined, call-in-GetChar, call-in-Unknown}
 
-pub expression-returns-in_ok-typed-in-Call : goal.expression-returns-in_ok-typed-in-Call
-expression-returns-in_ok-typed-in-Call t c =
-    rw (c.in-Call.is, call_tree c.in-Call.field-0 c.in-Call.name c.in-Call.arguments, sym c.deref-in-Call.ensures.value, sym c.deref-in-Call-2.ensures.value) (c.in_ok-typed-in-Call.ensures c.in-Call.field-0)
+pub expression-returns-in-Call : goal.expression-returns-in-Call
+expression-returns-in-Call t c =
+    IfOk-weaker c.call.result _ _ (λ typed h. rw (c.in-Call.is, call_tree c.in-Call.field-0 c.in-Call.name c.in-Call.arguments, sym c.deref-in-Call.ensures.value, sym c.deref-in-Call-2.ensures.value) (h c.in-Call.field-0)) c.call.ensures
 
-pub expression-returns-in_ok-typed-in-Send : goal.expression-returns-in_ok-typed-in-Send
-expression-returns-in_ok-typed-in-Send t c =
-    rw (c.in-Send.is, send_tree c.in-Send.field-0 c.in-Send.field-1 c.in-Send.receiver c.in-Send.selector c.in-Send.arguments, sym c.deref-in-Send.ensures, sym c.deref-in-Send-2.ensures.value, sym c.deref-in-Send-3.ensures.value)
-    (c.in_ok-typed-in-Send.ensures c.in-Send.field-0 c.in-Send.field-1)
+pub expression-returns-in-Send : goal.expression-returns-in-Send
+expression-returns-in-Send t c =
+    IfOk-weaker c.message.result _ _ (λ typed h. rw (c.in-Send.is, send_tree c.in-Send.field-0 c.in-Send.field-1 c.in-Send.receiver c.in-Send.selector c.in-Send.arguments, sym c.deref-in-Send.ensures, sym c.deref-in-Send-2.ensures.value, sym c.deref-in-Send-3.ensures.value)
+    (h c.in-Send.field-0 c.in-Send.field-1)) c.message.ensures
 
-pub expression-returns-in_ok-typed-in-SendSuper : goal.expression-returns-in_ok-typed-in-SendSuper
-expression-returns-in_ok-typed-in-SendSuper t c =
-    rw (c.in-SendSuper.is, send_super_tree c.in-SendSuper.field-0 c.in-SendSuper.field-1 c.in-SendSuper.field-2 c.in-SendSuper.selector c.in-SendSuper.arguments, sym c.deref-in-SendSuper.ensures.value, sym c.deref-in-SendSuper-2.ensures.value)
-    (c.in_ok-typed-in-SendSuper.ensures c.in-SendSuper.field-0 c.in-SendSuper.field-1 c.in-SendSuper.field-2)
+pub expression-returns-in-SendSuper : goal.expression-returns-in-SendSuper
+expression-returns-in-SendSuper t c =
+    IfOk-weaker c.super_message.result _ _ (λ typed h. rw (c.in-SendSuper.is, send_super_tree c.in-SendSuper.field-0 c.in-SendSuper.field-1 c.in-SendSuper.field-2 c.in-SendSuper.selector c.in-SendSuper.arguments, sym c.deref-in-SendSuper.ensures.value, sym c.deref-in-SendSuper-2.ensures.value)
+    (h c.in-SendSuper.field-0 c.in-SendSuper.field-1 c.in-SendSuper.field-2)) c.super_message.ensures
 
 pub expression-returns-in-Itself : goal.expression-returns-in-Itself
 expression-returns-in-Itself t c = rw c.in-Itself.is (record { class = c.own_class.ensures c.args.table.now; value = refl })
 
 pub assigned-returns-in_ok-expression-in_default : goal.assigned-returns-in_ok-expression-in_default
-assigned-returns-in_ok-expression-in_default t c = record { class = c.in_ok-expression-in_default.ensures.class; value = assigned_other (seen c.args.table.now c.args.visible.now) c.args.left.now _ c.in_default.not-Paren c.in_default.not-Name c.in_default.not-Arrow }
+assigned-returns-in_ok-expression-in_default t c = record { class = ap (option_map number_of_class) c.class_in.ensures ∙ c.in_ok-expression-in_default.ensures.class; value = assigned_other (seen c.args.table.now c.args.visible.now) c.args.left.now _ c.in_default.not-Paren c.in_default.not-Name c.in_default.not-Arrow }
 
 pub message-returns-in_ok-class_message-in-Some : goal.message-returns-in_ok-class_message-in-Some
 message-returns-in_ok-class_message-in-Some t c = λ at part.

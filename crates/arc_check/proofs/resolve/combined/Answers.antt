@@ -1,0 +1,16 @@
+use Rattle.std.proofs.Common.{ap, ◌∙◌}
+use Rattle.arc_spec.specs.Resolved.{Combined}
+use Rattle.arc_check.specs.Building.{resolution}
+use Rattle.arc_check.specs.Checked as checked
+use Rattle.arc_check.specs.Kinds.{given_kind}
+use Rattle.arc_check.specs.Resolving.{Gives, converted}
+use Rattle.arc_check.proofs.resolve.combined.Goals as goal
+
+pub returns : goal.returns
+returns c =
+    let operator = c.args.operator in
+    let kind = c.args.kind in
+    let a = checked.value c.in_ok-left.left.value in
+    let b = checked.value c.in_ok-right.right.value in
+    ap (λ k. Gives k (Combined operator kind a b)) c.given_kind.ensures ∙ ap (λ x. Gives (given_kind operator kind) (Combined operator kind x b)) c.in_ok-left.ensures
+    ∙ ap (λ x. Gives (given_kind operator kind) (Combined operator kind (converted kind (resolution c.args.left)) x)) c.in_ok-right.ensures

@@ -1,0 +1,12 @@
+use Rattle.std.proofs.Common.{ap}
+use Rattle.arc_ast.specs.declared.tree.Kind.TheVariants as k
+use Rattle.arc_class.specs.Table.{number_of_class}
+use Rattle.arc_spec.specs.Resolved.{Field}
+use Rattle.arc_check.specs.Checked as checked
+use Rattle.arc_check.specs.Resolving.{Gives}
+use Rattle.arc_check.proofs.resolve.field.Goals as goal
+
+pub returns : goal.returns
+returns c =
+    let f = c.in-Some.field in
+    rw c.in-Some.is (ap (λ o. Gives k.Int (Field (checked.reference o) (number_of_class f.owner) f.index)) c.in_ok-object.ensures.ok)
