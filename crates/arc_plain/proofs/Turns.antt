@@ -1,5 +1,5 @@
 -- The interpreter's loops, and the views of what lies in a Vec.
-use Rattle.std.proofs.Common.{rules, ◌≡◌, ℕ, zero, suc, ◌+◌, ◌-◌, ◌<◌, ◌≤◌, ℤ, false, List, [], ◌∷◌, ◌++◌, length, get_or, drop, Vec, Box, Global, Result, Err, append_assoc, refl, sym, ap, subst, ◌∙◌}
+use Rattle.std.proofs.Common.{rules, ◌≡◌, ℕ, zero, suc, ◌+◌, ◌-◌, ◌<◌, ◌≤◌, ℤ, false, List, [], ◌∷◌, ◌++◌, length, get_or, drop, Vec, Box, Global, Option, Result, Err, append_assoc, refl, sym, ap, subst, ◌∙◌}
 use Rattle.std.proofs.lemmas.List.{drop_more}
 use native.Mathlib.Omega.{arith}
 use mathlib.Core.Former.{Count}
@@ -9,14 +9,14 @@ use Rattle.arc_check.specs.declared.checked.Value.{Value, Print, Print', Invoked
 use Rattle.arc_check.specs.declared.checked.Command.{Command, Sequence, Sequence', Row_of-Command, end_of-Command, more_of-Command, items-the_row-Command, items_hidden-the_row-Command-0}
 use Rattle.arc_check.specs.Checked.{functions, pieces, value, values, reference, row_values, command, commands, row_commands}
 use Rattle.arc_spec.specs.Resolved as resolved
-use Rattle.arc_spec.specs.Classes.{Class}
+use Rattle.arc_spec.specs.Classes.{Class, class_at}
 use Rattle.arc_spec.specs.World.{World, Outcome, Done, Faulted, Cut, then_do}
 use Rattle.arc_spec.specs.Number.{is_zero}
 use Rattle.arc_check.specs.declared.checked.CheckedFunction.{CheckedFunction}
 use Rattle.arc_plain.specs.declared.halt.Halt.{Halt}
 use Rattle.arc_plain.specs.declared.halt.Halt.TheVariants.{Stopped, Cut, Memory}
 use Rattle.arc_spec.specs.Meaning as meaning
-use Rattle.arc_spec.specs.Meaning.{Deeper, Normal, level, called, turns, chosen, if_normal, function_at, ended, evaluated, all_evaluated, executed, all_executed}
+use Rattle.arc_spec.specs.Meaning.{Deeper, Normal, level, called, dispatched, finds, turns, chosen, if_normal, function_at, ended, evaluated, all_evaluated, executed, all_executed}
 use Rattle.arc_plain.specs.declared.run.Flow.{Flow}
 use Rattle.arc_plain.specs.Views.{Tells, flow_of, function_of}
 
@@ -114,6 +114,20 @@ value_sent_to_super v from selector arguments these is same =
 pub value_told : (D : Deeper) (v : Value) (meant : resolved.Value) (r : Result ℤ Halt) (w after : World)
     → value v ≡ meant → Tells (λ n. n) r (evaluated D meant w) after → Tells (λ n. n) r (evaluated D (value v) w) after
 value_told D v meant r w after is h = subst (λ x. Tells (λ n. n) r (evaluated D x w) after) (sym is) h
+
+-- a message to a class, whose receiver was evaluated before the arguments
+pub message_told : (D : Deeper) (a : resolved.Value) (arguments : resolved.Values) (selector : ℕ) (self passed : ℤ) (numbers found : List ℤ) (from : Option ℕ) (r : Result ℤ Halt) (w between last after : World)
+    → passed ≡ self → found ≡ numbers → from ≡ class_at passed → evaluated D a w ≡ Done self between → all_evaluated D arguments between ≡ Done numbers last
+    → Tells (λ n. n) r (dispatched D (finds D from selector found) passed found last) after → Tells (λ n. n) r (evaluated D (resolved.Sent a selector arguments) w) after
+message_told D a arguments selector self passed numbers found from r w between last after same same_numbers class receiver others h =
+    let go = λ (n : ℤ) (given : List ℤ) (v : World). dispatched D (finds D (class_at n) selector given) n given v in
+    let meant : evaluated D (resolved.Sent a selector arguments) w ≡ dispatched D (finds D from selector found) passed found last =
+    ap (λ o. then_do o (λ n v. then_do (all_evaluated D arguments v) (go n))) receiver
+    ∙ ap (λ o. then_do o (go self)) others
+    ∙ ap (λ n. go n numbers last) (sym same)
+    ∙ ap (λ l. go passed l last) (sym same_numbers)
+    ∙ ap (λ c. dispatched D (finds D c selector found) passed found last) (sym class) in
+    subst (λ o. Tells (λ n. n) r o after) (sym meant) h
 
 -- what is told of the statement that a command stands for
 pub command_told : (D : Deeper) (bound : ℕ) (c : Command) (meant : resolved.Command) (r : Result Flow Halt) (w after : World)

@@ -11,7 +11,7 @@ use Rattle.arc_spec.specs.World.{Done}
 use Rattle.arc_plain.specs.Views.{world, Tells, deeper, flow_of, nothing_of, function_of, left_at}
 use Rattle.arc_plain.proofs.Calls.{call_told, body_failed, drop_failed, nothing_called, function_there, function_absent, temporary_step, temporaries_fewer, no_temporary, variable_step, variable_failed, layer_done, layer_failed}
 use Rattle.arc_plain.proofs.Keeping.{level_steady}
-use Rattle.arc_plain.proofs.Turns.{value_print, value_invoked, value_sent, value_sent_super, value_sent_to, value_sent_to_super, value_told, command_sequence, command_told, values_step, turns_step, turn_failed, call_is}
+use Rattle.arc_plain.proofs.Turns.{value_print, value_invoked, value_sent, value_sent_super, value_sent_to, value_sent_to_super, value_told, message_told, command_sequence, command_told, values_step, turns_step, turn_failed, call_is}
 use Rattle.arc_plain.proofs.Weights.{print_lighter, call_lighter, sent_lighter, super_lighter, sent_to_lighter, to_super_lighter, sequence_lighter, value_in, command_in, commands_weight, level_lighter, body_lighter}
 use Rattle.arc_plain.proofs.run.+running.Goals as goal
 
@@ -44,6 +44,14 @@ pub evaluate-returns-in-SentToSuper : goal.evaluate-returns-in-SentToSuper
 evaluate-returns-in-SentToSuper t c =
     value_told (deeper c.args.context.now) c.args.value.now _ c.send_to_super.result (world c.args.progress.now) (world c.send_to_super.new.progress)
     (value_sent_to_super c.args.value.now c.in-SentToSuper.from c.in-SentToSuper.selector c.in-SentToSuper.arguments c.deref-in-SentToSuper.result.now c.in-SentToSuper.is c.deref-in-SentToSuper.ensures.value) c.send_to_super.ensures
+
+pub send-returns : goal.send-returns
+send-returns t c =
+    let same : to_z w64 (of_z w64 c.in_ok-itself.itself) ≡ c.in_ok-itself.itself = grind (arith, to_z-of_z) in
+    message_told (deeper c.args.context.now) (checked.value c.args.receiver.now) (checked.values c.args.arguments.now) c.args.selector c.in_ok-itself.itself (to_z w64 (of_z w64 c.in_ok-itself.itself))
+    c.in_ok-numbers.numbers.items c.deref.result.now c.class_at-from.result c.dispatch.result
+    (world c.args.progress.now) (world c.evaluate.new.progress) (world c.evaluate_all.new.progress) (world c.dispatch.new.progress)
+    same c.deref.ensures.value c.class_at-from.ensures c.in_ok-itself.ensures c.in_ok-numbers.ensures c.dispatch.ensures
 
 pub execute-returns-in-Sequence : goal.execute-returns-in-Sequence
 execute-returns-in-Sequence t c =
