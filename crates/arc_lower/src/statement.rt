@@ -1,8 +1,8 @@
 //! From statements to actions.
-ghost use Rattle.std.specs.Prelude.{◌≡◌, ◌++◌, ◌<◌, length, OnOk, option_map, slice_set};
+ghost use Rattle.std.specs.Prelude.{◌≡◌, ◌++◌, ◌<◌, [], ◌∷◌, length, OnOk, option_map, slice_set};
 ghost use Rattle.arc_spec.specs.Resolved.{Return};
 ghost use Rattle.arc_check.specs.Checked.{value as value_of, reference as reference_of, command, commands, program_of};
-ghost use Rattle.arc_lower.specs.Order.{order, orders};
+ghost use Rattle.arc_lower.specs.Order.{Jump, order, orders};
 ghost use Rattle.arc_lower.specs.Lowered.{whole_orders, whole_reference_orders, begin_orders, command_orders, all_command_orders};
 
 use crate::expression::{append, append_reference, append_value};
@@ -161,6 +161,13 @@ fn append_return(
         None => append(actions, Action::Num(0))?,
         Some(value) => append_whole(alloc, actions, program, body, value)?,
     }
+    append_exit(actions, body)
+}
+
+/// Appends the action by which a function is left.
+fn append_exit(actions: &mut Vec<Action>, body: Body) -> Result<(), NoMemory>
+    ensures { OnOk result (orders actions.new.items ≡ orders actions.old.items ++ Jump body.exit ∷ []) }
+{
     append(actions, Action::Jump(body.exit))
 }
 

@@ -147,27 +147,11 @@ object_sent D from zero selector arguments w some = nothing_below some
 object_sent D from (suc k) selector arguments w some = refl
 
 module _ (P : Program) (D : Deeper) (bound : ℕ) (all : List declared.Class) (o : ℕ) (classes : P.classes ≡ classes_of all) where
-  dealloc_here : (left i number : ℕ) (c : declared.Class) (w : World) → left ≡ suc i → slice_get all number ≡ Some c
+  pub dealloc_here : (left i number : ℕ) (c : declared.Class) (w : World) → left ≡ suc i → slice_get all number ≡ Some c
       → deallocs_run P D bound left (Some number) o w ≡ then_do (dealloc_run P D bound c.dealloc o w) (λ _ w1. deallocs_run P D bound i c.superclass o w1)
   dealloc_here left i number c w one there =
       let found : slice_get P.classes number ≡ Some (class_of c) = ap (λ l. slice_get l number) classes ∙ slice_get-map class_of all number ∙ ap (option_map class_of) there in
       ap (λ n. deallocs_run P D bound n (Some number) o w) one ∙ ap (λ x. dealloc_and_above P D bound x o (λ above w1. deallocs_run P D bound i above o w1) w) found
-
-  -- one class more
-  pub dealloc_step : (whole : Outcome Finished) (i number : ℕ) (c : declared.Class) (w after : World) → i < length all
-      → whole ≡ deallocs_run P D bound (length all - i) (Some number) o w → slice_get all number ≡ Some c → dealloc_run P D bound c.dealloc o w ≡ Done finished after
-      → whole ≡ deallocs_run P D bound (length all - (i + 1)) c.superclass o after
-  dealloc_step whole i number c w after below old there done =
-      old ∙ dealloc_here (length all - i) (length all - (i + 1)) number c w (omega (arith, below)) there
-      ∙ ap (λ x. then_do x (λ _ w1. deallocs_run P D bound (length all - (i + 1)) c.superclass o w1)) done
-
-  pub dealloc_failed : {A : Type 0} (whole : Outcome Finished) (i number : ℕ) (c : declared.Class) (w after : World) (view other : A → Finished) (e : Halt) (result : Result A Halt) → i < length all
-      → whole ≡ deallocs_run P D bound (length all - i) (Some number) o w → slice_get all number ≡ Some c
-      → result ≡ Err e → Tells view (Err e) (dealloc_run P D bound c.dealloc o w) after → Tells other result whole after
-  dealloc_failed whole i number c w after view other e result below old there failed h =
-      let go = λ (u : Finished) (w1 : World). deallocs_run P D bound (length all - (i + 1)) c.superclass o w1 in
-      let meant : whole ≡ then_do (dealloc_run P D bound c.dealloc o w) go = old ∙ dealloc_here (length all - i) (length all - (i + 1)) number c w (omega (arith, below)) there in
-      subst (λ x. Tells other x whole after) (sym failed) (tells_through e view other after go (dealloc_run P D bound c.dealloc o w) whole meant h)
 
   -- above the root, and above what is no class
   pub no_class_left : (left : ℕ) (class : Option ℕ) (w : World) → class ≡ None → deallocs_run P D bound left class o w ≡ Done finished w
@@ -179,3 +163,29 @@ module _ (P : Program) (D : Deeper) (bound : ℕ) (all : List declared.Class) (o
   no_such_class (suc n) number w none =
       let missing : slice_get P.classes number ≡ None = ap (λ l. slice_get l number) classes ∙ slice_get-map class_of all number ∙ ap (option_map class_of) none in
       ap (λ x. dealloc_and_above P D bound x o (λ above w1. deallocs_run P D bound n above o w1) w) missing
+
+-- one class more, whose dealloc and what is above it are known
+layer_run : (P : Program) (D : Deeper) (bound : ℕ) (whole : Outcome Finished) (count i o : ℕ) (class dealloc above : Option ℕ) (w : World) → i < count
+    → whole ≡ deallocs_run P D bound (count - i) class o w
+    → ((n : ℕ) → deallocs_run P D bound (suc n) class o w ≡ then_do (dealloc_run P D bound dealloc o w) (λ _ w1. deallocs_run P D bound n above o w1))
+    → whole ≡ then_do (dealloc_run P D bound dealloc o w) (λ _ w1. deallocs_run P D bound (count - (i + 1)) above o w1)
+layer_run P D bound whole count i o class dealloc above w below old layer =
+    let one : count - i ≡ suc (count - (i + 1)) = omega (arith, below) in
+    old ∙ ap (λ n. deallocs_run P D bound n class o w) one ∙ layer (count - (i + 1))
+
+pub layer_done : (P : Program) (D : Deeper) (bound : ℕ) (whole : Outcome Finished) (count i o : ℕ) (class dealloc above : Option ℕ) (w after : World) → i < count
+    → whole ≡ deallocs_run P D bound (count - i) class o w
+    → ((n : ℕ) → deallocs_run P D bound (suc n) class o w ≡ then_do (dealloc_run P D bound dealloc o w) (λ _ w1. deallocs_run P D bound n above o w1))
+    → dealloc_run P D bound dealloc o w ≡ Done finished after → whole ≡ deallocs_run P D bound (count - (i + 1)) above o after
+layer_done P D bound whole count i o class dealloc above w after below old layer done =
+    layer_run P D bound whole count i o class dealloc above w below old layer
+    ∙ ap (λ x. then_do x (λ _ w1. deallocs_run P D bound (count - (i + 1)) above o w1)) done
+
+pub layer_failed : {A : Type 0} (P : Program) (D : Deeper) (bound : ℕ) (whole : Outcome Finished) (count i o : ℕ) (class dealloc above : Option ℕ) (w after : World) (view other : A → Finished) (e : Halt) (result : Result A Halt) → i < count
+    → whole ≡ deallocs_run P D bound (count - i) class o w
+    → ((n : ℕ) → deallocs_run P D bound (suc n) class o w ≡ then_do (dealloc_run P D bound dealloc o w) (λ _ w1. deallocs_run P D bound n above o w1))
+    → result ≡ Err e → Tells view (Err e) (dealloc_run P D bound dealloc o w) after → Tells other result whole after
+layer_failed P D bound whole count i o class dealloc above w after view other e result below old layer failed h =
+    let go = λ (u : Finished) (w1 : World). deallocs_run P D bound (count - (i + 1)) above o w1 in
+    subst (λ x. Tells other x whole after) (sym failed)
+    (tells_through e view other after go (dealloc_run P D bound dealloc o w) whole (layer_run P D bound whole count i o class dealloc above w below old layer) h)

@@ -1,5 +1,5 @@
 -- The interpreter's loops, and the views of what lies in a Vec.
-use Rattle.std.proofs.Common.{rules, ◌≡◌, ℕ, zero, suc, ◌+◌, ◌-◌, ◌<◌, ◌≤◌, ℤ, false, List, [], ◌∷◌, ◌++◌, length, get_or, drop, Vec, Box, Global, Result, Err, append_assoc, refl, sym, ap, subst, ◌∙◌}
+use Rattle.std.proofs.Common.{rules, ◌≡◌, ℕ, zero, suc, ◌+◌, ◌-◌, ◌<◌, ◌≤◌, ℤ, false, List, [], ◌∷◌, ◌++◌, length, get_or, drop, Vec, Box, Global, Option, Result, Err, append_assoc, refl, sym, ap, subst, ◌∙◌}
 use Rattle.std.proofs.lemmas.List.{drop_more}
 use native.Mathlib.Omega.{arith}
 use mathlib.Core.Former.{Count}
@@ -9,16 +9,16 @@ use Rattle.arc_check.specs.declared.checked.Value.{Value, Print, Print', Invoked
 use Rattle.arc_check.specs.declared.checked.Command.{Command, Sequence, Sequence', Row_of-Command, end_of-Command, more_of-Command, items-the_row-Command, items_hidden-the_row-Command-0}
 use Rattle.arc_check.specs.Checked.{functions, pieces, value, values, reference, row_values, command, commands, row_commands}
 use Rattle.arc_spec.specs.Resolved as resolved
-use Rattle.arc_spec.specs.Classes.{Class}
+use Rattle.arc_spec.specs.Classes.{Class, class_at}
 use Rattle.arc_spec.specs.World.{World, Outcome, Done, Faulted, Cut, then_do}
 use Rattle.arc_spec.specs.Number.{is_zero}
 use Rattle.arc_check.specs.declared.checked.CheckedFunction.{CheckedFunction}
 use Rattle.arc_plain.specs.declared.halt.Halt.{Halt}
 use Rattle.arc_plain.specs.declared.halt.Halt.TheVariants.{Stopped, Cut, Memory}
 use Rattle.arc_spec.specs.Meaning as meaning
-use Rattle.arc_spec.specs.Meaning.{Deeper, Normal, level, called, turns, chosen, if_normal, function_at, ended, evaluated, all_evaluated, executed, all_executed}
+use Rattle.arc_spec.specs.Meaning.{Deeper, Normal, level, called, dispatched, finds, turns, chosen, if_normal, function_at, ended, evaluated, all_evaluated, executed, all_executed}
 use Rattle.arc_plain.specs.declared.run.Flow.{Flow}
-use Rattle.arc_plain.specs.Views.{Tells, printed, flow_of, function_of}
+use Rattle.arc_plain.specs.Views.{Tells, flow_of, function_of}
 
 -- the values that were found, in front of those to come
 abbrev pub front : List ℤ → Outcome (List ℤ) → Outcome (List ℤ)
@@ -47,10 +47,14 @@ row_values_is : (n : _) (row : Row_of-Value n) → row_values row ≡ values (it
 row_values_is n end_of-Value = refl
 row_values_is n (more_of-Value a row) = ap (resolved.and_value (value a)) (row_values_is _ row)
 
-pub value_print : (all : Vec Piece Global) (arguments : Vec Value Global) → value (Print all arguments) ≡ resolved.Print (pieces all.items) (values arguments.items)
-value_print all arguments =
+-- printf, of which the parts are known
+pub value_print : (v : Value) (all : Vec Piece Global) (arguments : Vec Value Global) (shapes : List Piece) (these : List Value)
+    → v ≡ Print all arguments → shapes ≡ all.items → these ≡ arguments.items → value v ≡ resolved.Print (pieces shapes) (values these)
+value_print v all arguments shapes these is same_shapes same =
     let row = row_of_value (Print all arguments) in
-    ap (resolved.Print (pieces all.items)) (row_values_is row.0 row.1 ∙ ap values (items_hidden-the_row-Value-0 arguments))
+    ap value is ∙ ap (resolved.Print (pieces all.items)) (row_values_is row.0 row.1 ∙ ap values (items_hidden-the_row-Value-0 arguments))
+    ∙ ap (λ l. resolved.Print (pieces all.items) (values l)) (sym same)
+    ∙ ap (λ l. resolved.Print (pieces l) (values these)) (sym same_shapes)
 
 abbrev row_of_command : Command → (n : Count) × Row_of-Command n
 row_of_command (Sequence' first count shape row) = (_, row)
@@ -68,10 +72,12 @@ command_sequence c first count all these is same =
     ap command is ∙ ap (resolved.Sequence first count) (row_commands_is row.0 row.1 ∙ ap commands (items_hidden-the_row-Command-0 all))
     ∙ ap (λ l. resolved.Sequence first count (commands l)) (sym same)
 
-pub value_invoked : (f : ℕ) (arguments : Vec Value Global) → value (Invoked f arguments) ≡ resolved.Invoked f (values arguments.items)
-value_invoked f arguments =
+-- a call, of which the arguments are known
+pub value_invoked : (v : Value) (f : ℕ) (arguments : Vec Value Global) (these : List Value) → v ≡ Invoked f arguments → these ≡ arguments.items → value v ≡ resolved.Invoked f (values these)
+value_invoked v f arguments these is same =
     let row = row_of_value (Invoked f arguments) in
-    ap (resolved.Invoked f) (row_values_is row.0 row.1 ∙ ap values (items_hidden-the_row-Value-0 arguments))
+    ap value is ∙ ap (resolved.Invoked f) (row_values_is row.0 row.1 ∙ ap values (items_hidden-the_row-Value-0 arguments))
+    ∙ ap (λ l. resolved.Invoked f (values l)) (sym same)
 
 -- messages, of which the parts are known
 pub value_sent : (v : Value) (a : Box Value Global) (selector : ℕ) (arguments : Vec Value Global) (receiver : Value) (these : List Value)
@@ -109,47 +115,18 @@ pub value_told : (D : Deeper) (v : Value) (meant : resolved.Value) (r : Result �
     → value v ≡ meant → Tells (λ n. n) r (evaluated D meant w) after → Tells (λ n. n) r (evaluated D (value v) w) after
 value_told D v meant r w after is h = subst (λ x. Tells (λ n. n) r (evaluated D x w) after) (sym is) h
 
--- printf, once what its values give is known
-pub print_failed : (D : Deeper) (v : Value) (all : Vec Piece Global) (arguments : Vec Value Global) (these : List Value) (e : Halt) (r : Result ℤ Halt) (w after : World)
-    → v ≡ Print all arguments → these ≡ arguments.items → r ≡ Err e
-    → Tells (λ (numbers : Vec ℤ Global). numbers.items) (Err e) (all_evaluated D (values these) w) after → Tells (λ n. n) r (evaluated D (value v) w) after
-print_failed D v all arguments these e r w after is same failed h =
-    let meant : evaluated D (value v) w ≡ then_do (all_evaluated D (values these) w) (λ numbers w1. printed (pieces all.items) numbers w1) =
-    ap (λ x. evaluated D (value x) w) is ∙ ap (λ x. evaluated D x w) (value_print all arguments) ∙ ap (λ l. then_do (all_evaluated D (values l) w) (λ numbers w1. printed (pieces all.items) numbers w1)) (sym same) in
-    subst (λ x. Tells (λ n. n) x (evaluated D (value v) w) after) (sym failed)
-    (tells_through e (λ (numbers : Vec ℤ Global). numbers.items) (λ n. n) after (λ numbers w1. printed (pieces all.items) numbers w1) (all_evaluated D (values these) w) (evaluated D (value v) w) meant h)
-
-pub print_done : (D : Deeper) (v : Value) (all : Vec Piece Global) (arguments : Vec Value Global) (shapes : List Piece) (these : List Value) (numbers found : List ℤ) (r : Result ℤ Halt) (w between after : World)
-    → v ≡ Print all arguments → shapes ≡ all.items → these ≡ arguments.items → found ≡ numbers
-    → all_evaluated D (values these) w ≡ Done numbers between → Tells (λ n. n) r (printed (pieces shapes) found between) after → Tells (λ n. n) r (evaluated D (value v) w) after
-print_done D v all arguments shapes these numbers found r w between after is same_shapes same same_numbers done h =
-    let meant : evaluated D (value v) w ≡ printed (pieces shapes) found between =
-    ap (λ x. evaluated D (value x) w) is ∙ ap (λ x. evaluated D x w) (value_print all arguments)
-    ∙ ap (λ l. then_do (all_evaluated D (values l) w) (λ l1 w1. printed (pieces all.items) l1 w1)) (sym same)
-    ∙ ap (λ o. then_do o (λ l1 w1. printed (pieces all.items) l1 w1)) done
-    ∙ ap (λ l. printed (pieces l) numbers between) (sym same_shapes)
-    ∙ ap (λ l. printed (pieces shapes) l between) (sym same_numbers) in
-    subst (λ o. Tells (λ n. n) r o after) (sym meant) h
-
--- a call, once what its values give is known
-pub call_failed : (D : Deeper) (v : Value) (f : ℕ) (arguments : Vec Value Global) (these : List Value) (e : Halt) (r : Result ℤ Halt) (w after : World)
-    → v ≡ Invoked f arguments → these ≡ arguments.items → r ≡ Err e
-    → Tells (λ (numbers : Vec ℤ Global). numbers.items) (Err e) (all_evaluated D (values these) w) after → Tells (λ n. n) r (evaluated D (value v) w) after
-call_failed D v f arguments these e r w after is same failed h =
-    let meant : evaluated D (value v) w ≡ then_do (all_evaluated D (values these) w) (λ numbers w1. D.call f 0 numbers w1) =
-    ap (λ x. evaluated D (value x) w) is ∙ ap (λ x. evaluated D x w) (value_invoked f arguments) ∙ ap (λ l. then_do (all_evaluated D (values l) w) (λ numbers w1. D.call f 0 numbers w1)) (sym same) in
-    subst (λ x. Tells (λ n. n) x (evaluated D (value v) w) after) (sym failed)
-    (tells_through e (λ (numbers : Vec ℤ Global). numbers.items) (λ n. n) after (λ numbers w1. D.call f 0 numbers w1) (all_evaluated D (values these) w) (evaluated D (value v) w) meant h)
-
-pub call_done : (D : Deeper) (v : Value) (f : ℕ) (arguments : Vec Value Global) (these : List Value) (numbers found : List ℤ) (r : Result ℤ Halt) (w between after : World)
-    → v ≡ Invoked f arguments → these ≡ arguments.items → found ≡ numbers
-    → all_evaluated D (values these) w ≡ Done numbers between → Tells (λ n. n) r (D.call f 0 found between) after → Tells (λ n. n) r (evaluated D (value v) w) after
-call_done D v f arguments these numbers found r w between after is same same_numbers done h =
-    let meant : evaluated D (value v) w ≡ D.call f 0 found between =
-    ap (λ x. evaluated D (value x) w) is ∙ ap (λ x. evaluated D x w) (value_invoked f arguments)
-    ∙ ap (λ l. then_do (all_evaluated D (values l) w) (λ l1 w1. D.call f 0 l1 w1)) (sym same)
-    ∙ ap (λ o. then_do o (λ l1 w1. D.call f 0 l1 w1)) done
-    ∙ ap (λ l. D.call f 0 l between) (sym same_numbers) in
+-- a message to a class, whose receiver was evaluated before the arguments
+pub message_told : (D : Deeper) (a : resolved.Value) (arguments : resolved.Values) (selector : ℕ) (self passed : ℤ) (numbers found : List ℤ) (from : Option ℕ) (r : Result ℤ Halt) (w between last after : World)
+    → passed ≡ self → found ≡ numbers → from ≡ class_at passed → evaluated D a w ≡ Done self between → all_evaluated D arguments between ≡ Done numbers last
+    → Tells (λ n. n) r (dispatched D (finds D from selector found) passed found last) after → Tells (λ n. n) r (evaluated D (resolved.Sent a selector arguments) w) after
+message_told D a arguments selector self passed numbers found from r w between last after same same_numbers class receiver others h =
+    let go = λ (n : ℤ) (given : List ℤ) (v : World). dispatched D (finds D (class_at n) selector given) n given v in
+    let meant : evaluated D (resolved.Sent a selector arguments) w ≡ dispatched D (finds D from selector found) passed found last =
+    ap (λ o. then_do o (λ n v. then_do (all_evaluated D arguments v) (go n))) receiver
+    ∙ ap (λ o. then_do o (go self)) others
+    ∙ ap (λ n. go n numbers last) (sym same)
+    ∙ ap (λ l. go passed l last) (sym same_numbers)
+    ∙ ap (λ c. dispatched D (finds D c selector found) passed found last) (sym class) in
     subst (λ o. Tells (λ n. n) r o after) (sym meant) h
 
 -- what is told of the statement that a command stands for

@@ -1,5 +1,5 @@
 -- How much of a program is left to go through: the interpreter ends, since that falls with each call.
-use Rattle.std.proofs.Common.{arith, ◌≡◌, ℕ, zero, suc, ◌+◌, ◌<◌, ◌≤◌, List, [], ◌∷◌, Some, None, Vec, Box, Global, length, get_or, sym, ap, subst, ◌∙◌}
+use Rattle.std.proofs.Common.{arith, ◌≡◌, ℕ, zero, suc, ◌+◌, ◌<◌, ◌≤◌, List, [], ◌∷◌, Some, None, Vec, Box, Global, length, get_or, sym, ap, subst}
 use Rattle.arc_check.specs.declared.checked.Value as c
 use Rattle.arc_check.specs.declared.checked.Reference as r
 use Rattle.arc_check.specs.declared.checked.Command as d
@@ -15,20 +15,20 @@ abbrev mutual
   pub value_weight : Value → ℕ
   value_weight (Number n) = 1
   value_weight ReadByte = 1
-  value_weight (Print pieces arguments) = suc (values_weight arguments)
+  value_weight (Print pieces arguments) = 2 + values_weight arguments
   value_weight (Negated kind a) = suc (value_weight a)
-  value_weight (Combined operator kind a b) = suc (value_weight a + value_weight b)
+  value_weight (Combined operator kind a b) = 2 + value_weight a + value_weight b
   value_weight (Converted kind a) = suc (value_weight a)
   value_weight (Local i) = 1
   value_weight (Assigned i a) = suc (value_weight a)
-  value_weight (Invoked f arguments) = suc (values_weight arguments)
+  value_weight (Invoked f arguments) = 2 + values_weight arguments
   value_weight (Sent a selector arguments) = 3 + value_weight a + values_weight arguments
   value_weight (SentSuper from selector arguments) = 3 + values_weight arguments
   value_weight (SentTo a selector arguments) = 3 + reference_weight a + values_weight arguments
   value_weight (SentToSuper from selector arguments) = 3 + values_weight arguments
   value_weight (Field a class index) = suc (reference_weight a)
-  value_weight (FieldAssigned a class index b) = suc (reference_weight a + value_weight b)
-  value_weight (Differ a b) = suc (reference_weight a + reference_weight b)
+  value_weight (FieldAssigned a class index b) = 2 + reference_weight a + value_weight b
+  value_weight (Differ a b) = 2 + reference_weight a + reference_weight b
   value_weight (IsObject a) = suc (reference_weight a)
 
   pub reference_weight : Reference → ℕ
@@ -85,17 +85,15 @@ command_in [] i v below is = nothing_below below
 command_in (a ∷ cs) zero v below is = subst (λ x. command_weight (command x) < suc (command_weight (command a) + commands_weight (commands cs))) (sym is) (omega arith)
 command_in (a ∷ cs) (suc i) v below is = let deep = command_in cs i v (omega (arith, below)) is in omega (arith, deep)
 
-pub print_lighter : (v : c.Value) (all : Vec Piece Global) (arguments : Vec c.Value Global) (these : List c.Value) → v ≡ c.Print all arguments → these ≡ arguments.items
-    → values_weight (values these) < value_weight (value v)
-print_lighter v all arguments these is same =
-    let whole : value_weight (value v) ≡ suc (values_weight (values these)) = ap (λ x. value_weight (value x)) is ∙ ap value_weight (value_print all arguments) ∙ ap (λ l. suc (values_weight (values l))) (sym same) in
-    omega (arith, whole)
+pub print_lighter : (v : c.Value) (all : Vec Piece Global) (arguments : Vec c.Value Global) (shapes : List Piece) (these : List c.Value) → v ≡ c.Print all arguments → shapes ≡ all.items → these ≡ arguments.items
+    → suc (values_weight (values these)) < value_weight (value v)
+print_lighter v all arguments shapes these is same_shapes same =
+    omega (arith, ap value_weight (value_print v all arguments shapes these is same_shapes same))
 
 pub call_lighter : (v : c.Value) (f : ℕ) (arguments : Vec c.Value Global) (these : List c.Value) → v ≡ c.Invoked f arguments → these ≡ arguments.items
-    → values_weight (values these) < value_weight (value v)
+    → suc (values_weight (values these)) < value_weight (value v)
 call_lighter v f arguments these is same =
-    let whole : value_weight (value v) ≡ suc (values_weight (values these)) = ap (λ x. value_weight (value x)) is ∙ ap value_weight (value_invoked f arguments) ∙ ap (λ l. suc (values_weight (values l))) (sym same) in
-    omega (arith, whole)
+    omega (arith, ap value_weight (value_invoked v f arguments these is same))
 
 pub sent_lighter : (v : c.Value) (a : Box c.Value Global) (selector : ℕ) (arguments : Vec c.Value Global) (receiver : c.Value) (these : List c.Value)
     → v ≡ c.Sent a selector arguments → receiver ≡ a.value → these ≡ arguments.items → 2 + value_weight (value receiver) + values_weight (values these) < value_weight (value v)

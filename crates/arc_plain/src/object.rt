@@ -1,8 +1,10 @@
 //! Objects. They go by their numbers, which count from 1 in the order of their making; 0 is nil.
-ghost use Rattle.std.specs.Prelude.{◌≡◌, map, IfOk, MatchOption, None, Some, OnOk, slice_get, slice_set};
+ghost use Rattle.std.specs.Prelude.{◌≡◌, ℕ, suc, map, IfOk, MatchOption, None, Some, OnOk, slice_get, slice_set};
 ghost use Rattle.arc_spec.specs.Classes.{classes_of};
-ghost use Rattle.arc_spec.specs.Meaning.{made, field_read, field_set, field_count, dying, gone, class_in};
+ghost use Rattle.arc_check.specs.Checked.{program_of};
+ghost use Rattle.arc_spec.specs.Meaning.{Deeper, made, field_read, field_set, field_count, dying, gone, class_in, dealloc_run, deallocs_run};
 ghost use Rattle.arc_spec.specs.Objects.{object_at, is_live, new_object, in_phase, with_fields};
+ghost use Rattle.arc_spec.specs.World.{World, Done, then_do, finished};
 ghost use Rattle.arc_plain.specs.Views.{world, deeper, Tells, nothing_of, object_of, phase_of, changed};
 
 use crate::context::Context;
@@ -196,6 +198,23 @@ pub fn begin_end(progress: &mut Progress, number: usize) -> Result<(), NoMemory>
     turn(&mut progress.objects, number, Phase::Dying);
     progress.trace.push(Event::Dealloc(number as u64, class))?;
     Ok(())
+}
+
+/// The dealloc of a class, if it has one, and the class above it, whose dealloc is next; or nothing, where there
+/// is no such class.
+pub fn dealloc_from(
+    context: &Context,
+    class: Option<usize>,
+) -> Option<(Option<usize>, Option<usize>)>
+    ensures { let P = program_of context.now.program.now in MatchOption result ((D : Deeper) (bound n o : ℕ) (w : World) → deallocs_run P D bound n class o w ≡ Done finished w) (λ layer. (D : Deeper) (bound n o : ℕ) (w : World) → deallocs_run P D bound (suc n) class o w ≡ then_do (dealloc_run P D bound layer.0 o w) (λ _ after. deallocs_run P D bound n layer.1 o after)) }
+{
+    let Some(number) = class else {
+        return None;
+    };
+    let Some(found) = context.program.classes.get(number) else {
+        return None;
+    };
+    Some((found.dealloc, found.superclass))
 }
 
 /// The dealloc of an object is done; that a strong place names it again is a fault.

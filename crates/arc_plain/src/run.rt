@@ -10,10 +10,12 @@ use crate::context::Context;
 use crate::format::{count, format};
 use crate::halt::Halt;
 use crate::message::{class_at, difference, find_method, is_zero, with_receiver};
-use crate::object::{begin_end, class_of, finish_end, is_live, make, read_field, set_field};
+use crate::object::{
+    begin_end, class_of, dealloc_from, finish_end, is_live, make, read_field, set_field,
+};
 use crate::place::{clear, drop_last, is_named, name, pop_frame, push_frame, store, take};
 use crate::progress::{Progress, assign, local, print, read};
-use arc_ast::tree::Sign;
+use arc_ast::tree::{BinaryOperator, Kind, Sign};
 use arc_check::checked::{Command, Piece, Reference, Value};
 use arc_spec::event::Fault;
 use arc_spec::number::{combine, convert, negate};
@@ -40,20 +42,14 @@ fn evaluate(
         Value::Number(number) => Ok(*number),
         Value::ReadByte => Ok(read(progress)),
         Value::Print(pieces, arguments) => {
-            let values = evaluate_all(alloc, context, progress, arguments)?;
-            print_format(alloc, progress, pieces, &values)
+            evaluate_print(alloc, context, progress, pieces, arguments)
         }
         Value::Negated(kind, operand) => {
             let number = evaluate(alloc, context, progress, operand)?;
             Ok(negate(*kind, number))
         }
         Value::Combined(operator, kind, left, right) => {
-            let first = evaluate(alloc, context, progress, left)?;
-            let second = evaluate(alloc, context, progress, right)?;
-            match combine(*operator, *kind, first, second) {
-                Some(number) => Ok(number),
-                None => Err(Halt::Stopped(Fault::Arithmetic)),
-            }
+            evaluate_both(alloc, context, progress, *operator, *kind, left, right)
         }
         Value::Converted(kind, operand) => {
             let number = evaluate(alloc, context, progress, operand)?;
@@ -66,8 +62,7 @@ fn evaluate(
             Ok(number)
         }
         Value::Invoked(function, arguments) => {
-            let values = evaluate_all(alloc, context, progress, arguments)?;
-            call(alloc, context, progress, *function, 0, &values)
+            invoke(alloc, context, progress, *function, arguments)
         }
         Value::Sent(receiver, selector, arguments) => {
             send(alloc, context, progress, receiver, *selector, arguments)
@@ -86,20 +81,99 @@ fn evaluate(
             read_field(context, progress, number, *class, *index)
         }
         Value::FieldAssigned(object, class, index, operand) => {
-            let number = refer(alloc, context, progress, object)?;
-            let assigned = evaluate(alloc, context, progress, operand)?;
-            set_field(context, progress, number, *class, *index, assigned)
+            assign_field(alloc, context, progress, object, *class, *index, operand)
         }
-        Value::Differ(left, right) => {
-            let first = refer(alloc, context, progress, left)?;
-            let second = refer(alloc, context, progress, right)?;
-            Ok(difference(first, second))
-        }
+        Value::Differ(left, right) => compare(alloc, context, progress, left, right),
         Value::IsObject(operand) => {
             let number = refer(alloc, context, progress, operand)?;
             Ok(difference(number, 0))
         }
     }
+}
+
+/// Prints what the expressions give, by a format.
+#[cycle(running)]
+fn evaluate_print(
+    alloc: Global,
+    context: &Context,
+    progress: &mut Progress,
+    pieces: &[Piece],
+    arguments: &[Value],
+) -> Result<i64, Halt>
+    ensures { Tells (λ n. n) result (evaluated (deeper context.now) (resolved.Print (checked.pieces pieces.now) (checked.values arguments.now)) (world progress.old)) (world progress.new) }
+{
+    let values = evaluate_all(alloc, context, progress, arguments)?;
+    print_format(alloc, progress, pieces, &values)
+}
+
+/// What an operator gives for two expressions, of which the left one is evaluated first.
+#[cycle(running)]
+fn evaluate_both(
+    alloc: Global,
+    context: &Context,
+    progress: &mut Progress,
+    operator: BinaryOperator,
+    kind: Kind,
+    left: &Value,
+    right: &Value,
+) -> Result<i64, Halt>
+    ensures { Tells (λ n. n) result (evaluated (deeper context.now) (resolved.Combined operator kind (checked.value left.now) (checked.value right.now)) (world progress.old)) (world progress.new) }
+{
+    let first = evaluate(alloc, context, progress, left)?;
+    let second = evaluate(alloc, context, progress, right)?;
+    match combine(operator, kind, first, second) {
+        Some(number) => Ok(number),
+        None => Err(Halt::Stopped(Fault::Arithmetic)),
+    }
+}
+
+/// Calls the function with this number with what the expressions give.
+#[cycle(running)]
+fn invoke(
+    alloc: Global,
+    context: &Context,
+    progress: &mut Progress,
+    function: usize,
+    arguments: &[Value],
+) -> Result<i64, Halt>
+    ensures { Tells (λ n. n) result (evaluated (deeper context.now) (resolved.Invoked function (checked.values arguments.now)) (world progress.old)) (world progress.new) }
+{
+    let values = evaluate_all(alloc, context, progress, arguments)?;
+    call(alloc, context, progress, function, 0, &values)
+}
+
+/// Gives a field of the object that an expression gives a number; the object is evaluated first.
+#[cycle(running)]
+fn assign_field(
+    alloc: Global,
+    context: &Context,
+    progress: &mut Progress,
+    object: &Reference,
+    class: usize,
+    index: usize,
+    operand: &Value,
+) -> Result<i64, Halt>
+    ensures { Tells (λ n. n) result (evaluated (deeper context.now) (resolved.FieldAssigned (checked.reference object.now) class index (checked.value operand.now)) (world progress.old)) (world progress.new) }
+{
+    let number = refer(alloc, context, progress, object)?;
+    let assigned = evaluate(alloc, context, progress, operand)?;
+    set_field(context, progress, number, class, index, assigned)
+}
+
+/// 1 where two expressions give different references, else 0.
+#[cycle(running)]
+fn compare(
+    alloc: Global,
+    context: &Context,
+    progress: &mut Progress,
+    left: &Reference,
+    right: &Reference,
+) -> Result<i64, Halt>
+    ensures { Tells (λ n. n) result (evaluated (deeper context.now) (resolved.Differ (checked.reference left.now) (checked.reference right.now)) (world progress.old)) (world progress.new) }
+{
+    let first = refer(alloc, context, progress, left)?;
+    let second = refer(alloc, context, progress, right)?;
+    Ok(difference(first, second))
 }
 
 /// The object that an expression gives, or nil, which the last temporary takes.
@@ -553,14 +627,12 @@ fn run_deallocs(
     let classes = &context.program.classes;
     let mut next = class;
     for _passed in 0..classes.len() {
-        let Some(number) = next else {
+        let Some(layer) = dealloc_from(context, next) else {
             return Ok(());
         };
-        let Some(class) = classes.get(number) else {
-            return Ok(());
-        };
-        run_dealloc(alloc, context, progress, class.dealloc, object)?;
-        next = class.superclass;
+        let (dealloc, above) = layer;
+        run_dealloc(alloc, context, progress, dealloc, object)?;
+        next = above;
     }
     Ok(())
 }

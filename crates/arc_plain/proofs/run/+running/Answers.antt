@@ -1,7 +1,6 @@
-use Rattle.std.proofs.Common.{rules, arith, suc, length, take, vec_len, slice_get, to_z, of_z, w64, ◌∷◌, ◌++◌, [], refl, ◌≡◌, ◌-◌, ◌<◌, ◌≤◌, Err, Some, sym, subst, ap, ◌∙◌}
+use Rattle.std.proofs.Common.{rules, arith, suc, length, take, vec_len, to_z, of_z, w64, ◌∷◌, ◌++◌, [], refl, ◌≡◌, ◌-◌, ◌<◌, ◌≤◌, Err, sym, subst, ap, ◌∙◌}
 use Rattle.std.proofs.lemmas.Int.{to_z-of_z}
 use Rattle.std.proofs.lemmas.Bool.{ltb-true, ltb-false}
-use Rattle.std.proofs.lemmas.Option.{slice_get_read}
 use Rattle.std.proofs.lemmas.Result.{err_from_is_err_and}
 use Rattle.arc_check.specs.Checked as checked
 use Rattle.arc_spec.specs.Number.{is_zero}
@@ -10,35 +9,21 @@ use Rattle.arc_spec.specs.Meaning.{whole, all_evaluated, all_executed, executed,
 use Rattle.arc_spec.specs.Resolved.{Function}
 use Rattle.arc_spec.specs.World.{Done}
 use Rattle.arc_plain.specs.Views.{world, Tells, deeper, flow_of, nothing_of, function_of, left_at}
-use Rattle.arc_plain.proofs.Calls.{call_told, body_failed, drop_failed, nothing_called, function_there, function_absent, temporary_step, temporaries_fewer, no_temporary, variable_step, variable_failed, dealloc_step, dealloc_failed}
+use Rattle.arc_plain.proofs.Calls.{call_told, body_failed, drop_failed, nothing_called, function_there, function_absent, temporary_step, temporaries_fewer, no_temporary, variable_step, variable_failed, layer_done, layer_failed}
 use Rattle.arc_plain.proofs.Keeping.{level_steady}
-use Rattle.arc_plain.proofs.Turns.{print_failed, print_done, call_failed, call_done, value_sent, value_sent_super, value_sent_to, value_sent_to_super, value_told, command_sequence, command_told, values_step, turns_step, turn_failed, call_is}
+use Rattle.arc_plain.proofs.Turns.{value_print, value_invoked, value_sent, value_sent_super, value_sent_to, value_sent_to_super, value_told, message_told, command_sequence, command_told, values_step, turns_step, turn_failed, call_is}
 use Rattle.arc_plain.proofs.Weights.{print_lighter, call_lighter, sent_lighter, super_lighter, sent_to_lighter, to_super_lighter, sequence_lighter, value_in, command_in, commands_weight, level_lighter, body_lighter}
 use Rattle.arc_plain.proofs.run.+running.Goals as goal
 
-pub evaluate-returns-in_err-values-in-Print : goal.evaluate-returns-in_err-values-in-Print
-evaluate-returns-in_err-values-in-Print t c =
-    let p = err_from_is_err_and c.from_residual.result c.from_residual.ensures.1 in
-    print_failed (deeper c.args.context.now) c.args.value.now c.in-Print.pieces c.in-Print.arguments c.deref.result.now c.in_err-values-in-Print.field-0.0 c.from_residual.result (world c.args.progress.now) (world c.evaluate_all.new.progress)
-    c.in-Print.is c.deref.ensures.value (p.1 ∙ ap Err p.2) c.in_err-values-in-Print.ensures
+pub evaluate-returns-in-Print : goal.evaluate-returns-in-Print
+evaluate-returns-in-Print t c =
+    value_told (deeper c.args.context.now) c.args.value.now _ c.evaluate_print.result (world c.args.progress.now) (world c.evaluate_print.new.progress)
+    (value_print c.args.value.now c.in-Print.pieces c.in-Print.arguments c.deref.result.now c.deref-in-Print.result.now c.in-Print.is c.deref.ensures.value c.deref-in-Print.ensures.value) c.evaluate_print.ensures
 
-pub evaluate-returns-in_ok-values-in-Print : goal.evaluate-returns-in_ok-values-in-Print
-evaluate-returns-in_ok-values-in-Print t c =
-    print_done (deeper c.args.context.now) c.args.value.now c.in-Print.pieces c.in-Print.arguments c.deref-in-Print.result.now c.deref.result.now c.in_ok-values-in-Print.values.items c.deref-in-Print-2.result.now c.print_format.result
-    (world c.args.progress.now) (world c.evaluate_all.new.progress) (world c.print_format.new.progress)
-    c.in-Print.is c.deref-in-Print.ensures.value c.deref.ensures.value c.deref-in-Print-2.ensures.value c.in_ok-values-in-Print.ensures c.print_format.ensures
-
-pub evaluate-returns-in_err-values-in-Invoked : goal.evaluate-returns-in_err-values-in-Invoked
-evaluate-returns-in_err-values-in-Invoked t c =
-    let p = err_from_is_err_and c.from_residual-in_err-values-in-Invoked.result c.from_residual-in_err-values-in-Invoked.ensures.1 in
-    call_failed (deeper c.args.context.now) c.args.value.now c.in-Invoked.function c.in-Invoked.arguments c.deref-in-Invoked.result.now c.in_err-values-in-Invoked.field-0.0 c.from_residual-in_err-values-in-Invoked.result (world c.args.progress.now) (world c.evaluate_all-in-Invoked.new.progress)
-    c.in-Invoked.is c.deref-in-Invoked.ensures.value (p.1 ∙ ap Err p.2) c.in_err-values-in-Invoked.ensures
-
-pub evaluate-returns-in_ok-values-in-Invoked : goal.evaluate-returns-in_ok-values-in-Invoked
-evaluate-returns-in_ok-values-in-Invoked t c =
-    call_done (deeper c.args.context.now) c.args.value.now c.in-Invoked.function c.in-Invoked.arguments c.deref-in-Invoked.result.now c.in_ok-values-in-Invoked.values.items c.deref-in-Invoked-2.result.now c.call.result
-    (world c.args.progress.now) (world c.evaluate_all-in-Invoked.new.progress) (world c.call.new.progress)
-    c.in-Invoked.is c.deref-in-Invoked.ensures.value c.deref-in-Invoked-2.ensures.value c.in_ok-values-in-Invoked.ensures c.call.ensures
+pub evaluate-returns-in-Invoked : goal.evaluate-returns-in-Invoked
+evaluate-returns-in-Invoked t c =
+    value_told (deeper c.args.context.now) c.args.value.now _ c.invoke.result (world c.args.progress.now) (world c.invoke.new.progress)
+    (value_invoked c.args.value.now c.in-Invoked.function c.in-Invoked.arguments c.deref-in-Invoked.result.now c.in-Invoked.is c.deref-in-Invoked.ensures.value) c.invoke.ensures
 
 pub evaluate-returns-in-Sent : goal.evaluate-returns-in-Sent
 evaluate-returns-in-Sent t c =
@@ -60,6 +45,14 @@ evaluate-returns-in-SentToSuper t c =
     value_told (deeper c.args.context.now) c.args.value.now _ c.send_to_super.result (world c.args.progress.now) (world c.send_to_super.new.progress)
     (value_sent_to_super c.args.value.now c.in-SentToSuper.from c.in-SentToSuper.selector c.in-SentToSuper.arguments c.deref-in-SentToSuper.result.now c.in-SentToSuper.is c.deref-in-SentToSuper.ensures.value) c.send_to_super.ensures
 
+pub send-returns : goal.send-returns
+send-returns t c =
+    let same : to_z w64 (of_z w64 c.in_ok-itself.itself) ≡ c.in_ok-itself.itself = grind (arith, to_z-of_z) in
+    message_told (deeper c.args.context.now) (checked.value c.args.receiver.now) (checked.values c.args.arguments.now) c.args.selector c.in_ok-itself.itself (to_z w64 (of_z w64 c.in_ok-itself.itself))
+    c.in_ok-numbers.numbers.items c.deref.result.now c.class_at-from.result c.dispatch.result
+    (world c.args.progress.now) (world c.evaluate.new.progress) (world c.evaluate_all.new.progress) (world c.dispatch.new.progress)
+    same c.deref.ensures.value c.class_at-from.ensures c.in_ok-itself.ensures c.in_ok-numbers.ensures c.dispatch.ensures
+
 pub execute-returns-in-Sequence : goal.execute-returns-in-Sequence
 execute-returns-in-Sequence t c =
     command_told (deeper c.args.context.now) c.args.context.now.bound c.args.command.now _ c.execute_block.result (world c.args.progress.now) (world c.execute_block.new.progress)
@@ -69,12 +62,12 @@ pub execute-execute_block-requires : goal.execute-execute_block-requires
 execute-execute_block-requires t c =
     (omega (arith, sequence_lighter c.args.command.now c.in-Sequence.first c.in-Sequence.names c.in-Sequence.commands c.deref.result.now c.in-Sequence.is c.deref.ensures.value, c.decreases), tt)
 
-pub evaluate-evaluate_all-requires : goal.evaluate-evaluate_all-requires
-evaluate-evaluate_all-requires t c =
-    (omega (arith, print_lighter c.args.value.now c.in-Print.pieces c.in-Print.arguments c.deref.result.now c.in-Print.is c.deref.ensures.value, c.decreases), tt)
+pub evaluate-evaluate_print-requires : goal.evaluate-evaluate_print-requires
+evaluate-evaluate_print-requires t c =
+    (omega (arith, print_lighter c.args.value.now c.in-Print.pieces c.in-Print.arguments c.deref.result.now c.deref-in-Print.result.now c.in-Print.is c.deref.ensures.value c.deref-in-Print.ensures.value, c.decreases), tt)
 
-pub evaluate-evaluate_all-requires-in-Invoked : goal.evaluate-evaluate_all-requires-in-Invoked
-evaluate-evaluate_all-requires-in-Invoked t c =
+pub evaluate-invoke-requires : goal.evaluate-invoke-requires
+evaluate-invoke-requires t c =
     (omega (arith, call_lighter c.args.value.now c.in-Invoked.function c.in-Invoked.arguments c.deref-in-Invoked.result.now c.in-Invoked.is c.deref-in-Invoked.ensures.value, c.decreases), tt)
 
 pub evaluate-send-requires : goal.evaluate-send-requires
@@ -266,23 +259,23 @@ enter-returns t c =
     (call_told D (level_steady P context.bound context.levels) context.bound (function_of f) c.args.itself c.args.arguments.now w0 w1 c.in_ok-kept.ensures.world
     w2 w3 w4 (flow_of c.in_ok-flow.flow) number c.len-waiting.result old.items begun last body c.in_ok-drop_variables.ensures refl refl refl kept leaves (same ∙ c.number_of.ensures))
 
+pub run_deallocs-returns-in_default : goal.run_deallocs-returns-in_default
+run_deallocs-returns-in_default t c =
+    let context = c.args.context.now in
+    c.loop-passed.invariant ∙ c.in_default.ensures (deeper context) context.bound (length context.program.now.classes.items - c.loop-passed._passed) c.args.object (world c.loop-passed.progress)
+
 pub run_deallocs-loop-passed-preserved : goal.run_deallocs-loop-passed-preserved
 run_deallocs-loop-passed-preserved t c =
     let context = c.args.context.now in
     let P = program_of context.program.now in
     let D = deeper context in
     let all = context.program.now.classes.items in
-    let these = c.deref.result.now in
     let i = c.loop-passed._passed in
-    let number = c.in-Some.number in
-    let class = c.in-Some-get.class.now in
+    let layer = c.in-Some.layer in
     let w = world c.loop-passed.progress in
     let below : i < length all = omega (arith, c.loop-passed-test.true, c.len-passed-end.ensures, context.program.now.classes.ok.0) in
-    let lookup = c.in-Some-get.ensures.lookup in
-    let there : slice_get all number ≡ Some class =
-    ap (λ l. slice_get l number) (sym c.deref.ensures.value) ∙ slice_get_read these (length these) number class refl (ltb-true number (length these) (sym lookup.0)) lookup.1 in
-    dealloc_step P D context.bound all c.args.object refl (deallocs_run P D context.bound (length P.classes) c.args.class c.args.object (world c.args.progress.now)) i number class w (world c.run_dealloc.new.progress)
-    below (c.loop-passed.invariant ∙ ap (λ n. deallocs_run P D context.bound (length all - i) n c.args.object w) c.in-Some.is) there c.in_ok-run_dealloc.ensures
+    layer_done P D context.bound (deallocs_run P D context.bound (length P.classes) c.args.class c.args.object (world c.args.progress.now)) (length all) i c.args.object c.loop-passed.next layer.0 layer.1 w (world c.run_dealloc.new.progress)
+    below c.loop-passed.invariant (λ n. c.in-Some.ensures D context.bound n c.args.object w) c.in_ok-run_dealloc.ensures
 
 pub run_deallocs-returns-in_err-run_dealloc : goal.run_deallocs-returns-in_err-run_dealloc
 run_deallocs-returns-in_err-run_dealloc t c =
@@ -290,16 +283,11 @@ run_deallocs-returns-in_err-run_dealloc t c =
     let P = program_of context.program.now in
     let D = deeper context in
     let all = context.program.now.classes.items in
-    let these = c.deref.result.now in
     let i = c.loop-passed._passed in
-    let number = c.in-Some.number in
-    let class = c.in-Some-get.class.now in
+    let layer = c.in-Some.layer in
     let w = world c.loop-passed.progress in
     let below : i < length all = omega (arith, c.loop-passed-test.true, c.len-passed-end.ensures, context.program.now.classes.ok.0) in
-    let lookup = c.in-Some-get.ensures.lookup in
-    let there : slice_get all number ≡ Some class =
-    ap (λ l. slice_get l number) (sym c.deref.ensures.value) ∙ slice_get_read these (length these) number class refl (ltb-true number (length these) (sym lookup.0)) lookup.1 in
     let p = err_from_is_err_and c.from_residual.result c.from_residual.ensures.1 in
-    dealloc_failed P D context.bound all c.args.object refl (deallocs_run P D context.bound (length P.classes) c.args.class c.args.object (world c.args.progress.now)) i number class w (world c.run_dealloc.new.progress)
+    layer_failed P D context.bound (deallocs_run P D context.bound (length P.classes) c.args.class c.args.object (world c.args.progress.now)) (length all) i c.args.object c.loop-passed.next layer.0 layer.1 w (world c.run_dealloc.new.progress)
     nothing_of nothing_of c.in_err-run_dealloc.field-0.0 c.from_residual.result
-    below (c.loop-passed.invariant ∙ ap (λ n. deallocs_run P D context.bound (length all - i) n c.args.object w) c.in-Some.is) there (p.1 ∙ ap Err p.2) c.in_err-run_dealloc.ensures
+    below c.loop-passed.invariant (λ n. c.in-Some.ensures D context.bound n c.args.object w) (p.1 ∙ ap Err p.2) c.in_err-run_dealloc.ensures

@@ -34,6 +34,21 @@ decreases-run_deallocs l = levels_left l.context.now + (5 + program_weight l.con
 abbrev pub decreases-evaluate : goal.decreases-evaluate
 decreases-evaluate l = levels_left l.context.now + value_weight (checked.value l.value.now)
 
+abbrev pub decreases-evaluate_print : goal.decreases-evaluate_print
+decreases-evaluate_print l = levels_left l.context.now + suc (values_weight (checked.values l.arguments.now))
+
+abbrev pub decreases-evaluate_both : goal.decreases-evaluate_both
+decreases-evaluate_both l = levels_left l.context.now + (1 + value_weight (checked.value l.left.now) + value_weight (checked.value l.right.now))
+
+abbrev pub decreases-invoke : goal.decreases-invoke
+decreases-invoke l = levels_left l.context.now + suc (values_weight (checked.values l.arguments.now))
+
+abbrev pub decreases-assign_field : goal.decreases-assign_field
+decreases-assign_field l = levels_left l.context.now + (1 + reference_weight (checked.reference l.object.now) + value_weight (checked.value l.operand.now))
+
+abbrev pub decreases-compare : goal.decreases-compare
+decreases-compare l = levels_left l.context.now + (1 + reference_weight (checked.reference l.left.now) + reference_weight (checked.reference l.right.now))
+
 abbrev pub decreases-refer : goal.decreases-refer
 decreases-refer l = levels_left l.context.now + reference_weight (checked.reference l.reference.now)
 
