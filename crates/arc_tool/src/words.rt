@@ -31,27 +31,39 @@ pub fn words(alloc: Global, words: &[String]) -> Result<Words, WordsFault>
 
 /// The commands and their options.
 fn reader<'a>(alloc: Global) -> Result<clap::Command<'a>, AllocError> {
-    let check = clap::Command::new(alloc, "check")
-        .about("Say whether FILE is accepted")
-        .arg(file(alloc))?;
-    let run = clap::Command::new(alloc, "run")
-        .about("Compile FILE and run it")
-        .arg(file(alloc))?
-        .arg(steps(alloc))?;
-    let trace = clap::Command::new(alloc, "trace")
-        .about("Compile FILE, run it and show what it prints and which objects end")
-        .arg(file(alloc))?
-        .arg(steps(alloc))?;
-    let code = clap::Command::new(alloc, "code")
-        .about("List the code of FILE")
-        .arg(file(alloc))?;
     clap::Command::new(alloc, "arcc")
         .about("Compiles Objective-C with automatic reference counting, and runs it")
         .subcommand_required(true)
-        .subcommand(check)?
-        .subcommand(run)?
-        .subcommand(trace)?
-        .subcommand(code)
+        .subcommand(check_command(alloc)?)?
+        .subcommand(run_command(alloc)?)?
+        .subcommand(trace_command(alloc)?)?
+        .subcommand(code_command(alloc)?)
+}
+
+fn check_command<'a>(alloc: Global) -> Result<clap::Command<'a>, AllocError> {
+    clap::Command::new(alloc, "check")
+        .about("Say whether FILE is accepted")
+        .arg(file(alloc))
+}
+
+fn run_command<'a>(alloc: Global) -> Result<clap::Command<'a>, AllocError> {
+    clap::Command::new(alloc, "run")
+        .about("Compile FILE and run it")
+        .arg(file(alloc))?
+        .arg(steps(alloc))
+}
+
+fn trace_command<'a>(alloc: Global) -> Result<clap::Command<'a>, AllocError> {
+    clap::Command::new(alloc, "trace")
+        .about("Compile FILE, run it and show what it prints and which objects end")
+        .arg(file(alloc))?
+        .arg(steps(alloc))
+}
+
+fn code_command<'a>(alloc: Global) -> Result<clap::Command<'a>, AllocError> {
+    clap::Command::new(alloc, "code")
+        .about("List the code of FILE")
+        .arg(file(alloc))
 }
 
 fn file<'a>(alloc: Global) -> Arg<'a> {
