@@ -1,4 +1,6 @@
-use Rattle.std.proofs.Common.{◌≡◌, suc, ◌+◌, List, [], ◌∷◌, ◌++◌, ap, sym, ◌∙◌, append_assoc, arith}
+use Rattle.std.proofs.Common.{◌≡◌, suc, ◌+◌, List, [], ◌∷◌, ◌++◌, drop, ap, sym, ◌∙◌, append_assoc, arith}
+use Rattle.std.proofs.lemmas.List.{drop_more}
+use Rattle.arc_spec.specs.Resolved.{and_value}
 use Rattle.arc_check.specs.Checked.{pieces, value, reference, values, program_of}
 use Rattle.arc_lower.specs.Order.{Order, Send, SendSuper, HoldSelf, SendTo, SendToSuper, orders}
 use Rattle.arc_lower.specs.Lowered.{value_takes, reference_takes, values_take, value_orders, reference_orders, all_value_orders, print_orders, call_orders, get_orders, value_count}
@@ -182,3 +184,28 @@ append_value-returns-in_ok-append-in-SentToSuper-2-clause-temporaries t c =
     let more = c.in_ok-there-in-SentToSuper.ensures.temporaries ∙ ap (λ l. c.in_ok-temporaries-in-SentToSuper.temporaries + values_take (values l)) c.deref-in-SentToSuper.ensures.value in
     let whole = ap value_takes (sym (to_super_value c.in-SentToSuper.from c.in-SentToSuper.selector c.in-SentToSuper.arguments) ∙ ap value (sym c.in-SentToSuper.is)) in
     omega (arith, c.in_ok-temporaries-in-SentToSuper.ensures, more, whole)
+
+pub append_values-loop-expression-preserved : goal.append_values-loop-expression-preserved
+append_values-loop-expression-preserved t c =
+    let P = program_of c.args.program.now in
+    let f = c.args.frame in
+    let all = c.args.all.now in
+    let i = c.loop-expression.expression-index in
+    let a = c.expression-item.result in
+    let rest = values (drop (i + 1) all) in
+    let old = orders c.loop-expression.actions.items in
+    let n = c.loop-expression.operands in
+    let k = c.loop-expression.there in
+    let xs = value_orders P f.slots f.names n k (value a) in
+    let split : values (drop i all) ≡ and_value (value a) rest = ap values (drop_more all i a c.loop-expression-test.true ∙ ap (λ x. x ∷ drop (i + 1) all) (sym c.expression-item.is)) in
+    let taken = c.in_ok-there.ensures.temporaries in
+    record {
+      actions =
+          ap (λ l. l ++ all_value_orders P f.slots f.names c.in_ok-operands.operands c.in_ok-there.there rest) c.in_ok-there.ensures.actions
+          ∙ ap (λ m. (old ++ xs) ++ all_value_orders P f.slots f.names m c.in_ok-there.there rest) c.in_ok-operands.ensures
+          ∙ ap (λ m. (old ++ xs) ++ all_value_orders P f.slots f.names (suc n) m rest) taken
+          ∙ append_assoc old xs (all_value_orders P f.slots f.names (suc n) (k + value_takes (value a)) rest)
+          ∙ ap (λ l. old ++ all_value_orders P f.slots f.names n k l) (sym split)
+          ∙ c.loop-expression.invariant.actions;
+      taken = omega (arith, taken, ap values_take split, c.loop-expression.invariant.taken);
+    }
