@@ -6,7 +6,7 @@ use arc_spec::class::Class;
 use thiserror::Error;
 
 /// One instruction. A depth counts the numbers above the one that is meant, or the places.
-#[derive(Clone, Copy, Debug, PartialEq, Eq)]
+#[derive(Clone, Copy)]
 pub enum Op {
     /// Puts a number on the stack.
     Num(i64),
@@ -88,7 +88,7 @@ pub enum Op {
 /// The instructions, the bytes of all texts, where the ends of objects go on, the most numbers that the
 /// stack comes to hold, the most strong places that there come to be, and the classes, whose methods and
 /// deallocs run the instruction with a number.
-#[derive(Debug, Drop)]
+#[derive(Drop)]
 pub struct Code {
     pub ops: Vec<Op>,
     pub texts: Vec<u8>,

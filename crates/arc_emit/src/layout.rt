@@ -12,7 +12,7 @@ use std::alloc::Global;
 const MOST_OPS: usize = 16_777_216;
 
 /// Where the instructions of each action begin, and how many instructions all actions are.
-#[derive(Debug, Drop)]
+#[derive(Drop)]
 pub struct Layout {
     pub places: Vec<usize>,
     pub end: usize,

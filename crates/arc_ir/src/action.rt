@@ -4,7 +4,7 @@ use arc_ast::tree::{BinaryOperator, Kind};
 use arc_spec::class::Class;
 
 /// One action. A depth counts the numbers above the one that is meant, or the places.
-#[derive(Debug, Drop)]
+#[derive(Drop)]
 pub enum Action {
     /// Puts a number on the stack.
     Num(i64),
@@ -84,7 +84,7 @@ pub enum Action {
 /// A program: all actions, of which the first is where it begins; where each function begins; where
 /// the ends of objects go on; the most numbers that the stack comes to hold, and the most strong places
 /// that there come to be; and the classes, whose methods and deallocs run the action with a number.
-#[derive(Debug, Drop)]
+#[derive(Drop)]
 pub struct Ir {
     pub actions: Vec<Action>,
     pub entries: Vec<usize>,

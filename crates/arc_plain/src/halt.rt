@@ -6,7 +6,7 @@ use arc_spec::event::{Fault, NoMemory};
 use std::alloc::{AllocError, AllocFailed};
 
 /// Why an evaluation gave no value.
-#[derive(Debug, Drop)]
+#[derive(Drop)]
 pub enum Halt {
     /// The program was stopped.
     Stopped(Fault),

@@ -25,7 +25,7 @@ pub enum PlainStop {
 }
 
 /// What a program showed, and how it stopped.
-#[derive(Debug, Drop)]
+#[derive(Drop)]
 pub struct Answer {
     pub trace: Vec<Event>,
     pub stop: PlainStop,

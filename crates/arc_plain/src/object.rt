@@ -16,7 +16,7 @@ use arc_spec::event::{Event, Fault, NoMemory};
 use std::alloc::Global;
 
 /// How far an object is on its way: its dealloc hasn't begun, has begun, or is done.
-#[derive(Clone, Copy, Debug, PartialEq, Eq)]
+#[derive(Clone, Copy)]
 pub enum Phase {
     Live,
     Dying,

@@ -7,7 +7,7 @@ use arc_ast::tree::Sign;
 /// A method of a class: whether it is sent to the class or to its objects, the number of its selector,
 /// how many arguments it takes, and what it runs, which is the number of a function or the place where
 /// its code begins.
-#[derive(Clone, Copy, Debug, PartialEq, Eq)]
+#[derive(Clone, Copy)]
 pub struct Method {
     pub sign: Sign,
     pub selector: usize,
@@ -17,7 +17,7 @@ pub struct Method {
 
 /// A class: the number of its superclass, which the root has none of, its own methods, what its
 /// `dealloc` runs, where it has one, and how many fields its objects have, inherited ones too.
-#[derive(Debug, Drop)]
+#[derive(Drop)]
 pub struct Class {
     pub superclass: Option<usize>,
     pub methods: Vec<Method>,

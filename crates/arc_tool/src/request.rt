@@ -17,7 +17,7 @@ pub enum Command {
 }
 
 /// What the program's words say.
-#[derive(Debug, Drop)]
+#[derive(Drop)]
 pub struct Words {
     pub command: Command,
     /// The path of the source.

@@ -1,15 +1,7 @@
 //! Sources, and what their tables are.
-use arc_ast::tree::{Sign, TranslationUnit};
+use crate::source::tree;
+use arc_ast::tree::Sign;
 use arc_class::table::{ClassId, ClassTable, MethodId, Sel};
-use arc_lex::lex::lex;
-use arc_parse::parse::parse;
-use std::alloc::Global;
-
-/// The tree of a source, if it has one.
-fn tree(alloc: Global, source: &[u8]) -> Option<TranslationUnit> {
-    let tokens = lex(alloc, source).ok()?;
-    parse(alloc, &tokens).ok()
-}
 
 #[test]
 fn tells(rt: HostRuntime) {

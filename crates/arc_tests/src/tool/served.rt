@@ -1,6 +1,6 @@
 //! Words, files and devices that a row can't give.
-use crate::tests::devices::{Broken, with_room};
-use crate::tests::words::texts;
+use crate::devices::{Broken, with_room};
+use crate::tool::words::texts;
 use arc_code::counted::Counted;
 use arc_tool::request::{Words, WordsFault};
 use arc_tool::serve::{FileFault, serve};

@@ -1,18 +1,9 @@
 //! A source that becomes a checked program, and one that is refused. The program `arc_rows` has many more.
-use arc_ast::tree::TranslationUnit;
+use crate::source::tree;
 use arc_check::check::check;
 use arc_check::checked::{Command, Value};
 use arc_check::fault::CheckFault;
 use arc_class::table::ClassTable;
-use arc_lex::lex::lex;
-use arc_parse::parse::parse;
-use std::alloc::Global;
-
-/// The tree of a source, if it has one.
-fn tree(alloc: Global, source: &[u8]) -> Option<TranslationUnit> {
-    let tokens = lex(alloc, source).ok()?;
-    parse(alloc, &tokens).ok()
-}
 
 #[test]
 fn checks(rt: HostRuntime) {

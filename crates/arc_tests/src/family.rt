@@ -1,19 +1,12 @@
 //! Methods with their families, a program that is kept and one that is refused. The program `arc_rows` has many more sources.
+use crate::source::tree;
 use arc_ast::tree::{Kind, TranslationUnit};
 use arc_check::checked::Checked;
 use arc_family::family::family;
 use arc_family::fault::OwnFault;
 use arc_family::owned::own;
 use arc_family::signature::{Family, Signature};
-use arc_lex::lex::lex;
-use arc_parse::parse::parse;
 use std::alloc::Global;
-
-/// The tree of a source, if it has one.
-fn tree(alloc: Global, source: &[u8]) -> Option<TranslationUnit> {
-    let tokens = lex(alloc, source).ok()?;
-    parse(alloc, &tokens).ok()
-}
 
 /// The number and the place of the rule that a tree breaks.
 fn fault(alloc: Global, unit: &TranslationUnit) -> Option<(u8, usize)> {

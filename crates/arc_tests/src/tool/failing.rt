@@ -1,5 +1,5 @@
 //! Runs and traces on devices that fail.
-use crate::tests::devices::{Broken, Narrow, unflushed, with_room};
+use crate::devices::{Broken, Narrow, unflushed, with_room};
 use arc_code::code::IoFault;
 use arc_code::counted::Counted;
 use arc_heap::plain::PlainStore;

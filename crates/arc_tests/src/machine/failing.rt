@@ -1,53 +1,17 @@
-//! Readers and writers that fail, and a store that has too few blocks.
+//! Machines on readers and writers that fail, and over a store that has too few blocks.
 ghost use Rattle.std.specs.Prelude.{◌≡◌, None};
 ghost use Rattle.arc_code.specs.Counting.{failures_of};
 
-use crate::programs::{PRINTING, machine_of};
+use crate::devices::{Broken, unflushed, with_room};
+use crate::machine::programs::{PRINTING, machine_of};
 use arc_code::code::IoFault;
 use arc_code::counted::Counted;
 use arc_heap::plain::PlainStore;
 use arc_heap::store::{Ref, Store};
 use arc_machine::stop::Stop;
 use std::alloc::Global;
-use std::io;
-use std::io::{ErrorKind, Read, Write};
+use std::io::{Read, Write};
 use std::test::Fail;
-
-/// Takes so many bytes, one at a time, and then fails; its flush may fail too.
-#[derive(Drop)]
-struct Narrow {
-    taken: Vec<u8>,
-    room: usize,
-    flushes: bool,
-}
-
-impl Write for Narrow {
-    fn write(&mut self, bytes: &[u8]) -> io::Result<usize> {
-        if self.taken.len() >= self.room || bytes.is_empty() {
-            return Err(io::Error::from(ErrorKind::BrokenPipe));
-        }
-        self.taken.extend_from_slice(&bytes[..1])?;
-        Ok(1)
-    }
-
-    fn flush(&mut self) -> io::Result<()> {
-        if self.flushes {
-            Ok(())
-        } else {
-            Err(io::Error::from(ErrorKind::BrokenPipe))
-        }
-    }
-}
-
-/// A reader whose every read fails.
-#[derive(Drop)]
-struct Broken;
-
-impl Read for Broken {
-    fn read(&mut self, _bytes: &mut [u8]) -> io::Result<usize> {
-        Err(io::Error::from(ErrorKind::BrokenPipe))
-    }
-}
 
 /// A store that gives so many of another's blocks, and then no more.
 #[derive(Drop)]
@@ -104,11 +68,7 @@ fn failure_of<R: Read, W: Write>(
 #[test]
 fn a_failing_writer_breaks_a_step(rt: HostRuntime) -> Result<(), Fail> {
     let mut reader = Counted::new(b"\x06".as_slice());
-    let mut writer = Counted::new(Narrow {
-        taken: Vec::new(rt.alloc()),
-        room: 2,
-        flushes: true,
-    });
+    let mut writer = Counted::new(with_room(rt.alloc(), 2));
     let fault = failure_of(rt.alloc(), &mut reader, &mut writer)?;
     assert_eq!(rt; fault, Some(IoFault::Write));
     assert_eq!(rt; writer.failures(), 1);
@@ -119,11 +79,7 @@ fn a_failing_writer_breaks_a_step(rt: HostRuntime) -> Result<(), Fail> {
 #[test]
 fn what_was_printed_is_flushed_before_a_read(rt: HostRuntime) -> Result<(), Fail> {
     let mut reader = Counted::new(b"\x06".as_slice());
-    let mut writer = Counted::new(Narrow {
-        taken: Vec::new(rt.alloc()),
-        room: 100,
-        flushes: false,
-    });
+    let mut writer = Counted::new(unflushed(rt.alloc()));
     let fault = failure_of(rt.alloc(), &mut reader, &mut writer)?;
     assert_eq!(rt; fault, Some(IoFault::Write));
     assert_eq!(rt; reader.get_ref().len(), 1);

@@ -1,5 +1,0 @@
-//! Tests of `arc_class`.
-#![tactic(auto)]
-
-#[cfg(test)]
-mod tests;

@@ -1,5 +1,0 @@
-//! Tests of `arc_family`.
-#![tactic(auto)]
-
-#[cfg(test)]
-mod tests;

@@ -1,7 +1,0 @@
-//! What no row of arc_rows shows: devices that fail, want of memory, steps that go on, and long sources.
-
-mod devices;
-mod failing;
-mod hostile;
-mod served;
-mod words;
