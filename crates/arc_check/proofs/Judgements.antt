@@ -13,7 +13,7 @@ use Rattle.arc_class.specs.declared.table.ClassId.{ClassId}
 use Rattle.arc_class.proofs.Firsts.{first_turn, first_both, first-append}
 use Rattle.arc_check.specs.declared.callee.Callee.{Callee}
 use Rattle.arc_check.specs.declared.callee.Callee.TheVariants.{Printf, GetChar, Defined, Unknown}
-use Rattle.arc_check.specs.declared.fault.CheckFault.{CheckFault}
+use Rattle.arc_fault.specs.declared.check.CheckFault.{CheckFault}
 use Rattle.arc_check.specs.declared.format.Part.{Part}
 use Rattle.arc_check.specs.declared.judge.Arguments.{Arguments}
 use Rattle.arc_check.specs.declared.judge.Judged.{Judged}

@@ -12,8 +12,8 @@ use Rattle.arc_class.specs.Table.{IsTableOf}
 use Rattle.arc_class.proofs.Firsts.{none_broken, first_both}
 use Rattle.arc_check.specs.declared.checked.Checked.{Checked}
 use Rattle.arc_check.specs.declared.checked.CheckedFunction.{CheckedFunction}
-use Rattle.arc_check.specs.declared.fault.CheckFault.{CheckFault}
-use Rattle.arc_check.specs.declared.fault.CheckFault.TheVariants as f
+use Rattle.arc_fault.specs.declared.check.CheckFault.{CheckFault}
+use Rattle.arc_fault.specs.declared.check.CheckFault.TheVariants as f
 use Rattle.arc_check.specs.Checked as checked
 use Rattle.arc_check.specs.Fault.{told, Refuses}
 use Rattle.arc_check.specs.Resolving.{number, resolved_functions, resolved_methods, resolved_unit}

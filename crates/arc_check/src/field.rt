@@ -7,10 +7,10 @@ ghost use Rattle.arc_check.specs.Rules as rules;
 ghost use Rattle.arc_check.specs.Scopes as scopes;
 ghost use Rattle.arc_check.specs.Views.{known_in, seen};
 
-use crate::fault::CheckFault;
 use crate::scope::Visible;
 use arc_ast::tree::{Kind, Visibility};
 use arc_class::table::{ClassId, ClassTable, FoundField};
+use arc_fault::check::CheckFault;
 use arc_spec::class::descends_from;
 
 /// The field of `self` that the name means which is no variable's.

@@ -6,7 +6,7 @@ mod callee;
 pub mod check;
 pub mod checked;
 mod classes;
-pub mod fault;
+mod fault;
 mod field;
 mod format;
 mod judge;

@@ -11,9 +11,9 @@ ghost use Rattle.arc_check.specs.Rules.{broken_at, no_left, no_number, no_right,
 ghost use Rattle.arc_check.specs.Views.{seen};
 
 use crate::callee::Callee;
-use crate::fault::CheckFault;
 use crate::scope::Visible;
 use arc_ast::tree::{BinaryOperator, Expr, Kind};
+use arc_fault::check::CheckFault;
 
 /// The largest int.
 const LARGEST_INT: i64 = 2147483647;

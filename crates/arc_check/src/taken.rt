@@ -5,7 +5,7 @@ ghost use Rattle.arc_check.specs.Fault.{told};
 ghost use Rattle.arc_check.specs.Judging.{counted, none_counted, one_counted};
 ghost use Rattle.arc_check.specs.Rules.{at_if, one_too_many};
 
-use crate::fault::CheckFault;
+use arc_fault::check::CheckFault;
 
 /// How many objects more an expression may take, and the first place past them at which it takes one.
 #[derive(Clone, Copy)]

@@ -3,8 +3,8 @@ use Rattle.std.proofs.Common.{◌≡◌, ℕ, Bool, List, [], ◌++◌, Option, 
 use Rattle.std.proofs.Math.Path.{fun_ext}
 use Rattle.arc_ast.specs.Tree.{FunctionTree, UnitTree, unit_tree}
 use Rattle.arc_ast.specs.declared.tree.TranslationUnit.{TranslationUnit}
-use Rattle.arc_class.specs.declared.fault.ClassFault.{ClassFault}
-use Rattle.arc_class.specs.declared.fault.ClassFault.TheVariants as f
+use Rattle.arc_fault.specs.declared.class.ClassFault.{ClassFault}
+use Rattle.arc_fault.specs.declared.class.ClassFault.TheVariants as f
 use Rattle.arc_class.specs.declared.kept.Source.{Source}
 use Rattle.arc_class.specs.declared.look.Seen.{Seen}
 use Rattle.arc_class.specs.Broken.{Broken, first, earlier_of}

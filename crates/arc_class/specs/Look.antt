@@ -3,7 +3,7 @@ use Rattle.std.specs.Prelude.{◌≡◌, ℕ, suc, Bool, ◌&&◌, ◌||◌, if�
 use Rattle.std.specs.Map.{update}
 use Rattle.std.specs.Str.{bytes_eq}
 use Rattle.arc_ast.specs.Tree.{FunctionTree}
-use Rattle.arc_class.specs.declared.fault.ClassFault.{ClassFault}
+use Rattle.arc_fault.specs.declared.class.ClassFault.{ClassFault}
 use Rattle.arc_class.specs.declared.look.Seen.{Seen}
 use Rattle.arc_class.specs.declared.table.Declared.{Declared}
 use Rattle.arc_class.specs.Broken.{Broken, first, earlier_of}

@@ -5,7 +5,7 @@ ghost use Rattle.arc_ast.specs.Tree.{UnitTree, unit_tree, head_tree, head_trees,
 ghost use Rattle.arc_spec.specs.Classes.{class_of, classes_of};
 ghost use Rattle.arc_class.specs.Classes as classes;
 ghost use Rattle.arc_class.specs.Classes.{heads, first_head, with_selectors, declared_selectors, defined_selectors, selectors, number_among, or_zero, defined_by};
-ghost use Rattle.arc_class.specs.declared.fault.ClassFault.TheVariants.{Memory};
+ghost use Rattle.arc_fault.specs.declared.class.ClassFault.TheVariants.{Memory};
 ghost use Rattle.arc_class.specs.Entries.{entry_tree, root_entry, class_entry, fields_tree, all_class_fields};
 ghost use Rattle.arc_class.specs.Fields.{all_fields_from};
 ghost use Rattle.arc_class.specs.Kept.{head_in, Knows};
@@ -13,7 +13,6 @@ ghost use Rattle.arc_class.specs.Running as running;
 ghost use Rattle.arc_class.specs.Running.{method_made, with_method, methods_from, dealloc_from, class_with};
 ghost use Rattle.arc_class.specs.Table.{names_of, list_of, built_in_from};
 
-use crate::fault::ClassFault;
 use crate::fields::{ClassFields, count_among};
 use crate::heads::Heads;
 use crate::kept::Source;
@@ -22,6 +21,7 @@ use crate::table::{Entry, Field, at_name, class_number};
 use arc_ast::tree::{
     Implementation, Interface, Method, MethodHead, Parameter, Sign, TranslationUnit,
 };
+use arc_fault::class::ClassFault;
 use arc_spec::class;
 use arc_spec::class::Class;
 use indexmap::IndexSet;

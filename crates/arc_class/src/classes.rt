@@ -11,13 +11,14 @@ ghost use Rattle.arc_class.specs.Fault.{told};
 ghost use Rattle.arc_class.specs.Kept.{Knows, place_before};
 ghost use Rattle.arc_class.specs.Walk.{holds};
 
-use crate::fault::{ClassFault, earlier, fault_if};
+use crate::fault::{earlier, fault_if};
 use crate::fields::{ClassFields, count_among, field_places, fields_fault, pairs_fault};
 use crate::kept::Source;
 use crate::look::is_library;
 use crate::table::{Place, at_name, class_number, is_root};
 use crate::walk::{Scope, stands};
 use arc_ast::tree::{Function, Implementation, Interface};
+use arc_fault::class::ClassFault;
 use std::alloc::{AllocError, Global};
 
 /// How many fields the objects of a class may have.

@@ -5,7 +5,7 @@ ghost use Rattle.arc_class.specs.Broken.{first};
 ghost use Rattle.arc_class.specs.Classes.{or_then};
 ghost use Rattle.arc_class.specs.ClassRules as rules;
 ghost use Rattle.arc_class.specs.ClassRules.{broken_fields, broken_pair, broken_pairs};
-ghost use Rattle.arc_class.specs.declared.fault.ClassFault.TheVariants.{Memory};
+ghost use Rattle.arc_fault.specs.declared.class.ClassFault.TheVariants.{Memory};
 ghost use Rattle.arc_class.specs.Entries.{fields_tree, root_fields, all_class_fields, class_fields_with, count_among};
 ghost use Rattle.arc_class.specs.Fault.{told};
 ghost use Rattle.arc_class.specs.Fields as specs;
@@ -13,12 +13,13 @@ ghost use Rattle.arc_class.specs.Fields.{numbered, owned, fields_declared, all_f
 ghost use Rattle.arc_class.specs.Kept.{Knows};
 ghost use Rattle.arc_class.specs.Table.{at_name, field_among, field_tree, list_of, list_among, number_of_class};
 
-use crate::fault::{ClassFault, earlier, fault_if};
+use crate::fault::{earlier, fault_if};
 use crate::heads::keep_first;
 use crate::kept::Source;
 use crate::table::{ClassId, Field, FoundField, at_name, class_number};
 use arc_ast::tree;
 use arc_ast::tree::Interface;
+use arc_fault::class::ClassFault;
 use std::alloc::{AllocError, Global};
 use std::collections::BTreeMap;
 

@@ -4,17 +4,17 @@ ghost use Rattle.arc_ast.specs.declared.tree.Sign.{Sign};
 ghost use Rattle.arc_ast.specs.Tree.{unit_tree, function_trees, interface_trees, implementation_trees};
 ghost use Rattle.arc_class.specs.Classes as classes;
 ghost use Rattle.arc_class.specs.Classes.{first_head, declared, defined};
-ghost use Rattle.arc_class.specs.declared.fault.ClassFault.TheVariants.{Memory};
+ghost use Rattle.arc_fault.specs.declared.class.ClassFault.TheVariants.{Memory};
 ghost use Rattle.arc_class.specs.Kept.{head_in, function_kept, places, implemented_in, Knows};
 ghost use Rattle.arc_class.specs.Names as names;
 ghost use Rattle.arc_class.specs.Names.{first_named};
 ghost use Rattle.arc_class.specs.Running.{implemented};
 ghost use Rattle.arc_class.specs.Table.{at_name};
 
-use crate::fault::ClassFault;
 use crate::heads::{Heads, keep_first};
 use crate::table::{Known, Names, Place};
 use arc_ast::tree::{Function, Implementation, Interface, Method, TranslationUnit};
+use arc_fault::class::ClassFault;
 use std::alloc::{AllocError, Global};
 use std::collections::BTreeMap;
 

@@ -3,7 +3,7 @@
 
 mod building;
 mod classes;
-pub mod fault;
+mod fault;
 mod fields;
 mod heads;
 mod kept;

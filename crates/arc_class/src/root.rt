@@ -1,11 +1,11 @@
 //! The methods of the root, which are built in.
 ghost use Rattle.std.specs.Prelude.{◌≡◌, ◌<◌, ◌+◌, IfOk, IfErr};
 ghost use Rattle.arc_class.specs.Classes as classes;
-ghost use Rattle.arc_class.specs.declared.fault.ClassFault.TheVariants.{Memory};
+ghost use Rattle.arc_fault.specs.declared.class.ClassFault.TheVariants.{Memory};
 ghost use Rattle.arc_class.specs.Table.{built_in_at, built_in_from};
 
-use crate::fault::ClassFault;
 use arc_ast::tree::{Kind, Sign};
+use arc_fault::class::ClassFault;
 
 /// What the built-in method gives.
 pub fn built_in_result(sign: Sign, selector: &[u8]) -> Option<Kind>

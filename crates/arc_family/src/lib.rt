@@ -2,7 +2,7 @@
 #![tactic(auto)]
 
 pub mod family;
-pub mod fault;
+mod fault;
 pub mod law;
 pub mod owned;
 pub mod signature;

@@ -4,9 +4,9 @@ ghost use Rattle.arc_ast.specs.Tree.{unit_tree};
 ghost use Rattle.arc_family.specs.Rules.{broken};
 ghost use Rattle.arc_family.specs.Fault.{Refuses};
 
-use crate::fault::OwnFault;
 use crate::walk::walk;
 use arc_check::checked::Checked;
+use arc_fault::own::OwnFault;
 use std::alloc::Global;
 
 /// A program that keeps the rules of ownership.

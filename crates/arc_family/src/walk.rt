@@ -6,11 +6,12 @@ ghost use Rattle.arc_family.specs.Fault.{told};
 ghost use Rattle.arc_family.specs.Rules as rules;
 ghost use Rattle.arc_family.specs.Rules.{broken_head, broken_message, broken_assignment, broken_expr, broken_exprs, broken_maybe, broken_variable, broken_stmt, broken_stmts, broken_function, broken_method, broken_interface, broken_implementation, broken};
 
-use crate::fault::{OwnFault, earlier};
+use crate::fault::earlier;
 use arc_ast::tree::{
     Expr, Function, Implementation, Interface, Method, MethodHead, Sign, Stmt, TranslationUnit,
     Variable,
 };
+use arc_fault::own::OwnFault;
 
 /// Whether the selector is that of a method that counts references by hand.
 fn is_manual(selector: &[u8]) -> bool

@@ -2,8 +2,8 @@
 use Rattle.std.specs.Prelude.{◌≡◌, ℕ, List, [], ◌∷◌, ◌++◌}
 use Rattle.arc_lex.specs.Tokens.{Tok}
 use Rattle.arc_ast.specs.Tree.{UnitTree}
-use Rattle.arc_parse.specs.declared.fault.ParseFault.{ParseFault}
-use Rattle.arc_parse.specs.declared.fault.ParseFault.TheVariants as faults
+use Rattle.arc_fault.specs.declared.parse.ParseFault.{ParseFault}
+use Rattle.arc_fault.specs.declared.parse.ParseFault.TheVariants as faults
 use Rattle.arc_parse.specs.Reader.{first}
 use Rattle.arc_parse.specs.Limits.{unlimited, these}
 use Rattle.arc_parse.specs.Grammar.{SpellsUnit}
@@ -41,20 +41,3 @@ abbrev pub IsRefused : List Tok → ParseFault → Type 0
 IsRefused all (faults.Unexpected at) = FitsNone all at
 IsRefused all (faults.TooDeep at) = PassesLimit all at
 IsRefused all faults.Memory = Unit {0}
-
-abbrev pub number_of : ParseFault → ℕ
-number_of (faults.Unexpected at) = 11
-number_of (faults.TooDeep at) = 12
-number_of faults.Memory = 13
-
--- "Unexpected", "TooDeep" or "Memory"
-abbrev pub name_of : ParseFault → List ℕ
-name_of (faults.Unexpected at) = 85 ∷ 110 ∷ 101 ∷ 120 ∷ 112 ∷ 101 ∷ 99 ∷ 116 ∷ 101 ∷ 100 ∷ []
-name_of (faults.TooDeep at) = 84 ∷ 111 ∷ 111 ∷ 68 ∷ 101 ∷ 101 ∷ 112 ∷ []
-name_of faults.Memory = 77 ∷ 101 ∷ 109 ∷ 111 ∷ 114 ∷ 121 ∷ []
-
--- the byte that a refusal is at
-abbrev pub byte_of : ParseFault → ℕ
-byte_of (faults.Unexpected at) = at
-byte_of (faults.TooDeep at) = at
-byte_of faults.Memory = 0

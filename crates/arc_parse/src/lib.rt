@@ -4,7 +4,6 @@
 mod class;
 mod expr;
 mod fail;
-pub mod fault;
 mod field;
 mod function;
 mod limit;

@@ -5,12 +5,12 @@ ghost use Rattle.arc_ast.specs.Tree.{UnitTree, unit_tree};
 ghost use Rattle.arc_parse.specs.Grammar.{SpellsUnit};
 ghost use Rattle.arc_parse.specs.Limits.{unlimited, these};
 ghost use Rattle.arc_parse.specs.Refusal.{IsRefused, place_of, end_of};
-ghost use Rattle.arc_parse.specs.declared.fault.ParseFault.TheVariants.{Memory};
+ghost use Rattle.arc_fault.specs.declared.parse.ParseFault.TheVariants.{Memory};
 
 use crate::fail::Fail;
-use crate::fault::ParseFault;
 use crate::source::unit;
 use arc_ast::tree::TranslationUnit;
+use arc_fault::parse::ParseFault;
 use arc_lex::token::Token;
 use std::alloc::Global;
 

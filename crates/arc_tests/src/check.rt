@@ -2,8 +2,8 @@
 use crate::source::tree;
 use arc_check::check::check;
 use arc_check::checked::{Command, Value};
-use arc_check::fault::CheckFault;
 use arc_class::table::ClassTable;
+use arc_fault::check::CheckFault;
 
 #[test]
 fn checks(rt: HostRuntime) {

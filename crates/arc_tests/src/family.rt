@@ -3,9 +3,9 @@ use crate::source::tree;
 use arc_ast::tree::{Kind, TranslationUnit};
 use arc_check::checked::Checked;
 use arc_family::family::family;
-use arc_family::fault::OwnFault;
 use arc_family::owned::own;
 use arc_family::signature::{Family, Signature};
+use arc_fault::own::OwnFault;
 use std::alloc::Global;
 
 /// The number and the place of the rule that a tree breaks.

@@ -1,7 +1,7 @@
 //! A source that becomes a tree, and one that is refused. The program `arc_rows` has many more.
 use arc_ast::tree::{BinaryOperator, Expr, Kind, Stmt};
+use arc_fault::parse::ParseFault;
 use arc_lex::lex::lex;
-use arc_parse::fault::ParseFault;
 use arc_parse::parse::parse;
 
 #[test]

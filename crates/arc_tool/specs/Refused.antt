@@ -7,17 +7,17 @@ use Rattle.arc_lex.specs.Faults as lexing
 use Rattle.arc_ast.specs.Tree.{UnitTree}
 use Rattle.arc_parse.specs.Grammar.{SpellsUnit}
 use Rattle.arc_parse.specs.Limits.{these}
-use Rattle.arc_parse.specs.declared.fault.ParseFault.{ParseFault}
+use Rattle.arc_fault.specs.declared.parse.ParseFault.{ParseFault}
 use Rattle.arc_parse.specs.Refusal as parsing
 use Rattle.arc_class.specs.declared.table.ClassTable.{ClassTable}
-use Rattle.arc_class.specs.declared.fault.ClassFault.{ClassFault}
+use Rattle.arc_fault.specs.declared.class.ClassFault.{ClassFault}
 use Rattle.arc_class.specs.ClassRules.{broken}
 use Rattle.arc_class.specs.Table.{IsTableOf}
 use Rattle.arc_class.specs.Fault as building
-use Rattle.arc_check.specs.declared.fault.CheckFault.{CheckFault}
+use Rattle.arc_fault.specs.declared.check.CheckFault.{CheckFault}
 use Rattle.arc_check.specs.Rules.{broken_unit}
 use Rattle.arc_check.specs.Fault as checking
-use Rattle.arc_family.specs.declared.fault.OwnFault.{OwnFault}
+use Rattle.arc_fault.specs.declared.own.OwnFault.{OwnFault}
 use Rattle.arc_family.specs.Fault as owning
 use Rattle.arc_family.specs.Rules as ownership
 use Rattle.arc_ir.specs.Acting as acting

@@ -8,12 +8,12 @@ ghost use Rattle.arc_family.specs.Fault as owning;
 ghost use Rattle.arc_emit.specs.Faults as emitting;
 ghost use Rattle.arc_tool.specs.Told.{Tells, Names};
 
-use arc_check::fault::CheckFault;
-use arc_class::fault::ClassFault;
 use arc_emit::fault::EmitFault;
-use arc_family::fault::OwnFault;
+use arc_fault::check::CheckFault;
+use arc_fault::class::ClassFault;
+use arc_fault::own::OwnFault;
+use arc_fault::parse::ParseFault;
 use arc_lex::fault::LexFault;
-use arc_parse::fault::ParseFault;
 use arc_spec::event::NoMemory;
 use thiserror::Error;
 

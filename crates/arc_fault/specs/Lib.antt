@@ -1,0 +1,4 @@
+pub mod Parse
+pub mod Class
+pub mod Check
+pub mod Own

@@ -1,0 +1,60 @@
+//! Why a program is refused.
+ghost use Rattle.std.specs.Prelude.{◌≡◌};
+ghost use Rattle.arc_fault.specs.Own.{fault_number, fault_name, fault_at};
+
+use thiserror::Error;
+
+/// Why a program is refused: the first rule of ownership that it breaks.
+#[derive(Clone, Copy, Debug, Error)]
+pub enum OwnFault {
+    /// An assignment to `self` outside of the methods of the init family, at its `=`.
+    #[error("self is assigned at {0}")]
+    SelfConst(usize),
+    /// A method `retain`, `release`, `autorelease` or `retainCount`, at its `+`; or such a message, at the first part of its selector.
+    #[error("references are counted by hand at {0}")]
+    ManualMemory(usize),
+    /// A message `dealloc`; the place is that of its selector.
+    #[error("dealloc is sent at {0}")]
+    DeallocSent(usize),
+    /// A message of an init method to `self` or `super` outside of the methods of the init family; the place is that of its selector.
+    #[error("an init method is delegated at {0}")]
+    DelegateInit(usize),
+}
+
+impl OwnFault {
+    /// The fault's number.
+    pub fn number(&self) -> u8
+        ensures { result ≡ fault_number self.now }
+    {
+        match self {
+            OwnFault::SelfConst(_) => 47,
+            OwnFault::ManualMemory(_) => 61,
+            OwnFault::DeallocSent(_) => 62,
+            OwnFault::DelegateInit(_) => 63,
+        }
+    }
+
+    /// The fault's name.
+    pub fn name(&self) -> &'static str
+        ensures { result.now ≡ fault_name self.now }
+    {
+        match self {
+            OwnFault::SelfConst(_) => "SelfConst",
+            OwnFault::ManualMemory(_) => "ManualMemory",
+            OwnFault::DeallocSent(_) => "DeallocSent",
+            OwnFault::DelegateInit(_) => "DelegateInit",
+        }
+    }
+
+    /// The byte of the source that the fault names, counted from 0.
+    pub fn at(&self) -> usize
+        ensures { result ≡ fault_at self.now }
+    {
+        match self {
+            OwnFault::SelfConst(at) => *at,
+            OwnFault::ManualMemory(at) => *at,
+            OwnFault::DeallocSent(at) => *at,
+            OwnFault::DelegateInit(at) => *at,
+        }
+    }
+}
