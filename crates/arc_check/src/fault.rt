@@ -1,9 +1,9 @@
-//! Which of two broken rules is told.
+//! Why a source is refused, and which of two broken rules is told.
 ghost use Rattle.std.specs.Prelude.{◌≡◌, option_map};
 ghost use Rattle.arc_class.specs.Broken.{earlier_of};
 ghost use Rattle.arc_check.specs.Fault.{told};
 
-use arc_fault::check::CheckFault;
+pub use arc_fault::check::CheckFault;
 
 /// The fault that is told of two.
 pub(crate) fn earlier(a: Option<CheckFault>, b: Option<CheckFault>) -> Option<CheckFault>

@@ -6,7 +6,7 @@ mod callee;
 pub mod check;
 pub mod checked;
 mod classes;
-mod fault;
+pub mod fault;
 mod field;
 mod format;
 mod judge;

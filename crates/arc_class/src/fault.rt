@@ -1,11 +1,11 @@
-//! Which of two broken rules is told.
+//! Why a source has no table, and which of two broken rules is told.
 ghost use Rattle.std.specs.Prelude.{◌≡◌, option_map};
 ghost use Rattle.arc_class.specs.Bodies.{broken_if};
 ghost use Rattle.arc_class.specs.Broken.{earlier_of, first};
 ghost use Rattle.arc_fault.specs.Class.{fault_number, fault_at};
 ghost use Rattle.arc_class.specs.Fault.{told};
 
-use arc_fault::class::ClassFault;
+pub use arc_fault::class::ClassFault;
 
 /// The fault, if the rule is broken.
 pub(crate) fn fault_if(breaks: bool, fault: ClassFault) -> Option<ClassFault>

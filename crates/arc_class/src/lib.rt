@@ -3,7 +3,7 @@
 
 mod building;
 mod classes;
-mod fault;
+pub mod fault;
 mod fields;
 mod heads;
 mod kept;

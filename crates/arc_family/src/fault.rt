@@ -1,9 +1,9 @@
-//! Which of two broken rules is told.
+//! Why a program is refused, and which of two broken rules is told.
 ghost use Rattle.std.specs.Prelude.{◌≡◌, option_map};
 ghost use Rattle.arc_class.specs.Broken.{earlier_of};
 ghost use Rattle.arc_family.specs.Fault.{told};
 
-use arc_fault::own::OwnFault;
+pub use arc_fault::own::OwnFault;
 
 /// The fault that is told of two.
 pub(crate) fn earlier(a: Option<OwnFault>, b: Option<OwnFault>) -> Option<OwnFault>

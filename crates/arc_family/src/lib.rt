@@ -2,7 +2,7 @@
 #![tactic(auto)]
 
 pub mod family;
-mod fault;
+pub mod fault;
 pub mod law;
 pub mod owned;
 pub mod signature;

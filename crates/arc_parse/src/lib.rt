@@ -4,6 +4,7 @@
 mod class;
 mod expr;
 mod fail;
+pub mod fault;
 mod field;
 mod function;
 mod limit;

@@ -1,0 +1,3 @@
+//! Why a source is not parsed.
+
+pub use arc_fault::parse::ParseFault;
