@@ -9,11 +9,11 @@ use Rattle.arc_code.specs.Running.{Program}
 use Rattle.arc_code.specs.Written.{Written}
 use Rattle.arc_machine.specs.declared.stop.Stop.{Stop}
 use Rattle.arc_machine.specs.declared.stop.Stop.TheVariants as stop
-use Rattle.arc_tool.specs.declared.request.Command.{Command}
-use Rattle.arc_tool.specs.declared.request.Command.TheVariants.{Check, Run, Trace, Code}
-use Rattle.arc_tool.specs.declared.request.Words.{Words}
-use Rattle.arc_tool.specs.declared.request.WordsFault.{WordsFault}
-use Rattle.arc_tool.specs.declared.request.WordsFault.TheVariants as words_fault
+use Rattle.arc_words.specs.declared.request.Command.{Command}
+use Rattle.arc_words.specs.declared.request.Command.TheVariants.{Check, Run, Trace, Code}
+use Rattle.arc_words.specs.declared.request.Words.{Words}
+use Rattle.arc_words.specs.declared.request.WordsFault.{WordsFault}
+use Rattle.arc_words.specs.declared.request.WordsFault.TheVariants as words_fault
 use Rattle.arc_tool.specs.declared.serve.FileFault.{FileFault}
 use Rattle.arc_tool.specs.declared.serve.FileFault.TheVariants as file_fault
 use Rattle.arc_tool.specs.declared.run.ToolFault.TheVariants as tool_fault
