@@ -38,10 +38,10 @@ pub fn objects<'a>(alloc: Global, tokens: &'a [Token]) -> Read<'a, Stmt>
     ensures shorter { IfOk result (λ x. length x.1.now < length tokens.now) }
 {
     let ((at, called), rest) = name(tokens)?;
-    let kind = TypeName::Object(at, Vec::from_slice(alloc, called)?);
+    let class = Vec::from_slice(alloc, called)?;
     let (all, rest) = references(alloc, rest)?;
     let (_, rest) = expect(Mark::Semicolon, rest)?;
-    Ok((Stmt::Variables(at, kind, all), rest))
+    Ok((Stmt::Variables(at, TypeName::Object(at, class), all), rest))
 }
 
 /// One variable or more, with a `*` each.
