@@ -84,9 +84,10 @@ fn assignment<'a>(alloc: Global, left: Expr, tokens: &'a [Token]) -> Read<'a, Ex
         return Ok((left, tokens));
     }
     let at = place_of(&left);
+    let left = Box::new(alloc, left)?;
     let (sign, rest) = expect(Mark::Assign, tokens)?;
     let (right, rest) = expr(alloc, rest)?;
-    let (left, right) = (Box::new(alloc, left)?, Box::new(alloc, right)?);
+    let right = Box::new(alloc, right)?;
     Ok((Expr::Assign(at, sign, left, right), rest))
 }
 
@@ -128,10 +129,11 @@ fn more<'a>(alloc: Global, level: usize, left: Expr, tokens: &'a [Token]) -> Rea
     if !sees_operator(level, tokens) {
         return Ok((left, tokens));
     }
+    let at = place_of(&left);
+    let left = Box::new(alloc, left)?;
     let (operator, rest) = operator(level, tokens)?;
     let (right, rest) = binary(alloc, level - 1, rest)?;
-    let at = place_of(&left);
-    let (left, right) = (Box::new(alloc, left)?, Box::new(alloc, right)?);
+    let right = Box::new(alloc, right)?;
     more(alloc, level, Expr::Binary(at, operator, left, right), rest)
 }
 
@@ -189,10 +191,10 @@ fn arrows<'a>(alloc: Global, object: Expr, tokens: &'a [Token]) -> Read<'a, Expr
     if !sees_mark(Mark::Arrow, tokens) {
         return Ok((object, tokens));
     }
-    let (_, rest) = expect(Mark::Arrow, tokens)?;
-    let ((name_at, called), rest) = name(rest)?;
     let at = place_of(&object);
     let object = Box::new(alloc, object)?;
+    let (_, rest) = expect(Mark::Arrow, tokens)?;
+    let ((name_at, called), rest) = name(rest)?;
     let called = Vec::from_slice(alloc, called)?;
     arrows(alloc, Expr::Arrow(at, name_at, object, called), rest)
 }
@@ -295,8 +297,9 @@ fn parenthesized<'a>(alloc: Global, tokens: &'a [Token]) -> Read<'a, Expr>
 {
     let (at, rest) = expect(Mark::OpenParen, tokens)?;
     let (inside, rest) = expr(alloc, rest)?;
+    let inside = Box::new(alloc, inside)?;
     let (_, rest) = expect(Mark::CloseParen, rest)?;
-    Ok((Expr::Paren(at, Box::new(alloc, inside)?), rest))
+    Ok((Expr::Paren(at, inside), rest))
 }
 
 #[cycle(exprs)]

@@ -20,11 +20,12 @@ pub fn function<'a>(alloc: Global, tokens: &'a [Token]) -> Read<'a, Function>
     ensures shorter { IfOk result (λ x. length x.1.now < length tokens.now) }
 {
     let ((result, (at, called), parameters), rest) = head(alloc, tokens)?;
+    let name = Vec::from_slice(alloc, called)?;
     let (body, rest) = body(alloc, rest)?;
     Ok((
         Function {
             at,
-            name: Vec::from_slice(alloc, called)?,
+            name,
             result,
             parameters,
             body,

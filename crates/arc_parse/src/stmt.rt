@@ -72,12 +72,13 @@ fn perhaps<'a>(alloc: Global, depth: usize, tokens: &'a [Token]) -> Read<'a, Stm
 /// A statement that must come.
 #[cycle(stmts)]
 #[tactic(auto, using(crate::proofs::UnitFix::read_stmt), unfolding(crate::specs::Limits::nested))]
-fn branch<'a>(alloc: Global, depth: usize, tokens: &'a [Token]) -> Read<'a, Stmt>
-    ensures gives { Gives (λ x. (stmt_tree x.0, toks x.1.now)) result (rules.read these (rules.stmt depth) (toks tokens.now)) }
+fn branch<'a>(alloc: Global, depth: usize, tokens: &'a [Token]) -> Read<'a, Box<Stmt>>
+    ensures gives { Gives (λ x. (stmt_tree x.0.value, toks x.1.now)) result (rules.read these (rules.stmt depth) (toks tokens.now)) }
     ensures shorter { IfOk result (λ x. length x.1.now < length tokens.now) }
 {
     if depth <= DEEPEST {
-        stmt(alloc, depth, tokens)
+        let (read, rest) = stmt(alloc, depth, tokens)?;
+        Ok((Box::new(alloc, read)?, rest))
     } else if is_more(tokens) {
         Err(Fail::TooDeep(tokens))
     } else {
@@ -122,7 +123,7 @@ fn worded<'a>(alloc: Global, depth: usize, tokens: &'a [Token]) -> Read<'a, Stmt
 
 /// `if`, a test, a branch, and perhaps `else` and another
 #[cycle(stmts)]
-#[tactic(auto, unfolding(crate::specs::UnitRules::if_by, crate::specs::UnitRules::else_by))]
+#[tactic(auto, unfolding(crate::specs::UnitRules::if_by))]
 fn conditional<'a>(alloc: Global, depth: usize, tokens: &'a [Token]) -> Read<'a, Stmt>
     requires { depth ≤ 200 }
     ensures gives { Gives (λ x. (stmt_tree x.0, toks x.1.now)) result (rules.if_by these (rules.read these) depth (toks tokens.now)) }
@@ -131,13 +132,29 @@ fn conditional<'a>(alloc: Global, depth: usize, tokens: &'a [Token]) -> Read<'a,
     let (at, rest) = keyword(Word::If, tokens)?;
     let (condition, rest) = test(alloc, rest)?;
     let (first, rest) = branch(alloc, depth + 1, rest)?;
-    let first = Box::new(alloc, first)?;
-    if !sees_word(Word::Else, rest) {
-        return Ok((Stmt::If(at, condition, first), rest));
+    otherwise(alloc, depth, at, condition, first, rest)
+}
+
+/// What is behind the first branch of an `if` at this place: perhaps `else` and another.
+#[cycle(stmts)]
+#[tactic(auto, unfolding(crate::specs::UnitRules::else_by))]
+fn otherwise<'a>(
+    alloc: Global,
+    depth: usize,
+    at: usize,
+    condition: Expr,
+    first: Box<Stmt>,
+    tokens: &'a [Token],
+) -> Read<'a, Stmt>
+    requires { depth ≤ 200 }
+    ensures gives { Gives (λ x. (stmt_tree x.0, toks x.1.now)) result (rules.else_by (rules.read these) depth at (expr_tree condition) (stmt_tree first.value) (toks tokens.now)) }
+    ensures shorter { IfOk result (λ x. length x.1.now ≤ length tokens.now) }
+{
+    if !sees_word(Word::Else, tokens) {
+        return Ok((Stmt::If(at, condition, first), tokens));
     }
-    let (_, rest) = keyword(Word::Else, rest)?;
+    let (_, rest) = keyword(Word::Else, tokens)?;
     let (second, rest) = branch(alloc, depth + 1, rest)?;
-    let second = Box::new(alloc, second)?;
     Ok((Stmt::IfElse(at, condition, first, second), rest))
 }
 
@@ -152,7 +169,7 @@ fn repeated<'a>(alloc: Global, depth: usize, tokens: &'a [Token]) -> Read<'a, St
     let (at, rest) = keyword(Word::While, tokens)?;
     let (condition, rest) = test(alloc, rest)?;
     let (body, rest) = branch(alloc, depth + 1, rest)?;
-    Ok((Stmt::While(at, condition, Box::new(alloc, body)?), rest))
+    Ok((Stmt::While(at, condition, body), rest))
 }
 
 /// A test in parentheses.

@@ -38,10 +38,10 @@ pub fn objects<'a>(alloc: Global, tokens: &'a [Token]) -> Read<'a, Stmt>
     ensures shorter { IfOk result (λ x. length x.1.now < length tokens.now) }
 {
     let ((at, called), rest) = name(tokens)?;
-    let kind = TypeName::Object(at, Vec::from_slice(alloc, called)?);
+    let class = Vec::from_slice(alloc, called)?;
     let (all, rest) = references(alloc, rest)?;
     let (_, rest) = expect(Mark::Semicolon, rest)?;
-    Ok((Stmt::Variables(at, kind, all), rest))
+    Ok((Stmt::Variables(at, TypeName::Object(at, class), all), rest))
 }
 
 /// One variable or more, with a `*` each.
@@ -143,15 +143,9 @@ fn variable<'a>(alloc: Global, tokens: &'a [Token]) -> Read<'a, Variable>
     ensures shorter { IfOk result (λ x. length x.1.now < length tokens.now) }
 {
     let ((at, called), rest) = name(tokens)?;
+    let name = Vec::from_slice(alloc, called)?;
     let (initial, rest) = initial(alloc, rest)?;
-    Ok((
-        Variable {
-            at,
-            name: Vec::from_slice(alloc, called)?,
-            initial,
-        },
-        rest,
-    ))
+    Ok((Variable { at, name, initial }, rest))
 }
 
 /// What a variable begins with, if that is said.

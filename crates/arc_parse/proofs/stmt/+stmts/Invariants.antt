@@ -26,6 +26,9 @@ decreases-worded l = 8 * length l.tokens.now + 3
 abbrev pub decreases-conditional : goal.decreases-conditional
 decreases-conditional l = 8 * length l.tokens.now + 2
 
+abbrev pub decreases-otherwise : goal.decreases-otherwise
+decreases-otherwise l = 8 * length l.tokens.now + 6
+
 abbrev pub decreases-repeated : goal.decreases-repeated
 decreases-repeated l = 8 * length l.tokens.now + 2
 
