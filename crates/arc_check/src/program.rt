@@ -132,7 +132,7 @@ fn evaluated(of: Resolution) -> Command
     ensures { checked.command result ≡ resolving.evaluated (resolution of) }
 {
     match of {
-        Resolution::Gives(_, value) => Command::Evaluate(value),
+        Resolution::Gives(_, value) => Command::Evaluate(Box::into_inner(value)),
         Resolution::Refers(object) => Command::EvaluateReference(object),
     }
 }
@@ -150,7 +150,7 @@ fn evaluation<'a>(
     Ok(evaluated(typed.value))
 }
 
-/// A resolved test, in a box.
+/// A resolved test.
 fn test<'a>(
     alloc: Global,
     table: &ClassTable<'a>,
@@ -160,8 +160,7 @@ fn test<'a>(
     ensures { IfOk result (λ new. checked.value new.value ≡ resolving.number_in (resolving.resolved (seen table.now visible.now) (expr_tree expr.now))) }
 {
     let typed = expression(alloc, table, visible, expr)?;
-    let value = number_in(alloc, typed.value)?;
-    Ok(Box::new(alloc, value)?)
+    number_in(alloc, typed.value)
 }
 
 /// A statement that does nothing.
