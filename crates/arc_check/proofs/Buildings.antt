@@ -13,7 +13,6 @@ use Rattle.arc_check.specs.declared.checked.Value.{Value}
 use Rattle.arc_check.specs.Checked as checked
 use Rattle.arc_check.specs.Building.{Resolves, resolution, in_front, printing}
 use Rattle.arc_check.specs.declared.callee.Callee.{Callee}
-use Rattle.arc_check.specs.declared.resolve.Resolution.TheVariants as b
 use Rattle.arc_check.specs.declared.resolve.Typed.{Typed}
 use Rattle.arc_check.specs.Resolving as resolving
 use Rattle.arc_check.specs.Resolving.{Gives, argument, called, resolved_all, text_of}
@@ -52,8 +51,8 @@ printing_none s (a ∷ all) pieces values l p v = absurd (omega arith)
 -- ---- calls
 
 pub resolves_call : (s : Scope) (at : ℕ) (name : List ℕ) (arguments : ExprTrees) (function : Callee) (kind : Kind) (value : Value) (typed : Typed) → callee s.known name ≡ function → kind ≡ result_kind function
-    → checked.value value ≡ called function arguments (resolved_all s (is_printf function) arguments) → typed.class ≡ None → typed.value ≡ b.Gives kind value → Resolves s (Call at name arguments) typed
+    → checked.value value ≡ called function arguments (resolved_all s (is_printf function) arguments) → typed.class ≡ None → resolution typed.value ≡ Gives kind (checked.value value) → Resolves s (Call at name arguments) typed
 resolves_call s at name arguments function kind value typed e k v c w = record {
   class = ap (option_map number_of_class) c;
-  value = ap resolution w ∙ ap (λ x. Gives x (checked.value value)) k ∙ ap (Gives (result_kind function)) v ∙ ap (λ f. Gives (result_kind f) (called f arguments (resolved_all s (is_printf f) arguments))) (sym e);
+  value = w ∙ ap (λ x. Gives x (checked.value value)) k ∙ ap (Gives (result_kind function)) v ∙ ap (λ f. Gives (result_kind f) (called f arguments (resolved_all s (is_printf f) arguments))) (sym e);
 }

@@ -2,7 +2,7 @@
 ghost use Rattle.std.specs.Prelude.{◌≡◌, ◌-◌, List, ◌++◌, IfOk, OnOk, option_map, take, length};
 ghost use Rattle.arc_ast.specs.Tree.{expr_tree, type_tree, variable_trees, parameter_trees, stmt_tree, stmt_trees, function_trees, method_trees, implementation_trees};
 ghost use Rattle.arc_class.specs.Table.{number_of_class};
-ghost use Rattle.arc_spec.specs.Resolved.{Sequence};
+ghost use Rattle.arc_spec.specs.Resolved.{Sequence, Choose, Repeat};
 ghost use Rattle.arc_spec.specs.Resolved as spec;
 ghost use Rattle.arc_check.specs.Building.{function_of, functions_ahead, in_front_of, resolution};
 ghost use Rattle.arc_check.specs.Checked as checked;
@@ -34,18 +34,21 @@ fn initial<'a>(
     }
 }
 
-/// What a function returns, as an int.
+/// A resolved return, of an int where it gives something.
 fn returned<'a>(
     alloc: Global,
     table: &ClassTable<'a>,
     visible: &Visible<'a>,
     expr: &'a Option<Expr>,
-) -> Result<Option<Value>, AllocError>
-    ensures { IfOk result (λ value. option_map checked.value value ≡ option_map (as_int (seen table.now visible.now)) (option_map expr_tree expr.now)) }
+) -> Result<Command, AllocError>
+    ensures { IfOk result (λ new. checked.command new ≡ spec.Return (option_map (as_int (seen table.now visible.now)) (option_map expr_tree expr.now))) }
 {
     match expr {
-        None => Ok(None),
-        Some(expr) => Ok(Some(int(alloc, table, visible, expr)?)),
+        None => Ok(Command::Return(None)),
+        Some(expr) => {
+            let value = int(alloc, table, visible, expr)?;
+            Ok(Command::Return(Some(value)))
+        }
     }
 }
 
@@ -108,14 +111,43 @@ fn variables<'a>(
     Ok(all)
 }
 
+/// A resolved declaration, as a statement.
+fn declaration<'a>(
+    alloc: Global,
+    table: &ClassTable<'a>,
+    visible: &mut Visible<'a>,
+    type_name: &'a TypeName,
+    declared: &'a [Variable],
+) -> Result<Command, AllocError>
+    ensures command { IfOk result (λ new. checked.command new ≡ Sequence 0 0 (resolved_variables (type_tree type_name.now) (seen table.now visible.old) (variable_trees declared.now))) }
+    ensures scope { OnOk result (seen table.now visible.new ≡ with_variables (type_tree type_name.now) (seen table.now visible.old) (variable_trees declared.now)) }
+    ensures keeps { OnOk result (take (length visible.old.bound.items) visible.new.bound.items ≡ visible.old.bound.items) }
+{
+    let all = variables(alloc, table, visible, type_name, declared)?;
+    Ok(Command::Sequence(0, 0, all))
+}
+
 /// A statement that is an expression.
 fn evaluated(of: Resolution) -> Command
     ensures { checked.command result ≡ resolving.evaluated (resolution of) }
 {
     match of {
-        Resolution::Gives(_, value) => Command::Evaluate(value),
+        Resolution::Gives(_, value) => Command::Evaluate(Box::into_inner(value)),
         Resolution::Refers(object) => Command::EvaluateReference(object),
     }
+}
+
+/// A resolved expression, as a statement.
+fn evaluation<'a>(
+    alloc: Global,
+    table: &ClassTable<'a>,
+    visible: &Visible<'a>,
+    expr: &'a Expr,
+) -> Result<Command, AllocError>
+    ensures { IfOk result (λ new. checked.command new ≡ resolving.evaluated (resolving.resolved (seen table.now visible.now) (expr_tree expr.now))) }
+{
+    let typed = expression(alloc, table, visible, expr)?;
+    Ok(evaluated(typed.value))
 }
 
 /// A resolved test.
@@ -124,8 +156,8 @@ fn test<'a>(
     table: &ClassTable<'a>,
     visible: &Visible<'a>,
     expr: &'a Expr,
-) -> Result<Value, AllocError>
-    ensures { IfOk result (λ new. checked.value new ≡ resolving.number_in (resolving.resolved (seen table.now visible.now) (expr_tree expr.now))) }
+) -> Result<Box<Value>, AllocError>
+    ensures { IfOk result (λ new. checked.value new.value ≡ resolving.number_in (resolving.resolved (seen table.now visible.now) (expr_tree expr.now))) }
 {
     let typed = expression(alloc, table, visible, expr)?;
     number_in(alloc, typed.value)
@@ -177,6 +209,68 @@ fn block<'a>(
     Ok(Command::Sequence(first, own, all))
 }
 
+/// A resolved choice without `else`, which does nothing where its test fails.
+#[cycle(commands)]
+fn chosen_or_nothing<'a>(
+    alloc: Global,
+    table: &ClassTable<'a>,
+    visible: &mut Visible<'a>,
+    condition: &'a Expr,
+    then: &'a Stmt,
+) -> Result<Command, AllocError>
+    ensures command { IfOk result (λ new. checked.command new
+        ≡ Choose (resolving.number_in (resolving.resolved (seen table.now visible.old) (expr_tree condition.now))) (resolved_stmt (seen table.now visible.old) (stmt_tree then.now)) resolving.nothing) }
+    ensures scope { OnOk result (seen table.now visible.new ≡ leave (seen table.now visible.old) (behind (seen table.now visible.old) (stmt_tree then.now))) }
+    ensures keeps { OnOk result (visible.new.bound.items ≡ visible.old.bound.items) }
+{
+    let test = test(alloc, table, visible, condition)?;
+    let then = scoped(alloc, table, visible, then)?;
+    let other = Box::new(alloc, nothing(alloc))?;
+    Ok(Command::Choose(Box::into_inner(test), then, other))
+}
+
+/// A resolved choice with `else`.
+#[cycle(commands)]
+fn chosen<'a>(
+    alloc: Global,
+    table: &ClassTable<'a>,
+    visible: &mut Visible<'a>,
+    condition: &'a Expr,
+    then: &'a Stmt,
+    other: &'a Stmt,
+) -> Result<Command, AllocError>
+    ensures command { IfOk result (λ new. checked.command new
+        ≡ Choose (resolving.number_in (resolving.resolved (seen table.now visible.old) (expr_tree condition.now))) (resolved_stmt (seen table.now visible.old) (stmt_tree then.now))
+        (resolved_stmt (leave (seen table.now visible.old) (behind (seen table.now visible.old) (stmt_tree then.now))) (stmt_tree other.now))) }
+    ensures scope { OnOk result (seen table.now visible.new
+        ≡ leave (seen table.now visible.old) (behind (leave (seen table.now visible.old) (behind (seen table.now visible.old) (stmt_tree then.now))) (stmt_tree other.now))) }
+    ensures keeps { OnOk result (visible.new.bound.items ≡ visible.old.bound.items) }
+{
+    let test = test(alloc, table, visible, condition)?;
+    let then = scoped(alloc, table, visible, then)?;
+    let other = scoped(alloc, table, visible, other)?;
+    Ok(Command::Choose(Box::into_inner(test), then, other))
+}
+
+/// A resolved loop.
+#[cycle(commands)]
+fn repeated<'a>(
+    alloc: Global,
+    table: &ClassTable<'a>,
+    visible: &mut Visible<'a>,
+    condition: &'a Expr,
+    body: &'a Stmt,
+) -> Result<Command, AllocError>
+    ensures command { IfOk result (λ new. checked.command new
+        ≡ Repeat (resolving.number_in (resolving.resolved (seen table.now visible.old) (expr_tree condition.now))) (resolved_stmt (seen table.now visible.old) (stmt_tree body.now))) }
+    ensures scope { OnOk result (seen table.now visible.new ≡ leave (seen table.now visible.old) (behind (seen table.now visible.old) (stmt_tree body.now))) }
+    ensures keeps { OnOk result (visible.new.bound.items ≡ visible.old.bound.items) }
+{
+    let test = test(alloc, table, visible, condition)?;
+    let body = scoped(alloc, table, visible, body)?;
+    Ok(Command::Repeat(Box::into_inner(test), body))
+}
+
 /// A resolved statement.
 #[cycle(commands)]
 fn command<'a>(
@@ -192,28 +286,16 @@ fn command<'a>(
     match statement {
         Stmt::Block(_, all) => block(alloc, table, visible, all),
         Stmt::Empty(_) => Ok(nothing(alloc)),
-        Stmt::Expr(expr) => Ok(evaluated(expression(alloc, table, visible, expr)?.value)),
-        Stmt::Return(_, expr) => Ok(Command::Return(returned(alloc, table, visible, expr)?)),
-        Stmt::Variables(_, type_name, all) => {
-            Ok(Command::Sequence(0, 0, variables(alloc, table, visible, type_name, all)?))
-        }
+        Stmt::Expr(expr) => evaluation(alloc, table, visible, expr),
+        Stmt::Return(_, expr) => returned(alloc, table, visible, expr),
+        Stmt::Variables(_, type_name, all) => declaration(alloc, table, visible, type_name, all),
         Stmt::If(_, condition, then) => {
-            let test = test(alloc, table, visible, condition)?;
-            let then = scoped(alloc, table, visible, then)?;
-            let nothing = Box::new(alloc, nothing(alloc))?;
-            Ok(Command::Choose(test, then, nothing))
+            chosen_or_nothing(alloc, table, visible, condition, then)
         }
         Stmt::IfElse(_, condition, then, other) => {
-            let test = test(alloc, table, visible, condition)?;
-            let then = scoped(alloc, table, visible, then)?;
-            let other = scoped(alloc, table, visible, other)?;
-            Ok(Command::Choose(test, then, other))
+            chosen(alloc, table, visible, condition, then, other)
         }
-        Stmt::While(_, condition, body) => {
-            let test = test(alloc, table, visible, condition)?;
-            let body = scoped(alloc, table, visible, body)?;
-            Ok(Command::Repeat(test, body))
-        }
+        Stmt::While(_, condition, body) => repeated(alloc, table, visible, condition, body),
     }
 }
 

@@ -1,6 +1,6 @@
 //! Builds the resolved expressions of a source that breaks no rule.
-ghost use Rattle.std.specs.Prelude.{◌≡◌, ℕ, Option, Some, None, option_map, IfOk};
-ghost use Rattle.arc_ast.specs.Tree.{ExprTree, expr_tree, expr_trees, Call, Send, SendSuper};
+ghost use Rattle.std.specs.Prelude.{◌≡◌, ℕ, List, Option, Some, None, option_map, IfOk};
+ghost use Rattle.arc_ast.specs.Tree.{ExprTree, type_tree, expr_tree, expr_trees, Integer, Text, Name, Negate, Cast, Binary, Arrow, Assign, Call, Send, SendSuper};
 ghost use Rattle.arc_class.specs.Table.{number_of_class, number_of_selector};
 ghost use Rattle.arc_check.specs.Building.{Resolves, printing, resolution};
 ghost use Rattle.arc_check.specs.Checked as checked;
@@ -20,14 +20,14 @@ use crate::message::{
 };
 use crate::rule::{is_object, literal_kind, wider};
 use crate::scope::{Local, Visible};
-use arc_ast::tree::{BinaryOperator, Expr, Kind, Sign};
+use arc_ast::tree::{BinaryOperator, Expr, Kind, Sign, TypeName};
 use arc_class::table::{ClassId, ClassTable, FoundField, Sel};
 use std::alloc::{AllocError, Global};
 
 /// What an expression is resolved to: a number of a kind, or an object.
 #[derive(Drop)]
 pub enum Resolution {
-    Gives(Kind, Value),
+    Gives(Kind, Box<Value>),
     Refers(Reference),
 }
 
@@ -48,13 +48,23 @@ fn kind_in(of: &Resolution) -> Kind
     }
 }
 
+/// A number of the kind.
+fn given(alloc: Global, kind: Kind, value: Value) -> Result<Resolution, AllocError>
+    ensures { IfOk result (λ new. resolution new ≡ resolving.Gives kind (checked.value value)) }
+{
+    Ok(Resolution::Gives(kind, Box::new(alloc, value)?))
+}
+
 /// The number, and of an object whether it is one.
-pub fn number_in(alloc: Global, of: Resolution) -> Result<Value, AllocError>
-    ensures { IfOk result (λ new. checked.value new ≡ resolving.number_in (resolution of)) }
+pub fn number_in(alloc: Global, of: Resolution) -> Result<Box<Value>, AllocError>
+    ensures { IfOk result (λ new. checked.value new.value ≡ resolving.number_in (resolution of)) }
 {
     match of {
         Resolution::Gives(_, value) => Ok(value),
-        Resolution::Refers(object) => Ok(Value::IsObject(Box::new(alloc, object)?)),
+        Resolution::Refers(object) => {
+            let object = Box::new(alloc, object)?;
+            Ok(Box::new(alloc, Value::IsObject(object))?)
+        }
     }
 }
 
@@ -69,31 +79,29 @@ fn object_in(of: Resolution) -> Reference
 }
 
 /// The value of one kind as one of the wanted kind.
-fn as_kind(alloc: Global, wanted: Kind, kind: Kind, value: Value) -> Result<Value, AllocError>
-    ensures { IfOk result (λ new. checked.value new ≡ resolving.as_kind wanted kind (checked.value value)) }
+fn as_kind(
+    alloc: Global,
+    wanted: Kind,
+    kind: Kind,
+    value: Box<Value>,
+) -> Result<Box<Value>, AllocError>
+    ensures { IfOk result (λ new. checked.value new.value ≡ resolving.as_kind wanted kind (checked.value value.value)) }
 {
     match (wanted, kind) {
         (Kind::Long, Kind::Int) | (Kind::Int, Kind::Long) => {
-            Ok(Value::Converted(wanted, Box::new(alloc, value)?))
+            Ok(Box::new(alloc, Value::Converted(wanted, value))?)
         }
         _ => Ok(value),
     }
 }
 
 /// The number as one of the kind.
-fn converted(alloc: Global, wanted: Kind, of: Resolution) -> Result<Value, AllocError>
-    ensures { IfOk result (λ new. checked.value new ≡ resolving.converted wanted (resolution of)) }
+fn converted(alloc: Global, wanted: Kind, of: Resolution) -> Result<Box<Value>, AllocError>
+    ensures { IfOk result (λ new. checked.value new.value ≡ resolving.converted wanted (resolution of)) }
 {
     let kind = kind_in(&of);
     let value = number_in(alloc, of)?;
     as_kind(alloc, wanted, kind, value)
-}
-
-/// The number as one of the kind, in a box.
-fn boxed(alloc: Global, wanted: Kind, of: Resolution) -> Result<Box<Value>, AllocError>
-    ensures { IfOk result (λ new. checked.value new.value ≡ resolving.converted wanted (resolution of)) }
-{
-    Ok(Box::new(alloc, converted(alloc, wanted, of)?)?)
 }
 
 /// The kind of what an operator gives that computes in the kind.
@@ -114,8 +122,8 @@ fn negated(alloc: Global, of: Resolution) -> Result<Resolution, AllocError>
     ensures { IfOk result (λ new. resolution new ≡ resolving.negated (resolution of)) }
 {
     let kind = kind_in(&of);
-    let value = Box::new(alloc, number_in(alloc, of)?)?;
-    Ok(Resolution::Gives(kind, Value::Negated(kind, value)))
+    let value = number_in(alloc, of)?;
+    given(alloc, kind, Value::Negated(kind, value))
 }
 
 /// An operator's expression that computes in the kind, from its operands.
@@ -128,10 +136,10 @@ fn combined(
 ) -> Result<Resolution, AllocError>
     ensures { IfOk result (λ new. resolution new ≡ resolving.combined operator kind (resolution left) (resolution right)) }
 {
-    let left = boxed(alloc, kind, left)?;
-    let right = boxed(alloc, kind, right)?;
+    let left = converted(alloc, kind, left)?;
+    let right = converted(alloc, kind, right)?;
     let value = Value::Combined(operator, kind, left, right);
-    Ok(Resolution::Gives(given_kind(operator, kind), value))
+    given(alloc, given_kind(operator, kind), value)
 }
 
 /// An operator's expression, from its operands.
@@ -147,7 +155,7 @@ fn binary(
         (BinaryOperator::NotEqual, Resolution::Refers(left), Resolution::Refers(right)) => {
             let left = Box::new(alloc, left)?;
             let right = Box::new(alloc, right)?;
-            Ok(Resolution::Gives(Kind::Int, Value::Differ(left, right)))
+            given(alloc, Kind::Int, Value::Differ(left, right))
         }
         (operator, left, right) => {
             let kind = wider(kind_in(&left), kind_in(&right));
@@ -199,11 +207,11 @@ fn field(
     ensures { IfOk result (λ new. resolution new ≡ resolving.field (checked.reference object) found) }
 {
     let Some(field) = found else {
-        return Ok(Resolution::Gives(Kind::Int, Value::Number(0)));
+        return given(alloc, Kind::Int, Value::Number(0));
     };
     let object = Box::new(alloc, object)?;
     let value = Value::Field(object, field.owner.0, field.index);
-    Ok(Resolution::Gives(Kind::Int, value))
+    given(alloc, Kind::Int, value)
 }
 
 /// An assignment to the field of the object.
@@ -218,10 +226,10 @@ fn field_assigned(
     let Some(field) = found else {
         return Ok(of);
     };
-    let value = boxed(alloc, Kind::Int, of)?;
+    let value = converted(alloc, Kind::Int, of)?;
     let object = Box::new(alloc, object)?;
     let value = Value::FieldAssigned(object, field.owner.0, field.index, value);
-    Ok(Resolution::Gives(Kind::Int, value))
+    given(alloc, Kind::Int, value)
 }
 
 /// What a name means: the variable, or else the field of `self`.
@@ -234,7 +242,7 @@ fn named(
 {
     match local {
         None => field(alloc, Reference::Itself, own),
-        Some(Local::Int(number)) => Ok(Resolution::Gives(Kind::Int, Value::Local(number))),
+        Some(Local::Int(number)) => given(alloc, Kind::Int, Value::Local(number)),
         Some(Local::Object(number, _)) => Ok(Resolution::Refers(Reference::Variable(number))),
     }
 }
@@ -251,8 +259,8 @@ fn name_assigned(
     match local {
         None => field_assigned(alloc, Reference::Itself, own, of),
         Some(Local::Int(number)) => {
-            let value = boxed(alloc, Kind::Int, of)?;
-            Ok(Resolution::Gives(Kind::Int, Value::Assigned(number, value)))
+            let value = converted(alloc, Kind::Int, of)?;
+            given(alloc, Kind::Int, Value::Assigned(number, value))
         }
         Some(Local::Object(number, _)) => {
             let object = Box::new(alloc, object_in(of))?;
@@ -289,7 +297,7 @@ fn to_class(
         Ok(Resolution::Refers(Reference::Made(class)))
     } else {
         let value = Value::Sent(class, selector, all);
-        Ok(Resolution::Gives(kind_or_int(kind), value))
+        given(alloc, kind_or_int(kind), value)
     }
 }
 
@@ -308,7 +316,7 @@ fn to_object(
         Ok(Resolution::Refers(Reference::Initialized(object)))
     } else {
         let value = Value::SentTo(object, selector, all);
-        Ok(Resolution::Gives(kind_or_int(kind), value))
+        given(alloc, kind_or_int(kind), value)
     }
 }
 
@@ -353,19 +361,41 @@ fn to_super(
         made_by_super(alloc, sign)
     } else {
         let value = super_value(sign, from, selector, all);
-        Ok(Resolution::Gives(kind_or_int(kind), value))
+        given(alloc, kind_or_int(kind), value)
     }
 }
 
-/// A resolved number, which has no static class.
-fn gives(kind: Kind, value: Value) -> Typed
-    ensures class { result.class ≡ None }
-    ensures value { result.value ≡ Resolution.Gives kind value }
+/// A resolved integer.
+fn integer(alloc: Global, number: &i64) -> Result<Typed, AllocError>
+    ensures { IfOk result (λ typed. (s : scopes.Scope) (at : ℕ) → Resolves s (Integer at number.now) typed) }
 {
-    Typed {
-        class: None,
-        value: Resolution::Gives(kind, value),
-    }
+    let value = given(alloc, literal_kind(*number), Value::Number(*number))?;
+    Ok(Typed { class: None, value })
+}
+
+/// A resolved text.
+fn text(alloc: Global) -> Result<Typed, AllocError>
+    ensures { IfOk result (λ typed. (s : scopes.Scope) (at : ℕ) (bytes : List ℕ) → Resolves s (Text at bytes) typed) }
+{
+    let value = given(alloc, Kind::Int, Value::Number(0))?;
+    Ok(Typed { class: None, value })
+}
+
+/// A resolved name.
+fn variable<'a>(
+    alloc: Global,
+    table: &ClassTable<'a>,
+    visible: &Visible<'a>,
+    name: &'a [u8],
+) -> Result<Typed, AllocError>
+    ensures { IfOk result (λ typed. (at : ℕ) → Resolves (seen table.now visible.now) (Name at name.now) typed) }
+{
+    let local = visible.local(name);
+    let value = named(alloc, local, own_field(table, visible, name))?;
+    Ok(Typed {
+        class: local_class(local),
+        value,
+    })
 }
 
 /// A resolved expression.
@@ -379,8 +409,8 @@ pub fn expression<'a>(
     ensures { IfOk result (λ typed. Resolves (seen table.now visible.now) (expr_tree expr.now) typed) }
 {
     match expr {
-        Expr::Integer(_, number) => Ok(gives(literal_kind(*number), Value::Number(*number))),
-        Expr::Text(_, _) => Ok(gives(Kind::Int, Value::Number(0))),
+        Expr::Integer(_, number) => integer(alloc, number),
+        Expr::Text(_, _) => text(alloc),
         Expr::Paren(_, inside) => expression(alloc, table, visible, inside),
         Expr::Call(_, name, arguments) => call(alloc, table, visible, name, arguments),
         Expr::Nil(_) => Ok(Typed {
@@ -391,41 +421,14 @@ pub fn expression<'a>(
             class: visible.own_class(),
             value: Resolution::Refers(Reference::Itself),
         }),
-        Expr::Name(_, name) => Ok(Typed {
-            class: local_class(visible.local(name)),
-            value: named(alloc, visible.local(name), own_field(table, visible, name))?,
-        }),
-        Expr::Negate(_, operand) => {
-            let operand = expression(alloc, table, visible, operand)?;
-            Ok(Typed {
-                class: None,
-                value: negated(alloc, operand.value)?,
-            })
-        }
-        Expr::Cast(_, type_name, operand) => Ok(Typed {
-            class: static_class(table, type_name),
-            value: expression(alloc, table, visible, operand)?.value,
-        }),
+        Expr::Name(_, name) => variable(alloc, table, visible, name),
+        Expr::Negate(_, operand) => negation(alloc, table, visible, operand),
+        Expr::Cast(_, type_name, operand) => cast(alloc, table, visible, type_name, operand),
         Expr::Binary(_, operator, left, right) => {
-            let left = expression(alloc, table, visible, left)?;
-            let right = expression(alloc, table, visible, right)?;
-            Ok(Typed {
-                class: None,
-                value: binary(alloc, *operator, left.value, right.value)?,
-            })
+            operation(alloc, table, visible, *operator, left, right)
         }
-        Expr::Arrow(_, _, base, name) => {
-            let base = expression(alloc, table, visible, base)?;
-            let found = table.field(base.class, name);
-            Ok(Typed {
-                class: None,
-                value: field(alloc, object_in(base.value), found)?,
-            })
-        }
-        Expr::Assign(_, _, left, right) => {
-            let right = expression(alloc, table, visible, right)?;
-            assigned(alloc, table, visible, left, right.value)
-        }
+        Expr::Arrow(_, _, base, name) => arrow(alloc, table, visible, base, name),
+        Expr::Assign(_, _, left, right) => assignment(alloc, table, visible, left, right),
         Expr::Send(_, _, receiver, selector, arguments) => {
             message(alloc, table, visible, receiver, selector, arguments)
         }
@@ -433,6 +436,89 @@ pub fn expression<'a>(
             super_message(alloc, table, visible, selector, arguments)
         }
     }
+}
+
+/// A resolved negation.
+#[cycle(resolve)]
+fn negation<'a>(
+    alloc: Global,
+    table: &ClassTable<'a>,
+    visible: &Visible<'a>,
+    operand: &'a Expr,
+) -> Result<Typed, AllocError>
+    ensures { IfOk result (λ typed. (at : ℕ) → Resolves (seen table.now visible.now) (Negate at (expr_tree operand.now)) typed) }
+{
+    let operand = expression(alloc, table, visible, operand)?;
+    let value = negated(alloc, operand.value)?;
+    Ok(Typed { class: None, value })
+}
+
+/// A resolved cast.
+#[cycle(resolve)]
+fn cast<'a>(
+    alloc: Global,
+    table: &ClassTable<'a>,
+    visible: &Visible<'a>,
+    type_name: &'a TypeName,
+    operand: &'a Expr,
+) -> Result<Typed, AllocError>
+    ensures { IfOk result (λ typed. (at : ℕ) → Resolves (seen table.now visible.now) (Cast at (type_tree type_name.now) (expr_tree operand.now)) typed) }
+{
+    let operand = expression(alloc, table, visible, operand)?;
+    Ok(Typed {
+        class: static_class(table, type_name),
+        value: operand.value,
+    })
+}
+
+/// Two resolved operands and their operator.
+#[cycle(resolve)]
+fn operation<'a>(
+    alloc: Global,
+    table: &ClassTable<'a>,
+    visible: &Visible<'a>,
+    operator: BinaryOperator,
+    left: &'a Expr,
+    right: &'a Expr,
+) -> Result<Typed, AllocError>
+    ensures { IfOk result (λ typed. (at : ℕ) → Resolves (seen table.now visible.now) (Binary at operator (expr_tree left.now) (expr_tree right.now)) typed) }
+{
+    let left = expression(alloc, table, visible, left)?;
+    let right = expression(alloc, table, visible, right)?;
+    let value = binary(alloc, operator, left.value, right.value)?;
+    Ok(Typed { class: None, value })
+}
+
+/// A resolved field of an object.
+#[cycle(resolve)]
+fn arrow<'a>(
+    alloc: Global,
+    table: &ClassTable<'a>,
+    visible: &Visible<'a>,
+    base: &'a Expr,
+    name: &'a [u8],
+) -> Result<Typed, AllocError>
+    ensures { IfOk result (λ typed. (at name_at : ℕ) → Resolves (seen table.now visible.now) (Arrow at name_at (expr_tree base.now) name.now) typed) }
+{
+    let base = expression(alloc, table, visible, base)?;
+    let found = table.field(base.class, name);
+    let value = field(alloc, object_in(base.value), found)?;
+    Ok(Typed { class: None, value })
+}
+
+/// A resolved assignment.
+#[cycle(resolve)]
+fn assignment<'a>(
+    alloc: Global,
+    table: &ClassTable<'a>,
+    visible: &Visible<'a>,
+    left: &'a Expr,
+    right: &'a Expr,
+) -> Result<Typed, AllocError>
+    ensures { IfOk result (λ typed. (at sign : ℕ) → Resolves (seen table.now visible.now) (Assign at sign (expr_tree left.now) (expr_tree right.now)) typed) }
+{
+    let right = expression(alloc, table, visible, right)?;
+    assigned(alloc, table, visible, left, right.value)
 }
 
 /// The static class of the variable, if there is one.
@@ -445,11 +531,58 @@ fn local_class(local: Option<Local>) -> Option<ClassId>
     }
 }
 
-/// The static class of what is resolved.
-fn class_in(of: Typed) -> Option<ClassId>
-    ensures { result ≡ of.class }
+/// An assignment to the name, of what is resolved.
+fn to_name<'a>(
+    alloc: Global,
+    table: &ClassTable<'a>,
+    visible: &Visible<'a>,
+    name: &'a [u8],
+    of: Resolution,
+) -> Result<Typed, AllocError>
+    ensures class { IfOk result (λ typed. option_map number_of_class typed.class ≡ scopes.local_class ((seen table.now visible.now).variables name.now)) }
+    ensures value { IfOk result (λ typed. resolution typed.value
+        ≡ resolving.name_assigned ((seen table.now visible.now).variables name.now) (scopes.own_field (seen table.now visible.now) name.now) (resolution of)) }
 {
-    of.class
+    let local = visible.local(name);
+    let value = name_assigned(alloc, local, own_field(table, visible, name), of)?;
+    Ok(Typed {
+        class: local_class(local),
+        value,
+    })
+}
+
+/// An assignment to the field of an object, of what is resolved.
+#[cycle(resolve)]
+fn to_field<'a>(
+    alloc: Global,
+    table: &ClassTable<'a>,
+    visible: &Visible<'a>,
+    base: &'a Expr,
+    name: &'a [u8],
+    of: Resolution,
+) -> Result<Typed, AllocError>
+    ensures class { IfOk result (λ typed. option_map number_of_class typed.class ≡ None) }
+    ensures value { IfOk result (λ typed. resolution typed.value
+        ≡ resolving.field_assigned (resolving.object_in (resolved (seen table.now visible.now) (expr_tree base.now))) ((seen table.now visible.now).known.field (scopes.class_of (seen table.now visible.now) (expr_tree base.now)) name.now) (resolution of)) }
+{
+    let base = expression(alloc, table, visible, base)?;
+    let found = table.field(base.class, name);
+    let value = field_assigned(alloc, object_in(base.value), found, of)?;
+    Ok(Typed { class: None, value })
+}
+
+/// The static class of the resolved expression, if it has one.
+#[cycle(resolve)]
+fn class_in<'a>(
+    alloc: Global,
+    table: &ClassTable<'a>,
+    visible: &Visible<'a>,
+    expr: &'a Expr,
+) -> Result<Option<ClassId>, AllocError>
+    ensures { IfOk result (λ class. option_map number_of_class class ≡ scopes.class_of (seen table.now visible.now) (expr_tree expr.now)) }
+{
+    let typed = expression(alloc, table, visible, expr)?;
+    Ok(typed.class)
 }
 
 /// An assignment to the left side, of what is resolved, with the left side's static class.
@@ -466,25 +599,12 @@ fn assigned<'a>(
 {
     match left {
         Expr::Paren(_, inside) => assigned(alloc, table, visible, inside, of),
-        Expr::Name(_, name) => {
-            let local = visible.local(name);
-            Ok(Typed {
-                class: local_class(local),
-                value: name_assigned(alloc, local, own_field(table, visible, name), of)?,
-            })
+        Expr::Name(_, name) => to_name(alloc, table, visible, name, of),
+        Expr::Arrow(_, _, base, name) => to_field(alloc, table, visible, base, name, of),
+        _ => {
+            let class = class_in(alloc, table, visible, left)?;
+            Ok(Typed { class, value: of })
         }
-        Expr::Arrow(_, _, base, name) => {
-            let base = expression(alloc, table, visible, base)?;
-            let found = table.field(base.class, name);
-            Ok(Typed {
-                class: None,
-                value: field_assigned(alloc, object_in(base.value), found, of)?,
-            })
-        }
-        _ => Ok(Typed {
-            class: class_in(expression(alloc, table, visible, left)?),
-            value: of,
-        }),
     }
 }
 
@@ -498,7 +618,8 @@ pub fn int<'a>(
     ensures { IfOk result (λ value. checked.value value ≡ as_int (seen table.now visible.now) (expr_tree expr.now)) }
 {
     let typed = expression(alloc, table, visible, expr)?;
-    converted(alloc, Kind::Int, typed.value)
+    let value = converted(alloc, Kind::Int, typed.value)?;
+    Ok(Box::into_inner(value))
 }
 
 /// The resolved expression, as an object.
@@ -537,7 +658,11 @@ fn call<'a>(
         Callee::GetChar => Value::ReadByte,
         Callee::Unknown => Value::ReadByte,
     };
-    Ok(gives(result_kind(callee), value))
+    let given = given(alloc, result_kind(callee), value)?;
+    Ok(Typed {
+        class: None,
+        value: given,
+    })
 }
 
 /// A message to the class, which the receiver is.
@@ -656,6 +781,17 @@ fn print<'a>(
     }
 }
 
+/// The number that is passed, which is an int where it isn't printed.
+fn passed(alloc: Global, printed: bool, of: Resolution) -> Result<Box<Value>, AllocError>
+    ensures { IfOk result (λ new. checked.value new.value ≡ resolving.argument printed (resolution of)) }
+{
+    if printed {
+        number_in(alloc, of)
+    } else {
+        converted(alloc, Kind::Int, of)
+    }
+}
+
 /// A resolved argument, which is an int where it isn't printed.
 #[cycle(resolve)]
 fn argument<'a>(
@@ -668,11 +804,8 @@ fn argument<'a>(
     ensures { IfOk result (λ new. checked.value new ≡ resolving.argument printed (resolved (seen table.now visible.now) (expr_tree expr.now))) }
 {
     let typed = expression(alloc, table, visible, expr)?;
-    if printed {
-        number_in(alloc, typed.value)
-    } else {
-        converted(alloc, Kind::Int, typed.value)
-    }
+    let value = passed(alloc, printed, typed.value)?;
+    Ok(Box::into_inner(value))
 }
 
 /// Resolved arguments.

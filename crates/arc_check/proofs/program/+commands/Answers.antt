@@ -46,17 +46,29 @@ command-returns-in-Block-clause-scope t c =
     let P : Scope → Type 0 = λ b. OnOk c.block.result (seen c.args.table.now c.block.new.visible ≡ b) in
     subst P (block_scope s c.args.statement.now c.in-Block.field-0 c.in-Block.all c.deref.result.now c.in-Block.is c.deref.ensures.value) c.block.ensures.scope
 
-pub command-returns-in_ok-variables-in-Variables-clause-command : goal.command-returns-in_ok-variables-in-Variables-clause-command
-command-returns-in_ok-variables-in-Variables-clause-command t c =
+pub chosen_or_nothing-returns-clause-command : goal.chosen_or_nothing-returns-clause-command
+chosen_or_nothing-returns-clause-command t c =
     let s = seen c.args.table.now c.args.visible.now in
-    declaration_command s c.args.statement.now c.in-Variables.field-0 c.in-Variables.type_name c.in-Variables.all c.deref-in-Variables.result.now c.in_ok-variables-in-Variables.field-0 c.in-Variables.is c.deref-in-Variables.ensures.value c.in_ok-variables-in-Variables.ensures.commands
+    choose_is (checked.value c.into_inner.result) (number_in (resolved s (expr_tree c.args.condition.now))) (checked.command c.in_ok-then.then.value) (resolved_stmt s (stmt_tree c.args.then.now)) (checked.command c.in_ok-other.other.value)
+    nothing (ap checked.value c.into_inner.ensures ∙ c.in_ok-test.ensures) c.in_ok-then.ensures.command (ap checked.command c.in_ok-other.ensures.ok ∙ c.nothing.ensures)
 
-pub command-returns-in_ok-nothing-in-If-clause-command : goal.command-returns-in_ok-nothing-in-If-clause-command
-command-returns-in_ok-nothing-in-If-clause-command t c =
-    let s = seen c.args.table.now c.args.visible.now in
-    let then : checked.command c.in_ok-then-in-If.then.value ≡ resolved_stmt s (stmt_tree c.in-If.then.value) = c.in_ok-then-in-If.ensures.command ∙ ap (λ a. resolved_stmt s (stmt_tree a)) c.deref-in-If.ensures in
-    rw c.in-If.is (choose_is (checked.value c.in_ok-test-in-If.test) (number_in (resolved s (expr_tree c.in-If.condition))) (checked.command c.in_ok-then-in-If.then.value) (resolved_stmt s (stmt_tree c.in-If.then.value)) (checked.command c.in_ok-nothing-in-If.nothing.value)
-    nothing c.in_ok-test-in-If.ensures then (ap checked.command c.in_ok-nothing-in-If.ensures.ok ∙ c.nothing-in-If.ensures))
+pub chosen-returns-clause-scope : goal.chosen-returns-clause-scope
+chosen-returns-clause-scope t c = c.in_ok-other.ensures.scope ∙ ap (λ p. leave p (behind p (stmt_tree c.args.other.now))) c.in_ok-then.ensures.scope
+
+pub chosen-returns-clause-keeps : goal.chosen-returns-clause-keeps
+chosen-returns-clause-keeps t c = c.in_ok-other.ensures.keeps ∙ c.in_ok-then.ensures.keeps
+
+pub chosen_or_nothing-returns-clause-scope : goal.chosen_or_nothing-returns-clause-scope
+chosen_or_nothing-returns-clause-scope t c = c.in_ok-then.ensures.scope
+
+pub chosen_or_nothing-returns-clause-keeps : goal.chosen_or_nothing-returns-clause-keeps
+chosen_or_nothing-returns-clause-keeps t c = c.in_ok-then.ensures.keeps
+
+pub repeated-returns-clause-scope : goal.repeated-returns-clause-scope
+repeated-returns-clause-scope t c = c.in_ok-body.ensures.scope
+
+pub repeated-returns-clause-keeps : goal.repeated-returns-clause-keeps
+repeated-returns-clause-keeps t c = c.in_ok-body.ensures.keeps
 
 pub commands-loop-statement-preserved : goal.commands-loop-statement-preserved
 commands-loop-statement-preserved t c =
@@ -89,29 +101,32 @@ command-returns-in-Block-clause-keeps t c = on_ok_weaker c.block.result (keeps_s
 pub command-returns-in-Empty-clause-keeps : goal.command-returns-in-Empty-clause-keeps
 command-returns-in-Empty-clause-keeps t c = keeps_same c.args.visible.now.bound.items _ refl
 
-pub command-returns-in_ok-expression-in-Expr-clause-keeps : goal.command-returns-in_ok-expression-in-Expr-clause-keeps
-command-returns-in_ok-expression-in-Expr-clause-keeps t c = keeps_same c.args.visible.now.bound.items _ refl
+pub command-returns-in-Variables-clause-command : goal.command-returns-in-Variables-clause-command
+command-returns-in-Variables-clause-command t c = rw c.in-Variables.is (rw c.deref-in-Variables.ensures.value at c.declaration.ensures.command)
 
-pub command-returns-in_ok-returned-in-Return-clause-keeps : goal.command-returns-in_ok-returned-in-Return-clause-keeps
-command-returns-in_ok-returned-in-Return-clause-keeps t c = keeps_same c.args.visible.now.bound.items _ refl
+pub command-returns-in-If-clause-command : goal.command-returns-in-If-clause-command
+command-returns-in-If-clause-command t c = rw c.in-If.is (rw c.deref-in-If.ensures at c.chosen_or_nothing.ensures.command)
 
-pub command-returns-in_ok-nothing-in-If-clause-scope : goal.command-returns-in_ok-nothing-in-If-clause-scope
-command-returns-in_ok-nothing-in-If-clause-scope t c = rw c.in-If.is (rw c.deref-in-If.ensures at c.in_ok-then-in-If.ensures.scope)
+pub command-returns-in-If-clause-scope : goal.command-returns-in-If-clause-scope
+command-returns-in-If-clause-scope t c = rw c.in-If.is (rw c.deref-in-If.ensures at c.chosen_or_nothing.ensures.scope)
 
-pub command-returns-in_ok-nothing-in-If-clause-keeps : goal.command-returns-in_ok-nothing-in-If-clause-keeps
-command-returns-in_ok-nothing-in-If-clause-keeps t c = keeps_same c.args.visible.now.bound.items _ c.in_ok-then-in-If.ensures.keeps
+pub command-returns-in-If-clause-keeps : goal.command-returns-in-If-clause-keeps
+command-returns-in-If-clause-keeps t c = on_ok_weaker c.chosen_or_nothing.result (keeps_same c.args.visible.now.bound.items c.chosen_or_nothing.new.visible.bound.items) c.chosen_or_nothing.ensures.keeps
 
-pub command-returns-in_ok-other-in-IfElse-clause-scope : goal.command-returns-in_ok-other-in-IfElse-clause-scope
-command-returns-in_ok-other-in-IfElse-clause-scope t c =
-    let between : seen c.args.table.now c.scoped-in-IfElse.new.visible ≡ leave (seen c.args.table.now c.args.visible.now) (behind (seen c.args.table.now c.args.visible.now) (stmt_tree c.in-IfElse.then.value)) =
-    rw c.deref-in-IfElse.ensures at c.in_ok-then-in-IfElse.ensures.scope in
-    rw c.in-IfElse.is ((rw c.deref-in-IfElse-2.ensures at c.in_ok-other-in-IfElse.ensures.scope) ∙ ap (λ p. leave p (behind p (stmt_tree c.in-IfElse.other.value))) between)
+pub command-returns-in-IfElse-clause-command : goal.command-returns-in-IfElse-clause-command
+command-returns-in-IfElse-clause-command t c = rw c.in-IfElse.is (rw (c.deref-in-IfElse.ensures, c.deref-in-IfElse-2.ensures) at c.chosen.ensures.command)
 
-pub command-returns-in_ok-other-in-IfElse-clause-keeps : goal.command-returns-in_ok-other-in-IfElse-clause-keeps
-command-returns-in_ok-other-in-IfElse-clause-keeps t c = keeps_same c.args.visible.now.bound.items _ (c.in_ok-other-in-IfElse.ensures.keeps ∙ c.in_ok-then-in-IfElse.ensures.keeps)
+pub command-returns-in-IfElse-clause-scope : goal.command-returns-in-IfElse-clause-scope
+command-returns-in-IfElse-clause-scope t c = rw c.in-IfElse.is (rw (c.deref-in-IfElse.ensures, c.deref-in-IfElse-2.ensures) at c.chosen.ensures.scope)
 
-pub command-returns-in_ok-body-in-While-clause-scope : goal.command-returns-in_ok-body-in-While-clause-scope
-command-returns-in_ok-body-in-While-clause-scope t c = rw c.in-While.is (rw c.deref-in-While.ensures at c.in_ok-body-in-While.ensures.scope)
+pub command-returns-in-IfElse-clause-keeps : goal.command-returns-in-IfElse-clause-keeps
+command-returns-in-IfElse-clause-keeps t c = on_ok_weaker c.chosen.result (keeps_same c.args.visible.now.bound.items c.chosen.new.visible.bound.items) c.chosen.ensures.keeps
 
-pub command-returns-in_ok-body-in-While-clause-keeps : goal.command-returns-in_ok-body-in-While-clause-keeps
-command-returns-in_ok-body-in-While-clause-keeps t c = keeps_same c.args.visible.now.bound.items _ c.in_ok-body-in-While.ensures.keeps
+pub command-returns-in-While-clause-command : goal.command-returns-in-While-clause-command
+command-returns-in-While-clause-command t c = rw c.in-While.is (rw c.deref-in-While.ensures at c.repeated.ensures.command)
+
+pub command-returns-in-While-clause-scope : goal.command-returns-in-While-clause-scope
+command-returns-in-While-clause-scope t c = rw c.in-While.is (rw c.deref-in-While.ensures at c.repeated.ensures.scope)
+
+pub command-returns-in-While-clause-keeps : goal.command-returns-in-While-clause-keeps
+command-returns-in-While-clause-keeps t c = on_ok_weaker c.repeated.result (keeps_same c.args.visible.now.bound.items c.repeated.new.visible.bound.items) c.repeated.ensures.keeps

@@ -1,11 +1,14 @@
-use Rattle.std.proofs.Common.{option_map, refl, sym, ap, ◌∙◌}
+use Rattle.std.proofs.Common.{None, refl, sym, ap, ◌∙◌}
 use Rattle.std.proofs.lemmas.Result.{IfOk-weaker}
 use Rattle.arc_class.specs.Table.{number_of_class}
 use Rattle.arc_spec.specs.Resolved.{Invoked}
 use Rattle.arc_check.specs.declared.callee.Callee.TheVariants.{Printf, GetChar, Defined, Unknown}
+use Rattle.arc_check.specs.declared.resolve.Typed.{Typed}
+use Rattle.arc_check.specs.Building.{resolution}
 use Rattle.arc_check.specs.Checked as checked
 use Rattle.arc_ast.specs.Tree.{expr_tree, expr_trees}
-use Rattle.arc_check.specs.Resolving.{number, resolved, resolved_all}
+use Rattle.arc_check.specs.Resolving as resolving
+use Rattle.arc_check.specs.Resolving.{number, negated, binary, resolved, resolved_all}
 use Rattle.arc_check.specs.Scopes.{class_of, result_kind}
 use Rattle.arc_check.specs.Views.{seen}
 use Rattle.arc_ast.proofs.Trees.{call_tree, send_tree, send_super_tree}
@@ -32,8 +35,64 @@ expression-returns-in-SendSuper t c =
 pub expression-returns-in-Itself : goal.expression-returns-in-Itself
 expression-returns-in-Itself t c = rw c.in-Itself.is (record { class = c.own_class.ensures c.args.table.now; value = refl })
 
-pub assigned-returns-in_ok-expression-in_default : goal.assigned-returns-in_ok-expression-in_default
-assigned-returns-in_ok-expression-in_default t c = record { class = ap (option_map number_of_class) c.class_in.ensures ∙ c.in_ok-expression-in_default.ensures.class; value = assigned_other (seen c.args.table.now c.args.visible.now) c.args.left.now _ c.in_default.not-Paren c.in_default.not-Name c.in_default.not-Arrow }
+pub expression-returns-in-Integer : goal.expression-returns-in-Integer
+expression-returns-in-Integer t c = IfOk-weaker c.integer.result _ _ (λ typed h. rw c.in-Integer.is (h (seen c.args.table.now c.args.visible.now) c.in-Integer.field-0)) c.integer.ensures
+
+pub expression-returns-in-Text : goal.expression-returns-in-Text
+expression-returns-in-Text t c = IfOk-weaker c.text.result _ _ (λ typed h. rw c.in-Text.is (h (seen c.args.table.now c.args.visible.now) c.in-Text.field-0 c.in-Text.field-1.items)) c.text.ensures
+
+pub expression-returns-in-Name : goal.expression-returns-in-Name
+expression-returns-in-Name t c = IfOk-weaker c.variable.result _ _ (λ typed h. rw (c.in-Name.is, sym c.deref-in-Name.ensures.value) (h c.in-Name.field-0)) c.variable.ensures
+
+pub expression-returns-in-Negate : goal.expression-returns-in-Negate
+expression-returns-in-Negate t c = IfOk-weaker c.negation.result _ _ (λ typed h. rw (c.in-Negate.is, sym c.deref-in-Negate.ensures) (h c.in-Negate.field-0)) c.negation.ensures
+
+pub expression-returns-in-Cast : goal.expression-returns-in-Cast
+expression-returns-in-Cast t c = IfOk-weaker c.cast.result _ _ (λ typed h. rw (c.in-Cast.is, sym c.deref-in-Cast.ensures) (h c.in-Cast.field-0)) c.cast.ensures
+
+pub expression-returns-in-Binary : goal.expression-returns-in-Binary
+expression-returns-in-Binary t c = IfOk-weaker c.operation.result _ _ (λ typed h. rw (c.in-Binary.is, sym c.deref-in-Binary.ensures, sym c.deref-in-Binary-2.ensures) (h c.in-Binary.field-0)) c.operation.ensures
+
+pub expression-returns-in-Arrow : goal.expression-returns-in-Arrow
+expression-returns-in-Arrow t c = IfOk-weaker c.arrow.result _ _ (λ typed h. rw (c.in-Arrow.is, sym c.deref-in-Arrow.ensures, sym c.deref-in-Arrow-2.ensures.value) (h c.in-Arrow.field-0 c.in-Arrow.field-1)) c.arrow.ensures
+
+pub expression-returns-in-Assign : goal.expression-returns-in-Assign
+expression-returns-in-Assign t c = IfOk-weaker c.assignment.result _ _ (λ typed h. rw (c.in-Assign.is, sym c.deref-in-Assign.ensures, sym c.deref-in-Assign-2.ensures) (h c.in-Assign.field-0 c.in-Assign.field-1)) c.assignment.ensures
+
+pub negation-returns : goal.negation-returns
+negation-returns t c = λ at. record { class = refl; value = c.in_ok-value.ensures ∙ ap negated c.in_ok-operand.ensures.value }
+
+pub cast-returns : goal.cast-returns
+cast-returns t c = λ at. record { class = c.static_class.ensures; value = c.in_ok-operand.ensures.value }
+
+pub operation-returns : goal.operation-returns
+operation-returns t c = λ at.
+    record {
+      class = refl;
+      value = c.in_ok-value.ensures ∙ ap (λ a. binary c.args.operator a (resolution c.in_ok-right.right.value)) c.in_ok-left.ensures.value
+          ∙ ap (binary c.args.operator (resolved (seen c.args.table.now c.args.visible.now) (expr_tree c.args.left.now))) c.in_ok-right.ensures.value;
+    }
+
+pub class_in-returns : goal.class_in-returns
+class_in-returns t c = c.in_ok-typed.ensures.class
+
+pub argument-returns : goal.argument-returns
+argument-returns t c = ap checked.value c.into_inner.ensures ∙ c.in_ok-value.ensures ∙ ap (resolving.argument c.args.printed) c.in_ok-typed.ensures.value
+
+pub assigned-returns-in-Name-clause-class : goal.assigned-returns-in-Name-clause-class
+assigned-returns-in-Name-clause-class t c = rw (c.in-Name.is, sym c.deref-in-Name.ensures.value) c.to_name.ensures.class
+
+pub assigned-returns-in-Name-clause-value : goal.assigned-returns-in-Name-clause-value
+assigned-returns-in-Name-clause-value t c = rw (c.in-Name.is, sym c.deref-in-Name.ensures.value) c.to_name.ensures.value
+
+pub assigned-returns-in-Arrow-clause-class : goal.assigned-returns-in-Arrow-clause-class
+assigned-returns-in-Arrow-clause-class t c = rw c.in-Arrow.is c.to_field.ensures.class
+
+pub assigned-returns-in-Arrow-clause-value : goal.assigned-returns-in-Arrow-clause-value
+assigned-returns-in-Arrow-clause-value t c = rw (c.in-Arrow.is, sym c.deref-in-Arrow.ensures, sym c.deref-in-Arrow-2.ensures.value) c.to_field.ensures.value
+
+pub assigned-returns-in_ok-class-in_default : goal.assigned-returns-in_ok-class-in_default
+assigned-returns-in_ok-class-in_default t c = record { class = c.in_ok-class-in_default.ensures; value = assigned_other (seen c.args.table.now c.args.visible.now) c.args.left.now _ c.in_default.not-Paren c.in_default.not-Name c.in_default.not-Arrow }
 
 pub message-returns-in_ok-class_message-in-Some : goal.message-returns-in_ok-class_message-in-Some
 message-returns-in_ok-class_message-in-Some t c = λ at part.
@@ -61,13 +120,13 @@ call-returns t c = λ at.
     let all = expr_trees c.args.arguments.now in
     let k = c.result_kind.result in
     let v = c.match-callee.value in
-    let typed = c.gives.result in
+    let typed : Typed = record { class = None; value = c.in_ok-given.given } in
     elim c.match-callee.branch [
-      | call-in-Printf+in_ok-value-in-Printf w ↦ resolves_call s at c.args.name.now all Printf k v typed (sym w.in-Printf.ensures) (c.result_kind.ensures ∙ ap result_kind (w.callee-is ∙ c.callee_of-callee.ensures ∙ sym w.in-Printf.ensures)) (ap checked.value w.value-is ∙ w.in_ok-value-in-Printf.ensures) c.gives.ensures.class c.gives.ensures.value
+      | call-in-Printf+in_ok-value-in-Printf w ↦ resolves_call s at c.args.name.now all Printf k v typed (sym w.in-Printf.ensures) (c.result_kind.ensures ∙ ap result_kind (w.callee-is ∙ c.callee_of-callee.ensures ∙ sym w.in-Printf.ensures)) (ap checked.value w.value-is ∙ w.in_ok-value-in-Printf.ensures) refl c.in_ok-given.ensures
       | call-in-Defined+in_ok-values-in-Defined w ↦ resolves_call s at c.args.name.now all (Defined w.in-Defined.field-0 w.in-Defined.field-1 w.in-Defined.body) k v typed (sym w.in-Defined.ensures) (c.result_kind.ensures ∙ ap result_kind w.callee-is)
-          (ap checked.value w.value-is ∙ invoked_value w.number.result w.in_ok-values-in-Defined.field-0 ∙ ap (λ f. Invoked f (checked.values w.in_ok-values-in-Defined.field-0.items)) w.number.ensures ∙ ap (Invoked (number w.in-Defined.body)) w.in_ok-values-in-Defined.ensures) c.gives.ensures.class c.gives.ensures.value
-      | call-in-GetChar w ↦ resolves_call s at c.args.name.now all GetChar k v typed (sym w.in-GetChar.ensures) (c.result_kind.ensures ∙ ap result_kind (w.callee-is ∙ c.callee_of-callee.ensures ∙ sym w.in-GetChar.ensures)) (ap checked.value w.value-is) c.gives.ensures.class c.gives.ensures.value
-      | call-in-Unknown w ↦ resolves_call s at c.args.name.now all Unknown k v typed (sym w.in-Unknown.ensures) (c.result_kind.ensures ∙ ap result_kind (w.callee-is ∙ c.callee_of-callee.ensures ∙ sym w.in-Unknown.ensures)) (ap checked.value w.value-is) c.gives.ensures.class c.gives.ensures.value
+          (ap checked.value w.value-is ∙ invoked_value w.number.result w.in_ok-values-in-Defined.field-0 ∙ ap (λ f. Invoked f (checked.values w.in_ok-values-in-Defined.field-0.items)) w.number.ensures ∙ ap (Invoked (number w.in-Defined.body)) w.in_ok-values-in-Defined.ensures) refl c.in_ok-given.ensures
+      | call-in-GetChar w ↦ resolves_call s at c.args.name.now all GetChar k v typed (sym w.in-GetChar.ensures) (c.result_kind.ensures ∙ ap result_kind (w.callee-is ∙ c.callee_of-callee.ensures ∙ sym w.in-GetChar.ensures)) (ap checked.value w.value-is) refl c.in_ok-given.ensures
+      | call-in-Unknown w ↦ resolves_call s at c.args.name.now all Unknown k v typed (sym w.in-Unknown.ensures) (c.result_kind.ensures ∙ ap result_kind (w.callee-is ∙ c.callee_of-callee.ensures ∙ sym w.in-Unknown.ensures)) (ap checked.value w.value-is) refl c.in_ok-given.ensures
     ]
 
 pub print-returns-in_ok-pieces-in-Some : goal.print-returns-in_ok-pieces-in-Some

@@ -12,7 +12,28 @@ abbrev pub decreases-expression : goal.decreases-expression
 decreases-expression l = 8 * goal.size-expression l
 
 abbrev pub decreases-assigned : goal.decreases-assigned
-decreases-assigned l = 8 * goal.size-assigned l + 1
+decreases-assigned l = 8 * goal.size-assigned l + 2
+
+abbrev pub decreases-class_in : goal.decreases-class_in
+decreases-class_in l = 8 * size-Expr l.expr.now + 1
+
+abbrev pub decreases-to_field : goal.decreases-to_field
+decreases-to_field l = 8 * size-Expr l.base.now + 1
+
+abbrev pub decreases-negation : goal.decreases-negation
+decreases-negation l = 8 * size-Expr l.operand.now + 1
+
+abbrev pub decreases-cast : goal.decreases-cast
+decreases-cast l = 8 * size-Expr l.operand.now + 1
+
+abbrev pub decreases-operation : goal.decreases-operation
+decreases-operation l = 8 * max (size-Expr l.left.now) (size-Expr l.right.now) + 1
+
+abbrev pub decreases-arrow : goal.decreases-arrow
+decreases-arrow l = 8 * size-Expr l.base.now + 1
+
+abbrev pub decreases-assignment : goal.decreases-assignment
+decreases-assignment l = 8 * max (size-Expr l.left.now) (size-Expr l.right.now) + 3
 
 abbrev pub decreases-argument : goal.decreases-argument
 decreases-argument l = 8 * goal.size-argument l + 1
