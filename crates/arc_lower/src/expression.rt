@@ -24,13 +24,17 @@ pub(crate) fn append(actions: &mut Vec<Action>, action: Action) -> Result<(), No
     Ok(())
 }
 
-/// Appends the one action of an expression that takes no temporary.
-fn append_alone(actions: &mut Vec<Action>, frame: Frame, action: Action) -> Result<usize, NoMemory>
+/// Appends one action, behind which there are so many temporaries. Gives their number.
+fn append_counted(
+    actions: &mut Vec<Action>,
+    action: Action,
+    temporaries: usize,
+) -> Result<usize, NoMemory>
     ensures actions { OnOk result (orders actions.new.items ≡ orders actions.old.items ++ order action ∷ []) }
-    ensures temporaries { IfOk result (λ there. there ≡ frame.temporaries) }
+    ensures temporaries { IfOk result (λ there. there ≡ temporaries) }
 {
     append(actions, action)?;
-    Ok(frame.temporaries)
+    Ok(temporaries)
 }
 
 /// Appends the actions that read a variable that holds a number.
@@ -56,8 +60,8 @@ pub(crate) fn append_value(
     ensures temporaries { IfOk result (λ there. there ≡ frame.temporaries + value_takes (value expression.now)) }
 {
     match expression {
-        Value::Number(number) => append_alone(actions, frame, Action::Num(*number)),
-        Value::ReadByte => append_alone(actions, frame, Action::GetChar),
+        Value::Number(number) => append_counted(actions, Action::Num(*number), frame.temporaries),
+        Value::ReadByte => append_counted(actions, Action::GetChar, frame.temporaries),
         Value::Print(pieces, arguments) => {
             append_printed(alloc, actions, program, frame, pieces, arguments)
         }
@@ -149,8 +153,7 @@ fn append_value_then(
     ensures temporaries { IfOk result (λ there. there ≡ frame.temporaries + value_takes (value operand.now)) }
 {
     let there = append_value(alloc, actions, program, frame, operand)?;
-    append(actions, action)?;
-    Ok(there)
+    append_counted(actions, action, there)
 }
 
 /// Appends the actions of an expression that gives an object or nil, and this action behind them.
@@ -167,8 +170,7 @@ fn append_reference_then(
     ensures temporaries { IfOk result (λ there. there ≡ frame.temporaries + reference_takes (reference object.now)) }
 {
     let there = append_reference(alloc, actions, program, frame, object)?;
-    append(actions, action)?;
-    Ok(there)
+    append_counted(actions, action, there)
 }
 
 /// Appends the actions of two expressions that give numbers, the left one's first, and this action
@@ -194,8 +196,7 @@ fn append_both(
         ..frame
     };
     let there = append_value(alloc, actions, program, above, right)?;
-    append(actions, action)?;
-    Ok(there)
+    append_counted(actions, action, there)
 }
 
 /// Appends the actions of an assignment to a variable that holds a number.
@@ -256,8 +257,7 @@ fn append_sent(
         ..frame
     };
     let there = append_values(alloc, actions, program, above_receiver, arguments)?;
-    append(actions, Action::Send(selector, arguments.len()))?;
-    Ok(there)
+    append_counted(actions, Action::Send(selector, arguments.len()), there)
 }
 
 /// Appends the actions of a message to `super` in a class method, which `self` gets, the first
@@ -279,8 +279,11 @@ fn append_sent_super(
     let operands = one_more(frame.operands)?;
     let above = Frame { operands, ..frame };
     let there = append_values(alloc, actions, program, above, arguments)?;
-    append(actions, Action::SendSuper(from, selector, arguments.len()))?;
-    Ok(there)
+    append_counted(
+        actions,
+        Action::SendSuper(from, selector, arguments.len()),
+        there,
+    )
 }
 
 /// Appends the actions of a message to an object, which a temporary holds below those of the
@@ -305,8 +308,11 @@ fn append_sent_to(
     };
     let there = append_values(alloc, actions, program, above, arguments)?;
     let depth = there.saturating_sub(temporaries);
-    append(actions, Action::SendTo(depth, selector, arguments.len()))?;
-    Ok(there)
+    append_counted(
+        actions,
+        Action::SendTo(depth, selector, arguments.len()),
+        there,
+    )
 }
 
 /// Appends the actions of a message to `super` in a method of objects, which `self` gets.
@@ -330,11 +336,11 @@ fn append_sent_to_super(
         ..frame
     };
     let there = append_values(alloc, actions, program, above, arguments)?;
-    append(
+    append_counted(
         actions,
         Action::SendToSuper(from, selector, arguments.len()),
-    )?;
-    Ok(there)
+        there,
+    )
 }
 
 /// Appends the actions of an assignment to a field of an object, which is found first.
@@ -359,8 +365,7 @@ fn append_field_assigned(
     };
     let there = append_value(alloc, actions, program, above, operand)?;
     let depth = there.saturating_sub(temporaries);
-    append(actions, Action::SetField(depth, class, index))?;
-    Ok(there)
+    append_counted(actions, Action::SetField(depth, class, index), there)
 }
 
 /// Appends the actions that say whether two objects differ, the left one's first.
@@ -383,8 +388,7 @@ fn append_differ(
     };
     let there = append_reference(alloc, actions, program, above, right)?;
     let taken = there.saturating_sub(temporaries);
-    append(actions, Action::Differ(taken.saturating_sub(1)))?;
-    Ok(there)
+    append_counted(actions, Action::Differ(taken.saturating_sub(1)), there)
 }
 
 /// Appends the actions of an expression that gives an object or nil, which its last temporary then

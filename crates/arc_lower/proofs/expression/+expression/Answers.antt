@@ -1,10 +1,10 @@
-use Rattle.std.proofs.Common.{◌≡◌, suc, ◌+◌, List, [], ◌∷◌, ◌++◌, length, drop, ap, sym, subst, ◌∙◌, append_assoc, arith, IfOk, OnOk}
+use Rattle.std.proofs.Common.{◌≡◌, suc, ◌+◌, ◌-◌, ℕ, List, [], ◌∷◌, ◌++◌, length, Result, drop, ap, sym, subst, ◌∙◌, append_assoc, arith, IfOk, OnOk}
 use Rattle.std.proofs.lemmas.List.{drop_more}
 use Rattle.arc_spec.specs.Resolved as resolved
 use Rattle.arc_spec.specs.Resolved.{and_value}
 use Rattle.arc_check.specs.declared.checked.Value.{Value}
 use Rattle.arc_check.specs.Checked.{pieces, value, reference, values, program_of}
-use Rattle.arc_lower.specs.Order.{Order, Send, SendSuper, HoldSelf, SendTo, SendToSuper, SetField, order, orders}
+use Rattle.arc_lower.specs.Order.{Order, Send, SendSuper, HoldSelf, SendTo, SendToSuper, SetField, Differ, order, orders}
 use Rattle.arc_lower.specs.Lowered.{value_takes, reference_takes, values_take, value_orders, reference_orders, all_value_orders, print_orders, call_orders, get_orders, set_orders, value_count}
 use Rattle.arc_lower.proofs.Rows.{values_counted}
 use Rattle.arc_lower.proofs.Weights.{value_weight, reference_weight, value_in, is_print, is_negated, is_combined, is_converted, is_assigned, is_invoked, is_sent, is_sent_super, is_sent_to, is_sent_to_super, is_field, is_field_assigned, is_differ, is_object, is_stored, is_made, is_initialized}
@@ -16,6 +16,12 @@ behind_two old o1 o2 a b last e1 e2 = ap (λ l. l ++ last) (e2 ∙ ap (λ l. l +
 -- what holds of what a value means holds of the value
 told : (Q : resolved.Value → Type 0) (v : Value) (meant : resolved.Value) → value v ≡ meant → Q meant → Q (value v)
 told Q v meant is h = subst Q (sym is) h
+
+rightly : {A E : Type 0} (r : Result A E) (new a b : List Order) → a ≡ b → OnOk r (new ≡ a) → OnOk r (new ≡ b)
+rightly r new a b e h = subst (λ l. OnOk r (new ≡ l)) e h
+
+counted : {E : Type 0} (r : Result ℕ E) (a b : ℕ) → a ≡ b → IfOk r (λ there. there ≡ a) → IfOk r (λ there. there ≡ b)
+counted r a b e h = subst (λ n. IfOk r (λ there. there ≡ n)) e h
 
 pub append_value-append_printed-requires : goal.append_value-append_printed-requires
 append_value-append_printed-requires t c =
@@ -351,7 +357,9 @@ append_value_then-returns-clause-actions t c =
     let old = orders c.args.actions.now.items in
     let xs = value_orders P f.slots f.names f.operands f.temporaries (value c.args.operand.now) in
     let last = order c.args.action ∷ [] in
-    c.in_ok-append.ensures ∙ ap (λ l. l ++ last) c.in_ok-there.ensures.actions ∙ append_assoc old xs last
+    rightly c.append_counted.result (orders c.append_counted.new.actions.items) _ _
+    (ap (λ l. l ++ last) c.in_ok-there.ensures.actions ∙ append_assoc old xs last)
+    c.append_counted.ensures.actions
 
 pub append_reference_then-returns-clause-actions : goal.append_reference_then-returns-clause-actions
 append_reference_then-returns-clause-actions t c =
@@ -360,7 +368,9 @@ append_reference_then-returns-clause-actions t c =
     let old = orders c.args.actions.now.items in
     let xs = reference_orders P f.slots f.names f.operands f.temporaries (reference c.args.object.now) in
     let last = order c.args.action ∷ [] in
-    c.in_ok-append.ensures ∙ ap (λ l. l ++ last) c.in_ok-there.ensures.actions ∙ append_assoc old xs last
+    rightly c.append_counted.result (orders c.append_counted.new.actions.items) _ _
+    (ap (λ l. l ++ last) c.in_ok-there.ensures.actions ∙ append_assoc old xs last)
+    c.append_counted.ensures.actions
 
 pub append_both-returns-clause-actions : goal.append_both-returns-clause-actions
 append_both-returns-clause-actions t c =
@@ -377,12 +387,13 @@ append_both-returns-clause-actions t c =
     ∙ ap (λ n. o1 ++ value_orders P f.slots f.names n c.in_ok-temporaries.temporaries b) c.in_ok-operands.ensures
     ∙ ap (λ n. o1 ++ value_orders P f.slots f.names (suc f.operands) n b) c.in_ok-temporaries.ensures.temporaries
     in
-    c.in_ok-append.ensures
-    ∙ behind_two old o1 o2 (value_orders P f.slots f.names f.operands f.temporaries a) ys (order c.args.action ∷ []) c.in_ok-temporaries.ensures.actions next
+    rightly c.append_counted.result (orders c.append_counted.new.actions.items) _ _
+    (behind_two old o1 o2 (value_orders P f.slots f.names f.operands f.temporaries a) ys (order c.args.action ∷ []) c.in_ok-temporaries.ensures.actions next)
+    c.append_counted.ensures.actions
 
 pub append_both-returns-clause-temporaries : goal.append_both-returns-clause-temporaries
 append_both-returns-clause-temporaries t c =
-    omega (arith, c.in_ok-temporaries.ensures.temporaries, c.in_ok-there.ensures.temporaries)
+    counted c.append_counted.result _ _ (omega (arith, c.in_ok-temporaries.ensures.temporaries, c.in_ok-there.ensures.temporaries)) c.append_counted.ensures.temporaries
 
 pub append_sent-returns-clause-actions : goal.append_sent-returns-clause-actions
 append_sent-returns-clause-actions t c =
@@ -400,13 +411,14 @@ append_sent-returns-clause-actions t c =
     ∙ ap (λ n. o1 ++ all_value_orders P f.slots f.names n c.in_ok-temporaries.temporaries (values these)) c.in_ok-operands.ensures
     ∙ ap (λ n. o1 ++ all_value_orders P f.slots f.names (suc f.operands) n (values these)) c.in_ok-temporaries.ensures.temporaries
     in
-    c.in_ok-append.ensures
-    ∙ ap (λ n. o2 ++ Send selector n ∷ []) (sym (values_counted these))
-    ∙ behind_two old o1 o2 (value_orders P f.slots f.names f.operands f.temporaries a) ys (Send selector (value_count (values these)) ∷ []) c.in_ok-temporaries.ensures.actions next
+    rightly c.append_counted.result (orders c.append_counted.new.actions.items) _ _
+    (ap (λ n. o2 ++ Send selector n ∷ []) (sym (values_counted these))
+    ∙ behind_two old o1 o2 (value_orders P f.slots f.names f.operands f.temporaries a) ys (Send selector (value_count (values these)) ∷ []) c.in_ok-temporaries.ensures.actions next)
+    c.append_counted.ensures.actions
 
 pub append_sent-returns-clause-temporaries : goal.append_sent-returns-clause-temporaries
 append_sent-returns-clause-temporaries t c =
-    omega (arith, c.in_ok-temporaries.ensures.temporaries, c.in_ok-there.ensures.temporaries)
+    counted c.append_counted.result _ _ (omega (arith, c.in_ok-temporaries.ensures.temporaries, c.in_ok-there.ensures.temporaries)) c.append_counted.ensures.temporaries
 
 pub append_sent_super-returns-clause-actions : goal.append_sent_super-returns-clause-actions
 append_sent_super-returns-clause-actions t c =
@@ -423,9 +435,10 @@ append_sent_super-returns-clause-actions t c =
     c.in_ok-there.ensures.actions
     ∙ ap (λ n. o1 ++ all_value_orders P f.slots f.names n f.temporaries (values these)) c.in_ok-operands.ensures
     in
-    c.in_ok-append.ensures
-    ∙ ap (λ n. o2 ++ SendSuper from selector n ∷ []) (sym (values_counted these))
-    ∙ behind_two old o1 o2 (get_orders f.slots f.operands 0) ys (SendSuper from selector (value_count (values these)) ∷ []) c.in_ok-append_get.ensures next
+    rightly c.append_counted.result (orders c.append_counted.new.actions.items) _ _
+    (ap (λ n. o2 ++ SendSuper from selector n ∷ []) (sym (values_counted these))
+    ∙ behind_two old o1 o2 (get_orders f.slots f.operands 0) ys (SendSuper from selector (value_count (values these)) ∷ []) c.in_ok-append_get.ensures next)
+    c.append_counted.ensures.actions
 
 pub append_sent_to-returns-clause-actions : goal.append_sent_to-returns-clause-actions
 append_sent_to-returns-clause-actions t c =
@@ -443,14 +456,15 @@ append_sent_to-returns-clause-actions t c =
     ∙ ap (λ n. o1 ++ all_value_orders P f.slots f.names f.operands n (values these)) c.in_ok-temporaries.ensures.temporaries
     in
     let depth : c.saturating_sub-depth.result ≡ values_take (values these) = omega (arith, c.saturating_sub-depth.ensures, c.in_ok-there.ensures.temporaries) in
-    c.in_ok-append.ensures
-    ∙ ap (λ n. o2 ++ SendTo c.saturating_sub-depth.result selector n ∷ []) (sym (values_counted these))
+    rightly c.append_counted.result (orders c.append_counted.new.actions.items) _ _
+    (ap (λ n. o2 ++ SendTo c.saturating_sub-depth.result selector n ∷ []) (sym (values_counted these))
     ∙ ap (λ n. o2 ++ SendTo n selector (value_count (values these)) ∷ []) depth
-    ∙ behind_two old o1 o2 (reference_orders P f.slots f.names f.operands f.temporaries a) ys (SendTo (values_take (values these)) selector (value_count (values these)) ∷ []) c.in_ok-temporaries.ensures.actions next
+    ∙ behind_two old o1 o2 (reference_orders P f.slots f.names f.operands f.temporaries a) ys (SendTo (values_take (values these)) selector (value_count (values these)) ∷ []) c.in_ok-temporaries.ensures.actions next)
+    c.append_counted.ensures.actions
 
 pub append_sent_to-returns-clause-temporaries : goal.append_sent_to-returns-clause-temporaries
 append_sent_to-returns-clause-temporaries t c =
-    omega (arith, c.in_ok-temporaries.ensures.temporaries, c.in_ok-there.ensures.temporaries)
+    counted c.append_counted.result _ _ (omega (arith, c.in_ok-temporaries.ensures.temporaries, c.in_ok-there.ensures.temporaries)) c.append_counted.ensures.temporaries
 
 pub append_sent_to_super-returns-clause-actions : goal.append_sent_to_super-returns-clause-actions
 append_sent_to_super-returns-clause-actions t c =
@@ -467,13 +481,14 @@ append_sent_to_super-returns-clause-actions t c =
     c.in_ok-there.ensures.actions
     ∙ ap (λ n. o1 ++ all_value_orders P f.slots f.names f.operands n (values these)) c.in_ok-temporaries.ensures
     in
-    c.in_ok-append-2.ensures
-    ∙ ap (λ n. o2 ++ SendToSuper from selector n ∷ []) (sym (values_counted these))
-    ∙ behind_two old o1 o2 (HoldSelf ∷ []) ys (SendToSuper from selector (value_count (values these)) ∷ []) c.in_ok-append.ensures next
+    rightly c.append_counted.result (orders c.append_counted.new.actions.items) _ _
+    (ap (λ n. o2 ++ SendToSuper from selector n ∷ []) (sym (values_counted these))
+    ∙ behind_two old o1 o2 (HoldSelf ∷ []) ys (SendToSuper from selector (value_count (values these)) ∷ []) c.in_ok-append.ensures next)
+    c.append_counted.ensures.actions
 
 pub append_sent_to_super-returns-clause-temporaries : goal.append_sent_to_super-returns-clause-temporaries
 append_sent_to_super-returns-clause-temporaries t c =
-    omega (arith, c.in_ok-temporaries.ensures, c.in_ok-there.ensures.temporaries)
+    counted c.append_counted.result _ _ (omega (arith, c.in_ok-temporaries.ensures, c.in_ok-there.ensures.temporaries)) c.append_counted.ensures.temporaries
 
 pub append_field_assigned-returns-clause-actions : goal.append_field_assigned-returns-clause-actions
 append_field_assigned-returns-clause-actions t c =
@@ -490,17 +505,50 @@ append_field_assigned-returns-clause-actions t c =
     ∙ ap (λ n. o1 ++ value_orders P f.slots f.names f.operands n b) c.in_ok-temporaries.ensures.temporaries
     in
     let depth : c.saturating_sub-depth.result ≡ value_takes b = omega (arith, c.saturating_sub-depth.ensures, c.in_ok-there.ensures.temporaries) in
-    c.in_ok-append.ensures
-    ∙ ap (λ n. o2 ++ SetField n c.args.class c.args.index ∷ []) depth
-    ∙ behind_two old o1 o2 (reference_orders P f.slots f.names f.operands f.temporaries a) ys (SetField (value_takes b) c.args.class c.args.index ∷ []) c.in_ok-temporaries.ensures.actions next
+    rightly c.append_counted.result (orders c.append_counted.new.actions.items) _ _
+    (ap (λ n. o2 ++ SetField n c.args.class c.args.index ∷ []) depth
+    ∙ behind_two old o1 o2 (reference_orders P f.slots f.names f.operands f.temporaries a) ys (SetField (value_takes b) c.args.class c.args.index ∷ []) c.in_ok-temporaries.ensures.actions next)
+    c.append_counted.ensures.actions
 
 pub append_field_assigned-returns-clause-temporaries : goal.append_field_assigned-returns-clause-temporaries
 append_field_assigned-returns-clause-temporaries t c =
-    omega (arith, c.in_ok-temporaries.ensures.temporaries, c.in_ok-there.ensures.temporaries)
+    counted c.append_counted.result _ _ (omega (arith, c.in_ok-temporaries.ensures.temporaries, c.in_ok-there.ensures.temporaries)) c.append_counted.ensures.temporaries
 
 pub append_differ-returns-clause-temporaries : goal.append_differ-returns-clause-temporaries
 append_differ-returns-clause-temporaries t c =
-    omega (arith, c.in_ok-temporaries.ensures.temporaries, c.in_ok-there.ensures.temporaries)
+    counted c.append_counted.result _ _ (omega (arith, c.in_ok-temporaries.ensures.temporaries, c.in_ok-there.ensures.temporaries)) c.append_counted.ensures.temporaries
+
+pub append_value_then-returns-clause-temporaries : goal.append_value_then-returns-clause-temporaries
+append_value_then-returns-clause-temporaries t c =
+    counted c.append_counted.result _ _ c.in_ok-there.ensures.temporaries c.append_counted.ensures.temporaries
+
+pub append_reference_then-returns-clause-temporaries : goal.append_reference_then-returns-clause-temporaries
+append_reference_then-returns-clause-temporaries t c =
+    counted c.append_counted.result _ _ c.in_ok-there.ensures.temporaries c.append_counted.ensures.temporaries
+
+pub append_sent_super-returns-clause-temporaries : goal.append_sent_super-returns-clause-temporaries
+append_sent_super-returns-clause-temporaries t c =
+    counted c.append_counted.result _ _ c.in_ok-there.ensures.temporaries c.append_counted.ensures.temporaries
+
+pub append_differ-returns-clause-actions : goal.append_differ-returns-clause-actions
+append_differ-returns-clause-actions t c =
+    let P = program_of c.args.program.now in
+    let f = c.args.frame in
+    let old = orders c.args.actions.now.items in
+    let o1 = orders c.append_reference.new.actions.items in
+    let o2 = orders c.append_reference-2.new.actions.items in
+    let a = reference c.args.left.now in
+    let b = reference c.args.right.now in
+    let ys = reference_orders P f.slots f.names f.operands (f.temporaries + reference_takes a) b in
+    let next : o2 ≡ o1 ++ ys =
+    c.in_ok-there.ensures.actions
+    ∙ ap (λ n. o1 ++ reference_orders P f.slots f.names f.operands n b) c.in_ok-temporaries.ensures.temporaries
+    in
+    let depth : c.saturating_sub.result ≡ reference_takes b - 1 = omega (arith, c.saturating_sub.ensures, c.saturating_sub-taken.ensures, c.in_ok-there.ensures.temporaries) in
+    rightly c.append_counted.result (orders c.append_counted.new.actions.items) _ _
+    (ap (λ n. o2 ++ Differ n ∷ []) depth
+    ∙ behind_two old o1 o2 (reference_orders P f.slots f.names f.operands f.temporaries a) ys (Differ (reference_takes b - 1) ∷ []) c.in_ok-temporaries.ensures.actions next)
+    c.append_counted.ensures.actions
 
 pub append_values-loop-expression-preserved : goal.append_values-loop-expression-preserved
 append_values-loop-expression-preserved t c =
