@@ -9,6 +9,7 @@ mod Recounting
 mod Standing
 mod Releasing
 mod Rows
+mod Weights
 mod Callees
 mod Patching
 mod Laying

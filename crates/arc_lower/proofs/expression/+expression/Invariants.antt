@@ -1,8 +1,54 @@
-use Rattle.std.proofs.Common.{◌≡◌, ◌+◌, ◌++◌, drop}
-use Rattle.arc_check.specs.Checked.{values, program_of}
+use Rattle.std.proofs.Common.{◌≡◌, suc, ◌+◌, ◌++◌, drop}
+use Rattle.arc_check.specs.Checked.{value, reference, values, program_of}
 use Rattle.arc_lower.specs.Order.{orders}
 use Rattle.arc_lower.specs.Lowered.{values_take, all_value_orders}
+use Rattle.arc_lower.proofs.Weights.{value_weight, reference_weight, values_weight}
 use Rattle.arc_lower.proofs.expression.+expression.Given as goal
+
+abbrev pub decreases-append_value : goal.decreases-append_value
+decreases-append_value l = value_weight (value l.expression.now)
+
+abbrev pub decreases-append_reference : goal.decreases-append_reference
+decreases-append_reference l = reference_weight (reference l.expression.now)
+
+abbrev pub decreases-append_values : goal.decreases-append_values
+decreases-append_values l = values_weight (values l.all.now)
+
+abbrev pub decreases-append_printed : goal.decreases-append_printed
+decreases-append_printed l = suc (values_weight (values l.arguments.now))
+
+abbrev pub decreases-append_invoked : goal.decreases-append_invoked
+decreases-append_invoked l = suc (values_weight (values l.arguments.now))
+
+abbrev pub decreases-append_sent_super : goal.decreases-append_sent_super
+decreases-append_sent_super l = suc (values_weight (values l.arguments.now))
+
+abbrev pub decreases-append_sent_to_super : goal.decreases-append_sent_to_super
+decreases-append_sent_to_super l = suc (values_weight (values l.arguments.now))
+
+abbrev pub decreases-append_value_then : goal.decreases-append_value_then
+decreases-append_value_then l = suc (value_weight (value l.operand.now))
+
+abbrev pub decreases-append_assigned : goal.decreases-append_assigned
+decreases-append_assigned l = suc (value_weight (value l.operand.now))
+
+abbrev pub decreases-append_reference_then : goal.decreases-append_reference_then
+decreases-append_reference_then l = suc (reference_weight (reference l.object.now))
+
+abbrev pub decreases-append_both : goal.decreases-append_both
+decreases-append_both l = suc (value_weight (value l.left.now) + value_weight (value l.right.now))
+
+abbrev pub decreases-append_sent : goal.decreases-append_sent
+decreases-append_sent l = suc (value_weight (value l.receiver.now) + values_weight (values l.arguments.now))
+
+abbrev pub decreases-append_sent_to : goal.decreases-append_sent_to
+decreases-append_sent_to l = suc (reference_weight (reference l.receiver.now) + values_weight (values l.arguments.now))
+
+abbrev pub decreases-append_field_assigned : goal.decreases-append_field_assigned
+decreases-append_field_assigned l = suc (reference_weight (reference l.object.now) + value_weight (value l.operand.now))
+
+abbrev pub decreases-append_differ : goal.decreases-append_differ
+decreases-append_differ l = suc (reference_weight (reference l.left.now) + reference_weight (reference l.right.now))
 
 abbrev pub invariant-append_values-loop-expression : goal.invariant-append_values-loop-expression
 invariant-append_values-loop-expression l = record {
