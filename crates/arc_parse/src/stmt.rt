@@ -142,19 +142,20 @@ fn otherwise<'a>(
     alloc: Global,
     depth: usize,
     at: usize,
-    condition: Expr,
+    condition: Box<Expr>,
     first: Box<Stmt>,
     tokens: &'a [Token],
 ) -> Read<'a, Stmt>
     requires { depth ≤ 200 }
-    ensures gives { Gives (λ x. (stmt_tree x.0, toks x.1.now)) result (rules.else_by (rules.read these) depth at (expr_tree condition) (stmt_tree first.value) (toks tokens.now)) }
+    ensures gives { Gives (λ x. (stmt_tree x.0, toks x.1.now)) result (rules.else_by (rules.read these) depth at (expr_tree condition.value) (stmt_tree first.value) (toks tokens.now)) }
     ensures shorter { IfOk result (λ x. length x.1.now ≤ length tokens.now) }
 {
     if !sees_word(Word::Else, tokens) {
-        return Ok((Stmt::If(at, condition, first), tokens));
+        return Ok((Stmt::If(at, Box::into_inner(condition), first), tokens));
     }
     let (_, rest) = keyword(Word::Else, tokens)?;
     let (second, rest) = branch(alloc, depth + 1, rest)?;
+    let condition = Box::into_inner(condition);
     Ok((Stmt::IfElse(at, condition, first, second), rest))
 }
 
@@ -169,17 +170,18 @@ fn repeated<'a>(alloc: Global, depth: usize, tokens: &'a [Token]) -> Read<'a, St
     let (at, rest) = keyword(Word::While, tokens)?;
     let (condition, rest) = test(alloc, rest)?;
     let (body, rest) = branch(alloc, depth + 1, rest)?;
-    Ok((Stmt::While(at, condition, body), rest))
+    Ok((Stmt::While(at, Box::into_inner(condition), body), rest))
 }
 
-/// A test in parentheses.
+/// A test in parentheses, boxed, so that a branch that is refused behind it drops no more than a box.
 #[tactic(auto, unfolding(crate::specs::UnitRules::test_by))]
-fn test<'a>(alloc: Global, tokens: &'a [Token]) -> Read<'a, Expr>
-    ensures gives { Gives (λ x. (expr_tree x.0, toks x.1.now)) result (rules.test_by these (toks tokens.now)) }
+fn test<'a>(alloc: Global, tokens: &'a [Token]) -> Read<'a, Box<Expr>>
+    ensures gives { Gives (λ x. (expr_tree x.0.value, toks x.1.now)) result (rules.test_by these (toks tokens.now)) }
     ensures shorter { IfOk result (λ x. length x.1.now < length tokens.now) }
 {
     let (_, rest) = expect(Mark::OpenParen, tokens)?;
     let (condition, rest) = full(alloc, rest)?;
+    let condition = Box::new(alloc, condition)?;
     let (_, rest) = expect(Mark::CloseParen, rest)?;
     Ok((condition, rest))
 }
