@@ -414,13 +414,12 @@ pub(crate) fn append_reference(
             one_more(there)
         }
         Reference::Made(class) => {
-            let there = append_value(alloc, actions, program, frame, class)?;
-            append(actions, Action::Alloc)?;
+            let there = append_value_then(alloc, actions, program, frame, class, Action::Alloc)?;
             one_more(there)
         }
         Reference::Initialized(operand) => {
-            let there = append_reference(alloc, actions, program, frame, operand)?;
-            append(actions, Action::Hold(0))?;
+            let action = Action::Hold(0);
+            let there = append_reference_then(alloc, actions, program, frame, operand, action)?;
             one_more(there)
         }
     }

@@ -305,12 +305,12 @@ pub append_reference-append_reference-requires : goal.append_reference-append_re
 append_reference-append_reference-requires t c =
     (omega (arith, ap reference_weight (is_stored c.args.expression.now c.in-Stored.index c.in-Stored.operand c.deref.result.now c.in-Stored.is c.deref.ensures), c.decreases), tt)
 
-pub append_reference-append_value-requires : goal.append_reference-append_value-requires
-append_reference-append_value-requires t c =
+pub append_reference-append_value_then-requires : goal.append_reference-append_value_then-requires
+append_reference-append_value_then-requires t c =
     (omega (arith, ap reference_weight (is_made c.args.expression.now c.in-Made.class c.deref-in-Made.result.now c.in-Made.is c.deref-in-Made.ensures), c.decreases), tt)
 
-pub append_reference-append_reference-requires-in-Initialized : goal.append_reference-append_reference-requires-in-Initialized
-append_reference-append_reference-requires-in-Initialized t c =
+pub append_reference-append_reference_then-requires : goal.append_reference-append_reference_then-requires
+append_reference-append_reference_then-requires t c =
     (omega (arith, ap reference_weight (is_initialized c.args.expression.now c.in-Initialized.operand c.deref-in-Initialized.result.now c.in-Initialized.is c.deref-in-Initialized.ensures), c.decreases), tt)
 
 pub append_values-append_value-requires : goal.append_values-append_value-requires
