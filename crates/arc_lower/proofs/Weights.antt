@@ -34,8 +34,8 @@ abbrev mutual
   reference_weight Itself = 1
   reference_weight (Variable i) = 1
   reference_weight (Stored i a) = suc (reference_weight a)
-  reference_weight (Made a) = suc (value_weight a)
-  reference_weight (Initialized a) = suc (reference_weight a)
+  reference_weight (Made a) = 2 + value_weight a
+  reference_weight (Initialized a) = 2 + reference_weight a
 
   pub values_weight : Values → ℕ
   values_weight no_values = 0

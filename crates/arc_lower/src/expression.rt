@@ -73,14 +73,8 @@ pub(crate) fn append_value(
             append_both(alloc, actions, program, frame, left, right, action)
         }
         Value::Converted(kind, operand) => {
-            append_value_then(
-                alloc,
-                actions,
-                program,
-                frame,
-                operand,
-                Action::Narrow(*kind),
-            )
+            let action = Action::Narrow(*kind);
+            append_value_then(alloc, actions, program, frame, operand, action)
         }
         Value::Local(index) => append_local(actions, frame, *index),
         Value::Assigned(index, operand) => {
@@ -89,18 +83,14 @@ pub(crate) fn append_value(
         Value::Invoked(function, arguments) => {
             append_invoked(alloc, actions, program, frame, *function, arguments)
         }
-        Value::Sent(receiver, selector, arguments) => {
-            append_sent(
-                alloc, actions, program, frame, receiver, *selector, arguments,
-            )
+        Value::Sent(target, selector, arguments) => {
+            append_sent(alloc, actions, program, frame, target, *selector, arguments)
         }
         Value::SentSuper(from, selector, arguments) => {
             append_sent_super(alloc, actions, program, frame, *from, *selector, arguments)
         }
-        Value::SentTo(receiver, selector, arguments) => {
-            append_sent_to(
-                alloc, actions, program, frame, receiver, *selector, arguments,
-            )
+        Value::SentTo(target, selector, arguments) => {
+            append_sent_to(alloc, actions, program, frame, target, *selector, arguments)
         }
         Value::SentToSuper(from, selector, arguments) => {
             append_sent_to_super(alloc, actions, program, frame, *from, *selector, arguments)
@@ -424,13 +414,12 @@ pub(crate) fn append_reference(
             one_more(there)
         }
         Reference::Made(class) => {
-            let there = append_value(alloc, actions, program, frame, class)?;
-            append(actions, Action::Alloc)?;
+            let there = append_value_then(alloc, actions, program, frame, class, Action::Alloc)?;
             one_more(there)
         }
         Reference::Initialized(operand) => {
-            let there = append_reference(alloc, actions, program, frame, operand)?;
-            append(actions, Action::Hold(0))?;
+            let action = Action::Hold(0);
+            let there = append_reference_then(alloc, actions, program, frame, operand, action)?;
             one_more(there)
         }
     }

@@ -115,18 +115,18 @@ append_value-returns-in-Invoked-clause-temporaries t c =
 
 pub append_value-append_sent-requires : goal.append_value-append_sent-requires
 append_value-append_sent-requires t c =
-    (omega (arith, ap value_weight (is_sent c.args.expression.now c.in-Sent.receiver c.in-Sent.selector c.in-Sent.arguments c.deref-in-Sent.result.now c.deref-in-Sent-2.result.now c.in-Sent.is c.deref-in-Sent.ensures c.deref-in-Sent-2.ensures.value), c.decreases), tt)
+    (omega (arith, ap value_weight (is_sent c.args.expression.now c.in-Sent.target c.in-Sent.selector c.in-Sent.arguments c.deref-in-Sent.result.now c.deref-in-Sent-2.result.now c.in-Sent.is c.deref-in-Sent.ensures c.deref-in-Sent-2.ensures.value), c.decreases), tt)
 
 pub append_value-returns-in-Sent-clause-actions : goal.append_value-returns-in-Sent-clause-actions
 append_value-returns-in-Sent-clause-actions t c =
     let f = c.args.frame in
     told (λ x. OnOk c.append_sent.result (orders c.append_sent.new.actions.items ≡ orders c.args.actions.now.items ++ value_orders (program_of c.args.program.now) f.slots f.names f.operands f.temporaries x)) c.args.expression.now _
-    (is_sent c.args.expression.now c.in-Sent.receiver c.in-Sent.selector c.in-Sent.arguments c.deref-in-Sent.result.now c.deref-in-Sent-2.result.now c.in-Sent.is c.deref-in-Sent.ensures c.deref-in-Sent-2.ensures.value) c.append_sent.ensures.actions
+    (is_sent c.args.expression.now c.in-Sent.target c.in-Sent.selector c.in-Sent.arguments c.deref-in-Sent.result.now c.deref-in-Sent-2.result.now c.in-Sent.is c.deref-in-Sent.ensures c.deref-in-Sent-2.ensures.value) c.append_sent.ensures.actions
 
 pub append_value-returns-in-Sent-clause-temporaries : goal.append_value-returns-in-Sent-clause-temporaries
 append_value-returns-in-Sent-clause-temporaries t c =
     told (λ x. IfOk c.append_sent.result (λ there. there ≡ c.args.frame.temporaries + value_takes x)) c.args.expression.now _
-    (is_sent c.args.expression.now c.in-Sent.receiver c.in-Sent.selector c.in-Sent.arguments c.deref-in-Sent.result.now c.deref-in-Sent-2.result.now c.in-Sent.is c.deref-in-Sent.ensures c.deref-in-Sent-2.ensures.value) c.append_sent.ensures.temporaries
+    (is_sent c.args.expression.now c.in-Sent.target c.in-Sent.selector c.in-Sent.arguments c.deref-in-Sent.result.now c.deref-in-Sent-2.result.now c.in-Sent.is c.deref-in-Sent.ensures c.deref-in-Sent-2.ensures.value) c.append_sent.ensures.temporaries
 
 pub append_value-append_sent_super-requires : goal.append_value-append_sent_super-requires
 append_value-append_sent_super-requires t c =
@@ -145,18 +145,18 @@ append_value-returns-in-SentSuper-clause-temporaries t c =
 
 pub append_value-append_sent_to-requires : goal.append_value-append_sent_to-requires
 append_value-append_sent_to-requires t c =
-    (omega (arith, ap value_weight (is_sent_to c.args.expression.now c.in-SentTo.receiver c.in-SentTo.selector c.in-SentTo.arguments c.deref-in-SentTo.result.now c.deref-in-SentTo-2.result.now c.in-SentTo.is c.deref-in-SentTo.ensures c.deref-in-SentTo-2.ensures.value), c.decreases), tt)
+    (omega (arith, ap value_weight (is_sent_to c.args.expression.now c.in-SentTo.target c.in-SentTo.selector c.in-SentTo.arguments c.deref-in-SentTo.result.now c.deref-in-SentTo-2.result.now c.in-SentTo.is c.deref-in-SentTo.ensures c.deref-in-SentTo-2.ensures.value), c.decreases), tt)
 
 pub append_value-returns-in-SentTo-clause-actions : goal.append_value-returns-in-SentTo-clause-actions
 append_value-returns-in-SentTo-clause-actions t c =
     let f = c.args.frame in
     told (λ x. OnOk c.append_sent_to.result (orders c.append_sent_to.new.actions.items ≡ orders c.args.actions.now.items ++ value_orders (program_of c.args.program.now) f.slots f.names f.operands f.temporaries x)) c.args.expression.now _
-    (is_sent_to c.args.expression.now c.in-SentTo.receiver c.in-SentTo.selector c.in-SentTo.arguments c.deref-in-SentTo.result.now c.deref-in-SentTo-2.result.now c.in-SentTo.is c.deref-in-SentTo.ensures c.deref-in-SentTo-2.ensures.value) c.append_sent_to.ensures.actions
+    (is_sent_to c.args.expression.now c.in-SentTo.target c.in-SentTo.selector c.in-SentTo.arguments c.deref-in-SentTo.result.now c.deref-in-SentTo-2.result.now c.in-SentTo.is c.deref-in-SentTo.ensures c.deref-in-SentTo-2.ensures.value) c.append_sent_to.ensures.actions
 
 pub append_value-returns-in-SentTo-clause-temporaries : goal.append_value-returns-in-SentTo-clause-temporaries
 append_value-returns-in-SentTo-clause-temporaries t c =
     told (λ x. IfOk c.append_sent_to.result (λ there. there ≡ c.args.frame.temporaries + value_takes x)) c.args.expression.now _
-    (is_sent_to c.args.expression.now c.in-SentTo.receiver c.in-SentTo.selector c.in-SentTo.arguments c.deref-in-SentTo.result.now c.deref-in-SentTo-2.result.now c.in-SentTo.is c.deref-in-SentTo.ensures c.deref-in-SentTo-2.ensures.value) c.append_sent_to.ensures.temporaries
+    (is_sent_to c.args.expression.now c.in-SentTo.target c.in-SentTo.selector c.in-SentTo.arguments c.deref-in-SentTo.result.now c.deref-in-SentTo-2.result.now c.in-SentTo.is c.deref-in-SentTo.ensures c.deref-in-SentTo-2.ensures.value) c.append_sent_to.ensures.temporaries
 
 pub append_value-append_sent_to_super-requires : goal.append_value-append_sent_to_super-requires
 append_value-append_sent_to_super-requires t c =
@@ -305,12 +305,12 @@ pub append_reference-append_reference-requires : goal.append_reference-append_re
 append_reference-append_reference-requires t c =
     (omega (arith, ap reference_weight (is_stored c.args.expression.now c.in-Stored.index c.in-Stored.operand c.deref.result.now c.in-Stored.is c.deref.ensures), c.decreases), tt)
 
-pub append_reference-append_value-requires : goal.append_reference-append_value-requires
-append_reference-append_value-requires t c =
+pub append_reference-append_value_then-requires : goal.append_reference-append_value_then-requires
+append_reference-append_value_then-requires t c =
     (omega (arith, ap reference_weight (is_made c.args.expression.now c.in-Made.class c.deref-in-Made.result.now c.in-Made.is c.deref-in-Made.ensures), c.decreases), tt)
 
-pub append_reference-append_reference-requires-in-Initialized : goal.append_reference-append_reference-requires-in-Initialized
-append_reference-append_reference-requires-in-Initialized t c =
+pub append_reference-append_reference_then-requires : goal.append_reference-append_reference_then-requires
+append_reference-append_reference_then-requires t c =
     (omega (arith, ap reference_weight (is_initialized c.args.expression.now c.in-Initialized.operand c.deref-in-Initialized.result.now c.in-Initialized.is c.deref-in-Initialized.ensures), c.decreases), tt)
 
 pub append_values-append_value-requires : goal.append_values-append_value-requires
