@@ -8,16 +8,20 @@ use Rattle.arc_ast.specs.Tree.{UnitTree}
 use Rattle.arc_parse.specs.Grammar.{SpellsUnit}
 use Rattle.arc_parse.specs.Limits.{these}
 use Rattle.arc_fault.specs.declared.parse.ParseFault.{ParseFault}
+use Rattle.arc_fault.specs.Parse as parse_fault
 use Rattle.arc_parse.specs.Refusal as parsing
 use Rattle.arc_class.specs.declared.table.ClassTable.{ClassTable}
 use Rattle.arc_fault.specs.declared.class.ClassFault.{ClassFault}
+use Rattle.arc_fault.specs.Class as class_fault
 use Rattle.arc_class.specs.ClassRules.{broken}
 use Rattle.arc_class.specs.Table.{IsTableOf}
 use Rattle.arc_class.specs.Fault as building
 use Rattle.arc_fault.specs.declared.check.CheckFault.{CheckFault}
+use Rattle.arc_fault.specs.Check as check_fault
 use Rattle.arc_check.specs.Rules.{broken_unit}
 use Rattle.arc_check.specs.Fault as checking
 use Rattle.arc_fault.specs.declared.own.OwnFault.{OwnFault}
+use Rattle.arc_fault.specs.Own as own_fault
 use Rattle.arc_family.specs.Fault as owning
 use Rattle.arc_family.specs.Rules as ownership
 use Rattle.arc_ir.specs.Acting as acting
@@ -31,14 +35,14 @@ use Rattle.arc_tool.specs.Told.{Names, Tells}
 pub data IsRefusal (source : List ℕ) (r : Refusal) : Type 0 where
   in_lexing : (f : LexFault) → lexing.IsLexFault source f → Tells (lexing.fault_number f) (lexing.fault_name f) (lexing.fault_at f) r → IsRefusal source r
   in_parsing : (f : ParseFault) (tokens : List Tok) → Tokens source tokens → parsing.IsRefused tokens f
-      → Tells (parsing.number_of f) (parsing.name_of f) (parsing.byte_of f) r → IsRefusal source r
+      → Tells (parse_fault.fault_number f) (parse_fault.fault_name f) (parse_fault.fault_at f) r → IsRefusal source r
   in_building : (f : ClassFault) (tokens : List Tok) (tree : UnitTree) → Tokens source tokens → SpellsUnit these tree tokens → building.Refuses (broken tree) f
-      → Tells (building.fault_number f) (building.fault_name f) (building.fault_at f) r → IsRefusal source r
+      → Tells (class_fault.fault_number f) (class_fault.fault_name f) (class_fault.fault_at f) r → IsRefusal source r
   in_checking : (f : CheckFault) (tokens : List Tok) (tree : UnitTree) (table : ClassTable) → Tokens source tokens → SpellsUnit these tree tokens
       → broken tree ≡ [] → IsTableOf tree table → checking.Refuses (broken_unit tree) f
-      → Tells (checking.fault_number f) (checking.fault_name f) (checking.fault_at f) r → IsRefusal source r
+      → Tells (check_fault.fault_number f) (check_fault.fault_name f) (check_fault.fault_at f) r → IsRefusal source r
   in_owning : (f : OwnFault) (tokens : List Tok) (tree : UnitTree) (table : ClassTable) → Tokens source tokens → SpellsUnit these tree tokens
       → broken tree ≡ [] → IsTableOf tree table → broken_unit tree ≡ [] → owning.Refuses (ownership.broken tree) f
-      → Tells (owning.fault_number f) (owning.fault_name f) (owning.fault_at f) r → IsRefusal source r
+      → Tells (own_fault.fault_number f) (own_fault.fault_name f) (own_fault.fault_at f) r → IsRefusal source r
   too_large : (program : Accepted source) (actions : acting.Program) → Performs (program_meant program) actions → IsLarge actions → Tells 71 (codes "TooLarge") 0 r → IsRefusal source r
   no_memory : Names (codes "Memory") r → IsRefusal source r

@@ -1,10 +1,10 @@
 //! Why a source is refused.
 ghost use Rattle.std.specs.Prelude.{◌≡◌, ◌↔◌, IsTrue, codes};
 ghost use Rattle.arc_lex.specs.Faults as lexing;
-ghost use Rattle.arc_parse.specs.Refusal as parsing;
-ghost use Rattle.arc_class.specs.Fault as building;
-ghost use Rattle.arc_check.specs.Fault as checking;
-ghost use Rattle.arc_family.specs.Fault as owning;
+ghost use Rattle.arc_fault.specs.Parse as parse_fault;
+ghost use Rattle.arc_fault.specs.Class as class_fault;
+ghost use Rattle.arc_fault.specs.Check as check_fault;
+ghost use Rattle.arc_fault.specs.Own as own_fault;
 ghost use Rattle.arc_emit.specs.Faults as emitting;
 ghost use Rattle.arc_tool.specs.Told.{Tells, Names};
 
@@ -48,7 +48,7 @@ impl From<LexFault> for Refusal {
 }
 
 impl From<ParseFault> for Refusal {
-    ghost from_gives = { λ f r. Tells (parsing.number_of f) (parsing.name_of f) (parsing.byte_of f) r };
+    ghost from_gives = { λ f r. Tells (parse_fault.fault_number f) (parse_fault.fault_name f) (parse_fault.fault_at f) r };
 
     fn from(fault: ParseFault) -> Refusal {
         Refusal {
@@ -60,7 +60,7 @@ impl From<ParseFault> for Refusal {
 }
 
 impl From<ClassFault> for Refusal {
-    ghost from_gives = { λ f r. Tells (building.fault_number f) (building.fault_name f) (building.fault_at f) r };
+    ghost from_gives = { λ f r. Tells (class_fault.fault_number f) (class_fault.fault_name f) (class_fault.fault_at f) r };
 
     fn from(fault: ClassFault) -> Refusal {
         Refusal {
@@ -72,7 +72,7 @@ impl From<ClassFault> for Refusal {
 }
 
 impl From<CheckFault> for Refusal {
-    ghost from_gives = { λ f r. Tells (checking.fault_number f) (checking.fault_name f) (checking.fault_at f) r };
+    ghost from_gives = { λ f r. Tells (check_fault.fault_number f) (check_fault.fault_name f) (check_fault.fault_at f) r };
 
     fn from(fault: CheckFault) -> Refusal {
         Refusal {
@@ -84,7 +84,7 @@ impl From<CheckFault> for Refusal {
 }
 
 impl From<OwnFault> for Refusal {
-    ghost from_gives = { λ f r. Tells (owning.fault_number f) (owning.fault_name f) (owning.fault_at f) r };
+    ghost from_gives = { λ f r. Tells (own_fault.fault_number f) (own_fault.fault_name f) (own_fault.fault_at f) r };
 
     fn from(fault: OwnFault) -> Refusal {
         Refusal {
