@@ -5,7 +5,7 @@ use Rattle.arc_spec.specs.Holding.{Counted}
 use Rattle.arc_ir.specs.Acting.{Program, State, start, step, Fits, IsSound}
 use Rattle.arc_lower.proofs.CountsKept.{Sane, nothing_sane}
 use Rattle.arc_lower.proofs.CountsSteps.{along_both}
-use Rattle.arc_lower.proofs.CountsActing.{sanity_kept}
+use Rattle.arc_lower.proofs.CountsActing.{Anything, sanity_kept}
 
 -- the stack and the places are within their rooms
 pub record Rooms (p : Program) (s : State) : Type 0 where
@@ -22,7 +22,8 @@ SafeIfSane p (suc n) s = Sane s.held → Along (SafeIfSane p n) (step p s)
 
 pub sane_safe : (p : Program) (n : ℕ) (s : State) → SafeIfSane p n s → Sane s.held → Safe (step p) (Fits p) n s
 sane_safe p zero s safe c = fits_too p s (safe c) c.counted
-sane_safe p (suc n) s safe c = along_both (SafeIfSane p n) (λ s1. Sane s1.held) (Safe (step p) (Fits p) n) (sane_safe p n) (step p s) (safe c) (sanity_kept p s c)
+sane_safe p (suc n) s safe c =
+    along_both (SafeIfSane p n) (λ s1. Sane s1.held × Anything s1.frames) (Safe (step p) (Fits p) n) (λ s1 left kept. sane_safe p n s1 left kept.0) (step p s) (safe c) (sanity_kept p s (c, tt))
 
 -- a program is sound where its sane states are within their rooms and never stuck
 pub sound_if_sane : (p : Program) → ((n : ℕ) → SafeIfSane p n start) → IsSound p

@@ -62,12 +62,12 @@ module _ {S : Type 0} (P : S → Type 0) where
   holds_after (suc k) h go l = object_after (object_at h.objects (suc k)) (λ _. go (placed (suc k) h)) (λ o found there. l (o, found, there))
 
   module _ (classes : List Class) (Q : Held → Type 0) (kept : IsKept classes Q) where
-    pub lets_go_after : (r : ℕ) (h : Held) (stays : Held → Next S) (ends : (o class : ℕ) → Held → Next S) → Q (with_places h (r ∷ h.places)) → ((h1 : Held) → Q h1 → After P (stays h1)) → ((o class : ℕ) (h1 : Held) → Q h1 → After P (ends o class h1)) → After P (lets_go r h stays ends)
+    pub lets_go_after : (r : ℕ) (h : Held) (stays : Held → Next S) (ends : (o class : ℕ) → Held → Next S) → Q (with_places h (r ∷ h.places)) → ((h1 : Held) → Q h1 → After P (stays h1)) → ((k class : ℕ) (h1 : Held) → Q h1 → After P (ends (suc k) class h1)) → After P (lets_go r h stays ends)
     lets_go_after zero h stays ends q still over = still (lowered 0 h) (kept.nil h q)
     lets_go_after (suc k) h stays ends q still over =
         object_after (object_at h.objects (suc k)) _ (λ o found there.
         if_after (is_live (Some o) && nat_eq (h.counts (suc k)) 1) _ _
-        (λ last. over (suc k) o.class _ (kept.last h k o found q))
+        (λ last. over k o.class _ (kept.last h k o found q))
         (λ more. still (lowered (suc k) h) (kept.other h k o found more q)))
 
     pub forgets_after : (n : ℕ) (h : Held) (places : List ℕ) (go : List ℕ → Next S) → Q (with_places h places) → ((rest : List ℕ) → Q (with_places h rest) → After P (go rest)) → After P (forgets n places go)

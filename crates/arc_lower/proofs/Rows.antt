@@ -1,72 +1,10 @@
--- What a tree holds in a row, as a list.
-use Rattle.std.proofs.Common.{◌≡◌, ℕ, zero, suc, ◌+◌, ◌-◌, ◌<◌, arith, pos, List, [], ◌∷◌, ◌++◌, length, Vec, Box, Global, refl, ap, ◌∙◌, add-one}
-use mathlib.Core.Former.{Count}
-use Rattle.arc_check.specs.declared.checked.Piece.{Piece}
-use Rattle.arc_check.specs.declared.checked.Value.{Value, Print, Print', Invoked, Invoked', Sent, Sent', SentSuper, SentSuper', SentTo, SentTo', SentToSuper, SentToSuper', Row_of-Value, end_of-Value, more_of-Value, items-the_row-Value, items_hidden-the_row-Value-0}
-use Rattle.arc_check.specs.declared.checked.Reference.{Reference}
-use Rattle.arc_check.specs.declared.checked.Command.{Command, Sequence, Sequence', Row_of-Command, end_of-Command, more_of-Command, items-the_row-Command, items_hidden-the_row-Command-0}
-use Rattle.arc_check.specs.Checked.{pieces, value, reference, values, row_values, command, commands, row_commands, functions}
+-- Rows of orders, and lists of a checked program as long as what they are of.
+use Rattle.std.proofs.Common.{◌≡◌, ℕ, zero, suc, ◌+◌, ◌-◌, ◌<◌, arith, pos, List, [], ◌∷◌, ◌++◌, length, refl, ap, ◌∙◌, add-one}
+use Rattle.arc_check.specs.declared.checked.Value.{Value}
 use Rattle.arc_check.specs.declared.checked.CheckedFunction.{CheckedFunction}
-use Rattle.arc_spec.specs.Resolved as resolved
-use Rattle.arc_spec.specs.Resolved.{Values, no_values, and_value, Commands, no_commands, and_command}
+use Rattle.arc_check.specs.Checked.{values, functions}
 use Rattle.arc_lower.specs.Order.{Num, Pop, Nil, Drop}
 use Rattle.arc_lower.specs.Lowered.{pop_orders, zero_orders, nil_orders, drop_orders, empty_orders, all_empty_orders, value_count}
-
-abbrev arguments_of : Value → (n : Count) × Row_of-Value n
-arguments_of (Print' all _ row) = (_, row)
-arguments_of (Invoked' f _ row) = (_, row)
-arguments_of (Sent' _ a selector _ row) = (_, row)
-arguments_of (SentSuper' from selector _ row) = (_, row)
-arguments_of (SentTo' _ a selector _ row) = (_, row)
-arguments_of (SentToSuper' from selector _ row) = (_, row)
-arguments_of _ = (_, end_of-Value)
-
-row_values_are : (n : _) (row : Row_of-Value n) → row_values row ≡ values (items-the_row-Value n row)
-row_values_are n end_of-Value = refl
-row_values_are n (more_of-Value a row) = ap (and_value (value a)) (row_values_are _ row)
-
-pub print_value : (all : Vec Piece Global) (arguments : Vec Value Global) → value (Print all arguments) ≡ resolved.Print (pieces all.items) (values arguments.items)
-print_value all arguments =
-    let row = arguments_of (Print all arguments) in
-    ap (resolved.Print (pieces all.items)) (row_values_are row.0 row.1 ∙ ap values (items_hidden-the_row-Value-0 arguments))
-
-pub invoked_value : (f : ℕ) (arguments : Vec Value Global) → value (Invoked f arguments) ≡ resolved.Invoked f (values arguments.items)
-invoked_value f arguments =
-    let row = arguments_of (Invoked f arguments) in
-    ap (resolved.Invoked f) (row_values_are row.0 row.1 ∙ ap values (items_hidden-the_row-Value-0 arguments))
-
-pub sent_value : (a : Box Value Global) (selector : ℕ) (arguments : Vec Value Global) → value (Sent a selector arguments) ≡ resolved.Sent (value a.value) selector (values arguments.items)
-sent_value a selector arguments =
-    let row = arguments_of (Sent a selector arguments) in
-    ap (resolved.Sent (value a.value) selector) (row_values_are row.0 row.1 ∙ ap values (items_hidden-the_row-Value-0 arguments))
-
-pub super_value : (from selector : ℕ) (arguments : Vec Value Global) → value (SentSuper from selector arguments) ≡ resolved.SentSuper from selector (values arguments.items)
-super_value from selector arguments =
-    let row = arguments_of (SentSuper from selector arguments) in
-    ap (resolved.SentSuper from selector) (row_values_are row.0 row.1 ∙ ap values (items_hidden-the_row-Value-0 arguments))
-
-pub sent_to_value : (a : Box Reference Global) (selector : ℕ) (arguments : Vec Value Global) → value (SentTo a selector arguments) ≡ resolved.SentTo (reference a.value) selector (values arguments.items)
-sent_to_value a selector arguments =
-    let row = arguments_of (SentTo a selector arguments) in
-    ap (resolved.SentTo (reference a.value) selector) (row_values_are row.0 row.1 ∙ ap values (items_hidden-the_row-Value-0 arguments))
-
-pub to_super_value : (from selector : ℕ) (arguments : Vec Value Global) → value (SentToSuper from selector arguments) ≡ resolved.SentToSuper from selector (values arguments.items)
-to_super_value from selector arguments =
-    let row = arguments_of (SentToSuper from selector arguments) in
-    ap (resolved.SentToSuper from selector) (row_values_are row.0 row.1 ∙ ap values (items_hidden-the_row-Value-0 arguments))
-
-abbrev statements_of : Command → (n : Count) × Row_of-Command n
-statements_of (Sequence' first count _ row) = (_, row)
-statements_of _ = (_, end_of-Command)
-
-row_commands_are : (n : _) (row : Row_of-Command n) → row_commands row ≡ commands (items-the_row-Command n row)
-row_commands_are n end_of-Command = refl
-row_commands_are n (more_of-Command a row) = ap (and_command (command a)) (row_commands_are _ row)
-
-pub sequence_command : (first count : ℕ) (all : Vec Command Global) → command (Sequence first count all) ≡ resolved.Sequence first count (commands all.items)
-sequence_command first count all =
-    let row = statements_of (Sequence first count all) in
-    ap (resolved.Sequence first count) (row_commands_are row.0 row.1 ∙ ap commands (items_hidden-the_row-Command-0 all))
 
 pub values_counted : (all : List Value) → value_count (values all) ≡ length all
 values_counted [] = refl

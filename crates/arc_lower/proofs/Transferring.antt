@@ -14,128 +14,9 @@ use Rattle.arc_ir.specs.declared.action.Action.{Action}
 use Rattle.arc_ir.specs.declared.action.Action.TheVariants.{Num, Bin, Un, Narrow, Pop, Get, Set, PrintText, PrintNum, PrintByte, GetChar, Jump, JumpZero, Call, Send, SendSuper, Return, Nil, HoldSelf, Hold, StoreStrong, Drop, Empty, Forget, Alloc, GetField, SetField, Differ, IsObject, SendTo, SendToSuper, EndStep}
 use Rattle.arc_ir.specs.Acting.{Program, State, start, or_fault, has_level, enters, answers, taken, sends, sends_up, begins_end, releases, ends_object, runs_dealloc, ends_class, end_goes_on, leaves, allocates, acts, step, seen}
 use Rattle.arc_lower.proofs.CountsHeld.{nothing_counted}
-use Rattle.arc_lower.proofs.CountsSteps.{After, top_after, two_after, found_after, if_after, object_after, place_after, holds_after, field_after}
-use Rattle.arc_lower.proofs.CountsActing.{counts_kept}
+use Rattle.arc_lower.proofs.CountsSteps.{After}
+use Rattle.arc_lower.proofs.CountsActing.{NamedEnds, counts_kept}
 use Rattle.arc_lower.proofs.Recounting.{fresh, recount, moves}
-
--- no end of nil is running
-abbrev pub NamedEnds : List Frame → Type 0
-NamedEnds [] = Unit {0}
-NamedEnds (Calling back self ∷ others) = NamedEnds others
-NamedEnds (Ending back self zero next left ∷ others) = ⊥
-NamedEnds (Ending back self (suc k) next left ∷ others) = NamedEnds others
-
--- ---- ends of objects are never ends of nil
-
-module _ (p : Program) (s : State) where
-  abbrev Right : State → Type 0
-  Right s1 = NamedEnds s1.frames
-
-  or_fault_keeps : (v : Option ℤ) (rest : List ℤ) → Right s → After Right (or_fault v s rest)
-  or_fault_keeps None rest c = tt
-  or_fault_keeps (Some v) rest c = c
-
-  jump_keeps : (b : Bool) (first second : Next State) → After Right first → After Right second → After Right (chosen b first second)
-  jump_keeps true first second h g = g
-  jump_keeps false first second h g = h
-
-  enters_keeps : (to self : ℕ) (b : Bool) → Right s → After Right (enters s to self b)
-  enters_keeps to self true c = c
-  enters_keeps to self false c = tt
-
-  answers_keeps : (self : ℕ) (found : Option ℕ) → Right s → After Right (answers s self found)
-  answers_keeps self None c = tt
-  answers_keeps self (Some to) c = enters_keeps to self (has_level s) c
-
-  taken_keeps : (n : ℕ) (stack : List ℤ) (go : List ℤ → Next State) → ((rest : List ℤ) → After Right (go rest)) → After Right (taken n stack go)
-  taken_keeps zero stack go h = h stack
-  taken_keeps (suc n) [] go h = tt
-  taken_keeps (suc n) (v ∷ rest) go h = taken_keeps n rest go h
-
-  forgets_keeps : (n : ℕ) (held : List ℕ) (go : List ℕ → Next State) → ((rest : List ℕ) → After Right (go rest)) → After Right (forgets n held go)
-  forgets_keeps zero held go h = h held
-  forgets_keeps (suc n) [] go h = tt
-  forgets_keeps (suc n) (zero ∷ rest) go h = forgets_keeps n rest go h
-  forgets_keeps (suc n) (suc k ∷ rest) go h = tt
-
-  sends_keeps : (self selector takes : ℕ) → Right s → After Right (sends p s self selector takes)
-  sends_keeps zero selector takes c = taken_keeps takes s.stack _ (λ rest. c)
-  sends_keeps (suc k) selector takes c = object_after Right (object_at s.held.objects (suc k)) _ (λ o _ _. answers_keeps (suc k) (lookup p.classes (Some o.class) signs.Instance selector takes) c)
-
-  sends_up_keeps : (from self selector takes : ℕ) → Right s → After Right (sends_up p s from self selector takes)
-  sends_up_keeps from zero selector takes c = taken_keeps takes s.stack _ (λ rest. c)
-  sends_up_keeps from (suc k) selector takes c = answers_keeps (suc k) (lookup p.classes (Some from) signs.Instance selector takes) c
-
-  begins_end_keeps : (k class : ℕ) (h : Held) (b : Bool) → Right s → After Right (begins_end p s (suc k) class h b)
-  begins_end_keeps k class h true c = c
-  begins_end_keeps k class h false c = tt
-
-  releases_keeps : (r : ℕ) (h : Held) → Right s → After Right (releases p s r h)
-  releases_keeps zero h c = c
-  releases_keeps (suc k) h c = object_after Right (object_at h.objects (suc k)) _ (λ o _ _. if_after Right (is_live (Some o) && nat_eq (h.counts (suc k)) 1) _ _ (λ _. begins_end_keeps k o.class (with_things (lowered (suc k) h) (with_object h.objects (suc k) (in_phase Dying o))) (has_level s) c) (λ _. c))
-
-  ends_object_keeps : (back self o : ℕ) (others : List Frame) → NamedEnds others → After Right (ends_object s back self o others)
-  ends_object_keeps back self o others c = if_after Right (nat_eq (s.held.counts o) 0) _ _ (λ _. c) (λ _. tt)
-
-  runs_dealloc_keeps : (body : Option ℕ) (frames : List Frame) → NamedEnds frames → After Right (runs_dealloc body s frames)
-  runs_dealloc_keeps None frames c = c
-  runs_dealloc_keeps (Some to) frames c = c
-
-  ends_class_keeps : (back self k : ℕ) (class : Option Class) (left : ℕ) (others : List Frame) → NamedEnds others → After Right (ends_class p s back self (suc k) class left others)
-  ends_class_keeps back self k None left others c = ends_object_keeps back self (suc k) others c
-  ends_class_keeps back self k (Some class) left others c = runs_dealloc_keeps class.dealloc _ c
-
-  end_goes_on_keeps : (frames : List Frame) → NamedEnds frames → After Right (end_goes_on p s frames)
-  end_goes_on_keeps [] c = tt
-  end_goes_on_keeps (Calling back self ∷ others) c = tt
-  end_goes_on_keeps (Ending back self zero next left ∷ others) c = absurd c
-  end_goes_on_keeps (Ending back self (suc k) None left ∷ others) c = ends_object_keeps back self (suc k) others c
-  end_goes_on_keeps (Ending back self (suc k) (Some class) zero ∷ others) c = ends_object_keeps back self (suc k) others c
-  end_goes_on_keeps (Ending back self (suc k) (Some class) (suc left) ∷ others) c = ends_class_keeps back self k (slice_get p.classes class) left others c
-
-  leaves_keeps : (frames : List Frame) (v : ℤ) (rest : List ℤ) → s.frames ≡ frames → Right s → After Right (leaves p s frames v rest)
-  leaves_keeps [] v rest e c = tt
-  leaves_keeps (Calling back self ∷ others) v rest e c = subst NamedEnds e c
-  leaves_keeps (Ending back self o next left ∷ others) v rest e c = c
-
-  allocates_keeps : (rest : List ℤ) (class : Option ℕ) → Right s → After Right (allocates p s rest class)
-  allocates_keeps rest None c = tt
-  allocates_keeps rest (Some class) c = c
-
-  ends_kept : (action : Option Action) → Right s → After Right (acts p action s)
-  ends_kept None c = tt
-  ends_kept (Some (Num n)) c = c
-  ends_kept (Some (Bin operator kind)) c = two_after Right s.stack _ (λ y x rest. or_fault_keeps (combined operator kind x y) rest c)
-  ends_kept (Some (Un kind)) c = top_after Right s.stack _ (λ x rest. c)
-  ends_kept (Some (Narrow kind)) c = top_after Right s.stack _ (λ x rest. c)
-  ends_kept (Some Pop) c = top_after Right s.stack _ (λ x rest. c)
-  ends_kept (Some (Get depth)) c = found_after Right (slice_get s.stack depth) _ (λ v _. c)
-  ends_kept (Some (Set depth)) c = top_after Right s.stack _ (λ v rest. found_after Right (slice_get rest depth) _ (λ _ _. c))
-  ends_kept (Some (PrintText bytes)) c = top_after Right s.stack _ (λ count rest. c)
-  ends_kept (Some PrintNum) c = two_after Right s.stack _ (λ v count rest. c)
-  ends_kept (Some PrintByte) c = two_after Right s.stack _ (λ v count rest. c)
-  ends_kept (Some GetChar) c = λ answer. c
-  ends_kept (Some (Jump to)) c = c
-  ends_kept (Some (JumpZero to)) c = top_after Right s.stack _ (λ v rest. jump_keeps (is_zero v) _ _ c c)
-  ends_kept (Some (Call f)) c = found_after Right (slice_get p.entries f) _ (λ to _. enters_keeps to 0 (has_level s) c)
-  ends_kept (Some (Send selector takes)) c = found_after Right (slice_get s.stack takes) _ (λ self _. answers_keeps 0 (lookup p.classes (class_at self) signs.Class selector takes) c)
-  ends_kept (Some (SendSuper from selector takes)) c = answers_keeps 0 (lookup p.classes (Some from) signs.Class selector takes) c
-  ends_kept (Some Return) c = top_after Right s.stack _ (λ v rest. leaves_keeps s.frames v rest refl c)
-  ends_kept (Some Nil) c = c
-  ends_kept (Some HoldSelf) c = holds_after Right s.held.self s.held _ (λ there. c)
-  ends_kept (Some (Hold depth)) c = found_after Right (slice_get s.held.places depth) _ (λ r _. holds_after Right r s.held _ (λ there. c))
-  ends_kept (Some (StoreStrong depth)) c = place_after Right s.held.places _ (λ r rest _. found_after Right (slice_get rest depth) _ (λ old _. holds_after Right r s.held _ (λ there. releases_keeps old _ c)))
-  ends_kept (Some Drop) c = place_after Right s.held.places _ (λ r rest _. releases_keeps r _ c)
-  ends_kept (Some (Empty depth)) c = found_after Right (slice_get s.held.places depth) _ (λ r _. releases_keeps r _ c)
-  ends_kept (Some (Forget count)) c = forgets_keeps count s.held.places _ (λ rest. c)
-  ends_kept (Some Alloc) c = top_after Right s.stack _ (λ v rest. allocates_keeps rest (class_at v) c)
-  ends_kept (Some (GetField class index)) c = place_after Right s.held.places _ (λ r rest _. field_after Right p.classes class r s.held _ (λ k o _ _ _. c))
-  ends_kept (Some (SetField depth class index)) c = found_after Right (slice_get s.held.places depth) _ (λ r _. top_after Right s.stack _ (λ v rest. field_after Right p.classes class r s.held _ (λ k o _ _ _. c)))
-  ends_kept (Some (Differ depth)) c = place_after Right s.held.places _ (λ r rest _. found_after Right (slice_get rest depth) _ (λ other _. c))
-  ends_kept (Some IsObject) c = place_after Right s.held.places _ (λ r rest _. c)
-  ends_kept (Some (SendTo depth selector takes)) c = found_after Right (slice_get s.held.places depth) _ (λ r _. sends_keeps r selector takes c)
-  ends_kept (Some (SendToSuper from selector takes)) c = sends_up_keeps from s.held.self selector takes c
-  ends_kept (Some EndStep) c = end_goes_on_keeps s.frames c
 
 -- ---- a step with right counts
 
@@ -328,16 +209,16 @@ Kept (Ended n i t) = Unit {0}
 Kept (Faulted f i t) = Unit {0}
 Kept (Wedged i t) = Unit {0}
 
-fed_kept : (k : Option ℕ → State) (i : List ℕ) (t : List Event) → ((answer : Option ℕ) → Counted (k answer).held) → ((answer : Option ℕ) → NamedEnds (k answer).frames) → Kept (fed k i t)
-fed_kept k [] t counted named = (counted None, named None)
-fed_kept k (b ∷ i) t counted named = (counted (Some b), named (Some b))
+fed_kept : (k : Option ℕ → State) (i : List ℕ) (t : List Event) → ((answer : Option ℕ) → Counted (k answer).held × NamedEnds (k answer).frames) → Kept (fed k i t)
+fed_kept k [] t kept = kept None
+fed_kept k (b ∷ i) t kept = kept (Some b)
 
-follow_kept : (next : Next State) (i : List ℕ) (t : List Event) → After (λ s. Counted s.held) next → After (λ s. NamedEnds s.frames) next → Kept (follow next i t)
-follow_kept (Goes s events) i t counted named = (counted, named)
-follow_kept (Asks k) i t counted named = fed_kept k i t counted named
-follow_kept (Ends n) i t counted named = tt
-follow_kept (Faults f) i t counted named = tt
-follow_kept Stuck i t counted named = tt
+follow_kept : (next : Next State) (i : List ℕ) (t : List Event) → After (λ s. Counted s.held × NamedEnds s.frames) next → Kept (follow next i t)
+follow_kept (Goes s events) i t kept = kept
+follow_kept (Asks k) i t kept = fed_kept k i t kept
+follow_kept (Ends n) i t kept = tt
+follow_kept (Faults f) i t kept = tt
+follow_kept Stuck i t kept = tt
 
 fed_fresh : (k : Option ℕ → State) (i : List ℕ) (t : List Event) → fed (λ answer. fresh (k answer)) i t ≡ freshened (fed k i t)
 fed_fresh k [] t = refl
@@ -352,7 +233,7 @@ follow_fresh Stuck i t = refl
 
 module _ (p : Program) where
   further_kept : (r : Reached State) → Kept r → Kept (further (step p) r)
-  further_kept (Running s i t) k = follow_kept (step p s) i t (counts_kept p s k.0) (ends_kept p s (slice_get p.actions s.at) k.1)
+  further_kept (Running s i t) k = follow_kept (step p s) i t (counts_kept p s k)
   further_kept (Ended n i t) k = tt
   further_kept (Faulted f i t) k = tt
   further_kept (Wedged i t) k = tt

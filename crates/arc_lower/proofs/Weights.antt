@@ -1,13 +1,11 @@
 -- What an expression is of its parts, and how much of it is left to lower: that falls with each call.
-use Rattle.std.proofs.Common.{rules, arith, ◌≡◌, ℕ, zero, suc, ◌+◌, ◌<◌, List, [], ◌∷◌, Vec, Box, Global, length, get_or, sym, ap, subst, ◌∙◌}
+use Rattle.std.proofs.Common.{rules, arith, ◌≡◌, ℕ, zero, suc, ◌+◌, ◌<◌, List, [], ◌∷◌, Box, Global, length, get_or, sym, ap, subst, ◌∙◌}
 use Rattle.arc_ast.specs.declared.tree.Kind.{Kind}
 use Rattle.arc_ast.specs.declared.tree.BinaryOperator.{BinaryOperator}
 use Rattle.arc_check.specs.declared.checked.Value as c
 use Rattle.arc_check.specs.declared.checked.Reference as r
-use Rattle.arc_check.specs.declared.checked.Piece.{Piece}
 use Rattle.arc_spec.specs.Resolved.{Value, Number, ReadByte, Print, Negated, Combined, Converted, Local, Assigned, Invoked, Sent, SentSuper, SentTo, SentToSuper, Field, FieldAssigned, Differ, IsObject, Reference, Nil, Itself, Variable, Stored, Made, Initialized, Values, no_values, and_value}
-use Rattle.arc_check.specs.Checked.{pieces, value, values, reference}
-use Rattle.arc_lower.proofs.Rows.{print_value, invoked_value, sent_value, super_value, sent_to_value, to_super_value}
+use Rattle.arc_check.specs.Checked.{value, values, reference}
 
 abbrev mutual
   pub value_weight : Value → ℕ
@@ -49,13 +47,6 @@ value_in [] i v below is = nothing_below below
 value_in (a ∷ vs) zero v below is = subst (λ x. value_weight (value x) < suc (value_weight (value a) + values_weight (values vs))) (sym is) (omega arith)
 value_in (a ∷ vs) (suc i) v below is = let deep = value_in vs i v (omega (arith, below)) is in omega (arith, deep)
 
-pub is_print : (v : c.Value) (all : Vec Piece Global) (arguments : Vec c.Value Global) (shapes : List Piece) (these : List c.Value)
-    → v ≡ c.Print all arguments → shapes ≡ all.items → these ≡ arguments.items → value v ≡ Print (pieces shapes) (values these)
-is_print v all arguments shapes these is same_shapes same =
-    ap value is ∙ print_value all arguments
-    ∙ ap (λ l. Print (pieces all.items) (values l)) (sym same)
-    ∙ ap (λ l. Print (pieces l) (values these)) (sym same_shapes)
-
 pub is_negated : (v : c.Value) (kind : Kind) (a : Box c.Value Global) (this : c.Value) → v ≡ c.Negated kind a → this ≡ a.value → value v ≡ Negated kind (value this)
 is_negated v kind a this is same = ap value is ∙ ap (λ x. Negated kind (value x)) (sym same)
 
@@ -71,31 +62,6 @@ is_combined v operator kind a b left right is same_left same_right =
 
 pub is_assigned : (v : c.Value) (i : ℕ) (a : Box c.Value Global) (this : c.Value) → v ≡ c.Assigned i a → this ≡ a.value → value v ≡ Assigned i (value this)
 is_assigned v i a this is same = ap value is ∙ ap (λ x. Assigned i (value x)) (sym same)
-
-pub is_invoked : (v : c.Value) (f : ℕ) (arguments : Vec c.Value Global) (these : List c.Value) → v ≡ c.Invoked f arguments → these ≡ arguments.items → value v ≡ Invoked f (values these)
-is_invoked v f arguments these is same = ap value is ∙ invoked_value f arguments ∙ ap (λ l. Invoked f (values l)) (sym same)
-
-pub is_sent : (v : c.Value) (a : Box c.Value Global) (selector : ℕ) (arguments : Vec c.Value Global) (receiver : c.Value) (these : List c.Value)
-    → v ≡ c.Sent a selector arguments → receiver ≡ a.value → these ≡ arguments.items → value v ≡ Sent (value receiver) selector (values these)
-is_sent v a selector arguments receiver these is same_receiver same =
-    ap value is ∙ sent_value a selector arguments
-    ∙ ap (λ l. Sent (value a.value) selector (values l)) (sym same)
-    ∙ ap (λ x. Sent (value x) selector (values these)) (sym same_receiver)
-
-pub is_sent_super : (v : c.Value) (from selector : ℕ) (arguments : Vec c.Value Global) (these : List c.Value)
-    → v ≡ c.SentSuper from selector arguments → these ≡ arguments.items → value v ≡ SentSuper from selector (values these)
-is_sent_super v from selector arguments these is same = ap value is ∙ super_value from selector arguments ∙ ap (λ l. SentSuper from selector (values l)) (sym same)
-
-pub is_sent_to : (v : c.Value) (a : Box r.Reference Global) (selector : ℕ) (arguments : Vec c.Value Global) (receiver : r.Reference) (these : List c.Value)
-    → v ≡ c.SentTo a selector arguments → receiver ≡ a.value → these ≡ arguments.items → value v ≡ SentTo (reference receiver) selector (values these)
-is_sent_to v a selector arguments receiver these is same_receiver same =
-    ap value is ∙ sent_to_value a selector arguments
-    ∙ ap (λ l. SentTo (reference a.value) selector (values l)) (sym same)
-    ∙ ap (λ x. SentTo (reference x) selector (values these)) (sym same_receiver)
-
-pub is_sent_to_super : (v : c.Value) (from selector : ℕ) (arguments : Vec c.Value Global) (these : List c.Value)
-    → v ≡ c.SentToSuper from selector arguments → these ≡ arguments.items → value v ≡ SentToSuper from selector (values these)
-is_sent_to_super v from selector arguments these is same = ap value is ∙ to_super_value from selector arguments ∙ ap (λ l. SentToSuper from selector (values l)) (sym same)
 
 pub is_field : (v : c.Value) (a : Box r.Reference Global) (class index : ℕ) (this : r.Reference) → v ≡ c.Field a class index → this ≡ a.value → value v ≡ Field (reference this) class index
 is_field v a class index this is same = ap value is ∙ ap (λ x. Field (reference x) class index) (sym same)

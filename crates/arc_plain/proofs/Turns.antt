@@ -1,13 +1,10 @@
--- The interpreter's loops, and the views of what lies in a Vec.
-use Rattle.std.proofs.Common.{rules, ◌≡◌, ℕ, zero, suc, ◌+◌, ◌-◌, ◌<◌, ◌≤◌, ℤ, false, List, [], ◌∷◌, ◌++◌, length, get_or, drop, Vec, Box, Global, Option, Result, Err, append_assoc, refl, sym, ap, subst, ◌∙◌}
+-- The interpreter's loops, and its parts' failures.
+use Rattle.std.proofs.Common.{rules, ◌≡◌, ℕ, zero, suc, ◌+◌, ◌-◌, ◌<◌, ◌≤◌, ℤ, false, List, [], ◌∷◌, ◌++◌, length, get_or, drop, Option, Result, Err, append_assoc, refl, sym, ap, subst, ◌∙◌}
 use Rattle.std.proofs.lemmas.List.{drop_more}
 use native.Mathlib.Omega.{arith}
-use mathlib.Core.Former.{Count}
-use Rattle.arc_check.specs.declared.checked.Piece.{Piece}
-use Rattle.arc_check.specs.declared.checked.Reference.{Reference}
-use Rattle.arc_check.specs.declared.checked.Value.{Value, Print, Print', Invoked, Invoked', Sent, Sent', SentSuper, SentSuper', SentTo, SentTo', SentToSuper, SentToSuper', Row_of-Value, end_of-Value, more_of-Value, items-the_row-Value, items_hidden-the_row-Value-0}
-use Rattle.arc_check.specs.declared.checked.Command.{Command, Sequence, Sequence', Row_of-Command, end_of-Command, more_of-Command, items-the_row-Command, items_hidden-the_row-Command-0}
-use Rattle.arc_check.specs.Checked.{functions, pieces, value, values, reference, row_values, command, commands, row_commands}
+use Rattle.arc_check.specs.declared.checked.Value.{Value}
+use Rattle.arc_check.specs.declared.checked.Command.{Command}
+use Rattle.arc_check.specs.Checked.{functions, value, values, command}
 use Rattle.arc_spec.specs.Resolved as resolved
 use Rattle.arc_spec.specs.Classes.{Class, class_at}
 use Rattle.arc_spec.specs.World.{World, Outcome, Done, Faulted, Cut, then_do}
@@ -33,82 +30,6 @@ pub tells_through : {A B C D : Type 0} → (e : Halt) (f : A → B) (g : C → D
 tells_through (Stopped fault) f g w go part whole is h = is ∙ ap (λ o. then_do o go) h
 tells_through Cut f g w go part whole is h = is ∙ ap (λ o. then_do o go) h
 tells_through Memory f g w go part whole is h = tt
-
-abbrev row_of_value : Value → (n : Count) × Row_of-Value n
-row_of_value (Print' all shape row) = (_, row)
-row_of_value (Invoked' f shape row) = (_, row)
-row_of_value (Sent' q a selector shape row) = (_, row)
-row_of_value (SentSuper' from selector shape row) = (_, row)
-row_of_value (SentTo' q a selector shape row) = (_, row)
-row_of_value (SentToSuper' from selector shape row) = (_, row)
-row_of_value _ = (_, end_of-Value)
-
-row_values_is : (n : _) (row : Row_of-Value n) → row_values row ≡ values (items-the_row-Value n row)
-row_values_is n end_of-Value = refl
-row_values_is n (more_of-Value a row) = ap (resolved.and_value (value a)) (row_values_is _ row)
-
--- printf, of which the parts are known
-pub value_print : (v : Value) (all : Vec Piece Global) (arguments : Vec Value Global) (shapes : List Piece) (these : List Value)
-    → v ≡ Print all arguments → shapes ≡ all.items → these ≡ arguments.items → value v ≡ resolved.Print (pieces shapes) (values these)
-value_print v all arguments shapes these is same_shapes same =
-    let row = row_of_value (Print all arguments) in
-    ap value is ∙ ap (resolved.Print (pieces all.items)) (row_values_is row.0 row.1 ∙ ap values (items_hidden-the_row-Value-0 arguments))
-    ∙ ap (λ l. resolved.Print (pieces all.items) (values l)) (sym same)
-    ∙ ap (λ l. resolved.Print (pieces l) (values these)) (sym same_shapes)
-
-abbrev row_of_command : Command → (n : Count) × Row_of-Command n
-row_of_command (Sequence' first count shape row) = (_, row)
-row_of_command _ = (_, end_of-Command)
-
-row_commands_is : (n : _) (row : Row_of-Command n) → row_commands row ≡ commands (items-the_row-Command n row)
-row_commands_is n end_of-Command = refl
-row_commands_is n (more_of-Command a row) = ap (resolved.and_command (command a)) (row_commands_is _ row)
-
--- a block, of which the statements are known
-pub command_sequence : (c : Command) (first count : ℕ) (all : Vec Command Global) (these : List Command)
-    → c ≡ Sequence first count all → these ≡ all.items → command c ≡ resolved.Sequence first count (commands these)
-command_sequence c first count all these is same =
-    let row = row_of_command (Sequence first count all) in
-    ap command is ∙ ap (resolved.Sequence first count) (row_commands_is row.0 row.1 ∙ ap commands (items_hidden-the_row-Command-0 all))
-    ∙ ap (λ l. resolved.Sequence first count (commands l)) (sym same)
-
--- a call, of which the arguments are known
-pub value_invoked : (v : Value) (f : ℕ) (arguments : Vec Value Global) (these : List Value) → v ≡ Invoked f arguments → these ≡ arguments.items → value v ≡ resolved.Invoked f (values these)
-value_invoked v f arguments these is same =
-    let row = row_of_value (Invoked f arguments) in
-    ap value is ∙ ap (resolved.Invoked f) (row_values_is row.0 row.1 ∙ ap values (items_hidden-the_row-Value-0 arguments))
-    ∙ ap (λ l. resolved.Invoked f (values l)) (sym same)
-
--- messages, of which the parts are known
-pub value_sent : (v : Value) (a : Box Value Global) (selector : ℕ) (arguments : Vec Value Global) (receiver : Value) (these : List Value)
-    → v ≡ Sent a selector arguments → receiver ≡ a.value → these ≡ arguments.items → value v ≡ resolved.Sent (value receiver) selector (values these)
-value_sent v a selector arguments receiver these is same_receiver same =
-    let row = row_of_value (Sent a selector arguments) in
-    ap value is ∙ ap (resolved.Sent (value a.value) selector) (row_values_is row.0 row.1 ∙ ap values (items_hidden-the_row-Value-0 arguments))
-    ∙ ap (λ l. resolved.Sent (value a.value) selector (values l)) (sym same)
-    ∙ ap (λ x. resolved.Sent (value x) selector (values these)) (sym same_receiver)
-
-pub value_sent_super : (v : Value) (from selector : ℕ) (arguments : Vec Value Global) (these : List Value)
-    → v ≡ SentSuper from selector arguments → these ≡ arguments.items → value v ≡ resolved.SentSuper from selector (values these)
-value_sent_super v from selector arguments these is same =
-    let row = row_of_value (SentSuper from selector arguments) in
-    ap value is ∙ ap (resolved.SentSuper from selector) (row_values_is row.0 row.1 ∙ ap values (items_hidden-the_row-Value-0 arguments))
-    ∙ ap (λ l. resolved.SentSuper from selector (values l)) (sym same)
-
-pub value_sent_to : (v : Value) (a : Box Reference Global) (selector : ℕ) (arguments : Vec Value Global) (receiver : Reference) (these : List Value)
-    → v ≡ SentTo a selector arguments → receiver ≡ a.value → these ≡ arguments.items → value v ≡ resolved.SentTo (reference receiver) selector (values these)
-value_sent_to v a selector arguments receiver these is same_receiver same =
-    let row = row_of_value (SentTo a selector arguments) in
-    ap value is ∙ ap (resolved.SentTo (reference a.value) selector) (row_values_is row.0 row.1 ∙ ap values (items_hidden-the_row-Value-0 arguments))
-    ∙ ap (λ l. resolved.SentTo (reference a.value) selector (values l)) (sym same)
-    ∙ ap (λ x. resolved.SentTo (reference x) selector (values these)) (sym same_receiver)
-
-pub value_sent_to_super : (v : Value) (from selector : ℕ) (arguments : Vec Value Global) (these : List Value)
-    → v ≡ SentToSuper from selector arguments → these ≡ arguments.items → value v ≡ resolved.SentToSuper from selector (values these)
-value_sent_to_super v from selector arguments these is same =
-    let row = row_of_value (SentToSuper from selector arguments) in
-    ap value is ∙ ap (resolved.SentToSuper from selector) (row_values_is row.0 row.1 ∙ ap values (items_hidden-the_row-Value-0 arguments))
-    ∙ ap (λ l. resolved.SentToSuper from selector (values l)) (sym same)
 
 -- what is told of the expression that a value stands for
 pub value_told : (D : Deeper) (v : Value) (meant : resolved.Value) (r : Result ℤ Halt) (w after : World)

@@ -8,7 +8,8 @@ use Rattle.arc_check.specs.declared.checked.CheckedFunction.{CheckedFunction}
 use Rattle.arc_check.specs.declared.checked.Checked.{Checked}
 use Rattle.arc_spec.specs.Resolved.{Value, Number, ReadByte, Print, Negated, Combined, Converted, Local, Assigned, Invoked, Sent, SentSuper, SentTo, SentToSuper, Field, FieldAssigned, Differ, IsObject, Reference, Nil, Itself, Variable, Stored, Made, Initialized, Values, no_values, and_value, Command, Sequence, Evaluate, EvaluateReference, Begin, Return, Choose, Repeat, Commands, no_commands, and_command, Function}
 use Rattle.arc_check.specs.Checked.{program_of, functions, value, values, reference, command, commands}
-use Rattle.arc_plain.proofs.Turns.{value_print, value_invoked, value_sent, value_sent_super, value_sent_to, value_sent_to_super, command_sequence, nothing_below}
+use Rattle.arc_check.proofs.Trees.{is_print, is_invoked, is_sent, is_sent_super, is_sent_to, is_sent_to_super, is_sequence}
+use Rattle.arc_plain.proofs.Turns.{nothing_below}
 use Rattle.arc_plain.specs.declared.context.Context.{Context}
 
 abbrev mutual
@@ -88,37 +89,37 @@ command_in (a ∷ cs) (suc i) v below is = let deep = command_in cs i v (omega (
 pub print_lighter : (v : c.Value) (all : Vec Piece Global) (arguments : Vec c.Value Global) (shapes : List Piece) (these : List c.Value) → v ≡ c.Print all arguments → shapes ≡ all.items → these ≡ arguments.items
     → suc (values_weight (values these)) < value_weight (value v)
 print_lighter v all arguments shapes these is same_shapes same =
-    omega (arith, ap value_weight (value_print v all arguments shapes these is same_shapes same))
+    omega (arith, ap value_weight (is_print v all arguments shapes these is same_shapes same))
 
 pub call_lighter : (v : c.Value) (f : ℕ) (arguments : Vec c.Value Global) (these : List c.Value) → v ≡ c.Invoked f arguments → these ≡ arguments.items
     → suc (values_weight (values these)) < value_weight (value v)
 call_lighter v f arguments these is same =
-    omega (arith, ap value_weight (value_invoked v f arguments these is same))
+    omega (arith, ap value_weight (is_invoked v f arguments these is same))
 
 pub sent_lighter : (v : c.Value) (a : Box c.Value Global) (selector : ℕ) (arguments : Vec c.Value Global) (receiver : c.Value) (these : List c.Value)
     → v ≡ c.Sent a selector arguments → receiver ≡ a.value → these ≡ arguments.items → 2 + value_weight (value receiver) + values_weight (values these) < value_weight (value v)
 sent_lighter v a selector arguments receiver these is same_receiver same =
-    omega (arith, ap value_weight (value_sent v a selector arguments receiver these is same_receiver same))
+    omega (arith, ap value_weight (is_sent v a selector arguments receiver these is same_receiver same))
 
 pub super_lighter : (v : c.Value) (from selector : ℕ) (arguments : Vec c.Value Global) (these : List c.Value)
     → v ≡ c.SentSuper from selector arguments → these ≡ arguments.items → 2 + values_weight (values these) < value_weight (value v)
 super_lighter v from selector arguments these is same =
-    omega (arith, ap value_weight (value_sent_super v from selector arguments these is same))
+    omega (arith, ap value_weight (is_sent_super v from selector arguments these is same))
 
 pub sent_to_lighter : (v : c.Value) (a : Box r.Reference Global) (selector : ℕ) (arguments : Vec c.Value Global) (receiver : r.Reference) (these : List c.Value)
     → v ≡ c.SentTo a selector arguments → receiver ≡ a.value → these ≡ arguments.items → 2 + reference_weight (reference receiver) + values_weight (values these) < value_weight (value v)
 sent_to_lighter v a selector arguments receiver these is same_receiver same =
-    omega (arith, ap value_weight (value_sent_to v a selector arguments receiver these is same_receiver same))
+    omega (arith, ap value_weight (is_sent_to v a selector arguments receiver these is same_receiver same))
 
 pub to_super_lighter : (v : c.Value) (from selector : ℕ) (arguments : Vec c.Value Global) (these : List c.Value)
     → v ≡ c.SentToSuper from selector arguments → these ≡ arguments.items → 2 + values_weight (values these) < value_weight (value v)
 to_super_lighter v from selector arguments these is same =
-    omega (arith, ap value_weight (value_sent_to_super v from selector arguments these is same))
+    omega (arith, ap value_weight (is_sent_to_super v from selector arguments these is same))
 
 pub sequence_lighter : (v : d.Command) (first count : ℕ) (all : Vec d.Command Global) (these : List d.Command) → v ≡ d.Sequence first count all → these ≡ all.items
     → 3 + commands_weight (commands these) < command_weight (command v)
 sequence_lighter v first count all these is same =
-    omega (arith, ap command_weight (command_sequence v first count all these is same))
+    omega (arith, ap command_weight (is_sequence v first count all these is same))
 
 function_in : (fs : List CheckedFunction) (i : ℕ) (f : CheckedFunction) → i < length fs → f ≡ get_or fs i f → commands_weight (commands f.body.items) ≤ functions_weight (functions fs)
 function_in [] i f below is = nothing_below below

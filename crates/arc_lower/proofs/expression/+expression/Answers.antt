@@ -7,7 +7,8 @@ use Rattle.arc_check.specs.Checked.{pieces, value, reference, values, program_of
 use Rattle.arc_lower.specs.Order.{Order, Send, SendSuper, HoldSelf, SendTo, SendToSuper, SetField, Differ, order, orders}
 use Rattle.arc_lower.specs.Lowered.{value_takes, reference_takes, values_take, value_orders, reference_orders, all_value_orders, print_orders, call_orders, get_orders, set_orders, value_count}
 use Rattle.arc_lower.proofs.Rows.{values_counted}
-use Rattle.arc_lower.proofs.Weights.{value_weight, reference_weight, value_in, is_print, is_negated, is_combined, is_converted, is_assigned, is_invoked, is_sent, is_sent_super, is_sent_to, is_sent_to_super, is_field, is_field_assigned, is_differ, is_object, is_stored, is_made, is_initialized}
+use Rattle.arc_check.proofs.Trees.{is_print, is_invoked, is_sent, is_sent_super, is_sent_to, is_sent_to_super}
+use Rattle.arc_lower.proofs.Weights.{value_weight, reference_weight, value_in, is_negated, is_combined, is_converted, is_assigned, is_field, is_field_assigned, is_differ, is_object, is_stored, is_made, is_initialized}
 use Rattle.arc_lower.proofs.expression.+expression.Goals as goal
 
 behind_two : (old o1 o2 a b last : List Order) → o1 ≡ old ++ a → o2 ≡ o1 ++ b → o2 ++ last ≡ old ++ (a ++ (b ++ last))

@@ -11,39 +11,40 @@ use Rattle.arc_spec.specs.World.{Done}
 use Rattle.arc_plain.specs.Views.{world, Tells, deeper, flow_of, nothing_of, function_of, left_at}
 use Rattle.arc_plain.proofs.Calls.{call_told, body_failed, drop_failed, nothing_called, function_there, function_absent, temporary_step, temporaries_fewer, no_temporary, variable_step, variable_failed, layer_done, layer_failed}
 use Rattle.arc_plain.proofs.Keeping.{level_steady}
-use Rattle.arc_plain.proofs.Turns.{value_print, value_invoked, value_sent, value_sent_super, value_sent_to, value_sent_to_super, value_told, message_told, command_sequence, command_told, values_step, turns_step, turn_failed, call_is}
+use Rattle.arc_check.proofs.Trees.{is_print, is_invoked, is_sent, is_sent_super, is_sent_to, is_sent_to_super, is_sequence}
+use Rattle.arc_plain.proofs.Turns.{value_told, message_told, command_told, values_step, turns_step, turn_failed, call_is}
 use Rattle.arc_plain.proofs.Weights.{print_lighter, call_lighter, sent_lighter, super_lighter, sent_to_lighter, to_super_lighter, sequence_lighter, value_in, command_in, commands_weight, level_lighter, body_lighter}
 use Rattle.arc_plain.proofs.run.+running.Goals as goal
 
 pub evaluate-returns-in-Print : goal.evaluate-returns-in-Print
 evaluate-returns-in-Print t c =
     value_told (deeper c.args.context.now) c.args.value.now _ c.evaluate_print.result (world c.args.progress.now) (world c.evaluate_print.new.progress)
-    (value_print c.args.value.now c.in-Print.pieces c.in-Print.arguments c.deref.result.now c.deref-in-Print.result.now c.in-Print.is c.deref.ensures.value c.deref-in-Print.ensures.value) c.evaluate_print.ensures
+    (is_print c.args.value.now c.in-Print.pieces c.in-Print.arguments c.deref.result.now c.deref-in-Print.result.now c.in-Print.is c.deref.ensures.value c.deref-in-Print.ensures.value) c.evaluate_print.ensures
 
 pub evaluate-returns-in-Invoked : goal.evaluate-returns-in-Invoked
 evaluate-returns-in-Invoked t c =
     value_told (deeper c.args.context.now) c.args.value.now _ c.invoke.result (world c.args.progress.now) (world c.invoke.new.progress)
-    (value_invoked c.args.value.now c.in-Invoked.function c.in-Invoked.arguments c.deref-in-Invoked.result.now c.in-Invoked.is c.deref-in-Invoked.ensures.value) c.invoke.ensures
+    (is_invoked c.args.value.now c.in-Invoked.function c.in-Invoked.arguments c.deref-in-Invoked.result.now c.in-Invoked.is c.deref-in-Invoked.ensures.value) c.invoke.ensures
 
 pub evaluate-returns-in-Sent : goal.evaluate-returns-in-Sent
 evaluate-returns-in-Sent t c =
     value_told (deeper c.args.context.now) c.args.value.now _ c.send.result (world c.args.progress.now) (world c.send.new.progress)
-    (value_sent c.args.value.now c.in-Sent.receiver c.in-Sent.selector c.in-Sent.arguments c.deref-in-Sent.result.now c.deref-in-Sent-2.result.now c.in-Sent.is c.deref-in-Sent.ensures c.deref-in-Sent-2.ensures.value) c.send.ensures
+    (is_sent c.args.value.now c.in-Sent.receiver c.in-Sent.selector c.in-Sent.arguments c.deref-in-Sent.result.now c.deref-in-Sent-2.result.now c.in-Sent.is c.deref-in-Sent.ensures c.deref-in-Sent-2.ensures.value) c.send.ensures
 
 pub evaluate-returns-in-SentSuper : goal.evaluate-returns-in-SentSuper
 evaluate-returns-in-SentSuper t c =
     value_told (deeper c.args.context.now) c.args.value.now _ c.send_super.result (world c.args.progress.now) (world c.send_super.new.progress)
-    (value_sent_super c.args.value.now c.in-SentSuper.from c.in-SentSuper.selector c.in-SentSuper.arguments c.deref-in-SentSuper.result.now c.in-SentSuper.is c.deref-in-SentSuper.ensures.value) c.send_super.ensures
+    (is_sent_super c.args.value.now c.in-SentSuper.from c.in-SentSuper.selector c.in-SentSuper.arguments c.deref-in-SentSuper.result.now c.in-SentSuper.is c.deref-in-SentSuper.ensures.value) c.send_super.ensures
 
 pub evaluate-returns-in-SentTo : goal.evaluate-returns-in-SentTo
 evaluate-returns-in-SentTo t c =
     value_told (deeper c.args.context.now) c.args.value.now _ c.send_to.result (world c.args.progress.now) (world c.send_to.new.progress)
-    (value_sent_to c.args.value.now c.in-SentTo.receiver c.in-SentTo.selector c.in-SentTo.arguments c.deref-in-SentTo.result.now c.deref-in-SentTo-2.result.now c.in-SentTo.is c.deref-in-SentTo.ensures c.deref-in-SentTo-2.ensures.value) c.send_to.ensures
+    (is_sent_to c.args.value.now c.in-SentTo.receiver c.in-SentTo.selector c.in-SentTo.arguments c.deref-in-SentTo.result.now c.deref-in-SentTo-2.result.now c.in-SentTo.is c.deref-in-SentTo.ensures c.deref-in-SentTo-2.ensures.value) c.send_to.ensures
 
 pub evaluate-returns-in-SentToSuper : goal.evaluate-returns-in-SentToSuper
 evaluate-returns-in-SentToSuper t c =
     value_told (deeper c.args.context.now) c.args.value.now _ c.send_to_super.result (world c.args.progress.now) (world c.send_to_super.new.progress)
-    (value_sent_to_super c.args.value.now c.in-SentToSuper.from c.in-SentToSuper.selector c.in-SentToSuper.arguments c.deref-in-SentToSuper.result.now c.in-SentToSuper.is c.deref-in-SentToSuper.ensures.value) c.send_to_super.ensures
+    (is_sent_to_super c.args.value.now c.in-SentToSuper.from c.in-SentToSuper.selector c.in-SentToSuper.arguments c.deref-in-SentToSuper.result.now c.in-SentToSuper.is c.deref-in-SentToSuper.ensures.value) c.send_to_super.ensures
 
 pub send-returns : goal.send-returns
 send-returns t c =
@@ -56,7 +57,7 @@ send-returns t c =
 pub execute-returns-in-Sequence : goal.execute-returns-in-Sequence
 execute-returns-in-Sequence t c =
     command_told (deeper c.args.context.now) c.args.context.now.bound c.args.command.now _ c.execute_block.result (world c.args.progress.now) (world c.execute_block.new.progress)
-    (command_sequence c.args.command.now c.in-Sequence.first c.in-Sequence.names c.in-Sequence.commands c.deref.result.now c.in-Sequence.is c.deref.ensures.value) c.execute_block.ensures
+    (is_sequence c.args.command.now c.in-Sequence.first c.in-Sequence.names c.in-Sequence.commands c.deref.result.now c.in-Sequence.is c.deref.ensures.value) c.execute_block.ensures
 
 pub execute-execute_block-requires : goal.execute-execute_block-requires
 execute-execute_block-requires t c =
