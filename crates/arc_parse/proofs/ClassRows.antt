@@ -13,48 +13,13 @@ use Rattle.arc_parse.specs.declared.fail.Fail.{Fail}
 use Rattle.arc_parse.specs.declared.fail.Fail.TheVariants.{Memory, Unexpected, TooDeep}
 use Rattle.arc_parse.specs.Grammar.{TopTree, OfNames, OfFunction, OfInterface, OfImplementation, and_part, unit_of, functions_of, interfaces_of, implementations_of}
 use Rattle.arc_parse.specs.Reader.{Read, Reader, Fails, any, begins, bind, ret, ◌>>=◌, sees_mark, sees_name}
-use Rattle.arc_parse.specs.Views.{parameter_tree, parameters_before, parts_then, and_top}
+use Rattle.arc_parse.specs.Views.{before, with_row, parameter_tree, parts_then, and_top}
 use Rattle.arc_parse.specs.Limits.{these}
 use Rattle.arc_parse.specs.UnitRules.{Typed, typed_parts, heads, methods, more_names, tops, read, unit, next_part, typed_parts_by, selector_by, typed, begins_method, next_head_by, heads_by, method_by, methods_by, next_name, more_names_by, top_by, tops_by}
-use Rattle.arc_parse.proofs.CommaRows.{parameters_push, parameters_all}
+use Rattle.arc_parse.proofs.ListRows.{Behind, before_one, before_none, row_more, row_fails}
 use Rattle.arc_parse.proofs.UnitFix.{read_names, read_parts, read_heads, read_methods, read_tops}
 
--- ---- lists of any kind
-
--- what was made so far in front of others
-abbrev pub before : {A T : Type 0} → (A → T) → List A → List T → List T
-before tree [] others = others
-before tree (a ∷ all) others = tree a ∷ before tree all others
-
--- what was made so far in front of those that are read
-abbrev pub with_row : {A T : Type 0} → (A → T) → List A → Read (List T) → Read (List T)
-with_row tree all x = bind x (λ others. ret (before tree all others))
-
-before_push : {A T : Type 0} (tree : A → T) (all : List A) (a : A) (others : List T) → before tree (all ++ a ∷ []) others ≡ before tree all (tree a ∷ others)
-before_push tree [] a others = refl
-before_push tree (b ∷ all) a others = ap (λ v. tree b ∷ v) (before_push tree all a others)
-
--- one more, read by f, in front of those that g reads
-abbrev Behind : {T : Type 0} → Read T → Reader (List T) → Read (List T)
-Behind one g = bind one (λ t. g >>= (λ others. ret (t ∷ others)))
-
-row_more : {A T : Type 0} (tree : A → T) (all : List A) (a : A) (one : Read T) (rest : List Tok) (g : Reader (List T)) → one ≡ Ok (tree a, rest) → with_row tree all (Behind one g) ≡ with_row tree (all ++ a ∷ []) (g rest)
-row_more {A = A} {T = T} tree all a one rest g e = ap (λ x. with_row tree all (Behind x g)) e ∙ go (g rest)
-  where
-    go : (x : Read (List T)) → with_row tree all (bind x (λ others. ret (tree a ∷ others))) ≡ with_row tree (all ++ a ∷ []) x
-    go (Ok x) = ap (λ y. Ok (y, x.1)) (sym (before_push tree all a x.0))
-    go (Err x) = refl
-
-row_fails : {A T : Type 0} (tree : A → T) (e : Fail) (all : List A) (one : Read T) (g : Reader (List T)) (whole : Read (List T)) → whole ≡ with_row tree all (Behind one g) → Fails e one → Fails e whole
-row_fails tree Memory all one g whole w h = tt
-row_fails tree (Unexpected s) all one g whole w h = w ∙ ap (λ x. with_row tree all (Behind x g)) h
-row_fails tree (TooDeep s) all one g whole w h = w ∙ ap (λ x. with_row tree all (Behind x g)) h
-
 -- ---- the methods of an interface
-
-heads_all : (all : List MethodHead) → before head_tree all [] ≡ head_trees all
-heads_all [] = refl
-heads_all (a ∷ all) = ap (λ v. head_tree a ∷ v) (heads_all all)
 
 heads_here : (us : List Tok) → begins begins_method us ≡ true → read these heads us ≡ Behind (next_head_by (read these) us) (read these heads)
 unfolding heads_by
@@ -66,17 +31,13 @@ head_more all a us rest n h = ap (with_row head_tree all) (heads_here us n) ∙ 
 
 pub heads_end : (all : List MethodHead) (us : List Tok) → begins begins_method us ≡ false → with_row head_tree all (read these heads us) ≡ Ok (head_trees all, us)
 unfolding heads_by
-heads_end all us n = rw (read_heads us, n) (ap (λ a. Ok (a, us)) (heads_all all))
+heads_end all us n = rw (read_heads us, n) (ap (λ a. Ok (a, us)) (before_none head_tree head_trees refl (λ a others. refl) all))
 
 pub head_fails : (e : Fail) (all : List MethodHead) (us : List Tok) (whole : Read (List HeadTree)) → begins begins_method us ≡ true
     → whole ≡ with_row head_tree all (read these heads us) → Fails e (next_head_by (read these) us) → Fails e whole
 head_fails e all us whole n w h = row_fails head_tree e all (next_head_by (read these) us) (read these heads) whole (w ∙ ap (with_row head_tree all) (heads_here us n)) h
 
 -- ---- the methods of an implementation
-
-methods_all : (all : List Method) → before method_tree all [] ≡ method_trees all
-methods_all [] = refl
-methods_all (a ∷ all) = ap (λ v. method_tree a ∷ v) (methods_all all)
 
 methods_here : (us : List Tok) → begins begins_method us ≡ true → read these methods us ≡ Behind (method_by (read these) us) (read these methods)
 unfolding methods_by
@@ -88,7 +49,7 @@ method_more all a us rest n h = ap (with_row method_tree all) (methods_here us n
 
 pub methods_end : (all : List Method) (us : List Tok) → begins begins_method us ≡ false → with_row method_tree all (read these methods us) ≡ Ok (method_trees all, us)
 unfolding methods_by
-methods_end all us n = rw (read_methods us, n) (ap (λ a. Ok (a, us)) (methods_all all))
+methods_end all us n = rw (read_methods us, n) (ap (λ a. Ok (a, us)) (before_none method_tree method_trees refl (λ a others. refl) all))
 
 pub method_fails : (e : Fail) (all : List Method) (us : List Tok) (whole : Read (List MethodTree)) → begins begins_method us ≡ true
     → whole ≡ with_row method_tree all (read these methods us) → Fails e (method_by (read these) us) → Fails e whole
@@ -133,12 +94,12 @@ part_more selector named mid all new called p us rest n h b c d =
     ∙ ap (λ v. parts_then v (all ++ p ∷ []) (read these typed_parts rest)) (sym (c ∙ ap (λ v. v ++ 58 ∷ []) b)) ∙ ap (λ v. parts_then mid v (read these typed_parts rest)) (sym d)
   where
     go : (x : Read Typed) → parts_then selector all (bind x (λ others. ret (and_part called others.0, parameter_tree p ∷ others.1))) ≡ parts_then ((selector ++ called) ++ 58 ∷ []) (all ++ p ∷ []) x
-    go (Ok x) = ap (λ y. Ok ((y, parameters_before all (parameter_tree p ∷ x.0.1)), x.1)) (bytes_push selector called x.0.0) ∙ ap (λ y. Ok ((((selector ++ called) ++ 58 ∷ []) ++ x.0.0, y), x.1)) (sym (parameters_push all p x.0.1))
+    go (Ok x) = ap (λ y. Ok ((y, before parameter_tree all (parameter_tree p ∷ x.0.1)), x.1)) (bytes_push selector called x.0.0) ∙ ap (λ y. Ok ((((selector ++ called) ++ 58 ∷ []) ++ x.0.0, y), x.1)) (before_one parameter_tree all p x.0.1)
     go (Err x) = refl
 
 pub parts_end : (selector : List ℕ) (all : List Parameter) (us : List Tok) → sees_name us ≡ false → parts_then selector all (read these typed_parts us) ≡ Ok ((selector, parameter_trees all), us)
 unfolding typed_parts_by
-parts_end selector all us n = rw (read_parts us, n) (ap (λ y. Ok ((y, parameters_before all []), us)) (append-nil selector) ∙ ap (λ y. Ok ((selector, y), us)) (parameters_all all))
+parts_end selector all us n = rw (read_parts us, n) (ap (λ y. Ok ((y, before parameter_tree all []), us)) (append-nil selector) ∙ ap (λ y. Ok ((selector, y), us)) (before_none parameter_tree parameter_trees refl (λ a others. refl) all))
 
 pub part_fails : (e : Fail) (selector : List ℕ) (all : List Parameter) (us : List Tok) (whole : Read Typed) → sees_name us ≡ true → whole ≡ parts_then selector all (read these typed_parts us) → Fails e (next_part us) → Fails e whole
 part_fails Memory selector all us whole n w h = tt

@@ -24,6 +24,7 @@ pub mod UnitTell
 pub mod Unit
 pub mod UnitFix
 pub mod UnitRows
+pub mod ListRows
 pub mod CommaRows
 pub mod ClassRows
 pub mod FieldRows

@@ -4,10 +4,9 @@ use denote.Bor.{Bor}
 use Rattle.arc_lex.specs.declared.token.Token.{Token}
 use Rattle.arc_lex.specs.Tokens.{toks}
 use Rattle.arc_ast.specs.declared.tree.Expr.{Expr}
-use Rattle.arc_ast.specs.declared.tree.Variable.{Variable}
 use Rattle.arc_ast.specs.declared.tree.Parameter.{Parameter}
 use Rattle.arc_ast.specs.declared.tree.Field.{Field}
-use Rattle.arc_ast.specs.Tree.{ExprTrees, VariableTree, ParameterTree, FieldTree, UnitTree, expr_trees, variable_tree, function_tree, interface_tree, implementation_tree}
+use Rattle.arc_ast.specs.Tree.{ExprTrees, ParameterTree, FieldTree, UnitTree, expr_trees, function_tree, interface_tree, implementation_tree}
 use Rattle.arc_parse.specs.declared.fail.Fail.{Fail}
 use Rattle.arc_parse.specs.declared.source.Top.{Top}
 use Rattle.arc_parse.specs.declared.source.Top.TheVariants as top
@@ -27,43 +26,25 @@ AppendsParts selector old selector' new (Ok rest) read = (further : List ℕ) ×
     × (read ≡ Ok ((further, expr_trees added), toks rest.now))
 AppendsParts selector old selector' new (Err e) read = Fails e read
 
--- variables in front of others
-abbrev pub variables_before : List Variable → List VariableTree → List VariableTree
-variables_before [] others = others
-variables_before (v ∷ before) others = variable_tree v ∷ variables_before before others
+-- the trees of what was made so far, in front of others
+abbrev pub before : {A T : Type 0} → (A → T) → List A → List T → List T
+before tree [] others = others
+before tree (a ∷ all) others = tree a ∷ before tree all others
 
--- variables in front of those that are read
-abbrev pub variables_then : List Variable → Read (List VariableTree) → Read (List VariableTree)
-variables_then all read = bind read (λ others. ret (variables_before all others))
+-- the trees of what was made so far, in front of those that are read
+abbrev pub with_row : {A T : Type 0} → (A → T) → List A → Read (List T) → Read (List T)
+with_row tree all read = bind read (λ others. ret (before tree all others))
 
 abbrev pub parameter_tree : Parameter → ParameterTree
 parameter_tree p = record { at = p.at; name = p.name.items }
 
--- parameters in front of others
-abbrev pub parameters_before : List Parameter → List ParameterTree → List ParameterTree
-parameters_before [] others = others
-parameters_before (p ∷ before) others = parameter_tree p ∷ parameters_before before others
-
--- parameters in front of those that are read
-abbrev pub parameters_then : List Parameter → Read (List ParameterTree) → Read (List ParameterTree)
-parameters_then all read = bind read (λ others. ret (parameters_before all others))
-
 -- parts of a selector and their parameters in front of those that are read
 abbrev pub parts_then : List ℕ → List Parameter → Read Typed → Read Typed
-parts_then selector all read = bind read (λ others. ret (selector ++ others.0, parameters_before all others.1))
+parts_then selector all read = bind read (λ others. ret (selector ++ others.0, before parameter_tree all others.1))
 
 -- a field without where it lies in memory
 abbrev pub field_tree : Field → FieldTree
 field_tree f = record { at = f.at; name = f.name.items; visibility = f.visibility }
-
--- fields in front of others
-abbrev pub fields_before : List Field → List FieldTree → List FieldTree
-fields_before [] others = others
-fields_before (f ∷ before) others = field_tree f ∷ fields_before before others
-
--- fields in front of those that are read
-abbrev pub fields_then : List Field → Read (List FieldTree) → Read (List FieldTree)
-fields_then all read = bind read (λ others. ret (fields_before all others))
 
 abbrev pub top_tree : Top → TopTree
 top_tree top.Names = OfNames

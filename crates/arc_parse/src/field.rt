@@ -3,7 +3,7 @@ ghost use Rattle.std.specs.Prelude.{◌<◌, ◌≤◌, length, IfOk};
 ghost use Rattle.arc_lex.specs.Tokens.{toks};
 ghost use Rattle.arc_ast.specs.Tree.{field_trees};
 ghost use Rattle.arc_parse.specs.Reader.{Gives};
-ghost use Rattle.arc_parse.specs.Views.{field_tree, fields_then};
+ghost use Rattle.arc_parse.specs.Views.{field_tree, with_row};
 ghost use Rattle.arc_parse.specs.Limits.{these};
 ghost use Rattle.arc_parse.specs.UnitRules as rules;
 
@@ -85,7 +85,7 @@ fn more_fields<'a>(
     before: Vec<Field>,
     tokens: &'a [Token],
 ) -> Read<'a, Vec<Field>>
-    ensures gives { Gives (λ x. (field_trees x.0.items, toks x.1.now)) result (fields_then before.items (rules.read these (rules.more_fields visibility) (toks tokens.now))) }
+    ensures gives { Gives (λ x. (field_trees x.0.items, toks x.1.now)) result (with_row field_tree before.items (rules.read these (rules.more_fields visibility) (toks tokens.now))) }
     ensures shorter { IfOk result (λ x. length x.1.now ≤ length tokens.now) }
 {
     let mut all = before;

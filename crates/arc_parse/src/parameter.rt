@@ -3,7 +3,7 @@ ghost use Rattle.std.specs.Prelude.{◌≡◌, ◌<◌, ◌≤◌, List, [], ◌
 ghost use Rattle.arc_lex.specs.Tokens.{toks};
 ghost use Rattle.arc_ast.specs.Tree.{ParameterTree, parameter_trees, parameters_tree};
 ghost use Rattle.arc_parse.specs.Reader.{Gives};
-ghost use Rattle.arc_parse.specs.Views.{parameter_tree, parameters_then};
+ghost use Rattle.arc_parse.specs.Views.{parameter_tree, with_row};
 ghost use Rattle.arc_parse.specs.Limits.{these};
 ghost use Rattle.arc_parse.specs.UnitRules as rules;
 
@@ -82,7 +82,7 @@ fn more_parameters<'a>(
     before: Vec<Parameter>,
     tokens: &'a [Token],
 ) -> Read<'a, Vec<Parameter>>
-    ensures gives { Gives (λ x. (parameter_trees x.0.items, toks x.1.now)) result (parameters_then before.items (rules.read these rules.more_parameters (toks tokens.now))) }
+    ensures gives { Gives (λ x. (parameter_trees x.0.items, toks x.1.now)) result (with_row parameter_tree before.items (rules.read these rules.more_parameters (toks tokens.now))) }
     ensures shorter { IfOk result (λ x. length x.1.now ≤ length tokens.now) }
 {
     let mut all = before;

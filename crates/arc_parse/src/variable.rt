@@ -3,7 +3,7 @@ ghost use Rattle.std.specs.Prelude.{◌≡◌, ◌<◌, ◌≤◌, length, IfOk,
 ghost use Rattle.arc_lex.specs.Tokens.{toks};
 ghost use Rattle.arc_ast.specs.Tree.{type_tree, expr_tree, variable_tree, variable_trees, stmt_tree};
 ghost use Rattle.arc_parse.specs.Reader.{Gives};
-ghost use Rattle.arc_parse.specs.Views.{variables_then};
+ghost use Rattle.arc_parse.specs.Views.{with_row};
 ghost use Rattle.arc_parse.specs.Limits.{these};
 ghost use Rattle.arc_parse.specs.UnitRules as rules;
 
@@ -62,7 +62,7 @@ fn more_references<'a>(
     before: Vec<Variable>,
     tokens: &'a [Token],
 ) -> Read<'a, Vec<Variable>>
-    ensures gives { Gives (λ x. (variable_trees x.0.items, toks x.1.now)) result (variables_then before.items (rules.read these rules.more_references (toks tokens.now))) }
+    ensures gives { Gives (λ x. (variable_trees x.0.items, toks x.1.now)) result (with_row variable_tree before.items (rules.read these rules.more_references (toks tokens.now))) }
     ensures shorter { IfOk result (λ x. length x.1.now ≤ length tokens.now) }
 {
     let mut all = before;
@@ -113,7 +113,7 @@ fn more_variables<'a>(
     before: Vec<Variable>,
     tokens: &'a [Token],
 ) -> Read<'a, Vec<Variable>>
-    ensures gives { Gives (λ x. (variable_trees x.0.items, toks x.1.now)) result (variables_then before.items (rules.read these rules.more_variables (toks tokens.now))) }
+    ensures gives { Gives (λ x. (variable_trees x.0.items, toks x.1.now)) result (with_row variable_tree before.items (rules.read these rules.more_variables (toks tokens.now))) }
     ensures shorter { IfOk result (λ x. length x.1.now ≤ length tokens.now) }
 {
     let mut all = before;

@@ -3,7 +3,7 @@ use Rattle.std.proofs.lemmas.Result.{err_from_is_err_and}
 use Rattle.arc_lex.specs.Tokens.{toks}
 use Rattle.arc_parse.specs.Limits.{these}
 use Rattle.arc_parse.specs.UnitRules as rules
-use Rattle.arc_parse.specs.Views.{fields_then}
+use Rattle.arc_parse.specs.Views.{with_row, field_tree}
 use Rattle.arc_parse.proofs.FieldRows.{group_more, groups_end, group_fails}
 use Rattle.arc_parse.proofs.field.groups.Goals as goal
 
@@ -16,7 +16,7 @@ pub groups-preserved : goal.groups-preserved
 groups-preserved c = record {
   rest = omega (arith, c.in_ok-next.ensures.shorter, c.groups.invariant.rest);
   all = c.groups.invariant.all ∙ group_more c.groups.visibility c.in_ok-next.next c.groups.all.items c.in_ok-next.more.items (toks c.groups.rest.now) (toks c.in_ok-next.after.now) (sym c.sees_mark.ensures ∙ c.groups-test.true) c.in_ok-next.ensures.gives
-      ∙ ap (λ us. fields_then us (rules.read these (rules.groups c.in_ok-next.next) (toks c.in_ok-next.after.now))) (sym c.in_ok-append.ensures.items);
+      ∙ ap (λ us. with_row field_tree us (rules.read these (rules.groups c.in_ok-next.next) (toks c.in_ok-next.after.now))) (sym c.in_ok-append.ensures.items);
 }
 
 pub returns-clause-gives : goal.returns-clause-gives

@@ -1,6 +1,6 @@
 use Rattle.std.proofs.Common.{◌≡◌, ◌≤◌, length}
 use Rattle.arc_lex.specs.Tokens.{toks}
-use Rattle.arc_parse.specs.Views.{parameters_then}
+use Rattle.arc_parse.specs.Views.{with_row, parameter_tree}
 use Rattle.arc_parse.specs.Limits.{these}
 use Rattle.arc_parse.specs.UnitRules as rules
 use Rattle.arc_parse.proofs.parameter.more_parameters.Given as goal
@@ -9,7 +9,7 @@ use Rattle.arc_parse.proofs.parameter.more_parameters.Given as goal
 abbrev pub invariant-parameters : goal.invariant-parameters
 invariant-parameters l = record {
   rest : length l.rest ≤ length l.tokens;
-  all : parameters_then l.fn.before.items (rules.read these rules.more_parameters (toks l.tokens)) ≡ parameters_then l.all.items (rules.read these rules.more_parameters (toks l.rest));
+  all : with_row parameter_tree l.fn.before.items (rules.read these rules.more_parameters (toks l.tokens)) ≡ with_row parameter_tree l.all.items (rules.read these rules.more_parameters (toks l.rest));
 }
 
 abbrev pub decreases-parameters : goal.decreases-parameters

@@ -1,6 +1,7 @@
 use Rattle.std.proofs.Common.{◌≡◌, ◌≤◌, length}
 use Rattle.arc_lex.specs.Tokens.{toks}
-use Rattle.arc_parse.specs.Views.{variables_then}
+use Rattle.arc_ast.specs.Tree.{variable_tree}
+use Rattle.arc_parse.specs.Views.{with_row}
 use Rattle.arc_parse.specs.Limits.{these}
 use Rattle.arc_parse.specs.UnitRules as rules
 use Rattle.arc_parse.proofs.variable.more_variables.Given as goal
@@ -9,7 +10,7 @@ use Rattle.arc_parse.proofs.variable.more_variables.Given as goal
 abbrev pub invariant-variables : goal.invariant-variables
 invariant-variables l = record {
   rest : length l.rest ≤ length l.tokens;
-  all : variables_then l.fn.before.items (rules.read these rules.more_variables (toks l.tokens)) ≡ variables_then l.all.items (rules.read these rules.more_variables (toks l.rest));
+  all : with_row variable_tree l.fn.before.items (rules.read these rules.more_variables (toks l.tokens)) ≡ with_row variable_tree l.all.items (rules.read these rules.more_variables (toks l.rest));
 }
 
 abbrev pub decreases-variables : goal.decreases-variables
