@@ -1,5 +1,5 @@
 -- Actions keep the counts of holders right, what places name there, and all ends those of objects.
-use Rattle.std.proofs.Common.{◌≡◌, ℕ, zero, suc, Bool, true, false, ℤ, List, [], ◌∷◌, Option, Some, None, slice_get, slice_set, length, subst, sym, nat_eq}
+use Rattle.std.proofs.Common.{◌≡◌, ℕ, zero, suc, ◌+◌, Bool, true, false, ℤ, List, [], ◌∷◌, Option, Some, None, slice_get, slice_set, length, subst, sym, nat_eq}
 use Rattle.arc_ast.specs.declared.tree.Sign.TheVariants as signs
 use Rattle.arc_spec.specs.Classes.{Class, class_at, lookup}
 use Rattle.arc_spec.specs.Number.{combined, is_zero}
