@@ -12,3 +12,8 @@ pub mod Parts
 pub mod Tables
 pub mod FieldLists
 pub mod Runnings
+pub mod Digits
+pub mod Holding
+pub mod Chains
+pub mod Nearests
+pub mod Asking

@@ -9,7 +9,7 @@ use Rattle.arc_class.specs.declared.table.FoundField.{FoundField}
 use Rattle.arc_class.specs.ClassRules.{field_place}
 use Rattle.arc_class.specs.Classes.{class_number, own_result}
 use Rattle.arc_class.specs.Fields.{numbered, fields_declared, inherited_below}
-use Rattle.arc_class.specs.Table.{at_name, result_at}
+use Rattle.arc_class.specs.Lookups.{at_name, result_at}
 
 -- a class's superclass, and what its own methods give
 pub record EntryTree : Type 0 where

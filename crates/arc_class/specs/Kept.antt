@@ -13,7 +13,7 @@ use Rattle.arc_class.specs.declared.table.Place.{Place}
 use Rattle.arc_class.specs.Classes.{first_head, bodies, declared, defined, function_count}
 use Rattle.arc_class.specs.Names.{known, first_named}
 use Rattle.arc_class.specs.Running.{implemented}
-use Rattle.arc_class.specs.Table.{at_name, head_at}
+use Rattle.arc_class.specs.Lookups.{at_name, head_at}
 
 -- a value at one name alone
 abbrev pub one_at : {X : Type 0} → List ℕ → X → List ℕ → Option X

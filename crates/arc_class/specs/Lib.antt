@@ -6,9 +6,12 @@ pub mod Classes
 pub mod Fields
 pub mod Running
 pub mod ClassRules
+pub mod Lookups
 pub mod Table
 pub mod Fault
 pub mod Look
 pub mod Walk
 pub mod Kept
 pub mod Entries
+pub mod Numbered
+pub mod Owners

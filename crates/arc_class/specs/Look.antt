@@ -11,7 +11,7 @@ use Rattle.arc_class.specs.Classes.{bodies}
 use Rattle.arc_class.specs.Fault.{told}
 use Rattle.arc_class.specs.Functions.{is_library, clashes, duplicates}
 use Rattle.arc_class.specs.Names.{has_body, signature, known, number_of, is_main}
-use Rattle.arc_class.specs.Table.{at_name}
+use Rattle.arc_class.specs.Lookups.{at_name}
 
 -- what is known is so of these functions
 pub record Sums (functions : List FunctionTree) (seen : Seen) : Type 0 where

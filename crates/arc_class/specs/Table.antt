@@ -1,55 +1,25 @@
 -- What a table of a source is.
-use Rattle.std.specs.Prelude.{◌≡◌, ℕ, zero, suc, ◌+◌, ◌-◌, Bool, false, List, [], ◌∷◌, length, map, position, slice_get, nat_eq, codes, Option, Some, None, option_map, Vec, if◌then◌else◌}
-use Rattle.std.specs.Global.{Global}
+pub use Rattle.arc_class.specs.Lookups.{number_of_class, number_of_selector, number_of_method, at_name, class_number_in, head_at, result_at, own_result_in, superclass_among, result_among, own_field_in, superclass_of_fields, field_among, field_tree, list_of, items_at, list_at, list_among, colons, superclass_of_class, dealloc_of_class, nearest_dealloc, ends_object, built_in_at, names_of, built_in_from}
+use Rattle.std.specs.Prelude.{◌≡◌, ℕ, ◌-◌, List, [], position, slice_get, Option, Some, None, if◌then◌else◌}
 use Rattle.std.specs.Str.{bytes_eq}
-use Rattle.std.specs.BTreeMap.{BTreeMap, get_by}
-use Rattle.std.specs.Cmp.Lexicographic.{slice_cmp}
-use Rattle.std.specs.Ordering.{nat_cmp}
 use Rattle.std.specs.Borrow.{Bor}
 use Rattle.arc_ast.specs.declared.tree.Kind.{Kind}
-use Rattle.arc_ast.specs.declared.tree.MethodHead.{MethodHead}
 use Rattle.arc_ast.specs.declared.tree.Sign.{Sign}
 use Rattle.arc_ast.specs.declared.tree.Sign.TheVariants as signs
 use Rattle.arc_ast.specs.Tree.{UnitTree}
-use Rattle.arc_spec.specs.Classes.{Class, classes_of, lookup, descends}
-use Rattle.arc_class.specs.declared.fields.ClassFields.{ClassFields}
-use Rattle.arc_class.specs.declared.heads.Heads.{Heads}
-use Rattle.arc_class.specs.declared.root.BuiltIn.{BuiltIn}
-use Rattle.arc_class.specs.declared.table.ClassId.{ClassId}
+use Rattle.arc_spec.specs.Classes.{classes_of, lookup, descends}
+use Rattle.arc_class.specs.declared.owners.Owners.{Owners}
 use Rattle.arc_class.specs.declared.table.ClassTable.{ClassTable}
 use Rattle.arc_class.specs.declared.table.Declared.{Declared}
-use Rattle.arc_class.specs.declared.table.Entry.{Entry}
-use Rattle.arc_class.specs.declared.table.Field.{Field}
 use Rattle.arc_class.specs.declared.table.FoundField.{FoundField}
-use Rattle.arc_class.specs.declared.table.MethodId.{MethodId}
-use Rattle.arc_class.specs.declared.table.Place.{Place}
-use Rattle.arc_class.specs.declared.table.Sel.{Sel}
-use Rattle.arc_class.specs.Classes.{and_name, is_root, class_number, superclass, or_then, nearest, root_result, known_result, any_result, selector_number, function_count}
+use Rattle.arc_class.specs.Classes.{and_name, class_number, superclass, or_then, root_result, known_result, any_result, selector_number, function_count}
 use Rattle.arc_class.specs.Fields.{ClassField, fields, known_field}
 use Rattle.arc_class.specs.Names.{known, number_of, is_main}
 use Rattle.arc_class.specs.Running.{classes}
 
--- the numbers that stand for classes, selectors and methods
-abbrev pub number_of_class : ClassId → ℕ
-number_of_class class = class.0
-
-abbrev pub number_of_selector : Sel → ℕ
-number_of_selector selector = selector.0
-
-abbrev pub number_of_method : MethodId → ℕ
-number_of_method method = method.0
-
--- what a map from names has at a name
-abbrev pub at_name : {X : Type 0} → BTreeMap (Bor (List ℕ)) X → List ℕ → Option X
-at_name map name = get_by (λ key. slice_cmp nat_cmp name key.now) map
-
 -- what a table knows of the functions of a name
 abbrev pub function_in : ClassTable → List ℕ → Option Declared
 function_in table = at_name table.functions
-
--- the number of the class with a name, by a map from the names of interfaces, and by a table
-abbrev pub class_number_in : BTreeMap (Bor (List ℕ)) Place → List ℕ → Option ℕ
-class_number_in names name = if is_root name then Some 0 else option_map (λ p. p.number) (at_name names name)
 
 abbrev pub class_in : ClassTable → List ℕ → Option ℕ
 class_in table = class_number_in table.names
@@ -58,88 +28,27 @@ class_in table = class_number_in table.names
 abbrev pub selector_in : ClassTable → List ℕ → Option ℕ
 selector_in table name = position (λ key. bytes_eq name key.now) table.selectors.keys
 
--- the method of a sign that maps have at a selector
-abbrev pub head_at : Heads → Sign → List ℕ → Option (Bor MethodHead)
-head_at heads signs.Class selector = at_name heads.class_methods selector
-head_at heads signs.Instance selector = at_name heads.instance_methods selector
-
-abbrev pub result_at : Heads → Sign → List ℕ → Option Kind
-result_at heads sign selector = option_map (λ h. h.now.result) (head_at heads sign selector)
-
--- what the method gives that a class itself has for a selector, by a table of the methods of each class; the root's are built in
-abbrev pub own_result_in : (class : ℕ) → Option Entry → Sign → List ℕ → Option Kind
-own_result_in class None sign selector = None
-own_result_in zero (Some e) sign selector = root_result sign selector
-own_result_in (suc n) (Some e) sign selector = result_at e.methods sign selector
-
-abbrev pub superclass_among : List Entry → ℕ → Option ℕ
-superclass_among entries class = superclass_at (slice_get entries class)
-  where
-    superclass_at : Option Entry → Option ℕ
-    superclass_at None = None
-    superclass_at (Some e) = e.superclass
-
 abbrev pub superclass_in : ClassTable → ℕ → Option ℕ
 superclass_in table = superclass_among table.entries.items
 
--- the nearest that a class and those above it have
-abbrev pub result_among : List Entry → Option ℕ → Sign → List ℕ → Option Kind
-result_among entries from sign selector =
-    nearest (length entries - 1) (superclass_among entries) (λ class. own_result_in class (slice_get entries class) sign selector) from
-
 abbrev pub result_in_table : ClassTable → Option ℕ → Sign → List ℕ → Option Kind
 result_in_table table = result_among table.entries.items
+
+-- which class has the nearest method of a sign, by a table
+abbrev pub owners_in : ClassTable → Sign → Owners
+owners_in table signs.Class = table.class_methods
+owners_in table signs.Instance = table.instance_methods
 
 -- what a message to an object gives of which no class is known
 abbrev pub any_result_in : ClassTable → List ℕ → Option Kind
 any_result_in table selector =
     or_then (result_at table.declared signs.Instance selector) (or_then (result_at table.defined signs.Instance selector) (root_result signs.Instance selector))
 
--- the field that a class itself declares, and the nearest of it and those above it, by a table of the fields of each class
-abbrev pub own_field_in : Option ClassFields → List ℕ → Option FoundField
-own_field_in None name = None
-own_field_in (Some c) name = at_name c.named name
-
-abbrev pub superclass_of_fields : List ClassFields → ℕ → Option ℕ
-superclass_of_fields classes class = superclass_at (slice_get classes class)
-  where
-    superclass_at : Option ClassFields → Option ℕ
-    superclass_at None = None
-    superclass_at (Some c) = c.superclass
-
-abbrev pub field_among : List ClassFields → Option ℕ → List ℕ → Option FoundField
-field_among classes from name = nearest (length classes - 1) (superclass_of_fields classes) (λ class. own_field_in (slice_get classes class) name) from
-
 abbrev pub field_in_table : ClassTable → Option ℕ → List ℕ → Option FoundField
 field_in_table table = field_among table.named_fields.items
 
--- all fields of a class's objects
-abbrev pub field_tree : Field → ClassField
-field_tree f = record { name = f.name.now; owner = number_of_class f.owner; visibility = f.visibility }
-
-abbrev pub list_of : Vec Field Global → List ClassField
-list_of all = map field_tree all.items
-
--- what is in the list at a place; there is nothing where there is no list
-abbrev pub items_at : {X : Type 0} → Option (Vec X Global) → List X
-items_at None = []
-items_at (Some all) = all.items
-
-abbrev pub list_at : Option (Vec Field Global) → List ClassField
-list_at None = []
-list_at (Some all) = list_of all
-
-abbrev pub list_among : List (Vec Field Global) → Option ℕ → List ClassField
-list_among lists None = []
-list_among lists (Some class) = list_at (slice_get lists class)
-
 abbrev pub fields_in : ClassTable → ℕ → List ClassField
 fields_in table class = list_at (slice_get table.fields.items class)
-
--- how many arguments a selector takes: one for each of its colons (OPL, "Objects, Classes, and Messaging")
-abbrev pub colons : List ℕ → ℕ
-colons [] = 0
-colons (b ∷ others) = if nat_eq b 58 then suc (colons others) else colons others
 
 -- the name of a selector; a number that none has stands for no name
 abbrev pub selector_name : ClassTable → ℕ → List ℕ
@@ -148,27 +57,6 @@ selector_name table number = name_at (slice_get table.selectors.keys number)
     name_at : Option (Bor (List ℕ)) → List ℕ
     name_at None = []
     name_at (Some key) = key.now
-
--- the function that the nearest `dealloc` runs of a class and those above it
-abbrev pub superclass_of_class : Option Class → Option ℕ
-superclass_of_class None = None
-superclass_of_class (Some c) = c.superclass
-
-abbrev pub dealloc_of_class : Option Class → Option ℕ
-dealloc_of_class None = None
-dealloc_of_class (Some c) = c.dealloc
-
-abbrev pub nearest_dealloc : List Class → Option ℕ → Option ℕ
-nearest_dealloc classes = nearest (length classes - 1) (λ class. superclass_of_class (slice_get classes class)) (λ class. dealloc_of_class (slice_get classes class))
-
-abbrev pub ends_object : Sign → List ℕ → Bool
-ends_object signs.Class selector = false
-ends_object signs.Instance selector = bytes_eq selector (codes "dealloc")
-
--- the methods of the root, which are built in
-abbrev pub built_in_at : BuiltIn → Sign → List ℕ → Option ℕ
-built_in_at b signs.Class selector = if bytes_eq selector (codes "alloc") then Some b.alloc_method else if bytes_eq selector (codes "new") then Some b.new_method else None
-built_in_at b signs.Instance selector = if bytes_eq selector (codes "init") then Some b.init_method else if bytes_eq selector (codes "dealloc") then Some b.dealloc_method else None
 
 -- The method that a message with a selector finds, from a class up to the root, and there a built-in one (OPL, "How Messaging Works"). A `dealloc` is found as
 -- the others are.
@@ -183,10 +71,6 @@ built_in_method table class sign selector =
 
 abbrev pub method_in : ClassTable → (class : ℕ) → Sign → (selector : ℕ) → Option ℕ
 method_in table class sign selector = or_then (defined_in table class sign selector) (built_in_method table class sign selector)
-
--- the names of all selectors, in the order of their numbers
-abbrev pub names_of : List (Bor (List ℕ)) → List (List ℕ)
-names_of = map (λ key. key.now)
 
 abbrev pub selector_names : ClassTable → List (List ℕ)
 selector_names table = names_of table.selectors.keys
@@ -215,10 +99,6 @@ pub record Registers (old : ClassTable) (name : List ℕ) (new : ClassTable) (nu
   pub declared : KeepsDeclared old new
   pub selectors : selector_names new ≡ and_name (selector_names old) name
   pub is_numbered : selector_in new name ≡ Some number
-
--- the numbers of the built-in methods stand behind those of all functions
-abbrev pub built_in_from : (first : ℕ) → BuiltIn
-built_in_from first = record { alloc_method = first; new_method = first + 1; init_method = first + 2; dealloc_method = first + 3 }
 
 -- The table is one of a source: it knows what is known of each name, which function is `main`, and the classes, their methods, their fields and the selectors.
 pub record IsTableOf (u : UnitTree) (table : ClassTable) : Type 0 where

@@ -5,7 +5,7 @@ use Rattle.std.specs.Borrow.{Bor}
 use Rattle.arc_class.specs.declared.kept.Source.{Source}
 use Rattle.arc_class.specs.declared.table.Declared.{Declared}
 use Rattle.arc_class.specs.Bodies.{Missing, lacks_body}
-use Rattle.arc_class.specs.Table.{at_name, class_number_in}
+use Rattle.arc_class.specs.Lookups.{at_name, class_number_in}
 
 -- whether a function with a name is declared, and none has a body
 abbrev pub lacks : BTreeMap (Bor (List ℕ)) Declared → List ℕ → Bool

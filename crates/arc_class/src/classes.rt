@@ -9,12 +9,14 @@ ghost use Rattle.arc_class.specs.Classes.{interface_number};
 ghost use Rattle.arc_class.specs.Entries.{fields_tree, all_class_fields, fields_at};
 ghost use Rattle.arc_class.specs.Fault.{told};
 ghost use Rattle.arc_class.specs.Kept.{Knows, place_before};
+ghost use Rattle.arc_class.specs.Owners.{TellsFields};
 ghost use Rattle.arc_class.specs.Walk.{holds};
 
 use crate::fault::{earlier, fault_if};
 use crate::fields::{ClassFields, count_among, field_places, fields_fault, pairs_fault};
 use crate::kept::Source;
 use crate::look::is_library;
+use crate::owners::Owners;
 use crate::table::{Place, at_name, class_number, is_root};
 use crate::walk::{Scope, stands};
 use arc_ast::tree::{Function, Implementation, Interface};
@@ -121,11 +123,13 @@ impl<'a> Source<'a> {
         &self,
         alloc: Global,
         fields: &[ClassFields<'a>],
+        owners: &Owners<'a>,
         class: usize,
         interface: &'a Interface,
     ) -> Result<Option<ClassFault>, AllocError>
         requires knows { Knows (unit_tree self.now.unit.now) self.now }
         requires fields { map fields_tree fields.now ≡ all_class_fields (unit_tree self.now.unit.now) }
+        requires owners { TellsFields fields.now owners.now }
         requires there { class ≤ length (unit_tree self.now.unit.now).interfaces }
         ensures { IfOk result (λ fault. option_map told fault ≡ first (broken_members (unit_tree self.now.unit.now) class (interface_tree interface.now))) }
     {
@@ -133,7 +137,7 @@ impl<'a> Source<'a> {
         let many = fault_if(many, ClassFault::TooManyFields(interface.at));
         let places = field_places(alloc, &interface.fields)?;
         let above = class_number(&self.names, &interface.superclass);
-        let again = fields_fault(fields, above, &places, &interface.fields);
+        let again = fields_fault(fields, owners, above, &places, &interface.fields);
         let inside = earlier(again, self.heads_fault(&interface.methods));
         Ok(earlier(many, inside))
     }
@@ -143,9 +147,11 @@ impl<'a> Source<'a> {
         &self,
         alloc: Global,
         fields: &[ClassFields<'a>],
+        owners: &Owners<'a>,
     ) -> Result<Option<ClassFault>, AllocError>
         requires knows { Knows (unit_tree self.now.unit.now) self.now }
         requires fields { map fields_tree fields.now ≡ all_class_fields (unit_tree self.now.unit.now) }
+        requires owners { TellsFields fields.now owners.now }
         ensures { IfOk result (λ fault. option_map told fault ≡ first (broken_interfaces (unit_tree self.now.unit.now) [] (unit_tree self.now.unit.now).interfaces)) }
     {
         let mut before = Scope::new(alloc);
@@ -153,7 +159,7 @@ impl<'a> Source<'a> {
         let mut class = 0;
         for interface in &self.unit.interfaces {
             class += 1;
-            let members = self.members_fault(alloc, fields, class, interface)?;
+            let members = self.members_fault(alloc, fields, owners, class, interface)?;
             let own = earlier(self.names_fault(&before, interface), members);
             fault = earlier(fault, own);
             before.insert(&interface.name, ())?;
@@ -184,10 +190,12 @@ impl<'a> Source<'a> {
         &self,
         alloc: Global,
         fields: &[ClassFields<'a>],
+        owners: &Owners<'a>,
         implementation: &'a Implementation,
     ) -> Result<Option<ClassFault>, AllocError>
         requires knows { Knows (unit_tree self.now.unit.now) self.now }
         requires fields { map fields_tree fields.now ≡ all_class_fields (unit_tree self.now.unit.now) }
+        requires owners { TellsFields fields.now owners.now }
         ensures { IfOk result (λ fault. option_map told fault ≡ first (broken_own_fields (unit_tree self.now.unit.now)
             (classes.class_number (unit_tree self.now.unit.now).interfaces implementation.now.name.items) (implementation_tree implementation.now))) }
     {
@@ -195,10 +203,10 @@ impl<'a> Source<'a> {
         let places = field_places(alloc, own)?;
         let class = known_fields(fields, class_number(&self.names, &implementation.name));
         let Some(class) = class else {
-            return Ok(fields_fault(fields, None, &places, own));
+            return Ok(fields_fault(fields, owners, None, &places, own));
         };
         let pairs = pairs_fault(&class.places, own);
-        Ok(earlier(fields_fault(fields, class.superclass, &places, own), pairs))
+        Ok(earlier(fields_fault(fields, owners, class.superclass, &places, own), pairs))
     }
 
     /// The first rule that the implementations break.
@@ -206,9 +214,11 @@ impl<'a> Source<'a> {
         &self,
         alloc: Global,
         fields: &[ClassFields<'a>],
+        owners: &Owners<'a>,
     ) -> Result<Option<ClassFault>, AllocError>
         requires knows { Knows (unit_tree self.now.unit.now) self.now }
         requires fields { map fields_tree fields.now ≡ all_class_fields (unit_tree self.now.unit.now) }
+        requires owners { TellsFields fields.now owners.now }
         ensures { IfOk result (λ fault. option_map told fault
             ≡ first (broken_implementations (unit_tree self.now.unit.now) (missing_of (unit_tree self.now.unit.now)) [] (unit_tree self.now.unit.now).implementations)) }
     {
@@ -216,7 +226,7 @@ impl<'a> Source<'a> {
         let mut fault = None;
         for implementation in &self.unit.implementations {
             let names = self.own_names_fault(&before, implementation);
-            let members = self.own_fields_fault(alloc, fields, implementation)?;
+            let members = self.own_fields_fault(alloc, fields, owners, implementation)?;
             let methods = self.methods_fault(alloc, &implementation.methods)?;
             fault = earlier(fault, earlier(earlier(names, members), methods));
             before.insert(&implementation.name, ())?;
@@ -229,15 +239,17 @@ impl<'a> Source<'a> {
         &self,
         alloc: Global,
         fields: &[ClassFields<'a>],
+        owners: &Owners<'a>,
     ) -> Result<Option<ClassFault>, AllocError>
         requires knows { Knows (unit_tree self.now.unit.now) self.now }
         requires fields { map fields_tree fields.now ≡ all_class_fields (unit_tree self.now.unit.now) }
+        requires owners { TellsFields fields.now owners.now }
         ensures { IfOk result (λ fault. option_map told fault ≡ first (named_as_classes (unit_tree self.now.unit.now).interfaces (unit_tree self.now.unit.now).functions
             ++ (broken_interfaces (unit_tree self.now.unit.now) [] (unit_tree self.now.unit.now).interfaces
             ++ broken_implementations (unit_tree self.now.unit.now) (missing_of (unit_tree self.now.unit.now)) [] (unit_tree self.now.unit.now).implementations))) }
     {
-        let interfaces = self.interfaces_fault(alloc, fields)?;
-        let implementations = self.implementations_fault(alloc, fields)?;
+        let interfaces = self.interfaces_fault(alloc, fields, owners)?;
+        let implementations = self.implementations_fault(alloc, fields, owners)?;
         let inside = earlier(interfaces, implementations);
         Ok(earlier(self.function_names_fault(), inside))
     }

@@ -1,5 +1,5 @@
 //! The fields of objects.
-ghost use Rattle.std.specs.Prelude.{◌≡◌, ℕ, List, ◌+◌, ◌++◌, length, map, option_map, suc, IfOk, IfErr, OnOk};
+ghost use Rattle.std.specs.Prelude.{◌≡◌, ℕ, List, ◌+◌, ◌++◌, length, map, option_map, slice_get, suc, IfOk, IfErr, OnOk};
 ghost use Rattle.arc_ast.specs.Tree.{UnitTree, FieldTree, unit_tree, interface_tree, field_trees};
 ghost use Rattle.arc_class.specs.Broken.{first};
 ghost use Rattle.arc_class.specs.Classes.{or_then};
@@ -11,11 +11,13 @@ ghost use Rattle.arc_class.specs.Fault.{told};
 ghost use Rattle.arc_class.specs.Fields as specs;
 ghost use Rattle.arc_class.specs.Fields.{numbered, owned, fields_declared, all_fields_from};
 ghost use Rattle.arc_class.specs.Kept.{Knows};
-ghost use Rattle.arc_class.specs.Table.{at_name, field_among, field_tree, list_of, list_among, number_of_class};
+ghost use Rattle.arc_class.specs.Lookups.{at_name, own_field_in, field_among, field_tree, list_of, list_among, number_of_class};
+ghost use Rattle.arc_class.specs.Owners.{TellsFields};
 
 use crate::fault::{earlier, fault_if};
 use crate::heads::keep_first;
 use crate::kept::Source;
+use crate::owners::Owners;
 use crate::table::{ClassId, Field, FoundField, at_name, class_number};
 use arc_ast::tree;
 use arc_ast::tree::Interface;
@@ -94,8 +96,8 @@ pub fn count_among<'a>(classes: &[ClassFields<'a>], class: Option<usize>) -> usi
     }
 }
 
-/// The field with the name that the class, or else the nearest class above it, declares.
-pub fn field_from<'a>(
+/// The field with the name that the class, or else the nearest class above it, declares, a class at a time.
+fn field_from<'a>(
     classes: &[ClassFields<'a>],
     class: Option<usize>,
     name: &'a [u8],
@@ -116,6 +118,39 @@ pub fn field_from<'a>(
         next = known.superclass;
     }
     None
+}
+
+/// The own field with the name that the class declares, if it does.
+fn own_field<'a>(classes: &[ClassFields<'a>], class: usize, name: &'a [u8]) -> Option<FoundField>
+    ensures { result ≡ own_field_in (slice_get classes.now class) name.now }
+{
+    match classes.get(class) {
+        None => None,
+        Some(known) => at_name(&known.named, name),
+    }
+}
+
+/// The field with the name that the class, or else the nearest class above it, declares, where this is
+/// known of the classes' fields.
+pub fn field_of<'a>(
+    classes: &[ClassFields<'a>],
+    owners: &Owners<'a>,
+    class: Option<usize>,
+    name: &'a [u8],
+) -> Option<FoundField>
+    requires { TellsFields classes.now owners.now }
+    ensures { result ≡ field_among classes.now class name.now }
+{
+    let Some(number) = class else {
+        return None;
+    };
+    if !owners.knows(number) {
+        return field_from(classes, class, name);
+    }
+    match owners.owner(number, name) {
+        None => None,
+        Some(owner) => own_field(classes, owner, name),
+    }
 }
 
 /// Whether this is the number of the class.
@@ -164,17 +199,19 @@ pub fn pairs_fault<'a>(places: &FieldPlaces<'a>, fields: &'a [tree::Field]) -> O
 /// The first of the fields with a name that the class above has too, or that has an earlier place.
 pub fn fields_fault<'a>(
     classes: &[ClassFields<'a>],
+    owners: &Owners<'a>,
     above: Option<usize>,
     places: &FieldPlaces<'a>,
     fields: &'a [tree::Field],
 ) -> Option<ClassFault>
+    requires { TellsFields classes.now owners.now }
     ensures { (u : UnitTree) (all : List FieldTree) → map fields_tree classes.now ≡ all_class_fields u
         → ((name : List ℕ) → at_name places.now name ≡ rules.field_place name all)
         → option_map told result ≡ first (broken_fields u above all (field_trees fields.now)) }
 {
     let mut fault = None;
     for field in fields {
-        let inherited = field_from(classes, above, &field.name).is_some();
+        let inherited = field_of(classes, owners, above, &field.name).is_some();
         let stands = is_earlier(at_name(places, &field.name), field.at);
         let again = inherited || stands;
         fault = earlier(fault, fault_if(again, ClassFault::Duplicate(field.at)));

@@ -54,6 +54,16 @@ impl<'a> Heads<'a> {
         }
     }
 
+    /// The methods of the sign.
+    pub fn of(&self, sign: Sign) -> &BTreeMap<&'a [u8], &'a MethodHead>
+        ensures { (selector : List ℕ) → at_name result.now selector ≡ head_at self.now sign selector }
+    {
+        match sign {
+            Sign::Class => &self.class_methods,
+            Sign::Instance => &self.instance_methods,
+        }
+    }
+
     /// Keeps the method, unless there is one of its sign with its selector.
     pub fn keep(&mut self, head: &'a MethodHead) -> Result<(), AllocError>
         ensures { OnOk result ((sign : Sign) (selector : List ℕ)

@@ -11,14 +11,19 @@ ghost use Rattle.arc_class.specs.Fault.{Refuses, told};
 ghost use Rattle.arc_class.specs.Functions.{missing_main};
 ghost use Rattle.arc_class.specs.Kept.{Knows};
 ghost use Rattle.arc_class.specs.Names.{number_of, is_main};
-ghost use Rattle.arc_class.specs.Table.{IsTableOf, at_name, function_in, class_number_in, class_in, superclass_in, own_result_in, result_at, result_in_table, any_result_in, field_tree, field_in_table, items_at, fields_in, ends_object, nearest_dealloc, defined_in, built_in_method, method_in, selector_in, selector_name, colons, number_of_class, number_of_selector, number_of_method, IsSameTable, Registers};
+ghost use Rattle.arc_ast.specs.declared.tree.Sign.TheVariants as signs;
+ghost use Rattle.arc_class.specs.Lookups.{at_name, class_number_in, own_result_in, result_at, result_among, field_among, field_tree, items_at, ends_object, nearest_dealloc, colons, number_of_class, number_of_selector, number_of_method};
+ghost use Rattle.arc_class.specs.Owners.{TellsMethods, TellsFields};
+ghost use Rattle.std.proofs.Props.{props};
 
 use crate::building::{Parts, Selectors};
 use crate::fault::earlier;
-use crate::fields::{ClassFields, field_from};
+use crate::fields::{ClassFields, field_of};
 use crate::heads::Heads;
 use crate::kept::Source;
 use crate::look::look;
+use crate::nearest::{field_owners, method_owners};
+use crate::owners::Owners;
 use crate::root::{BuiltIn, root_result};
 use crate::walk::walk;
 use arc_ast::tree::{Kind, Sign, TranslationUnit, Visibility};
@@ -184,6 +189,46 @@ fn result_at<'a>(heads: &Heads<'a>, sign: Sign, selector: &'a [u8]) -> Option<Ki
     }
 }
 
+/// What the class's own method gives, if it has one.
+fn own_result<'a>(
+    entries: &[Entry<'a>],
+    class: usize,
+    sign: Sign,
+    selector: &'a [u8],
+) -> Option<Kind>
+    ensures { result ≡ own_result_in class (slice_get entries.now class) sign selector.now }
+{
+    match entries.get(class) {
+        None => None,
+        Some(entry) => entry.own_result(class, sign, selector),
+    }
+}
+
+/// What the nearest method gives from the class up, a class at a time.
+fn result_from<'a>(
+    entries: &[Entry<'a>],
+    class: Option<usize>,
+    sign: Sign,
+    selector: &'a [u8],
+) -> Option<Kind>
+    ensures { result ≡ result_among entries.now class sign selector.now }
+{
+    let mut next = class;
+    for _passed in 0..entries.len() {
+        let Some(number) = next else {
+            return None;
+        };
+        let Some(entry) = entries.get(number) else {
+            return None;
+        };
+        if let Some(kind) = entry.own_result(number, sign, selector) {
+            return Some(kind);
+        }
+        next = entry.superclass;
+    }
+    None
+}
+
 /// Whether a message ends an object.
 fn ends_object(sign: Sign, selector: &[u8]) -> bool
     ensures { result ≡ ends_object sign selector.now }
@@ -232,19 +277,30 @@ pub struct ClassTable<'a> {
     pub main: usize,
     names: Names<'a>,
     entries: Vec<Entry<'a>>,
+    /// Which class has the nearest class method of each selector.
+    class_methods: Owners<'a>,
+    /// Which class has the nearest method of objects of each selector.
+    instance_methods: Owners<'a>,
     /// The first method of each sign and selector, of those that interfaces declare.
     declared: Heads<'a>,
     /// The first method of each sign and selector, of those that implementations define.
     defined: Heads<'a>,
     named_fields: Vec<ClassFields<'a>>,
+    /// Which class has the nearest field of each name.
+    field_owners: Owners<'a>,
     fields: Vec<Vec<Field<'a>>>,
     selectors: Selectors<'a>,
     /// The classes as a running program knows them.
     pub classes: Vec<Class>,
     built_in: BuiltIn,
+    ghost class_methods_told: { TellsMethods entries.items signs.Class class_methods } by { Prim.hlevel props },
+    ghost instance_methods_told: { TellsMethods entries.items signs.Instance instance_methods } by { Prim.hlevel props },
+    ghost fields_told: { TellsFields named_fields.items field_owners } by { Prim.hlevel props },
 }
 
 impl<'a> ClassTable<'a> {
+    ghost use Rattle.arc_class.specs.Table.{IsTableOf, function_in, class_in, superclass_in, result_in_table, owners_in, any_result_in, field_in_table, fields_in, defined_in, built_in_method, method_in, selector_in, selector_name, IsSameTable, Registers};
+
     /// What is known of the functions of the name, if there are any. The name lies in the source, or lives as long.
     pub fn function(&self, name: &'a [u8]) -> Option<Declared>
         ensures { result ≡ function_in self.now name.now }
@@ -274,20 +330,27 @@ impl<'a> ClassTable<'a> {
     pub fn result(&self, class: Option<ClassId>, sign: Sign, selector: &'a [u8]) -> Option<Kind>
         ensures { result ≡ result_in_table self.now (option_map number_of_class class) sign selector.now }
     {
-        let mut next = number_of(class);
-        for _passed in 0..self.entries.len() {
-            let Some(number) = next else {
-                return None;
-            };
-            let Some(entry) = self.entries.get(number) else {
-                return None;
-            };
-            if let Some(kind) = entry.own_result(number, sign, selector) {
-                return Some(kind);
-            }
-            next = entry.superclass;
+        let Some(class) = number_of(class) else {
+            return None;
+        };
+        let owners = self.owners(sign);
+        if !owners.knows(class) {
+            return result_from(&self.entries, Some(class), sign, selector);
         }
-        None
+        match owners.owner(class, selector) {
+            None => None,
+            Some(owner) => own_result(&self.entries, owner, sign, selector),
+        }
+    }
+
+    /// Which class has the nearest method of the sign with each selector.
+    fn owners(&self, sign: Sign) -> &Owners<'a>
+        ensures { result.now ≡ owners_in self.now sign }
+    {
+        match sign {
+            Sign::Class => &self.class_methods,
+            Sign::Instance => &self.instance_methods,
+        }
     }
 
     /// What a message to an object gives of which no class is known: as the methods of objects do that the source has, or that are built in.
@@ -307,7 +370,7 @@ impl<'a> ClassTable<'a> {
     pub fn field(&self, class: Option<ClassId>, name: &'a [u8]) -> Option<FoundField>
         ensures { result ≡ field_in_table self.now (option_map number_of_class class) name.now }
     {
-        field_from(&self.named_fields, number_of(class), name)
+        field_of(&self.named_fields, &self.field_owners, number_of(class), name)
     }
 
     /// All fields of the class's objects, in the order of their numbers: inherited ones first, and then those in the interface's braces and
@@ -389,15 +452,19 @@ impl<'a> ClassTable<'a> {
         alloc: Global,
         source: Source<'a>,
         named_fields: Vec<ClassFields<'a>>,
+        field_owners: Owners<'a>,
         main: usize,
     ) -> Result<ClassTable<'a>, ClassFault>
         requires knows { Knows (unit_tree source.unit.now) source }
         requires fields { map fields_tree named_fields.items ≡ all_class_fields (unit_tree source.unit.now) }
+        requires owners { TellsFields named_fields.items field_owners }
         requires main { number_of is_main (unit_tree source.unit.now).functions ≡ Some main }
         ensures table { IfOk result (λ table. IsTableOf (unit_tree source.entry.unit.now) table) }
         ensures refused { IfErr result (λ fault. fault ≡ Memory) }
     {
         let parts = Parts::of(alloc, &source, &named_fields)?;
+        let class_methods = method_owners(alloc, &parts.entries, Sign::Class)?;
+        let instance_methods = method_owners(alloc, &parts.entries, Sign::Instance)?;
         let Source {
             known,
             names,
@@ -417,9 +484,12 @@ impl<'a> ClassTable<'a> {
             main,
             names,
             entries,
+            class_methods,
+            instance_methods,
             declared,
             defined,
             named_fields,
+            field_owners,
             fields,
             selectors,
             classes,
@@ -440,10 +510,11 @@ impl<'a> ClassTable<'a> {
         let source = Source::new(alloc, unit, seen.known, seen.bodies)?;
         let functions = earlier(own, walk(alloc, &source, &unit.functions)?);
         let fields = source.class_fields(alloc)?;
-        let classes = source.classes_fault(alloc, &fields)?;
+        let owners = field_owners(alloc, &fields)?;
+        let classes = source.classes_fault(alloc, &fields, &owners)?;
         match (earlier(functions, classes), main) {
             (Some(fault), _) => Err(fault),
-            (None, Some(main)) => ClassTable::of(alloc, source, fields, main),
+            (None, Some(main)) => ClassTable::of(alloc, source, fields, owners, main),
             (None, None) => Err(ClassFault::NoMain),
         }
     }

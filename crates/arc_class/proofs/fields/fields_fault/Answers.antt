@@ -15,7 +15,7 @@ loop-field-preserved c u all e same =
     let above = c.args.above in
     let classes = c.args.classes.now in
     let inherited : c.is_some-inherited.result ≡ is_some (known_field u above x.name.items) =
-    c.is_some-inherited.ensures ∙ ap is_some (c.field_from.ensures ∙ ap (field_among classes above) c.deref.ensures.value ∙ field_kept u classes e above x.name.items) in
+    c.is_some-inherited.ensures ∙ ap is_some (c.field_of.ensures ∙ ap (field_among classes above) c.deref.ensures.value ∙ field_kept u classes e above x.name.items) in
     let stands : c.is_earlier-stands.result ≡ is_earlier (field_place x.name.items all) x.at =
     c.is_earlier-stands.ensures ∙ ap (λ o. is_earlier o x.at) (c.at_name.ensures ∙ ap (at_name c.args.places.now) c.deref-in-loop-field.ensures.value ∙ same x.name.items) in
     let again : c.if-inherited.again ≡ (c.is_some-inherited.result || c.is_earlier-stands.result) = elim c.if-inherited.branch [

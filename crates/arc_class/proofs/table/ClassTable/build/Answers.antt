@@ -1,12 +1,14 @@
-use Rattle.std.proofs.Common.{◌≡◌, sym, ap, subst, ◌∙◌, option_map}
+use Rattle.std.proofs.Common.{◌≡◌, List, sym, ap, subst, ◌∙◌, option_map}
 use Rattle.std.proofs.lemmas.Result.{IfOk-weaker}
 use Rattle.arc_ast.specs.Tree.{unit_tree, function_trees}
+use Rattle.arc_class.specs.declared.fields.ClassFields.{ClassFields}
 use Rattle.arc_class.specs.Broken.{first}
 use Rattle.arc_class.specs.ClassRules.{broken}
 use Rattle.arc_class.specs.Fault.{told}
 use Rattle.arc_class.specs.Functions.{broken_functions}
 use Rattle.arc_class.specs.Look.{Sums}
 use Rattle.arc_class.specs.Names.{number_of, is_main}
+use Rattle.arc_class.specs.Owners.{TellsFields}
 use Rattle.arc_class.specs.Table.{IsTableOf}
 use Rattle.arc_class.specs.Walk.{missing_in}
 use Rattle.arc_class.proofs.Answering.{in_classes, refuses, whole_known, nothing, missing_kept, own_known}
@@ -23,6 +25,16 @@ of-requires-clause-knows c = own_known c.args.unit.now c.in_ok-source.source c.i
 
 pub of-requires-clause-main : goal.of-requires-clause-main
 of-requires-clause-main c = ap (λ t. number_of is_main (unit_tree t).functions) c.in_ok-source.ensures.unit ∙ sym (ap (λ fs. number_of is_main (function_trees fs)) c.deref.ensures.value) ∙ sym c.in_ok-seen.ensures.main ∙ c.in-None-Some.is-1
+
+pub classes_fault-requires-clause-owners : goal.classes_fault-requires-clause-owners
+classes_fault-requires-clause-owners c =
+    let Told : List ClassFields → Type 0 = λ fields. TellsFields fields c.in_ok-owners.owners in
+    subst Told (c.deref-3.ensures.value ∙ sym c.deref-4.ensures.value) c.in_ok-owners.ensures.tells
+
+pub of-requires-clause-owners : goal.of-requires-clause-owners
+of-requires-clause-owners c =
+    let Told : List ClassFields → Type 0 = λ fields. TellsFields fields c.in_ok-owners.owners in
+    subst Told c.deref-3.ensures.value c.in_ok-owners.ensures.tells
 
 pub returns-in-Some-default-clause-refused : goal.returns-in-Some-default-clause-refused
 returns-in-Some-default-clause-refused c =

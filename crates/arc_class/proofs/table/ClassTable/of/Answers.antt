@@ -1,7 +1,11 @@
-use Rattle.std.proofs.Common.{ap, ◌∙◌}
+use Rattle.std.proofs.Common.{List, ap, subst, ◌∙◌}
 use Rattle.arc_ast.specs.Tree.{unit_tree}
 use Rattle.arc_ast.specs.declared.tree.Sign.TheVariants as signs
 use Rattle.arc_class.specs.declared.table.ClassTable.{ClassTable}
+use Rattle.arc_class.specs.declared.table.Entry.{Entry}
+use Rattle.arc_class.specs.Lookups.{superclass_among}
+use Rattle.arc_class.specs.Owners.{TellsMethods}
+use Rattle.arc_class.proofs.Asking.{root_is_top}
 use Rattle.arc_class.specs.Classes.{number_among}
 use Rattle.arc_class.specs.Table.{built_in_from}
 use Rattle.arc_class.proofs.FieldLists.{field_kept, lists_kept}
@@ -10,22 +14,46 @@ use Rattle.arc_class.proofs.Rules.{class_number_kept}
 use Rattle.arc_class.proofs.Tables.{superclass_is, result_is, any_is}
 use Rattle.arc_class.proofs.table.ClassTable.of.Goals as goal
 
+pub method_owners-requires : goal.method_owners-requires
+method_owners-requires c = ap (λ es. superclass_among es 0) c.deref-2.ensures.value ∙ root_is_top c.in_ok-parts.parts.entries.items _ c.in_ok-parts.ensures.entries
+
+pub method_owners-requires-2 : goal.method_owners-requires-2
+method_owners-requires-2 c = ap (λ es. superclass_among es 0) c.deref-3.ensures.value ∙ root_is_top c.in_ok-parts.parts.entries.items _ c.in_ok-parts.ensures.entries
+
+pub invariant_of-result : goal.invariant_of-result
+invariant_of-result c =
+    let Class : List Entry → Type 0 = λ es. TellsMethods es signs.Class c.in_ok-class_methods.class_methods in
+    let Instance : List Entry → Type 0 = λ es. TellsMethods es signs.Instance c.in_ok-instance_methods.instance_methods in
+    record {
+      class_methods_told = subst Class c.deref-2.ensures.value c.in_ok-class_methods.ensures.tells;
+      instance_methods_told = subst Instance c.deref-3.ensures.value c.in_ok-instance_methods.ensures.tells;
+      fields_told = c.requires.owners;
+    }
+
 pub returns-clause-table : goal.returns-clause-table
 returns-clause-table c =
     let u = unit_tree c.args.source.unit.now in
     let parts = c.in_ok-parts.parts in
+    let Class : List Entry → Type 0 = λ es. TellsMethods es signs.Class c.in_ok-class_methods.class_methods in
+    let Instance : List Entry → Type 0 = λ es. TellsMethods es signs.Instance c.in_ok-instance_methods.instance_methods in
     let table : ClassTable = record {
       functions = c.args.source.known;
       main = c.args.main;
       names = c.args.source.names;
       entries = parts.entries;
+      class_methods = c.in_ok-class_methods.class_methods;
+      instance_methods = c.in_ok-instance_methods.instance_methods;
       declared = c.args.source.declared;
       defined = c.args.source.defined;
       named_fields = c.args.named_fields;
+      field_owners = c.args.field_owners;
       fields = parts.fields;
       selectors = parts.selectors;
       classes = parts.classes;
       built_in = parts.built_in;
+      class_methods_told = subst Class c.deref-2.ensures.value c.in_ok-class_methods.ensures.tells;
+      instance_methods_told = subst Instance c.deref-3.ensures.value c.in_ok-instance_methods.ensures.tells;
+      fields_told = c.requires.owners;
     } in
     record {
       knows = c.requires.knows.knows;

@@ -1,0 +1,194 @@
+-- Classes in turn, each with the names of its own and with those of the classes above it.
+use Rattle.std.proofs.Common.{◌≡◌, ℕ, zero, suc, ◌+◌, ◌-◌, ◌<◌, ◌≤◌, ◌^◌, ◌⊎◌, inl, inr, Bool, true, false, List, [], ◌∷◌, ◌++◌, length, map, Option, Some, None, option_map, is_some, slice_get, IfSome, if◌then◌else◌, refl, sym, ap, subst, ◌∙◌, true≢false, arith}
+use Rattle.std.proofs.Math.Path.{fun_ext}
+use Rattle.std.proofs.lemmas.List.{length-append, length-map}
+use Rattle.std.proofs.lemmas.Option.{slice_get-map, slice_get_within}
+use Rattle.arc_class.specs.declared.owners.Map.{Map}
+use Rattle.arc_class.specs.declared.owners.Maps.{Maps}
+use Rattle.arc_class.specs.declared.owners.Owners.{Owners}
+use Rattle.arc_class.specs.declared.numbered.TheConstants.{LEVELS}
+use Rattle.arc_class.specs.Classes.{or_then, nearest, number_among}
+use Rattle.arc_class.specs.Numbered.{at_number, IsWithin}
+use Rattle.arc_class.specs.Owners.{names_in, at_number_of, in_map, IsMap, Keeps, Adds, view_of, views, IsOwners, joined, view_at, has_at, with_own, own_of, owner_by, Tells}
+use Rattle.arc_class.proofs.Digits.{none_within, at_none, slice_get_left}
+use Rattle.arc_class.proofs.Keeping.{or_none}
+
+-- ---- maps with no parts
+
+nothing_at : (maps : Maps) (o : Option ℕ) → at_number_of maps None o ≡ None
+nothing_at maps None = refl
+nothing_at maps (Some number) = at_none LEVELS maps.nodes.items number
+
+pub empty_is_map : (maps : Maps) (map : Map) → map.first ≡ None → IsMap maps map
+empty_is_map maps map e = record {
+  within = let P : Option ℕ → Type 0 = λ first. IsWithin LEVELS maps.nodes.items first in subst P (sym e) (none_within LEVELS maps.nodes.items);
+  unnamed = λ number le lt. ap (λ first. at_number LEVELS maps.nodes.items first number) e ∙ at_none LEVELS maps.nodes.items number;
+}
+
+pub empty_view : (maps : Maps) (otherwise : Option ℕ) → in_map maps (record { first = None; otherwise = otherwise }) ≡ (λ name. otherwise)
+empty_view maps otherwise = fun_ext (λ name. ap (λ o. or_then o otherwise) (nothing_at maps (number_among (names_in maps) name)))
+
+-- ---- one class more
+
+pub pushed_get : {X : Type 0} (xs : List X) (y z : X) (i : ℕ) → slice_get (xs ++ y ∷ []) i ≡ Some z → (slice_get xs i ≡ Some z) ⊎ ((i ≡ length xs) × (y ≡ z))
+pushed_get [] y z zero e = inr (refl, cc)
+pushed_get [] y z (suc i) e = cc
+pushed_get (x ∷ xs) y z zero e = inl e
+pushed_get (x ∷ xs) y z (suc i) e = elim (pushed_get xs y z i e) [ inl h ↦ inl h | inr h ↦ inr (ap (λ n. suc n) h.0, h.1) ]
+
+kept_views : (old new : Maps) (classes : List (Option Map)) → Keeps old new → ((class : ℕ) (m : Map) → slice_get classes class ≡ Some (Some m) → IsMap old m) → map (view_of new) classes ≡ map (view_of old) classes
+kept_views old new [] k h = refl
+kept_views old new (None ∷ classes) k h = ap (λ vs. None ∷ vs) (kept_views old new classes k (λ class m e. h (suc class) m e))
+kept_views old new (Some m ∷ classes) k h =
+    ap (λ v. Some v ∷ map (view_of new) classes) (fun_ext (λ name. k.same m (h 0 m refl) name))
+    ∙ ap (λ vs. Some (in_map old m) ∷ vs) (kept_views old new classes k (λ class m e. h (suc class) m e))
+
+map_push : {X Y : Type 0} (f : X → Y) (xs : List X) (x : X) → map f (xs ++ x ∷ []) ≡ map f xs ++ f x ∷ []
+map_push f [] x = refl
+map_push f (y ∷ ys) x = ap (λ zs. f y ∷ zs) (map_push f ys x)
+
+-- the views of classes, where a map that has been made is pushed
+pub pushed_views : (old new : Owners) (made : Option Map) → Keeps old.maps new.maps → IsOwners old → new.classes.items ≡ old.classes.items ++ made ∷ []
+    → views new ≡ views old ++ view_of new.maps made ∷ []
+pushed_views old new made k h e =
+    ap (map (view_of new.maps)) e ∙ map_push (view_of new.maps) old.classes.items made
+    ∙ ap (λ vs. vs ++ view_of new.maps made ∷ []) (kept_views old.maps new.maps old.classes.items k h.maps)
+
+pub pushed_owners : (old new : Owners) (made : Option Map) → Keeps old.maps new.maps → IsOwners old → new.classes.items ≡ old.classes.items ++ made ∷ []
+    → IfSome made (λ m. IsMap new.maps m) → IsOwners new
+pushed_owners old new made k h e is = record {
+  maps = λ class m at. go class m (pushed_get old.classes.items made (Some m) class (ap (λ cs. slice_get cs class) (sym e) ∙ at));
+}
+  where
+    go : (class : ℕ) (m : Map) → (slice_get old.classes.items class ≡ Some (Some m)) ⊎ ((class ≡ length old.classes.items) × (made ≡ Some m)) → IsMap new.maps m
+    go class m (inl a) = k.is_map m (h.maps class m a)
+    go class m (inr a) = let P : Option Map → Type 0 = λ o. IfSome o (λ m. IsMap new.maps m) in subst P a.1 is
+
+pub no_change : (maps : Maps) → Keeps maps maps
+no_change maps = record { is_map = λ m h. h; same = λ m h name. refl }
+
+pub own_view : (old new : Maps) (m made : Map) (passes : List ℕ → Bool) (class : ℕ) (view : Option (List ℕ → Option ℕ)) → Adds old new m made passes class → view_of old (Some m) ≡ view
+    → view_of new (Some made) ≡ with_own passes class view
+own_view old new m made passes class view a e = ap Some (fun_ext a.found) ∙ ap (with_own passes class) e
+
+-- ---- from a class up
+
+-- the same as `Tells`, for as many classes as are needed
+abbrev pub Follows : {X : Type 0} → (above : ℕ → Option ℕ) → (own : ℕ → List ℕ → Option X) → List (Option (List ℕ → Option ℕ)) → Type 0
+Follows above own all = (class : ℕ) (view : List ℕ → Option ℕ) → slice_get all class ≡ Some (Some view) → (n : ℕ) → class ≤ n → (name : List ℕ)
+    → nearest n above (λ c. own c name) (Some class) ≡ own_of (λ c. own c name) (view name)
+
+module _ {X : Type 0} (above : ℕ → Option ℕ) (own : ℕ → List ℕ → Option X) (all : List (Option (List ℕ → Option ℕ))) where
+  pub tells_all : (count : ℕ) → length all ≤ count + 1 → Follows above own all → Tells count above own all
+  tells_all count few f class view e name =
+      let within : class < length all = slice_get_within all class (Some view) e in
+      f class view e count (omega arith) name
+
+  no_more : (n : ℕ) (class : ℕ) (name : List ℕ) → above class ≡ None → nearest n above (λ c. own c name) (Some class) ≡ own class name
+  no_more zero class name e = refl
+  no_more (suc n) class name e = ap (λ o. or_then (own class name) (nearest n above (λ c. own c name) o)) e ∙ go n
+    where
+      go : (n : ℕ) → or_then (own class name) (nearest n above (λ c. own c name) None) ≡ own class name
+      go zero = or_none (own class name)
+      go (suc n) = or_none (own class name)
+
+  -- the root has all names
+  pub follows_root : all ≡ [] → above 0 ≡ None → Follows above own (all ++ Some (λ name. Some 0) ∷ [])
+  follows_root e top class view at n le name = go (pushed_get all (Some (λ name. Some 0)) (Some view) class at)
+    where
+      go : (slice_get all class ≡ Some (Some view)) ⊎ ((class ≡ length all) × (Some (λ (name : List ℕ). Some 0) ≡ Some view)) → nearest n above (λ c. own c name) (Some class) ≡ own_of (λ c. own c name) (view name)
+      go (inl h) =
+          let none : None ≡ Some (Some view) = ap (λ vs. slice_get vs class) (sym e) ∙ h in
+          cc
+      go (inr h) =
+          let first : class ≡ 0 = h.0 ∙ ap length e in
+          let same : Some 0 ≡ view name = ap (λ o. has_at o name) h.1 in
+          ap (λ c. nearest n above (λ c. own c name) (Some c)) first ∙ no_more n 0 name top ∙ ap (own_of (λ c. own c name)) same
+
+  -- a class whose superclass stands before it
+  module _ (passes : List ℕ → Bool) (has : (name : List ℕ) → passes name ≡ is_some (own (length all) name)) (f : Follows above own all) where
+    abbrev class : ℕ
+    class = length all
+
+    chosen : (name : List ℕ) (rest : Option X) (further : Option ℕ) → rest ≡ own_of (λ c. own c name) further
+        → or_then (own class name) rest ≡ own_of (λ c. own c name) (if passes name then Some class else further)
+    chosen name rest further e = go (own class name) refl
+      where
+        go : (o : Option X) → own class name ≡ o → or_then o rest ≡ own_of (λ c. own c name) (if passes name then Some class else further)
+        go None h = e ∙ sym (ap (λ b. own_of (λ c. own c name) (if b then Some class else further)) (has name ∙ ap is_some h))
+        go (Some x) h = sym (ap (λ b. own_of (λ c. own c name) (if b then Some class else further)) (has name ∙ ap is_some h) ∙ h)
+
+    further_up : (superclass : Option ℕ) → above class ≡ superclass → (view : List ℕ → Option ℕ) → with_own passes class (view_at all superclass) ≡ Some view
+        → (n : ℕ) → class ≤ n → (name : List ℕ) → nearest n above (λ c. own c name) (Some class) ≡ own_of (λ c. own c name) (view name)
+    further_up None up view e n le name =
+        let same : (if passes name then Some class else None) ≡ view name = ap (λ o. has_at o name) e in
+        no_more n class name up ∙ sym (or_none (own class name)) ∙ chosen name None None refl ∙ ap (own_of (λ c. own c name)) same
+    further_up (Some s) up view e n le name = go (slice_get all s) refl e
+      where
+        go : (o : Option (Option (List ℕ → Option ℕ))) → slice_get all s ≡ o → with_own passes class (joined o) ≡ Some view → nearest n above (λ c. own c name) (Some class) ≡ own_of (λ c. own c name) (view name)
+        go None h e = cc
+        go (Some None) h e = cc
+        go (Some (Some higher)) h e =
+            let within : s < class = slice_get_within all s (Some higher) h in
+            let m : ℕ = n - 1 in
+            let fuel : n ≡ suc m = omega arith in
+            let same : (if passes name then Some class else higher name) ≡ view name = ap (λ o. has_at o name) e in
+            ap (λ k. nearest k above (λ c. own c name) (Some class)) fuel
+            ∙ ap (λ o. or_then (own class name) (nearest m above (λ c. own c name) o)) up
+            ∙ chosen name (nearest m above (λ c. own c name) (Some s)) (higher name) (f s higher h m (omega arith) name)
+            ∙ ap (own_of (λ c. own c name)) same
+
+    pub follows_class : (superclass : Option ℕ) → above class ≡ superclass → Follows above own (all ++ with_own passes class (view_at all superclass) ∷ [])
+    follows_class superclass up at view e n le name = go (pushed_get all (with_own passes class (view_at all superclass)) (Some view) at e)
+      where
+        go : (slice_get all at ≡ Some (Some view)) ⊎ ((at ≡ length all) × (with_own passes class (view_at all superclass) ≡ Some view)) → nearest n above (λ c. own c name) (Some at) ≡ own_of (λ c. own c name) (view name)
+        go (inl h) = f at view h n le name
+        go (inr h) =
+            let here : class ≤ n = omega (arith, h.0) in
+            ap (λ c. nearest n above (λ c. own c name) (Some c)) h.0 ∙ further_up superclass up view h.1 n here name
+
+pub known_is_map : (owners : Owners) (number : ℕ) (made : Option Map) → IsOwners owners → slice_get owners.classes.items number ≡ Some made → IfSome made (λ m. IsMap owners.maps m)
+known_is_map owners number None h e = tt
+known_is_map owners number (Some m) h e = h.maps number m e
+
+pub known_view : (owners : Owners) (number : ℕ) (made : Option Map) → slice_get owners.classes.items number ≡ Some made → view_of owners.maps made ≡ view_at (views owners) (Some number)
+known_view owners number made e = ap joined (sym (slice_get-map (view_of owners.maps) owners.classes.items number ∙ ap (option_map (view_of owners.maps)) e))
+
+pub no_view : (owners : Owners) (number : ℕ) → slice_get owners.classes.items number ≡ None → None ≡ view_at (views owners) (Some number)
+no_view owners number e = ap joined (sym (slice_get-map (view_of owners.maps) owners.classes.items number ∙ ap (option_map (view_of owners.maps)) e))
+
+-- ---- what is nearest, by the class that has it
+
+owned_again : {X : Type 0} (own : ℕ → Option X) (o : Option ℕ) → own_of own (own_of (λ c. option_map (λ found. c) (own c)) o) ≡ own_of own o
+owned_again own None = refl
+owned_again {X} own (Some c) = go (own c) refl
+  where
+    go : (x : Option X) → own c ≡ x → own_of own (option_map (λ found. c) x) ≡ own c
+    go None e = sym e
+    go (Some a) e = refl
+
+nearest_owner : {X : Type 0} (n : ℕ) (above : ℕ → Option ℕ) (own : ℕ → Option X) (from : Option ℕ) → nearest n above own from ≡ own_of own (nearest n above (λ c. option_map (λ found. c) (own c)) from)
+nearest_owner zero above own None = refl
+nearest_owner (suc n) above own None = refl
+nearest_owner zero above own (Some c) = sym (owned_again own (Some c))
+nearest_owner {X} (suc n) above own (Some c) = go (own c) refl (nearest_owner n above own (above c))
+  where
+    go : (x : Option X) → own c ≡ x → nearest n above own (above c) ≡ own_of own (nearest n above (λ c. option_map (λ found. c) (own c)) (above c))
+        → or_then x (nearest n above own (above c)) ≡ own_of own (or_then (option_map (λ found. c) x) (nearest n above (λ c. option_map (λ found. c) (own c)) (above c)))
+    go None e h = h
+    go (Some a) e h = sym e
+
+pub told_nearest : {X : Type 0} (count : ℕ) (above : ℕ → Option ℕ) (own : ℕ → List ℕ → Option X) (all : List (Option (List ℕ → Option ℕ))) → Tells count above (owner_by own) all
+    → (number : ℕ) (view : List ℕ → Option ℕ) → slice_get all number ≡ Some (Some view) → (name : List ℕ) → nearest count above (λ c. own c name) (Some number) ≡ own_of (λ c. own c name) (view name)
+told_nearest count above own all t number view e name =
+    nearest_owner count above (λ c. own c name) (Some number) ∙ ap (own_of (λ c. own c name)) (t number view e name) ∙ owned_again (λ c. own c name) (view name)
+
+pub told_at : {X : Type 0} (count : ℕ) (above : ℕ → Option ℕ) (own : ℕ → List ℕ → Option X) (all : List (Option (List ℕ → Option ℕ))) → Tells count above (owner_by own) all
+    → (number : ℕ) → is_some (view_at all (Some number)) ≡ true → (name : List ℕ) (found : Option ℕ) → found ≡ has_at (view_at all (Some number)) name
+    → own_of (λ c. own c name) found ≡ nearest count above (λ c. own c name) (Some number)
+told_at {X} count above own all t number known name found is = ap (own_of (λ c. own c name)) is ∙ go (slice_get all number) refl known
+  where
+    go : (o : Option (Option (List ℕ → Option ℕ))) → slice_get all number ≡ o → is_some (joined o) ≡ true → own_of (λ c. own c name) (has_at (joined o) name) ≡ nearest count above (λ c. own c name) (Some number)
+    go None e h = absurd (true≢false (sym h))
+    go (Some None) e h = absurd (true≢false (sym h))
+    go (Some (Some view)) e h = sym (told_nearest count above own all t number view e name)

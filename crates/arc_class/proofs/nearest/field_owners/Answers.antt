@@ -1,0 +1,37 @@
+use Rattle.std.proofs.Common.{◌≡◌, ◌-◌, ◌+◌, ◌≤◌, ◌∙◌, Some, length, slice_get, refl, sym, ap, arith}
+use Rattle.std.proofs.lemmas.Option.{slice_get_read}
+use Rattle.arc_class.specs.Lookups.{superclass_of_fields, own_field_in}
+use Rattle.arc_class.specs.Owners.{views, owner_by}
+use Rattle.arc_class.proofs.Chains.{tells_all}
+use Rattle.arc_class.proofs.Nearests.{follows_none, one_more_class, field_turn}
+use Rattle.arc_class.proofs.nearest.field_owners.Goals as goal
+
+pub loop-known-init : goal.loop-known-init
+loop-known-init c =
+    let all = c.args.classes.now in
+    record {
+      owners = c.new-owners.ensures.owners;
+      counted = ap length c.new-owners.ensures.none;
+      follows = follows_none (superclass_of_fields all) (owner_by (λ class name. own_field_in (slice_get all class) name)) (views c.new-owners.result) c.new-owners.ensures.none;
+    }
+
+pub loop-known-preserved : goal.loop-known-preserved
+loop-known-preserved c =
+    let all = c.args.classes.now in
+    let i = c.loop-known.known-index in
+    let known = c.known-item.result in
+    let old = views c.loop-known.owners in
+    let new = views c.add_class.new.self in
+    let there : slice_get all i ≡ Some known = slice_get_read all (length all) i known refl c.loop-known-test.true c.known-item.is in
+    let here : slice_get all (length old) ≡ Some known = ap (slice_get all) c.loop-known.invariant.counted ∙ there in
+    record {
+      owners = c.in_ok-add_class.ensures.owners;
+      counted = one_more_class old new _ i c.in_ok-add_class.ensures.added c.loop-known.invariant.counted;
+      follows = field_turn all old new known here c.loop-known.invariant.follows c.in_ok-add_class.ensures.added;
+    }
+
+pub returns-clause-tells : goal.returns-clause-tells
+returns-clause-tells c =
+    let all = c.args.classes.now in
+    let few : length (views c.loop-known.owners) ≤ length all - 1 + 1 = omega (arith, c.loop-known.invariant.counted, c.loop-known.auto.known-index-end) in
+    tells_all (superclass_of_fields all) (owner_by (λ class name. own_field_in (slice_get all class) name)) (views c.loop-known.owners) (length all - 1) few c.loop-known.invariant.follows

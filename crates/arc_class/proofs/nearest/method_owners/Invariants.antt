@@ -1,0 +1,13 @@
+use Rattle.std.proofs.Common.{◌≡◌, length, slice_get}
+use Rattle.arc_class.specs.Lookups.{superclass_among, own_result_in}
+use Rattle.arc_class.specs.Owners.{IsOwners, views, owner_by}
+use Rattle.arc_class.proofs.Chains.{Follows}
+use Rattle.arc_class.proofs.nearest.method_owners.Given as goal
+
+-- the classes so far are known
+abbrev pub invariant-loop-class : goal.invariant-loop-class
+invariant-loop-class l = record {
+  owners : IsOwners l.owners;
+  counted : length (views l.owners) ≡ l.class;
+  follows : Follows (superclass_among l.entries) (owner_by (λ class selector. own_result_in class (slice_get l.entries class) l.sign selector)) (views l.owners);
+}

@@ -1,0 +1,67 @@
+//! Which class, from each one up, has the nearest method or field of each name.
+ghost use Rattle.std.specs.Prelude.{◌≡◌, ◌++◌, ◌∷◌, [], None, length, IfOk, IfErr, OnOk};
+ghost use Rattle.arc_fault.specs.declared.class.ClassFault.TheVariants.{Memory};
+ghost use Rattle.arc_class.specs.Lookups.{superclass_among};
+ghost use Rattle.arc_class.specs.Owners.{IsOwners, views, entry_view, TellsMethods, TellsFields};
+
+use arc_fault::class::ClassFault;
+use crate::fields::ClassFields;
+use crate::owners::Owners;
+use crate::table::Entry;
+use arc_ast::tree::Sign;
+use std::alloc::Global;
+
+/// Adds the class behind the others with its methods of the sign; the root has all selectors.
+fn add_entry<'a>(
+    owners: &mut Owners<'a>,
+    class: usize,
+    entry: &Entry<'a>,
+    sign: Sign,
+) -> Result<(), ClassFault>
+    requires owners { IsOwners owners.old }
+    requires next { class ≡ length (views owners.old) }
+    ensures owners { OnOk result (IsOwners owners.new) }
+    ensures added { OnOk result (views owners.new ≡ views owners.old ++ entry_view class entry.now sign (views owners.old) ∷ []) }
+    ensures refused { IfErr result (λ fault. fault ≡ Memory) }
+{
+    if class == 0 {
+        owners.add_root()?;
+        return Ok(());
+    }
+    owners.add_class(entry.superclass, entry.methods.of(sign))?;
+    Ok(())
+}
+
+/// Which class has the nearest method of the sign with each selector, from each class up. Memory:
+/// there was none, or so many classes or selectors have no numbers.
+pub fn method_owners<'a>(
+    alloc: Global,
+    entries: &[Entry<'a>],
+    sign: Sign,
+) -> Result<Owners<'a>, ClassFault>
+    requires { superclass_among entries.now 0 ≡ None }
+    ensures tells { IfOk result (λ owners. TellsMethods entries.now sign owners) }
+    ensures refused { IfErr result (λ fault. fault ≡ Memory) }
+{
+    let mut owners = Owners::new(alloc);
+    for (class, entry) in entries.iter().enumerate() {
+        add_entry(&mut owners, class, entry, sign)?;
+    }
+    Ok(owners)
+}
+
+/// Which class has the nearest field with each name, from each class up. Memory: there was none, or
+/// so many classes or names have no numbers.
+pub fn field_owners<'a>(
+    alloc: Global,
+    classes: &[ClassFields<'a>],
+) -> Result<Owners<'a>, ClassFault>
+    ensures tells { IfOk result (λ owners. TellsFields classes.now owners) }
+    ensures refused { IfErr result (λ fault. fault ≡ Memory) }
+{
+    let mut owners = Owners::new(alloc);
+    for known in classes {
+        owners.add_class(known.superclass, &known.named)?;
+    }
+    Ok(owners)
+}

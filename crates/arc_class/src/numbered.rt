@@ -1,0 +1,102 @@
+//! Maps from numbers to numbers, which share their parts.
+ghost use Rattle.std.specs.Prelude.{◌≡◌, ◌<◌, ◌^◌, IfOk, IfErr};
+ghost use Rattle.arc_fault.specs.declared.class.ClassFault.TheVariants.{Memory};
+ghost use Rattle.arc_class.specs.Numbered as specs;
+ghost use Rattle.arc_class.specs.Numbered.{at_number, IsWithin, Puts};
+
+use arc_fault::class::ClassFault;
+
+/// How many binary digits the numbers have that are kept.
+pub const LEVELS: usize = 20;
+
+/// A part of a map: the parts that have its even numbers and its odd ones, halved, by their own
+/// numbers. Behind the last binary digit these are the map's values.
+#[derive(Clone, Copy)]
+pub struct Node {
+    pub even: Option<u32>,
+    pub odd: Option<u32>,
+}
+
+impl Node {
+    /// What is on the side of the number.
+    fn side(self, number: usize) -> Option<u32>
+        ensures { result ≡ specs.side self number }
+    {
+        if number % 2 == 0 { self.even } else { self.odd }
+    }
+
+    /// The same, with this on the side of the number.
+    fn with_side(self, number: usize, at: u32) -> Node
+        ensures { result ≡ specs.with_side self number at }
+    {
+        if number % 2 == 0 {
+            Node {
+                even: Some(at),
+                odd: self.odd,
+            }
+        } else {
+            Node {
+                even: self.even,
+                odd: Some(at),
+            }
+        }
+    }
+}
+
+/// The part with the number, and one with nothing where there is none.
+fn node_at(nodes: &[Node], at: Option<u32>) -> Node
+    ensures { result ≡ specs.node_at nodes.now at }
+{
+    let empty = Node {
+        even: None,
+        odd: None,
+    };
+    let Some(at) = at else {
+        return empty;
+    };
+    match nodes.get(at as usize) {
+        None => empty,
+        Some(node) => *node,
+    }
+}
+
+/// What the map that begins at this part has at the number, which has so many binary digits.
+pub fn find(nodes: &[Node], levels: usize, first: Option<u32>, number: usize) -> Option<u32>
+    ensures { result ≡ at_number levels nodes.now first number }
+{
+    let mut at = first;
+    let mut left = number;
+    for _level in 0..levels {
+        at = node_at(nodes, at).side(left);
+        left /= 2;
+    }
+    at
+}
+
+/// The first part of a map that has the value at the number, and else what the map has that begins
+/// at this part. Only new parts are added, so all other maps stay. Memory: there was none, or so many
+/// parts have no numbers.
+pub fn put(
+    nodes: &mut Vec<Node>,
+    levels: usize,
+    first: Option<u32>,
+    number: usize,
+    value: u32,
+) -> Result<u32, ClassFault>
+    requires within { IsWithin levels nodes.old.items first }
+    requires fits { number < 2 ^ levels }
+    ensures put { IfOk result (λ at. Puts levels nodes.old.items nodes.new.items first number value at) }
+    ensures refused { IfErr result (λ fault. fault ≡ Memory) }
+{
+    if levels == 0 {
+        return Ok(value);
+    }
+    let node = node_at(nodes, first);
+    let below = put(nodes, levels - 1, node.side(number), number / 2, value)?;
+    let parts: &[Node] = nodes;
+    let Ok(at) = u32::try_from(parts.len()) else {
+        return Err(ClassFault::Memory);
+    };
+    nodes.push(node.with_side(number, below))?;
+    Ok(at)
+}
