@@ -1,6 +1,5 @@
 -- What a table answers by the owners that it keeps.
-use Rattle.std.proofs.Common.{◌≡◌, ℕ, zero, Bool, true, List, [], ◌∷◌, map, Option, Some, None, option_map, is_some, slice_get, length, ◌-◌, refl, sym, ap, subst, ◌∙◌}
-use Rattle.arc_ast.specs.declared.tree.Kind.{Kind}
+use Rattle.std.proofs.Common.{◌≡◌, ℕ, true, List, [], ◌∷◌, map, Option, Some, None, is_some, slice_get, length, ◌-◌, refl, sym, ap, subst}
 use Rattle.arc_ast.specs.declared.tree.Sign.{Sign}
 use Rattle.arc_ast.specs.declared.tree.Sign.TheVariants as signs
 use Rattle.arc_class.specs.declared.fields.ClassFields.{ClassFields}

@@ -6,7 +6,7 @@ use Rattle.std.proofs.lemmas.Bool.Decides.{Decides-eqb, same_from_decides}
 use Rattle.std.proofs.lemmas.List.{length-append, append_assoc}
 use Rattle.std.proofs.lemmas.List.{append-nil}
 use Rattle.arc_class.specs.declared.numbered.Node.{Node}
-use Rattle.arc_class.specs.Numbered.{no_node, or_no_node, node_at, side, with_side, at_number, IsThere, IsWithin, Extends, Puts}
+use Rattle.arc_class.specs.Numbered.{or_no_node, node_at, side, with_side, at_number, IsThere, IsWithin, Puts}
 
 -- ---- lists that grow
 

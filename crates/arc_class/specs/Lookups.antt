@@ -22,7 +22,7 @@ use Rattle.arc_class.specs.declared.table.MethodId.{MethodId}
 use Rattle.arc_class.specs.declared.table.Place.{Place}
 use Rattle.arc_class.specs.declared.table.Sel.{Sel}
 use Rattle.arc_class.specs.Classes.{is_root, nearest, root_result}
-use Rattle.arc_class.specs.Fields.{ClassField, fields}
+use Rattle.arc_class.specs.Fields.{ClassField}
 use Rattle.arc_class.specs.Running.{classes}
 
 -- the numbers that stand for classes, selectors and methods

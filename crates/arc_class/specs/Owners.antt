@@ -1,5 +1,5 @@
 -- For each class and each name, the nearest class from that one up that has the name.
-use Rattle.std.specs.Prelude.{◌≡◌, ℕ, zero, suc, ◌<◌, ◌≤◌, ◌^◌, Bool, List, [], ◌∷◌, length, map, slice_get, Option, Some, None, is_some, option_map, ◌-◌, if◌then◌else◌}
+use Rattle.std.specs.Prelude.{◌≡◌, ℕ, zero, suc, ◌<◌, ◌≤◌, ◌^◌, Bool, List, [], length, map, slice_get, Option, Some, None, is_some, option_map, ◌-◌, if◌then◌else◌}
 use Rattle.arc_ast.specs.declared.tree.Sign.{Sign}
 use Rattle.arc_class.specs.declared.fields.ClassFields.{ClassFields}
 use Rattle.arc_class.specs.declared.table.Entry.{Entry}

@@ -1,5 +1,5 @@
-use Rattle.std.proofs.Common.{◌≡◌, ◌∙◌, Some, None, sym, ap}
-use Rattle.arc_class.specs.Lookups.{own_field_in, field_among}
+use Rattle.std.proofs.Common.{◌∙◌, Some, None, sym, ap}
+use Rattle.arc_class.specs.Lookups.{field_among}
 use Rattle.arc_class.proofs.Asking.{field_told}
 use Rattle.arc_class.proofs.fields.field_of.Goals as goal
 

@@ -1,6 +1,5 @@
-use Rattle.std.proofs.Common.{◌≡◌, ◌∙◌, Some, None, option_map, slice_get, is_some, true, sym, ap}
+use Rattle.std.proofs.Common.{◌≡◌, ◌∙◌, Some, None, option_map, slice_get, sym, ap}
 use Rattle.arc_class.specs.Lookups.{number_of_class, own_result_in}
-use Rattle.arc_class.specs.Owners.{views, view_at}
 use Rattle.arc_class.specs.Table.{result_in_table}
 use Rattle.arc_class.proofs.Asking.{result_told}
 use Rattle.arc_class.proofs.table.ClassTable.result.Goals as goal
