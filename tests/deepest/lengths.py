@@ -110,8 +110,14 @@ def chain_cases(runner):
     part = b"[%s m];" % last
     whole, times = filled(source + b"int main(void){", part, b"}")
     runner.case(f"a chain of {count} classes: {times} messages to the last class", whole)
-    fields = b"@interface R:NSObject{@public int _f;}@end@implementation R@end "
     known = names(300_000)
+    source, count = filled(b"@interface R:NSObject-(int)m;@end@implementation R-(int)m{}@end ", lambda n: b"@interface %s_:%s-(int)%s;@end@implementation %s_-(int)%s{}@end" % (known[n], b"R" if n == 0 else known[n - 1] + b"_", known[n], known[n], known[n]), b"", MOST_SOURCE // 2)
+    source, last = source.rstrip(), known[count - 1] + b"_"
+    whole, times = filled(source + b"int main(void){%s*a=nil;" % last, b"[a m];", b"}")
+    runner.case(f"a chain of {count} classes with a method each: {times} messages to nil", whole)
+    whole, times = filled(source + b"int main(void){%s*a=nil;" % last, lambda n: b"[a %s];" % known[n % count], b"}")
+    runner.case(f"a chain of {count} classes with a method each: {times} messages of each to nil", whole)
+    fields = b"@interface R:NSObject{@public int _f;}@end@implementation R@end "
     source, count = filled(fields, lambda n: b"@interface %s_:%s@end@implementation %s_@end" % (known[n], b"R" if n == 0 else known[n - 1] + b"_", known[n]), b"", MOST_SOURCE // 2)
     source, last = source.rstrip(), known[count - 1] + b"_"
     whole, times = filled(source + b"int main(void){%s*a=[%s new];" % (last, last), b"a->_f=1;", b"}")

@@ -121,6 +121,18 @@ word_stands marks words place i arranged above has =
       word = ap (λ block. get_or (words_of block) i 0) at.block ∙ get_segment words (4 * (place - 1)) (size_of at.class) i below;
     }
 
+-- a block that is out of a store that is seen so, and a word of one
+pub block_out : (marks : List Mark) (words : List ℕ) (seen : List Mark × List ℕ) (place : ℕ) → (marks, words) ≡ seen → IsArranged marks (length words) → 0 < place
+    → IsOut (blocks_in seen.0 seen.1) place → Stands marks words place
+block_out marks words seen place is arranged above out = stands marks words place arranged above (subst (λ v. IsOut (blocks_in v.0 v.1) place) (sym is) out)
+
+pub has_word : (marks : List Mark) (words : List ℕ) (seen : List Mark × List ℕ) (place i : ℕ) → (marks, words) ≡ seen → HasWord (blocks_in seen.0 seen.1) place i → HasWord (blocks_in marks words) place i
+has_word marks words seen place i is has = subst (λ v. HasWord (blocks_in v.0 v.1) place i) (sym is) has
+
+pub word_out : (marks : List Mark) (words : List ℕ) (seen : List Mark × List ℕ) (place i : ℕ) → (marks, words) ≡ seen → IsArranged marks (length words) → 0 < place
+    → HasWord (blocks_in seen.0 seen.1) place i → WordStands marks words place i
+word_out marks words seen place i is arranged above has = word_stands marks words place i arranged above (has_word marks words seen place i is has)
+
 -- a word is written
 pub stored : (marks : List Mark) (words : List ℕ) (place i word : ℕ) → IsArranged marks (length words) → 0 < place → HasWord (blocks_in marks words) place i
     → blocks_in marks (set words (4 * (place - 1) + i) word) ≡ with_block (blocks_in marks words) place (Some (set (words_of (blocks_in marks words place)) i word))

@@ -1,34 +1,24 @@
-use Rattle.std.proofs.Common.{sym, subst, ◌∙◌, arith}
+use Rattle.std.proofs.Common.{sym, ◌∙◌, arith}
 use Rattle.std.proofs.lemmas.Grind.{get_or_default_zero}
-use Rattle.arc_heap.specs.Blocks.{HasWord}
-use Rattle.arc_heap.specs.Plain.{blocks_in}
-use Rattle.arc_heap.proofs.Rows.{word_stands}
+use Rattle.arc_heap.proofs.Rows.{word_out}
 use Rattle.arc_heap.proofs.plain.PlainStoreStore.load.Goals as goal
 
 pub overflow_mul-block : goal.overflow_mul-block
 overflow_mul-block c =
-    let marks = c.self.inside.marks.items in let words = c.self.inside.words.items in let place = c.args.block.at in
-    let has : HasWord (blocks_in marks words) place c.args.i = subst (λ v. HasWord (blocks_in v.0 v.1) place c.args.i) (sym c.self.view_is) c.requires in
-    let at = word_stands marks words place c.args.i c.self.invariant c.args.block.above_zero has in
+    let at = word_out c.self.inside.marks.items c.self.inside.words.items _ c.args.block.at c.args.i c.self.view_is c.self.invariant c.args.block.above_zero c.requires in
     record { fits = omega (arith, at.within, c.self.inside.words.ok, c.self.inside.words.small) }
 
 pub overflow_add-block : goal.overflow_add-block
 overflow_add-block c =
-    let marks = c.self.inside.marks.items in let words = c.self.inside.words.items in let place = c.args.block.at in
-    let has : HasWord (blocks_in marks words) place c.args.i = subst (λ v. HasWord (blocks_in v.0 v.1) place c.args.i) (sym c.self.view_is) c.requires in
-    let at = word_stands marks words place c.args.i c.self.invariant c.args.block.above_zero has in
+    let at = word_out c.self.inside.marks.items c.self.inside.words.items _ c.args.block.at c.args.i c.self.view_is c.self.invariant c.args.block.above_zero c.requires in
     record { fits = omega (arith, at.within, c.self.inside.words.ok, c.self.inside.words.small) }
 
 pub index-requires : goal.index-requires
 index-requires c =
-    let marks = c.self.inside.marks.items in let words = c.self.inside.words.items in let place = c.args.block.at in
-    let has : HasWord (blocks_in marks words) place c.args.i = subst (λ v. HasWord (blocks_in v.0 v.1) place c.args.i) (sym c.self.view_is) c.requires in
-    let at = word_stands marks words place c.args.i c.self.invariant c.args.block.above_zero has in
+    let at = word_out c.self.inside.marks.items c.self.inside.words.items _ c.args.block.at c.args.i c.self.view_is c.self.invariant c.args.block.above_zero c.requires in
     omega (arith, at.within, c.self.inside.words.ok)
 
 pub returns : goal.returns
 returns c =
-    let marks = c.self.inside.marks.items in let words = c.self.inside.words.items in let place = c.args.block.at in
-    let has : HasWord (blocks_in marks words) place c.args.i = subst (λ v. HasWord (blocks_in v.0 v.1) place c.args.i) (sym c.self.view_is) c.requires in
-    let at = word_stands marks words place c.args.i c.self.invariant c.args.block.above_zero has in
-    rw (← c.self.view_is) (c.index.ensures ∙ get_or_default_zero words _ c.index.result.now at.within ∙ sym at.word)
+    let at = word_out c.self.inside.marks.items c.self.inside.words.items _ c.args.block.at c.args.i c.self.view_is c.self.invariant c.args.block.above_zero c.requires in
+    rw (← c.self.view_is) (c.index.ensures ∙ get_or_default_zero c.self.inside.words.items _ c.index.result.now at.within ∙ sym at.word)
