@@ -5,7 +5,7 @@ use Rattle.arc_family.specs.Fault.{Refuses}
 use Rattle.arc_family.specs.Rules.{broken}
 use Rattle.arc_ir.specs.Acting as acting
 use Rattle.arc_code.specs.Running.{program_of}
-use Rattle.arc_tool.specs.Refused.{in_building, in_checking, in_owning}
+use Rattle.arc_tool.specs.Refused.{in_building, in_checking, in_owning, no_memory}
 use Rattle.arc_tool.proofs.Compiling.{compiled_named, not_emitted}
 use Rattle.arc_tool.proofs.compile.translate.Goals as goal
 
@@ -26,6 +26,11 @@ returns-in_err-owned-clause-refused c =
     rw p.1 (λ source s. in_owning c.in_err-owned.field-0.0 s.tokens (unit_tree c.args.unit.now) c.in_ok-table.table s.cut s.spelled
     c.in_ok-table.ensures.unbroken c.in_ok-table.ensures.table c.in_ok-program.ensures.unbroken
     (subst (λ u. Refuses (broken u) c.in_err-owned.field-0.0) (ap unit_tree c.in_ok-program.ensures.source) c.in_err-owned.ensures.refused) p.2)
+
+pub returns-in_err-actions-clause-refused : goal.returns-in_err-actions-clause-refused
+returns-in_err-actions-clause-refused c =
+    let p = err_from_is_err_and c.from_residual-in_err-actions.result c.from_residual-in_err-actions.ensures.1 in
+    rw p.1 (λ source s. no_memory p.2.name_is)
 
 pub returns-in_err-code-clause-refused : goal.returns-in_err-code-clause-refused
 returns-in_err-code-clause-refused c =
