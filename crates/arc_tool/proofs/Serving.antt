@@ -1,5 +1,5 @@
 -- What the program answers where a stage before the end refuses, or a device fails.
-use Rattle.std.proofs.Common.{ℕ, List, [], Option, Ok, Err, refl, sym, ap, subst, ⊎_elim}
+use Rattle.std.proofs.Common.{◌≡◌, ℕ, List, [], Option, Ok, Err, refl, sym, ap, subst, ⊎_elim}
 use Rattle.std.proofs.lemmas.List.{append-nil}
 use Rattle.std.specs.Io.KnownBytes.{Keeps}
 use Rattle.std.proofs.KnownBytes.{Appends-kept}
@@ -9,10 +9,13 @@ use Rattle.arc_tool.specs.declared.report.Trouble.{Trouble}
 use Rattle.arc_tool.specs.declared.run.ToolFault.{ToolFault}
 use Rattle.arc_tool.specs.declared.run.ToolFault.TheVariants.{Refused, Memory, Io}
 use Rattle.arc_tool.specs.Refused.{IsRefusal}
-use Rattle.arc_tool.specs.Ran.{Answered, Untouched}
+use Rattle.arc_machine.specs.declared.stop.Stop.{Stop}
+use Rattle.arc_machine.specs.declared.stop.Stop.TheVariants as stop
+use Rattle.arc_code.specs.declared.code.IoFault.TheVariants.{Read, Write}
+use Rattle.arc_tool.specs.Ran.{Answered, Untouched, Caused}
 use Rattle.arc_tool.specs.Status.{BecomesTrouble, trouble_of, status_of, line_of}
-use Rattle.arc_tool.specs.Traced.{AnsweredTrace}
-use Rattle.arc_tool.specs.Served.{Checks, Lists, RunsSource, TracesSource, Reported}
+use Rattle.arc_tool.specs.Traced.{AnsweredTrace, Blames}
+use Rattle.arc_tool.specs.Served.{Checks, Lists, RunsSource, TracesSource, Blamed, ended_with, Reported}
 
 pub check_refused : (source : List ℕ) (o : Option (List ℕ)) (w : ℕ) (r : Refusal) (t : Trouble) → IsRefusal source r → BecomesTrouble r t → Checks source (Err t) o o w w
 check_refused source o w r t is becomes = ⊎_elim
@@ -43,3 +46,29 @@ pub told_whole : (t : Trouble) (e0 e1 e2 : Option (List ℕ)) (f0 f1 f2 : ℕ) �
 told_whole t e0 e1 e2 f0 f1 f2 wrote kept =
     let all = Appends-kept e0 e1 e2 (line_of t) wrote.0 kept in
     (refl, (line_of t, [], sym (append-nil (line_of t)), all), λ _. all)
+
+-- ---- which device is at fault
+
+pub refused_blamed : (r0 w0 : ℕ) (r : Refusal) (t : Trouble) → BecomesTrouble r t → Blamed (Err t) r0 r0 w0 w0
+refused_blamed r0 w0 r t becomes = ⊎_elim
+    (λ memory. subst (λ x. Blamed (Err x) r0 r0 w0 w0) (sym memory.1) (refl, refl))
+    (λ other. subst (λ x. Blamed (Err x) r0 r0 w0 w0) (sym other.1) (refl, refl))
+    becomes
+
+pub run_blamed : (f : ToolFault) (r0 r1 w0 w1 : ℕ) → Caused (Err f) r0 r1 w0 w1 → Blamed (Err (trouble_of f)) r0 r1 w0 w1
+run_blamed (Refused r) r0 r1 w0 w1 h = h
+run_blamed Memory r0 r1 w0 w1 h = h
+run_blamed (Io Read) r0 r1 w0 w1 h = h
+run_blamed (Io Write) r0 r1 w0 w1 h = h.1
+
+pub trace_blamed : (f : ToolFault) (r0 r1 w0 w1 : ℕ) → Blames (Err f) r0 r1 w0 w1 → Blamed (Err (trouble_of f)) r0 r1 w0 w1
+trace_blamed (Refused r) r0 r1 w0 w1 h = h
+trace_blamed Memory r0 r1 w0 w1 h = h
+trace_blamed (Io Read) r0 r1 w0 w1 h = h
+trace_blamed (Io Write) r0 r1 w0 w1 h = h
+
+pub ended_blamed : (s : Stop) (r0 r1 w0 w1 : ℕ) → r1 ≡ r0 → w1 ≡ w0 → Blamed (ended_with s) r0 r1 w0 w1
+ended_blamed (stop.Ended n) r0 r1 w0 w1 h k = (h, k)
+ended_blamed (stop.Fault f) r0 r1 w0 w1 h k = (h, k)
+ended_blamed stop.NoHeap r0 r1 w0 w1 h k = (h, k)
+ended_blamed stop.StepsUsed r0 r1 w0 w1 h k = (h, k)

@@ -1,9 +1,10 @@
 -- What the whole program does with its words and the bytes of its file. The lines and statuses are this project's own choice.
-use Rattle.std.specs.Prelude.{◌≡◌, ℕ, ℤ, List, codes, Option, Result, Ok, Err, string_bytes}
+use Rattle.std.specs.Prelude.{◌≡◌, ℕ, ◌+◌, ℤ, List, codes, Option, Result, Ok, Err, string_bytes}
 use Rattle.std.specs.Io.KnownBytes.{Appends}
 use denote.Bor.{Bor}
 use Rattle.arc_spec.specs.Number.{low_byte}
 use Rattle.arc_code.specs.Counting.{AppendsPart}
+use Rattle.arc_code.specs.declared.code.IoFault.TheVariants.{Read, Write}
 use Rattle.arc_code.specs.Listing.{listing}
 use Rattle.arc_code.specs.Running.{Program}
 use Rattle.arc_code.specs.Written.{Written}
@@ -100,6 +101,13 @@ Attempted (Err (words_fault.Help text)) file answer i0 i1 o0 o1 w0 w1 = Helps (s
 Attempted (Ok words) (Err file_fault.Failed) answer i0 i1 o0 o1 w0 w1 = Only File answer i0 i1 o0 o1
 Attempted (Ok words) (Err file_fault.NoMemory) answer i0 i1 o0 o1 w0 w1 = Only Memory answer i0 i1 o0 o1
 Attempted (Ok words) (Ok source) answer i0 i1 o0 o1 w0 w1 = Obeyed words.command source.now words.steps answer i0 i1 o0 o1 w0 w1
+
+-- a device is at fault only where its failures rose
+abbrev pub Blamed : Result ℕ Trouble → (reads0 reads1 writes0 writes1 : ℕ) → Type 0
+Blamed (Err (Io Read)) r0 r1 w0 w1 = r1 ≡ r0 + 1
+Blamed (Err (Io Write)) r0 r1 w0 w1 = w1 ≡ w0 + 1
+Blamed (Err _) r0 r1 w0 w1 = (r1 ≡ r0) × (w1 ≡ w0)
+Blamed (Ok s) r0 r1 w0 w1 = (r1 ≡ r0) × (w1 ≡ w0)
 
 -- the status, and what is told: nothing, or trouble in one line, of which a failing device may take some first bytes alone
 abbrev pub Reported : Result ℕ Trouble → (status : ℕ) → (told0 told1 : Option (List ℕ)) → (failures0 failures1 : ℕ) → Type 0

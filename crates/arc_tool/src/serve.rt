@@ -3,7 +3,7 @@ ghost use Rattle.std.specs.Prelude.{◌≡◌, ◌-◌, ◌^◌, ◌<◌, ℕ, R
 ghost use Rattle.arc_code.specs.Counting.{failures_of, left_in, held_by};
 ghost use Rattle.arc_code.specs.Written.{Written};
 ghost use Rattle.arc_tool.specs.declared.report.Trouble.{Trouble};
-ghost use Rattle.arc_tool.specs.Served.{Attempted, Obeyed, Reported, Checks, Lists, source_or, ended_with};
+ghost use Rattle.arc_tool.specs.Served.{Attempted, Blamed, Obeyed, Reported, Checks, Lists, source_or, ended_with};
 
 use crate::compile::compile;
 use crate::report::{Trouble, flush, put, status, tell};
@@ -42,6 +42,7 @@ pub fn serve<R: Read, W: Write, E: Write>(
         (left_in R.remaining input.old) (left_in R.remaining input.new)
         (held_by W.contents output.old) (held_by W.contents output.new)
         (failures_of output.old) (failures_of output.new)
+        × Blamed answer (failures_of input.old) (failures_of input.new) (failures_of output.old) (failures_of output.new)
         × Reported answer result (held_by E.contents errors.old) (held_by E.contents errors.new)
         (failures_of errors.old) (failures_of errors.new) }
 {
@@ -76,9 +77,11 @@ fn attempt<R: Read, W: Write>(
 ) -> Result<u8, Trouble>
     requires reads { failures_of input.old < 2 ^ 64 - 1 }
     requires writes { failures_of output.old < 2 ^ 64 - 1 }
-    ensures { Attempted words file.entry result
+    ensures attempted { Attempted words file.entry result
         (left_in R.remaining input.old) (left_in R.remaining input.new)
         (held_by W.contents output.old) (held_by W.contents output.new)
+        (failures_of output.old) (failures_of output.new) }
+    ensures blamed { Blamed result (failures_of input.old) (failures_of input.new)
         (failures_of output.old) (failures_of output.new) }
 {
     match words {
@@ -116,9 +119,11 @@ fn obey<R: Read, W: Write>(
 ) -> Result<u8, Trouble>
     requires reads { failures_of input.old < 2 ^ 64 - 1 }
     requires writes { failures_of output.old < 2 ^ 64 - 1 }
-    ensures { Obeyed words.now.command source.now words.now.steps result
+    ensures obeyed { Obeyed words.now.command source.now words.now.steps result
         (left_in R.remaining input.old) (left_in R.remaining input.new)
         (held_by W.contents output.old) (held_by W.contents output.new)
+        (failures_of output.old) (failures_of output.new) }
+    ensures blamed { Blamed result (failures_of input.old) (failures_of input.new)
         (failures_of output.old) (failures_of output.new) }
 {
     match words.command {
@@ -142,8 +147,9 @@ fn check_source<W: Write>(
     output: &mut Counted<W>,
 ) -> Result<u8, Trouble>
     requires { failures_of output.old < 2 ^ 64 - 1 }
-    ensures { Checks source.now result (held_by W.contents output.old) (held_by W.contents output.new)
+    ensures checks { Checks source.now result (held_by W.contents output.old) (held_by W.contents output.new)
         (failures_of output.old) (failures_of output.new) }
+    ensures blamed { (reads : ℕ) → Blamed result reads reads (failures_of output.old) (failures_of output.new) }
 {
     let _ = compile(alloc, source)?;
     print(b"ok\n", output)?;
@@ -157,7 +163,8 @@ fn list_source<W: Write>(
     output: &mut Counted<W>,
 ) -> Result<u8, Trouble>
     requires { failures_of output.old < 2 ^ 64 - 1 }
-    ensures { Lists source.now result (held_by W.contents output.old) (held_by W.contents output.new) }
+    ensures lists { Lists source.now result (held_by W.contents output.old) (held_by W.contents output.new) }
+    ensures blamed { (reads : ℕ) → Blamed result reads reads (failures_of output.old) (failures_of output.new) }
 {
     let code = compile(alloc, source)?;
     list(&code, output)?;
