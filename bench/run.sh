@@ -1,7 +1,8 @@
 #!/usr/bin/env bash
 # Times `arcc run` on a loop of calls, on recursion, on a loop of messages to an object, and on a loop
-# that makes objects and drops them, next to Lua 5.4 and Python 3 where these are installed, and `arcc check` on sources of 1 KiB, 32 KiB and 1 MiB. Prints seconds (the least of five
-# runs) and ratios. It isn't part of the gate.
+# that makes objects and drops them, next to Lua 5.4 and Python 3 where these are installed, and `arcc check`
+# on sources of 1 KiB, 32 KiB and 1 MiB. Prints seconds (the least of five runs) and ratios. It isn't part of
+# the gate.
 set -eu
 top=$(cd "$(dirname "${BASH_SOURCE[0]}")/.." && pwd)
 arcc=$top/crates/arcc/out/arcc

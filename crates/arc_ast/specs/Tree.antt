@@ -170,6 +170,8 @@ type_tree t.Int = Int
 type_tree t.Id = Id
 type_tree (t.Object at name) = Object at name.items
 
+-- A constructor with a prime is one whose boxes and vectors stand in it as such: a row is a vector's elements, and `q` and `shape` say how they lie in memory, which
+-- a tree doesn't keep.
 abbrev mutual
   pub expr_tree : Expr → ExprTree
   expr_tree (e.Integer at value) = Integer at value

@@ -39,7 +39,7 @@ unless_so true number = None
 unless_so false number = Some number
 
 -- the number of the rule that a call with so many arguments breaks, but for printf: 45 ArgumentCount for another number than the function takes (C99, section
--- 6.5.2.2), and 41 UnknownName for a name that is no function's
+-- 6.5.2.2), and 41 UnknownName for a name that is no function's; the line for printf is never asked for (`call_rule`)
 abbrev pub other_rule : Callee → (arguments : ℕ) → Option ℕ
 other_rule Printf arguments = unless_so (nat_eq arguments 0) 45
 other_rule GetChar arguments = unless_so (nat_eq arguments 0) 45
@@ -130,7 +130,7 @@ abbrev mutual
   kinds s no_exprs = []
   kinds s (and_expr a others) = kind_of s a ∷ kinds s others
 
--- 43 KindMismatch, at an expression's place: it gives no value where one is needed
+-- 43 KindMismatch, at an expression's place: it gives no value where one is needed (C99, section 6.3.2.2)
 abbrev pub no_value : Option Kind → ℕ → List Broken
 no_value (Some k.Void) at = record { at = at; number = 43 } ∷ []
 no_value _ at = []
@@ -182,7 +182,7 @@ abbrev pub broken_name : Scope → Option Local → List ℕ → ℕ → List Br
 broken_name s None name at = no_field s (own_field s name) at
 broken_name s (Some local) name at = []
 
--- `self` is known in methods alone, and in a class method it is only sent messages: 41 UnknownName, and 43 KindMismatch
+-- `self` is known in methods alone, and in a class method it is only sent messages: 41 UnknownName, and 43 KindMismatch (this project's own choice)
 abbrev pub broken_itself : Scope → ℕ → List Broken
 broken_itself s at = if is_some (own_class s) then [] else record { at = at; number = if is_some s.class then 43 else 41 } ∷ []
 
@@ -195,7 +195,7 @@ abbrev pub no_method : Scope → (class : Option ℕ) → Option Kind → (stati
 no_method s class kind static selector part =
     broken_if ((is_some class || is_object kind) && is_none (sent_kind s.known class static selector)) part 42
 
--- All that is wrong with an expression but for the number of objects that it takes. 43 KindMismatch: a text stands anywhere but as the first argument of printf.
+-- All that is wrong with an expression but for the number of objects that it takes. 43 KindMismatch: a text stands anywhere but as the first argument of printf (this project's own choice).
 -- 44 NotAssignable, at the `=`: the left side is no variable, no field and not `self` (C99, section 6.5.16). A receiver is a class or has to be an object.
 abbrev mutual
   pub broken : Scope → ExprTree → List Broken

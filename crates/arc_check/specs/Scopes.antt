@@ -181,12 +181,13 @@ own_field s name = s.known.field (own_class s) name
 abbrev pub is_variable : Scope → List ℕ → Bool
 is_variable s name = is_some (s.variables name) || is_some (own_field s name)
 
--- Where a field may be named (OPL, "The Scope of Instance Variables"): public ones everywhere, private ones in the methods of the class whose own they are, and
--- protected ones in those of classes that come from it, too.
+-- whether a class, if there is one, is the other
 abbrev pub is_class : Option ℕ → ℕ → Bool
 is_class None other = false
 is_class (Some class) other = nat_eq class other
 
+-- Where a field may be named (OPL, "The Scope of Instance Variables"): public ones everywhere, private ones in the methods of the class whose own they are, and
+-- protected ones in those of classes that come from it, too.
 abbrev pub may_name : Visibility → Scope → (owner : ℕ) → Bool
 may_name v.Public s owner = true
 may_name v.Protected s owner = s.known.descends s.class owner

@@ -1,4 +1,4 @@
--- Classes in turn, each with the names of its own and with those of the classes above it.
+-- The maps of classes, added in turn, tell the nearest class that has a name.
 use Rattle.std.proofs.Common.{◌≡◌, ℕ, zero, suc, ◌+◌, ◌-◌, ◌<◌, ◌≤◌, ◌⊎◌, inl, inr, Bool, true, List, [], ◌∷◌, ◌++◌, length, map, Option, Some, None, option_map, is_some, slice_get, IfSome, if◌then◌else◌, refl, sym, ap, subst, ◌∙◌, true≢false, arith}
 use Rattle.std.proofs.Math.Path.{fun_ext}
 use Rattle.std.proofs.lemmas.Option.{slice_get-map, slice_get_within}
@@ -29,12 +29,14 @@ empty_view maps otherwise = fun_ext (λ name. ap (λ o. or_then o otherwise) (no
 
 -- ---- one class more
 
-pub pushed_get : {X : Type 0} (xs : List X) (y z : X) (i : ℕ) → slice_get (xs ++ y ∷ []) i ≡ Some z → (slice_get xs i ≡ Some z) ⊎ ((i ≡ length xs) × (y ≡ z))
+-- what a list with one more has: what it had, or the new one at its end
+pushed_get : {X : Type 0} (xs : List X) (y z : X) (i : ℕ) → slice_get (xs ++ y ∷ []) i ≡ Some z → (slice_get xs i ≡ Some z) ⊎ ((i ≡ length xs) × (y ≡ z))
 pushed_get [] y z zero e = inr (refl, cc)
 pushed_get [] y z (suc i) e = cc
 pushed_get (x ∷ xs) y z zero e = inl e
 pushed_get (x ∷ xs) y z (suc i) e = elim (pushed_get xs y z i e) [ inl h ↦ inl h | inr h ↦ inr (ap (λ n. suc n) h.0, h.1) ]
 
+-- where maps are kept, all classes have what they had
 kept_views : (old new : Maps) (classes : List (Option Map)) → Keeps old new → ((class : ℕ) (m : Map) → slice_get classes class ≡ Some (Some m) → IsMap old m) → map (view_of new) classes ≡ map (view_of old) classes
 kept_views old new [] k h = refl
 kept_views old new (None ∷ classes) k h = ap (λ vs. None ∷ vs) (kept_views old new classes k (λ class m e. h (suc class) m e))
@@ -66,13 +68,14 @@ pushed_owners old new made k h e is = record {
 pub no_change : (maps : Maps) → Keeps maps maps
 no_change maps = record { is_map = λ m h. h; same = λ m h name. refl }
 
+-- a map to which names were added is seen as a class with these names of its own
 pub own_view : (old new : Maps) (m made : Map) (passes : List ℕ → Bool) (class : ℕ) (view : Option (List ℕ → Option ℕ)) → Adds old new m made passes class → view_of old (Some m) ≡ view
     → view_of new (Some made) ≡ with_own passes class view
 own_view old new m made passes class view a e = ap Some (fun_ext a.found) ∙ ap (with_own passes class) e
 
 -- ---- from a class up
 
--- the same as `Tells`, for as many classes as are needed
+-- `Tells`, for any number of classes that are looked at, if it is at least the class's own number
 abbrev pub Follows : {X : Type 0} → (above : ℕ → Option ℕ) → (own : ℕ → List ℕ → Option X) → List (Option (List ℕ → Option ℕ)) → Type 0
 Follows above own all = (class : ℕ) (view : List ℕ → Option ℕ) → slice_get all class ≡ Some (Some view) → (n : ℕ) → class ≤ n → (name : List ℕ)
     → nearest n above (λ c. own c name) (Some class) ≡ own_of (λ c. own c name) (view name)
@@ -83,6 +86,7 @@ module _ {X : Type 0} (above : ℕ → Option ℕ) (own : ℕ → List ℕ → O
       let within : class < length all = slice_get_within all class (Some view) e in
       f class view e count (omega arith) name
 
+  -- with nothing above it, a class has only its own
   no_more : (n : ℕ) (class : ℕ) (name : List ℕ) → above class ≡ None → nearest n above (λ c. own c name) (Some class) ≡ own class name
   no_more zero class name e = refl
   no_more (suc n) class name e = ap (λ o. or_then (own class name) (nearest n above (λ c. own c name) o)) e ∙ go n
@@ -109,6 +113,7 @@ module _ {X : Type 0} (above : ℕ → Option ℕ) (own : ℕ → List ℕ → O
     abbrev class : ℕ
     class = length all
 
+    -- a class's own, or what is above it, is what its map names
     chosen : (name : List ℕ) (rest : Option X) (further : Option ℕ) → rest ≡ own_of (λ c. own c name) further
         → or_then (own class name) rest ≡ own_of (λ c. own c name) (if passes name then Some class else further)
     chosen name rest further e = go (own class name) refl
@@ -117,6 +122,7 @@ module _ {X : Type 0} (above : ℕ → Option ℕ) (own : ℕ → List ℕ → O
         go None h = e ∙ sym (ap (λ b. own_of (λ c. own c name) (if b then Some class else further)) (has name ∙ ap is_some h))
         go (Some x) h = sym (ap (λ b. own_of (λ c. own c name) (if b then Some class else further)) (has name ∙ ap is_some h) ∙ h)
 
+    -- the map of the class behind all others follows it up
     further_up : (superclass : Option ℕ) → above class ≡ superclass → (view : List ℕ → Option ℕ) → with_own passes class (view_at all superclass) ≡ Some view
         → (n : ℕ) → class ≤ n → (name : List ℕ) → nearest n above (λ c. own c name) (Some class) ≡ own_of (λ c. own c name) (view name)
     further_up None up view e n le name =
@@ -145,6 +151,8 @@ module _ {X : Type 0} (above : ℕ → Option ℕ) (own : ℕ → List ℕ → O
         go (inr h) =
             let here : class ≤ n = omega (arith, h.0) in
             ap (λ c. nearest n above (λ c. own c name) (Some c)) h.0 ∙ further_up superclass up view h.1 n here name
+
+-- ---- what is kept of a class
 
 pub known_is_map : (owners : Owners) (number : ℕ) (made : Option Map) → IsOwners owners → slice_get owners.classes.items number ≡ Some made → IfSome made (λ m. IsMap owners.maps m)
 known_is_map owners number None h e = tt
@@ -177,7 +185,7 @@ nearest_owner {X} (suc n) above own (Some c) = go (own c) refl (nearest_owner n 
     go None e h = h
     go (Some a) e h = sym e
 
-pub told_nearest : {X : Type 0} (count : ℕ) (above : ℕ → Option ℕ) (own : ℕ → List ℕ → Option X) (all : List (Option (List ℕ → Option ℕ))) → Tells count above (owner_by own) all
+told_nearest : {X : Type 0} (count : ℕ) (above : ℕ → Option ℕ) (own : ℕ → List ℕ → Option X) (all : List (Option (List ℕ → Option ℕ))) → Tells count above (owner_by own) all
     → (number : ℕ) (view : List ℕ → Option ℕ) → slice_get all number ≡ Some (Some view) → (name : List ℕ) → nearest count above (λ c. own c name) (Some number) ≡ own_of (λ c. own c name) (view name)
 told_nearest count above own all t number view e name =
     nearest_owner count above (λ c. own c name) (Some number) ∙ ap (own_of (λ c. own c name)) (t number view e name) ∙ owned_again (λ c. own c name) (view name)

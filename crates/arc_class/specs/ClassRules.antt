@@ -68,7 +68,7 @@ broken_heads u (h ∷ others) = broken_head u h ++ broken_heads u others
 abbrev pub broken_inside : Missing → MethodTree → List Broken
 broken_inside missing m = broken_parameters no_name m.head.parameters ++ broken_stmts missing (names_taken no_name m.head.parameters) m.body
 
--- 21 Duplicate: a second method of one implementation of a sign with a selector, at its `+` or `-`; `before` are those before it
+-- 21 Duplicate: a second method of one implementation of a sign with a selector, at its `+` or `-`; `before` are those before it (this project's own choice)
 abbrev pub broken_method : UnitTree → Missing → (before : List HeadTree) → MethodTree → List Broken
 broken_method u missing before m =
     (broken_if (is_some (first_head m.head.sign m.head.selector before)) m.head.at 21 ++ broken_head u m.head) ++ broken_inside missing m
@@ -128,6 +128,7 @@ stands_before None at = false
 stands_before (Some f) at = nat_lt f.at at
 
 -- 21 Duplicate: an interface of the root, of a name of the library's, of an earlier interface's class or of an earlier function's name, at its name
+-- (this project's own choice)
 abbrev pub is_taken : UnitTree → (before : List InterfaceTree) → InterfaceTree → Bool
 is_taken u before i = is_root i.name || (is_library i.name || (is_some (interface_number before i.name) || stands_before (first_named i.name u.functions) i.at))
 
@@ -154,6 +155,7 @@ broken_interfaces u before [] = []
 broken_interfaces u before (i ∷ others) = broken_interface u before i ++ broken_interfaces u (before ++ i ∷ []) others
 
 -- 21 Duplicate: an implementation of the root, or a second one of a class, at its name. 22 UnknownClass: one of a class without an interface, at its name.
+-- (OPL, "Defining a Class"; the numbers are this project's own.)
 abbrev pub broken_own_names : UnitTree → (before : List ImplementationTree) → ImplementationTree → List Broken
 broken_own_names u before i =
     broken_if (is_root i.name || is_implemented before i.name) i.at 21 ++ broken_if (is_none (class_number u.interfaces i.name)) i.at 22

@@ -9,7 +9,7 @@ use Rattle.arc_ast.specs.Tree.{FunctionTree, HeadTree, MethodTree, InterfaceTree
 use Rattle.arc_spec.specs.Classes.{same_sign}
 use Rattle.arc_class.specs.Names.{has_body}
 
--- the one root class, which is built in
+-- the one root class, which is built in (this project's own choice)
 abbrev pub is_root : List ℕ → Bool
 is_root name = bytes_eq name (codes "NSObject")
 
@@ -18,7 +18,8 @@ abbrev pub interface_number : List InterfaceTree → List ℕ → Option ℕ
 interface_number [] name = None
 interface_number (i ∷ others) name = if bytes_eq name i.name then Some 0 else option_map (λ n. suc n) (interface_number others name)
 
--- Classes are numbered: the root is 0, and then each class is, in the order of the interfaces. This is the number of the class with a name.
+-- Classes are numbered: the root is 0, and then each class is, in the order of the interfaces (this project's own choice). This is the number of the class with a
+-- name.
 abbrev pub class_number : List InterfaceTree → List ℕ → Option ℕ
 class_number interfaces name = if is_root name then Some 0 else option_map (λ n. suc n) (interface_number interfaces name)
 
@@ -113,11 +114,12 @@ any_result u selector = or_then (option_map result_of (first_head signs.Instance
 
 -- ---- selectors
 
--- names without those that stand before
+-- whether a name is among these
 abbrev pub among : List (List ℕ) → List ℕ → Bool
 among [] name = false
 among (a ∷ others) name = bytes_eq a name || among others name
 
+-- names and one more, unless it is among them
 abbrev pub and_name : List (List ℕ) → List ℕ → List (List ℕ)
 and_name names name = if among names name then names else names ++ name ∷ []
 

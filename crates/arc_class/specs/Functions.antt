@@ -46,7 +46,7 @@ abbrev pub duplicates : (before : List FunctionTree) → List FunctionTree → L
 duplicates before [] = []
 duplicates before (f ∷ others) = duplicate before f ++ duplicates (before ++ f ∷ []) others
 
--- 29 NoMain: no `main` has a body, told at 0
+-- 29 NoMain: no `main` has a body, told at 0 (C99, section 5.1.2.2.1)
 abbrev pub missing_main : Option ℕ → List Broken
 missing_main None = record { at = 0; number = 29 } ∷ []
 missing_main (Some number) = []

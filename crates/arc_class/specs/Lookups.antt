@@ -39,7 +39,7 @@ number_of_method method = method.0
 abbrev pub at_name : {X : Type 0} → BTreeMap (Bor (List ℕ)) X → List ℕ → Option X
 at_name map name = get_by (λ key. slice_cmp nat_cmp name key.now) map
 
--- the number of the class with a name, by a map from the names of interfaces, and by a table
+-- the number of the class with a name, by a map from the names of interfaces
 abbrev pub class_number_in : BTreeMap (Bor (List ℕ)) Place → List ℕ → Option ℕ
 class_number_in names name = if is_root name then Some 0 else option_map (λ p. p.number) (at_name names name)
 
@@ -84,7 +84,7 @@ superclass_of_fields classes class = superclass_at (slice_get classes class)
 abbrev pub field_among : List ClassFields → Option ℕ → List ℕ → Option FoundField
 field_among classes from name = nearest (length classes - 1) (superclass_of_fields classes) (λ class. own_field_in (slice_get classes class) name) from
 
--- all fields of a class's objects
+-- a field, without where it lies in memory; and all of a class's objects
 abbrev pub field_tree : Field → ClassField
 field_tree f = record { name = f.name.now; owner = number_of_class f.owner; visibility = f.visibility }
 
@@ -109,7 +109,7 @@ abbrev pub colons : List ℕ → ℕ
 colons [] = 0
 colons (b ∷ others) = if nat_eq b 58 then suc (colons others) else colons others
 
--- the function that the nearest `dealloc` runs of a class and those above it
+-- a class's superclass, and the function that its own `dealloc` runs
 abbrev pub superclass_of_class : Option Class → Option ℕ
 superclass_of_class None = None
 superclass_of_class (Some c) = c.superclass
@@ -118,9 +118,11 @@ abbrev pub dealloc_of_class : Option Class → Option ℕ
 dealloc_of_class None = None
 dealloc_of_class (Some c) = c.dealloc
 
+-- the function that the nearest `dealloc` runs of a class and those above it
 abbrev pub nearest_dealloc : List Class → Option ℕ → Option ℕ
 nearest_dealloc classes = nearest (length classes - 1) (λ class. superclass_of_class (slice_get classes class)) (λ class. dealloc_of_class (slice_get classes class))
 
+-- whether a message of this sign with this selector ends an object
 abbrev pub ends_object : Sign → List ℕ → Bool
 ends_object signs.Class selector = false
 ends_object signs.Instance selector = bytes_eq selector (codes "dealloc")
@@ -130,7 +132,7 @@ abbrev pub built_in_at : BuiltIn → Sign → List ℕ → Option ℕ
 built_in_at b signs.Class selector = if bytes_eq selector (codes "alloc") then Some b.alloc_method else if bytes_eq selector (codes "new") then Some b.new_method else None
 built_in_at b signs.Instance selector = if bytes_eq selector (codes "init") then Some b.init_method else if bytes_eq selector (codes "dealloc") then Some b.dealloc_method else None
 
--- the names of all selectors, in the order of their numbers
+-- names, without where they lie in memory
 abbrev pub names_of : List (Bor (List ℕ)) → List (List ℕ)
 names_of = map (λ key. key.now)
 

@@ -1,8 +1,8 @@
--- Maps from numbers to numbers that share their parts. A number is followed by its binary digits, the lowest first.
+-- Maps from numbers to numbers, which share their parts. A number is looked for by its binary digits, the lowest first.
 use Rattle.std.specs.Prelude.{◌≡◌, ℕ, zero, suc, ◌<◌, ◌/◌, ◌%◌, ◌^◌, List, ◌++◌, length, Option, Some, None, slice_get, nat_eq, if◌then◌else◌}
 use Rattle.arc_class.specs.declared.numbered.Node.{Node}
 
--- the part with a number, and one with nothing where there is none
+-- a part with nothing
 abbrev pub no_node : Node
 no_node = record { even = None; odd = None }
 
@@ -10,6 +10,7 @@ abbrev pub or_no_node : Option Node → Node
 or_no_node None = no_node
 or_no_node (Some node) = node
 
+-- the part with a number, and one with nothing where there is none
 abbrev pub node_at : List Node → Option ℕ → Node
 node_at nodes None = no_node
 node_at nodes (Some at) = or_no_node (slice_get nodes at)
@@ -26,11 +27,12 @@ unfoldable pub at_number : (levels : ℕ) → List Node → (first : Option ℕ)
 at_number zero nodes first number = first
 at_number (suc n) nodes first number = at_number n nodes (side (node_at nodes first) number) (number / 2)
 
--- whether each part of a map is there
+-- the part with this number is there, or none is meant
 abbrev pub IsThere : List Node → Option ℕ → Type 0
 IsThere nodes None = Unit {0}
 IsThere nodes (Some at) = at < length nodes
 
+-- each part of the map that begins here is there, for so many digits
 unfoldable pub IsWithin : (levels : ℕ) → List Node → (first : Option ℕ) → Type 0
 IsWithin zero nodes first = Unit {0}
 IsWithin (suc n) nodes first = IsThere nodes first × IsWithin n nodes (node_at nodes first).even × IsWithin n nodes (node_at nodes first).odd

@@ -15,6 +15,7 @@ use Rattle.arc_class.specs.Lookups.{head_at, superclass_among, own_result_in, su
 abbrev pub names_in : Maps → List (List ℕ)
 names_in maps = names_of maps.names.keys
 
+-- what a map has at a name's number, if the name has one
 abbrev pub at_number_of : Maps → (first number : Option ℕ) → Option ℕ
 at_number_of maps first None = None
 at_number_of maps first (Some number) = at_number LEVELS maps.nodes.items first number
@@ -51,22 +52,25 @@ abbrev pub view_of : Maps → Option Map → Option (List ℕ → Option ℕ)
 view_of maps None = None
 view_of maps (Some m) = Some (in_map maps m)
 
+-- the same of each class, in the order of their numbers
 abbrev pub views : Owners → List (Option (List ℕ → Option ℕ))
 views owners = map (view_of owners.maps) owners.classes.items
 
--- all maps of classes are maps
+-- Each map that is known of a class has its parts there, and nothing at numbers that no name has.
 pub record IsOwners (owners : Owners) : Type 0 where
   pub maps : (class : ℕ) (m : Map) → slice_get owners.classes.items class ≡ Some (Some m) → IsMap owners.maps m
 
--- what a class has, which may be no class at all, and then has nothing; and nothing is known of a class that isn't there
+-- one Option of two
 abbrev pub joined : {X : Type 0} → Option (Option X) → Option X
 joined None = None
 joined (Some view) = view
 
+-- what a class has, by what is known of all: no class has nothing, and nothing is known of a class that isn't there
 abbrev pub view_at : List (Option (List ℕ → Option ℕ)) → (class : Option ℕ) → Option (List ℕ → Option ℕ)
 view_at all None = Some (λ name. None)
 view_at all (Some class) = joined (slice_get all class)
 
+-- what is there at a name, where anything is known
 abbrev pub has_at : Option (List ℕ → Option ℕ) → List ℕ → Option ℕ
 has_at None name = None
 has_at (Some view) name = view name
@@ -85,7 +89,8 @@ own_of own (Some class) = own class
 abbrev pub owner_by : {X : Type 0} → (own : ℕ → List ℕ → Option X) → (class : ℕ) → List ℕ → Option ℕ
 owner_by own class name = option_map (λ found. class) (own class name)
 
--- where the maps of classes are known, they say which class has the nearest of a name
+-- Where a class's map is known, it says which class has the nearest of a name. A map may name a class that has nothing of the name, as those of methods name the
+-- root for all selectors: so what the named class has is asked for (`own_of`).
 abbrev pub Tells : {X : Type 0} → (count : ℕ) → (above : ℕ → Option ℕ) → (own : ℕ → List ℕ → Option X) → List (Option (List ℕ → Option ℕ)) → Type 0
 Tells count above own all = (class : ℕ) (view : List ℕ → Option ℕ) → slice_get all class ≡ Some (Some view) → (name : List ℕ)
     → nearest count above (λ c. own c name) (Some class) ≡ own_of (λ c. own c name) (view name)

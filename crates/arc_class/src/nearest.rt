@@ -1,4 +1,4 @@
-//! Which class, from each one up, has the nearest method or field of each name.
+//! The owners of all methods of a sign, and of all fields: which class has the nearest, from each class up.
 ghost use Rattle.std.specs.Prelude.{◌≡◌, ◌++◌, ◌∷◌, [], None, length, IfOk, IfErr, OnOk};
 ghost use Rattle.arc_fault.specs.declared.class.ClassFault.TheVariants.{Memory};
 ghost use Rattle.arc_class.specs.Lookups.{superclass_among};
@@ -11,7 +11,7 @@ use crate::table::Entry;
 use arc_ast::tree::Sign;
 use std::alloc::Global;
 
-/// Adds the class behind the others with its methods of the sign; the root has all selectors.
+/// Adds the next class, with its methods of the sign. The root, class 0, is taken to have all selectors.
 fn add_entry<'a>(
     owners: &mut Owners<'a>,
     class: usize,

@@ -6,11 +6,12 @@ ghost use Rattle.arc_class.specs.Numbered.{at_number, IsWithin, Puts};
 
 use arc_fault::class::ClassFault;
 
-/// How many binary digits the numbers have that are kept.
+/// How many binary digits the numbers have that a map is asked for: they are below 2^20.
 pub const LEVELS: usize = 20;
 
-/// A part of a map: the parts that have its even numbers and its odd ones, halved, by their own
-/// numbers. Behind the last binary digit these are the map's values.
+/// A part of a map. `even` serves the even numbers, and `odd` the odd ones: each is the number of a
+/// further part, which is asked for half of the number. After the last binary digit it is the value
+/// that the map has.
 #[derive(Clone, Copy)]
 pub struct Node {
     pub even: Option<u32>,
@@ -73,9 +74,9 @@ pub fn find(nodes: &[Node], levels: usize, first: Option<u32>, number: usize) ->
     at
 }
 
-/// The first part of a map that has the value at the number, and else what the map has that begins
-/// at this part. Only new parts are added, so all other maps stay. Memory: there was none, or so many
-/// parts have no numbers.
+/// Makes a map that has the value at the number, and at all others what the map has that begins at
+/// this part; answers its first part. Only new parts are added, so all other maps stay. Memory: there
+/// was none, or so many parts have no numbers.
 pub fn put(
     nodes: &mut Vec<Node>,
     levels: usize,

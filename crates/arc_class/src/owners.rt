@@ -1,4 +1,4 @@
-//! For each class and each name, the nearest class from that one up that has the name.
+//! Classes in turn, each with a map from names to the nearest class from it up that has the name.
 ghost use Rattle.std.specs.Prelude.{◌≡◌, ◌++◌, ◌∷◌, [], length, is_some, IfOk, IfErr, OnOk, IfSome};
 ghost use Rattle.std.specs.Str.{bytes_eq};
 ghost use Rattle.arc_fault.specs.declared.class.ClassFault.TheVariants.{Memory};
@@ -91,7 +91,7 @@ impl<'a> Maps<'a> {
     }
 }
 
-/// What is known of the classes of a table, in the order of their numbers.
+/// For each class of a table, in the order of their numbers, which class has the nearest of each name.
 #[derive(Drop)]
 pub struct Owners<'a> {
     maps: Maps<'a>,
@@ -129,7 +129,8 @@ impl<'a> Owners<'a> {
         }
     }
 
-    /// Adds the first class, which has all names.
+    /// Adds the root, the first class, as if it had all names: what it has is built in and in no map, so it is asked for where no class
+    /// below it has the name.
     pub fn add_root(&mut self) -> Result<(), ClassFault>
         requires { IsOwners self.old }
         ensures owners { OnOk result (IsOwners self.new) }
@@ -179,7 +180,8 @@ impl<'a> Owners<'a> {
         }
     }
 
-    /// The nearest class from the class up that has the name, where its names are known.
+    /// The nearest class from the class up that has the name, where its names are known. Where the first class was added as the root, that
+    /// is the root for a name that no class below has, whether or not the root has it.
     pub fn owner(&self, class: usize, name: &'a [u8]) -> Option<usize>
         ensures { result ≡ has_at (view_at (views self.now) (Some class)) name.now }
     {

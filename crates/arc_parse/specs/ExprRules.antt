@@ -49,7 +49,7 @@ literal_of at _ = None
 abbrev pub literal : Reader ExprTree
 literal = token (λ t. literal_of t.from t.sort)
 
--- the operator that a mark is, and how loosely it binds
+-- the operator that a mark is, and the level of its right operand (`binds`)
 abbrev pub mark_operator : Mark → Option (ℕ × BinaryOperator)
 mark_operator m.NotEqual = Some (3, NotEqual)
 mark_operator m.Plus = Some (2, Add)

@@ -30,7 +30,7 @@ mark_of Multiply = m.Star
 mark_of Divide = m.Slash
 mark_of NotEqual = m.NotEqual
 
--- how loosely an operator binds
+-- the level of an operator's right operand; the operator itself, and its left operand, are one level looser (see the levels below)
 abbrev pub binds : BinaryOperator → ℕ
 binds Add = 2
 binds Subtract = 2

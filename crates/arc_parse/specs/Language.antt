@@ -8,11 +8,11 @@ use Rattle.arc_lex.specs.Tokens.{Tok, Sort, Name, Key, At, Sign}
 abbrev pub Language : Type 1
 Language = List Tok → Type 0
 
--- no token
+-- the list without tokens, alone
 abbrev pub Nothing : Language
 Nothing = λ ts. ts ≡ []
 
--- no list
+-- no list at all
 abbrev pub Nowhere : Language
 Nowhere = λ ts. ⊥
 

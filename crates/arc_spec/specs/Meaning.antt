@@ -63,7 +63,7 @@ variables_dropped D first (suc n) w = then_do (assigned D (first + n) 0 w) (λ _
 -- ---- messages
 
 -- A message to a class with what it has found: that function runs with the class as its first argument, `self` (OPL, "Using Hidden Arguments"); with none it is a
--- fault.
+-- fault, which is this project's own choice.
 abbrev pub dispatched : Deeper → Option ℕ → (class : ℤ) → List ℤ → World → Outcome ℤ
 dispatched D None class given w = Faulted Unrecognized w
 dispatched D (Some f) class given w = D.call f 0 (class ∷ given) w
@@ -185,7 +185,7 @@ abbrev pub if_normal : Flow → (World → Outcome Flow) → World → Outcome F
 if_normal Normal go w = go w
 if_normal (Returned v) go w = Done (Returned v) w
 
--- the first where the test isn't 0, else the second (C99, section 6.8.4.1)
+-- `true` says that the test is 0: then the second, and else the first (C99, section 6.8.4.1)
 abbrev pub chosen : {A : Type 0} → Bool → A → A → A
 chosen true a b = b
 chosen false a b = a

@@ -36,7 +36,8 @@ is_least _ (pos n) = false
 abbrev pub negated : Kind → ℤ → ℤ
 negated kind z = converted kind (int_wrapping_neg w64 z)
 
--- x / y, without its fraction (C99, section 6.5.5): none by 0, and none of the least number by -1, whose quotient is too large; C99 says nothing of these two
+-- x / y, without its fraction (C99, section 6.5.5): none by 0, and none of the least number by -1, whose quotient is too large; C99 says nothing of these two, so that is this
+-- project's own choice
 abbrev pub quotient : Kind → ℤ → ℤ → Option ℤ
 quotient kind x y = if is_zero y then None else if is_least kind x && is_minus_one y then None else Some (int_wrapping_div w64 x y)
 

@@ -32,12 +32,12 @@ pub passed : (source : List ℕ) (items these_tokens : List Token) → these_tok
 passed source items these_tokens same h = subst (λ ts. Tokens source (toks ts)) (sym same) h
 
 module _ (source : List ℕ) (unit : TranslationUnit) (table : ClassTable) (program owned : Checked) (actions : acting.Program)
-    (spelled : Spelled source (unit_tree unit)) (declared : broken (unit_tree unit) ≡ []) (has_main : IsTableOf (unit_tree unit) table)
+    (spelled : Spelled source (unit_tree unit)) (declared : broken (unit_tree unit) ≡ []) (is_table : IsTableOf (unit_tree unit) table)
     (checked : broken_unit (unit_tree unit) ≡ []) (resolved : program_of program ≡ resolved_unit (unit_tree unit))
     (source_is : unit_tree program.unit.now ≡ unit_tree unit) (ruled : ownership.broken (unit_tree program.unit.now) ≡ [])
     (same : owned ≡ program) (performs : Performs (program_of owned) actions) where
   abbrev pub accepted : Accepted source
-  accepted = record { tokens = spelled.tokens; tree = unit_tree unit; table = table; cut = spelled.cut; spelled = spelled.spelled; declared = declared; has_main = has_main; checked = checked; owned = subst (λ u. ownership.broken u ≡ []) source_is ruled }
+  accepted = record { tokens = spelled.tokens; tree = unit_tree unit; table = table; cut = spelled.cut; spelled = spelled.spelled; declared = declared; is_table = is_table; checked = checked; owned = subst (λ u. ownership.broken u ≡ []) source_is ruled }
 
   pub performed : Performs (program_meant accepted) actions
   performed = subst (λ program. Performs program actions) (ap program_of same ∙ resolved) performs

@@ -23,7 +23,7 @@ pub record Spelled (source : List ℕ) (tree : UnitTree) : Type 0 where
   pub cut : Tokens source tokens
   pub spelled : SpellsUnit these tree tokens
 
--- The source has these tokens, which spell this tree within the limits; the tree has a main, and breaks no rule.
+-- The source has these tokens, which spell this tree within the limits; the tree breaks no rule, and there is a table of it, which names its main.
 pub record Accepted (source : List ℕ) : Type 0 where
   pub tokens : List Tok
   pub tree : UnitTree
@@ -31,7 +31,7 @@ pub record Accepted (source : List ℕ) : Type 0 where
   pub cut : Tokens source tokens
   pub spelled : SpellsUnit these tree tokens
   pub declared : broken tree ≡ []
-  pub has_main : IsTableOf tree table
+  pub is_table : IsTableOf tree table
   pub checked : broken_unit tree ≡ []
   pub owned : ownership.broken tree ≡ []
 
