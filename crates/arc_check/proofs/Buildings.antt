@@ -13,7 +13,7 @@ use Rattle.arc_check.specs.declared.checked.Value.{Value}
 use Rattle.arc_check.specs.Checked as checked
 use Rattle.arc_check.specs.Building.{Resolves, resolution, in_front, printing}
 use Rattle.arc_check.specs.declared.callee.Callee.{Callee}
-use Rattle.arc_check.specs.declared.resolve.Typed.{Typed}
+use Rattle.arc_check.specs.declared.resolution.Typed.{Typed}
 use Rattle.arc_check.specs.Resolving as resolving
 use Rattle.arc_check.specs.Resolving.{Gives, argument, called, resolved_all, text_of}
 use Rattle.arc_check.specs.Scopes.{Scope, callee, result_kind, is_printf}

@@ -8,9 +8,9 @@ use Rattle.arc_check.specs.declared.checked.Value as checked_value
 use Rattle.arc_check.specs.declared.checked.Command as checked_command
 use Rattle.arc_check.specs.declared.checked.CheckedFunction.{CheckedFunction}
 use Rattle.arc_check.specs.declared.callee.Callee.TheVariants.{Printf}
-use Rattle.arc_check.specs.declared.resolve.Resolution as built
-use Rattle.arc_check.specs.declared.resolve.Resolution.TheVariants as b
-use Rattle.arc_check.specs.declared.resolve.Typed.{Typed}
+use Rattle.arc_check.specs.declared.resolution.Resolution as built
+use Rattle.arc_check.specs.declared.resolution.Resolution.TheVariants as b
+use Rattle.arc_check.specs.declared.resolution.Typed.{Typed}
 use Rattle.arc_check.specs.Checked as checked
 use Rattle.arc_check.specs.Resolving.{Resolution, Gives, Refers, called, resolved, resolved_all}
 use Rattle.arc_check.specs.Scopes.{Scope, class_of}

@@ -13,6 +13,7 @@ mod judge;
 mod message;
 mod method;
 mod program;
+mod resolution;
 mod resolve;
 mod rule;
 mod scope;

@@ -13,7 +13,8 @@ ghost use Rattle.arc_check.specs.Views.{known_in, seen};
 
 use crate::body::named_parameters;
 use crate::checked::{CheckedFunction, Command, Value};
-use crate::resolve::{Resolution, expression, int, number_in, object};
+use crate::resolution::{Resolution, number_in};
+use crate::resolve::{expression, int, object};
 use crate::scope::Visible;
 use arc_ast::tree::{Expr, Function, Implementation, Method, Parameter, Stmt, TypeName, Variable};
 use arc_class::table::{ClassId, ClassTable};

@@ -3,7 +3,7 @@ use Rattle.std.proofs.lemmas.Result.{IfOk-weaker}
 use Rattle.arc_class.specs.Table.{number_of_class}
 use Rattle.arc_spec.specs.Resolved.{Invoked}
 use Rattle.arc_check.specs.declared.callee.Callee.TheVariants.{Printf, GetChar, Defined, Unknown}
-use Rattle.arc_check.specs.declared.resolve.Typed.{Typed}
+use Rattle.arc_check.specs.declared.resolution.Typed.{Typed}
 use Rattle.arc_check.specs.Building.{resolution}
 use Rattle.arc_check.specs.Checked as checked
 use Rattle.arc_ast.specs.Tree.{expr_tree, expr_trees}

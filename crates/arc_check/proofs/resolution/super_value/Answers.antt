@@ -2,7 +2,7 @@ use Rattle.std.proofs.Common.{sym, ap, ◌∙◌}
 use Rattle.arc_check.specs.Checked as checked
 use Rattle.arc_check.specs.Resolving as resolving
 use Rattle.arc_check.proofs.Trees.{super_value, sent_to_super_value}
-use Rattle.arc_check.proofs.resolve.super_value.Goals as goal
+use Rattle.arc_check.proofs.resolution.super_value.Goals as goal
 
 pub returns-in-Class : goal.returns-in-Class
 returns-in-Class c = super_value c.args.from c.args.selector c.args.all ∙ ap (λ s. resolving.super_value s c.args.from c.args.selector (checked.values c.args.all.items)) (sym c.in-Class.is)

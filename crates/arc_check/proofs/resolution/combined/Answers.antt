@@ -5,7 +5,7 @@ use Rattle.arc_check.specs.Building.{resolution}
 use Rattle.arc_check.specs.Checked as checked
 use Rattle.arc_check.specs.Kinds.{given_kind}
 use Rattle.arc_check.specs.Resolving.{Gives, converted}
-use Rattle.arc_check.proofs.resolve.combined.Goals as goal
+use Rattle.arc_check.proofs.resolution.combined.Goals as goal
 
 pub returns : goal.returns
 returns c =

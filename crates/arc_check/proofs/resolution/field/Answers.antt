@@ -5,7 +5,7 @@ use Rattle.arc_class.specs.Table.{number_of_class}
 use Rattle.arc_spec.specs.Resolved.{Field}
 use Rattle.arc_check.specs.Checked as checked
 use Rattle.arc_check.specs.Resolving.{Gives}
-use Rattle.arc_check.proofs.resolve.field.Goals as goal
+use Rattle.arc_check.proofs.resolution.field.Goals as goal
 
 pub returns : goal.returns
 returns c =

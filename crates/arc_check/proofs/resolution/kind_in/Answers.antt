@@ -1,7 +1,7 @@
 use Rattle.std.proofs.Common.{sym, ap}
 use Rattle.arc_check.specs.Building.{resolution}
 use Rattle.arc_check.specs.Resolving.{kind_in}
-use Rattle.arc_check.proofs.resolve.kind_in.Goals as goal
+use Rattle.arc_check.proofs.resolution.kind_in.Goals as goal
 
 pub returns-in-Gives : goal.returns-in-Gives
 returns-in-Gives c = ap (λ r. kind_in (resolution r)) (sym c.in-Gives.is)

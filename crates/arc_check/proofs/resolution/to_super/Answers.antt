@@ -2,7 +2,7 @@ use Rattle.std.proofs.Common.{sym, ap, ◌∙◌}
 use Rattle.std.proofs.lemmas.Result.{IfOk-weaker}
 use Rattle.arc_check.specs.Checked as checked
 use Rattle.arc_check.specs.Resolving.{Gives, super_value}
-use Rattle.arc_check.proofs.resolve.to_super.Goals as goal
+use Rattle.arc_check.proofs.resolution.to_super.Goals as goal
 
 pub returns-then-is_object : goal.returns-then-is_object
 returns-then-is_object c = rw (sym c.is_object.ensures ∙ c.if-is_object.true) c.made_by_super.ensures

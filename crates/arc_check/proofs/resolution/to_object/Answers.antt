@@ -4,7 +4,7 @@ use Rattle.arc_spec.specs.Resolved.{Initialized, SentTo}
 use Rattle.arc_check.specs.Checked as checked
 use Rattle.arc_check.specs.Resolving.{Gives, Refers}
 use Rattle.arc_check.proofs.Trees.{sent_to_value}
-use Rattle.arc_check.proofs.resolve.to_object.Goals as goal
+use Rattle.arc_check.proofs.resolution.to_object.Goals as goal
 
 pub returns-then-is_object : goal.returns-then-is_object
 returns-then-is_object c = rw (sym c.is_object.ensures ∙ c.if-is_object.true) (ap (λ v. Refers (Initialized (checked.reference v))) c.in_ok-object.ensures.ok)

@@ -1,0 +1,358 @@
+//! What an expression is resolved to, and how that is made of what its parts are resolved to.
+ghost use Rattle.std.specs.Prelude.{◌≡◌, Option, Some, None, option_map, IfOk};
+ghost use Rattle.arc_ast.specs.Tree.{expr_tree, Name};
+ghost use Rattle.arc_class.specs.Table.{number_of_class, number_of_selector};
+ghost use Rattle.arc_check.specs.Building.{resolution};
+ghost use Rattle.arc_check.specs.Checked as checked;
+ghost use Rattle.arc_check.specs.Kinds as kinds;
+ghost use Rattle.arc_check.specs.Resolving as resolving;
+ghost use Rattle.arc_check.specs.Resolving.{resolved};
+ghost use Rattle.arc_check.specs.Views.{local_of};
+
+use crate::checked::{Reference, Value};
+use crate::rule::{is_object, wider};
+use crate::scope::Local;
+use arc_ast::tree::{BinaryOperator, Expr, Kind, Sign};
+use arc_class::table::{ClassId, FoundField, Sel};
+use std::alloc::{AllocError, Global};
+
+/// What an expression is resolved to: a number of a kind, or an object.
+#[derive(Drop)]
+pub enum Resolution {
+    Gives(Kind, Box<Value>),
+    Refers(Reference),
+}
+
+/// What an expression is resolved to, and its static class.
+#[derive(Drop)]
+pub struct Typed {
+    pub class: Option<ClassId>,
+    pub value: Resolution,
+}
+
+/// The kind of what is resolved.
+fn kind_in(of: &Resolution) -> Kind
+    ensures { result ≡ resolving.kind_in (resolution of.now) }
+{
+    match of {
+        Resolution::Gives(kind, _) => *kind,
+        Resolution::Refers(_) => Kind::Object,
+    }
+}
+
+/// A number of the kind.
+pub fn given(alloc: Global, kind: Kind, value: Value) -> Result<Resolution, AllocError>
+    ensures { IfOk result (λ new. resolution new ≡ resolving.Gives kind (checked.value value)) }
+{
+    Ok(Resolution::Gives(kind, Box::new(alloc, value)?))
+}
+
+/// The number, and of an object whether it is one.
+pub fn number_in(alloc: Global, of: Resolution) -> Result<Box<Value>, AllocError>
+    ensures { IfOk result (λ new. checked.value new.value ≡ resolving.number_in (resolution of)) }
+{
+    match of {
+        Resolution::Gives(_, value) => Ok(value),
+        Resolution::Refers(object) => {
+            let object = Box::new(alloc, object)?;
+            Ok(Box::new(alloc, Value::IsObject(object))?)
+        }
+    }
+}
+
+/// The object, and nil of a number.
+pub fn object_in(of: Resolution) -> Reference
+    ensures { checked.reference result ≡ resolving.object_in (resolution of) }
+{
+    match of {
+        Resolution::Gives(_, _) => Reference::Nil,
+        Resolution::Refers(object) => object,
+    }
+}
+
+/// The value of one kind as one of the wanted kind.
+fn as_kind(
+    alloc: Global,
+    wanted: Kind,
+    kind: Kind,
+    value: Box<Value>,
+) -> Result<Box<Value>, AllocError>
+    ensures { IfOk result (λ new. checked.value new.value ≡ resolving.as_kind wanted kind (checked.value value.value)) }
+{
+    match (wanted, kind) {
+        (Kind::Long, Kind::Int) | (Kind::Int, Kind::Long) => {
+            Ok(Box::new(alloc, Value::Converted(wanted, value))?)
+        }
+        _ => Ok(value),
+    }
+}
+
+/// The number as one of the kind.
+pub fn converted(alloc: Global, wanted: Kind, of: Resolution) -> Result<Box<Value>, AllocError>
+    ensures { IfOk result (λ new. checked.value new.value ≡ resolving.converted wanted (resolution of)) }
+{
+    let kind = kind_in(&of);
+    let value = number_in(alloc, of)?;
+    as_kind(alloc, wanted, kind, value)
+}
+
+/// The kind of what an operator gives that computes in the kind.
+fn given_kind(operator: BinaryOperator, kind: Kind) -> Kind
+    ensures { result ≡ kinds.given_kind operator kind }
+{
+    match operator {
+        BinaryOperator::NotEqual => Kind::Int,
+        BinaryOperator::Add
+        | BinaryOperator::Subtract
+        | BinaryOperator::Multiply
+        | BinaryOperator::Divide => kind,
+    }
+}
+
+/// A negation, from its operand.
+pub fn negated(alloc: Global, of: Resolution) -> Result<Resolution, AllocError>
+    ensures { IfOk result (λ new. resolution new ≡ resolving.negated (resolution of)) }
+{
+    let kind = kind_in(&of);
+    let value = number_in(alloc, of)?;
+    given(alloc, kind, Value::Negated(kind, value))
+}
+
+/// An operator's expression that computes in the kind, from its operands.
+fn combined(
+    alloc: Global,
+    operator: BinaryOperator,
+    kind: Kind,
+    left: Resolution,
+    right: Resolution,
+) -> Result<Resolution, AllocError>
+    ensures { IfOk result (λ new. resolution new ≡ resolving.combined operator kind (resolution left) (resolution right)) }
+{
+    let left = converted(alloc, kind, left)?;
+    let right = converted(alloc, kind, right)?;
+    let value = Value::Combined(operator, kind, left, right);
+    given(alloc, given_kind(operator, kind), value)
+}
+
+/// An operator's expression, from its operands.
+pub fn binary(
+    alloc: Global,
+    operator: BinaryOperator,
+    left: Resolution,
+    right: Resolution,
+) -> Result<Resolution, AllocError>
+    ensures { IfOk result (λ new. resolution new ≡ resolving.binary operator (resolution left) (resolution right)) }
+{
+    match (operator, left, right) {
+        (BinaryOperator::NotEqual, Resolution::Refers(left), Resolution::Refers(right)) => {
+            let left = Box::new(alloc, left)?;
+            let right = Box::new(alloc, right)?;
+            given(alloc, Kind::Int, Value::Differ(left, right))
+        }
+        (operator, left, right) => {
+            let kind = wider(kind_in(&left), kind_in(&right));
+            combined(alloc, operator, kind, left, right)
+        }
+    }
+}
+
+/// The number, or 0 where there is none.
+pub fn number(found: Option<usize>) -> usize
+    ensures { result ≡ resolving.number found }
+{
+    found.unwrap_or(0)
+}
+
+/// The class's number, or 0 where there is none.
+pub fn class_number(found: Option<ClassId>) -> usize
+    ensures { result ≡ resolving.number (option_map number_of_class found) }
+{
+    match found {
+        None => 0,
+        Some(class) => class.0,
+    }
+}
+
+/// The selector's number, or 0 where there is none.
+pub fn selector_number(found: Option<Sel>) -> usize
+    ensures { result ≡ resolving.number (option_map number_of_selector found) }
+{
+    match found {
+        None => 0,
+        Some(selector) => selector.0,
+    }
+}
+
+/// The kind, or int where there is none.
+fn kind_or_int(kind: Option<Kind>) -> Kind
+    ensures { result ≡ resolving.kind_or_int kind }
+{
+    kind.unwrap_or(Kind::Int)
+}
+
+/// The field of the object.
+pub fn field(
+    alloc: Global,
+    object: Reference,
+    found: Option<FoundField>,
+) -> Result<Resolution, AllocError>
+    ensures { IfOk result (λ new. resolution new ≡ resolving.field (checked.reference object) found) }
+{
+    let Some(field) = found else {
+        return given(alloc, Kind::Int, Value::Number(0));
+    };
+    let object = Box::new(alloc, object)?;
+    let value = Value::Field(object, field.owner.0, field.index);
+    given(alloc, Kind::Int, value)
+}
+
+/// An assignment to the field of the object.
+pub fn field_assigned(
+    alloc: Global,
+    object: Reference,
+    found: Option<FoundField>,
+    of: Resolution,
+) -> Result<Resolution, AllocError>
+    ensures { IfOk result (λ new. resolution new ≡ resolving.field_assigned (checked.reference object) found (resolution of)) }
+{
+    let Some(field) = found else {
+        return Ok(of);
+    };
+    let value = converted(alloc, Kind::Int, of)?;
+    let object = Box::new(alloc, object)?;
+    let value = Value::FieldAssigned(object, field.owner.0, field.index, value);
+    given(alloc, Kind::Int, value)
+}
+
+/// What a name means: the variable, or else the field of `self`.
+pub fn named(
+    alloc: Global,
+    local: Option<Local>,
+    own: Option<FoundField>,
+) -> Result<Resolution, AllocError>
+    ensures { IfOk result (λ new. resolution new ≡ resolving.named (option_map local_of local) own) }
+{
+    match local {
+        None => field(alloc, Reference::Itself, own),
+        Some(Local::Int(number)) => given(alloc, Kind::Int, Value::Local(number)),
+        Some(Local::Object(number, _)) => Ok(Resolution::Refers(Reference::Variable(number))),
+    }
+}
+
+/// An assignment to the variable, or else to the field of `self`.
+pub fn name_assigned(
+    alloc: Global,
+    local: Option<Local>,
+    own: Option<FoundField>,
+    of: Resolution,
+) -> Result<Resolution, AllocError>
+    ensures { IfOk result (λ new. resolution new ≡ resolving.name_assigned (option_map local_of local) own (resolution of)) }
+{
+    match local {
+        None => field_assigned(alloc, Reference::Itself, own, of),
+        Some(Local::Int(number)) => {
+            let value = converted(alloc, Kind::Int, of)?;
+            given(alloc, Kind::Int, Value::Assigned(number, value))
+        }
+        Some(Local::Object(number, _)) => {
+            let object = Box::new(alloc, object_in(of))?;
+            Ok(Resolution::Refers(Reference::Stored(number, object)))
+        }
+    }
+}
+
+/// The value of a receiver that is the class with the number. AllocError: an i64 can't hold the number, of which no source has so many classes.
+pub fn class_value(receiver: &Expr, number: usize) -> Result<Value, AllocError>
+    ensures { IfOk result (λ new. checked.value new ≡ resolving.class_value (expr_tree receiver.now) number) }
+{
+    match receiver {
+        Expr::Name(_, _) => match i64::try_from(number) {
+            Ok(number) => Ok(Value::Number(number)),
+            Err(_) => Err(AllocError),
+        },
+        _ => Ok(Value::Local(0)),
+    }
+}
+
+/// A message to a class that gives a value of the kind.
+pub fn to_class(
+    alloc: Global,
+    kind: Option<Kind>,
+    class: Value,
+    selector: usize,
+    all: Vec<Value>,
+) -> Result<Resolution, AllocError>
+    ensures { IfOk result (λ new. resolution new ≡ resolving.to_class kind (checked.value class) selector (checked.values all.items)) }
+{
+    let class = Box::new(alloc, class)?;
+    if is_object(kind) {
+        Ok(Resolution::Refers(Reference::Made(class)))
+    } else {
+        let value = Value::Sent(class, selector, all);
+        given(alloc, kind_or_int(kind), value)
+    }
+}
+
+/// A message to an object that gives a value of the kind.
+pub fn to_object(
+    alloc: Global,
+    kind: Option<Kind>,
+    object: Reference,
+    selector: usize,
+    all: Vec<Value>,
+) -> Result<Resolution, AllocError>
+    ensures { IfOk result (λ new. resolution new ≡ resolving.to_object kind (checked.reference object) selector (checked.values all.items)) }
+{
+    let object = Box::new(alloc, object)?;
+    if is_object(kind) {
+        Ok(Resolution::Refers(Reference::Initialized(object)))
+    } else {
+        let value = Value::SentTo(object, selector, all);
+        given(alloc, kind_or_int(kind), value)
+    }
+}
+
+/// A message to `super` that gives an object, in a method of the sign.
+fn made_by_super(alloc: Global, sign: Sign) -> Result<Resolution, AllocError>
+    ensures { IfOk result (λ new. resolution new ≡ resolving.made_by_super sign) }
+{
+    match sign {
+        Sign::Class => {
+            let class = Box::new(alloc, Value::Local(0))?;
+            Ok(Resolution::Refers(Reference::Made(class)))
+        }
+        Sign::Instance => {
+            let itself = Box::new(alloc, Reference::Itself)?;
+            Ok(Resolution::Refers(Reference::Initialized(itself)))
+        }
+    }
+}
+
+/// A message to `super` that gives a number, in a method of the sign; the method is looked up from the class with the number.
+fn super_value(sign: Sign, from: usize, selector: usize, all: Vec<Value>) -> Value
+    ensures { checked.value result ≡ resolving.super_value sign from selector (checked.values all.items) }
+{
+    match sign {
+        Sign::Class => Value::SentSuper(from, selector, all),
+        Sign::Instance => Value::SentToSuper(from, selector, all),
+    }
+}
+
+/// A message to `super` that gives a value of the kind, in a method of the sign; the method is looked up from the class with the number.
+pub fn to_super(
+    alloc: Global,
+    sign: Sign,
+    kind: Option<Kind>,
+    from: usize,
+    selector: usize,
+    all: Vec<Value>,
+) -> Result<Resolution, AllocError>
+    ensures { IfOk result (λ new. resolution new ≡ resolving.to_super sign kind from selector (checked.values all.items)) }
+{
+    if is_object(kind) {
+        made_by_super(alloc, sign)
+    } else {
+        let value = super_value(sign, from, selector, all);
+        given(alloc, kind_or_int(kind), value)
+    }
+}
