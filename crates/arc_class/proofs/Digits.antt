@@ -63,10 +63,11 @@ IsWithin-append zero nodes more at h = tt
 IsWithin-append (suc n) nodes more at h =
     let same : node_at nodes at ≡ node_at (nodes ++ more) at = sym (node_at-append nodes more at h.0) in
     let Even : Node → Type 0 = λ node. IsWithin n (nodes ++ more) node.even in
-    let Odd : Node → Type 0 = λ node. IsWithin n (nodes ++ more) node.odd in
-    ( IsThere-append nodes more at h.0
-    , subst Even same (IsWithin-append n nodes more (node_at nodes at).even h.1)
-    , subst Odd same (IsWithin-append n nodes more (node_at nodes at).odd h.2) )
+    let Odd : Node → Type 0 = λ node. IsWithin n (nodes ++ more) node.odd in (
+      IsThere-append nodes more at h.0,
+      subst Even same (IsWithin-append n nodes more (node_at nodes at).even h.1),
+      subst Odd same (IsWithin-append n nodes more (node_at nodes at).odd h.2),
+    )
 
 pub at_number-append : (n : ℕ) (nodes more : List Node) (at : Option ℕ) (number : ℕ) → IsWithin n nodes at → at_number n (nodes ++ more) at number ≡ at_number n nodes at number
 unfolding at_number IsWithin

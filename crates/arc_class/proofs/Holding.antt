@@ -156,8 +156,8 @@ module _ (old new : Maps) (map : Map) (name : List ℕ) (number class at : ℕ)
       let within : j < length (names_in old) = number_within (names_in old) sought j e in
       let in_new : number_among (names_in new) sought ≡ Some j = ap (λ ns. number_among ns sought) n ∙ other_number (names_in old) name sought ne ∙ e in
       let differ : j ≡ number → ⊥ = λ same.
-          let one : sought ≡ name = one_name (names_in new) sought name number (in_new ∙ ap Some same) k in
-          true≢false (sym ((bytes_eq-Decides sought name).1 one) ∙ ne) in
+      let one : sought ≡ name = one_name (names_in new) sought name number (in_new ∙ ap Some same) k in
+      true≢false (sym ((bytes_eq-Decides sought name).1 one) ∙ ne) in
       made_at j (omega (arith, grows)) differ
 
   found_at : (sought : List ℕ) → in_map new made sought ≡ (if bytes_eq sought name then Some class else in_map old map sought)

@@ -31,7 +31,7 @@ module _ (classes : List ClassFields) where
   field_turn all new known there f e =
       let P : List (Option (List ℕ → Option ℕ)) → Type 0 = λ vs. Follows (superclass_of_fields classes) named vs in
       let has : (name : List ℕ) → is_some (at_name known.named name) ≡ is_some (named (length all) name) = λ name.
-          sym (ap (λ o. is_some (own_field_in o name)) there) ∙ is_mapped (λ found. length all) (own_field_in (slice_get classes (length all)) name) in
+      sym (ap (λ o. is_some (own_field_in o name)) there) ∙ is_mapped (λ found. length all) (own_field_in (slice_get classes (length all)) name) in
       let up : superclass_of_fields classes (length all) ≡ known.superclass = rw there refl in
       subst P (sym e) (follows_class (superclass_of_fields classes) named all (λ name. is_some (at_name known.named name)) has f known.superclass up)
 
@@ -51,8 +51,8 @@ module _ (entries : List Entry) (sign : Sign) where
   entry_turn (suc n) all new entry count there top f e =
       let P : List (Option (List ℕ → Option ℕ)) → Type 0 = λ vs. Follows (superclass_among entries) gives vs in
       let has : (name : List ℕ) → is_some (head_at entry.methods sign name) ≡ is_some (gives (length all) name) = λ name.
-          is_mapped (λ h. h.now.result) (head_at entry.methods sign name) ∙ sym (ap (λ o. is_some (own_result_in (suc n) o sign name)) there)
-          ∙ is_mapped (λ found. suc n) (own_result_in (suc n) (slice_get entries (suc n)) sign name) ∙ sym (ap (λ c. is_some (gives c name)) count) in
+      is_mapped (λ h. h.now.result) (head_at entry.methods sign name) ∙ sym (ap (λ o. is_some (own_result_in (suc n) o sign name)) there)
+      ∙ is_mapped (λ found. suc n) (own_result_in (suc n) (slice_get entries (suc n)) sign name) ∙ sym (ap (λ c. is_some (gives c name)) count) in
       let up : superclass_among entries (suc n) ≡ entry.superclass = rw there refl in
       let here : superclass_among entries (length all) ≡ entry.superclass = ap (superclass_among entries) count ∙ up in
       let numbered : all ++ with_own (λ name. is_some (head_at entry.methods sign name)) (length all) (view_at all entry.superclass) ∷ [] ≡ new

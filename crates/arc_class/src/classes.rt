@@ -206,7 +206,10 @@ impl<'a> Source<'a> {
             return Ok(fields_fault(fields, owners, None, &places, own));
         };
         let pairs = pairs_fault(&class.places, own);
-        Ok(earlier(fields_fault(fields, owners, class.superclass, &places, own), pairs))
+        Ok(earlier(
+            fields_fault(fields, owners, class.superclass, &places, own),
+            pairs,
+        ))
     }
 
     /// The first rule that the implementations break.

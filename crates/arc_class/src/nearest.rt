@@ -4,11 +4,11 @@ ghost use Rattle.arc_fault.specs.declared.class.ClassFault.TheVariants.{Memory};
 ghost use Rattle.arc_class.specs.Lookups.{superclass_among};
 ghost use Rattle.arc_class.specs.Owners.{IsOwners, views, entry_view, TellsMethods, TellsFields};
 
-use arc_fault::class::ClassFault;
 use crate::fields::ClassFields;
 use crate::owners::Owners;
 use crate::table::Entry;
 use arc_ast::tree::Sign;
+use arc_fault::class::ClassFault;
 use std::alloc::Global;
 
 /// Adds the next class, with its methods of the sign. The root, class 0, is taken to have all selectors.

@@ -6,8 +6,8 @@ ghost use Rattle.arc_class.specs.Owners as specs;
 ghost use Rattle.arc_class.specs.Owners.{no_maps, IsMap, Adds, in_map, IsOwners, view_of, view_at, views, has_at, with_own};
 ghost use Rattle.arc_class.specs.Table.{at_name};
 
-use arc_fault::class::ClassFault;
 use crate::numbered::{LEVELS, Node, find, put};
+use arc_fault::class::ClassFault;
 use indexmap::IndexSet;
 use std::alloc::Global;
 use std::collections::BTreeMap;

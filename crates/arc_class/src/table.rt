@@ -370,7 +370,12 @@ impl<'a> ClassTable<'a> {
     pub fn field(&self, class: Option<ClassId>, name: &'a [u8]) -> Option<FoundField>
         ensures { result ≡ field_in_table self.now (option_map number_of_class class) name.now }
     {
-        field_of(&self.named_fields, &self.field_owners, number_of(class), name)
+        field_of(
+            &self.named_fields,
+            &self.field_owners,
+            number_of(class),
+            name,
+        )
     }
 
     /// All fields of the class's objects, in the order of their numbers: inherited ones first, and then those in the interface's braces and

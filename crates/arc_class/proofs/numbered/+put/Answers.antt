@@ -15,9 +15,10 @@ put-requires t c =
     let e : levels ≡ suc (levels - 1) = omega arith in
     let on_side : side (node_at nodes c.args.first) c.args.number ≡ c.side.result =
     ap (λ ns. side (node_at ns c.args.first) c.args.number) (sym c.deref.ensures.value) ∙ ap (λ node. side node c.args.number) (sym c.node_at-node.ensures) ∙ sym c.side.ensures in
-    let Within : Option ℕ → Type 0 = λ at. IsWithin (levels - 1) nodes at in
-    ( omega (arith, c.decreases)
-    , (subst Within on_side (side_within levels (levels - 1) nodes c.args.first c.args.number e c.requires.within), half_fits levels (levels - 1) c.args.number e c.requires.fits) )
+    let Within : Option ℕ → Type 0 = λ at. IsWithin (levels - 1) nodes at in (
+      omega (arith, c.decreases),
+      (subst Within on_side (side_within levels (levels - 1) nodes c.args.first c.args.number e c.requires.within), half_fits levels (levels - 1) c.args.number e c.requires.fits),
+    )
 
 pub returns-clause-put : goal.returns-clause-put
 returns-clause-put t c =
