@@ -1,5 +1,5 @@
 -- What the program answers where a stage before the end refuses, or a device fails.
-use Rattle.std.proofs.Common.{◌≡◌, ℕ, List, [], Option, Ok, Err, refl, sym, ap, subst, ⊎_elim}
+use Rattle.std.proofs.Common.{ℕ, List, [], Option, Ok, Err, refl, sym, ap, subst, ⊎_elim}
 use Rattle.std.proofs.lemmas.List.{append-nil}
 use Rattle.std.specs.Io.KnownBytes.{Keeps}
 use Rattle.std.proofs.KnownBytes.{Appends-kept}
@@ -9,13 +9,11 @@ use Rattle.arc_tool.specs.declared.report.Trouble.{Trouble}
 use Rattle.arc_tool.specs.declared.run.ToolFault.{ToolFault}
 use Rattle.arc_tool.specs.declared.run.ToolFault.TheVariants.{Refused, Memory, Io}
 use Rattle.arc_tool.specs.Refused.{IsRefusal}
-use Rattle.arc_machine.specs.declared.stop.Stop.{Stop}
-use Rattle.arc_machine.specs.declared.stop.Stop.TheVariants as stop
 use Rattle.arc_code.specs.declared.code.IoFault.TheVariants.{Read, Write}
 use Rattle.arc_tool.specs.Ran.{Answered, Untouched, Caused}
 use Rattle.arc_tool.specs.Status.{BecomesTrouble, trouble_of, status_of, line_of}
 use Rattle.arc_tool.specs.Traced.{AnsweredTrace, Blames}
-use Rattle.arc_tool.specs.Served.{Checks, Lists, RunsSource, TracesSource, Blamed, ended_with, Reported}
+use Rattle.arc_tool.specs.Served.{Checks, Lists, RunsSource, TracesSource, Blamed, Reported}
 
 pub check_refused : (source : List ℕ) (o : Option (List ℕ)) (w : ℕ) (r : Refusal) (t : Trouble) → IsRefusal source r → BecomesTrouble r t → Checks source (Err t) o o w w
 check_refused source o w r t is becomes = ⊎_elim
@@ -66,9 +64,3 @@ trace_blamed (Refused r) r0 r1 w0 w1 h = h
 trace_blamed Memory r0 r1 w0 w1 h = h
 trace_blamed (Io Read) r0 r1 w0 w1 h = h
 trace_blamed (Io Write) r0 r1 w0 w1 h = h
-
-pub ended_blamed : (s : Stop) (r0 r1 w0 w1 : ℕ) → r1 ≡ r0 → w1 ≡ w0 → Blamed (ended_with s) r0 r1 w0 w1
-ended_blamed (stop.Ended n) r0 r1 w0 w1 h k = (h, k)
-ended_blamed (stop.Fault f) r0 r1 w0 w1 h k = (h, k)
-ended_blamed stop.NoHeap r0 r1 w0 w1 h k = (h, k)
-ended_blamed stop.StepsUsed r0 r1 w0 w1 h k = (h, k)
