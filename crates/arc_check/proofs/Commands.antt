@@ -1,5 +1,5 @@
 -- What is built of lists of statements, and one more.
-use Rattle.std.proofs.Common.{◌≡◌, ℕ, ◌+◌, ◌-◌, ◌<◌, ◌≤◌, List, [], ◌∷◌, ◌++◌, length, get_or, drop, Option, Some, None, Vec, Global, option_map, refl, sym, ap, ◌∙◌}
+use Rattle.std.proofs.Common.{◌≡◌, ℕ, ◌+◌, ◌-◌, ◌<◌, ◌≤◌, List, [], ◌∷◌, ◌++◌, length, get_or, drop, Some, None, Vec, Global, option_map, refl, sym, ap, ◌∙◌}
 use Rattle.arc_ast.specs.declared.tree.Function.{Function}
 use Rattle.arc_ast.specs.declared.tree.Parameter.{Parameter}
 use Rattle.arc_ast.specs.declared.tree.Stmt as stmt
@@ -13,7 +13,7 @@ use Rattle.arc_class.specs.Bodies.{named_parameters}
 use Rattle.arc_check.specs.declared.checked.Command as command
 use Rattle.arc_check.specs.declared.checked.Command.{Command}
 use Rattle.arc_check.specs.declared.checked.CheckedFunction.{CheckedFunction}
-use Rattle.arc_check.specs.Building.{ahead_of, in_front_of, function_of, functions_ahead}
+use Rattle.arc_check.specs.Building.{ahead_of, function_of, functions_ahead}
 use Rattle.arc_check.specs.Checked as checked
 use Rattle.arc_check.specs.Resolving.{declared, resolved_variables, resolved_stmt, resolved_stmts, resolved_body, with_function, resolved_functions}
 use Rattle.arc_check.specs.Scopes.{Known, Scope, declare, with_parameters, leave, behind, behind_all, outermost}
@@ -30,28 +30,18 @@ ahead_of-none [] = refl
 ahead_of-none (b ∷ all) = ap (and_command (checked.command b)) (ahead_of-none all)
 
 -- one command more
-command_turn : (old new : List Command) (a : Command) (one : resolved.Command) (rest whole : Commands) → whole ≡ ahead_of old (and_command one rest) → new ≡ old ++ a ∷ [] → checked.command a ≡ one → whole ≡ ahead_of new rest
-command_turn old new a one rest whole w n h = w ∙ ap (λ v. ahead_of old (and_command v rest)) (sym h) ∙ sym (ahead_of-push old a rest) ∙ ap (λ us. ahead_of us rest) (sym n)
+pub one_more : (old new : List Command) (a : Command) (one : resolved.Command) (others : Commands) → new ≡ old ++ a ∷ [] → checked.command a ≡ one → ahead_of new others ≡ ahead_of old (and_command one others)
+one_more old new a one others n h = ap (λ us. ahead_of us others) n ∙ ahead_of-push old a others ∙ ap (λ c. ahead_of old (and_command c others)) h
 
 -- ---- declarations
 
--- a command more, if there is one
-abbrev pub Adds : List Command → Option Command → List Command → Type 0
-Adds old None new = new ≡ old
-Adds old (Some a) new = new ≡ old ++ a ∷ []
-
-maybe_turn : (old new : List Command) (one : Option Command) (rest whole : Commands) → whole ≡ ahead_of old (in_front_of one rest) → Adds old one new → whole ≡ ahead_of new rest
-maybe_turn old new None rest whole w n = w ∙ ap (λ us. ahead_of us rest) (sym n)
-maybe_turn old new (Some a) rest whole w n = w ∙ sym (ahead_of-push old a rest) ∙ ap (λ us. ahead_of us rest) (sym n)
-
-pub declared_turn : (type : TypeTree) (s after : Scope) (xs : List Variable) (i : ℕ) (x : Variable) (old new : List Command) (one : Option Command) (whole : Commands) → i < length xs → x ≡ get_or xs i x → after ≡ declare x.name.items type s
-    → ((others : Commands) → declared type s after (option_map expr_tree x.initial) others ≡ in_front_of one others) → Adds old one new
+pub declared_turn : (type : TypeTree) (s after : Scope) (xs : List Variable) (i : ℕ) (x : Variable) (old new : List Command) (whole : Commands) → i < length xs → x ≡ get_or xs i x → after ≡ declare x.name.items type s
+    → ((others : Commands) → ahead_of new others ≡ ahead_of old (declared type s after (option_map expr_tree x.initial) others))
     → whole ≡ ahead_of old (resolved_variables type s (variable_trees (drop i xs))) → whole ≡ ahead_of new (resolved_variables type after (variable_trees (drop (i + 1) xs)))
-declared_turn type s after xs i x old new one whole l e d h n w =
-    let rest = resolved_variables type after (variable_trees (drop (i + 1) xs)) in
-    maybe_turn old new one rest whole
-    (w ∙ ap (λ us. ahead_of old (resolved_variables type s (variable_trees us))) (drop_turn xs i x l e)
-    ∙ ap (λ p. ahead_of old (declared type s p (option_map expr_tree x.initial) (resolved_variables type p (variable_trees (drop (i + 1) xs))))) (sym d) ∙ ap (ahead_of old) (h rest)) n
+declared_turn type s after xs i x old new whole l e d h w =
+    w ∙ ap (λ us. ahead_of old (resolved_variables type s (variable_trees us))) (drop_turn xs i x l e)
+    ∙ ap (λ p. ahead_of old (declared type s p (option_map expr_tree x.initial) (resolved_variables type p (variable_trees (drop (i + 1) xs))))) (sym d)
+    ∙ sym (h (resolved_variables type after (variable_trees (drop (i + 1) xs))))
 
 pub declared_end : (type : TypeTree) (s : Scope) (xs : List Variable) (i : ℕ) (all : List Command) (whole : Commands) → length xs ≤ i → whole ≡ ahead_of all (resolved_variables type s (variable_trees (drop i xs))) → checked.commands all ≡ whole
 declared_end type s xs i all whole l w = sym (w ∙ ap (λ us. ahead_of all (resolved_variables type s (variable_trees us))) (drop_end xs i l) ∙ ahead_of-none all)
@@ -61,9 +51,9 @@ declared_end type s xs i all whole l w = sym (w ∙ ap (λ us. ahead_of all (res
 pub commands_turn : (s after : Scope) (xs : List Stmt) (i : ℕ) (x : Stmt) (old new : List Command) (a : Command) (whole : Commands) → i < length xs → x ≡ get_or xs i x → after ≡ behind s (stmt_tree x) → checked.command a ≡ resolved_stmt s (stmt_tree x) → new ≡ old ++ a ∷ []
     → whole ≡ ahead_of old (resolved_stmts s (stmt_trees (drop i xs))) → whole ≡ ahead_of new (resolved_stmts after (stmt_trees (drop (i + 1) xs)))
 commands_turn s after xs i x old new a whole l e d h n w =
-    command_turn old new a (resolved_stmt s (stmt_tree x)) (resolved_stmts after (stmt_trees (drop (i + 1) xs))) whole
-    (w ∙ ap (λ us. ahead_of old (resolved_stmts s (stmt_trees us))) (drop_turn xs i x l e)
-    ∙ ap (λ p. ahead_of old (and_command (resolved_stmt s (stmt_tree x)) (resolved_stmts p (stmt_trees (drop (i + 1) xs))))) (sym d)) n h
+    w ∙ ap (λ us. ahead_of old (resolved_stmts s (stmt_trees us))) (drop_turn xs i x l e)
+    ∙ ap (λ p. ahead_of old (and_command (resolved_stmt s (stmt_tree x)) (resolved_stmts p (stmt_trees (drop (i + 1) xs))))) (sym d)
+    ∙ sym (one_more old new a (resolved_stmt s (stmt_tree x)) (resolved_stmts after (stmt_trees (drop (i + 1) xs))) n h)
 
 pub commands_end : (s : Scope) (xs : List Stmt) (i : ℕ) (all : List Command) (whole : Commands) → length xs ≤ i → whole ≡ ahead_of all (resolved_stmts s (stmt_trees (drop i xs))) → checked.commands all ≡ whole
 commands_end s xs i all whole l w = sym (w ∙ ap (λ us. ahead_of all (resolved_stmts s (stmt_trees us))) (drop_end xs i l) ∙ ahead_of-none all)

@@ -1,5 +1,5 @@
 -- What is built of expressions and statements.
-use Rattle.std.specs.Prelude.{◌≡◌, List, [], ◌∷◌, Option, Some, None, option_map, true}
+use Rattle.std.specs.Prelude.{◌≡◌, List, [], ◌∷◌, option_map, true}
 use Rattle.arc_ast.specs.Tree.{ExprTree, ExprTrees}
 use Rattle.arc_class.specs.Table.{number_of_class}
 use Rattle.arc_spec.specs.Resolved as spec
@@ -43,11 +43,7 @@ abbrev pub in_front : List checked_value.Value → Values → Values
 in_front [] others = others
 in_front (a ∷ all) others = and_value (checked.value a) (in_front all others)
 
--- commands in front of others, and one, if there is one
+-- commands in front of others
 abbrev pub ahead_of : List checked_command.Command → Commands → Commands
 ahead_of [] others = others
 ahead_of (a ∷ all) others = and_command (checked.command a) (ahead_of all others)
-
-abbrev pub in_front_of : Option checked_command.Command → Commands → Commands
-in_front_of None others = others
-in_front_of (Some a) others = and_command (checked.command a) others

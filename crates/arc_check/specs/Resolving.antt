@@ -206,21 +206,31 @@ evaluated (Refers r) = EvaluateReference r
 abbrev pub as_int : Scope → ExprTree → Value
 as_int s a = int_in (resolved s a)
 
--- what an int begins with (this project's own choice where nothing is written: 0)
-abbrev pub initial : Scope → Option ExprTree → Value
-initial s None = Number (pos 0)
-initial s (Some a) = as_int s a
+-- a value is put into an int
+abbrev pub put : (n : ℕ) → Value → Command
+put n a = Evaluate (Assigned n a)
 
--- a variable that names objects begins with nil, and then names what is written (ARC, "Ownership qualification")
-abbrev pub begun : Scope → (n : ℕ) → Option ExprTree → Commands → Commands
-begun s n None others = others
-begun s n (Some a) others = and_command (Begin n (object_in (resolved s a))) others
+-- an int takes what is written, if something is (C99, section 6.7.8)
+abbrev pub initialized : Scope → (n : ℕ) → Option ExprTree → Commands → Commands
+initialized s n None others = others
+initialized s n (Some a) others = and_command (put n (as_int s a)) others
+
+-- An int begins anew, with 0, each time that its declaration runs (this project's own choice); then it takes its value. It is in scope where that is written, and
+-- is 0 there (C99, section 6.2.1).
+abbrev pub begun_int : Scope → (n : ℕ) → Option ExprTree → Commands → Commands
+begun_int s n a others = and_command (put n (Number (pos 0))) (initialized s n a others)
+
+-- A variable that names objects begins anew with nil, and then names what is written (ARC, "Ownership qualification"). No command is needed for the nil: its
+-- function begins with it, and each end of its block drops the variable.
+abbrev pub begun_object : Scope → (n : ℕ) → Option ExprTree → Commands → Commands
+begun_object s n None others = others
+begun_object s n (Some a) others = and_command (Begin n (object_in (resolved s a))) others
 
 -- a declared variable, from the scope before it and the one behind it
 abbrev pub declared : TypeTree → (before after : Scope) → Option ExprTree → Commands → Commands
-declared tree.Int before after a others = and_command (Evaluate (Assigned before.next (initial after a))) others
-declared tree.Id before after a others = begun after before.names a others
-declared (tree.Object at class) before after a others = begun after before.names a others
+declared tree.Int before after a others = begun_int after before.next a others
+declared tree.Id before after a others = begun_object after before.names a others
+declared (tree.Object at class) before after a others = begun_object after before.names a others
 
 -- a declaration gives its variables their values in turn, each time that it runs
 abbrev pub resolved_variables : TypeTree → Scope → List VariableTree → Commands

@@ -4,11 +4,11 @@ ghost use Rattle.arc_ast.specs.Tree.{expr_tree, type_tree, variable_trees, param
 ghost use Rattle.arc_class.specs.Table.{number_of_class};
 ghost use Rattle.arc_spec.specs.Resolved.{Sequence, Choose, Repeat};
 ghost use Rattle.arc_spec.specs.Resolved as spec;
-ghost use Rattle.arc_check.specs.Building.{function_of, functions_ahead, in_front_of, resolution};
+ghost use Rattle.arc_check.specs.Building.{ahead_of, function_of, functions_ahead, resolution};
 ghost use Rattle.arc_check.specs.Checked as checked;
 ghost use Rattle.arc_check.specs.Resolving as resolving;
 ghost use Rattle.arc_check.specs.Resolving.{as_int, resolved_variables, resolved_stmt, resolved_stmts, resolved_body, resolved_functions, with_methods, resolved_methods};
-ghost use Rattle.arc_check.specs.Scopes.{Scope, leave, behind, behind_all, with_parameters, with_variables};
+ghost use Rattle.arc_check.specs.Scopes.{declare, leave, behind, behind_all, with_parameters, with_variables};
 ghost use Rattle.arc_check.specs.Views.{known_in, seen};
 
 use crate::body::named_parameters;
@@ -19,21 +19,6 @@ use crate::scope::Visible;
 use arc_ast::tree::{Expr, Function, Implementation, Method, Parameter, Stmt, TypeName, Variable};
 use arc_class::table::{ClassId, ClassTable};
 use std::alloc::{AllocError, Global};
-
-/// What a variable begins with.
-fn initial<'a>(
-    alloc: Global,
-    table: &ClassTable<'a>,
-    visible: &Visible<'a>,
-    expr: &'a Option<Expr>,
-) -> Result<Value, AllocError>
-    ensures { IfOk result (λ value. checked.value value ≡ resolving.initial (seen table.now visible.now) (option_map expr_tree expr.now)) }
-{
-    match expr {
-        None => Ok(Value::Number(0)),
-        Some(expr) => int(alloc, table, visible, expr),
-    }
-}
 
 /// A resolved return, of an int where it gives something.
 fn returned<'a>(
@@ -53,30 +38,75 @@ fn returned<'a>(
     }
 }
 
-/// What the declared variable's beginning runs, if it runs something; it is declared from what was visible before to what is visible now, where these are
-/// the numbers that were next.
-fn beginning<'a>(
+/// The command that puts the value into the int of the number.
+fn put(alloc: Global, number: u16, value: Value) -> Result<Command, AllocError>
+    ensures { IfOk result (λ new. checked.command new ≡ resolving.put number (checked.value value)) }
+{
+    let value = Box::new(alloc, value)?;
+    Ok(Command::Evaluate(Value::Assigned(usize::from(number), value)))
+}
+
+/// Appends what a declaration of the int of the number runs: it begins at 0, and then takes its value.
+fn add_int<'a>(
     alloc: Global,
     table: &ClassTable<'a>,
     visible: &Visible<'a>,
-    type_name: &TypeName,
-    next: u16,
-    names: u16,
+    number: u16,
     expr: &'a Option<Expr>,
-) -> Result<Option<Command>, AllocError>
-    ensures { IfOk result (λ new. (before : Scope) (others : spec.Commands) → before.next ≡ next → before.names ≡ names
-        → resolving.declared (type_tree type_name.now) before (seen table.now visible.now) (option_map expr_tree expr.now) others ≡ in_front_of new others) }
+    all: &mut Vec<Command>,
+) -> Result<(), AllocError>
+    ensures { OnOk result ((others : spec.Commands) → ahead_of all.new.items others
+        ≡ ahead_of all.old.items (resolving.begun_int (seen table.now visible.now) number (option_map expr_tree expr.now) others)) }
 {
-    match (type_name, expr) {
-        (TypeName::Int, _) => {
-            let value = Box::new(alloc, initial(alloc, table, visible, expr)?)?;
-            Ok(Some(Command::Evaluate(Value::Assigned(usize::from(next), value))))
+    all.push(put(alloc, number, Value::Number(0))?)?;
+    if let Some(expr) = expr {
+        let value = int(alloc, table, visible, expr)?;
+        all.push(put(alloc, number, value)?)?;
+    }
+    Ok(())
+}
+
+/// Appends what a declaration of the variable of the number runs, which names objects: it names what is written.
+fn add_object<'a>(
+    alloc: Global,
+    table: &ClassTable<'a>,
+    visible: &Visible<'a>,
+    number: u16,
+    expr: &'a Option<Expr>,
+    all: &mut Vec<Command>,
+) -> Result<(), AllocError>
+    ensures { OnOk result ((others : spec.Commands) → ahead_of all.new.items others
+        ≡ ahead_of all.old.items (resolving.begun_object (seen table.now visible.now) number (option_map expr_tree expr.now) others)) }
+{
+    if let Some(expr) = expr {
+        let object = object(alloc, table, visible, expr)?;
+        all.push(Command::Begin(usize::from(number), object))?;
+    }
+    Ok(())
+}
+
+/// Declares the variable, and appends what its declaration runs.
+fn add_variable<'a>(
+    alloc: Global,
+    table: &ClassTable<'a>,
+    visible: &mut Visible<'a>,
+    type_name: &'a TypeName,
+    variable: &'a Variable,
+    all: &mut Vec<Command>,
+) -> Result<(), AllocError>
+    ensures commands { OnOk result ((others : spec.Commands) → ahead_of all.new.items others
+        ≡ ahead_of all.old.items (resolving.declared (type_tree type_name.now) (seen table.now visible.old) (seen table.now visible.new) (option_map expr_tree variable.now.initial) others)) }
+    ensures scope { OnOk result (seen table.now visible.new ≡ declare variable.now.name.items (type_tree type_name.now) (seen table.now visible.old)) }
+    ensures keeps { OnOk result (take (length visible.old.bound.items) visible.new.bound.items ≡ visible.old.bound.items) }
+{
+    let (next, names) = (visible.next, visible.names);
+    visible.declare(table, type_name, &variable.name)?;
+    let initial = &variable.initial;
+    match type_name {
+        TypeName::Int => add_int(alloc, table, visible, next, initial, all),
+        TypeName::Id | TypeName::Object(_, _) => {
+            add_object(alloc, table, visible, names, initial, all)
         }
-        (TypeName::Id | TypeName::Object(_, _), Some(expr)) => {
-            let object = object(alloc, table, visible, expr)?;
-            Ok(Some(Command::Begin(usize::from(names), object)))
-        }
-        (TypeName::Id | TypeName::Object(_, _), None) => Ok(None),
     }
 }
 
@@ -94,20 +124,7 @@ fn variables<'a>(
 {
     let mut all = Vec::new(alloc);
     for variable in declared {
-        let (next, names) = (visible.next, visible.names);
-        visible.declare(table, type_name, &variable.name)?;
-        let new = beginning(
-            alloc,
-            table,
-            visible,
-            type_name,
-            next,
-            names,
-            &variable.initial,
-        )?;
-        if let Some(command) = new {
-            all.push(command)?;
-        }
+        add_variable(alloc, table, visible, type_name, variable, &mut all)?;
     }
     Ok(all)
 }
