@@ -10,6 +10,14 @@ pub enum Kind {
     Object,
 }
 
+/// How a variable or a field holds an object (ARC, "Ownership qualification").
+#[derive(Clone, Copy, Debug, PartialEq, Eq)]
+pub enum Qual {
+    Strong,
+    Weak,
+    Autoreleasing,
+}
+
 #[derive(Clone, Copy, Debug, PartialEq, Eq)]
 pub enum BinaryOperator {
     Add,

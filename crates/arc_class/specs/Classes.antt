@@ -1,5 +1,5 @@
 -- The classes of a source, their methods and their selectors.
-use Rattle.std.specs.Prelude.{ℕ, zero, suc, ◌+◌, Bool, false, ◌&&◌, ◌||◌, List, [], ◌∷◌, ◌++◌, length, Option, Some, None, option_map, slice_get, codes, if◌then◌else◌}
+use Rattle.std.specs.Prelude.{ℕ, zero, suc, ◌+◌, Bool, false, ◌&&◌, ◌||◌, nat_lt, List, [], ◌∷◌, ◌++◌, length, Option, Some, None, option_map, slice_get, codes, if◌then◌else◌}
 use Rattle.std.specs.Str.{bytes_eq}
 use Rattle.arc_ast.specs.declared.tree.Kind.{Kind}
 use Rattle.arc_ast.specs.declared.tree.Kind.TheVariants as k
@@ -127,17 +127,32 @@ abbrev pub with_selectors : List (List ℕ) → List HeadTree → List (List ℕ
 with_selectors names [] = names
 with_selectors names (h ∷ others) = with_selectors (and_name names h.selector) others
 
-abbrev pub declared_selectors : List (List ℕ) → List InterfaceTree → List (List ℕ)
-declared_selectors names [] = names
-declared_selectors names (i ∷ others) = declared_selectors (with_selectors names i.methods) others
-
 abbrev pub defined_selectors : List (List ℕ) → List ImplementationTree → List (List ℕ)
 defined_selectors names [] = names
 defined_selectors names (i ∷ others) = defined_selectors (with_selectors names (heads i.methods)) others
 
--- the selectors of all methods, each once: those of the interfaces, and then those of the implementations
+-- the selectors of the root's methods, which are built in (Runtime Reference, "NSObject"; OPL, "Allocating and Initializing Objects" and "Introspection")
+abbrev pub built_in_selectors : List (List ℕ)
+built_in_selectors = codes "alloc" ∷ codes "new" ∷ codes "init" ∷ codes "dealloc" ∷ codes "isKindOfClass:" ∷ codes "isMemberOfClass:" ∷ codes "respondsToSelector:" ∷ codes "conformsToProtocol:" ∷ []
+
+-- the implementations up to the first that doesn't stand before a place, and those from it on
+abbrev pub standing_before : (at : ℕ) → List ImplementationTree → List ImplementationTree
+standing_before at [] = []
+standing_before at (i ∷ others) = if nat_lt i.at at then i ∷ standing_before at others else []
+
+abbrev pub standing_after : (at : ℕ) → List ImplementationTree → List ImplementationTree
+standing_after at [] = []
+standing_after at (i ∷ others) = if nat_lt i.at at then standing_after at others else i ∷ others
+
+-- names and the selectors of all methods, each once, in the order of the file: before those of an interface come those of the implementations before it
+abbrev pub selectors_in_order : List (List ℕ) → List InterfaceTree → List ImplementationTree → List (List ℕ)
+selectors_in_order names [] implementations = defined_selectors names implementations
+selectors_in_order names (i ∷ others) implementations =
+    selectors_in_order (with_selectors (defined_selectors names (standing_before i.at implementations)) i.methods) others (standing_after i.at implementations)
+
+-- The selectors of a source: those that are built in, and then those of its methods, by first appearance.
 abbrev pub selectors : UnitTree → List (List ℕ)
-selectors u = defined_selectors (declared_selectors [] u.interfaces) u.implementations
+selectors u = selectors_in_order built_in_selectors u.interfaces u.implementations
 
 -- selectors are numbered in that order, from 0
 abbrev pub number_among : List (List ℕ) → List ℕ → Option ℕ

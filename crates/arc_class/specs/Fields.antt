@@ -1,14 +1,19 @@
 -- The fields of objects.
 use Rattle.std.specs.Prelude.{ℕ, zero, suc, Bool, false, List, [], ◌∷◌, ◌++◌, length, map, Option, Some, None, nat_eq, slice_get, if◌then◌else◌}
 use Rattle.std.specs.Str.{bytes_eq}
+use Rattle.arc_ast.specs.declared.tree.Kind.{Kind}
+use Rattle.arc_ast.specs.declared.tree.Kind.TheVariants as k
+use Rattle.arc_ast.specs.declared.tree.Qual.{Qual}
 use Rattle.arc_ast.specs.declared.tree.Visibility.{Visibility}
 use Rattle.arc_ast.specs.Tree.{FieldTree, InterfaceTree, ImplementationTree, UnitTree}
 use Rattle.arc_class.specs.declared.table.FoundField.{FoundField}
 use Rattle.arc_class.specs.Classes.{class_number, superclass, nearest}
 
--- a field that the objects of a class have, with the class that declares it
+-- a field that the objects of a class have, with what it is, how it holds an object, if it is one (ARC, "Ownership qualification"), and the class that declares it
 pub record ClassField : Type 0 where
   pub name : List ℕ
+  pub kind : Kind
+  pub qual : Option Qual
   pub owner : ℕ
   pub visibility : Visibility
 
@@ -38,7 +43,7 @@ own_fields u zero = []
 own_fields u (suc n) = fields_of u (suc n) (slice_get u.interfaces n)
 
 abbrev pub owned : (owner : ℕ) → FieldTree → ClassField
-owned owner f = record { name = f.name; owner = owner; visibility = f.visibility }
+owned owner f = record { name = f.name; kind = k.Int; qual = None; owner = owner; visibility = f.visibility }
 
 abbrev pub of_superclass : (superclass : Option ℕ) → (ℕ → List ClassField) → List ClassField
 of_superclass None these = []

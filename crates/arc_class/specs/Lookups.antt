@@ -86,7 +86,7 @@ field_among classes from name = nearest (length classes - 1) (superclass_of_fiel
 
 -- a field, without where it lies in memory; and all of a class's objects
 abbrev pub field_tree : Field → ClassField
-field_tree f = record { name = f.name.now; owner = number_of_class f.owner; visibility = f.visibility }
+field_tree f = record { name = f.name.now; kind = f.kind; qual = f.qual; owner = number_of_class f.owner; visibility = f.visibility }
 
 abbrev pub list_of : Vec Field Global → List ClassField
 list_of all = map field_tree all.items

@@ -4,7 +4,7 @@ ghost use Rattle.arc_ast.specs.declared.tree.Sign.{Sign};
 ghost use Rattle.arc_ast.specs.Tree.{UnitTree, unit_tree, head_tree, head_trees, method_trees, interface_trees, implementation_trees, interface_tree};
 ghost use Rattle.arc_spec.specs.Classes.{class_of, classes_of};
 ghost use Rattle.arc_class.specs.Classes as classes;
-ghost use Rattle.arc_class.specs.Classes.{heads, first_head, with_selectors, declared_selectors, defined_selectors, selectors, number_among, or_zero, defined_by};
+ghost use Rattle.arc_class.specs.Classes.{heads, first_head, with_selectors, defined_selectors, standing_before, standing_after, selectors_in_order, built_in_selectors, selectors, number_among, or_zero, defined_by};
 ghost use Rattle.arc_fault.specs.declared.class.ClassFault.TheVariants.{Memory};
 ghost use Rattle.arc_class.specs.Entries.{entry_tree, root_entry, class_entry, fields_tree, all_class_fields};
 ghost use Rattle.arc_class.specs.Fields.{all_fields_from};
@@ -50,19 +50,6 @@ fn add_methods<'a>(names: &mut Selectors<'a>, methods: &'a [Method]) -> Result<(
     Ok(())
 }
 
-/// Adds the selectors of the methods of interfaces.
-fn add_declared<'a>(
-    names: &mut Selectors<'a>,
-    interfaces: &'a [Interface],
-) -> Result<(), AllocError>
-    ensures { OnOk result (names_of names.new.keys ≡ declared_selectors (names_of names.old.keys) (interface_trees interfaces.now)) }
-{
-    for interface in interfaces {
-        add_heads(names, &interface.methods)?;
-    }
-    Ok(())
-}
-
 /// Adds the selectors of the methods of implementations.
 fn add_defined<'a>(
     names: &mut Selectors<'a>,
@@ -76,13 +63,67 @@ fn add_defined<'a>(
     Ok(())
 }
 
+/// Adds the selectors of the methods of the implementations up to the first that doesn't stand before
+/// the place, and returns those from it on.
+fn add_defined_before<'a>(
+    names: &mut Selectors<'a>,
+    implementations: &'a [Implementation],
+    at: usize,
+) -> Result<&'a [Implementation], AllocError>
+    ensures added { OnOk result (names_of names.new.keys
+        ≡ defined_selectors (names_of names.old.keys) (standing_before at (implementation_trees implementations.now))) }
+    ensures rest { IfOk result (λ rest. implementation_trees rest.now ≡ standing_after at (implementation_trees implementations.now)) }
+{
+    let mut count = 0;
+    for implementation in implementations {
+        if implementation.at >= at {
+            return Ok(&implementations[count..]);
+        }
+        add_methods(names, &implementation.methods)?;
+        count += 1;
+    }
+    Ok(&implementations[count..])
+}
+
+/// Adds the selectors of all methods in the order of the file.
+fn add_in_order<'a>(
+    names: &mut Selectors<'a>,
+    interfaces: &'a [Interface],
+    implementations: &'a [Implementation],
+) -> Result<(), AllocError>
+    ensures { OnOk result (names_of names.new.keys
+        ≡ selectors_in_order (names_of names.old.keys) (interface_trees interfaces.now) (implementation_trees implementations.now)) }
+{
+    let mut rest = implementations;
+    for interface in interfaces {
+        rest = add_defined_before(names, rest, interface.at)?;
+        add_heads(names, &interface.methods)?;
+    }
+    add_defined(names, rest)
+}
+
+/// The selectors of the root's methods.
+fn built_in_selectors<'a>(alloc: Global) -> Result<Selectors<'a>, AllocError>
+    ensures { IfOk result (λ names. names_of names.keys ≡ built_in_selectors) }
+{
+    let mut names = Selectors::new(alloc);
+    names.insert(b"alloc".as_slice())?;
+    names.insert(b"new".as_slice())?;
+    names.insert(b"init".as_slice())?;
+    names.insert(b"dealloc".as_slice())?;
+    names.insert(b"isKindOfClass:".as_slice())?;
+    names.insert(b"isMemberOfClass:".as_slice())?;
+    names.insert(b"respondsToSelector:".as_slice())?;
+    names.insert(b"conformsToProtocol:".as_slice())?;
+    Ok(names)
+}
+
 /// The selectors of a source.
 pub fn selectors<'a>(alloc: Global, unit: &'a TranslationUnit) -> Result<Selectors<'a>, AllocError>
     ensures { IfOk result (λ names. names_of names.keys ≡ selectors (unit_tree unit.now)) }
 {
-    let mut names = Selectors::new(alloc);
-    add_declared(&mut names, &unit.interfaces)?;
-    add_defined(&mut names, &unit.implementations)?;
+    let mut names = built_in_selectors(alloc)?;
+    add_in_order(&mut names, &unit.interfaces, &unit.implementations)?;
     Ok(names)
 }
 

@@ -26,7 +26,7 @@ use crate::nearest::{field_owners, method_owners};
 use crate::owners::Owners;
 use crate::root::{BuiltIn, root_result};
 use crate::walk::walk;
-use arc_ast::tree::{Kind, Sign, TranslationUnit, Visibility};
+use arc_ast::tree::{Kind, Qual, Sign, TranslationUnit, Visibility};
 use arc_fault::class::ClassFault;
 use arc_spec::class::{Class, descends_from, look_up};
 use arc_spec::event::NoMemory;
@@ -143,10 +143,12 @@ pub struct Sel(pub usize);
 #[derive(Clone, Copy, Debug, PartialEq, Eq)]
 pub struct MethodId(pub usize);
 
-/// A field of a class's objects, and the class that declares it.
+/// A field of a class's objects, and the class that declares it. A number is held in no way.
 #[derive(Clone, Copy)]
 pub struct Field<'a> {
     pub name: &'a [u8],
+    pub kind: Kind,
+    pub qual: Option<Qual>,
     pub owner: ClassId,
     pub visibility: Visibility,
 }

@@ -33,10 +33,11 @@ fn registers(rt: HostRuntime) {
     let first = table.sel_register_name(b"zip:").expect(&rt, "no memory");
     let second = table.sel_register_name(b"zip:").expect(&rt, "no memory");
     let other = table.sel_register_name(b"zip").expect(&rt, "no memory");
-    assert_eq!(rt; (first, second, other), (Sel(1), Sel(1), Sel(2)));
+    assert_eq!(rt; (first, second, other), (Sel(9), Sel(9), Sel(10)));
     assert_eq!(rt; table.sel_get_name(first), b"zip:".as_slice());
     assert_eq!(rt; table.sel_get_name(other), b"zip".as_slice());
     let selector = table.selector(b"f").expect(&rt, "no selector");
     let found = table.method(ClassId(2), Sign::Instance, selector);
-    assert_eq!(rt; found, Some(MethodId(1)));
+    assert_eq!(rt; (selector, found), (Sel(8), Some(MethodId(1))));
+    assert_eq!(rt; table.selector(b"dealloc"), Some(Sel(3)));
 }

@@ -1,4 +1,5 @@
-use Rattle.std.proofs.Common.{◌≡◌, ℕ, List, ◌+◌, ◌++◌, map, drop, ap, ◌∙◌}
+use Rattle.std.proofs.Common.{◌≡◌, ℕ, List, ◌+◌, ◌++◌, None, map, drop, ap, ◌∙◌}
+use Rattle.arc_ast.specs.declared.tree.Kind.TheVariants as kinds
 use Rattle.arc_ast.specs.declared.tree.Visibility.{Visibility}
 use Rattle.arc_ast.specs.Tree.{field_trees}
 use Rattle.arc_class.specs.declared.table.Field.{Field}
@@ -10,7 +11,7 @@ use Rattle.arc_class.proofs.Rules.{field_at}
 use Rattle.arc_class.proofs.fields.add_fields.Goals as goal
 
 abbrev field_with : ℕ → Visibility → List ℕ → ClassField
-field_with owner visibility name = record { name = name; owner = owner; visibility = visibility }
+field_with owner visibility name = record { name = name; kind = kinds.Int; qual = None; owner = owner; visibility = visibility }
 
 pub loop-field-preserved : goal.loop-field-preserved
 loop-field-preserved c =
@@ -18,7 +19,7 @@ loop-field-preserved c =
     let k = c.loop-field.field-index in
     let x = c.field-item.result in
     let owner = number_of_class c.args.owner in
-    let one : Field = record { name = c.deref.result; owner = c.args.owner; visibility = x.visibility } in
+    let one : Field = record { name = c.deref.result; kind = kinds.Int; qual = None; owner = c.args.owner; visibility = x.visibility } in
     let made : field_tree one ≡ owned owner (field_at x) = ap (field_with owner x.visibility) c.deref.ensures.value in
     made_turn field_tree c.loop-field.all.items c.push.new.self.items one (owned owner (field_at x)) (map (owned owner) (field_trees (drop (k + 1) xs))) _
     c.in_ok-push.ensures.items made
