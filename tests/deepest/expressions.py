@@ -46,6 +46,8 @@ def wide_layer(place):
 NUMBERS = {
     "parentheses": lambda n: around(n, ["("], [")"], lambda v: v),
     "unary minus": number,
+    "unary plus": lambda n: around(n, ["+"], [], lambda v: v),
+    "unary plus and minus": lambda n: around(n, ["+", "-"], [], lambda v: -v),
     "minus and parentheses": lambda n: around(n, ["-", "("], [")"], lambda v: -v),
     "sums": lambda n: chain(n, "+", lambda v: v + 1),
     "differences": lambda n: chain(n, "-", lambda v: v - 1),
@@ -295,7 +297,7 @@ def nested_cases(runner):
 def begun_cases(runner):
     """Sources of 1 MiB whose one expression never ends: the 1,001st token is too deep."""
     head = b"int main(void) { return "
-    for part in ("(", "-", "[", "f (", "1 + (", "1 +", "a = (", "a =", "[ A m :", "f ( 1 ,", "( id )", "( A * )"):
+    for part in ("(", "-", "+", "[", "f (", "1 + (", "1 +", "a = (", "a =", "[ A m :", "f ( 1 ,", "( id )", "( A * )"):
         tokens = part.split()
         source = padded(head + (part.encode() + b" ") * ((MOST_SOURCE - len(head)) // (len(part) + 1)))
         whole, place = divmod(MOST_TOKENS, len(tokens))

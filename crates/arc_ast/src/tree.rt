@@ -73,6 +73,8 @@ pub enum Expr {
     /// The name of a variable or a field or, as a receiver, of a class.
     Name(usize, Vec<u8>),
     Negate(usize, Box<Expr>),
+    /// Unary `+`
+    Plus(usize, Box<Expr>),
     Cast(usize, TypeName, Box<Expr>),
     Binary(usize, BinaryOperator, Box<Expr>, Box<Expr>),
     /// A field of an object: the place of its first byte and that of the field's name, the object, and

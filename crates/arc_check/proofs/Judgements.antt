@@ -5,7 +5,7 @@ use Rattle.arc_ast.specs.declared.tree.Kind.TheVariants as kinds_of
 use Rattle.arc_ast.specs.declared.tree.Expr as ast
 use Rattle.arc_ast.specs.declared.tree.Expr.{Expr}
 use Rattle.arc_ast.specs.declared.tree.BinaryOperator.{BinaryOperator}
-use Rattle.arc_ast.specs.Tree.{ExprTree, ExprTrees, Arrow, Assign, Binary, Cast, Itself, Negate, Send, SendSuper, TypeTree, expr_tree, expr_trees, place}
+use Rattle.arc_ast.specs.Tree.{ExprTree, ExprTrees, Arrow, Assign, Binary, Cast, Itself, Negate, Plus, Send, SendSuper, TypeTree, expr_tree, expr_trees, place}
 use Rattle.arc_class.specs.Bodies.{broken_if}
 use Rattle.arc_class.specs.Broken.{Broken, first, earlier_of}
 use Rattle.arc_class.specs.Table.{number_of_class}
@@ -98,6 +98,10 @@ judges_negation s before at a judged new here j p k c f t = record {
   fault = with_rule s (broken s a) a no_number (option_map told judged.fault) (option_map told new.fault) judged.kind here j.fault j.kind p f;
   taken = t ∙ j.taken;
 }
+
+-- unary `+` is told as a negation is
+pub judges_plus : (s : Scope) (before : Taken) (at : ℕ) (a : ExprTree) (judged : Judged) → Judges s before (Negate at a) judged → Judges s before (Plus at a) judged
+judges_plus s before at a judged j = record { kind = j.kind; class = j.class; fault = j.fault; taken = j.taken }
 
 pub judges_cast : (s : Scope) (before : Taken) (at : ℕ) (type : TypeTree) (a : ExprTree) (judged new : Judged) (here : ℕ) → Judges s before a judged → here ≡ place a → new.kind ≡ kind_of s (Cast at type a)
     → option_map number_of_class new.class ≡ static_class s.known type → option_map told new.fault ≡ earlier_of (option_map told judged.fault) (first (no_object judged.kind here)) → new.taken ≡ judged.taken → Judges s before (Cast at type a) new

@@ -7,7 +7,7 @@ use Rattle.arc_ast.specs.declared.tree.Kind.TheVariants as k
 use Rattle.arc_ast.specs.declared.tree.Sign.{Sign}
 use Rattle.arc_ast.specs.declared.tree.Sign.TheVariants as signs
 use Rattle.arc_ast.specs.Tree as tree
-use Rattle.arc_ast.specs.Tree.{TypeTree, ExprTree, ExprTrees, Integer, Text, Paren, Call, Name, Negate, Cast, Binary, Arrow, Assign, Send, SendSuper, no_exprs, and_expr, VariableTree, StmtTree, StmtTrees, Block, Empty, Simple, Variables, If, IfElse, While, no_stmts, and_stmt, ParameterTree, FunctionTree, MethodTree, ImplementationTree, UnitTree}
+use Rattle.arc_ast.specs.Tree.{TypeTree, ExprTree, ExprTrees, Integer, Text, Paren, Call, Name, Negate, Plus, Cast, Binary, Arrow, Assign, Send, SendSuper, no_exprs, and_expr, VariableTree, StmtTree, StmtTrees, Block, Empty, Simple, Variables, If, IfElse, While, no_stmts, and_stmt, ParameterTree, FunctionTree, MethodTree, ImplementationTree, UnitTree}
 use Rattle.arc_spec.specs.Resolved.{Value, Reference, Number, ReadByte, Print, Negated, Combined, Converted, Local, Assigned, Invoked, Sent, SentSuper, SentTo, SentToSuper, Field, FieldAssigned, Differ, IsObject, Nil, Itself, Variable, Stored, Made, Initialized, Values, no_values, and_value, Command, Sequence, Evaluate, EvaluateReference, Begin, Return, Choose, Repeat, Commands, no_commands, and_command, Function, Program}
 use Rattle.arc_class.specs.Bodies.{named_parameters}
 use Rattle.arc_class.specs.Running.{classes}
@@ -162,7 +162,8 @@ sent_super s name all = to_super s.sign (super_kind s name) (number (above s.kno
 
 -- ---- expressions
 
--- an expression; a text is resolved with its call, and casts and parentheses vanish
+-- An expression; a text is resolved with its call, and casts and parentheses vanish. So does unary `+`, which gives the value of its promoted operand (C99,
+-- section 6.5.3.3): an int or a long, which the promotions leave as it is (section 6.3.1.1).
 abbrev mutual
   pub resolved : Scope → ExprTree → Resolution
   resolved s (Integer at n) = Gives (literal_kind n) (Number n)
@@ -174,6 +175,7 @@ abbrev mutual
   resolved s (tree.Itself at) = Refers Itself
   resolved s (Name at name) = named (s.variables name) (own_field s name)
   resolved s (Negate at a) = negated (resolved s a)
+  resolved s (Plus at a) = resolved s a
   resolved s (Cast at type a) = resolved s a
   resolved s (Binary at operator a b) = binary operator (resolved s a) (resolved s b)
   resolved s (Arrow at name_at a name) = field (object_in (resolved s a)) (s.known.field (class_of s a) name)

@@ -5,7 +5,7 @@ use Rattle.arc_ast.specs.declared.tree.Kind.TheVariants as k
 use Rattle.arc_ast.specs.declared.tree.BinaryOperator.{BinaryOperator}
 use Rattle.arc_ast.specs.declared.tree.BinaryOperator.TheVariants as o
 use Rattle.arc_ast.specs.Tree as tree
-use Rattle.arc_ast.specs.Tree.{TypeTree, ExprTree, ExprTrees, Integer, Text, Paren, Call, Nil, Itself, Name, Negate, Cast, Binary, Arrow, Assign, Send, SendSuper, no_exprs, and_expr, place, VariableTree, StmtTree, StmtTrees, Block, Empty, Simple, Return, Variables, If, IfElse, While, no_stmts, and_stmt, ParameterTree, FunctionTree, HeadTree, MethodTree, InterfaceTree, ImplementationTree, UnitTree}
+use Rattle.arc_ast.specs.Tree.{TypeTree, ExprTree, ExprTrees, Integer, Text, Paren, Call, Nil, Itself, Name, Negate, Plus, Cast, Binary, Arrow, Assign, Send, SendSuper, no_exprs, and_expr, place, VariableTree, StmtTree, StmtTrees, Block, Empty, Simple, Return, Variables, If, IfElse, While, no_stmts, and_stmt, ParameterTree, FunctionTree, HeadTree, MethodTree, InterfaceTree, ImplementationTree, UnitTree}
 use Rattle.arc_class.specs.Bodies.{broken_if, named_parameters}
 use Rattle.arc_class.specs.Broken.{Broken}
 use Rattle.arc_class.specs.Classes.{class_number, superclass, known_result, any_result, selector_number}
@@ -108,7 +108,7 @@ is_assignable (Arrow at name_at a name) = true
 is_assignable _ = false
 
 -- The kind of an expression, where it has one: it breaks no rule itself, and those have one on whose kinds its own rests. An assignment has its left side's
--- kind (C99, section 6.5.16).
+-- kind (C99, section 6.5.16), and unary `+` and `-` that of their operand, a number (section 6.5.3.3).
 abbrev mutual
   pub kind_of : Scope → ExprTree → Option Kind
   kind_of s (Integer at n) = Some (literal_kind n)
@@ -119,6 +119,7 @@ abbrev mutual
   kind_of s (Itself at) = kind_if (is_some (own_class s)) k.Object
   kind_of s (Name at name) = name_kind s (s.variables name) name
   kind_of s (Negate at a) = number_kind (kind_of s a)
+  kind_of s (Plus at a) = number_kind (kind_of s a)
   kind_of s (Cast at type a) = Some k.Object
   kind_of s (Binary at operator a b) = binary_kind operator (kind_of s a) (kind_of s b)
   kind_of s (Arrow at name_at a name) = arrow_kind s (kind_of s a) (s.known.field (class_of s a) name)
@@ -208,6 +209,7 @@ abbrev mutual
   broken s (Itself at) = broken_itself s at
   broken s (Name at name) = broken_name s (s.variables name) name at
   broken s (Negate at a) = broken s a ++ no_number (kind_of s a) (place a)
+  broken s (Plus at a) = broken s a ++ no_number (kind_of s a) (place a)
   broken s (Cast at type a) = broken s a ++ no_object (kind_of s a) (place a)
   broken s (Binary at operator a b) =
       (broken s a ++ no_left operator (kind_of s a) (place a)) ++ (broken s b ++ no_right operator (kind_of s a) (kind_of s b) (place b))
@@ -256,6 +258,7 @@ abbrev mutual
   taken s (Itself at) = at_if (is_some (own_class s)) at
   taken s (Name at name) = at_if (name_takes s (s.variables name) name) at
   taken s (Negate at a) = taken s a
+  taken s (Plus at a) = taken s a
   taken s (Cast at type a) = taken s a
   taken s (Binary at operator a b) = taken s a ++ taken s b
   taken s (Arrow at name_at a name) = taken s a

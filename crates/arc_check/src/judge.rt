@@ -182,7 +182,8 @@ pub fn judge<'a>(
         Expr::Nil(_) => object(None, None, before),
         Expr::Itself(at) => judge_itself(visible, before, *at),
         Expr::Name(at, name) => judge_name(table, visible, before, *at, name),
-        Expr::Negate(_, operand) => judge_negation(table, visible, before, operand),
+        Expr::Negate(_, operand) => judge_signed(table, visible, before, operand),
+        Expr::Plus(_, operand) => judge_signed(table, visible, before, operand),
         Expr::Cast(_, type_name, operand) => {
             judge_cast(table, visible, before, type_name, operand)
         }
@@ -206,15 +207,16 @@ pub fn judge<'a>(
     }
 }
 
-/// What is told of a negation, from its operand.
+/// What is told of a unary `+` or `-`, from its operand.
 #[cycle(judge)]
-fn judge_negation<'a>(
+fn judge_signed<'a>(
     table: &ClassTable<'a>,
     visible: &Visible<'a>,
     before: Taken,
     operand: &'a Expr,
 ) -> Judged
-    ensures { (at : ℕ) → Judges (seen table.now visible.now) before (tree.Negate at (expr_tree operand.now)) result }
+    ensures negate { (at : ℕ) → Judges (seen table.now visible.now) before (tree.Negate at (expr_tree operand.now)) result }
+    ensures plus { (at : ℕ) → Judges (seen table.now visible.now) before (tree.Plus at (expr_tree operand.now)) result }
 {
     let judged = judge(table, visible, before, operand);
     number(

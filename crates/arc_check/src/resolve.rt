@@ -1,6 +1,6 @@
 //! Builds the resolved expressions of a source that breaks no rule.
 ghost use Rattle.std.specs.Prelude.{◌≡◌, ℕ, List, Option, Some, None, option_map, IfOk};
-ghost use Rattle.arc_ast.specs.Tree.{ExprTree, type_tree, expr_tree, expr_trees, Integer, Text, Name, Negate, Cast, Binary, Arrow, Assign, Call, Send, SendSuper};
+ghost use Rattle.arc_ast.specs.Tree.{ExprTree, type_tree, expr_tree, expr_trees, Integer, Text, Name, Negate, Plus, Cast, Binary, Arrow, Assign, Call, Send, SendSuper};
 ghost use Rattle.arc_class.specs.Table.{number_of_class};
 ghost use Rattle.arc_check.specs.Building.{Resolves, printing, resolution};
 ghost use Rattle.arc_check.specs.Checked as checked;
@@ -86,6 +86,7 @@ pub fn expression<'a>(
         }),
         Expr::Name(_, name) => variable(alloc, table, visible, name),
         Expr::Negate(_, operand) => negation(alloc, table, visible, operand),
+        Expr::Plus(_, operand) => plus(alloc, table, visible, operand),
         Expr::Cast(_, type_name, operand) => cast(alloc, table, visible, type_name, operand),
         Expr::Binary(_, operator, left, right) => {
             operation(alloc, table, visible, *operator, left, right)
@@ -114,6 +115,23 @@ fn negation<'a>(
     let operand = expression(alloc, table, visible, operand)?;
     let value = negated(alloc, operand.value)?;
     Ok(Typed { class: None, value })
+}
+
+/// A resolved unary `+`, which is its operand.
+#[cycle(resolve)]
+fn plus<'a>(
+    alloc: Global,
+    table: &ClassTable<'a>,
+    visible: &Visible<'a>,
+    operand: &'a Expr,
+) -> Result<Typed, AllocError>
+    ensures { IfOk result (λ typed. (at : ℕ) → Resolves (seen table.now visible.now) (Plus at (expr_tree operand.now)) typed) }
+{
+    let operand = expression(alloc, table, visible, operand)?;
+    Ok(Typed {
+        class: None,
+        value: operand.value,
+    })
 }
 
 /// A resolved cast.

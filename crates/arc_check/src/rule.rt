@@ -53,6 +53,7 @@ pub fn place(expr: &Expr) -> usize
         | Expr::Itself(at)
         | Expr::Name(at, _)
         | Expr::Negate(at, _)
+        | Expr::Plus(at, _)
         | Expr::Cast(at, _, _)
         | Expr::Binary(at, _, _, _)
         | Expr::Arrow(_, at, _, _)

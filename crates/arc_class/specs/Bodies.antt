@@ -2,7 +2,7 @@
 use Rattle.std.specs.Prelude.{ℕ, Bool, false, ◌||◌, List, [], ◌∷◌, ◌++◌, Option, Some, None, is_none, if◌then◌else◌}
 use Rattle.std.specs.Str.{bytes_eq}
 use Rattle.arc_ast.specs.Tree as t
-use Rattle.arc_ast.specs.Tree.{TypeTree, ExprTree, ExprTrees, Integer, Text, Paren, Call, Nil, Itself, Name, Negate, Cast, Binary, Arrow, Assign, Send, SendSuper, no_exprs, and_expr, VariableTree, StmtTree, StmtTrees, Block, Empty, Simple, Return, Variables, If, IfElse, While, no_stmts, and_stmt, ParameterTree, ParametersTree, Ints, CountAndTexts, FunctionTree}
+use Rattle.arc_ast.specs.Tree.{TypeTree, ExprTree, ExprTrees, Integer, Text, Paren, Call, Nil, Itself, Name, Negate, Plus, Cast, Binary, Arrow, Assign, Send, SendSuper, no_exprs, and_expr, VariableTree, StmtTree, StmtTrees, Block, Empty, Simple, Return, Variables, If, IfElse, While, no_stmts, and_stmt, ParameterTree, ParametersTree, Ints, CountAndTexts, FunctionTree}
 use Rattle.arc_class.specs.declared.table.Declared.{Declared}
 use Rattle.arc_class.specs.Broken.{Broken}
 
@@ -35,6 +35,7 @@ abbrev mutual
   broken_expr missing (Itself at) = []
   broken_expr missing (Name at name) = []
   broken_expr missing (Negate at a) = broken_expr missing a
+  broken_expr missing (Plus at a) = broken_expr missing a
   broken_expr missing (Cast at type a) = broken_type missing type ++ broken_expr missing a
   broken_expr missing (Binary at operator a b) = broken_expr missing a ++ broken_expr missing b
   broken_expr missing (Arrow at name_at a name) = broken_expr missing a

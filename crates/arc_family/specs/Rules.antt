@@ -3,7 +3,7 @@ use Rattle.std.specs.Prelude.{ℕ, Bool, true, false, ◌||◌, ◌&&◌, List, 
 use Rattle.std.specs.Str.{bytes_eq}
 use Rattle.arc_ast.specs.declared.tree.Sign.{Sign}
 use Rattle.arc_ast.specs.declared.tree.Sign.TheVariants.{Instance, Class}
-use Rattle.arc_ast.specs.Tree.{ExprTree, ExprTrees, Integer, Text, Paren, Call, Nil, Itself, Name, Negate, Cast, Binary, Arrow, Assign, Send, SendSuper, no_exprs, and_expr, VariableTree, StmtTree, StmtTrees, Block, Empty, Simple, Return, Variables, If, IfElse, While, no_stmts, and_stmt, FunctionTree, HeadTree, MethodTree, InterfaceTree, ImplementationTree, UnitTree}
+use Rattle.arc_ast.specs.Tree.{ExprTree, ExprTrees, Integer, Text, Paren, Call, Nil, Itself, Name, Negate, Plus, Cast, Binary, Arrow, Assign, Send, SendSuper, no_exprs, and_expr, VariableTree, StmtTree, StmtTrees, Block, Empty, Simple, Return, Variables, If, IfElse, While, no_stmts, and_stmt, FunctionTree, HeadTree, MethodTree, InterfaceTree, ImplementationTree, UnitTree}
 use Rattle.arc_class.specs.Broken.{Broken}
 
 abbrev pub broken_if : Bool → ℕ → ℕ → List Broken
@@ -54,6 +54,7 @@ abbrev mutual
   broken_expr i (Itself at) = []
   broken_expr i (Name at name) = []
   broken_expr i (Negate at a) = broken_expr i a
+  broken_expr i (Plus at a) = broken_expr i a
   broken_expr i (Cast at type a) = broken_expr i a
   broken_expr i (Binary at operator a b) = broken_expr i a ++ broken_expr i b
   broken_expr i (Arrow at name_at a name) = broken_expr i a

@@ -75,6 +75,7 @@ fn expression(expr: &Expr, in_instance: bool) -> Option<OwnFault>
         Expr::Paren(_, inside) => expression(inside, in_instance),
         Expr::Call(_, _, arguments) => expressions(arguments, in_instance),
         Expr::Negate(_, operand) => expression(operand, in_instance),
+        Expr::Plus(_, operand) => expression(operand, in_instance),
         Expr::Cast(_, _, operand) => expression(operand, in_instance),
         Expr::Arrow(_, _, object, _) => expression(object, in_instance),
         Expr::Binary(_, _, left, right) => {

@@ -8,12 +8,12 @@ use Rattle.arc_lex.specs.Tokens.{Tok, Key, Sign}
 use Rattle.arc_lex.specs.Tokens as tokens
 use Rattle.arc_ast.specs.declared.tree.BinaryOperator.{BinaryOperator}
 use Rattle.arc_ast.specs.declared.tree.BinaryOperator.TheVariants.{Add, Subtract, Multiply, Divide, NotEqual}
-use Rattle.arc_ast.specs.Tree.{TypeTree, ExprTree, ExprTrees, Int, Id, Object, Integer, Text, Paren, Call, Nil, Itself, Name, Negate, Cast, Binary, Arrow, Assign, Send, SendSuper, no_exprs, and_expr}
+use Rattle.arc_ast.specs.Tree.{TypeTree, ExprTree, ExprTrees, Int, Id, Object, Integer, Text, Paren, Call, Nil, Itself, Name, Negate, Plus, Cast, Binary, Arrow, Assign, Send, SendSuper, no_exprs, and_expr}
 use Rattle.arc_ast.specs.Tree as tree
 use Rattle.arc_parse.specs.Language.{Language, ◌⨾◌, The}
 use Rattle.arc_parse.specs.Grammar.{Spells, SpellsArguments, SpellsCastType, SpellsSent, SpellsParts, begins_reference, and_part, mark_of, binds, widest}
 use Rattle.arc_parse.specs.Reader.{Read, misfit, bind, ret, begins, is_mark, is_word, is_name, sees_mark, sees_word}
-use Rattle.arc_parse.specs.ExprRules.{expr, unary, arrows, more, arguments, parts, operator_of, is_operator, mark_operator, parenthesized_by, given_by, call_by, named_by, part_by, parts_by, sent_by, super_by, object_by, message_by, primary_by, arrows_by, postfix_by, begins_type, begins_cast, cast_type, cast_by, negate_by, unary_by, binary_by, more_by, is_unary, assign_by, expr_by, arguments_by, read}
+use Rattle.arc_parse.specs.ExprRules.{expr, unary, arrows, more, arguments, parts, operator_of, is_operator, mark_operator, parenthesized_by, given_by, call_by, named_by, part_by, parts_by, sent_by, super_by, object_by, message_by, primary_by, arrows_by, postfix_by, begins_type, begins_cast, cast_type, cast_by, negate_by, plus_by, unary_by, binary_by, more_by, is_unary, assign_by, expr_by, arguments_by, read}
 use Rattle.arc_parse.specs.TooDeep.{ends_with_name, ends_with_place}
 use Rattle.arc_parse.proofs.Sorts.{sign_is, key_is, name_is}
 use Rattle.arc_parse.proofs.ExprLocal.{read_is, name_reads}
@@ -116,6 +116,7 @@ arrows_end t rest p = rw (read_is (arrows t) rest, p) refl
 pub record ReadsObject (t : ExprTree) (us rest : List Tok) : Type 0 where
   pub reads : postfix_by read us ≡ read (arrows t) rest
   pub minus : sees_mark m.Minus us ≡ false
+  pub plus : sees_mark m.Plus us ≡ false
   pub cast : begins_cast us ≡ false
 
 pub record Completes (t : ExprTree) : Type 0 where
@@ -157,6 +158,7 @@ unary_place (Call at called args) e = refl
 unary_place (Nil at) e = refl
 unary_place (Itself at) e = refl
 unary_place (Negate at a) e = refl
+unary_place (Plus at a) e = refl
 unary_place (Cast at type a) e = refl
 unary_place (Arrow at name_at a called) e = refl
 unary_place (Name at called) e = refl
@@ -184,7 +186,7 @@ from_unary t none down un = record {
 -- what is read as an object is read as a unary expression, where no field is behind it
 object_unary : (t : ExprTree) (us rest : List Tok) → ReadsObject t us rest → sees_mark m.Arrow rest ≡ false → unary_by read us ≡ Ok (t, rest)
 unfolding unary_by
-object_unary t us rest h e = rw (h.minus, h.cast) (h.reads ∙ arrows_end t rest e)
+object_unary t us rest h e = rw (h.minus, h.plus, h.cast) (h.reads ∙ arrows_end t rest e)
 
 abbrev ReadsObjects : ExprTree → Type 0
 ReadsObjects t = (ts rest : List Tok) → Spells 0 t ts → (ends_with_name t ≡ true → sees_mark m.OpenParen rest ≡ false) → ReadsObject t (ts ++ rest) rest
@@ -205,23 +207,23 @@ from_object t down post = record {
 
 integer_reads : (at : ℕ) (value : ℤ) → Completes (Integer at value)
 unfolding postfix_by primary_by
-integer_reads at value = from_object (Integer at value) (λ l ts h. h) (λ ts rest h e. record { reads = rw (h.1, h.2, h.3) refl; minus = rw (h.1, h.2) refl; cast = rw (h.1, h.2) refl })
+integer_reads at value = from_object (Integer at value) (λ l ts h. h) (λ ts rest h e. record { reads = rw (h.1, h.2, h.3) refl; minus = rw (h.1, h.2) refl; plus = rw (h.1, h.2) refl; cast = rw (h.1, h.2) refl })
 
 text_reads : (at : ℕ) (bytes : List ℕ) → Completes (Text at bytes)
 unfolding postfix_by primary_by
-text_reads at bytes = from_object (Text at bytes) (λ l ts h. h) (λ ts rest h e. record { reads = rw (h.1, h.2, h.3) refl; minus = rw (h.1, h.2) refl; cast = rw (h.1, h.2) refl })
+text_reads at bytes = from_object (Text at bytes) (λ l ts h. h) (λ ts rest h e. record { reads = rw (h.1, h.2, h.3) refl; minus = rw (h.1, h.2) refl; plus = rw (h.1, h.2) refl; cast = rw (h.1, h.2) refl })
 
 nil_reads : (at : ℕ) → Completes (Nil at)
 unfolding postfix_by primary_by
-nil_reads at = from_object (Nil at) (λ l ts h. h) (λ ts rest h e. record { reads = rw (h.1, h.2, h.3) refl; minus = rw (h.1, h.2) refl; cast = rw (h.1, h.2) refl })
+nil_reads at = from_object (Nil at) (λ l ts h. h) (λ ts rest h e. record { reads = rw (h.1, h.2, h.3) refl; minus = rw (h.1, h.2) refl; plus = rw (h.1, h.2) refl; cast = rw (h.1, h.2) refl })
 
 self_reads : (at : ℕ) → Completes (Itself at)
 unfolding postfix_by primary_by
-self_reads at = from_object (Itself at) (λ l ts h. h) (λ ts rest h e. record { reads = rw (h.1, h.2, h.3) refl; minus = rw (h.1, h.2) refl; cast = rw (h.1, h.2) refl })
+self_reads at = from_object (Itself at) (λ l ts h. h) (λ ts rest h e. record { reads = rw (h.1, h.2, h.3) refl; minus = rw (h.1, h.2) refl; plus = rw (h.1, h.2) refl; cast = rw (h.1, h.2) refl })
 
 variable_reads : (at : ℕ) (called : List ℕ) → Completes (Name at called)
 unfolding postfix_by primary_by named_by
-variable_reads at called = from_object (Name at called) (λ l ts h. h) (λ ts rest h e. record { reads = rw (h.1, h.2, e refl, h.3) refl; minus = rw (h.1, h.2) refl; cast = rw (h.1, h.2) refl })
+variable_reads at called = from_object (Name at called) (λ l ts h. h) (λ ts rest h e. record { reads = rw (h.1, h.2, e refl, h.3) refl; minus = rw (h.1, h.2) refl; plus = rw (h.1, h.2) refl; cast = rw (h.1, h.2) refl })
 
 ok_not_err : {A : Type 0} (x : Read A) (a : A) (r s : List Tok) → x ≡ Ok (a, r) → x ≡ Err (misfit, s) → ⊥
 ok_not_err x a r s p q = cc
@@ -270,7 +272,7 @@ not_type (t ∷ us) a rest h = go (is_word w.Id t.sort) refl
 
 paren_goes : (at : ℕ) (a : ExprTree) (t u : Tok) (us rest : List Tok) → t.sort ≡ Sign m.OpenParen → at ≡ t.from → read expr us ≡ Ok (a, u ∷ rest) → u.sort ≡ Sign m.CloseParen → ReadsObject (Paren at a) (t ∷ us) rest
 unfolding postfix_by primary_by parenthesized_by
-paren_goes at a t u us rest s p inside z = record { reads = rw (s, inside, z, p) refl; minus = ap (is_mark m.Minus) s; cast = rw (s, not_type us a (u ∷ rest) inside) refl }
+paren_goes at a t u us rest s p inside z = record { reads = rw (s, inside, z, p) refl; minus = ap (is_mark m.Minus) s; plus = ap (is_mark m.Plus) s; cast = rw (s, not_type us a (u ∷ rest) inside) refl }
 
 paren_reads : (at : ℕ) (a : ExprTree) → Completes a → Completes (Paren at a)
 paren_reads at a k = from_object (Paren at a) (λ l ts h. h) reads
@@ -285,7 +287,7 @@ paren_reads at a k = from_object (Paren at a) (λ l ts h. h) reads
 arrow_goes : (at name_at : ℕ) (a : ExprTree) (called : List ℕ) (us rest : List Tok) (t n : Tok) → ReadsObject a us (t ∷ n ∷ rest) → t.sort ≡ Sign m.Arrow → n.sort ≡ tokens.Name called → at ≡ tree.begins a → name_at ≡ n.from
     → ReadsObject (Arrow at name_at a called) us rest
 unfolding arrows_by
-arrow_goes at name_at a called us rest t n h st sn p q = record { reads = h.reads ∙ read_is (arrows a) (t ∷ n ∷ rest) ∙ rw (st, sn, p, q) refl; minus = h.minus; cast = h.cast }
+arrow_goes at name_at a called us rest t n h st sn p q = record { reads = h.reads ∙ read_is (arrows a) (t ∷ n ∷ rest) ∙ rw (st, sn, p, q) refl; minus = h.minus; plus = h.plus; cast = h.cast }
 
 arrow_reads : (at name_at : ℕ) (a : ExprTree) (called : List ℕ) → Completes a → Completes (Arrow at name_at a called)
 arrow_reads at name_at a called k = from_object (Arrow at name_at a called) (λ l ts h. h) reads
@@ -302,6 +304,14 @@ negate_reads at a k = from_unary (Negate at a) (λ ts h. absurd (omega (arith, h
     reads : (ts rest : List Tok) → Spells 1 (Negate at a) ts → Ends (Negate at a) 0 rest → unary_by read (ts ++ rest) ≡ Ok (Negate at a, rest)
     reads ts rest (l, (xs, ys, c, (t, cx, sx, px), y)) e =
         rw (c, cx, sx, read_is unary (ys ++ rest), k.un ys rest y (ends_last (Negate at a) a 0 rest (omega arith) (λ q. q) e), px) refl
+
+plus_reads : (at : ℕ) (a : ExprTree) → Completes a → Completes (Plus at a)
+unfolding unary_by plus_by
+plus_reads at a k = from_unary (Plus at a) (λ ts h. absurd (omega (arith, h.0))) (λ l ts h. (omega arith, h.1)) reads
+  where
+    reads : (ts rest : List Tok) → Spells 1 (Plus at a) ts → Ends (Plus at a) 0 rest → unary_by read (ts ++ rest) ≡ Ok (Plus at a, rest)
+    reads ts rest (l, (xs, ys, c, (t, cx, sx, px), y)) e =
+        rw (c, cx, sx, read_is unary (ys ++ rest), k.un ys rest y (ends_last (Plus at a) a 0 rest (omega arith) (λ q. q) e), px) refl
 
 -- a type is read, and `)` behind it, and they begin a cast
 cast_type_reads : (type : TypeTree) (ts rest : List Tok) (u : Tok) → SpellsCastType type ts → u.sort ≡ Sign m.CloseParen → (cast_type (ts ++ (u ∷ rest)) ≡ Ok (type, u ∷ rest)) × (begins_type (ts ++ (u ∷ rest)) ≡ true)
@@ -354,7 +364,7 @@ given_reads (and_expr a others) k ys rest u y z =
 call_goes : (at : ℕ) (called : List ℕ) (all : ExprTrees) (n t u : Tok) (us rest : List Tok) → n.sort ≡ tokens.Name called → at ≡ n.from → t.sort ≡ Sign m.OpenParen → given_by read us ≡ Ok (all, u ∷ rest) → u.sort ≡ Sign m.CloseParen
     → ReadsObject (Call at called all) (n ∷ t ∷ us) rest
 unfolding postfix_by primary_by named_by call_by
-call_goes at called all n t u us rest sn pn st given z = record { reads = rw (sn, st, given, z, pn) refl; minus = ap (is_mark m.Minus) sn; cast = rw sn refl }
+call_goes at called all n t u us rest sn pn st given z = record { reads = rw (sn, st, given, z, pn) refl; minus = ap (is_mark m.Minus) sn; plus = ap (is_mark m.Plus) sn; cast = rw sn refl }
 
 call_reads : (at : ℕ) (called : List ℕ) (all : ExprTrees) → ReadsArguments all → Completes (Call at called all)
 call_reads at called all k = from_object (Call at called all) (λ l ts h. h) reads
@@ -431,7 +441,7 @@ parts_sent b others k j at selector ts rest u (called, ps, e, (ns, us, c, (t, cn
 object_goes : (at part : ℕ) (a : ExprTree) (selector called : List ℕ) (args : ExprTrees) (t n u : Tok) (us vs rest : List Tok) → t.sort ≡ Sign m.OpenSquare → at ≡ t.from → read expr us ≡ Ok (a, n ∷ vs) → sees_word w.Super us ≡ false
     → n.sort ≡ tokens.Name called → part ≡ n.from → sent_by read called vs ≡ Ok ((selector, args), u ∷ rest) → u.sort ≡ Sign m.CloseSquare → ReadsObject (Send at part a selector args) (t ∷ us) rest
 unfolding postfix_by primary_by message_by object_by
-object_goes at part a selector called args t n u us vs rest so po h other sn pn q se = record { reads = rw (so, other, h, sn, q, se, po, pn) refl; minus = ap (is_mark m.Minus) so; cast = rw so refl }
+object_goes at part a selector called args t n u us vs rest so po h other sn pn q se = record { reads = rw (so, other, h, sn, q, se, po, pn) refl; minus = ap (is_mark m.Minus) so; plus = ap (is_mark m.Plus) so; cast = rw so refl }
 
 message_reads : (at part : ℕ) (a : ExprTree) (selector : List ℕ) (args : ExprTrees) → Completes a → ReadsSent args → Completes (Send at part a selector args)
 message_reads at part a selector args j k = from_object (Send at part a selector args) (λ l ts h. h) reads
@@ -449,7 +459,7 @@ message_reads at part a selector args j k = from_object (Send at part a selector
 super_goes : (at part super_at : ℕ) (selector called : List ℕ) (args : ExprTrees) (t v n u : Tok) (us rest : List Tok) → t.sort ≡ Sign m.OpenSquare → at ≡ t.from → v.sort ≡ Key w.Super → super_at ≡ v.from
     → n.sort ≡ tokens.Name called → part ≡ n.from → sent_by read called us ≡ Ok ((selector, args), u ∷ rest) → u.sort ≡ Sign m.CloseSquare → ReadsObject (SendSuper at part super_at selector args) (t ∷ v ∷ n ∷ us) rest
 unfolding postfix_by primary_by message_by super_by
-super_goes at part super_at selector called args t v n u us rest so po sv pv sn pn q se = record { reads = rw (so, sv, sn, q, se, po, pv, pn) refl; minus = ap (is_mark m.Minus) so; cast = rw so refl }
+super_goes at part super_at selector called args t v n u us rest so po sv pv sn pn q se = record { reads = rw (so, sv, sn, q, se, po, pv, pn) refl; minus = ap (is_mark m.Minus) so; plus = ap (is_mark m.Plus) so; cast = rw so refl }
 
 super_reads : (at part super_at : ℕ) (selector : List ℕ) (args : ExprTrees) → ReadsSent args → Completes (SendSuper at part super_at selector args)
 super_reads at part super_at selector args k = from_object (SendSuper at part super_at selector args) (λ l ts h. h) reads
@@ -506,6 +516,7 @@ unary_here (Call at called args) xs h = refl
 unary_here (Nil at) xs h = refl
 unary_here (Itself at) xs h = refl
 unary_here (Negate at a) xs h = refl
+unary_here (Plus at a) xs h = refl
 unary_here (Cast at type a) xs h = refl
 unary_here (Arrow at name_at a called) xs h = refl
 unary_here (Binary at o a b) xs h = absurd (omega (arith, h.0, binds_some o))
@@ -537,6 +548,7 @@ mutual
   complete (Paren at a) = paren_reads at a (complete a)
   complete (Call at called all) = call_reads at called all (complete_arguments all)
   complete (Negate at a) = negate_reads at a (complete a)
+  complete (Plus at a) = plus_reads at a (complete a)
   complete (Binary at o a b) = binary_reads at o a b (complete a) (complete b)
   complete (Nil at) = nil_reads at
   complete (Itself at) = self_reads at

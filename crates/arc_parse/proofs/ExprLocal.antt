@@ -8,7 +8,7 @@ use Rattle.arc_ast.specs.declared.tree.BinaryOperator.TheVariants.{Multiply}
 use Rattle.arc_ast.specs.Tree.{ExprTree, Object, Paren, Name, Cast, Binary}
 use Rattle.arc_parse.specs.Grammar.{begins_reference}
 use Rattle.arc_parse.specs.Reader.{Read, Reader, ◌>>=◌, ret, first, bind, is_mark, is_word, is_name, sees_mark, expect, if_mark, if_ahead}
-use Rattle.arc_parse.specs.ExprRules.{Rule, Node, Rules, expr, unary, arrows, more, arguments, parts, parenthesized_by, given_by, call_by, named_by, part_by, parts_by, sent_by, super_by, object_by, message_by, primary_by, arrows_by, postfix_by, begins_type, begins_cast, cast_type, cast_by, negate_by, unary_by, binary_by, more_by, is_unary, assign_by, expr_by, arguments_by, body, read}
+use Rattle.arc_parse.specs.ExprRules.{Rule, Node, Rules, expr, unary, arrows, more, arguments, parts, parenthesized_by, given_by, call_by, named_by, part_by, parts_by, sent_by, super_by, object_by, message_by, primary_by, arrows_by, postfix_by, begins_type, begins_cast, cast_type, cast_by, negate_by, plus_by, unary_by, binary_by, more_by, is_unary, assign_by, expr_by, arguments_by, body, read}
 use Rattle.arc_parse.proofs.Local.{Local, Decided, rest_of, then, after, fewer, weaker, local_ret, local_token, local_if, local_ahead, first_behind, begins_alike, stops_short, rest_short}
 use Rattle.arc_parse.proofs.Sorts.{sign_is, name_is}
 use Rattle.arc_parse.proofs.Knot as knot
@@ -265,9 +265,13 @@ module _ {S : Type 0} {k : ℕ} (g h : Rules) (rec : Alike S k g h) where
   unfolding negate_by
   negate_local = after (local_token _) (λ at. then (weaker (rec unary)) (λ operand. local_ret _))
 
+  plus_local : Local S 1 (suc k) (plus_by g) (plus_by h)
+  unfolding plus_by
+  plus_local = after (local_token _) (λ at. then (weaker (rec unary)) (λ operand. local_ret _))
+
   unary_ahead : (S → Looks g) → Local S 1 (suc k) (unary_by g) (unary_by h)
   unfolding unary_by
-  unary_ahead looks = local_if _ negate_local (local_ahead begins_cast (λ so. cast_decided (looks so)) cast_local postfix_local)
+  unary_ahead looks = local_if _ negate_local (local_if _ plus_local (local_ahead begins_cast (λ so. cast_decided (looks so)) cast_local postfix_local))
 
   assign_local : (left : ExprTree) → Local S 0 k (assign_by g left) (assign_by h left)
   unfolding assign_by

@@ -8,12 +8,12 @@ use Rattle.arc_lex.specs.Tokens.{Tok, Sort, Sign, Key}
 use Rattle.arc_lex.specs.Tokens as tokens
 use Rattle.arc_ast.specs.declared.tree.BinaryOperator.{BinaryOperator}
 use Rattle.arc_ast.specs.declared.tree.BinaryOperator.TheVariants.{Add, Subtract, Multiply, Divide, NotEqual}
-use Rattle.arc_ast.specs.Tree.{ExprTree, ExprTrees, Id, Object, Integer, Text, Paren, Call, Nil, Itself, Name, Negate, Cast, Binary, Arrow, Assign, Send, SendSuper, no_exprs, and_expr, begins}
+use Rattle.arc_ast.specs.Tree.{ExprTree, ExprTrees, Id, Object, Integer, Text, Paren, Call, Nil, Itself, Name, Negate, Plus, Cast, Binary, Arrow, Assign, Send, SendSuper, no_exprs, and_expr, begins}
 use Rattle.arc_parse.specs.Language.{Language, ◌⨾◌, One, The, TheWord}
 use Rattle.arc_parse.specs.Grammar.{Spells, SpellsArguments, SpellsMore, SpellsCastType, SpellsSent, SpellsParts, and_part, mark_of, binds, widest}
 use Rattle.arc_parse.specs.Reader.{Fault, ret}
 use Rattle.arc_parse.specs.Knot.{deep, tied}
-use Rattle.arc_parse.specs.ExprRules.{Rule, Node, Rules, Sent, expr, unary, arrows, more, arguments, parts, literal, literal_of, operator, operator_of, is_operator, is_there, at_level, mark_operator, parenthesized_by, given_by, call_by, named_by, part_by, parts_by, sent_by, super_by, object_by, message_by, primary_by, arrows_by, postfix_by, begins_cast, cast_type, cast_by, negate_by, unary_by, binary_by, more_by, is_unary, assign_by, expr_by, arguments_by, body, read}
+use Rattle.arc_parse.specs.ExprRules.{Rule, Node, Rules, Sent, expr, unary, arrows, more, arguments, parts, literal, literal_of, operator, operator_of, is_operator, is_there, at_level, mark_operator, parenthesized_by, given_by, call_by, named_by, part_by, parts_by, sent_by, super_by, object_by, message_by, primary_by, arrows_by, postfix_by, begins_cast, cast_type, cast_by, negate_by, plus_by, unary_by, binary_by, more_by, is_unary, assign_by, expr_by, arguments_by, body, read}
 use Rattle.arc_parse.proofs.Leaves.{a_token, some_is, viable_expect, viable_keyword, viable_name}
 use Rattle.arc_parse.proofs.Sound.{Sound, Behind, sound_token, sound_as}
 use Rattle.arc_parse.proofs.Viable.{Viable, Front, viable_then, viable_ret, viable_if, viable_ahead, viable_as, viable_token, viable_guarded, viable_unexpected}
@@ -94,6 +94,7 @@ looser (Call at called args) l j xs p h = h
 looser (Nil at) l j xs p h = h
 looser (Itself at) l j xs p h = h
 looser (Negate at a) l j xs p h = (omega (arith, h.0), h.1)
+looser (Plus at a) l j xs p h = (omega (arith, h.0), h.1)
 looser (Cast at type a) l j xs p h = (omega (arith, h.0), h.1)
 looser (Arrow at name_at a called) l j xs p h = h
 looser (Binary at o a b) l j xs p h = (omega (arith, h.0), h.1, h.2)
@@ -111,6 +112,7 @@ unary_level (Call at called args) l xs e h = h
 unary_level (Nil at) l xs e h = h
 unary_level (Itself at) l xs e h = h
 unary_level (Negate at a) l xs e h = (omega arith, h.1)
+unary_level (Plus at a) l xs e h = (omega arith, h.1)
 unary_level (Cast at type a) l xs e h = (omega arith, h.1)
 unary_level (Arrow at name_at a called) l xs e h = h
 unary_level (Binary at o a b) l xs e h = cc
@@ -247,9 +249,14 @@ module _ (g : Rules) (rec : AreViable g) where
   negate_viable = viable_then (viable_expect _) (λ at. viable_then (rec unary) (λ operand. viable_ret (Negate at operand)
       (λ ys y xs x. (omega arith, (xs, ys ++ [], refl, x, last (Spells 1 operand) ys y)))))
 
+  plus_viable : Viable (plus_by g) (Spells 1)
+  unfolding plus_by
+  plus_viable = viable_then (viable_expect _) (λ at. viable_then (rec unary) (λ operand. viable_ret (Plus at operand)
+      (λ ys y xs x. (omega arith, (xs, ys ++ [], refl, x, last (Spells 1 operand) ys y)))))
+
   unary_viable : Viable (unary_by g) (Spells 1)
   unfolding unary_by
-  unary_viable = viable_if _ negate_viable (viable_ahead begins_cast cast_viable (viable_as postfix_viable (λ t xs x. looser t 0 1 xs (omega arith) x)))
+  unary_viable = viable_if _ negate_viable (viable_if _ plus_viable (viable_ahead begins_cast cast_viable (viable_as postfix_viable (λ t xs x. looser t 0 1 xs (omega arith) x))))
 
   binary_viable : (l : ℕ) → Viable (binary_by g l) (Spells (1 + l))
   unfolding binary_by

@@ -40,9 +40,10 @@ no_expr t us n = read_is expr (t ∷ us) ∙ go t.sort refl
     go (Key _) e = rw e refl
     go (At k) e = rw e refl
     go (Sign mark) e =
-        let p = neither (is_mark m.OpenParen (Sign mark) || is_mark m.Minus (Sign mark)) (is_mark m.OpenSquare (Sign mark)) (sym (ap begins_expr e) ∙ n) in
-        let q = neither (is_mark m.OpenParen (Sign mark)) (is_mark m.Minus (Sign mark)) p.0 in
-        rw (e, q.0, q.1, p.1) refl
+        let p = neither ((is_mark m.OpenParen (Sign mark) || is_mark m.Minus (Sign mark)) || is_mark m.Plus (Sign mark)) (is_mark m.OpenSquare (Sign mark)) (sym (ap begins_expr e) ∙ n) in
+        let q = neither (is_mark m.OpenParen (Sign mark) || is_mark m.Minus (Sign mark)) (is_mark m.Plus (Sign mark)) p.0 in
+        let o = neither (is_mark m.OpenParen (Sign mark)) (is_mark m.Minus (Sign mark)) q.0 in
+        rw (e, o.0, o.1, q.1, p.1) refl
 
 pub none_left : read expr [] ≡ Err (misfit, [])
 unfolding expr_by binary_by unary_by postfix_by primary_by
@@ -65,21 +66,30 @@ pub not_there : (test : Sort → Bool) (ts : List Tok) → ((s : Sort) → begin
 not_there test [] none h = refl
 not_there test (t ∷ ts) none h = none t.sort h
 
-pub mark_not_there : (mark : Mark) → is_mark mark (Sign m.OpenParen) ≡ false → is_mark mark (Sign m.Minus) ≡ false → is_mark mark (Sign m.OpenSquare) ≡ false → (s : Sort) → begins_expr s ≡ true → is_mark mark s ≡ false
-mark_not_there mark p q o (Name b) h = refl
-mark_not_there mark p q o (Integer v) h = refl
-mark_not_there mark p q o (Text b) h = refl
-mark_not_there mark p q o (Key k) h = refl
-mark_not_there mark p q o (At k) h = refl
-mark_not_there mark p q o (Sign found) h = go (either (is_mark m.OpenParen (Sign found) || is_mark m.Minus (Sign found)) (is_mark m.OpenSquare (Sign found)) h)
+pub mark_not_there : (mark : Mark) → is_mark mark (Sign m.OpenParen) ≡ false → is_mark mark (Sign m.Minus) ≡ false → is_mark mark (Sign m.Plus) ≡ false → is_mark mark (Sign m.OpenSquare) ≡ false
+    → (s : Sort) → begins_expr s ≡ true → is_mark mark s ≡ false
+mark_not_there mark p q r o (Name b) h = refl
+mark_not_there mark p q r o (Integer v) h = refl
+mark_not_there mark p q r o (Text b) h = refl
+mark_not_there mark p q r o (Key k) h = refl
+mark_not_there mark p q r o (At k) h = refl
+mark_not_there mark p q r o (Sign found) h =
+    other (either ((is_mark m.OpenParen (Sign found) || is_mark m.Minus (Sign found)) || is_mark m.Plus (Sign found)) (is_mark m.OpenSquare (Sign found)) h)
   where
-    of : (is_mark m.OpenParen (Sign found) ≡ true) ⊎ (is_mark m.Minus (Sign found) ≡ true) → is_mark mark (Sign found) ≡ false
-    of (inl e) = ap (is_mark mark) (sign_is m.OpenParen (Sign found) e) ∙ p
-    of (inr e) = ap (is_mark mark) (sign_is m.Minus (Sign found) e) ∙ q
+    here : (k : Mark) → is_mark k (Sign found) ≡ true → is_mark mark (Sign k) ≡ false → is_mark mark (Sign found) ≡ false
+    here k e no = ap (is_mark mark) (sign_is k (Sign found) e) ∙ no
 
-    go : ((is_mark m.OpenParen (Sign found) || is_mark m.Minus (Sign found)) ≡ true) ⊎ (is_mark m.OpenSquare (Sign found) ≡ true) → is_mark mark (Sign found) ≡ false
-    go (inl e) = of (either (is_mark m.OpenParen (Sign found)) (is_mark m.Minus (Sign found)) e)
-    go (inr e) = ap (is_mark mark) (sign_is m.OpenSquare (Sign found) e) ∙ o
+    paren : (is_mark m.OpenParen (Sign found) ≡ true) ⊎ (is_mark m.Minus (Sign found) ≡ true) → is_mark mark (Sign found) ≡ false
+    paren (inl e) = here m.OpenParen e p
+    paren (inr e) = here m.Minus e q
+
+    signed : ((is_mark m.OpenParen (Sign found) || is_mark m.Minus (Sign found)) ≡ true) ⊎ (is_mark m.Plus (Sign found) ≡ true) → is_mark mark (Sign found) ≡ false
+    signed (inl e) = paren (either (is_mark m.OpenParen (Sign found)) (is_mark m.Minus (Sign found)) e)
+    signed (inr e) = here m.Plus e r
+
+    other : (((is_mark m.OpenParen (Sign found) || is_mark m.Minus (Sign found)) || is_mark m.Plus (Sign found)) ≡ true) ⊎ (is_mark m.OpenSquare (Sign found) ≡ true) → is_mark mark (Sign found) ≡ false
+    other (inl e) = signed (either (is_mark m.OpenParen (Sign found) || is_mark m.Minus (Sign found)) (is_mark m.Plus (Sign found)) e)
+    other (inr e) = here m.OpenSquare e o
 
 pub word_not_there : (word : Word) → is_word word (Key w.Nil) ≡ false → is_word word (Key w.SelfWord) ≡ false → (s : Sort) → begins_expr s ≡ true → is_word word s ≡ false
 word_not_there word p q (Key w.Nil) h = p

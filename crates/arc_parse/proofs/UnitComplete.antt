@@ -177,8 +177,8 @@ module _ (limits : Limits) where
       let reference : begins_reference us ≡ false = reference_behind es rest u su (ap begins_reference (sym (q ∙ ap (λ v. es ++ v) cu)) ∙ front) in
       let line : ts ++ rest ≡ us = rw (q, cu) (append_assoc es (u ∷ []) rest) in
       let begin = full_begun e es rest u x su in
-      let brace : sees_mark m.OpenBrace us ≡ false = not_there (is_mark m.OpenBrace) us (mark_not_there m.OpenBrace refl refl refl) begin in
-      let semicolon : sees_mark m.Semicolon us ≡ false = not_there (is_mark m.Semicolon) us (mark_not_there m.Semicolon refl refl refl) begin in
+      let brace : sees_mark m.OpenBrace us ≡ false = not_there (is_mark m.OpenBrace) us (mark_not_there m.OpenBrace refl refl refl refl) begin in
+      let semicolon : sees_mark m.Semicolon us ≡ false = not_there (is_mark m.Semicolon) us (mark_not_there m.Semicolon refl refl refl refl) begin in
       let return : sees_word w.Return us ≡ false = not_there (is_word w.Return) us (word_not_there w.Return refl refl) begin in
       let no_if : sees_word w.If us ≡ false = not_there (is_word w.If) us (word_not_there w.If refl refl) begin in
       let no_while : sees_word w.While us ≡ false = not_there (is_word w.While) us (word_not_there w.While refl refl) begin in
@@ -188,7 +188,7 @@ module _ (limits : Limits) where
   unfolding value_by
   value_reads None ts rest u c z = rw (c, z) refl
   value_reads (Some e) ts rest u x z =
-      let semicolon : sees_mark m.Semicolon (ts ++ (u ∷ rest)) ≡ false = not_there (is_mark m.Semicolon) (ts ++ (u ∷ rest)) (mark_not_there m.Semicolon refl refl refl) (full_begun e ts rest u x z) in
+      let semicolon : sees_mark m.Semicolon (ts ++ (u ∷ rest)) ≡ false = not_there (is_mark m.Semicolon) (ts ++ (u ∷ rest)) (mark_not_there m.Semicolon refl refl refl refl) (full_begun e ts rest u x z) in
       rw (semicolon, full_reads e ts rest u m.Semicolon x z (refl, refl, refl, refl)) refl
 
   return_reads : (d at : ℕ) (value : Option ExprTree) → Reads d (Return at value)

@@ -7,7 +7,7 @@ use Rattle.arc_lex.specs.Tokens.{Tok, Sort, Key, Sign}
 use Rattle.arc_lex.specs.Tokens as tokens
 use Rattle.arc_ast.specs.declared.tree.BinaryOperator.{BinaryOperator}
 use Rattle.arc_ast.specs.declared.tree.BinaryOperator.TheVariants.{Add, Subtract, Multiply, Divide, NotEqual}
-use Rattle.arc_ast.specs.Tree.{TypeTree, ExprTree, ExprTrees, Id, Object, Integer, Text, Paren, Call, Nil, Itself, Name, Negate, Cast, Binary, Arrow, Assign, Send, SendSuper, no_exprs, and_expr, begins}
+use Rattle.arc_ast.specs.Tree.{TypeTree, ExprTree, ExprTrees, Id, Object, Integer, Text, Paren, Call, Nil, Itself, Name, Negate, Plus, Cast, Binary, Arrow, Assign, Send, SendSuper, no_exprs, and_expr, begins}
 use Rattle.arc_parse.specs.Grammar.{and_part, begins_reference}
 use Rattle.arc_parse.specs.Knot.{tied}
 use Rattle.arc_parse.specs.Reader.{Reader, ◌>>=◌, ret, token, expect, keyword, name, is_mark, sees_mark, sees_word, if_first, if_ahead, if_mark, if_word, if_name}
@@ -164,6 +164,12 @@ negate_by of = do
   operand ← of unary
   ret (Negate at operand)
 
+unfoldable pub plus_by : Rules → Reader ExprTree
+plus_by of = do
+  at ← expect m.Plus
+  operand ← of unary
+  ret (Plus at operand)
+
 -- whether these tokens begin with `id`, or with a name, `*` and `)`
 abbrev pub begins_type : List Tok → Bool
 begins_type ts = sees_word w.Id ts || (begins_reference ts && sees_mark m.CloseParen (drop 2 ts))
@@ -192,7 +198,7 @@ cast_by of = do
   ret (Cast at type operand)
 
 unfoldable pub unary_by : Rules → Reader ExprTree
-unary_by of = if_mark m.Minus (negate_by of) (if_ahead begins_cast (cast_by of) (postfix_by of))
+unary_by of = if_mark m.Minus (negate_by of) (if_mark m.Plus (plus_by of) (if_ahead begins_cast (cast_by of) (postfix_by of)))
 
 -- the operators that bind as loosely as this, or tighter; with 0 there are none
 unfoldable pub binary_by : Rules → ℕ → Reader ExprTree

@@ -15,7 +15,7 @@ use Rattle.arc_ast.specs.declared.tree.Visibility.{Visibility}
 use Rattle.arc_ast.specs.declared.tree.Visibility.TheVariants as seen
 use Rattle.arc_ast.specs.declared.tree.BinaryOperator.{BinaryOperator}
 use Rattle.arc_ast.specs.declared.tree.BinaryOperator.TheVariants.{Add, Subtract, Multiply, Divide, NotEqual}
-use Rattle.arc_ast.specs.Tree.{TypeTree, ExprTree, ExprTrees, VariableTree, StmtTree, StmtTrees, ParameterTree, ParametersTree, FunctionTree, HeadTree, MethodTree, FieldTree, InterfaceTree, ImplementationTree, UnitTree, Int, Id, Object, Integer, Text, Paren, Call, Nil, Itself, Name, Negate, Cast, Binary, Arrow, Assign, Send, SendSuper, no_exprs, and_expr, Block, Empty, Simple, Return, Variables, If, IfElse, While, no_stmts, and_stmt, Ints, CountAndTexts, begins}
+use Rattle.arc_ast.specs.Tree.{TypeTree, ExprTree, ExprTrees, VariableTree, StmtTree, StmtTrees, ParameterTree, ParametersTree, FunctionTree, HeadTree, MethodTree, FieldTree, InterfaceTree, ImplementationTree, UnitTree, Int, Id, Object, Integer, Text, Paren, Call, Nil, Itself, Name, Negate, Plus, Cast, Binary, Arrow, Assign, Send, SendSuper, no_exprs, and_expr, Block, Empty, Simple, Return, Variables, If, IfElse, While, no_stmts, and_stmt, Ints, CountAndTexts, begins}
 use Rattle.arc_parse.specs.Language.{Language, Nothing, Nowhere, ◌⨾◌, ◌∣◌, One, The, TheWord, TheAt, SomeName}
 use Rattle.arc_parse.specs.Limits.{Limits, Nested, Short}
 use Rattle.arc_parse.specs.Reader.{is_mark, is_name}
@@ -68,6 +68,7 @@ abbrev mutual
   Spells l (Arrow at name_at a called) = λ ts. (at ≡ begins a) × (Spells 0 a ⨾ The m.Arrow ⨾ One (tokens.Name called) name_at) ts
   Spells l (Cast at type a) = λ ts. (1 ≤ l) × (One (Sign m.OpenParen) at ⨾ SpellsCastType type ⨾ The m.CloseParen ⨾ Spells 1 a) ts
   Spells l (Negate at a) = λ ts. (1 ≤ l) × (One (Sign m.Minus) at ⨾ Spells 1 a) ts
+  Spells l (Plus at a) = λ ts. (1 ≤ l) × (One (Sign m.Plus) at ⨾ Spells 1 a) ts
   Spells l (Binary at operator a b) = λ ts. (1 + binds operator ≤ l) × (at ≡ begins a)
       × (Spells (1 + binds operator) a ⨾ The (mark_of operator) ⨾ Spells (binds operator) b) ts
   Spells l (Name at called) = One (tokens.Name called) at

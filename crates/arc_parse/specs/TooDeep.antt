@@ -6,7 +6,7 @@ use Rattle.arc_lex.specs.declared.token.Word.TheVariants as w
 use Rattle.arc_lex.specs.Tokens.{Tok, Sort, Sign}
 use Rattle.arc_ast.specs.declared.tree.Kind.{Kind}
 use Rattle.arc_ast.specs.declared.tree.Visibility.TheVariants as seen
-use Rattle.arc_ast.specs.Tree.{ExprTree, VariableTree, StmtTree, StmtTrees, ParametersTree, HeadTree, MethodTree, FieldTree, Name, Negate, Cast, Binary, Assign}
+use Rattle.arc_ast.specs.Tree.{ExprTree, VariableTree, StmtTree, StmtTrees, ParametersTree, HeadTree, MethodTree, FieldTree, Name, Negate, Plus, Cast, Binary, Assign}
 use Rattle.arc_parse.specs.Language.{Language, Nothing, ◌⨾◌, ◌∣◌, The, TheWord, SomeName}
 use Rattle.arc_parse.specs.Limits.{Limits, AtMost, Nested, is_above}
 use Rattle.arc_parse.specs.Grammar.{widest, Spells, SpellsVariable, SpellsTest, SpellsStmt, SpellsStmts, SpellsHead, SpellsMethodHead, SpellsMethods, SpellsTitle, SpellsFields, TopTree, SpellsTops}
@@ -88,6 +88,7 @@ follows_any _ = false
 abbrev pub ends_with_name : ExprTree → Bool
 ends_with_name (Name _ _) = true
 ends_with_name (Negate _ a) = ends_with_name a
+ends_with_name (Plus _ a) = ends_with_name a
 ends_with_name (Cast _ _ a) = ends_with_name a
 ends_with_name (Binary _ _ _ b) = ends_with_name b
 ends_with_name (Assign _ _ _ b) = ends_with_name b

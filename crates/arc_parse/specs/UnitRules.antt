@@ -70,7 +70,8 @@ begins_expr (tokens.Integer _) = true
 begins_expr (tokens.Text _) = true
 begins_expr (tokens.Key w.Nil) = true
 begins_expr (tokens.Key w.SelfWord) = true
-begins_expr (tokens.Sign mark) = (is_mark m.OpenParen (tokens.Sign mark) || is_mark m.Minus (tokens.Sign mark)) || is_mark m.OpenSquare (tokens.Sign mark)
+begins_expr (tokens.Sign mark) =
+    ((is_mark m.OpenParen (tokens.Sign mark) || is_mark m.Minus (tokens.Sign mark)) || is_mark m.Plus (tokens.Sign mark)) || is_mark m.OpenSquare (tokens.Sign mark)
 begins_expr _ = false
 
 -- whether a statement can begin with this token

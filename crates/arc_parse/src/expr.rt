@@ -29,6 +29,7 @@ fn place_of(expr: &Expr) -> usize
         | Expr::Itself(at)
         | Expr::Name(at, _)
         | Expr::Negate(at, _)
+        | Expr::Plus(at, _)
         | Expr::Cast(at, _, _)
         | Expr::Binary(at, _, _, _)
         | Expr::Arrow(at, _, _, _)
@@ -52,6 +53,7 @@ fn is_unary(expr: &Expr) -> bool
         | Expr::Itself(_)
         | Expr::Name(_, _)
         | Expr::Negate(_, _)
+        | Expr::Plus(_, _)
         | Expr::Cast(_, _, _)
         | Expr::Arrow(_, _, _, _)
         | Expr::Send(_, _, _, _, _)
@@ -146,6 +148,9 @@ fn unary<'a>(alloc: Global, tokens: &'a [Token]) -> Read<'a, Expr>
     if sees_mark(Mark::Minus, tokens) {
         return negated(alloc, tokens);
     }
+    if sees_mark(Mark::Plus, tokens) {
+        return plus(alloc, tokens);
+    }
     if sees_cast(tokens) {
         return cast(alloc, tokens);
     }
@@ -208,6 +213,18 @@ fn negated<'a>(alloc: Global, tokens: &'a [Token]) -> Read<'a, Expr>
     let (at, rest) = expect(Mark::Minus, tokens)?;
     let (operand, rest) = unary(alloc, rest)?;
     Ok((Expr::Negate(at, Box::new(alloc, operand)?), rest))
+}
+
+/// Unary `+` and a unary expression.
+#[cycle(exprs)]
+#[tactic(auto, using(crate::proofs::ExprFix::read_unary), unfolding(crate::specs::ExprRules::plus_by))]
+fn plus<'a>(alloc: Global, tokens: &'a [Token]) -> Read<'a, Expr>
+    ensures gives { Gives (λ x. (expr_tree x.0, toks x.1.now)) result (rules.plus_by read (toks tokens.now)) }
+    ensures shorter { IfOk result (λ x. length x.1.now < length tokens.now) }
+{
+    let (at, rest) = expect(Mark::Plus, tokens)?;
+    let (operand, rest) = unary(alloc, rest)?;
+    Ok((Expr::Plus(at, Box::new(alloc, operand)?), rest))
 }
 
 #[cycle(exprs)]

@@ -382,6 +382,7 @@ fn begins_expr(tokens: &[Token]) -> bool
         ) => {
             same_mark(*found, Mark::OpenParen)
                 || same_mark(*found, Mark::Minus)
+                || same_mark(*found, Mark::Plus)
                 || same_mark(*found, Mark::OpenSquare)
         }
         _ => false,

@@ -47,6 +47,9 @@ expression-returns-in-Name t c = IfOk-weaker c.variable.result _ _ (λ typed h. 
 pub expression-returns-in-Negate : goal.expression-returns-in-Negate
 expression-returns-in-Negate t c = IfOk-weaker c.negation.result _ _ (λ typed h. rw (c.in-Negate.is, sym c.deref-in-Negate.ensures) (h c.in-Negate.field-0)) c.negation.ensures
 
+pub expression-returns-in-Plus : goal.expression-returns-in-Plus
+expression-returns-in-Plus t c = IfOk-weaker c.plus.result _ _ (λ typed h. rw (c.in-Plus.is, sym c.deref-in-Plus.ensures) (h c.in-Plus.field-0)) c.plus.ensures
+
 pub expression-returns-in-Cast : goal.expression-returns-in-Cast
 expression-returns-in-Cast t c = IfOk-weaker c.cast.result _ _ (λ typed h. rw (c.in-Cast.is, sym c.deref-in-Cast.ensures) (h c.in-Cast.field-0)) c.cast.ensures
 
@@ -61,6 +64,9 @@ expression-returns-in-Assign t c = IfOk-weaker c.assignment.result _ _ (λ typed
 
 pub negation-returns : goal.negation-returns
 negation-returns t c = λ at. record { class = refl; value = c.in_ok-value.ensures ∙ ap negated c.in_ok-operand.ensures.value }
+
+pub plus-returns : goal.plus-returns
+plus-returns t c = λ at. record { class = refl; value = c.in_ok-operand.ensures.value }
 
 pub cast-returns : goal.cast-returns
 cast-returns t c = λ at. record { class = c.static_class.ensures; value = c.in_ok-operand.ensures.value }

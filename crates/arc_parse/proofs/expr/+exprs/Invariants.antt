@@ -43,6 +43,9 @@ decreases-assignment l = 16 * length l.tokens.now + 14
 abbrev pub decreases-negated : goal.decreases-negated
 decreases-negated l = 16 * length l.tokens.now + 5
 
+abbrev pub decreases-plus : goal.decreases-plus
+decreases-plus l = 16 * length l.tokens.now + 5
+
 abbrev pub decreases-message : goal.decreases-message
 decreases-message l = 16 * length l.tokens.now + 3
 
