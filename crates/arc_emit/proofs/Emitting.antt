@@ -105,7 +105,7 @@ module _ (p : acting.Program) where
 
   -- ---- runs
 
-  -- the action with this number among some behind which `before` of the texts stand
+  -- the action with this number among the last actions, where `before` are the texts of those before them
   step_at : (actions : List Action) (before : List ℕ) (n : ℕ) (s : State) → code.texts ≡ before ++ texts_of actions → Along IsSafe (acting.acts p (slice_get actions n) s) → executes code (slice_get (ops_of p (length before) actions) n) s ≡ acting.acts p (slice_get actions n) s
   step_at [] before n s e h = refl
   step_at (a ∷ actions) before zero s e h = op_same a before (texts_of actions) s e h

@@ -1,4 +1,4 @@
--- What is written for actions: for each of them one instruction, with the same number, and their texts. All of it is this project's own choice.
+-- The code of actions: one instruction for each action, with the same number, and the texts. All of it is this project's own choice.
 use Rattle.std.specs.Prelude.{ℕ, ◌+◌, ◌<◌, List, [], ◌∷◌, ◌++◌, length, get_or}
 use Rattle.arc_ir.specs.declared.action.Action.{Action}
 use Rattle.arc_ir.specs.declared.action.Action.TheVariants as action
@@ -7,17 +7,17 @@ use Rattle.arc_code.specs.declared.code.Op.{Op}
 use Rattle.arc_code.specs.declared.code.Op.TheVariants as op
 use Rattle.arc_code.specs.Running as running
 
--- the bytes that an action prints as they are, at most 16
+-- the text that an action prints
 abbrev pub text_of : Action → List ℕ
 text_of (action.PrintText part) = part.bytes.items
 text_of _ = []
 
--- those of all actions, one after another
+-- the texts of all actions, one after another
 abbrev pub texts_of : List Action → List ℕ
 texts_of [] = []
 texts_of (a ∷ rest) = text_of a ++ texts_of rest
 
--- where the function with this number begins; one that there isn't begins behind all actions
+-- where the function with this number begins; one that doesn't exist begins after the last action
 abbrev pub entry : acting.Program → ℕ → ℕ
 entry p f = get_or p.entries f (length p.actions)
 
@@ -76,6 +76,6 @@ code_of p = record {
 abbrev pub most_ops : ℕ
 most_ops = 16777216
 
--- the actions are more than code may have instructions
+-- there are more actions than code may have instructions
 abbrev pub IsLarge : acting.Program → Type 0
 IsLarge p = most_ops < length p.actions

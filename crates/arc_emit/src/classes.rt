@@ -1,4 +1,4 @@
-//! The classes of code, which are those of its actions.
+//! The classes of code, which are the same as those of its actions.
 ghost use Rattle.std.specs.Prelude.{◌≡◌, IfOk, IfErr};
 ghost use Rattle.arc_spec.specs.Classes.{classes_of};
 
@@ -6,7 +6,7 @@ use crate::fault::EmitFault;
 use arc_spec::class::Class;
 use std::alloc::Global;
 
-/// The same classes once more. Memory where memory is refused.
+/// A copy of the classes. Memory: memory was refused.
 pub fn copy_classes(alloc: Global, classes: &[Class]) -> Result<Vec<Class>, EmitFault>
     ensures same { IfOk result (λ copies. classes_of copies.items ≡ classes_of classes.now) }
     ensures memory { IfErr result (λ fault. fault ≡ EmitFault.Memory) }

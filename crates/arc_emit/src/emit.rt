@@ -17,9 +17,9 @@ use std::alloc::Global;
 /// The most instructions that code may have.
 const MOST_OPS: usize = 16_777_216;
 
-/// The code of a program: each action is the instruction with the same number, so that jumps, functions, classes and the ends of objects go on
-/// where those of the actions do. Its texts stand one after another.
-/// TooLarge where it would have over 16,777,216 instructions; Memory where memory is refused.
+/// The code of a program. Each action is the instruction with the same number, so jumps, functions,
+/// methods and the ends of objects go on at the same numbers. The texts stand one after another.
+/// TooLarge: there would be over 16,777,216 instructions. Memory: memory was refused.
 pub fn emit(alloc: Global, ir: &Ir, _table: &ClassTable) -> Result<Code, EmitFault>
     requires { acting.IsSound (acting.program_of ir.now) }
     ensures code { IfOk result (λ code. program_of code ≡ code_of (acting.program_of ir.now)) }

@@ -6,7 +6,8 @@ ghost use Rattle.arc_emit.specs.Emitted.{entry, op_of, text_of};
 use arc_code::code::Op;
 use arc_ir::action::{Action, Ir};
 
-/// The instruction of an action of a program, whose text stands at `from` among all texts.
+/// The instruction of an action of this program; `from` is the place of the action's text among all
+/// texts.
 pub fn op_of(ir: &Ir, from: u32, action: &Action) -> Op
     ensures { result ≡ op_of (program_of ir.now) from action.now }
 {
@@ -46,7 +47,7 @@ pub fn op_of(ir: &Ir, from: u32, action: &Action) -> Op
     }
 }
 
-/// Where the function with this number begins. One that there isn't begins behind all actions.
+/// Where the function with this number begins. One that doesn't exist begins after the last action.
 fn entry(ir: &Ir, function: usize) -> usize
     ensures { result ≡ entry (program_of ir.now) function }
 {
@@ -56,7 +57,7 @@ fn entry(ir: &Ir, function: usize) -> usize
     }
 }
 
-/// The bytes that an action prints as they are, at most 16.
+/// The text that an action prints, of at most 16 bytes; of an action without a text it is empty.
 pub fn text_of(action: &Action) -> &[u8]
     ensures text { result.now ≡ text_of action.now }
     ensures short { length (text_of action.now) ≤ 16 }

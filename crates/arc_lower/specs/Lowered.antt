@@ -54,12 +54,12 @@ abbrev pub conversion_orders : Order → (left : ℕ) → List Order
 conversion_orders print zero = []
 conversion_orders print (suc left) = Get (suc left) ∷ print ∷ []
 
--- prints so many parts of a text that have 16 bytes, and then the rest of it
+-- prints a text: so many parts of 16 bytes each, and then the rest
 abbrev pub part_orders : (full : ℕ) → (bytes : List ℕ) → List Order
 part_orders zero bytes = PrintText bytes ∷ []
 part_orders (suc full) bytes = PrintText (take 16 bytes) ∷ part_orders full (drop 16 bytes)
 
--- prints a text, of which an action prints at most 16 bytes; an empty one is one action that prints nothing
+-- prints a text, at most 16 bytes by each action; an empty text is one action that prints nothing (this project's own choice)
 abbrev pub text_orders : (bytes : List ℕ) → List Order
 text_orders bytes = part_orders ((length bytes - 1) / 16) bytes
 

@@ -67,15 +67,16 @@ fn append_piece(
 /// How many bytes of a text one action prints at most.
 const PART: usize = 16;
 
-/// Appends the actions that print a text, part by part; an empty one is one part.
+/// Appends the actions that print a text, one for each 16 bytes; an empty text is one action that
+/// prints nothing.
 fn append_text(alloc: Global, actions: &mut Vec<Action>, bytes: &[u8]) -> Result<(), NoMemory>
     ensures { OnOk result (orders actions.new.items ≡ orders actions.old.items ++ text_orders bytes.now) }
 {
     let mut rest = bytes;
     while rest.len() > PART {
-        let (part, behind) = rest.split_at(PART);
+        let (part, after) = rest.split_at(PART);
         append_part(alloc, actions, part)?;
-        rest = behind;
+        rest = after;
     }
     append_part(alloc, actions, rest)
 }
