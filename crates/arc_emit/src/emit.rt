@@ -1,4 +1,4 @@
-//! Writes actions as instructions, one action after another.
+//! Writes actions as instructions, one for each.
 ghost use Rattle.std.specs.Prelude.{◌≡◌, ◌≤◌, length, IfOk, IsErrOf};
 ghost use Rattle.arc_spec.specs.Correct.{Refines, Steady};
 ghost use Rattle.arc_ir.specs.Acting as acting;
@@ -6,19 +6,20 @@ ghost use Rattle.arc_code.specs.Running as running;
 ghost use Rattle.arc_code.specs.Running.{program_of};
 ghost use Rattle.arc_emit.specs.Emitted.{code_of, most_ops, IsLarge};
 
-use crate::classes::emit_classes;
+use crate::classes::copy_classes;
 use crate::fault::EmitFault;
-use crate::layout::Layout;
-use crate::pieces::emit_action;
+use crate::op::{op_of, text_of};
 use arc_class::table::ClassTable;
 use arc_code::code::Code;
 use arc_ir::action::Ir;
 use std::alloc::Global;
 
-/// The code of a program, in which a text is printed by one instruction for each 16 bytes of it, and any other action is one instruction. Its
-/// classes are those of the actions, but that each method and each dealloc runs the first instruction of its action; the ends of objects go on
-/// at the instruction of the action where those of the actions do.
-/// TooLarge where it would have over 16,777,216 instructions; Memory where memory is refused.
+/// The most instructions that code may have.
+const MOST_OPS: usize = 16_777_216;
+
+/// The code of a program. Each action is the instruction with the same number, so jumps, functions,
+/// methods and the ends of objects go on at the same numbers. The texts stand one after another.
+/// TooLarge: there would be over 16,777,216 instructions. Memory: memory was refused.
 pub fn emit(alloc: Global, ir: &Ir, _table: &ClassTable) -> Result<Code, EmitFault>
     requires { acting.IsSound (acting.program_of ir.now) }
     ensures code { IfOk result (λ code. program_of code ≡ code_of (acting.program_of ir.now)) }
@@ -37,17 +38,20 @@ fn write_code(alloc: Global, ir: &Ir) -> Result<Code, EmitFault>
     ensures few_ops { IfOk result (λ code. length code.ops.items ≤ most_ops) }
     ensures large { IsErrOf result EmitFault.TooLarge → IsLarge (acting.program_of ir.now) }
 {
-    let layout = Layout::of(alloc, &ir.actions)?;
+    if ir.actions.len() > MOST_OPS {
+        return Err(EmitFault::TooLarge);
+    }
     let mut ops = Vec::new(alloc);
     let mut texts = Vec::new(alloc);
     for action in &ir.actions {
-        emit_action(&mut ops, &mut texts, action, &layout, &ir.entries)?;
+        ops.push(op_of(ir, texts.len() as u32, action))?;
+        texts.extend_from_slice(text_of(action))?;
     }
-    let classes = emit_classes(alloc, &ir.classes, &layout)?;
+    let classes = copy_classes(alloc, &ir.classes)?;
     Ok(Code {
         ops,
         texts,
-        end_step: layout.place(ir.end_step),
+        end_step: ir.end_step,
         room: ir.room,
         places: ir.places,
         classes,

@@ -4,5 +4,4 @@
 mod classes;
 pub mod emit;
 pub mod fault;
-mod layout;
-mod pieces;
+mod op;

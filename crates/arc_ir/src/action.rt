@@ -1,7 +1,16 @@
 //! Actions, which take numbers from a stack and put numbers on it, and keep strong places, which name objects.
 
+ghost use Rattle.std.specs.Prelude.{◌≤◌, length};
+
 use arc_ast::tree::{BinaryOperator, Kind};
 use arc_spec::class::Class;
+
+/// A part of a text, of at most 16 bytes.
+#[derive(Drop)]
+pub struct TextPart {
+    pub bytes: Vec<u8>,
+    pub ghost short: { length bytes.items ≤ 16 },
+}
 
 /// One action. A depth counts the numbers above the one that is meant, or the places.
 #[derive(Drop)]
@@ -21,7 +30,7 @@ pub enum Action {
     /// Takes the top number, and puts it in the place of the one at this depth of the rest.
     Set(usize),
     /// Prints bytes, and adds their number to the count on top.
-    PrintText(Vec<u8>),
+    PrintText(TextPart),
     /// Takes a number, prints it in decimal, and adds the number of bytes to the count below it.
     PrintNum,
     /// Takes a number, prints its low 8 bits as a byte, and adds 1 to the count below it.

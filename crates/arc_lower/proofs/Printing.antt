@@ -1,5 +1,6 @@
 -- A run prints a format, and leaves the count of its bytes.
-use Rattle.std.proofs.Common.{◌≡◌, ℕ, zero, suc, ◌+◌, ℤ, pos, List, [], ◌∷◌, ◌++◌, length, refl, sym, ap, subst, arith, length-append, slice_set}
+use Rattle.std.proofs.Common.{◌≡◌, ℕ, zero, suc, ◌+◌, ◌-◌, ◌/◌, ℤ, pos, List, [], ◌∷◌, ◌++◌, length, take, drop, refl, sym, ap, subst, arith, length-append, slice_set}
+use Rattle.std.proofs.lemmas.List.{take-append-drop}
 use Rattle.std.specs.Fmt.{signed_decimal}
 use Rattle.arc_ast.specs.declared.tree.Kind.TheVariants as k
 use Rattle.arc_spec.specs.Number.{converted, counted, low_byte}
@@ -10,24 +11,39 @@ use Rattle.arc_spec.specs.Stepping.{follow, on_found}
 use Rattle.arc_spec.specs.Holding.{Frame}
 use Rattle.arc_ir.specs.Acting.{Program, goes}
 use Rattle.arc_lower.specs.Order.{Order, Num, Narrow, Pop, Get, Set, PrintText, PrintNum, PrintByte}
-use Rattle.arc_lower.specs.Lowered.{conversion_orders, format_orders, pop_orders, keep_orders, print_orders}
+use Rattle.arc_lower.specs.Lowered.{conversion_orders, part_orders, text_orders, format_orders, pop_orders, keep_orders, print_orders}
 use Rattle.arc_lower.proofs.Leading.{Leads, leads_same}
 use Rattle.arc_lower.proofs.Recounting.{recount, moves, at, held_of}
 use Rattle.arc_lower.proofs.Segments.{running, quiet, Passes, then_passes, one_passes, no_passes}
 use Rattle.arc_lower.proofs.Stacking.{onto, get_onto, set_onto, Peels, peels_onto, kept, kept_counted, kept_count, prints_none, prints_both}
 
 module _ (p : Program) (frames : List Frame) (bound : ℕ) where
+  -- what prints some bytes, where n are printed already
+  abbrev Prints : List Order → List ℤ → ℕ → List ℕ → World → Type 0
+  Prints xs stack n a w = Passes p frames bound xs (kept n ∷ stack) w (kept (n + length a) ∷ stack) (prints a w)
+
   -- a print of some bytes, and of those behind them
-  print_more : (xs ys : List Order) (stack : List ℤ) (n : ℕ) (a b : List ℕ) (w : World) → Passes p frames bound xs (kept n ∷ stack) w (counted (kept n) a ∷ stack) (prints a w) → Passes p frames bound ys (kept (n + length a) ∷ stack) (prints a w) (kept (n + length a + length b) ∷ stack) (prints b (prints a w)) → Passes p frames bound (xs ++ ys) (kept n ∷ stack) w (kept (n + length (a ++ b)) ∷ stack) (prints (a ++ b) w)
-  print_more xs ys stack n a b w first next =
-      let first' = subst (λ c. Passes p frames bound xs (kept n ∷ stack) w (c ∷ stack) (prints a w)) (kept_counted n a) first in
+  print_both : (xs ys : List Order) (stack : List ℤ) (n : ℕ) (a b : List ℕ) (w : World) → Prints xs stack n a w → Prints ys stack (n + length a) b (prints a w) → Prints (xs ++ ys) stack n (a ++ b) w
+  print_both xs ys stack n a b w first next =
       let e : n + length a + length b ≡ n + length (a ++ b) = omega (arith, length-append a b) in
-      let both = then_passes p frames bound xs ys (kept n ∷ stack) w (kept (n + length a) ∷ stack) (prints a w) (kept (n + length a + length b) ∷ stack) (prints b (prints a w)) first' next in
+      let both = then_passes p frames bound xs ys (kept n ∷ stack) w (kept (n + length a) ∷ stack) (prints a w) (kept (n + length a + length b) ∷ stack) (prints b (prints a w)) first next in
       subst (λ m. Passes p frames bound (xs ++ ys) (kept n ∷ stack) w (kept m ∷ stack) (prints (a ++ b) w)) e
       (subst (λ (w' : World). Passes p frames bound (xs ++ ys) (kept n ∷ stack) w (kept (n + length a + length b) ∷ stack) w') (prints_both a b w) both)
 
-  text_passes : (bytes : List ℕ) (stack : List ℤ) (c : ℤ) (w : World) → Passes p frames bound (PrintText bytes ∷ []) (c ∷ stack) w (counted c bytes ∷ stack) (prints bytes w)
-  text_passes bytes stack c w = one_passes p frames bound (PrintText bytes) (c ∷ stack) w (counted c bytes ∷ stack) (prints bytes w) (λ pc. leads_same (moves p) _ _ refl)
+  print_more : (xs ys : List Order) (stack : List ℤ) (n : ℕ) (a b : List ℕ) (w : World) → Passes p frames bound xs (kept n ∷ stack) w (counted (kept n) a ∷ stack) (prints a w) → Prints ys stack (n + length a) b (prints a w) → Prints (xs ++ ys) stack n (a ++ b) w
+  print_more xs ys stack n a b w first next =
+      print_both xs ys stack n a b w (subst (λ c. Passes p frames bound xs (kept n ∷ stack) w (c ∷ stack) (prints a w)) (kept_counted n a) first) next
+
+  part_prints : (bytes : List ℕ) (stack : List ℤ) (n : ℕ) (w : World) → Prints (PrintText bytes ∷ []) stack n bytes w
+  part_prints bytes stack n w = subst (λ c. Passes p frames bound (PrintText bytes ∷ []) (kept n ∷ stack) w (c ∷ stack) (prints bytes w)) (kept_counted n bytes) (one_passes p frames bound (PrintText bytes) (kept n ∷ stack) w (counted (kept n) bytes ∷ stack) (prints bytes w) (λ pc. leads_same (moves p) _ _ refl))
+
+  parts_print : (full : ℕ) (bytes : List ℕ) (stack : List ℤ) (n : ℕ) (w : World) → Prints (part_orders full bytes) stack n bytes w
+  parts_print zero bytes stack n w = part_prints bytes stack n w
+  parts_print (suc full) bytes stack n w =
+      let a = take 16 bytes in
+      let b = drop 16 bytes in
+      subst (λ l. Prints (part_orders (suc full) bytes) stack n l w) (take-append-drop 16 bytes)
+      (print_both (PrintText a ∷ []) (part_orders full b) stack n a b w (part_prints a stack n w) (parts_print full b stack (n + length a) (prints a w)))
 
   -- a copy of the first value that isn't printed yet
   get_passes : (left stack : List ℤ) (v c : ℤ) (w : World) → Passes p frames bound (Get (suc (length left)) ∷ []) (c ∷ onto left (v ∷ stack)) w (v ∷ c ∷ onto left (v ∷ stack)) w
@@ -47,10 +63,10 @@ module _ (p : Program) (frames : List Frame) (bound : ℕ) where
       (one_passes p frames bound PrintByte (v ∷ c ∷ s) w (counted c (low_byte v ∷ []) ∷ s) (prints (low_byte v ∷ []) w) (λ pc. leads_same (moves p) _ _ refl))
 
   -- n bytes are printed already
-  format_passes : (pieces : List Piece) (left stack : List ℤ) (n : ℕ) (w : World) → Passes p frames bound (format_orders pieces (length left)) (kept n ∷ onto left stack) w (kept (n + length (formatted pieces left)) ∷ onto left stack) (prints (formatted pieces left) w)
+  format_passes : (pieces : List Piece) (left stack : List ℤ) (n : ℕ) (w : World) → Prints (format_orders pieces (length left)) (onto left stack) n (formatted pieces left) w
   format_passes [] left stack n w = let e : n ≡ n + 0 = omega arith in no_passes p frames bound (kept n ∷ onto left stack) w (kept (n + 0) ∷ onto left stack) (prints [] w) (ap (λ m. kept m ∷ onto left stack) e) (prints_none w)
   format_passes (Bytes bytes ∷ others) left stack n w =
-      print_more (PrintText bytes ∷ []) (format_orders others (length left)) (onto left stack) n bytes (formatted others left) w (text_passes bytes (onto left stack) (kept n) w) (format_passes others left stack (n + length bytes) (prints bytes w))
+      print_both (text_orders bytes) (format_orders others (length left)) (onto left stack) n bytes (formatted others left) w (parts_print ((length bytes - 1) / 16) bytes (onto left stack) n w) (format_passes others left stack (n + length bytes) (prints bytes w))
   format_passes (Decimal ∷ others) [] stack n w = format_passes others [] stack n w
   format_passes (Decimal ∷ others) (v ∷ left) stack n w =
       print_more (conversion_orders PrintNum (length (v ∷ left))) (format_orders others (length left)) (onto (v ∷ left) stack) n (signed_decimal v) (formatted others left) w (number_passes left stack v (kept n) w) (format_passes others left (v ∷ stack) (n + length (signed_decimal v)) (prints (signed_decimal v) w))

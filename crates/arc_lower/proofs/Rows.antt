@@ -1,14 +1,20 @@
 -- Rows of orders, and lists of a checked program as long as what they are of.
-use Rattle.std.proofs.Common.{◌≡◌, ℕ, zero, suc, ◌+◌, ◌-◌, ◌<◌, arith, pos, List, [], ◌∷◌, ◌++◌, length, refl, ap, ◌∙◌, add-one}
+use Rattle.std.proofs.Common.{◌≡◌, ℕ, zero, suc, ◌+◌, ◌-◌, ◌/◌, ◌<◌, arith, pos, List, [], ◌∷◌, ◌++◌, length, take, drop, length-drop, refl, ap, ◌∙◌, add-one}
 use Rattle.arc_check.specs.declared.checked.Value.{Value}
 use Rattle.arc_check.specs.declared.checked.CheckedFunction.{CheckedFunction}
 use Rattle.arc_check.specs.Checked.{values, functions}
-use Rattle.arc_lower.specs.Order.{Num, Pop, Nil, Drop}
-use Rattle.arc_lower.specs.Lowered.{pop_orders, zero_orders, nil_orders, drop_orders, empty_orders, all_empty_orders, value_count}
+use Rattle.arc_lower.specs.Order.{Num, Pop, PrintText, Nil, Drop}
+use Rattle.arc_lower.specs.Lowered.{part_orders, text_orders, pop_orders, zero_orders, nil_orders, drop_orders, empty_orders, all_empty_orders, value_count}
 
 pub values_counted : (all : List Value) → value_count (values all) ≡ length all
 values_counted [] = refl
 values_counted (a ∷ others) = ap suc (values_counted others)
+
+-- of more than 16 bytes the first 16 are one part
+pub text_more : (bytes : List ℕ) → 16 < length bytes → text_orders bytes ≡ PrintText (take 16 bytes) ∷ text_orders (drop 16 bytes)
+text_more bytes long =
+    let e : (length bytes - 1) / 16 ≡ suc ((length (drop 16 bytes) - 1) / 16) = omega (arith, length-drop 16 bytes) in
+    ap (λ n. part_orders n bytes) e
 
 pops_snoc : (n : ℕ) → pop_orders (suc n) ≡ pop_orders n ++ Pop ∷ []
 pops_snoc zero = refl

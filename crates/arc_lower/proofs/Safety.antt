@@ -1,5 +1,5 @@
 -- No action lacks the numbers and the places that it takes, and both keep to limits, whatever is read.
-use Rattle.std.proofs.Common.{◌≡◌, ℕ, zero, suc, ◌+◌, ◌-◌, ◌<◌, ◌≤◌, ℤ, pos, Bool, true, false, ◌&&◌, nat_eq, nat_lt, if◌then◌else◌, List, [], ◌∷◌, ◌++◌, length, Option, Some, None, refl, sym, ap, ◌∙◌, subst, arith, length-append, slice_get, slice_set, slice_index_or}
+use Rattle.std.proofs.Common.{◌≡◌, ℕ, zero, suc, ◌+◌, ◌-◌, ◌/◌, ◌<◌, ◌≤◌, ℤ, pos, Bool, true, false, ◌&&◌, nat_eq, nat_lt, if◌then◌else◌, List, [], ◌∷◌, ◌++◌, length, take, drop, Option, Some, None, refl, sym, ap, ◌∙◌, subst, arith, length-append, slice_get, slice_set, slice_index_or}
 use Rattle.std.proofs.lemmas.Bool.{ltb-true, and_parts}
 use Rattle.std.proofs.lemmas.List.{length-set}
 use Rattle.std.specs.Fmt.{signed_decimal}
@@ -16,7 +16,7 @@ use Rattle.arc_spec.specs.Holding.{Held, Frame, with_places, with_things, lowere
 use Rattle.arc_spec.specs.Stepping.{Next, Faults, Along, on_top, on_found}
 use Rattle.arc_ir.specs.Acting.{Program, State, keeps, or_fault, has_level, answers, taken, sends, sends_up, allocates, difference, begins_end, releases}
 use Rattle.arc_lower.specs.Order.{Order, Num, Bin, Un, Narrow, Pop, Get, Set, PrintText, PrintNum, PrintByte, GetChar, Jump, Call, Send, SendSuper, Nil, HoldSelf, Hold, StoreStrong, Drop, Empty, Alloc, GetField, SetField, Differ, IsObject, SendTo, SendToSuper}
-use Rattle.arc_lower.specs.Lowered.{value_count, value_takes, reference_takes, values_take, format_orders, pop_orders, keep_orders, print_orders, get_orders, set_orders, zero_orders, fit_orders, drop_orders, store_orders, number_of, slots_of, passes, call_orders, value_orders, reference_orders, all_value_orders}
+use Rattle.arc_lower.specs.Lowered.{value_count, value_takes, reference_takes, values_take, part_orders, text_orders, format_orders, pop_orders, keep_orders, print_orders, get_orders, set_orders, zero_orders, fit_orders, drop_orders, store_orders, number_of, slots_of, passes, call_orders, value_orders, reference_orders, all_value_orders}
 use Rattle.arc_lower.proofs.CountsThere.{IsThere, AllThere, place_there, object_goes, holds_goes}
 use Rattle.arc_lower.proofs.CountsKept.{Sane}
 use Rattle.arc_lower.proofs.CountsSound.{Rooms, SafeIfSane}
@@ -147,6 +147,10 @@ module _ (p : Program) (g : Stage) (limit few : ℕ) (within : limit ≤ p.room)
   text_keeps : (bytes : List ℕ) (height own : ℕ) → Keeps (PrintText bytes ∷ []) (suc height) own (suc height) own
   text_keeps bytes height own = one_keeps (PrintText bytes) (suc height) own (suc height) own (omega arith) (omega arith) (λ n pc stack held mine fits some e f o sane behind. top_along p n height stack _ e (λ c rest r. behind n (omega arith) (counted c bytes ∷ rest) held mine (ap suc r) f o))
 
+  parts_keep : (full : ℕ) (bytes : List ℕ) (height own : ℕ) → Keeps (part_orders full bytes) (suc height) own (suc height) own
+  parts_keep zero bytes height own = text_keeps bytes height own
+  parts_keep (suc full) bytes height own = then_keeps (PrintText (take 16 bytes) ∷ []) (part_orders full (drop 16 bytes)) (suc height) own (suc height) own (suc height) own (text_keeps (take 16 bytes) height own) (parts_keep full (drop 16 bytes) height own)
+
   number_keeps : (height own : ℕ) → Keeps (PrintNum ∷ []) (suc (suc height)) own (suc height) own
   number_keeps height own = one_keeps PrintNum (suc (suc height)) own (suc height) own (omega arith) (omega arith) (λ n pc stack held mine fits some e f o sane behind.
       top_along p n (suc height) stack _ e (λ v rest r. top_along p n height rest _ r (λ c below b. behind n (omega arith) (counted c (signed_decimal v) ∷ below) held mine (ap suc b) f o)))
@@ -165,7 +169,7 @@ module _ (p : Program) (g : Stage) (limit few : ℕ) (within : limit ≤ p.room)
 
   format_keeps : (pieces : List Piece) (left height own : ℕ) → left ≤ height → Keeps (format_orders pieces left) (suc height) own (suc height) own
   format_keeps [] left height own le = no_keeps (suc height) own (suc height) own refl refl
-  format_keeps (Bytes bytes ∷ others) left height own le = then_keeps (PrintText bytes ∷ []) (format_orders others left) (suc height) own (suc height) own (suc height) own (text_keeps bytes height own) (format_keeps others left height own le)
+  format_keeps (Bytes bytes ∷ others) left height own le = then_keeps (text_orders bytes) (format_orders others left) (suc height) own (suc height) own (suc height) own (parts_keep ((length bytes - 1) / 16) bytes height own) (format_keeps others left height own le)
   format_keeps (Decimal ∷ others) zero height own le = format_keeps others zero height own le
   format_keeps (Decimal ∷ others) (suc left) height own le =
       then_keeps (Get (suc left) ∷ PrintNum ∷ []) (format_orders others left) (suc height) own (suc height) own (suc height) own

@@ -1,7 +1,7 @@
 -- Which actions a checked program becomes. A function's variables lie on the stack, the first one deepest, and its operands above them. An expression leaves one
 -- number more on the stack, and a statement leaves the stack as it was. Its variables that name objects are its first strong places, the first one last, and the
 -- temporaries of the full-expression stand above them.
-use Rattle.std.specs.Prelude.{ℕ, zero, suc, pred, ◌+◌, ◌-◌, ◌*◌, max, nat_lt, if◌then◌else◌, pos, List, [], ◌∷◌, ◌++◌, length, slice_index_or, Option, Some, None}
+use Rattle.std.specs.Prelude.{ℕ, zero, suc, pred, ◌+◌, ◌-◌, ◌*◌, ◌/◌, max, nat_lt, if◌then◌else◌, pos, List, [], ◌∷◌, ◌++◌, length, take, drop, slice_index_or, Option, Some, None}
 use Rattle.arc_ast.specs.declared.tree.Kind.TheVariants as k
 use Rattle.arc_ast.specs.declared.tree.Sign.{Sign}
 use Rattle.arc_ast.specs.declared.tree.Sign.TheVariants as signs
@@ -54,9 +54,18 @@ abbrev pub conversion_orders : Order → (left : ℕ) → List Order
 conversion_orders print zero = []
 conversion_orders print (suc left) = Get (suc left) ∷ print ∷ []
 
+-- prints a text: so many parts of 16 bytes each, and then the rest
+abbrev pub part_orders : (full : ℕ) → (bytes : List ℕ) → List Order
+part_orders zero bytes = PrintText bytes ∷ []
+part_orders (suc full) bytes = PrintText (take 16 bytes) ∷ part_orders full (drop 16 bytes)
+
+-- prints a text, at most 16 bytes by each action; an empty text is one action that prints nothing (this project's own choice)
+abbrev pub text_orders : (bytes : List ℕ) → List Order
+text_orders bytes = part_orders ((length bytes - 1) / 16) bytes
+
 -- prints a piece of a format, where so many values aren't printed yet
 abbrev pub piece_orders : Piece → (left : ℕ) → List Order
-piece_orders (Bytes bytes) left = PrintText bytes ∷ []
+piece_orders (Bytes bytes) left = text_orders bytes
 piece_orders Decimal left = conversion_orders PrintNum left
 piece_orders Character left = conversion_orders PrintByte left
 

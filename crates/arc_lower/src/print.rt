@@ -1,13 +1,13 @@
 //! From a call of `printf`, whose values lie on the stack, to actions.
-ghost use Rattle.std.specs.Prelude.{◌≡◌, ◌++◌, pred, OnOk, IfOk};
+ghost use Rattle.std.specs.Prelude.{◌≡◌, ◌≤◌, [], ◌∷◌, ◌++◌, length, pred, OnOk, IfOk};
 ghost use Rattle.arc_check.specs.Checked as checked;
-ghost use Rattle.arc_lower.specs.Order.{order, orders};
-ghost use Rattle.arc_lower.specs.Lowered.{conversion_orders, piece_orders, left_behind, format_orders, pop_orders, keep_orders, print_orders};
+ghost use Rattle.arc_lower.specs.Order.{PrintText, order, orders};
+ghost use Rattle.arc_lower.specs.Lowered.{conversion_orders, text_orders, piece_orders, left_behind, format_orders, pop_orders, keep_orders, print_orders};
 
 use crate::expression::append;
 use arc_ast::tree::Kind;
 use arc_check::checked::Piece;
-use arc_ir::action::Action;
+use arc_ir::action::{Action, TextPart};
 use arc_spec::event::NoMemory;
 use std::alloc::Global;
 
@@ -56,12 +56,38 @@ fn append_piece(
 {
     match piece {
         Piece::Bytes(bytes) => {
-            append(actions, Action::PrintText(bytes.clone()?))?;
+            append_text(alloc, actions, bytes)?;
             Ok(left)
         }
         Piece::Decimal => append_conversion(actions, Action::PrintNum, left),
         Piece::Character => append_conversion(actions, Action::PrintByte, left),
     }
+}
+
+/// How many bytes of a text one action prints at most.
+const PART: usize = 16;
+
+/// Appends the actions that print a text, one for each 16 bytes; an empty text is one action that
+/// prints nothing.
+fn append_text(alloc: Global, actions: &mut Vec<Action>, bytes: &[u8]) -> Result<(), NoMemory>
+    ensures { OnOk result (orders actions.new.items ≡ orders actions.old.items ++ text_orders bytes.now) }
+{
+    let mut rest = bytes;
+    while rest.len() > PART {
+        let (part, after) = rest.split_at(PART);
+        append_part(alloc, actions, part)?;
+        rest = after;
+    }
+    append_part(alloc, actions, rest)
+}
+
+/// Appends the action that prints a part of a text.
+fn append_part(alloc: Global, actions: &mut Vec<Action>, part: &[u8]) -> Result<(), NoMemory>
+    requires { length part.now ≤ 16 }
+    ensures { OnOk result (orders actions.new.items ≡ orders actions.old.items ++ PrintText part.now ∷ []) }
+{
+    let bytes = Vec::from_slice(alloc, part)?;
+    append(actions, Action::PrintText(TextPart { bytes }))
 }
 
 /// Appends the actions that print the first of `left` values, where there is one.

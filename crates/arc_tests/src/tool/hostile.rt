@@ -71,7 +71,7 @@ fn long_sources(rt: HostRuntime) -> Result<(), Fail> {
     Ok(())
 }
 
-/// No test makes a code that is too large, which takes 256 MiB of texts.
+/// No test makes a code that is too large, which takes more than 16,777,216 actions.
 #[test]
 fn too_large_a_code_is_told(rt: HostRuntime) {
     let fault = EmitFault::TooLarge;

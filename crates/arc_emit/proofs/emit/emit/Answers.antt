@@ -7,7 +7,7 @@ use Rattle.arc_code.specs.Running as running
 use Rattle.arc_code.specs.Running.{Program, program_of}
 use Rattle.arc_emit.specs.declared.fault.EmitFault.{EmitFault}
 use Rattle.arc_emit.specs.Emitted.{code_of}
-use Rattle.arc_emit.proofs.Matching.{code_refines, code_sound}
+use Rattle.arc_emit.proofs.Emitting.{code_refines, code_sound}
 use Rattle.arc_emit.proofs.emit.emit.Goals as goal
 
 -- what holds of the code of a program holds of what was written for it
