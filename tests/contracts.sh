@@ -32,7 +32,7 @@ public_calls() {
     module=${BASH_REMATCH[1]} call=${BASH_REMATCH[2]}
     grep -qsx "pub mod $module;" "crates/$1/src/lib.rt" || continue
     [[ $module == law || $call == *' as From<'* || $call == *' as Default>'* ]] && continue
-    sed -E 's/^<(\w+) as .*>::/\1::/; s/<[^>]*>::/::/; s/^[a-z_]+:://' <<<"$call"
+    sed -E 's/^<(.*) as .*>::/\1::/; s/<[^:]*>::/::/; s/^([a-z_]+::)+//' <<<"$call"
   done <"$rows"
 }
 
