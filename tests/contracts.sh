@@ -1,0 +1,63 @@
+#!/usr/bin/env bash
+# Fails for each public function of a library that has no `ensures`, and for each public call that no must-fail
+# edit turns. A public call is a public function of a public module, but for the laws, which have no body to turn,
+# and for `From` and `Default`. tests/contracts.txt names the edits of each. Each library is checked over what
+# earlier checks kept. The last line is `N passed, M failed`.
+set -u
+cd "$(dirname "$0")/.." || exit 2
+passed=0 failed=0
+rows=$(mktemp) || exit 2
+trap 'rm -f "$rows"' EXIT
+
+pass() {
+  ((passed += 1))
+}
+
+fail() {
+  echo "$1"
+  ((failed += 1))
+}
+
+# The edits of each call, by `CRATE CALL`.
+declare -A edits
+while read -r crate call names; do
+  [[ $crate != '#'* ]] && edits["$crate ${call%:}"]=$names
+done <tests/contracts.txt
+
+# Prints the public calls of a crate, from rows as `untested  src/heap.rt:56 <PlainStore as Store>::take()`.
+public_calls() {
+  local row='^[a-z-]+ +src/([a-z_]+)\.rt:[0-9]+ (.*)\(\)' line module call
+  while read -r line; do
+    [[ $line =~ $row ]] || continue
+    module=${BASH_REMATCH[1]} call=${BASH_REMATCH[2]}
+    grep -qsx "pub mod $module;" "crates/$1/src/lib.rt" || continue
+    [[ $module == law || $call == *' as From<'* || $call == *' as Default>'* ]] && continue
+    sed -E 's/^<(.*) as .*>::/\1::/; s/<[^:]*>::/::/; s/^([a-z_]+::)+//' <<<"$call"
+  done <"$rows"
+}
+
+check_call() {
+  local name names=${edits["$1 $2"]-}
+  unset "edits[$1 $2]"
+  [[ -n $names ]] || { fail "$1 $2: tests/contracts.txt names no edit"; return; }
+  for name in $names; do
+    [ -f "crates/$1/must-fail/$name.edit" ] || { fail "$1 $2: there is no edit $name"; return; }
+  done
+  pass
+}
+
+check_crate() {
+  local call
+  (cd "crates/$1" && rt plant --max 0 --minutes 0) >"$rows" 2>&1
+  grep -q "^plants crate=$1 " "$rows" || { fail "$1: rt plant judged nothing: $(tail -n 3 "$rows")"; return; }
+  if grep '^no-ensures' "$rows"; then fail "$1: functions without ensures"; else pass; fi
+  while read -r call; do check_call "$1" "$call"; done < <(public_calls "$1")
+}
+
+# arc_tests has only tests.
+while IFS=': ' read -r crate _; do
+  [[ -f crates/$crate/src/lib.rt && $crate != arc_tests ]] && check_crate "$crate"
+done <crates.txt
+for call in "${!edits[@]}"; do fail "$call: tests/contracts.txt names it, and it is no public call"; done
+echo "$passed passed, $failed failed"
+[ "$failed" = 0 ]
