@@ -9,7 +9,7 @@ use Rattle.arc_class.specs.declared.table.Entry.{Entry}
 use Rattle.arc_class.specs.Entries.{EntryTree, entry_tree, root_entry}
 use Rattle.arc_class.specs.Lookups.{superclass_among, own_result_in, superclass_of_fields, own_field_in, field_among}
 use Rattle.arc_class.specs.Owners.{TellsMethods, TellsFields, views, view_at, has_at, own_of}
-use Rattle.arc_class.specs.Table.{owners_in, result_in_table}
+use Rattle.arc_class.specs.Table.{owners_in, nearest_result_in}
 use Rattle.arc_class.proofs.Chains.{told_at}
 
 methods_told : (table : ClassTable) (sign : Sign) → TellsMethods table.entries.items sign (owners_in table sign)
@@ -18,7 +18,7 @@ methods_told table signs.Instance = table.instance_methods_told
 
 pub result_told : (table : ClassTable) (sign : Sign) (selector : List ℕ) (owners : Owners) → owners ≡ owners_in table sign → (class : ℕ) → is_some (view_at (views owners) (Some class)) ≡ true
     → (found : Option ℕ) → found ≡ has_at (view_at (views owners) (Some class)) selector
-    → own_of (λ c. own_result_in c (slice_get table.entries.items c) sign selector) found ≡ result_in_table table (Some class) sign selector
+    → own_of (λ c. own_result_in c (slice_get table.entries.items c) sign selector) found ≡ nearest_result_in table class sign selector
 result_told table sign selector owners e class known found is =
     let entries = table.entries.items in
     let P : Owners → Type 0 = λ o. TellsMethods entries sign o in

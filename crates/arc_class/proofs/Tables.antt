@@ -9,10 +9,10 @@ use Rattle.arc_ast.specs.declared.tree.Sign.TheVariants as signs
 use Rattle.arc_ast.specs.Tree.{InterfaceTree, UnitTree}
 use Rattle.arc_class.specs.declared.table.ClassTable.{ClassTable}
 use Rattle.arc_class.specs.declared.table.Entry.{Entry}
-use Rattle.arc_class.specs.Classes.{superclass, superclass_of, own_result, result_in, result_of, root_result, known_result, any_result, nearest, or_then, first_head, declared, defined}
+use Rattle.arc_class.specs.Classes.{superclass, superclass_of, own_result, result_in, result_of, built_in_result, counting_result, nearest_result, known_result, any_result, source_result, nearest, or_then, first_head, declared, defined}
 use Rattle.arc_class.specs.Entries.{EntryTree, entry_tree, root_entry, class_entry}
 use Rattle.arc_class.specs.Kept.{head_in}
-use Rattle.arc_class.specs.Table.{own_result_in, superclass_among, superclass_in, result_at, result_in_table, any_result_in}
+use Rattle.arc_class.specs.Table.{own_result_in, superclass_among, superclass_in, result_among, result_at, result_in_table, any_result_in}
 use Rattle.arc_class.proofs.Parts.{result_kept}
 use Rattle.arc_class.proofs.Results.{nearest_same}
 
@@ -22,7 +22,7 @@ superclass_said (Some e) = e.superclass
 
 abbrev result_said : (class : ℕ) → Option EntryTree → Sign → List ℕ → Option Kind
 result_said class None sign selector = None
-result_said zero (Some e) sign selector = root_result sign selector
+result_said zero (Some e) sign selector = built_in_result sign selector
 result_said (suc n) (Some e) sign selector = e.results sign selector
 
 entry_at : (u : UnitTree) (entries : List Entry) (class : ℕ) → map entry_tree entries ≡ root_entry ∷ map (class_entry u) u.interfaces
@@ -62,14 +62,19 @@ own_is u table class sign selector e = go class (slice_get table.entries.items c
     go zero (Some x) = refl
     go (suc n) (Some x) = refl
 
-pub result_is : (u : UnitTree) (table : ClassTable) (from : Option ℕ) (sign : Sign) (selector : List ℕ) → map entry_tree table.entries.items ≡ root_entry ∷ map (class_entry u) u.interfaces
-    → result_in_table table from sign selector ≡ known_result u from sign selector
-result_is u table from sign selector e =
+among_is : (u : UnitTree) (table : ClassTable) (from : Option ℕ) (sign : Sign) (selector : List ℕ) → map entry_tree table.entries.items ≡ root_entry ∷ map (class_entry u) u.interfaces
+    → result_among table.entries.items from sign selector ≡ nearest_result u from sign selector
+among_is u table from sign selector e =
     let many : length table.entries.items ≡ suc (length u.interfaces) = sym (length-map table.entries.items entry_tree) ∙ ap length e ∙ ap (λ n. suc n) (length-map u.interfaces (class_entry u)) in
     let fewer : length table.entries.items - 1 ≡ length u.interfaces = omega (arith, many) in
     ap (λ n. nearest n (superclass_among table.entries.items) (λ class. own_result_in class (slice_get table.entries.items class) sign selector) from) fewer
     ∙ nearest_same (length u.interfaces) (superclass_among table.entries.items) (superclass u.interfaces) (λ class. own_result_in class (slice_get table.entries.items class) sign selector) (λ class. result_in u class sign selector) from
     (fun_ext (λ class. superclass_is u table class e)) (fun_ext (λ class. own_is u table class sign selector e))
+
+pub result_is : (u : UnitTree) (table : ClassTable) (from : Option ℕ) (sign : Sign) (selector : List ℕ) → map entry_tree table.entries.items ≡ root_entry ∷ map (class_entry u) u.interfaces
+    → result_in_table table from sign selector ≡ known_result u from sign selector
+result_is u table None sign selector e = refl
+result_is u table (Some class) sign selector e = ap (or_then (counting_result selector)) (among_is u table (Some class) sign selector e)
 
 -- what any object gives
 pub any_is : (u : UnitTree) (table : ClassTable) (selector : List ℕ) → head_in table.declared signs.Instance selector ≡ first_head signs.Instance selector (declared u.interfaces)
@@ -77,5 +82,6 @@ pub any_is : (u : UnitTree) (table : ClassTable) (selector : List ℕ) → head_
 any_is u table selector d e =
     let one : result_at table.declared signs.Instance selector ≡ option_map result_of (first_head signs.Instance selector (declared u.interfaces)) = sym (result_kept table.declared signs.Instance selector) ∙ ap (option_map result_of) d in
     let other : result_at table.defined signs.Instance selector ≡ option_map result_of (first_head signs.Instance selector (defined u.implementations)) = sym (result_kept table.defined signs.Instance selector) ∙ ap (option_map result_of) e in
-    ap (λ o. or_then o (or_then (result_at table.defined signs.Instance selector) (root_result signs.Instance selector))) one
-    ∙ ap (λ o. or_then (option_map result_of (first_head signs.Instance selector (declared u.interfaces))) (or_then o (root_result signs.Instance selector))) other
+    ap (or_then (counting_result selector))
+    (ap (λ o. or_then o (or_then (result_at table.defined signs.Instance selector) (built_in_result signs.Instance selector))) one
+    ∙ ap (λ o. or_then (option_map result_of (first_head signs.Instance selector (declared u.interfaces))) (or_then o (built_in_result signs.Instance selector))) other)

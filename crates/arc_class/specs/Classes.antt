@@ -66,8 +66,8 @@ built_in_result signs.Class selector = if bytes_eq selector (codes "alloc") || b
 built_in_result signs.Instance selector =
     if bytes_eq selector (codes "init") then Some k.Object else if bytes_eq selector (codes "dealloc") then Some k.Void else None
 
--- What the messages give that count owners by hand, and `dealloc`. No source may send them under ARC, not to an object and not to a class, which a later rule
--- tells by their names (ARC, "Memory management methods" and "dealloc"); so they are known here.
+-- What the messages give that count owners by hand, and `dealloc`, to any receiver and whatever a source declares. No source may send them under ARC, not to an
+-- object and not to a class, which a later rule reports by their names (ARC, "Memory management methods" and "dealloc"); so they are known here.
 abbrev pub counting_result : List ℕ → Option Kind
 counting_result selector =
     if bytes_eq selector (codes "retain") || bytes_eq selector (codes "autorelease") then Some k.Object
@@ -79,11 +79,8 @@ abbrev pub or_then : {X : Type 0} → Option X → Option X → Option X
 or_then (Some a) b = Some a
 or_then None b = b
 
-abbrev pub root_result : Sign → List ℕ → Option Kind
-root_result sign selector = or_then (built_in_result sign selector) (counting_result selector)
-
 abbrev pub result_in : UnitTree → (class : ℕ) → Sign → List ℕ → Option Kind
-result_in u zero sign selector = root_result sign selector
+result_in u zero sign selector = built_in_result sign selector
 result_in u (suc n) sign selector = own_result u (slice_get u.interfaces n) sign selector
 
 -- the nearest that a class or one of the next n above it has of its own
@@ -93,9 +90,14 @@ nearest zero above own (Some class) = own class
 nearest (suc n) above own (Some class) = or_then (own class) (nearest n above own (above class))
 
 -- What the method gives that is known for a message to a class or to its objects: the nearest that the class or a class above it declares or defines (OPL,
--- "Messages to self and super"), those of the root being built in. There are no more classes above one than there are interfaces.
+-- "Messages to self and super"), those of the root being built in, and those that count owners as they are always known. There are no more classes above one than
+-- there are interfaces.
+abbrev pub nearest_result : UnitTree → Option ℕ → Sign → List ℕ → Option Kind
+nearest_result u from sign selector = nearest (length u.interfaces) (superclass u.interfaces) (λ class. result_in u class sign selector) from
+
 abbrev pub known_result : UnitTree → Option ℕ → Sign → List ℕ → Option Kind
-known_result u from sign selector = nearest (length u.interfaces) (superclass u.interfaces) (λ class. result_in u class sign selector) from
+known_result u None sign selector = None
+known_result u (Some class) sign selector = or_then (counting_result selector) (nearest_result u (Some class) sign selector)
 
 -- the methods of all interfaces, and those of all implementations
 abbrev pub declared : List InterfaceTree → List HeadTree
@@ -106,11 +108,14 @@ abbrev pub defined : List ImplementationTree → List HeadTree
 defined [] = []
 defined (i ∷ others) = heads i.methods ++ defined others
 
--- What a message to an object gives of which no class is known (OPL, "Dynamic Typing"): as the first method of objects does that is declared, or else defined, or
--- built in. All of these give the same.
+-- What a message to an object gives of which no class is known (OPL, "Dynamic Typing"): where it counts owners as that is known, and else as the first method of
+-- objects does that is declared, or else defined, or built in. All of these give the same.
+abbrev pub source_result : UnitTree → List ℕ → Option Kind
+source_result u selector = or_then (option_map result_of (first_head signs.Instance selector (declared u.interfaces)))
+    (or_then (option_map result_of (first_head signs.Instance selector (defined u.implementations))) (built_in_result signs.Instance selector))
+
 abbrev pub any_result : UnitTree → List ℕ → Option Kind
-any_result u selector = or_then (option_map result_of (first_head signs.Instance selector (declared u.interfaces)))
-    (or_then (option_map result_of (first_head signs.Instance selector (defined u.implementations))) (root_result signs.Instance selector))
+any_result u selector = or_then (counting_result selector) (source_result u selector)
 
 -- ---- selectors
 

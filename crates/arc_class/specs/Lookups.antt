@@ -21,7 +21,7 @@ use Rattle.arc_class.specs.declared.table.FoundField.{FoundField}
 use Rattle.arc_class.specs.declared.table.MethodId.{MethodId}
 use Rattle.arc_class.specs.declared.table.Place.{Place}
 use Rattle.arc_class.specs.declared.table.Sel.{Sel}
-use Rattle.arc_class.specs.Classes.{is_root, nearest, root_result}
+use Rattle.arc_class.specs.Classes.{is_root, nearest, built_in_result}
 use Rattle.arc_class.specs.Fields.{ClassField}
 use Rattle.arc_class.specs.Running.{classes}
 
@@ -54,7 +54,7 @@ result_at heads sign selector = option_map (λ h. h.now.result) (head_at heads s
 -- what the method gives that a class itself has for a selector, by a table of the methods of each class; the root's are built in
 abbrev pub own_result_in : (class : ℕ) → Option Entry → Sign → List ℕ → Option Kind
 own_result_in class None sign selector = None
-own_result_in zero (Some e) sign selector = root_result sign selector
+own_result_in zero (Some e) sign selector = built_in_result sign selector
 own_result_in (suc n) (Some e) sign selector = result_at e.methods sign selector
 
 abbrev pub superclass_among : List Entry → ℕ → Option ℕ

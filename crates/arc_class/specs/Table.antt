@@ -12,7 +12,7 @@ use Rattle.arc_class.specs.declared.owners.Owners.{Owners}
 use Rattle.arc_class.specs.declared.table.ClassTable.{ClassTable}
 use Rattle.arc_class.specs.declared.table.Declared.{Declared}
 use Rattle.arc_class.specs.declared.table.FoundField.{FoundField}
-use Rattle.arc_class.specs.Classes.{and_name, class_number, superclass, or_then, root_result, known_result, any_result, selector_number, function_count}
+use Rattle.arc_class.specs.Classes.{and_name, class_number, superclass, or_then, built_in_result, counting_result, known_result, any_result, selector_number, function_count}
 use Rattle.arc_class.specs.Fields.{ClassField, fields, known_field}
 use Rattle.arc_class.specs.Names.{known, number_of, is_main}
 use Rattle.arc_class.specs.Running.{classes}
@@ -31,8 +31,12 @@ selector_in table name = position (λ key. bytes_eq name key.now) table.selector
 abbrev pub superclass_in : ClassTable → ℕ → Option ℕ
 superclass_in table = superclass_among table.entries.items
 
+abbrev pub nearest_result_in : ClassTable → (class : ℕ) → Sign → List ℕ → Option Kind
+nearest_result_in table class = result_among table.entries.items (Some class)
+
 abbrev pub result_in_table : ClassTable → Option ℕ → Sign → List ℕ → Option Kind
-result_in_table table = result_among table.entries.items
+result_in_table table None sign selector = None
+result_in_table table (Some class) sign selector = or_then (counting_result selector) (nearest_result_in table class sign selector)
 
 -- which class has the nearest method of a sign, by a table
 abbrev pub owners_in : ClassTable → Sign → Owners
@@ -41,8 +45,8 @@ owners_in table signs.Instance = table.instance_methods
 
 -- what a message to an object gives of which no class is known
 abbrev pub any_result_in : ClassTable → List ℕ → Option Kind
-any_result_in table selector =
-    or_then (result_at table.declared signs.Instance selector) (or_then (result_at table.defined signs.Instance selector) (root_result signs.Instance selector))
+any_result_in table selector = or_then (counting_result selector)
+    (or_then (result_at table.declared signs.Instance selector) (or_then (result_at table.defined signs.Instance selector) (built_in_result signs.Instance selector)))
 
 abbrev pub field_in_table : ClassTable → Option ℕ → List ℕ → Option FoundField
 field_in_table table = field_among table.named_fields.items

@@ -32,7 +32,7 @@ pub fn built_in_result(sign: Sign, selector: &[u8]) -> Option<Kind>
 }
 
 /// What a message gives that counts owners by hand, and `dealloc`, which no source may send.
-fn counting_result(selector: &[u8]) -> Option<Kind>
+pub fn counting_result(selector: &[u8]) -> Option<Kind>
     ensures { result ≡ classes.counting_result selector.now }
 {
     if selector == b"retain".as_slice() || selector == b"autorelease".as_slice() {
@@ -43,16 +43,6 @@ fn counting_result(selector: &[u8]) -> Option<Kind>
         Some(Kind::Void)
     } else {
         None
-    }
-}
-
-/// What a message gives that the root knows.
-pub fn root_result(sign: Sign, selector: &[u8]) -> Option<Kind>
-    ensures { result ≡ classes.root_result sign selector.now }
-{
-    match built_in_result(sign, selector) {
-        Some(kind) => Some(kind),
-        None => counting_result(selector),
     }
 }
 

@@ -24,7 +24,7 @@ use crate::kept::Source;
 use crate::look::look;
 use crate::nearest::{field_owners, method_owners};
 use crate::owners::Owners;
-use crate::root::{BuiltIn, root_result};
+use crate::root::{BuiltIn, built_in_result, counting_result};
 use crate::walk::walk;
 use arc_ast::tree::{Kind, Qual, Sign, TranslationUnit, Visibility};
 use arc_fault::class::ClassFault;
@@ -175,7 +175,7 @@ impl<'a> Entry<'a> {
         ensures { result ≡ own_result_in class (Some self.now) sign selector.now }
     {
         if class == 0 {
-            return root_result(sign, selector);
+            return built_in_result(sign, selector);
         }
         result_at(&self.methods, sign, selector)
     }
@@ -301,7 +301,7 @@ pub struct ClassTable<'a> {
 }
 
 impl<'a> ClassTable<'a> {
-    ghost use Rattle.arc_class.specs.Table.{IsTableOf, function_in, class_in, superclass_in, result_in_table, owners_in, any_result_in, field_in_table, fields_in, defined_in, built_in_method, method_in, selector_in, selector_name, IsSameTable, Registers};
+    ghost use Rattle.arc_class.specs.Table.{IsTableOf, function_in, class_in, superclass_in, nearest_result_in, result_in_table, owners_in, any_result_in, field_in_table, fields_in, defined_in, built_in_method, method_in, selector_in, selector_name, IsSameTable, Registers};
 
     /// What is known of the functions of the name, if there are any. The name lies in the source, or lives as long.
     pub fn function(&self, name: &'a [u8]) -> Option<Declared>
@@ -328,13 +328,23 @@ impl<'a> ClassTable<'a> {
     }
 
     /// What the method gives that the class, or else the nearest class above it, declares or defines for the selector; the root has those
-    /// that are built in, and those of the messages to objects that count their owners.
+    /// that are built in. The messages that count owners give what they always do, whatever is declared.
     pub fn result(&self, class: Option<ClassId>, sign: Sign, selector: &'a [u8]) -> Option<Kind>
         ensures { result ≡ result_in_table self.now (option_map number_of_class class) sign selector.now }
     {
         let Some(class) = number_of(class) else {
             return None;
         };
+        match counting_result(selector) {
+            Some(kind) => Some(kind),
+            None => self.nearest_result(class, sign, selector),
+        }
+    }
+
+    /// What the method gives that the class, or else the nearest class above it, has for the selector.
+    fn nearest_result(&self, class: usize, sign: Sign, selector: &'a [u8]) -> Option<Kind>
+        ensures { result ≡ nearest_result_in self.now class sign selector.now }
+    {
         let owners = self.owners(sign);
         if !owners.knows(class) {
             return result_from(&self.entries, Some(class), sign, selector);
@@ -355,17 +365,21 @@ impl<'a> ClassTable<'a> {
         }
     }
 
-    /// What a message to an object gives of which no class is known: as the methods of objects do that the source has, or that are built in.
+    /// What a message to an object gives of which no class is known: as the methods of objects do that the source has, or that are built in,
+    /// but for the messages that count owners, which give what they always do.
     pub fn result_of_any(&self, selector: &'a [u8]) -> Option<Kind>
         ensures { result ≡ any_result_in self.now selector.now }
     {
+        if let Some(kind) = counting_result(selector) {
+            return Some(kind);
+        }
         if let Some(kind) = result_at(&self.declared, Sign::Instance, selector) {
             return Some(kind);
         }
         if let Some(kind) = result_at(&self.defined, Sign::Instance, selector) {
             return Some(kind);
         }
-        root_result(Sign::Instance, selector)
+        built_in_result(Sign::Instance, selector)
     }
 
     /// The field with the name that the class, or else the nearest class above it, declares.

@@ -52,6 +52,15 @@ chosen_or_nothing-returns-clause-command t c =
     choose_is (checked.value c.into_inner.result) (number_in (resolved s (expr_tree c.args.condition.now))) (checked.command c.in_ok-then.then.value) (resolved_stmt s (stmt_tree c.args.then.now)) (checked.command c.in_ok-other.other.value)
     nothing (ap checked.value c.into_inner.ensures ∙ c.in_ok-test.ensures) c.in_ok-then.ensures.command (ap checked.command c.in_ok-other.ensures.ok ∙ c.nothing.ensures)
 
+pub chosen-returns-clause-command : goal.chosen-returns-clause-command
+chosen-returns-clause-command t c =
+    let s = seen c.args.table.now c.args.visible.now in
+    let then = stmt_tree c.args.then.now in
+    let other = stmt_tree c.args.other.now in
+    choose_is (checked.value c.into_inner.result) (number_in (resolved s (expr_tree c.args.condition.now))) (checked.command c.in_ok-then.then.value) (resolved_stmt s then) (checked.command c.in_ok-other.other.value)
+    (resolved_stmt (leave s (behind s then)) other) (ap checked.value c.into_inner.ensures ∙ c.in_ok-test.ensures) c.in_ok-then.ensures.command
+    (c.in_ok-other.ensures.command ∙ ap (λ p. resolved_stmt p other) c.in_ok-then.ensures.scope)
+
 pub chosen-returns-clause-scope : goal.chosen-returns-clause-scope
 chosen-returns-clause-scope t c = c.in_ok-other.ensures.scope ∙ ap (λ p. leave p (behind p (stmt_tree c.args.other.now))) c.in_ok-then.ensures.scope
 
