@@ -3,9 +3,10 @@ use Rattle.std.proofs.Common.{◌≡◌, ◌≢◌, Bool, true, false, nat_eq, i
 use Rattle.std.proofs.lemmas.Bool.{eq-eqb, eqb-true}
 use Rattle.std.proofs.KnownBytes.{Consumes-nil}
 use Rattle.arc_spec.specs.declared.event.Event.{Event}
+use Rattle.arc_spec.specs.Stepping.{Running, after_steps}
 use Rattle.arc_spec.specs.Correct.{run_seen}
 use Rattle.arc_code.specs.declared.code.IoFault.TheVariants.{Read, Write}
-use Rattle.arc_code.specs.Running.{Program, State, start, IsSound}
+use Rattle.arc_code.specs.Running.{Program, State, start, step, IsSound}
 use Rattle.arc_heap.specs.Blocks.{Blocks}
 use Rattle.arc_machine.specs.declared.stop.Stop.{Stop}
 use Rattle.arc_machine.specs.declared.stop.Stop.TheVariants as stop
@@ -16,6 +17,7 @@ use Rattle.arc_machine.specs.Runs.{Leaves, Moves, Runs, Troubled, reached}
 use Rattle.arc_machine.proofs.Chained.{moves_on}
 use Rattle.arc_tool.specs.declared.lines.Left.{Left}
 use Rattle.arc_tool.specs.declared.lines.Left.TheVariants.{Stopped, Unread}
+use Rattle.arc_tool.specs.Progress.{rest_of, Takes}
 use Rattle.arc_tool.specs.Traced.{Follows, UsesAll, stop_seen, new_events}
 
 -- something that may be left
@@ -129,10 +131,22 @@ seen_of (answer.Broken Read) s i t = refl
 seen_of (answer.Broken Write) s i t = refl
 seen_of answer.NoHeap s i t = refl
 
+reached_rest : (a : Answer) (s : State) (i : List ℕ) (t : List Event) → rest_of (reached a s i t) ≡ i
+reached_rest answer.Going s i t = refl
+reached_rest (answer.Ended n) s i t = refl
+reached_rest (answer.Faulted f) s i t = refl
+reached_rest (answer.Broken f) s i t = refl
+reached_rest answer.NoHeap s i t = refl
+
+-- a run has taken what the machine took
+pub takes_so : (p : Program) (made : ℕ) (taken rest : List ℕ) (a : Answer) (s : State) (t : List Event) → after_steps (step p) made (Running start (taken ++ rest) []) ≡ reached a s rest t → Takes p made taken rest
+takes_so p made taken rest a s t run = ap rest_of run ∙ reached_rest a s rest t
+
 pub follows : {S : Type 0} → (out : S → Blocks) (p : Program) (m : Seen S) (i0 i1 : Option (List ℕ)) (events : List Event) → Reaches out p m i0 i1 events → Follows p m.steps (left_of m.answer) i0 i1 events
 follows out p m i0 i1 events way = record {
   taken = way.taken;
   reads = way.moves.reads;
+  takes = λ rest l. takes_so p m.steps way.taken rest m.answer way.moves.state events (way.moves.run rest l);
   shown = λ rest l. ap run_seen (way.moves.run rest l) ∙ seen_of m.answer way.moves.state rest events;
 }
 

@@ -22,7 +22,7 @@ use Rattle.arc_tool.specs.declared.run.ToolFault.{ToolFault}
 use Rattle.arc_tool.specs.Accepted.{Compiles, meant}
 use Rattle.arc_tool.specs.declared.refusal.Refusal.{Refusal}
 use Rattle.arc_tool.specs.Refused.{IsRefusal}
-use Rattle.arc_tool.proofs.Following.{fresh_stands}
+use Rattle.arc_tool.proofs.Following.{fresh_stands, takes_so}
 use Rattle.arc_tool.specs.Ran.{Starts, Shown, Meant, Ran, Answered, Becomes}
 
 -- the bytes of more events
@@ -85,11 +85,14 @@ module _ (source : List ℕ) (p : Program) (compiled : Compiles source p) (steps
       starts_trans written (bytes_of (seen p input (suc made)).trace) (bytes_of (meant compiled.program input (suc made)).trace) h.1 (on_way input)
 
   module _ (in0 in1 out0 out1 out2 : Option (List ℕ)) (taken : List ℕ) (trace : List Event) (s : State) (reads : Consumes in0 in1 taken) (kept : Keeps out1 out2) where
+    abbrev pub Runs_to : Answer → Type 0
+    Runs_to a = (rest : List ℕ) → Leaves in1 rest → after_steps (step p) made (Running start (taken ++ rest) []) ≡ reached a s rest trace
+
     -- a run, from what it wrote and showed
-    ran : (a : Result Stop ToolFault) (written : List ℕ) → Appends out0 out1 written
+    ran : (b : Answer) → Runs_to b → (a : Result Stop ToolFault) (written : List ℕ) → Appends out0 out1 written
         → ((rest : List ℕ) → Leaves in1 rest → Shown a steps made written (seen p (taken ++ rest) made) (seen p (taken ++ rest) (suc made)))
         → Ran source steps a in0 in1 out0 out2
-    ran a written writes shown = record {
+    ran b run a written writes shown = record {
       code = p;
       compiled = compiled;
       made = made;
@@ -98,16 +101,14 @@ module _ (source : List ℕ) (p : Program) (compiled : Compiles source p) (steps
       written = written;
       reads = reads;
       writes = Appends-kept out0 out1 out2 written writes kept;
+      takes = λ rest l. takes_so p made taken rest b s trace (run rest l);
       shown = shown;
       means = λ rest l. meant_so a written (taken ++ rest) (shown rest l);
     }
 
-    abbrev pub Runs_to : Answer → Type 0
-    Runs_to a = (rest : List ℕ) → Leaves in1 rest → after_steps (step p) made (Running start (taken ++ rest) []) ≡ reached a s rest trace
-
     -- all bytes of the steps were written, and yet a device failed
     all_written : (a : Answer) (e : ToolFault) → Runs_to a → Appends out0 out1 (bytes_of trace) → Ran source steps (Err e) in0 in1 out0 out2
-    all_written a e run writes = ran (Err e) (bytes_of trace) writes (λ rest l.
+    all_written a e run writes = ran a run (Err e) (bytes_of trace) writes (λ rest l.
         let input = taken ++ rest in
         let now : (seen p input made).trace ≡ trace = ap (λ r. (run_seen r).trace) (run rest l) ∙ reached_trace a s rest trace in
         let same : bytes_of (seen p input made).trace ≡ bytes_of trace = ap bytes_of now in
@@ -117,7 +118,7 @@ module _ (source : List ℕ) (p : Program) (compiled : Compiles source p) (steps
     -- a step's bytes were written in part
     part_written : (e : ToolFault) (part others : List ℕ) → Runs_to (answer.Broken Write) → next_bytes (step p s) ≡ part ++ others → Appends out0 out1 (bytes_of trace ++ part)
         → Ran source steps (Err e) in0 in1 out0 out2
-    part_written e part others run split writes = ran (Err e) (bytes_of trace ++ part) writes (λ rest l.
+    part_written e part others run split writes = ran (answer.Broken Write) run (Err e) (bytes_of trace ++ part) writes (λ rest l.
         let input = taken ++ rest in
         let now : bytes_of (seen p input made).trace ≡ bytes_of trace = ap (λ r. bytes_of (run_seen r).trace) (run rest l) in
         let next : bytes_of (seen p input (suc made)).trace ≡ bytes_of trace ++ next_bytes (step p s) =
@@ -129,20 +130,20 @@ module _ (source : List ℕ) (p : Program) (compiled : Compiles source p) (steps
     stopped answer.Going t is run writes used =
         let there : stop.StepsUsed ≡ t = cc in
         subst (λ x. Ran source steps (Ok x) in0 in1 out0 out2) there
-        (ran (Ok stop.StepsUsed) (bytes_of trace) writes (λ rest l. (ap (λ r. bytes_of (run_seen r).trace) (run rest l), ap (λ r. (run_seen r).stop) (run rest l), used refl)))
+        (ran answer.Going run (Ok stop.StepsUsed) (bytes_of trace) writes (λ rest l. (ap (λ r. bytes_of (run_seen r).trace) (run rest l), ap (λ r. (run_seen r).stop) (run rest l), used refl)))
     stopped (answer.Ended n) t is run writes used =
         let there : stop.Ended n ≡ t = cc in
         subst (λ x. Ran source steps (Ok x) in0 in1 out0 out2) there
-        (ran (Ok (stop.Ended n)) (bytes_of trace) writes (λ rest l. (ap (λ r. bytes_of (run_seen r).trace) (run rest l), ap (λ r. (run_seen r).stop) (run rest l))))
+        (ran (answer.Ended n) run (Ok (stop.Ended n)) (bytes_of trace) writes (λ rest l. (ap (λ r. bytes_of (run_seen r).trace) (run rest l), ap (λ r. (run_seen r).stop) (run rest l))))
     stopped (answer.Faulted f) t is run writes used =
         let there : stop.Fault f ≡ t = cc in
         subst (λ x. Ran source steps (Ok x) in0 in1 out0 out2) there
-        (ran (Ok (stop.Fault f)) (bytes_of trace) writes (λ rest l. (ap (λ r. bytes_of (run_seen r).trace) (run rest l), ap (λ r. (run_seen r).stop) (run rest l))))
+        (ran (answer.Faulted f) run (Ok (stop.Fault f)) (bytes_of trace) writes (λ rest l. (ap (λ r. bytes_of (run_seen r).trace) (run rest l), ap (λ r. (run_seen r).stop) (run rest l))))
     stopped (answer.Broken f) t is run writes used = absurd (cc)
     stopped answer.NoHeap t is run writes used =
         let there : stop.NoHeap ≡ t = cc in
         subst (λ x. Ran source steps (Ok x) in0 in1 out0 out2) there
-        (ran (Ok stop.NoHeap) (bytes_of trace) writes (λ rest l. (ap (λ r. bytes_of (run_seen r).trace) (run rest l), ap (λ r. (run_seen r).stop) (run rest l))))
+        (ran answer.NoHeap run (Ok stop.NoHeap) (bytes_of trace) writes (λ rest l. (ap (λ r. bytes_of (run_seen r).trace) (run rest l), ap (λ r. (run_seen r).stop) (run rest l))))
 
     -- a device failed, in the run or behind it
     pub failed : (a : Answer) (e : ToolFault) → Runs_to a → Writes a (step p s) trace out0 out1 → Ran source steps (Err e) in0 in1 out0 out2

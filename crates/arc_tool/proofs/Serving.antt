@@ -21,10 +21,10 @@ check_refused source o w r t is becomes = ⊎_elim
     (λ other. subst (λ x. Checks source (Err x) o o w w) (sym other.1) (is, refl))
     becomes
 
-pub list_refused : (source : List ℕ) (o : Option (List ℕ)) (r : Refusal) (t : Trouble) → IsRefusal source r → BecomesTrouble r t → Lists source (Err t) o o
-list_refused source o r t is becomes = ⊎_elim
-    (λ memory. subst (λ x. Lists source (Err x) o o) (sym memory.1) refl)
-    (λ other. subst (λ x. Lists source (Err x) o o) (sym other.1) (is, refl))
+pub list_refused : (source : List ℕ) (o : Option (List ℕ)) (w : ℕ) (r : Refusal) (t : Trouble) → IsRefusal source r → BecomesTrouble r t → Lists source (Err t) o o w w
+list_refused source o w r t is becomes = ⊎_elim
+    (λ memory. subst (λ x. Lists source (Err x) o o w w) (sym memory.1) refl)
+    (λ other. subst (λ x. Lists source (Err x) o o w w) (sym other.1) (is, refl))
     becomes
 
 module _ {R W : Type 0} (left : R → Option (List ℕ)) (held : W → Option (List ℕ)) (r0 r1 : R) (w0 w1 : W) (source : List ℕ) (steps : ℕ) where

@@ -12,6 +12,7 @@ use Rattle.arc_tool.specs.declared.refusal.Refusal.{Refusal}
 use Rattle.arc_tool.specs.declared.run.ToolFault.{ToolFault}
 use Rattle.arc_tool.specs.declared.run.ToolFault.TheVariants.{Refused, Memory, Io}
 use Rattle.arc_tool.specs.Accepted.{Compiles, meant}
+use Rattle.arc_tool.specs.Progress.{Takes}
 use Rattle.arc_tool.specs.Refused.{IsRefusal}
 use Rattle.arc_tool.specs.Told.{Names}
 
@@ -36,7 +37,8 @@ Meant (Ok NoHeap) written m = Starts written (bytes_of m.trace)
 Meant (Err e) written m = Starts written (bytes_of m.trace)
 
 -- A run of the source's code, of at most so many steps. It took some first bytes of the reader's known ones, and added what it wrote to the
--- writer's known ones; and whatever is behind the bytes that it took, so do the code and the program's meaning on that input.
+-- writer's known ones; and whatever is behind the bytes that it took, the code takes exactly these, and so do the code and the program's
+-- meaning on that input.
 pub record Ran (source : List ℕ) (steps : ℕ) (answer : Result Stop ToolFault) (in0 in1 out0 out1 : Option (List ℕ)) : Type 0 where
   pub code : Program
   pub compiled : Compiles source code
@@ -46,6 +48,7 @@ pub record Ran (source : List ℕ) (steps : ℕ) (answer : Result Stop ToolFault
   pub written : List ℕ
   pub reads : Consumes in0 in1 taken
   pub writes : Appends out0 out1 written
+  pub takes : (rest : List ℕ) → Leaves in1 rest → Takes code made taken rest
   pub shown : (rest : List ℕ) → Leaves in1 rest → Shown answer steps made written (seen code (taken ++ rest) made) (seen code (taken ++ rest) (suc made))
   pub means : (rest : List ℕ) → Leaves in1 rest → Meant answer written (meant compiled.program (taken ++ rest) (suc made))
 

@@ -64,18 +64,18 @@ ended_with stop.NoHeap = Err NoHeap
 ended_with stop.StepsUsed = Err StepsUsed
 
 -- `code` lists the code of a program
-abbrev pub Lists : List ℕ → Result ℕ Trouble → (out0 out1 : Option (List ℕ)) → Type 0
-Lists source (Ok s) o0 o1 = (code : Program) × (s ≡ 0) × Compiles source code × Appends o0 o1 (listing code.ops)
-Lists source (Err (Io f)) o0 o1 = (code : Program) × Compiles source code × AppendsPart o0 o1 (listing code.ops)
-Lists source (Err (Refused r)) o0 o1 = IsRefusal source r × (o1 ≡ o0)
-Lists source (Err Memory) o0 o1 = o1 ≡ o0
-Lists source (Err _) o0 o1 = ⊥
+abbrev pub Lists : List ℕ → Result ℕ Trouble → (out0 out1 : Option (List ℕ)) → (writes0 writes1 : ℕ) → Type 0
+Lists source (Ok s) o0 o1 w0 w1 = (code : Program) × (s ≡ 0) × Compiles source code × Appends o0 o1 (listing code.ops)
+Lists source (Err (Io f)) o0 o1 w0 w1 = (code : Program) × Compiles source code × Written (Err f) (listing code.ops) o0 o1 w0 w1
+Lists source (Err (Refused r)) o0 o1 w0 w1 = IsRefusal source r × (o1 ≡ o0)
+Lists source (Err Memory) o0 o1 w0 w1 = o1 ≡ o0
+Lists source (Err _) o0 o1 w0 w1 = ⊥
 
 abbrev pub Obeyed : Command → List ℕ → (steps : ℕ) → Result ℕ Trouble → (in0 in1 out0 out1 : Option (List ℕ)) → (writes0 writes1 : ℕ) → Type 0
 Obeyed Check source steps answer i0 i1 o0 o1 w0 w1 = Checks source answer o0 o1 w0 w1 × (i1 ≡ i0)
 Obeyed Run source steps answer i0 i1 o0 o1 w0 w1 = RunsSource source steps answer i0 i1 o0 o1
 Obeyed Trace source steps answer i0 i1 o0 o1 w0 w1 = TracesSource source steps answer i0 i1 o0 o1 w0 w1
-Obeyed Code source steps answer i0 i1 o0 o1 w0 w1 = Lists source answer o0 o1 × (i1 ≡ i0)
+Obeyed Code source steps answer i0 i1 o0 o1 w0 w1 = Lists source answer o0 o1 w0 w1 × (i1 ≡ i0)
 
 -- this trouble, and nothing is read or printed
 abbrev pub Only : Trouble → Result ℕ Trouble → (in0 in1 out0 out1 : Option (List ℕ)) → Type 0

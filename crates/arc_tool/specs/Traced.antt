@@ -19,6 +19,7 @@ use Rattle.arc_tool.specs.declared.run.ToolFault.{ToolFault}
 use Rattle.arc_tool.specs.declared.run.ToolFault.TheVariants.{Refused, Memory, Io}
 use Rattle.arc_tool.specs.Accepted.{Compiles, class_names, meant}
 use Rattle.arc_tool.specs.Lines.{trace_text, events_text, end_text, open_after}
+use Rattle.arc_tool.specs.Progress.{Takes}
 use Rattle.arc_tool.specs.Refused.{IsRefusal}
 use Rattle.arc_tool.specs.Told.{Names}
 
@@ -39,10 +40,11 @@ abbrev pub UsesAll : Left → (made steps : ℕ) → Type 0
 UsesAll (Stopped StepsUsed) made steps = made ≡ steps
 UsesAll _ made steps = ⊤
 
--- A run of so many steps of the code, which took some first bytes of the reader's known ones: whatever is behind these, it shows these events, and is over where it was left so.
+-- A run of so many steps of the code, which took some first bytes of the reader's known ones: whatever is behind these, it takes exactly these, shows these events, and is over where it was left so.
 pub record Follows (code : Program) (made : ℕ) (left : Left) (in0 in1 : Option (List ℕ)) (events : List Event) : Type 0 where
   pub taken : List ℕ
   pub reads : Consumes in0 in1 taken
+  pub takes : (rest : List ℕ) → Leaves in1 rest → Takes code made taken rest
   pub shown : (rest : List ℕ) → Leaves in1 rest → seen code (taken ++ rest) made ≡ record { trace = events; stop = stop_seen left }
 
 -- the reader's failures rose by one where it failed, and else they are the same

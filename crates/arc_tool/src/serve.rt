@@ -163,7 +163,8 @@ fn list_source<W: Write>(
     output: &mut Counted<W>,
 ) -> Result<u8, Trouble>
     requires { failures_of output.old < 2 ^ 64 - 1 }
-    ensures lists { Lists source.now result (held_by W.contents output.old) (held_by W.contents output.new) }
+    ensures lists { Lists source.now result (held_by W.contents output.old) (held_by W.contents output.new)
+        (failures_of output.old) (failures_of output.new) }
     ensures blamed { (reads : ℕ) → Blamed result reads reads (failures_of output.old) (failures_of output.new) }
 {
     let code = compile(alloc, source)?;
