@@ -1,6 +1,6 @@
 -- Calls of a device that are made again where they were interrupted, at most 100 of them in a row.
 -- That 100 interruptions in a row are a failure is this project's own choice.
-use Rattle.std.specs.Prelude.{◌≡◌, ◌⊎◌, ℕ, zero, suc, ◌+◌, ◌<◌, List, drop, Option, ⊤}
+use Rattle.std.specs.Prelude.{◌≡◌, ◌⊎◌, ℕ, zero, suc, ◌+◌, ◌<◌, List, length, drop, Option, ⊤}
 use Rattle.arc_code.specs.declared.device.Attempt.{Attempt}
 use Rattle.arc_code.specs.declared.device.Attempt.TheVariants.{Done, Interrupted, Failed}
 use Rattle.arc_code.specs.Calls.{IsUndone}
@@ -32,8 +32,9 @@ IsFailedWrite Failed = ⊤
 abbrev pub Fails : {T A : Type 0} → (call : T → Attempt A → T → Type 0) → (old new : T) → Type 0
 Fails {T} {A} call old new = (answer : Attempt A) × IsUndone answer × Tried call old answer new
 
+-- a write of some bytes, of which there is one at least
 abbrev pub FailsToWrite : {T : Type 0} → (writes : List ℕ → T → Attempt ℕ → T → Type 0) → (bytes : List ℕ) → (old new : T) → Type 0
-FailsToWrite writes bytes old new = (answer : Attempt ℕ) × IsFailedWrite answer × Tried (writes bytes) old answer new
+FailsToWrite writes bytes old new = (0 < length bytes) × (answer : Attempt ℕ) × IsFailedWrite answer × Tried (writes bytes) old answer new
 
 -- the device is as a failed read left it
 abbrev pub HasFailedToRead : {T : Type 0} → (reads : T → Attempt (Option ℕ) → T → Type 0) → T → Type 0

@@ -10,8 +10,8 @@ use Rattle.arc_spec.specs.Correct.{meaning_seen, run_seen}
 use Rattle.arc_spec.proofs.Steadiness.{steady}
 use Rattle.arc_ir.specs.Acting.{Program, step, start, seen}
 use Rattle.arc_lower.specs.Order.{Call, Return, EndStep, orders}
-use Rattle.arc_lower.specs.Lowered.{number_of, slots_of, zero_orders, lowered, entries_of, end_step_of, classes_linked, room_of}
-use Rattle.arc_lower.specs.Promise.{Performs}
+use Rattle.arc_lower.specs.Lowered.{number_of, slots_of, zero_orders, lowered, entries_of, end_step_of, classes_linked}
+use Rattle.arc_lower.specs.Promise.{Performs, IsLowered}
 use Rattle.arc_lower.proofs.Leading.{leads_step, Runs, leads_runs, then_runs}
 use Rattle.arc_lower.proofs.Behaving.{Shows, behaves}
 use Rattle.arc_lower.proofs.Recounting.{recount, moves, at, held_of}
@@ -56,11 +56,13 @@ module _ (p : Program) (R : resolved.Program) (is : orders p.actions ≡ lowered
       none : 0 + most_levels ≡ most_levels
       none = omega arith
 
-  pub performs : p.room ≡ room_of R → p.places ≡ room_of R → Performs R p
-  performs room places =
-      let calm = steady (step p) start in
-      record {
-        behaves = behaves (λ input bound. meaning_seen (mean R input bound)) (seen p) calm (λ input bound. shows p (λ v w. Unit {0}) input bound (mean R input bound) (program_runs input bound));
-        steady = calm;
-        sound = lowered_sound p R is entries classes end room places;
-      }
+-- the actions that a program becomes perform it
+pub performs : (p : Program) (R : resolved.Program) → IsLowered R p → Performs R p
+performs p R is =
+    let calm = steady (step p) start in
+    record {
+      behaves = behaves (λ input bound. meaning_seen (mean R input bound)) (seen p) calm
+          (λ input bound. shows p (λ v w. Unit {0}) input bound (mean R input bound) (program_runs p R is.actions is.entries is.classes is.end_step input bound));
+      steady = calm;
+      sound = lowered_sound p R is.actions is.entries is.classes is.end_step is.room is.places;
+    }

@@ -1,11 +1,23 @@
 -- What is promised of a program's actions.
+use Rattle.std.specs.Prelude.{◌≡◌}
 use Rattle.arc_spec.specs.Resolved as resolved
 use Rattle.arc_spec.specs.Meaning.{mean}
 use Rattle.arc_spec.specs.Correct.{Behaves, Steady, meaning_seen}
 use Rattle.arc_ir.specs.Acting.{Program, seen, IsSound}
+use Rattle.arc_lower.specs.Order.{orders}
+use Rattle.arc_lower.specs.Lowered.{lowered, entries_of, end_step_of, room_of, classes_linked}
 
 -- The actions do what a program means, on each input; none of them is ever without what it needs, and the stack keeps to its room.
 pub record Performs (meant : resolved.Program) (acting : Program) : Type 0 where
   pub behaves : Behaves (λ input bound. meaning_seen (mean meant input bound)) (seen acting)
   pub steady : Steady (seen acting)
   pub sound : IsSound acting
+
+-- The actions are exactly those that the program becomes.
+pub record IsLowered (meant : resolved.Program) (acting : Program) : Type 0 where
+  pub actions : orders acting.actions ≡ lowered meant
+  pub entries : acting.entries ≡ entries_of meant
+  pub end_step : acting.end_step ≡ end_step_of meant
+  pub room : acting.room ≡ room_of meant
+  pub places : acting.places ≡ room_of meant
+  pub classes : acting.classes ≡ classes_linked meant

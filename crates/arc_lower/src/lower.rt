@@ -5,7 +5,7 @@ ghost use Rattle.arc_ir.specs.Acting as acting;
 ghost use Rattle.arc_check.specs.Checked.{commands, program_of};
 ghost use Rattle.arc_lower.specs.Order.{orders};
 ghost use Rattle.arc_lower.specs.Lowered.{body_orders, entry_of, function_orders, functions_orders, entries_from, longest_from, start_orders, end_step_of, all_functions};
-ghost use Rattle.arc_lower.specs.Promise.{Performs};
+ghost use Rattle.arc_lower.specs.Promise.{Performs, IsLowered};
 
 use crate::call::{append_leave, number_of, slots_of};
 use crate::expression::append;
@@ -20,10 +20,12 @@ use arc_ir::action::{Action, Ir};
 use arc_spec::event::NoMemory;
 use std::alloc::Global;
 
-/// The actions of a program, which do what the program means. NoMemory: memory was refused, or a
-/// stack that has room for all calls has more places than can be numbered.
+/// The actions of a program, which do what the program means, and which are exactly those that the
+/// program becomes. NoMemory: memory was refused, or a stack that has room for all calls has more
+/// places than can be numbered.
 pub fn lower(alloc: Global, program: &Owned) -> Result<Ir, NoMemory>
-    ensures { IfOk result (λ ir. Performs (program_of program.now.program.now) (acting.program_of ir)) }
+    ensures performs { IfOk result (λ ir. Performs (program_of program.now.program.now) (acting.program_of ir)) }
+    ensures exact { IfOk result (λ ir. IsLowered (program_of program.now.program.now) (acting.program_of ir)) }
 {
     let mut actions = Vec::new(alloc);
     let mut entries = Vec::new(alloc);

@@ -1,5 +1,6 @@
 -- The stages one after another.
-use Rattle.std.proofs.Common.{◌≡◌, ℕ, List, [], refl, sym, ap, subst, ◌∙◌}
+use Rattle.std.proofs.Common.{◌≡◌, ℕ, ◌+◌, ◌<◌, List, [], ◌∷◌, ◌++◌, length, map, refl, sym, ap, subst, ◌∙◌, arith}
+use Rattle.std.proofs.lemmas.List.{length-map}
 use Rattle.arc_lex.specs.declared.token.Token.{Token}
 use Rattle.arc_lex.specs.Tokens.{toks}
 use Rattle.arc_lex.specs.Source.{Tokens}
@@ -13,46 +14,73 @@ use Rattle.arc_check.specs.Checked.{program_of}
 use Rattle.arc_check.specs.Rules.{broken_unit}
 use Rattle.arc_check.specs.Resolving.{resolved_unit}
 use Rattle.arc_family.specs.Rules as ownership
+use Rattle.arc_spec.specs.Resolved as resolved
 use Rattle.arc_spec.specs.Correct.{Refines, Steady}
 use Rattle.arc_spec.proofs.Composition.{composed}
 use Rattle.arc_ir.specs.Acting as acting
-use Rattle.arc_lower.specs.Promise.{Performs}
+use Rattle.arc_ir.specs.declared.action.Action.{Action}
+use Rattle.arc_ir.specs.declared.action.Action.TheVariants as action
+use Rattle.arc_lower.specs.Order as order
+use Rattle.arc_lower.specs.Order.{orders}
+use Rattle.arc_lower.specs.Lowered.{lowered}
+use Rattle.arc_lower.specs.Promise.{Performs, IsLowered}
 use Rattle.arc_emit.specs.declared.fault.EmitFault.{EmitFault}
 use Rattle.arc_emit.specs.declared.fault.EmitFault.TheVariants as f
 use Rattle.arc_emit.specs.Faults as emitting
-use Rattle.arc_emit.specs.Emitted.{IsLarge}
+use Rattle.arc_emit.specs.Emitted.{text_of, texts_of, IsLarge}
 use Rattle.arc_code.specs.Running.{Program, seen, IsSound}
 use Rattle.arc_tool.specs.declared.refusal.Refusal.{Refusal}
 use Rattle.arc_tool.specs.Accepted.{Spelled, Accepted, program_meant, meant, Compiles, CompilesNamed, class_names}
-use Rattle.arc_tool.specs.Refused.{IsRefusal, too_large, no_memory}
+use Rattle.arc_tool.specs.Refused.{IsTooLarge, IsRefusal, too_large, no_memory}
 use Rattle.arc_tool.specs.Told.{Tells}
 
 -- the tokens of the source, as they were passed on
 pub passed : (source : List ℕ) (items these_tokens : List Token) → these_tokens ≡ items → Tokens source (toks items) → Tokens source (toks these_tokens)
 passed source items these_tokens same h = subst (λ ts. Tokens source (toks ts)) (sym same) h
 
-module _ (source : List ℕ) (unit : TranslationUnit) (table : ClassTable) (program owned : Checked) (actions : acting.Program)
+-- ---- how large a program is
+
+same_text : (a : Action) → order.text_of (order.order a) ≡ text_of a
+same_text (action.PrintText bytes) = refl
+same_text _ = refl
+
+same_texts : (actions : List Action) → order.texts_of (orders actions) ≡ texts_of actions
+same_texts [] = refl
+same_texts (a ∷ others) = ap (λ t. t ++ order.texts_of (orders others)) (same_text a) ∙ ap (λ t. text_of a ++ t) (same_texts others)
+
+too_many : (P : resolved.Program) (actions : acting.Program) → orders actions.actions ≡ lowered P → IsLarge actions → IsTooLarge P
+too_many P actions is large =
+    let many : length (lowered P) ≡ length actions.actions = ap length (sym is) ∙ length-map actions.actions order.order in
+    let long : length (order.texts_of (lowered P)) ≡ length (texts_of actions.actions) = ap (λ l. length (order.texts_of l)) (sym is) ∙ ap length (same_texts actions.actions) in
+    omega (arith, many, long, large)
+
+-- ---- the stages
+
+module _ (source : List ℕ) (unit : TranslationUnit) (table : ClassTable) (program : Checked)
     (spelled : Spelled source (unit_tree unit)) (declared : broken (unit_tree unit) ≡ []) (is_table : IsTableOf (unit_tree unit) table)
-    (checked : broken_unit (unit_tree unit) ≡ []) (resolved : program_of program ≡ resolved_unit (unit_tree unit))
-    (source_is : unit_tree program.unit.now ≡ unit_tree unit) (ruled : ownership.broken (unit_tree program.unit.now) ≡ [])
-    (same : owned ≡ program) (performs : Performs (program_of owned) actions) where
+    (checked : broken_unit (unit_tree unit) ≡ []) (source_is : unit_tree program.unit.now ≡ unit_tree unit) (ruled : ownership.broken (unit_tree program.unit.now) ≡ []) where
   abbrev pub accepted : Accepted source
   accepted = record { tokens = spelled.tokens; tree = unit_tree unit; table = table; cut = spelled.cut; spelled = spelled.spelled; declared = declared; is_table = is_table; checked = checked; owned = subst (λ u. ownership.broken u ≡ []) source_is ruled }
 
-  pub performed : Performs (program_meant accepted) actions
-  performed = subst (λ program. Performs program actions) (ap program_of same ∙ resolved) performs
+  module _ (owned : Checked) (actions : acting.Program) (means : program_of program ≡ resolved_unit (unit_tree unit)) (same : owned ≡ program)
+      (performs : Performs (program_of owned) actions) (exact : IsLowered (program_of owned) actions) where
+    pub performed : Performs (program_meant accepted) actions
+    performed = subst (λ P. Performs P actions) (ap program_of same ∙ means) performs
 
-  abbrev pub compiled : (code : Program) → IsSound code → Refines (acting.seen actions) (seen code) → Steady (seen code) → Compiles source code
-  compiled code sound refines steady = record {
-    program = accepted;
-    behaves = composed (meant accepted) (acting.seen actions) (seen code) performed.behaves performed.steady refines;
-    steady = steady;
-    sound = sound;
-  }
+    pub lowers : IsLowered (program_meant accepted) actions
+    lowers = subst (λ P. IsLowered P actions) (ap program_of same ∙ means) exact
 
-  pub compiled_named : (code : Program) → IsSound code → Refines (acting.seen actions) (seen code) → Steady (seen code) → CompilesNamed source code (class_names (unit_tree unit))
-  compiled_named code sound refines steady = record { compiled = compiled code sound refines steady; named = refl }
+    abbrev pub compiled : (code : Program) → IsSound code → Refines (acting.seen actions) (seen code) → Steady (seen code) → Compiles source code
+    compiled code sound refines steady = record {
+      program = accepted;
+      behaves = composed (meant accepted) (acting.seen actions) (seen code) performed.behaves performed.steady refines;
+      steady = steady;
+      sound = sound;
+    }
 
-  pub not_emitted : (e : EmitFault) (r : Refusal) → (e ≡ f.TooLarge → IsLarge actions) → Tells (emitting.fault_number e) (emitting.fault_name e) 0 r → IsRefusal source r
-  not_emitted f.TooLarge r large tells = too_large accepted actions performed (large refl) tells
-  not_emitted f.Memory r large tells = no_memory tells.name_is
+    pub compiled_named : (code : Program) → IsSound code → Refines (acting.seen actions) (seen code) → Steady (seen code) → CompilesNamed source code (class_names (unit_tree unit))
+    compiled_named code sound refines steady = record { compiled = compiled code sound refines steady; named = refl }
+
+    pub not_emitted : (e : EmitFault) (r : Refusal) → (e ≡ f.TooLarge → IsLarge actions) → Tells (emitting.fault_number e) (emitting.fault_name e) 0 r → IsRefusal source r
+    not_emitted f.TooLarge r large tells = too_large accepted (too_many (program_meant accepted) actions lowers.actions (large refl)) tells
+    not_emitted f.Memory r large tells = no_memory accepted tells

@@ -1,22 +1,29 @@
 -- A run that is made step by step is one run of the code.
-use Rattle.std.proofs.Common.{◌≡◌, ◌≢◌, Bool, true, false, nat_eq, if◌then◌else◌, ℕ, zero, suc, ◌+◌, ◌≤◌, List, [], ◌++◌, Option, Some, None, Ok, Err, refl, sym, ap, subst, ◌∙◌, arith}
+use Rattle.std.proofs.Common.{◌≡◌, ◌≢◌, Bool, true, false, nat_eq, if◌then◌else◌, ℕ, zero, suc, ◌+◌, ◌<◌, ◌≤◌, List, [], ◌++◌, length, inl, inr, Option, Some, None, Ok, Err, refl, sym, ap, subst, ◌∙◌, arith}
+use Rattle.std.specs.Prelude.{slice_get}
 use Rattle.std.proofs.lemmas.Bool.{eq-eqb, eqb-true}
 use Rattle.std.proofs.KnownBytes.{Consumes-nil}
 use Rattle.arc_spec.specs.declared.event.Event.{Event}
+use Rattle.arc_spec.specs.Stepping.{Reached, Running, after_steps}
 use Rattle.arc_spec.specs.Correct.{run_seen}
+use Rattle.arc_code.specs.Attempts.{HasFailedToWrite, IsFailedWrite}
+use Rattle.arc_code.specs.Calls.{IsUndone}
+use Rattle.arc_code.specs.declared.device.Attempt.TheVariants.{Done}
 use Rattle.arc_code.specs.declared.code.IoFault.TheVariants.{Read, Write}
-use Rattle.arc_code.specs.Running.{Program, State, start, IsSound}
+use Rattle.arc_code.specs.declared.code.Op.TheVariants.{Alloc}
+use Rattle.arc_code.specs.Running.{Program, State, start, step, IsSound}
 use Rattle.arc_heap.specs.Blocks.{Blocks}
 use Rattle.arc_machine.specs.declared.stop.Stop.{Stop}
 use Rattle.arc_machine.specs.declared.stop.Stop.TheVariants as stop
 use Rattle.arc_machine.specs.declared.stop.Answer.{Answer}
 use Rattle.arc_machine.specs.declared.stop.Answer.TheVariants as answer
 use Rattle.arc_machine.specs.Views.{Seen, StandsAs, fresh, said}
-use Rattle.arc_machine.specs.Runs.{Leaves, Moves, Runs, Troubled, reached}
+use Rattle.arc_machine.specs.Runs.{Leaves, Moves, Runs, Troubled, is_stopped, reached}
 use Rattle.arc_machine.proofs.Chained.{moves_on}
 use Rattle.arc_tool.specs.declared.lines.Left.{Left}
 use Rattle.arc_tool.specs.declared.lines.Left.TheVariants.{Stopped, Unread}
-use Rattle.arc_tool.specs.Traced.{Follows, UsesAll, stop_seen, new_events}
+use Rattle.arc_tool.specs.Progress.{run_of, rest_of, Takes, MakesObject}
+use Rattle.arc_tool.specs.Traced.{Follows, Within, GoesOn, stop_seen, new_events}
 
 -- something that may be left
 leavable : (i : Option (List ℕ)) → (rest : List ℕ) × Leaves i rest
@@ -82,12 +89,13 @@ starts out p store i sound = record {
     sound = λ _. sound;
     run = λ rest l. refl;
     writes = tt;
-    none = λ _. (refl, refl);
-    last = λ k rest e l. absurd (omega (arith, e));
+    none = λ _. (refl, λ _. refl);
+    last = λ k rest e l on. absurd (omega (arith, e));
   };
 }
 
-module _ {S : Type 0} (out : S → Blocks) (p : Program) (old new : Seen S) (i0 i1 i2 : Option (List ℕ)) (events : List Event) (way : Reaches out p old i0 i1 events) (going : old.answer ≡ answer.Going) where
+module _ {S : Type 0} (out : S → Blocks) (p : Program) (old new : Seen S) (i0 i1 i2 : Option (List ℕ)) (events : List Event) (way : Reaches out p old i0 i1 events) (going : old.answer ≡ answer.Going)
+    (within : is_stopped new.answer ≡ true → new.steps < old.steps + 1) where
   module _ (n : ℕ) (taken : List ℕ) (trace : List Event) (m : Moves out old new way.moves.state i1 i2 None None n taken trace) where
     reaches_on : Reaches out p new i0 i2 (events ++ trace)
     reaches_on =
@@ -101,7 +109,12 @@ module _ {S : Type 0} (out : S → Blocks) (p : Program) (old new : Seen S) (i0 
     trace_is (suc zero) e l =
         let other : new.steps ≢ old.steps = λ h. omega (arith, m.steps, e, h) in
         let rest = leavable i2 in
-        m.last 0 rest.0 e rest.1 ∙ sym (all_new new old.steps other)
+        m.last 0 rest.0 e rest.1 (whole (is_stopped new.answer) refl)
+        ∙ sym (all_new new old.steps other)
+      where
+        whole : (b : Bool) → is_stopped new.answer ≡ b → is_stopped new.answer ≡ false
+        whole false is = is
+        whole true is = absurd (omega (arith, within is, m.steps, e))
     trace_is (suc (suc k)) e l = absurd (omega (arith, l))
 
   -- one step more or none
@@ -129,11 +142,40 @@ seen_of (answer.Broken Read) s i t = refl
 seen_of (answer.Broken Write) s i t = refl
 seen_of answer.NoHeap s i t = refl
 
-pub follows : {S : Type 0} → (out : S → Blocks) (p : Program) (m : Seen S) (i0 i1 : Option (List ℕ)) (events : List Event) → Reaches out p m i0 i1 events → Follows p m.steps (left_of m.answer) i0 i1 events
-follows out p m i0 i1 events way = record {
+reached_rest : (a : Answer) (s : State) (i : List ℕ) (t : List Event) → rest_of (reached a s i t) ≡ i
+reached_rest answer.Going s i t = refl
+reached_rest (answer.Ended n) s i t = refl
+reached_rest (answer.Faulted f) s i t = refl
+reached_rest (answer.Broken f) s i t = refl
+reached_rest answer.NoHeap s i t = refl
+
+-- a run has taken what the machine took
+pub takes_so : (p : Program) (made : ℕ) (taken rest : List ℕ) (a : Answer) (s : State) (t : List Event) → after_steps (step p) made (Running start (taken ++ rest) []) ≡ reached a s rest t → Takes p made taken rest
+takes_so p made taken rest a s t run = ap rest_of run ∙ reached_rest a s rest t
+
+-- a run that has no room for an object goes on with one
+goes_on_so : (p : Program) (run : Reached State) (a : Answer) (s : State) (i : List ℕ) (t : List Event) → run ≡ reached a s i t → (a ≡ answer.NoHeap → slice_get p.ops s.at ≡ Some Alloc) → GoesOn (left_of a) p run
+goes_on_so p run answer.Going s i t is makes = tt
+goes_on_so p run (answer.Ended n) s i t is makes = tt
+goes_on_so p run (answer.Faulted f) s i t is makes = tt
+goes_on_so p run (answer.Broken Read) s i t is makes = tt
+goes_on_so p run (answer.Broken Write) s i t is makes = tt
+goes_on_so p run answer.NoHeap s i t is makes = subst (MakesObject p) (sym is) (makes refl)
+
+-- the machine stands at the instruction of the state for which it stands
+pub makes_so : {S : Type 0} → (out : S → Blocks) (p : Program) (m : Seen S) (s : State) → m.program ≡ p → StandsAs out m s → slice_get m.program.ops m.spot.at ≡ Some Alloc → slice_get p.ops s.at ≡ Some Alloc
+makes_so out p m s program stands makes = ap (slice_get p.ops) (sym stands.at) ∙ ap (λ (q : Program). slice_get q.ops m.spot.at) (sym program) ∙ makes
+
+pub follows : {S : Type 0} → (out : S → Blocks) (p : Program) (m : Seen S) (i0 i1 : Option (List ℕ)) (events : List Event) → Reaches out p m i0 i1 events
+    → (m.answer ≡ answer.NoHeap → slice_get m.program.ops m.spot.at ≡ Some Alloc) → Follows p m.steps (left_of m.answer) i0 i1 events
+follows out p m i0 i1 events way makes = record {
   taken = way.taken;
   reads = way.moves.reads;
+  takes = λ rest l. takes_so p m.steps way.taken rest m.answer way.moves.state events (way.moves.run rest l);
   shown = λ rest l. ap run_seen (way.moves.run rest l) ∙ seen_of m.answer way.moves.state rest events;
+  goes_on = λ rest l.
+      goes_on_so p (run_of p (way.taken ++ rest) m.steps) m.answer way.moves.state rest events (way.moves.run rest l)
+      (λ no. makes_so out p m way.moves.state way.moves.program way.moves.stands (makes no));
 }
 
 pub left_stopped : (a : Answer) (t : Stop) → said a ≡ Ok t → left_of a ≡ Stopped t
@@ -159,34 +201,60 @@ going_on (answer.Faulted f) e = absurd (cc)
 going_on (answer.Broken f) e = absurd (cc)
 going_on answer.NoHeap e = absurd (cc)
 
+-- there was no room for an object only where the machine says so
+pub no_room : (a : Answer) → said a ≡ Ok stop.NoHeap → a ≡ answer.NoHeap
+no_room answer.Going e = absurd (cc)
+no_room (answer.Ended n) e = absurd (cc)
+no_room (answer.Faulted f) e = absurd (cc)
+no_room (answer.Broken f) e = absurd (cc)
+no_room answer.NoHeap e = refl
+
+-- the reader failed only where a step was stopped
+pub unread : (a : Answer) → said a ≡ Err Read → is_stopped a ≡ true
+unread answer.Going e = absurd (cc)
+unread (answer.Ended n) e = absurd (cc)
+unread (answer.Faulted f) e = absurd (cc)
+unread (answer.Broken f) e = refl
+unread answer.NoHeap e = absurd (cc)
+
 -- ---- whose failures rose
 
-pub reader_kept : (a : Answer) (t : Stop) (r0 r1 w0 w1 : ℕ) → said a ≡ Ok t → Troubled a r0 r1 w0 w1 → r1 ≡ r0
-reader_kept answer.Going t r0 r1 w0 w1 e h = h.0
-reader_kept (answer.Ended n) t r0 r1 w0 w1 e h = h.0
-reader_kept (answer.Faulted f) t r0 r1 w0 w1 e h = h.0
-reader_kept (answer.Broken f) t r0 r1 w0 w1 e h = absurd (cc)
-reader_kept answer.NoHeap t r0 r1 w0 w1 e h = h.0
+module _ (r0 r1 w0 w1 : ℕ) (R W : Type 0) where
+  pub reader_kept : (a : Answer) (t : Stop) → said a ≡ Ok t → Troubled a r0 r1 w0 w1 R W → r1 ≡ r0
+  reader_kept answer.Going t e h = h.0
+  reader_kept (answer.Ended n) t e h = h.0
+  reader_kept (answer.Faulted f) t e h = h.0
+  reader_kept (answer.Broken f) t e h = absurd (cc)
+  reader_kept answer.NoHeap t e h = h.0
 
-pub reader_failed : (a : Answer) (r0 r1 w0 w1 : ℕ) → said a ≡ Err Read → Troubled a r0 r1 w0 w1 → r1 ≡ r0 + 1
-reader_failed answer.Going r0 r1 w0 w1 e h = absurd (cc)
-reader_failed (answer.Ended n) r0 r1 w0 w1 e h = absurd (cc)
-reader_failed (answer.Faulted f) r0 r1 w0 w1 e h = absurd (cc)
-reader_failed (answer.Broken Read) r0 r1 w0 w1 e h = h.0
-reader_failed (answer.Broken Write) r0 r1 w0 w1 e h = absurd (cc)
-reader_failed answer.NoHeap r0 r1 w0 w1 e h = absurd (cc)
+  pub reader_failed : (a : Answer) → said a ≡ Err Read → Troubled a r0 r1 w0 w1 R W → (r1 ≡ r0 + 1) × R
+  reader_failed answer.Going e h = absurd (cc)
+  reader_failed (answer.Ended n) e h = absurd (cc)
+  reader_failed (answer.Faulted f) e h = absurd (cc)
+  reader_failed (answer.Broken Read) e h = (h.0, h.2)
+  reader_failed (answer.Broken Write) e h = absurd (cc)
+  reader_failed answer.NoHeap e h = absurd (cc)
 
-pub writer_failed : (a : Answer) (r0 r1 w0 w1 : ℕ) → said a ≡ Err Write → Troubled a r0 r1 w0 w1 → w1 ≡ w0 + 1
-writer_failed answer.Going r0 r1 w0 w1 e h = absurd (cc)
-writer_failed (answer.Ended n) r0 r1 w0 w1 e h = absurd (cc)
-writer_failed (answer.Faulted f) r0 r1 w0 w1 e h = absurd (cc)
-writer_failed (answer.Broken Read) r0 r1 w0 w1 e h = absurd (cc)
-writer_failed (answer.Broken Write) r0 r1 w0 w1 e h = h.1
-writer_failed answer.NoHeap r0 r1 w0 w1 e h = absurd (cc)
+  pub writer_failed : (a : Answer) → said a ≡ Err Write → Troubled a r0 r1 w0 w1 R W → W
+  writer_failed answer.Going e h = absurd (cc)
+  writer_failed (answer.Ended n) e h = absurd (cc)
+  writer_failed (answer.Faulted f) e h = absurd (cc)
+  writer_failed (answer.Broken Read) e h = absurd (cc)
+  writer_failed (answer.Broken Write) e h = h.2
+  writer_failed answer.NoHeap e h = absurd (cc)
 
--- only a run that says that its steps are used has to have made all of them
-pub uses_other : (t : Stop) (made steps : ℕ) → (t ≡ stop.StepsUsed → ⊥) → UsesAll (Stopped t) made steps
-uses_other (stop.Ended n) made steps h = tt
-uses_other (stop.Fault f) made steps h = tt
-uses_other stop.StepsUsed made steps h = absurd (h refl)
-uses_other stop.NoHeap made steps h = tt
+takes_none : (n : ℕ) → 0 < n → IsFailedWrite (Done n) → ⊥
+takes_none zero some failed = omega arith
+takes_none (suc n) some failed = failed
+
+-- a writer that takes each byte doesn't fail
+pub never_fails : {T : Type 0} (new : T) → HasFailedToWrite {T} (λ bytes _ answer _. answer ≡ Done (length bytes)) (λ _ answer _. answer ≡ Done tt) new → ⊥
+never_fails new (inl (old, bytes, some, answer, failed, tried)) = takes_none (length bytes) some (subst IsFailedWrite tried.decides failed)
+never_fails new (inr (old, answer, undone, tried)) = subst IsUndone tried.decides undone
+
+-- how many steps a run made that stopped before they were used
+pub within_stop : (t : Stop) (a : Answer) (made steps : ℕ) → said a ≡ Ok t → (t ≡ stop.StepsUsed → ⊥) → made ≤ steps → (is_stopped a ≡ true → made < steps) → Within (Stopped t) made steps
+within_stop (stop.Ended n) a made steps is other most held = most
+within_stop (stop.Fault f) a made steps is other most held = most
+within_stop stop.StepsUsed a made steps is other most held = absurd (other refl)
+within_stop stop.NoHeap a made steps is other most held = held (ap is_stopped (no_room a is))

@@ -1,6 +1,7 @@
 pub mod Compiling
 pub mod Naming
 pub mod Lining
+pub mod Flushing
 pub mod Following
 pub mod Showing
 pub mod Tracing

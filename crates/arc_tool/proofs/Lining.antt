@@ -66,9 +66,9 @@ module _ (names : List (List ℕ)) (begun b : Bool) (all : List Event) (k : ℕ)
   with_next : (text ++ event_text names b e) ++ rest ≡ events_text names begun all
   with_next = append_assoc text (event_text names b e) rest ∙ ap (λ l. text ++ l) (sym (ap (events_text names b) (drop_more all k d within))) ∙ so_far
 
-  module _ (h0 h1 h2 : Option (List ℕ)) (f0 f1 f2 : ℕ) (done : Written (Ok tt) text h0 h1 f0 f1) where
-    pub put_on : Written (Ok tt) (event_text names b e) h1 h2 f1 f2 → (x : List ℕ) × Written (Ok tt) x h0 h2 f0 f2 × (x ++ rest ≡ events_text names begun all)
-    put_on more = (text ++ event_text names b e, then_ok h0 h1 h2 f0 f1 f2 text (event_text names b e) done more, with_next)
+  module _ (h0 h1 h2 : Option (List ℕ)) (f0 f1 f2 : ℕ) (F : Type 0) (done : Written (Ok tt) text h0 h1 f0 f1 F) where
+    pub put_on : Written (Ok tt) (event_text names b e) h1 h2 f1 f2 F → (x : List ℕ) × Written (Ok tt) x h0 h2 f0 f2 F × (x ++ rest ≡ events_text names begun all)
+    put_on more = (text ++ event_text names b e, then_ok h0 h1 h2 f0 f1 f2 F text (event_text names b e) done more, with_next)
 
-    pub put_cut : (f : IoFault) → Written (Err f) (event_text names b e) h1 h2 f1 f2 → Written (Err f) (events_text names begun all) h0 h2 f0 f2
-    put_cut f more = subst (λ l. Written (Err f) l h0 h2 f0 f2) with_next (wider f h0 h2 f0 f2 (text ++ event_text names b e) rest (then_failed f h0 h1 h2 f0 f1 f2 text (event_text names b e) done more))
+    pub put_cut : (f : IoFault) → Written (Err f) (event_text names b e) h1 h2 f1 f2 F → Written (Err f) (events_text names begun all) h0 h2 f0 f2 F
+    put_cut f more = subst (λ l. Written (Err f) l h0 h2 f0 f2 F) with_next (wider f h0 h2 f0 f2 F (text ++ event_text names b e) rest (then_failed f h0 h1 h2 f0 f1 f2 F text (event_text names b e) done more))

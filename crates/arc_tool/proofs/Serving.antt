@@ -1,66 +1,68 @@
 -- What the program answers where a stage before the end refuses, or a device fails.
-use Rattle.std.proofs.Common.{ℕ, List, [], Option, Ok, Err, refl, sym, ap, subst, ⊎_elim}
-use Rattle.std.proofs.lemmas.List.{append-nil}
-use Rattle.std.specs.Io.KnownBytes.{Keeps}
-use Rattle.std.proofs.KnownBytes.{Appends-kept}
-use Rattle.arc_code.specs.Written.{Written}
+use Rattle.std.proofs.Common.{◌≡◌, ℕ, List, Option, Result, Ok, Err, refl, sym, subst, ⊎_elim}
+use Rattle.arc_code.specs.declared.code.IoFault.TheVariants.{Read, Write}
+use Rattle.arc_code.specs.declared.counted.Counted.{Counted}
+use Rattle.arc_machine.specs.declared.stop.Stop.{Stop}
 use Rattle.arc_tool.specs.declared.refusal.Refusal.{Refusal}
 use Rattle.arc_tool.specs.declared.report.Trouble.{Trouble}
+use Rattle.arc_tool.specs.declared.report.Trouble.TheVariants as trouble
 use Rattle.arc_tool.specs.declared.run.ToolFault.{ToolFault}
 use Rattle.arc_tool.specs.declared.run.ToolFault.TheVariants.{Refused, Memory, Io}
 use Rattle.arc_tool.specs.Refused.{IsRefusal}
-use Rattle.arc_code.specs.declared.code.IoFault.TheVariants.{Read, Write}
-use Rattle.arc_tool.specs.Ran.{Answered, Untouched, Caused}
-use Rattle.arc_tool.specs.Status.{BecomesTrouble, trouble_of, status_of, line_of}
-use Rattle.arc_tool.specs.Traced.{AnsweredTrace, Blames}
-use Rattle.arc_tool.specs.Served.{Checks, Lists, RunsSource, TracesSource, Blamed, Reported}
+use Rattle.arc_tool.specs.Ran.{Untouched, Caused}
+use Rattle.arc_tool.specs.Status.{BecomesTrouble, trouble_of}
+use Rattle.arc_tool.specs.Traced.{Blames}
+use Rattle.arc_tool.specs.Served.{Checks, Lists, RunsTo, Blamed, WriterBlamed}
 
-pub check_refused : (source : List ℕ) (o : Option (List ℕ)) (w : ℕ) (r : Refusal) (t : Trouble) → IsRefusal source r → BecomesTrouble r t → Checks source (Err t) o o w w
-check_refused source o w r t is becomes = ⊎_elim
-    (λ memory. subst (λ x. Checks source (Err x) o o w w) (sym memory.1) refl)
-    (λ other. subst (λ x. Checks source (Err x) o o w w) (sym other.1) (is, refl))
-    becomes
+module _ {W : Type 0} (contents : W → Option (List ℕ)) (failed : Type 0) (source : List ℕ) (o : Counted W) (r : Refusal) (t : Trouble) (is : IsRefusal source r) (becomes : BecomesTrouble r t) where
+  pub check_refused : Checks contents failed source (Err t) o o
+  check_refused = ⊎_elim
+      (λ memory. subst (λ x. Checks contents failed source (Err x) o o) (sym memory.1) refl)
+      (λ other. subst (λ x. Checks contents failed source (Err x) o o) (sym other.1) (is, refl))
+      becomes
 
-pub list_refused : (source : List ℕ) (o : Option (List ℕ)) (r : Refusal) (t : Trouble) → IsRefusal source r → BecomesTrouble r t → Lists source (Err t) o o
-list_refused source o r t is becomes = ⊎_elim
-    (λ memory. subst (λ x. Lists source (Err x) o o) (sym memory.1) refl)
-    (λ other. subst (λ x. Lists source (Err x) o o) (sym other.1) (is, refl))
-    becomes
+  pub list_refused : Lists contents failed source (Err t) o o
+  list_refused = ⊎_elim
+      (λ memory. subst (λ x. Lists contents failed source (Err x) o o) (sym memory.1) refl)
+      (λ other. subst (λ x. Lists contents failed source (Err x) o o) (sym other.1) (is, refl))
+      becomes
 
-module _ {R W : Type 0} (left : R → Option (List ℕ)) (held : W → Option (List ℕ)) (r0 r1 : R) (w0 w1 : W) (source : List ℕ) (steps : ℕ) where
-  pub run_refused : (f : ToolFault) → Answered source steps (Err f) (left r0) (left r1) (held w0) (held w1) → Untouched (Err f) r0 r1 w0 w1 → RunsSource source steps (Err (trouble_of f)) (left r0) (left r1) (held w0) (held w1)
-  run_refused (Refused r) h u = (h.0, ap left u.0, ap held u.1)
-  run_refused Memory h u = (ap left u.0, ap held u.1)
-  run_refused (Io f) h u = h
-
-  pub trace_refused : (f0 f1 : ℕ) (f : ToolFault) → AnsweredTrace source steps (Err f) (left r0) (left r1) (held w0) (held w1) f0 f1 → Untouched (Err f) r0 r1 w0 w1
-      → TracesSource source steps (Err (trouble_of f)) (left r0) (left r1) (held w0) (held w1) f0 f1
-  trace_refused f0 f1 (Refused r) h u = (h.0, ap left u.0, ap held u.1)
-  trace_refused f0 f1 Memory h u = (ap left u.0, ap held u.1)
-  trace_refused f0 f1 (Io f) h u = h
-
--- a line that was written, and a flush behind it
-pub told_whole : (t : Trouble) (e0 e1 e2 : Option (List ℕ)) (f0 f1 f2 : ℕ) → Written (Ok tt) (line_of t) e0 e1 f0 f1 → Keeps e1 e2 → Reported (Err t) (status_of t) e0 e2 f0 f2
-told_whole t e0 e1 e2 f0 f1 f2 wrote kept =
-    let all = Appends-kept e0 e1 e2 (line_of t) wrote.0 kept in
-    (refl, (line_of t, [], sym (append-nil (line_of t)), all), λ _. all)
+-- nothing was run, or a device failed in a run
+pub not_run : {I O : Type 0} (source : List ℕ) (answered : Result Stop ToolFault → Type 0) (i0 i1 : I) (o0 o1 : O) (f : ToolFault) → ((r : Refusal) → answered (Err (Refused r)) → IsRefusal source r)
+    → answered (Err f) → Untouched (Err f) i0 i1 o0 o1 → RunsTo source (Err (trouble_of f)) answered ((i1 ≡ i0) × (o1 ≡ o0))
+not_run source answered i0 i1 o0 o1 (Refused r) refused h u = (refused r h, u)
+not_run source answered i0 i1 o0 o1 Memory refused h u = u
+not_run source answered i0 i1 o0 o1 (Io f) refused h u = h
 
 -- ---- which device is at fault
 
-pub refused_blamed : (r0 w0 : ℕ) (r : Refusal) (t : Trouble) → BecomesTrouble r t → Blamed (Err t) r0 r0 w0 w0
-refused_blamed r0 w0 r t becomes = ⊎_elim
-    (λ memory. subst (λ x. Blamed (Err x) r0 r0 w0 w0) (sym memory.1) (refl, refl))
-    (λ other. subst (λ x. Blamed (Err x) r0 r0 w0 w0) (sym other.1) (refl, refl))
+pub refused_blamed : (w : ℕ) (W : Type 0) (r : Refusal) (t : Trouble) → BecomesTrouble r t → WriterBlamed (Err t) w w W
+refused_blamed w W r t becomes = ⊎_elim
+    (λ memory. subst (λ x. WriterBlamed (Err x) w w W) (sym memory.1) refl)
+    (λ other. subst (λ x. WriterBlamed (Err x) w w W) (sym other.1) refl)
     becomes
 
-pub run_blamed : (f : ToolFault) (r0 r1 w0 w1 : ℕ) → Caused (Err f) r0 r1 w0 w1 → Blamed (Err (trouble_of f)) r0 r1 w0 w1
-run_blamed (Refused r) r0 r1 w0 w1 h = h
-run_blamed Memory r0 r1 w0 w1 h = h
-run_blamed (Io Read) r0 r1 w0 w1 h = h
-run_blamed (Io Write) r0 r1 w0 w1 h = h.1
+module _ (r0 r1 w0 w1 : ℕ) (R W : Type 0) where
+  pub writer_blamed : (answer : Result ℕ Trouble) → r1 ≡ r0 → WriterBlamed answer w0 w1 W → Blamed answer r0 r1 w0 w1 R W
+  writer_blamed (Ok s) same h = (same, h)
+  writer_blamed (Err (trouble.Io Read)) same h = absurd h
+  writer_blamed (Err (trouble.Io Write)) same h = h
+  writer_blamed (Err trouble.Usage) same h = (same, h)
+  writer_blamed (Err (trouble.Refused r)) same h = (same, h)
+  writer_blamed (Err trouble.Memory) same h = (same, h)
+  writer_blamed (Err (trouble.Fault f)) same h = (same, h)
+  writer_blamed (Err trouble.NoHeap) same h = (same, h)
+  writer_blamed (Err trouble.StepsUsed) same h = (same, h)
+  writer_blamed (Err trouble.File) same h = (same, h)
 
-pub trace_blamed : (f : ToolFault) (r0 r1 w0 w1 : ℕ) → Blames (Err f) r0 r1 w0 w1 → Blamed (Err (trouble_of f)) r0 r1 w0 w1
-trace_blamed (Refused r) r0 r1 w0 w1 h = h
-trace_blamed Memory r0 r1 w0 w1 h = h
-trace_blamed (Io Read) r0 r1 w0 w1 h = h
-trace_blamed (Io Write) r0 r1 w0 w1 h = h
+  pub run_blamed : (f : ToolFault) → Caused (Err f) r0 r1 w0 w1 R W → Blamed (Err (trouble_of f)) r0 r1 w0 w1 R W
+  run_blamed (Refused r) h = h
+  run_blamed Memory h = h
+  run_blamed (Io Read) h = h
+  run_blamed (Io Write) h = (h.1, h.2)
+
+  pub trace_blamed : (f : ToolFault) → Blames (Err f) r0 r1 w0 w1 R W → Blamed (Err (trouble_of f)) r0 r1 w0 w1 R W
+  trace_blamed (Refused r) h = h
+  trace_blamed Memory h = h
+  trace_blamed (Io Read) h = h
+  trace_blamed (Io Write) h = h

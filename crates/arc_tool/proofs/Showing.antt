@@ -1,37 +1,31 @@
 -- A run whose events are written as its steps are made.
-use Rattle.std.proofs.Common.{◌≡◌, ℕ, ◌+◌, ◌≤◌, List, [], ◌++◌, Bool, false, Option, None, Ok, Err, refl, sym, ap, subst, ◌∙◌}
-use Rattle.std.proofs.lemmas.List.{append-nil}
+use Rattle.std.proofs.Common.{◌≡◌, ℕ, ◌+◌, ◌<◌, ◌≤◌, List, [], ◌++◌, Bool, true, false, Option, Some, None, Ok, Err, refl, sym, ap, subst, ◌∙◌}
+use Rattle.std.specs.Prelude.{slice_get, ⊤}
 use Rattle.arc_spec.specs.declared.event.Event.{Event}
 use Rattle.arc_code.specs.declared.code.IoFault.{IoFault}
-use Rattle.arc_code.specs.declared.code.IoFault.TheVariants.{Write}
+use Rattle.arc_code.specs.declared.code.Op.TheVariants.{Alloc}
 use Rattle.arc_code.specs.Running.{Program, IsSound}
 use Rattle.arc_code.specs.Written.{Written}
 use Rattle.arc_code.proofs.Parts.{then_ok, then_failed, none_written}
 use Rattle.arc_heap.specs.Blocks.{Blocks}
-use Rattle.arc_heap.specs.Plain.{blocks_in}
-use Rattle.arc_heap.specs.declared.mark.Mark.{Mark}
 use Rattle.arc_machine.specs.declared.stop.Answer.TheVariants as answer
 use Rattle.arc_machine.specs.Views.{Seen, fresh}
-use Rattle.arc_machine.specs.Runs.{Runs}
+use Rattle.arc_machine.specs.Runs.{Runs, is_stopped}
 use Rattle.arc_tool.specs.declared.lines.Left.{Left}
 use Rattle.arc_tool.specs.Lines.{events_text, open_after}
-use Rattle.arc_tool.specs.Traced.{new_events, Followed, Interrupted, UsesAll, Reads}
+use Rattle.arc_tool.specs.Traced.{new_events, Followed, Interrupted, Within, Reads}
 use Rattle.arc_tool.proofs.Lining.{more_events, open_further}
 use Rattle.arc_tool.proofs.Following.{Reaches, starts, goes_on, follows, left_of}
-
--- the blocks of a store that grows
-abbrev pub plain_out : List Mark × List ℕ → Blocks
-plain_out s = blocks_in s.0 s.1
 
 -- the machine's steps are steps of the code, and their events were written
 pub record Shows {S : Type 0} (out : S → Blocks) (p : Program) (names : List (List ℕ)) (m : Seen S) (begun : Bool) (in0 in1 out0 out1 : Option (List ℕ)) (writes0 writes1 : ℕ) : Type 0 where
   pub events : List Event
   pub reaches : Reaches out p m in0 in1 events
   pub opens : begun ≡ open_after false events
-  pub written : Written (Ok tt) (events_text names false events) out0 out1 writes0 writes1
+  pub written : Written (Ok tt) (events_text names false events) out0 out1 writes0 writes1 ⊤
 
 pub shows_nothing : {S : Type 0} → (out : S → Blocks) (p : Program) (names : List (List ℕ)) (store : S) (i o : Option (List ℕ)) (w : ℕ) → IsSound p → Shows out p names (fresh p store) false i i o o w w
-shows_nothing out p names store i o w sound = record { events = []; reaches = starts out p store i sound; opens = refl; written = none_written o w }
+shows_nothing out p names store i o w sound = record { events = []; reaches = starts out p store i sound; opens = refl; written = none_written o w ⊤ }
 
 -- a machine that was made for the code
 pub shows_fresh : {S : Type 0} → (out : S → Blocks) (p : Program) (names : List (List ℕ)) (store : S) (m : Seen S) (i o : Option (List ℕ)) (w : ℕ) → m ≡ fresh p store → IsSound p
@@ -39,15 +33,16 @@ pub shows_fresh : {S : Type 0} → (out : S → Blocks) (p : Program) (names : L
 shows_fresh {S} out p names store m i o w e sound = subst (λ (n : Seen S). (n.steps ≡ 0) × (n.answer ≡ answer.Going) × Shows out n.program names n false i i o o w w) (sym e) (refl, refl, shows_nothing out p names store i o w sound)
 
 module _ {S : Type 0} (out : S → Blocks) (p : Program) (names : List (List ℕ)) (old new : Seen S) (begun : Bool) (i0 i1 i2 o0 o1 : Option (List ℕ)) (w0 w1 : ℕ)
-    (way : Shows out p names old begun i0 i1 o0 o1 w0 w1) (going : old.answer ≡ answer.Going) (runs : Runs out 1 old new i1 i2 None None) where
+    (way : Shows out p names old begun i0 i1 o0 o1 w0 w1) (going : old.answer ≡ answer.Going)
+    (runs : Runs out 1 old new i1 i2 None None) (held : is_stopped new.answer ≡ true → new.steps < old.steps + 1) where
   abbrev shown : List Event
   shown = new_events new old.steps
 
   pub one_step : new.steps ≤ old.steps + 1
-  one_step = (goes_on out p old new i0 i1 i2 way.events way.reaches going runs).1
+  one_step = (goes_on out p old new i0 i1 i2 way.events way.reaches going held runs).1
 
   reached_on : Reaches out p new i0 i2 (way.events ++ shown)
-  reached_on = (goes_on out p old new i0 i1 i2 way.events way.reaches going runs).0
+  reached_on = (goes_on out p old new i0 i1 i2 way.events way.reaches going held runs).0
 
   abbrev more_text : Bool → List ℕ
   more_text b = events_text names b shown
@@ -56,47 +51,38 @@ module _ {S : Type 0} (out : S → Blocks) (p : Program) (names : List (List ℕ
   whole = ap (λ b. events_text names false way.events ++ more_text b) way.opens ∙ sym (more_events names false way.events shown)
 
   -- what the step showed was written
-  pub shows_on : (o2 : Option (List ℕ)) (w2 : ℕ) (next : Bool) → Written (Ok tt) (more_text begun) o1 o2 w1 w2 → next ≡ open_after begun shown → Shows out p names new next i0 i2 o0 o2 w0 w2
+  pub shows_on : (o2 : Option (List ℕ)) (w2 : ℕ) (next : Bool) → Written (Ok tt) (more_text begun) o1 o2 w1 w2 ⊤ → next ≡ open_after begun shown → Shows out p names new next i0 i2 o0 o2 w0 w2
   shows_on o2 w2 next wrote opens = record {
     events = way.events ++ shown;
     reaches = reached_on;
     opens = opens ∙ ap (λ b. open_after b shown) way.opens ∙ sym (open_further false way.events shown);
-    written = subst (λ l. Written (Ok tt) l o0 o2 w0 w2) whole (then_ok o0 o1 o2 w0 w1 w2 (events_text names false way.events) (more_text begun) way.written wrote);
+    written = subst (λ l. Written (Ok tt) l o0 o2 w0 w2 ⊤) whole (then_ok o0 o1 o2 w0 w1 w2 ⊤ (events_text names false way.events) (more_text begun) way.written wrote);
   }
 
   -- the writer failed
-  pub shows_part : (o2 : Option (List ℕ)) (w2 : ℕ) (f : IoFault) (steps : ℕ) → new.steps ≤ steps → Written (Err f) (more_text begun) o1 o2 w1 w2 → Interrupted p names steps f i0 i2 o0 o2 w0 w2
-  shows_part o2 w2 f steps within wrote = record {
+  pub shows_part : (o2 : Option (List ℕ)) (w2 : ℕ) (F : Type 0) (f : IoFault) (steps : ℕ) → new.steps ≤ steps → (new.answer ≡ answer.NoHeap → slice_get new.program.ops new.spot.at ≡ Some Alloc)
+      → Written (Err f) (more_text begun) o1 o2 w1 w2 F → Interrupted p names steps f i0 i2 o0 o2 w0 w2 F
+  shows_part o2 w2 F f steps within makes wrote = record {
     made = new.steps;
     left = left_of new.answer;
     events = way.events ++ shown;
     within = within;
-    follows = follows out p new i0 i2 (way.events ++ shown) reached_on;
-    written = subst (λ l. Written (Err f) l o0 o2 w0 w2) whole (then_failed f o0 o1 o2 w0 w1 w2 (events_text names false way.events) (more_text begun) way.written wrote);
+    follows = follows out p new i0 i2 (way.events ++ shown) reached_on makes;
+    written = subst (λ l. Written (Err f) l o0 o2 w0 w2 F) whole (then_failed f o0 o1 o2 w0 w1 w2 F (events_text names false way.events) (more_text begun) way.written wrote);
   }
 
-module _ {S : Type 0} (out : S → Blocks) (p : Program) (names : List (List ℕ)) (m : Seen S) (begun : Bool) (i0 i1 o0 o1 : Option (List ℕ)) (w0 w1 : ℕ) (way : Shows out p names m begun i0 i1 o0 o1 w0 w1) (steps : ℕ) (within : m.steps ≤ steps) where
-  -- the run was left
-  pub is_left : (left : Left) (r0 r1 : ℕ) → left_of m.answer ≡ left → UsesAll left m.steps steps → Reads left r0 r1 → Followed p names steps left begun i0 i1 o0 o1 r0 r1 w0 w1
-  is_left left r0 r1 e all reads = subst (λ l. UsesAll l m.steps steps → Reads l r0 r1 → Followed p names steps l begun i0 i1 o0 o1 r0 r1 w0 w1) e
-      (λ all reads. record {
-        made = m.steps;
-        events = way.events;
-        within = within;
-        all = all;
-        follows = follows out p m i0 i1 way.events way.reaches;
-        opens = way.opens;
-        written = way.written;
-        reader = reads;
-      }) all reads
-
-  -- what stood in for the writer failed
-  pub is_broken : (w2 : ℕ) → w2 ≡ w1 + 1 → Interrupted p names steps Write i0 i1 o0 o1 w0 w2
-  is_broken w2 rose = record {
-    made = m.steps;
-    left = left_of m.answer;
-    events = way.events;
-    within = within;
-    follows = follows out p m i0 i1 way.events way.reaches;
-    written = (refl, (events_text names false way.events, [], sym (append-nil (events_text names false way.events)), way.written.0), rose ∙ ap (λ w. w + 1) way.written.1);
-  }
+-- the run was left
+pub is_left : {S : Type 0} → (out : S → Blocks) (p : Program) (names : List (List ℕ)) (m : Seen S) (begun : Bool) (i0 i1 o0 o1 : Option (List ℕ)) (w0 w1 : ℕ) → Shows out p names m begun i0 i1 o0 o1 w0 w1
+    → (steps : ℕ) (left : Left) (r0 r1 : ℕ) (R : Type 0) → left_of m.answer ≡ left → (m.answer ≡ answer.NoHeap → slice_get m.program.ops m.spot.at ≡ Some Alloc) → Within left m.steps steps → Reads left r0 r1 R
+    → Followed p names steps left begun i0 i1 o0 o1 r0 r1 w0 w1 R
+is_left out p names m begun i0 i1 o0 o1 w0 w1 way steps left r0 r1 R e makes within reads =
+    subst (λ l. Within l m.steps steps → Reads l r0 r1 R → Followed p names steps l begun i0 i1 o0 o1 r0 r1 w0 w1 R) e
+    (λ within reads. record {
+      made = m.steps;
+      events = way.events;
+      within = within;
+      follows = follows out p m i0 i1 way.events way.reaches makes;
+      opens = way.opens;
+      written = way.written;
+      reader = reads;
+    }) within reads

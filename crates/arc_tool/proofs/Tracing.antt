@@ -1,7 +1,5 @@
 -- What the text of a run says of the source.
-use Rattle.std.proofs.Common.{◌≡◌, ℕ, suc, ◌+◌, List, ◌++◌, Bool, false, Option, Some, Result, Ok, Err, sym, ap, subst, ◌∙◌, arith, ⊎_elim}
-use Rattle.std.specs.Io.KnownBytes.{Appends}
-use Rattle.std.proofs.KnownBytes.{Appends-trans}
+use Rattle.std.proofs.Common.{◌≡◌, ℕ, suc, ◌+◌, ◌≤◌, List, ◌++◌, Bool, false, Option, Some, Result, Ok, Err, sym, ap, subst, ◌∙◌, arith, ⊎_elim}
 use Rattle.arc_spec.specs.declared.event.Event.{Event}
 use Rattle.arc_spec.specs.Correct as correct
 use Rattle.arc_spec.specs.Correct.{IsPrefix, Sight}
@@ -10,7 +8,8 @@ use Rattle.arc_code.specs.declared.code.IoFault.{IoFault}
 use Rattle.arc_code.specs.declared.code.IoFault.TheVariants.{Read, Write}
 use Rattle.arc_code.specs.Counting.{AppendsPart}
 use Rattle.arc_code.specs.Running.{Program, seen}
-use Rattle.arc_code.proofs.Parts.{part_wider, part_after}
+use Rattle.arc_code.specs.Written.{Written}
+use Rattle.arc_code.proofs.Parts.{part_wider, then_written}
 use Rattle.arc_machine.specs.declared.stop.Stop.{Stop}
 use Rattle.arc_machine.specs.declared.stop.Stop.TheVariants as stop
 use Rattle.arc_tool.specs.declared.lines.Left.{Left}
@@ -22,8 +21,16 @@ use Rattle.arc_tool.specs.Accepted.{Compiles, CompilesNamed, meant}
 use Rattle.arc_tool.specs.Lines.{trace_text, events_text, end_text, open_after}
 use Rattle.arc_tool.specs.Ran.{Becomes, Untouched}
 use Rattle.arc_tool.specs.Refused.{IsRefusal}
-use Rattle.arc_tool.specs.Traced.{Follows, Followed, Interrupted, Means, Traced, AnsweredTrace, Blames, EndsTrace, stop_seen}
+use Rattle.arc_tool.specs.Traced.{Within, Follows, Followed, Interrupted, Means, Traced, AnsweredTrace, Blames, EndsTrace, stop_seen}
 use Rattle.arc_tool.proofs.Lining.{whole_text}
+
+-- at most so many steps were made, however the run was left
+most_made : (left : Left) (made steps : ℕ) → Within left made steps → made ≤ steps
+most_made (Stopped (stop.Ended n)) made steps h = h
+most_made (Stopped (stop.Fault f)) made steps h = h
+most_made (Stopped stop.StepsUsed) made steps h = omega arith
+most_made (Stopped stop.NoHeap) made steps h = omega arith
+most_made Unread made steps h = omega arith
 
 -- ---- the meaning
 
@@ -63,58 +70,55 @@ module _ (source : List ℕ) (p : Program) (names : List (List ℕ)) (compiled :
   cut_text : (o0 o1 : Option (List ℕ)) (events : List Event) (left : Left) → AppendsPart o0 o1 (events_text names false events) → AppendsPart o0 o1 (trace_text names events left)
   cut_text o0 o1 events left part = subst (AppendsPart o0 o1) (sym (whole_text names events left)) (part_wider o0 o1 (events_text names false events) (end_text (open_after false events) left) part)
 
-  pub was_interrupted : (f : IoFault) (o0 o1 : Option (List ℕ)) (w0 w1 : ℕ) → Interrupted p names steps f i0 i1 o0 o1 w0 w1 → AnsweredTrace source steps (Err (Io f)) i0 i1 o0 o1 w0 w1
-  was_interrupted Read o0 o1 w0 w1 run = absurd (let no = run.written.0 in cc)
-  was_interrupted Write o0 o1 w0 w1 run =
-      (run.made, run.left, trace_text names run.events run.left, run.within, traced run.made run.left run.events run.follows, cut_text o0 o1 run.events run.left run.written.1)
+  module _ (o0 o1 : Option (List ℕ)) (w0 w1 : ℕ) (W : Type 0) where
+    pub was_interrupted : (f : IoFault) → Interrupted p names steps f i0 i1 o0 o1 w0 w1 W → AnsweredTrace source steps (Err (Io f)) i0 i1 o0 o1 w0 w1 W
+    was_interrupted Read run = absurd (let no = run.written.0 in cc)
+    was_interrupted Write run =
+        (run.made, run.left, trace_text names run.events run.left, run.within, traced run.made run.left run.events run.follows, cut_text o0 o1 run.events run.left run.written.1)
+
+    -- a writer's failure is told as its own
+    pub interrupted_blamed : (f : IoFault) (r0 r1 : ℕ) (R : Type 0) → Interrupted p names steps f i0 i1 o0 o1 w0 w1 W → Blames (Err (Io f)) r0 r1 w0 w1 R W
+    interrupted_blamed Read r0 r1 R run = absurd (let no = run.written.0 in cc)
+    interrupted_blamed Write r0 r1 R run = (run.written.2, run.written.3)
 
   -- ---- the end of the text
 
-  module _ (left : Left) (begun : Bool) (o0 o1 o2 : Option (List ℕ)) (r0 r1 w0 w1 w2 : ℕ) (run : Followed p names steps left begun i0 i1 o0 o1 r0 r1 w0 w1) where
-    abbrev text : List ℕ
-    text = trace_text names run.events left
+  module _ (begun : Bool) (o0 o1 o2 : Option (List ℕ)) (r0 r1 w0 w1 w2 : ℕ) (R W : Type 0) where
+    module _ (left : Left) (run : Followed p names steps left begun i0 i1 o0 o1 r0 r1 w0 w1 R) where
+      abbrev text : List ℕ
+      text = trace_text names run.events left
 
-    abbrev front : List ℕ
-    front = events_text names false run.events
+      abbrev front : List ℕ
+      front = events_text names false run.events
 
-    same_text : front ++ end_text begun left ≡ text
-    same_text = ap (λ b. front ++ end_text b left) run.opens ∙ sym (whole_text names run.events left)
+      same_text : front ++ end_text begun left ≡ text
+      same_text = ap (λ b. front ++ end_text b left) run.opens ∙ sym (whole_text names run.events left)
 
-    all_text : Appends o1 o2 (end_text begun left) → Appends o0 o2 text
-    all_text end = subst (Appends o0 o2) same_text (Appends-trans o0 o1 o2 front (end_text begun left) run.written.0 end)
+      all_text : (r : Result (Unit {0}) IoFault) → Written r (end_text begun left) o1 o2 w1 w2 W → Written r text o0 o2 w0 w2 W
+      all_text r end = subst (λ t. Written r t o0 o2 w0 w2 W) same_text (then_written r o0 o1 o2 w0 w1 w2 W front (end_text begun left) run.written end)
 
-    some_text : AppendsPart o1 o2 (end_text begun left) → AppendsPart o0 o2 text
-    some_text end = subst (AppendsPart o0 o2) same_text (part_after o0 o1 o2 front (end_text begun left) run.written.0 end)
+      shows_text : Traced source run.made left i0 i1 text
+      shows_text = traced run.made left run.events run.follows
 
-    shows_text : Traced source run.made left i0 i1 text
-    shows_text = traced run.made left run.events run.follows
-
-  module _ (begun : Bool) (o0 o1 o2 : Option (List ℕ)) (r0 r1 w0 w1 w2 : ℕ) where
-    pub ended : (left : Left) (r : Result Stop ToolFault) → Followed p names steps left begun i0 i1 o0 o1 r0 r1 w0 w1 → EndsTrace left begun r o1 o2 w1 w2 → AnsweredTrace source steps r i0 i1 o0 o2 w0 w2
-    ended (Stopped t) (Ok s) run end = subst (λ x. AnsweredTrace source steps (Ok x) i0 i1 o0 o2 w0 w2) (sym end.0)
-        (run.made, text (Stopped t) begun o0 o1 o2 r0 r1 w0 w1 w2 run, run.within, run.all, shows_text (Stopped t) begun o0 o1 o2 r0 r1 w0 w1 w2 run, all_text (Stopped t) begun o0 o1 o2 r0 r1 w0 w1 w2 run end.1)
+    pub ended : (left : Left) (r : Result Stop ToolFault) → Followed p names steps left begun i0 i1 o0 o1 r0 r1 w0 w1 R → EndsTrace left begun r o1 o2 w1 w2 W → AnsweredTrace source steps r i0 i1 o0 o2 w0 w2 W
+    ended (Stopped t) (Ok s) run end = subst (λ x. AnsweredTrace source steps (Ok x) i0 i1 o0 o2 w0 w2 W) (sym end.0)
+        (run.made, text (Stopped t) run, run.within, shows_text (Stopped t) run, (all_text (Stopped t) run (Ok tt) end.1).0)
     ended (Stopped t) (Err (Io Write)) run end =
-        (run.made, Stopped t, text (Stopped t) begun o0 o1 o2 r0 r1 w0 w1 w2 run, run.within, shows_text (Stopped t) begun o0 o1 o2 r0 r1 w0 w1 w2 run, some_text (Stopped t) begun o0 o1 o2 r0 r1 w0 w1 w2 run end.0)
-    ended (Stopped t) (Err (Io Read)) run end = absurd end
+        (run.made, Stopped t, text (Stopped t) run, most_made (Stopped t) run.made steps run.within, shows_text (Stopped t) run, (all_text (Stopped t) run (Err Write) end).1)
+    ended (Stopped t) (Err (Io Read)) run end = absurd (let no = end.0 in cc)
     ended (Stopped t) (Err (Refused x)) run end = absurd end
     ended (Stopped t) (Err Memory) run end = absurd end
     ended Unread (Ok s) run end = absurd end
     ended Unread (Err (Io Write)) run end = absurd end
-    ended Unread (Err (Io Read)) run end = (
-      run.made,
-      text Unread begun o0 o1 o2 r0 r1 w0 w1 w2 run,
-      run.within,
-      shows_text Unread begun o0 o1 o2 r0 r1 w0 w1 w2 run,
-      (some_text Unread begun o0 o1 o2 r0 r1 w0 w1 w2 run end.0, λ h. all_text Unread begun o0 o1 o2 r0 r1 w0 w1 w2 run (end.1 (h ∙ sym run.written.1))),
-    )
+    ended Unread (Err (Io Read)) run end = (run.made, text Unread run, run.within, shows_text Unread run, (end.0, all_text Unread run end.0 end.1))
     ended Unread (Err (Refused x)) run end = absurd end
     ended Unread (Err Memory) run end = absurd end
 
-    -- whose failures rose
-    pub blamed : (left : Left) (r : Result Stop ToolFault) → Followed p names steps left begun i0 i1 o0 o1 r0 r1 w0 w1 → EndsTrace left begun r o1 o2 w1 w2 → Blames r r0 r1 w0 w2
-    blamed (Stopped t) (Ok s) run end = (run.reader, end.2 ∙ run.written.1)
-    blamed (Stopped t) (Err (Io Write)) run end = end.1 ∙ ap (λ w. w + 1) run.written.1
-    blamed (Stopped t) (Err (Io Read)) run end = absurd end
+    -- which device is at fault
+    pub blamed : (left : Left) (r : Result Stop ToolFault) → Followed p names steps left begun i0 i1 o0 o1 r0 r1 w0 w1 R → EndsTrace left begun r o1 o2 w1 w2 W → Blames r r0 r1 w0 w2 R W
+    blamed (Stopped t) (Ok s) run end = (run.reader, end.1.1 ∙ run.written.1)
+    blamed (Stopped t) (Err (Io Write)) run end = (end.2 ∙ ap (λ w. w + 1) run.written.1, end.3)
+    blamed (Stopped t) (Err (Io Read)) run end = absurd (let no = end.0 in cc)
     blamed (Stopped t) (Err (Refused x)) run end = absurd end
     blamed (Stopped t) (Err Memory) run end = absurd end
     blamed Unread (Ok s) run end = absurd end
@@ -123,24 +127,19 @@ module _ (source : List ℕ) (p : Program) (names : List (List ℕ)) (compiled :
     blamed Unread (Err (Refused x)) run end = absurd end
     blamed Unread (Err Memory) run end = absurd end
 
-  -- a writer's failure is told as its own
-  pub interrupted_blamed : (f : IoFault) (o0 o1 : Option (List ℕ)) (r0 r1 w0 w1 : ℕ) → Interrupted p names steps f i0 i1 o0 o1 w0 w1 → Blames (Err (Io f)) r0 r1 w0 w1
-  interrupted_blamed Read o0 o1 r0 r1 w0 w1 run = absurd (let no = run.written.0 in cc)
-  interrupted_blamed Write o0 o1 r0 r1 w0 w1 run = run.written.2
-
 -- something was run
-pub run_untouched : {R W : Type 0} → (left : Left) (begun : Bool) (r : Result Stop ToolFault) (o1 o2 : Option (List ℕ)) (w1 w2 : ℕ) (a b : R) (c d : W) → EndsTrace left begun r o1 o2 w1 w2 → Untouched r a b c d
-run_untouched left begun (Ok s) o1 o2 w1 w2 a b c d end = tt
-run_untouched left begun (Err (Io f)) o1 o2 w1 w2 a b c d end = tt
-run_untouched (Stopped t) begun (Err (Refused x)) o1 o2 w1 w2 a b c d end = absurd end
-run_untouched Unread begun (Err (Refused x)) o1 o2 w1 w2 a b c d end = absurd end
-run_untouched (Stopped t) begun (Err Memory) o1 o2 w1 w2 a b c d end = absurd end
-run_untouched Unread begun (Err Memory) o1 o2 w1 w2 a b c d end = absurd end
+pub run_untouched : {A B : Type 0} → (left : Left) (begun : Bool) (r : Result Stop ToolFault) (o1 o2 : Option (List ℕ)) (w1 w2 : ℕ) (W : Type 0) (a b : A) (c d : B) → EndsTrace left begun r o1 o2 w1 w2 W → Untouched r a b c d
+run_untouched left begun (Ok s) o1 o2 w1 w2 W a b c d end = tt
+run_untouched left begun (Err (Io f)) o1 o2 w1 w2 W a b c d end = tt
+run_untouched (Stopped t) begun (Err (Refused x)) o1 o2 w1 w2 W a b c d end = absurd end
+run_untouched Unread begun (Err (Refused x)) o1 o2 w1 w2 W a b c d end = absurd end
+run_untouched (Stopped t) begun (Err Memory) o1 o2 w1 w2 W a b c d end = absurd end
+run_untouched Unread begun (Err Memory) o1 o2 w1 w2 W a b c d end = absurd end
 
 -- ---- a source that is refused
 
-pub no_trace : (source : List ℕ) (steps : ℕ) (i0 i1 o0 o1 : Option (List ℕ)) (w0 w1 : ℕ) (r : Refusal) (f : ToolFault) → IsRefusal source r → Becomes r f → AnsweredTrace source steps (Err f) i0 i1 o0 o1 w0 w1
-no_trace source steps i0 i1 o0 o1 w0 w1 r f is becomes = ⊎_elim
-    (λ memory. subst (λ x. AnsweredTrace source steps (Err x) i0 i1 o0 o1 w0 w1) (sym memory.1) tt)
-    (λ other. subst (λ x. AnsweredTrace source steps (Err x) i0 i1 o0 o1 w0 w1) (sym other.1) (is, other.0))
+pub no_trace : (source : List ℕ) (steps : ℕ) (i0 i1 o0 o1 : Option (List ℕ)) (w0 w1 : ℕ) (W : Type 0) (r : Refusal) (f : ToolFault) → IsRefusal source r → Becomes r f → AnsweredTrace source steps (Err f) i0 i1 o0 o1 w0 w1 W
+no_trace source steps i0 i1 o0 o1 w0 w1 W r f is becomes = ⊎_elim
+    (λ memory. subst (λ x. AnsweredTrace source steps (Err x) i0 i1 o0 o1 w0 w1 W) (sym memory.1) tt)
+    (λ other. subst (λ x. AnsweredTrace source steps (Err x) i0 i1 o0 o1 w0 w1 W) (sym other.1) (is, other.0))
     becomes

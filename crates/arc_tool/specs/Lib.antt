@@ -1,6 +1,7 @@
 pub mod Told
 pub mod Accepted
 pub mod Refused
+pub mod Progress
 pub mod Ran
 pub mod Status
 pub mod Lines

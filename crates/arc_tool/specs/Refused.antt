@@ -1,5 +1,5 @@
 -- When a source is refused, and by which stage: the first one that finds something to refuse.
-use Rattle.std.specs.Prelude.{◌≡◌, ℕ, List, [], codes}
+use Rattle.std.specs.Prelude.{◌≡◌, ℕ, ◌+◌, ◌<◌, List, [], length, codes}
 use Rattle.arc_lex.specs.Tokens.{Tok}
 use Rattle.arc_lex.specs.Source.{Tokens}
 use Rattle.arc_lex.specs.declared.fault.LexFault.{LexFault}
@@ -24,14 +24,18 @@ use Rattle.arc_fault.specs.declared.own.OwnFault.{OwnFault}
 use Rattle.arc_fault.specs.Own as own_fault
 use Rattle.arc_family.specs.Fault as owning
 use Rattle.arc_family.specs.Rules as ownership
-use Rattle.arc_ir.specs.Acting as acting
-use Rattle.arc_lower.specs.Promise.{Performs}
-use Rattle.arc_emit.specs.Emitted.{IsLarge}
+use Rattle.arc_spec.specs.Resolved as resolved
+use Rattle.arc_lower.specs.Order.{texts_of}
+use Rattle.arc_lower.specs.Lowered.{lowered}
 use Rattle.arc_tool.specs.declared.refusal.Refusal.{Refusal}
 use Rattle.arc_tool.specs.Accepted.{Accepted, program_meant}
-use Rattle.arc_tool.specs.Told.{Names, Tells}
+use Rattle.arc_tool.specs.Told.{Tells}
 
--- The refusal tells the fault of a stage, all stages before which have nothing to refuse; or memory was refused, which says nothing of the source.
+-- the actions that the program becomes, and the bytes of their texts, are together more than this
+abbrev pub IsTooLarge : resolved.Program → Type 0
+IsTooLarge P = 1048576 < length (lowered P) + length (texts_of (lowered P))
+
+-- The refusal tells the fault of a stage, all stages before which have nothing to refuse. A stage to which memory is refused has a fault of its own for that, which says no more of the source.
 pub data IsRefusal (source : List ℕ) (r : Refusal) : Type 0 where
   in_lexing : (f : LexFault) → lexing.IsLexFault source f → Tells (lexing.fault_number f) (lexing.fault_name f) (lexing.fault_at f) r → IsRefusal source r
   in_parsing : (f : ParseFault) (tokens : List Tok) → Tokens source tokens → parsing.IsRefused tokens f
@@ -44,5 +48,5 @@ pub data IsRefusal (source : List ℕ) (r : Refusal) : Type 0 where
   in_owning : (f : OwnFault) (tokens : List Tok) (tree : UnitTree) (table : ClassTable) → Tokens source tokens → SpellsUnit these tree tokens
       → broken tree ≡ [] → IsTableOf tree table → broken_unit tree ≡ [] → owning.Refuses (ownership.broken tree) f
       → Tells (own_fault.fault_number f) (own_fault.fault_name f) (own_fault.fault_at f) r → IsRefusal source r
-  too_large : (program : Accepted source) (actions : acting.Program) → Performs (program_meant program) actions → IsLarge actions → Tells 71 (codes "TooLarge") 0 r → IsRefusal source r
-  no_memory : Names (codes "Memory") r → IsRefusal source r
+  too_large : (program : Accepted source) → IsTooLarge (program_meant program) → Tells 71 (codes "TooLarge") 0 r → IsRefusal source r
+  no_memory : (program : Accepted source) → Tells 72 (codes "Memory") 0 r → IsRefusal source r

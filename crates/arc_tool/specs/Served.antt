@@ -1,10 +1,11 @@
 -- What the whole program does with its words and the bytes of its file. The lines and statuses are this project's own choice.
 use Rattle.std.specs.Prelude.{◌≡◌, ℕ, ◌+◌, ℤ, List, codes, Option, Result, Ok, Err, string_bytes}
-use Rattle.std.specs.Io.KnownBytes.{Appends}
 use denote.Bor.{Bor}
 use Rattle.arc_spec.specs.Number.{low_byte}
-use Rattle.arc_code.specs.Counting.{AppendsPart}
+use Rattle.arc_code.specs.Counting.{failures_of, left_in, held_by}
+use Rattle.arc_code.specs.declared.code.IoFault.{IoFault}
 use Rattle.arc_code.specs.declared.code.IoFault.TheVariants.{Read, Write}
+use Rattle.arc_code.specs.declared.counted.Counted.{Counted}
 use Rattle.arc_code.specs.Listing.{listing}
 use Rattle.arc_code.specs.Running.{Program}
 use Rattle.arc_code.specs.Written.{Written}
@@ -17,44 +18,46 @@ use Rattle.arc_words.specs.declared.request.WordsFault.{WordsFault}
 use Rattle.arc_words.specs.declared.request.WordsFault.TheVariants as words_fault
 use Rattle.arc_tool.specs.declared.serve.FileFault.{FileFault}
 use Rattle.arc_tool.specs.declared.serve.FileFault.TheVariants as file_fault
+use Rattle.arc_tool.specs.declared.run.ToolFault.{ToolFault}
 use Rattle.arc_tool.specs.declared.run.ToolFault.TheVariants as tool_fault
 use Rattle.arc_tool.specs.declared.report.Trouble.{Trouble}
 use Rattle.arc_tool.specs.declared.report.Trouble.TheVariants.{Usage, Refused, Memory, Fault, NoHeap, StepsUsed, Io, File}
 use Rattle.arc_tool.specs.Accepted.{Accepted, Compiles}
 use Rattle.arc_tool.specs.Refused.{IsRefusal}
-use Rattle.arc_tool.specs.Ran.{Ran}
+use Rattle.arc_tool.specs.Ran.{Answered}
 use Rattle.arc_tool.specs.Traced.{AnsweredTrace}
 use Rattle.arc_tool.specs.Status.{status_of, line_of}
 
+-- This text was printed, or the writer failed and has some first bytes of it.
+abbrev pub Prints : {W : Type 0} → (contents : W → Option (List ℕ)) → (writer_failed : Type 0) → Result (Unit {0}) IoFault → List ℕ → (o0 o1 : Counted W) → Type 0
+Prints contents failed answer text o0 o1 = Written answer text (held_by contents o0) (held_by contents o1) (failures_of o0) (failures_of o1) failed
+
 -- `check` says `ok` of a program
-abbrev pub Checks : List ℕ → Result ℕ Trouble → (out0 out1 : Option (List ℕ)) → (writes0 writes1 : ℕ) → Type 0
-Checks source (Ok s) o0 o1 w0 w1 = (s ≡ 0) × Accepted source × Appends o0 o1 (codes "ok\n")
-Checks source (Err (Io f)) o0 o1 w0 w1 = Accepted source × Written (Err f) (codes "ok\n") o0 o1 w0 w1
-Checks source (Err (Refused r)) o0 o1 w0 w1 = IsRefusal source r × (o1 ≡ o0)
-Checks source (Err Memory) o0 o1 w0 w1 = o1 ≡ o0
-Checks source (Err _) o0 o1 w0 w1 = ⊥
+abbrev pub Checks : {W : Type 0} → (contents : W → Option (List ℕ)) → (writer_failed : Type 0) → List ℕ → Result ℕ Trouble → (o0 o1 : Counted W) → Type 0
+Checks contents failed source (Ok s) o0 o1 = (s ≡ 0) × Accepted source × Prints contents failed (Ok tt) (codes "ok\n") o0 o1
+Checks contents failed source (Err (Io f)) o0 o1 = Accepted source × Prints contents failed (Err f) (codes "ok\n") o0 o1
+Checks contents failed source (Err (Refused r)) o0 o1 = IsRefusal source r × (o1 ≡ o0)
+Checks contents failed source (Err Memory) o0 o1 = o1 ≡ o0
+Checks contents failed source (Err _) o0 o1 = ⊥
 
--- `run` runs a program, and its status is the low 8 bits of the number with which it ends
-abbrev pub RunsSource : List ℕ → (steps : ℕ) → Result ℕ Trouble → (in0 in1 out0 out1 : Option (List ℕ)) → Type 0
-RunsSource source steps (Ok s) i0 i1 o0 o1 = (n : ℤ) × (s ≡ low_byte n) × Ran source steps (Ok (stop.Ended n)) i0 i1 o0 o1
-RunsSource source steps (Err (Fault f)) i0 i1 o0 o1 = Ran source steps (Ok (stop.Fault f)) i0 i1 o0 o1
-RunsSource source steps (Err NoHeap) i0 i1 o0 o1 = Ran source steps (Ok stop.NoHeap) i0 i1 o0 o1
-RunsSource source steps (Err StepsUsed) i0 i1 o0 o1 = Ran source steps (Ok stop.StepsUsed) i0 i1 o0 o1
-RunsSource source steps (Err (Io f)) i0 i1 o0 o1 = Ran source steps (Err (tool_fault.Io f)) i0 i1 o0 o1
-RunsSource source steps (Err (Refused r)) i0 i1 o0 o1 = IsRefusal source r × (i1 ≡ i0) × (o1 ≡ o0)
-RunsSource source steps (Err Memory) i0 i1 o0 o1 = (i1 ≡ i0) × (o1 ≡ o0)
-RunsSource source steps (Err _) i0 i1 o0 o1 = ⊥
+-- `code` lists the code of a program
+abbrev pub Lists : {W : Type 0} → (contents : W → Option (List ℕ)) → (writer_failed : Type 0) → List ℕ → Result ℕ Trouble → (o0 o1 : Counted W) → Type 0
+Lists contents failed source (Ok s) o0 o1 = (code : Program) × (s ≡ 0) × Compiles source code × Prints contents failed (Ok tt) (listing code.ops) o0 o1
+Lists contents failed source (Err (Io f)) o0 o1 = (code : Program) × Compiles source code × Prints contents failed (Err f) (listing code.ops) o0 o1
+Lists contents failed source (Err (Refused r)) o0 o1 = IsRefusal source r × (o1 ≡ o0)
+Lists contents failed source (Err Memory) o0 o1 = o1 ≡ o0
+Lists contents failed source (Err _) o0 o1 = ⊥
 
--- `trace` shows what a program does, with the same status
-abbrev pub TracesSource : List ℕ → (steps : ℕ) → Result ℕ Trouble → (in0 in1 out0 out1 : Option (List ℕ)) → (writes0 writes1 : ℕ) → Type 0
-TracesSource source steps (Ok s) i0 i1 o0 o1 w0 w1 = (n : ℤ) × (s ≡ low_byte n) × AnsweredTrace source steps (Ok (stop.Ended n)) i0 i1 o0 o1 w0 w1
-TracesSource source steps (Err (Fault f)) i0 i1 o0 o1 w0 w1 = AnsweredTrace source steps (Ok (stop.Fault f)) i0 i1 o0 o1 w0 w1
-TracesSource source steps (Err NoHeap) i0 i1 o0 o1 w0 w1 = AnsweredTrace source steps (Ok stop.NoHeap) i0 i1 o0 o1 w0 w1
-TracesSource source steps (Err StepsUsed) i0 i1 o0 o1 w0 w1 = AnsweredTrace source steps (Ok stop.StepsUsed) i0 i1 o0 o1 w0 w1
-TracesSource source steps (Err (Io f)) i0 i1 o0 o1 w0 w1 = AnsweredTrace source steps (Err (tool_fault.Io f)) i0 i1 o0 o1 w0 w1
-TracesSource source steps (Err (Refused r)) i0 i1 o0 o1 w0 w1 = IsRefusal source r × (i1 ≡ i0) × (o1 ≡ o0)
-TracesSource source steps (Err Memory) i0 i1 o0 o1 w0 w1 = (i1 ≡ i0) × (o1 ≡ o0)
-TracesSource source steps (Err _) i0 i1 o0 o1 w0 w1 = ⊥
+-- `run` and `trace` answer what `run_text` and `trace_text` do, with the low 8 bits of the number with which the program ends as the status; where nothing was run, all devices are as they were
+abbrev pub RunsTo : List ℕ → Result ℕ Trouble → (answered : Result Stop ToolFault → Type 0) → (kept : Type 0) → Type 0
+RunsTo source (Ok s) answered kept = (n : ℤ) × (s ≡ low_byte n) × answered (Ok (stop.Ended n))
+RunsTo source (Err (Fault f)) answered kept = answered (Ok (stop.Fault f))
+RunsTo source (Err NoHeap) answered kept = answered (Ok stop.NoHeap)
+RunsTo source (Err StepsUsed) answered kept = answered (Ok stop.StepsUsed)
+RunsTo source (Err (Io f)) answered kept = answered (Err (tool_fault.Io f))
+RunsTo source (Err (Refused r)) answered kept = IsRefusal source r × kept
+RunsTo source (Err Memory) answered kept = kept
+RunsTo source (Err _) answered kept = ⊥
 
 -- the status of an end, or the trouble
 abbrev pub ended_with : Stop → Result ℕ Trouble
@@ -63,29 +66,24 @@ ended_with (stop.Fault f) = Err (Fault f)
 ended_with stop.NoHeap = Err NoHeap
 ended_with stop.StepsUsed = Err StepsUsed
 
--- `code` lists the code of a program
-abbrev pub Lists : List ℕ → Result ℕ Trouble → (out0 out1 : Option (List ℕ)) → Type 0
-Lists source (Ok s) o0 o1 = (code : Program) × (s ≡ 0) × Compiles source code × Appends o0 o1 (listing code.ops)
-Lists source (Err (Io f)) o0 o1 = (code : Program) × Compiles source code × AppendsPart o0 o1 (listing code.ops)
-Lists source (Err (Refused r)) o0 o1 = IsRefusal source r × (o1 ≡ o0)
-Lists source (Err Memory) o0 o1 = o1 ≡ o0
-Lists source (Err _) o0 o1 = ⊥
-
-abbrev pub Obeyed : Command → List ℕ → (steps : ℕ) → Result ℕ Trouble → (in0 in1 out0 out1 : Option (List ℕ)) → (writes0 writes1 : ℕ) → Type 0
-Obeyed Check source steps answer i0 i1 o0 o1 w0 w1 = Checks source answer o0 o1 w0 w1 × (i1 ≡ i0)
-Obeyed Run source steps answer i0 i1 o0 o1 w0 w1 = RunsSource source steps answer i0 i1 o0 o1
-Obeyed Trace source steps answer i0 i1 o0 o1 w0 w1 = TracesSource source steps answer i0 i1 o0 o1 w0 w1
-Obeyed Code source steps answer i0 i1 o0 o1 w0 w1 = Lists source answer o0 o1 × (i1 ≡ i0)
+abbrev pub Obeyed : {R W : Type 0} → (remaining : R → Option (List ℕ)) → (contents : W → Option (List ℕ)) → (writer_failed : Type 0)
+    → Command → List ℕ → (steps : ℕ) → Result ℕ Trouble → (i0 i1 : Counted R) → (o0 o1 : Counted W) → Type 0
+Obeyed remaining contents failed Check source steps answer i0 i1 o0 o1 = Checks contents failed source answer o0 o1 × (i1 ≡ i0)
+Obeyed remaining contents failed Run source steps answer i0 i1 o0 o1 =
+    RunsTo source answer (λ a. Answered source steps a (left_in remaining i0) (left_in remaining i1) (held_by contents o0) (held_by contents o1)) ((i1 ≡ i0) × (o1 ≡ o0))
+Obeyed remaining contents failed Trace source steps answer i0 i1 o0 o1 =
+    RunsTo source answer (λ a. AnsweredTrace source steps a (left_in remaining i0) (left_in remaining i1) (held_by contents o0) (held_by contents o1) (failures_of o0) (failures_of o1) failed) ((i1 ≡ i0) × (o1 ≡ o0))
+Obeyed remaining contents failed Code source steps answer i0 i1 o0 o1 = Lists contents failed source answer o0 o1 × (i1 ≡ i0)
 
 -- this trouble, and nothing is read or printed
-abbrev pub Only : Trouble → Result ℕ Trouble → (in0 in1 out0 out1 : Option (List ℕ)) → Type 0
+abbrev pub Only : {I O : Type 0} → Trouble → Result ℕ Trouble → (i0 i1 : I) → (o0 o1 : O) → Type 0
 Only trouble answer i0 i1 o0 o1 = (answer ≡ Err trouble) × (i1 ≡ i0) × (o1 ≡ o0)
 
 -- help is printed, with the status 0
-abbrev pub Helps : List ℕ → Result ℕ Trouble → (out0 out1 : Option (List ℕ)) → (writes0 writes1 : ℕ) → Type 0
-Helps text (Ok s) o0 o1 w0 w1 = (s ≡ 0) × Appends o0 o1 text
-Helps text (Err (Io f)) o0 o1 w0 w1 = Written (Err f) text o0 o1 w0 w1
-Helps text (Err _) o0 o1 w0 w1 = ⊥
+abbrev pub Helps : {W : Type 0} → (contents : W → Option (List ℕ)) → (writer_failed : Type 0) → List ℕ → Result ℕ Trouble → (o0 o1 : Counted W) → Type 0
+Helps contents failed text (Ok s) o0 o1 = (s ≡ 0) × Prints contents failed (Ok tt) text o0 o1
+Helps contents failed text (Err (Io f)) o0 o1 = Prints contents failed (Err f) text o0 o1
+Helps contents failed text (Err _) o0 o1 = ⊥
 
 -- the bytes of the file, or why there are none
 abbrev pub source_or : {B : Type 0} → Result B FileFault → Result B Trouble
@@ -94,22 +92,30 @@ source_or (Err file_fault.Failed) = Err File
 source_or (Err file_fault.NoMemory) = Err Memory
 
 -- first the words are looked at, then the file, and then the source
-abbrev pub Attempted : Result Words WordsFault → Result (Bor (List ℕ)) FileFault → Result ℕ Trouble → (in0 in1 out0 out1 : Option (List ℕ)) → (writes0 writes1 : ℕ) → Type 0
-Attempted (Err words_fault.Usage) file answer i0 i1 o0 o1 w0 w1 = Only Usage answer i0 i1 o0 o1
-Attempted (Err words_fault.Memory) file answer i0 i1 o0 o1 w0 w1 = Only Memory answer i0 i1 o0 o1
-Attempted (Err (words_fault.Help text)) file answer i0 i1 o0 o1 w0 w1 = Helps (string_bytes text) answer o0 o1 w0 w1 × (i1 ≡ i0)
-Attempted (Ok words) (Err file_fault.Failed) answer i0 i1 o0 o1 w0 w1 = Only File answer i0 i1 o0 o1
-Attempted (Ok words) (Err file_fault.NoMemory) answer i0 i1 o0 o1 w0 w1 = Only Memory answer i0 i1 o0 o1
-Attempted (Ok words) (Ok source) answer i0 i1 o0 o1 w0 w1 = Obeyed words.command source.now words.steps answer i0 i1 o0 o1 w0 w1
+abbrev pub Attempted : {R W : Type 0} → (remaining : R → Option (List ℕ)) → (contents : W → Option (List ℕ)) → (writer_failed : Type 0)
+    → Result Words WordsFault → Result (Bor (List ℕ)) FileFault → Result ℕ Trouble → (i0 i1 : Counted R) → (o0 o1 : Counted W) → Type 0
+Attempted remaining contents failed (Err words_fault.Usage) file answer i0 i1 o0 o1 = Only Usage answer i0 i1 o0 o1
+Attempted remaining contents failed (Err words_fault.Memory) file answer i0 i1 o0 o1 = Only Memory answer i0 i1 o0 o1
+Attempted remaining contents failed (Err (words_fault.Help text)) file answer i0 i1 o0 o1 = Helps contents failed (string_bytes text) answer o0 o1 × (i1 ≡ i0)
+Attempted remaining contents failed (Ok words) (Err file_fault.Failed) answer i0 i1 o0 o1 = Only File answer i0 i1 o0 o1
+Attempted remaining contents failed (Ok words) (Err file_fault.NoMemory) answer i0 i1 o0 o1 = Only Memory answer i0 i1 o0 o1
+Attempted remaining contents failed (Ok words) (Ok source) answer i0 i1 o0 o1 = Obeyed remaining contents failed words.command source.now words.steps answer i0 i1 o0 o1
 
--- a device is at fault only where its failures rose
-abbrev pub Blamed : Result ℕ Trouble → (reads0 reads1 writes0 writes1 : ℕ) → Type 0
-Blamed (Err (Io Read)) r0 r1 w0 w1 = r1 ≡ r0 + 1
-Blamed (Err (Io Write)) r0 r1 w0 w1 = w1 ≡ w0 + 1
-Blamed (Err _) r0 r1 w0 w1 = (r1 ≡ r0) × (w1 ≡ w0)
-Blamed (Ok s) r0 r1 w0 w1 = (r1 ≡ r0) × (w1 ≡ w0)
+-- a device is at fault only where it has failed and its failures rose
+abbrev pub Blamed : Result ℕ Trouble → (reads0 reads1 writes0 writes1 : ℕ) → (reader_failed writer_failed : Type 0) → Type 0
+Blamed (Err (Io Read)) r0 r1 w0 w1 reader writer = (r1 ≡ r0 + 1) × reader
+Blamed (Err (Io Write)) r0 r1 w0 w1 reader writer = (w1 ≡ w0 + 1) × writer
+Blamed (Err _) r0 r1 w0 w1 reader writer = (r1 ≡ r0) × (w1 ≡ w0)
+Blamed (Ok s) r0 r1 w0 w1 reader writer = (r1 ≡ r0) × (w1 ≡ w0)
+
+-- the same of a command that reads nothing
+abbrev pub WriterBlamed : Result ℕ Trouble → (writes0 writes1 : ℕ) → (writer_failed : Type 0) → Type 0
+WriterBlamed (Err (Io Read)) w0 w1 writer = ⊥
+WriterBlamed (Err (Io Write)) w0 w1 writer = (w1 ≡ w0 + 1) × writer
+WriterBlamed (Err _) w0 w1 writer = w1 ≡ w0
+WriterBlamed (Ok s) w0 w1 writer = w1 ≡ w0
 
 -- the status, and what is told: nothing, or trouble in one line, of which a failing device may take some first bytes alone
-abbrev pub Reported : Result ℕ Trouble → (status : ℕ) → (told0 told1 : Option (List ℕ)) → (failures0 failures1 : ℕ) → Type 0
-Reported (Ok s) status e0 e1 f0 f1 = (status ≡ s) × (e1 ≡ e0)
-Reported (Err t) status e0 e1 f0 f1 = (status ≡ status_of t) × AppendsPart e0 e1 (line_of t) × (f1 ≡ f0 → Appends e0 e1 (line_of t))
+abbrev pub Reported : {E : Type 0} → (contents : E → Option (List ℕ)) → (teller_failed : Type 0) → Result ℕ Trouble → (status : ℕ) → (e0 e1 : Counted E) → Type 0
+Reported contents failed (Ok s) status e0 e1 = (status ≡ s) × (e1 ≡ e0)
+Reported contents failed (Err t) status e0 e1 = (status ≡ status_of t) × ((answer : Result (Unit {0}) IoFault) × Prints contents failed answer (line_of t) e0 e1)

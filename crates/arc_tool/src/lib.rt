@@ -3,6 +3,7 @@
 
 pub mod compile;
 mod lines;
+mod nowhere;
 pub mod refusal;
 pub mod report;
 pub mod request;

@@ -1,7 +1,8 @@
 //! Writes what a run shows, in lines.
 ghost use Rattle.std.specs.Prelude.{◌≡◌, ◌-◌, ◌^◌, ◌<◌, ◌++◌, codes, map, Ok};
 ghost use Rattle.std.specs.Fmt.{signed_decimal};
-ghost use Rattle.arc_code.specs.Counting.{failures_of, held_by};
+ghost use Rattle.arc_code.specs.Attempts.{HasFailedToWrite};
+ghost use Rattle.arc_code.specs.Counting.{failures_of, inner_of, held_by};
 ghost use Rattle.arc_code.specs.Written.{Written};
 ghost use Rattle.arc_tool.specs.Accepted.{bytes_of_name};
 ghost use Rattle.arc_tool.specs.Lines.{Ended, digit, two_digits, name_at, line_text, left_text, opening, closing, event_text, leaves_open, events_text, open_after, end_text};
@@ -9,10 +10,10 @@ ghost use Rattle.arc_tool.specs.Lines.{Ended, digit, two_digits, name_at, line_t
 use crate::report::{put, put_broken, put_fault, put_named};
 use arc_code::code::IoFault;
 use arc_code::counted::Counted;
+use arc_code::device::Output;
 use arc_machine::stop::Stop;
 use arc_spec::event::Event;
 use itoa::Buffer;
-use std::io::Write;
 
 /// How a run was left.
 #[derive(Clone, Copy)]
@@ -26,7 +27,7 @@ pub enum Left {
 /// the next dealloc, and `dealloc ` with the object's number and its class for each dealloc. Where a line of
 /// printed bytes is open, it is ended before a dealloc. The error is a failure of the writer; then some of the
 /// first bytes are written.
-pub fn put_events<W: Write>(
+pub fn put_events<W: Output>(
     events: &[Event],
     classes: &[Vec<u8>],
     begun: bool,
@@ -35,7 +36,8 @@ pub fn put_events<W: Write>(
     requires { failures_of writer.old < 2 ^ 64 - 1 }
     ensures { Written result (events_text (map bytes_of_name classes.now) begun events.now)
         (held_by W.contents writer.old) (held_by W.contents writer.new)
-        (failures_of writer.old) (failures_of writer.new) }
+        (failures_of writer.old) (failures_of writer.new)
+        (HasFailedToWrite W.writes W.flushes (inner_of writer.new)) }
 {
     let mut line_is_open = begun;
     for event in events {
@@ -66,7 +68,7 @@ fn leaves_open(event: &Event) -> bool
     }
 }
 
-fn put_event<W: Write>(
+fn put_event<W: Output>(
     event: &Event,
     classes: &[Vec<u8>],
     begun: bool,
@@ -75,7 +77,8 @@ fn put_event<W: Write>(
     requires { failures_of writer.old < 2 ^ 64 - 1 }
     ensures { Written result (event_text (map bytes_of_name classes.now) begun event.now)
         (held_by W.contents writer.old) (held_by W.contents writer.new)
-        (failures_of writer.old) (failures_of writer.new) }
+        (failures_of writer.old) (failures_of writer.new)
+        (HasFailedToWrite W.writes W.flushes (inner_of writer.new)) }
 {
     match event {
         Event::Byte(byte) => put_byte(*byte, begun, writer),
@@ -87,11 +90,12 @@ fn put_event<W: Write>(
 }
 
 /// Writes a printed byte, which begins a line where none is open.
-fn put_byte<W: Write>(byte: u8, begun: bool, writer: &mut Counted<W>) -> Result<(), IoFault>
+fn put_byte<W: Output>(byte: u8, begun: bool, writer: &mut Counted<W>) -> Result<(), IoFault>
     requires { failures_of writer.old < 2 ^ 64 - 1 }
     ensures { Written result (opening begun ++ two_digits byte)
         (held_by W.contents writer.old) (held_by W.contents writer.new)
-        (failures_of writer.old) (failures_of writer.new) }
+        (failures_of writer.old) (failures_of writer.new)
+        (HasFailedToWrite W.writes W.flushes (inner_of writer.new)) }
 {
     put(opening(begun), writer)?;
     put_digits(byte, writer)
@@ -105,11 +109,12 @@ fn opening(begun: bool) -> &'static [u8]
 }
 
 /// Writes a byte in two hexadecimal digits.
-fn put_digits<W: Write>(byte: u8, writer: &mut Counted<W>) -> Result<(), IoFault>
+fn put_digits<W: Output>(byte: u8, writer: &mut Counted<W>) -> Result<(), IoFault>
     requires { failures_of writer.old < 2 ^ 64 - 1 }
     ensures { Written result (two_digits byte)
         (held_by W.contents writer.old) (held_by W.contents writer.new)
-        (failures_of writer.old) (failures_of writer.new) }
+        (failures_of writer.old) (failures_of writer.new)
+        (HasFailedToWrite W.writes W.flushes (inner_of writer.new)) }
 {
     put(&[digit(byte / 16), digit(byte % 16)], writer)
 }
@@ -124,18 +129,19 @@ fn digit(number: u8) -> u8
 }
 
 /// Ends the line of printed bytes where it is open.
-fn close<W: Write>(begun: bool, writer: &mut Counted<W>) -> Result<(), IoFault>
+fn close<W: Output>(begun: bool, writer: &mut Counted<W>) -> Result<(), IoFault>
     requires { failures_of writer.old < 2 ^ 64 - 1 }
     ensures { Written result (closing begun)
         (held_by W.contents writer.old) (held_by W.contents writer.new)
-        (failures_of writer.old) (failures_of writer.new) }
+        (failures_of writer.old) (failures_of writer.new)
+        (HasFailedToWrite W.writes W.flushes (inner_of writer.new)) }
 {
     let end: &[u8] = if begun { b"\n" } else { b"" };
     put(end, writer)
 }
 
 /// Writes the line of a dealloc.
-fn put_dealloc<W: Write>(
+fn put_dealloc<W: Output>(
     object: u64,
     class: usize,
     classes: &[Vec<u8>],
@@ -144,7 +150,8 @@ fn put_dealloc<W: Write>(
     requires { failures_of writer.old < 2 ^ 64 - 1 }
     ensures { Written result (line_text (map bytes_of_name classes.now) (Ended object class))
         (held_by W.contents writer.old) (held_by W.contents writer.new)
-        (failures_of writer.old) (failures_of writer.new) }
+        (failures_of writer.old) (failures_of writer.new)
+        (HasFailedToWrite W.writes W.flushes (inner_of writer.new)) }
 {
     put_named(b"dealloc ", object, name_at(classes, class), writer)?;
     put(b"\n", writer)
@@ -163,31 +170,34 @@ fn name_at(classes: &[Vec<u8>], class: usize) -> &[u8]
 /// Ends the text with the line that says how the run was left: `end ` with the number with which it ended,
 /// `fault ` with the fault's number and name, `noheap`, `steps`, or `io ` with the number and the name of the
 /// reader's failure. The error is a failure of the writer; then some of the first bytes are written.
-pub fn put_end<W: Write>(left: Left, begun: bool, writer: &mut Counted<W>) -> Result<(), IoFault>
+pub fn put_end<W: Output>(left: Left, begun: bool, writer: &mut Counted<W>) -> Result<(), IoFault>
     requires { failures_of writer.old < 2 ^ 64 - 1 }
     ensures { Written result (end_text begun left)
         (held_by W.contents writer.old) (held_by W.contents writer.new)
-        (failures_of writer.old) (failures_of writer.new) }
+        (failures_of writer.old) (failures_of writer.new)
+        (HasFailedToWrite W.writes W.flushes (inner_of writer.new)) }
 {
     close(begun, writer)?;
     put_last_line(left, writer)
 }
 
-fn put_last_line<W: Write>(left: Left, writer: &mut Counted<W>) -> Result<(), IoFault>
+fn put_last_line<W: Output>(left: Left, writer: &mut Counted<W>) -> Result<(), IoFault>
     requires { failures_of writer.old < 2 ^ 64 - 1 }
     ensures { Written result (left_text left ++ codes "\n")
         (held_by W.contents writer.old) (held_by W.contents writer.new)
-        (failures_of writer.old) (failures_of writer.new) }
+        (failures_of writer.old) (failures_of writer.new)
+        (HasFailedToWrite W.writes W.flushes (inner_of writer.new)) }
 {
     put_left(left, writer)?;
     put(b"\n", writer)
 }
 
-fn put_left<W: Write>(left: Left, writer: &mut Counted<W>) -> Result<(), IoFault>
+fn put_left<W: Output>(left: Left, writer: &mut Counted<W>) -> Result<(), IoFault>
     requires { failures_of writer.old < 2 ^ 64 - 1 }
     ensures { Written result (left_text left)
         (held_by W.contents writer.old) (held_by W.contents writer.new)
-        (failures_of writer.old) (failures_of writer.new) }
+        (failures_of writer.old) (failures_of writer.new)
+        (HasFailedToWrite W.writes W.flushes (inner_of writer.new)) }
 {
     match left {
         Left::Stopped(Stop::Ended(number)) => put_ended(number, writer),
@@ -198,11 +208,12 @@ fn put_left<W: Write>(left: Left, writer: &mut Counted<W>) -> Result<(), IoFault
     }
 }
 
-fn put_ended<W: Write>(number: i32, writer: &mut Counted<W>) -> Result<(), IoFault>
+fn put_ended<W: Output>(number: i32, writer: &mut Counted<W>) -> Result<(), IoFault>
     requires { failures_of writer.old < 2 ^ 64 - 1 }
     ensures { Written result (codes "end " ++ signed_decimal number)
         (held_by W.contents writer.old) (held_by W.contents writer.new)
-        (failures_of writer.old) (failures_of writer.new) }
+        (failures_of writer.old) (failures_of writer.new)
+        (HasFailedToWrite W.writes W.flushes (inner_of writer.new)) }
 {
     put(b"end ", writer)?;
     put(Buffer::new().format(number).as_bytes(), writer)

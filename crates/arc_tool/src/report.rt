@@ -1,7 +1,8 @@
 //! What is told on standard error, and the status with which the program ends.
 ghost use Rattle.std.specs.Prelude.{◌≡◌, ◌+◌, ◌-◌, ◌^◌, ◌<◌, ◌++◌, codes, decimal, IfErr, OnOk, OnErr};
 ghost use Rattle.std.specs.Io.KnownBytes.{Keeps};
-ghost use Rattle.arc_code.specs.Counting.{failures_of, held_by};
+ghost use Rattle.arc_code.specs.Attempts.{HasFailedToWrite};
+ghost use Rattle.arc_code.specs.Counting.{failures_of, inner_of, held_by};
 ghost use Rattle.arc_code.specs.Written.{Written};
 ghost use Rattle.arc_code.specs.Faulty as faulty;
 ghost use Rattle.arc_machine.specs.Told as stopped;
@@ -12,10 +13,10 @@ use crate::refusal::Refusal;
 use crate::run::ToolFault;
 use arc_code::code::IoFault;
 use arc_code::counted::Counted;
+use arc_code::device::Output;
 use arc_machine::fault::{fault_name, fault_number};
 use arc_spec::event::Fault;
 use itoa::Buffer;
-use std::io::Write;
 
 /// Why the program did not do what its words ask for.
 #[derive(Clone, Copy, Debug, PartialEq, Eq)]
@@ -93,22 +94,24 @@ pub fn status(trouble: &Trouble) -> u8
 }
 
 /// Tells the trouble in one line. The error is a failure of the writer; then some of the first bytes are written.
-pub fn tell<E: Write>(trouble: &Trouble, errors: &mut Counted<E>) -> Result<(), IoFault>
+pub fn tell<E: Output>(trouble: &Trouble, errors: &mut Counted<E>) -> Result<(), IoFault>
     requires { failures_of errors.old < 2 ^ 64 - 1 }
     ensures { Written result (line_of trouble.now)
         (held_by E.contents errors.old) (held_by E.contents errors.new)
-        (failures_of errors.old) (failures_of errors.new) }
+        (failures_of errors.old) (failures_of errors.new)
+        (HasFailedToWrite E.writes E.flushes (inner_of errors.new)) }
 {
     put(b"arcc: ", errors)?;
     put_message(trouble, errors)?;
     put(b"\n", errors)
 }
 
-fn put_message<E: Write>(trouble: &Trouble, errors: &mut Counted<E>) -> Result<(), IoFault>
+fn put_message<E: Output>(trouble: &Trouble, errors: &mut Counted<E>) -> Result<(), IoFault>
     requires { failures_of errors.old < 2 ^ 64 - 1 }
     ensures { Written result (message_of trouble.now)
         (held_by E.contents errors.old) (held_by E.contents errors.new)
-        (failures_of errors.old) (failures_of errors.new) }
+        (failures_of errors.old) (failures_of errors.new)
+        (HasFailedToWrite E.writes E.flushes (inner_of errors.new)) }
 {
     match trouble {
         Trouble::Usage => put(b"usage: check, run, trace or code, and FILE", errors),
@@ -123,32 +126,35 @@ fn put_message<E: Write>(trouble: &Trouble, errors: &mut Counted<E>) -> Result<(
 }
 
 /// Writes why a program was stopped.
-pub(crate) fn put_fault<W: Write>(fault: Fault, writer: &mut Counted<W>) -> Result<(), IoFault>
+pub(crate) fn put_fault<W: Output>(fault: Fault, writer: &mut Counted<W>) -> Result<(), IoFault>
     requires { failures_of writer.old < 2 ^ 64 - 1 }
     ensures { Written result (named (codes "fault ") (stopped.number_of fault) (stopped.name_of fault))
         (held_by W.contents writer.old) (held_by W.contents writer.new)
-        (failures_of writer.old) (failures_of writer.new) }
+        (failures_of writer.old) (failures_of writer.new)
+        (HasFailedToWrite W.writes W.flushes (inner_of writer.new)) }
 {
     let name = fault_name(fault).as_bytes();
     put_named(b"fault ", fault_number(fault) as u64, name, writer)
 }
 
 /// Writes which device failed.
-pub(crate) fn put_broken<W: Write>(fault: IoFault, writer: &mut Counted<W>) -> Result<(), IoFault>
+pub(crate) fn put_broken<W: Output>(fault: IoFault, writer: &mut Counted<W>) -> Result<(), IoFault>
     requires { failures_of writer.old < 2 ^ 64 - 1 }
     ensures { Written result (named (codes "io ") (faulty.fault_number fault) (faulty.fault_name fault))
         (held_by W.contents writer.old) (held_by W.contents writer.new)
-        (failures_of writer.old) (failures_of writer.new) }
+        (failures_of writer.old) (failures_of writer.new)
+        (HasFailedToWrite W.writes W.flushes (inner_of writer.new)) }
 {
     let name = fault.name().as_bytes();
     put_named(b"io ", fault.number() as u64, name, writer)
 }
 
-fn put_refusal<E: Write>(refusal: &Refusal, errors: &mut Counted<E>) -> Result<(), IoFault>
+fn put_refusal<E: Output>(refusal: &Refusal, errors: &mut Counted<E>) -> Result<(), IoFault>
     requires { failures_of errors.old < 2 ^ 64 - 1 }
     ensures { Written result (named (codes "refused ") refusal.now.number refusal.now.name.now ++ codes " at " ++ decimal refusal.now.at)
         (held_by E.contents errors.old) (held_by E.contents errors.new)
-        (failures_of errors.old) (failures_of errors.new) }
+        (failures_of errors.old) (failures_of errors.new)
+        (HasFailedToWrite E.writes E.flushes (inner_of errors.new)) }
 {
     let name = refusal.name.as_bytes();
     put_named(b"refused ", refusal.number as u64, name, errors)?;
@@ -157,7 +163,7 @@ fn put_refusal<E: Write>(refusal: &Refusal, errors: &mut Counted<E>) -> Result<(
 }
 
 /// Writes what kind of thing it is, and its number and name.
-pub(crate) fn put_named<W: Write>(
+pub(crate) fn put_named<W: Output>(
     kind: &[u8],
     number: u64,
     name: &[u8],
@@ -166,7 +172,8 @@ pub(crate) fn put_named<W: Write>(
     requires { failures_of writer.old < 2 ^ 64 - 1 }
     ensures { Written result (named kind.now number name.now)
         (held_by W.contents writer.old) (held_by W.contents writer.new)
-        (failures_of writer.old) (failures_of writer.new) }
+        (failures_of writer.old) (failures_of writer.new)
+        (HasFailedToWrite W.writes W.flushes (inner_of writer.new)) }
 {
     put(kind, writer)?;
     put_number(number, writer)?;
@@ -174,21 +181,23 @@ pub(crate) fn put_named<W: Write>(
     put(name, writer)
 }
 
-fn put_number<E: Write>(number: u64, errors: &mut Counted<E>) -> Result<(), IoFault>
+fn put_number<E: Output>(number: u64, errors: &mut Counted<E>) -> Result<(), IoFault>
     requires { failures_of errors.old < 2 ^ 64 - 1 }
     ensures { Written result (decimal number)
         (held_by E.contents errors.old) (held_by E.contents errors.new)
-        (failures_of errors.old) (failures_of errors.new) }
+        (failures_of errors.old) (failures_of errors.new)
+        (HasFailedToWrite E.writes E.flushes (inner_of errors.new)) }
 {
     put(Buffer::new().format(number).as_bytes(), errors)
 }
 
 /// Writes the bytes.
-pub fn put<E: Write>(bytes: &[u8], writer: &mut Counted<E>) -> Result<(), IoFault>
+pub fn put<E: Output>(bytes: &[u8], writer: &mut Counted<E>) -> Result<(), IoFault>
     requires { failures_of writer.old < 2 ^ 64 - 1 }
     ensures { Written result bytes.now
         (held_by E.contents writer.old) (held_by E.contents writer.new)
-        (failures_of writer.old) (failures_of writer.new) }
+        (failures_of writer.old) (failures_of writer.new)
+        (HasFailedToWrite E.writes E.flushes (inner_of writer.new)) }
 {
     match writer.put_all(bytes) {
         Ok(()) => Ok(()),
@@ -197,12 +206,13 @@ pub fn put<E: Write>(bytes: &[u8], writer: &mut Counted<E>) -> Result<(), IoFaul
 }
 
 /// Has the device pass on what it holds back. The error is a failure of the device.
-pub(crate) fn flush<W: Write>(writer: &mut Counted<W>) -> Result<(), IoFault>
+pub(crate) fn flush<W: Output>(writer: &mut Counted<W>) -> Result<(), IoFault>
     requires { failures_of writer.old < 2 ^ 64 - 1 }
     ensures kept { Keeps (held_by W.contents writer.old) (held_by W.contents writer.new) }
     ensures fine { OnOk result (failures_of writer.new ≡ failures_of writer.old) }
     ensures fault { IfErr result (λ f. f ≡ fault.Write) }
     ensures cause { OnErr result (failures_of writer.new ≡ failures_of writer.old + 1) }
+    ensures failed { OnErr result (HasFailedToWrite W.writes W.flushes (inner_of writer.new)) }
 {
     match writer.flush() {
         Ok(()) => Ok(()),

@@ -1,9 +1,9 @@
 //! The whole program, but for reading its file.
 ghost use Rattle.std.specs.Prelude.{◌≡◌, ◌-◌, ◌^◌, ◌<◌, ℕ, Result, Err};
-ghost use Rattle.arc_code.specs.Counting.{failures_of, left_in, held_by};
-ghost use Rattle.arc_code.specs.Written.{Written};
+ghost use Rattle.arc_code.specs.Attempts.{HasFailedToRead, HasFailedToWrite};
+ghost use Rattle.arc_code.specs.Counting.{failures_of, inner_of};
 ghost use Rattle.arc_tool.specs.declared.report.Trouble.{Trouble};
-ghost use Rattle.arc_tool.specs.Served.{Attempted, Blamed, Obeyed, Reported, Checks, Lists, source_or, ended_with};
+ghost use Rattle.arc_tool.specs.Served.{Attempted, Blamed, Obeyed, Prints, Reported, Checks, Lists, WriterBlamed, source_or, ended_with};
 
 use crate::compile::compile;
 use crate::report::{Trouble, flush, put, status, tell};
@@ -12,11 +12,11 @@ use crate::run::run_text;
 use crate::trace::trace_text;
 use arc_code::code::IoFault;
 use arc_code::counted::Counted;
+use arc_code::device::{Input, Output};
 use arc_code::lines::list;
 use arc_machine::stop::Stop;
 use arc_spec::number::low_byte;
 use std::alloc::Global;
-use std::io::{Read, Write};
 
 /// Why a source can't be read.
 #[derive(Clone, Copy, Debug, PartialEq, Eq)]
@@ -27,7 +27,7 @@ pub enum FileFault {
 
 /// Does what the words ask for with the bytes of their file, which aren't looked at where the words were refused, and gives the status
 /// with which the program ends. Trouble is told in one line on `errors`, whose failures are ignored.
-pub fn serve<R: Read, W: Write, E: Write>(
+pub fn serve<R: Input, W: Output, E: Output>(
     alloc: Global,
     words: Result<Words, WordsFault>,
     file: Result<&[u8], FileFault>,
@@ -38,13 +38,13 @@ pub fn serve<R: Read, W: Write, E: Write>(
     requires reads { failures_of input.old < 2 ^ 64 - 1 }
     requires writes { failures_of output.old < 2 ^ 64 - 1 }
     requires tells { failures_of errors.old < 2 ^ 64 - 1 }
-    ensures { (answer : Result ℕ Trouble) × Attempted words file.entry answer
-        (left_in R.remaining input.old) (left_in R.remaining input.new)
-        (held_by W.contents output.old) (held_by W.contents output.new)
-        (failures_of output.old) (failures_of output.new)
+    ensures { (answer : Result ℕ Trouble)
+        × Attempted R.remaining W.contents (HasFailedToWrite W.writes W.flushes (inner_of output.new))
+        words file.entry answer input.old input.new output.old output.new
         × Blamed answer (failures_of input.old) (failures_of input.new) (failures_of output.old) (failures_of output.new)
-        × Reported answer result (held_by E.contents errors.old) (held_by E.contents errors.new)
-        (failures_of errors.old) (failures_of errors.new) }
+        (HasFailedToRead R.reads (inner_of input.new)) (HasFailedToWrite W.writes W.flushes (inner_of output.new))
+        × Reported E.contents (HasFailedToWrite E.writes E.flushes (inner_of errors.new))
+        answer result errors.old errors.new }
 {
     match attempt(alloc, words, file, input, output) {
         Ok(status) => status,
@@ -53,14 +53,14 @@ pub fn serve<R: Read, W: Write, E: Write>(
 }
 
 /// Tells the trouble, and gives its status.
-fn report<E: Write>(trouble: &Trouble, errors: &mut Counted<E>) -> u8
+fn report<E: Output>(trouble: &Trouble, errors: &mut Counted<E>) -> u8
     requires { failures_of errors.old < 2 ^ 64 - 1 }
-    ensures { Reported (Err trouble.now) result (held_by E.contents errors.old) (held_by E.contents errors.new)
-        (failures_of errors.old) (failures_of errors.new) }
+    ensures { Reported E.contents (HasFailedToWrite E.writes E.flushes (inner_of errors.new))
+        (Err trouble.now) result errors.old errors.new }
 {
     match tell(trouble, errors) {
         Ok(()) => {
-            let _ = errors.flush();
+            let _ = flush(errors);
             status(trouble)
         }
         Err(_) => status(trouble),
@@ -68,7 +68,7 @@ fn report<E: Write>(trouble: &Trouble, errors: &mut Counted<E>) -> u8
 }
 
 /// The status where there is no trouble.
-fn attempt<R: Read, W: Write>(
+fn attempt<R: Input, W: Output>(
     alloc: Global,
     words: Result<Words, WordsFault>,
     file: Result<&[u8], FileFault>,
@@ -77,12 +77,11 @@ fn attempt<R: Read, W: Write>(
 ) -> Result<u8, Trouble>
     requires reads { failures_of input.old < 2 ^ 64 - 1 }
     requires writes { failures_of output.old < 2 ^ 64 - 1 }
-    ensures attempted { Attempted words file.entry result
-        (left_in R.remaining input.old) (left_in R.remaining input.new)
-        (held_by W.contents output.old) (held_by W.contents output.new)
-        (failures_of output.old) (failures_of output.new) }
+    ensures attempted { Attempted R.remaining W.contents (HasFailedToWrite W.writes W.flushes (inner_of output.new))
+        words file.entry result input.old input.new output.old output.new }
     ensures blamed { Blamed result (failures_of input.old) (failures_of input.new)
-        (failures_of output.old) (failures_of output.new) }
+        (failures_of output.old) (failures_of output.new)
+        (HasFailedToRead R.reads (inner_of input.new)) (HasFailedToWrite W.writes W.flushes (inner_of output.new)) }
 {
     match words {
         Ok(words) => {
@@ -110,7 +109,7 @@ fn source_of<'a>(file: Result<&'a [u8], FileFault>) -> Result<&'a [u8], Trouble>
 }
 
 /// Does what accepted words ask for.
-fn obey<R: Read, W: Write>(
+fn obey<R: Input, W: Output>(
     alloc: Global,
     words: &Words,
     source: &[u8],
@@ -119,12 +118,11 @@ fn obey<R: Read, W: Write>(
 ) -> Result<u8, Trouble>
     requires reads { failures_of input.old < 2 ^ 64 - 1 }
     requires writes { failures_of output.old < 2 ^ 64 - 1 }
-    ensures obeyed { Obeyed words.now.command source.now words.now.steps result
-        (left_in R.remaining input.old) (left_in R.remaining input.new)
-        (held_by W.contents output.old) (held_by W.contents output.new)
-        (failures_of output.old) (failures_of output.new) }
+    ensures obeyed { Obeyed R.remaining W.contents (HasFailedToWrite W.writes W.flushes (inner_of output.new))
+        words.now.command source.now words.now.steps result input.old input.new output.old output.new }
     ensures blamed { Blamed result (failures_of input.old) (failures_of input.new)
-        (failures_of output.old) (failures_of output.new) }
+        (failures_of output.old) (failures_of output.new)
+        (HasFailedToRead R.reads (inner_of input.new)) (HasFailedToWrite W.writes W.flushes (inner_of output.new)) }
 {
     match words.command {
         Command::Check => check_source(alloc, source, output),
@@ -141,15 +139,16 @@ fn obey<R: Read, W: Write>(
 }
 
 /// Says whether the source is a program.
-fn check_source<W: Write>(
+fn check_source<W: Output>(
     alloc: Global,
     source: &[u8],
     output: &mut Counted<W>,
 ) -> Result<u8, Trouble>
     requires { failures_of output.old < 2 ^ 64 - 1 }
-    ensures checks { Checks source.now result (held_by W.contents output.old) (held_by W.contents output.new)
-        (failures_of output.old) (failures_of output.new) }
-    ensures blamed { (reads : ℕ) → Blamed result reads reads (failures_of output.old) (failures_of output.new) }
+    ensures checks { Checks W.contents (HasFailedToWrite W.writes W.flushes (inner_of output.new))
+        source.now result output.old output.new }
+    ensures blamed { WriterBlamed result (failures_of output.old) (failures_of output.new)
+        (HasFailedToWrite W.writes W.flushes (inner_of output.new)) }
 {
     let _ = compile(alloc, source)?;
     print(b"ok\n", output)?;
@@ -157,14 +156,16 @@ fn check_source<W: Write>(
 }
 
 /// Lists the code of the source.
-fn list_source<W: Write>(
+fn list_source<W: Output>(
     alloc: Global,
     source: &[u8],
     output: &mut Counted<W>,
 ) -> Result<u8, Trouble>
     requires { failures_of output.old < 2 ^ 64 - 1 }
-    ensures lists { Lists source.now result (held_by W.contents output.old) (held_by W.contents output.new) }
-    ensures blamed { (reads : ℕ) → Blamed result reads reads (failures_of output.old) (failures_of output.new) }
+    ensures lists { Lists W.contents (HasFailedToWrite W.writes W.flushes (inner_of output.new))
+        source.now result output.old output.new }
+    ensures blamed { WriterBlamed result (failures_of output.old) (failures_of output.new)
+        (HasFailedToWrite W.writes W.flushes (inner_of output.new)) }
 {
     let code = compile(alloc, source)?;
     list(&code, output)?;
@@ -185,10 +186,10 @@ fn ended(stop: Stop) -> Result<u8, Trouble>
 }
 
 /// Writes the text, and has it passed on.
-fn print<W: Write>(text: &[u8], output: &mut Counted<W>) -> Result<(), IoFault>
+fn print<W: Output>(text: &[u8], output: &mut Counted<W>) -> Result<(), IoFault>
     requires { failures_of output.old < 2 ^ 64 - 1 }
-    ensures { Written result text.now (held_by W.contents output.old) (held_by W.contents output.new)
-        (failures_of output.old) (failures_of output.new) }
+    ensures { Prints W.contents (HasFailedToWrite W.writes W.flushes (inner_of output.new))
+        result text.now output.old output.new }
 {
     put(text, output)?;
     flush(output)

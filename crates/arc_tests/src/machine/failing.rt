@@ -1,16 +1,17 @@
 //! Machines on readers and writers that fail, and over a store that has too few blocks.
-ghost use Rattle.std.specs.Prelude.{◌≡◌, None};
+ghost use Rattle.std.specs.Prelude.{◌≡◌, ◌⊎◌, None};
 ghost use Rattle.arc_code.specs.Counting.{failures_of};
 
 use crate::devices::{Broken, unflushed, with_room};
 use crate::machine::programs::{PRINTING, machine_of};
 use arc_code::code::IoFault;
 use arc_code::counted::Counted;
+use arc_code::device::{Input, Output};
 use arc_heap::plain::PlainStore;
 use arc_heap::store::{Ref, Store};
 use arc_machine::stop::Stop;
+use arc_spec::event::Event;
 use std::alloc::Global;
-use std::io::{Read, Write};
 use std::test::Fail;
 
 /// A store that gives so many of another's blocks, and then no more.
@@ -24,6 +25,8 @@ impl<S: Store + Drop> Store for Few<S> {
     ghost out = { λ s. S.out s.store };
 
     ghost stock = { λ _. None };
+
+    ghost refuses = { λ old words new. (old.left ≡ 0) ⊎ S.refuses old.store words new.store };
 
     fn take(&mut self, words: usize) -> Option<Ref> {
         if self.left == 0 {
@@ -47,7 +50,7 @@ impl<S: Store + Drop> Store for Few<S> {
 }
 
 /// The failure that breaks the printing program on these devices, where a second run answers it again and makes no step.
-fn failure_of<R: Read, W: Write>(
+fn failure_of<R: Input, W: Output>(
     alloc: Global,
     reader: &mut Counted<R>,
     writer: &mut Counted<W>,
@@ -73,6 +76,17 @@ fn a_failing_writer_breaks_a_step(rt: HostRuntime) -> Result<(), Fail> {
     assert_eq!(rt; fault, Some(IoFault::Write));
     assert_eq!(rt; writer.failures(), 1);
     assert_eq!(rt; writer.get_ref().taken.as_slice(), b"ab".as_slice());
+    Ok(())
+}
+
+#[test]
+fn a_broken_step_has_the_events_that_it_gave(rt: HostRuntime) -> Result<(), Fail> {
+    let mut machine = machine_of(rt.alloc(), PRINTING, PlainStore::new(rt.alloc()))?;
+    let mut reader = Counted::new(b"".as_slice());
+    let mut writer = Counted::new(with_room(rt.alloc(), 2));
+    let stop = machine.run(1_000, &mut reader, &mut writer);
+    assert_eq!(rt; stop, Err(IoFault::Write));
+    assert_eq!(rt; machine.events(), [Event::Byte(b'a'), Event::Byte(b'b')].as_slice());
     Ok(())
 }
 

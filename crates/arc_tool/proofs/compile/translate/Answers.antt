@@ -6,7 +6,7 @@ use Rattle.arc_family.specs.Rules.{broken}
 use Rattle.arc_ir.specs.Acting as acting
 use Rattle.arc_code.specs.Running.{program_of}
 use Rattle.arc_tool.specs.Refused.{in_building, in_checking, in_owning, no_memory}
-use Rattle.arc_tool.proofs.Compiling.{compiled_named, not_emitted}
+use Rattle.arc_tool.proofs.Compiling.{accepted, compiled_named, not_emitted}
 use Rattle.arc_tool.proofs.compile.translate.Goals as goal
 
 pub returns-in_err-table-clause-refused : goal.returns-in_err-table-clause-refused
@@ -30,19 +30,23 @@ returns-in_err-owned-clause-refused c =
 pub returns-in_err-actions-clause-refused : goal.returns-in_err-actions-clause-refused
 returns-in_err-actions-clause-refused c =
     let p = err_from_is_err_and c.from_residual-in_err-actions.result c.from_residual-in_err-actions.ensures.1 in
-    rw p.1 (λ source s. no_memory p.2.name_is)
+    rw p.1 (λ source s. no_memory (accepted source c.args.unit.now c.in_ok-table.table c.in_ok-program.program
+    s c.in_ok-table.ensures.unbroken c.in_ok-table.ensures.table c.in_ok-program.ensures.unbroken
+    (ap unit_tree c.in_ok-program.ensures.source) c.in_ok-owned.ensures.accepted) p.2)
 
 pub returns-in_err-code-clause-refused : goal.returns-in_err-code-clause-refused
 returns-in_err-code-clause-refused c =
     let p = err_from_is_err_and c.from_residual-in_err-code.result c.from_residual-in_err-code.ensures.1 in
-    rw p.1 (λ source s. not_emitted source c.args.unit.now c.in_ok-table.table c.in_ok-program.program c.in_ok-owned.owned.program.now (acting.program_of c.in_ok-actions.actions)
-    s c.in_ok-table.ensures.unbroken c.in_ok-table.ensures.table c.in_ok-program.ensures.unbroken c.in_ok-program.ensures.resolved
+    rw p.1 (λ source s. not_emitted source c.args.unit.now c.in_ok-table.table c.in_ok-program.program
+    s c.in_ok-table.ensures.unbroken c.in_ok-table.ensures.table c.in_ok-program.ensures.unbroken
     (ap unit_tree c.in_ok-program.ensures.source) c.in_ok-owned.ensures.accepted
-    c.in_ok-owned.ensures.same c.in_ok-actions.ensures c.in_err-code.field-0.0 p.0 (λ e. c.in_err-code.ensures.large (ap Err e)) p.2)
+    c.in_ok-owned.owned.program.now (acting.program_of c.in_ok-actions.actions) c.in_ok-program.ensures.resolved
+    c.in_ok-owned.ensures.same c.in_ok-actions.ensures.performs c.in_ok-actions.ensures.exact c.in_err-code.field-0.0 p.0 (λ e. c.in_err-code.ensures.large (ap Err e)) p.2)
 
 pub returns-clause-compiled : goal.returns-clause-compiled
 returns-clause-compiled c = λ source s.
-    compiled_named source c.args.unit.now c.in_ok-table.table c.in_ok-program.program c.in_ok-owned.owned.program.now (acting.program_of c.in_ok-actions.actions)
-    s c.in_ok-table.ensures.unbroken c.in_ok-table.ensures.table c.in_ok-program.ensures.unbroken c.in_ok-program.ensures.resolved
+    compiled_named source c.args.unit.now c.in_ok-table.table c.in_ok-program.program
+    s c.in_ok-table.ensures.unbroken c.in_ok-table.ensures.table c.in_ok-program.ensures.unbroken
     (ap unit_tree c.in_ok-program.ensures.source) c.in_ok-owned.ensures.accepted
-    c.in_ok-owned.ensures.same c.in_ok-actions.ensures (program_of c.in_ok-code.code) c.in_ok-code.ensures.sound c.in_ok-code.ensures.refines c.in_ok-code.ensures.steady
+    c.in_ok-owned.owned.program.now (acting.program_of c.in_ok-actions.actions) c.in_ok-program.ensures.resolved
+    c.in_ok-owned.ensures.same c.in_ok-actions.ensures.performs c.in_ok-actions.ensures.exact (program_of c.in_ok-code.code) c.in_ok-code.ensures.sound c.in_ok-code.ensures.refines c.in_ok-code.ensures.steady

@@ -7,7 +7,7 @@ use Rattle.arc_tool.proofs.lines.put_end.Goals as goal
 pub returns-in_err-close : goal.returns-in_err-close
 returns-in_err-close g c =
     let p = err_from_is_err_and c.from_residual.result c.from_residual.ensures.1 in
-    rw (p.1, p.2) (wider _ _ _ _ _ (closing c.args.begun) (left_text c.args.left ++ codes "\n") c.in_err-close.ensures)
+    rw (p.1, p.2) (wider _ _ _ _ _ _ (closing c.args.begun) (left_text c.args.left ++ codes "\n") c.in_err-close.ensures)
 
 pub returns : goal.returns
-returns g c = (then_written _ _ _ _ _ _ _ (closing c.args.begun) (left_text c.args.left ++ codes "\n") c.in_ok-close.ensures c.put_last_line.ensures)
+returns g c = (then_written _ _ _ _ _ _ _ _ (closing c.args.begun) (left_text c.args.left ++ codes "\n") c.in_ok-close.ensures c.put_last_line.ensures)

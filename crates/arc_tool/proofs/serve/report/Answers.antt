@@ -1,9 +1,13 @@
-use Rattle.arc_code.specs.Counting.{failures_of, held_by}
-use Rattle.arc_tool.proofs.Serving.{told_whole}
+use Rattle.arc_code.specs.Attempts.{HasFailedToWrite}
+use Rattle.arc_code.specs.Counting.{failures_of, inner_of, held_by}
+use Rattle.arc_tool.specs.Status.{line_of}
+use Rattle.arc_tool.proofs.Flushing.{and_flushed}
 use Rattle.arc_tool.proofs.serve.report.Goals as goal
 
 pub returns-in-Ok : goal.returns-in-Ok
 returns-in-Ok g c =
-    let h = told_whole c.args.trouble.now (held_by g.E.Write.contents c.args.errors.now) (held_by g.E.Write.contents c.tell.new.errors) (held_by g.E.Write.contents c.flush.new.self)
-    (failures_of c.args.errors.now) (failures_of c.tell.new.errors) (failures_of c.flush.new.self) c.in-Ok.ensures c.flush.ensures.kept in
-    (c.status.ensures, h.1, h.2)
+    let held = held_by g.E.Output.contents in
+    let failed = HasFailedToWrite g.E.Output.writes g.E.Output.flushes (inner_of c.flush.new.writer) in
+    let all = and_flushed c.flush.result (line_of c.args.trouble.now) (held c.args.errors.now) (held c.tell.new.errors) (held c.flush.new.writer)
+    (failures_of c.args.errors.now) (failures_of c.tell.new.errors) (failures_of c.flush.new.writer) failed c.in-Ok.ensures c.flush.ensures.kept c.flush.ensures.fine c.flush.ensures.cause c.flush.ensures.failed in
+    (c.status.ensures, all)

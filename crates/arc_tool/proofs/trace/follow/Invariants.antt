@@ -2,11 +2,11 @@ use Rattle.std.proofs.Common.{◌≡◌, map}
 use Rattle.arc_code.specs.Counting.{failures_of, left_in, held_by}
 use Rattle.arc_machine.specs.declared.stop.Answer.TheVariants as answer
 use Rattle.arc_tool.specs.Accepted.{bytes_of_name}
-use Rattle.arc_tool.proofs.Showing.{Shows, plain_out}
+use Rattle.arc_tool.proofs.Showing.{Shows}
 use Rattle.arc_tool.proofs.trace.follow.Given as goal
 
 abbrev pub invariant-loop : goal.invariant-loop
 invariant-loop g l =
     (l.machine.steps ≡ l.counter) × (l.machine.answer ≡ answer.Going) × (failures_of l.reader ≡ failures_of l.fn.reader)
-    × Shows plain_out l.fn.machine.program (map bytes_of_name l.classes) l.machine l.begun
-    (left_in g.R.Read.remaining l.fn.reader) (left_in g.R.Read.remaining l.reader) (held_by g.W.Write.contents l.fn.writer) (held_by g.W.Write.contents l.writer) (failures_of l.fn.writer) (failures_of l.writer)
+    × Shows g.S.Store.out l.fn.machine.program (map bytes_of_name l.classes) l.machine l.begun
+    (left_in g.R.Input.remaining l.fn.reader) (left_in g.R.Input.remaining l.reader) (held_by g.W.Output.contents l.fn.writer) (held_by g.W.Output.contents l.writer) (failures_of l.fn.writer) (failures_of l.writer)

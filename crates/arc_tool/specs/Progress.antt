@@ -1,0 +1,26 @@
+-- Where a run of code is after some steps on an input.
+use Rattle.std.specs.Prelude.{◌≡◌, ℕ, List, [], ◌++◌, Some, slice_get}
+use Rattle.arc_spec.specs.Stepping.{Reached, Running, Ended, Faulted, Wedged, after_steps}
+use Rattle.arc_code.specs.declared.code.Op.TheVariants.{Alloc}
+use Rattle.arc_code.specs.Running.{Program, State, start, step}
+
+abbrev pub run_of : Program → (input : List ℕ) → (made : ℕ) → Reached State
+run_of p input made = after_steps (step p) made (Running start input [])
+
+-- what it has left of its input
+abbrev pub rest_of : {S : Type 0} → Reached S → List ℕ
+rest_of (Running s i t) = i
+rest_of (Ended n i t) = i
+rest_of (Faulted f i t) = i
+rest_of (Wedged i t) = i
+
+-- In so many steps it has taken exactly these bytes: of an input that begins with them, what is behind them is left.
+abbrev pub Takes : Program → (made : ℕ) → (taken rest : List ℕ) → Type 0
+Takes p made taken rest = rest_of (run_of p (taken ++ rest) made) ≡ rest
+
+-- it goes on at an instruction that makes an object
+abbrev pub MakesObject : Program → Reached State → Type 0
+MakesObject p (Running s i t) = slice_get p.ops s.at ≡ Some Alloc
+MakesObject p (Ended n i t) = ⊥
+MakesObject p (Faulted f i t) = ⊥
+MakesObject p (Wedged i t) = ⊥
