@@ -1,5 +1,5 @@
 -- Actions without where their bytes lie in memory.
-use Rattle.std.specs.Prelude.{ℕ, ℤ, List, [], ◌∷◌, ◌++◌, map}
+use Rattle.std.specs.Prelude.{ℕ, ℤ, List, map}
 use Rattle.arc_ast.specs.declared.tree.Kind.{Kind}
 use Rattle.arc_ast.specs.declared.tree.BinaryOperator.{BinaryOperator}
 use Rattle.arc_ir.specs.declared.action.Action.{Action}
@@ -76,12 +76,3 @@ order a.EndStep = EndStep
 
 abbrev pub orders : List Action → List Order
 orders actions = map order actions
-
--- the bytes that orders print as they are, one text behind the other
-abbrev pub text_of : Order → List ℕ
-text_of (PrintText bytes) = bytes
-text_of _ = []
-
-abbrev pub texts_of : List Order → List ℕ
-texts_of [] = []
-texts_of (o ∷ others) = text_of o ++ texts_of others

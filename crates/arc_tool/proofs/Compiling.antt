@@ -18,8 +18,6 @@ use Rattle.arc_spec.specs.Resolved as resolved
 use Rattle.arc_spec.specs.Correct.{Refines, Steady}
 use Rattle.arc_spec.proofs.Composition.{composed}
 use Rattle.arc_ir.specs.Acting as acting
-use Rattle.arc_ir.specs.declared.action.Action.{Action}
-use Rattle.arc_ir.specs.declared.action.Action.TheVariants as action
 use Rattle.arc_lower.specs.Order as order
 use Rattle.arc_lower.specs.Order.{orders}
 use Rattle.arc_lower.specs.Lowered.{lowered}
@@ -27,7 +25,7 @@ use Rattle.arc_lower.specs.Promise.{Performs, IsLowered}
 use Rattle.arc_emit.specs.declared.fault.EmitFault.{EmitFault}
 use Rattle.arc_emit.specs.declared.fault.EmitFault.TheVariants as f
 use Rattle.arc_emit.specs.Faults as emitting
-use Rattle.arc_emit.specs.Emitted.{text_of, texts_of, IsLarge}
+use Rattle.arc_emit.specs.Emitted.{IsLarge}
 use Rattle.arc_code.specs.Running.{Program, seen, IsSound}
 use Rattle.arc_tool.specs.declared.refusal.Refusal.{Refusal}
 use Rattle.arc_tool.specs.Accepted.{Spelled, Accepted, program_meant, meant, Compiles, CompilesNamed, class_names}
@@ -40,19 +38,10 @@ passed source items these_tokens same h = subst (λ ts. Tokens source (toks ts))
 
 -- ---- how large a program is
 
-same_text : (a : Action) → order.text_of (order.order a) ≡ text_of a
-same_text (action.PrintText bytes) = refl
-same_text _ = refl
-
-same_texts : (actions : List Action) → order.texts_of (orders actions) ≡ texts_of actions
-same_texts [] = refl
-same_texts (a ∷ others) = ap (λ t. t ++ order.texts_of (orders others)) (same_text a) ∙ ap (λ t. text_of a ++ t) (same_texts others)
-
 too_many : (P : resolved.Program) (actions : acting.Program) → orders actions.actions ≡ lowered P → IsLarge actions → IsTooLarge P
 too_many P actions is large =
     let many : length (lowered P) ≡ length actions.actions = ap length (sym is) ∙ length-map actions.actions order.order in
-    let long : length (order.texts_of (lowered P)) ≡ length (texts_of actions.actions) = ap (λ l. length (order.texts_of l)) (sym is) ∙ ap length (same_texts actions.actions) in
-    omega (arith, many, long, large)
+    omega (arith, many, large)
 
 -- ---- the stages
 

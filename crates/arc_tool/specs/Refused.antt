@@ -1,5 +1,5 @@
 -- When a source is refused, and by which stage: the first one that finds something to refuse.
-use Rattle.std.specs.Prelude.{◌≡◌, ℕ, ◌+◌, ◌<◌, List, [], length, codes}
+use Rattle.std.specs.Prelude.{◌≡◌, ℕ, ◌<◌, List, [], length, codes}
 use Rattle.arc_lex.specs.Tokens.{Tok}
 use Rattle.arc_lex.specs.Source.{Tokens}
 use Rattle.arc_lex.specs.declared.fault.LexFault.{LexFault}
@@ -25,15 +25,15 @@ use Rattle.arc_fault.specs.Own as own_fault
 use Rattle.arc_family.specs.Fault as owning
 use Rattle.arc_family.specs.Rules as ownership
 use Rattle.arc_spec.specs.Resolved as resolved
-use Rattle.arc_lower.specs.Order.{texts_of}
 use Rattle.arc_lower.specs.Lowered.{lowered}
+use Rattle.arc_emit.specs.Emitted.{most_ops}
 use Rattle.arc_tool.specs.declared.refusal.Refusal.{Refusal}
 use Rattle.arc_tool.specs.Accepted.{Accepted, program_meant}
 use Rattle.arc_tool.specs.Told.{Tells}
 
--- the actions that the program becomes, and the bytes of their texts, are together more than this
+-- the program becomes more actions than code may have instructions
 abbrev pub IsTooLarge : resolved.Program → Type 0
-IsTooLarge P = 1048576 < length (lowered P) + length (texts_of (lowered P))
+IsTooLarge P = most_ops < length (lowered P)
 
 -- The refusal tells the fault of a stage, all stages before which have nothing to refuse. A stage to which memory is refused has a fault of its own for that, which says no more of the source.
 pub data IsRefusal (source : List ℕ) (r : Refusal) : Type 0 where
