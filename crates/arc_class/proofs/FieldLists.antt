@@ -3,7 +3,7 @@ use Rattle.std.proofs.Common.{◌≡◌, ℕ, zero, suc, ◌+◌, ◌-◌, ◌<�
 use Rattle.std.proofs.Math.Path.{fun_ext}
 use Rattle.std.proofs.lemmas.Bool.Decides.{nat_tests, Decides-ltb}
 use Rattle.std.proofs.lemmas.List.{length-map, length-append}
-use Rattle.std.proofs.lemmas.Option.{slice_get-map}
+use Rattle.std.proofs.lemmas.Option.{slice_get-map, none-some}
 use Rattle.std.specs.BTreeMap.{BTreeMap}
 use Rattle.std.specs.Borrow.{Bor}
 use Rattle.std.specs.Str.{bytes_eq}
@@ -11,14 +11,14 @@ use Rattle.arc_ast.specs.Tree.{FieldTree, InterfaceTree, UnitTree}
 use Rattle.arc_class.specs.declared.fields.ClassFields.{ClassFields}
 use Rattle.arc_class.specs.declared.table.Field.{Field}
 use Rattle.arc_class.specs.declared.table.FoundField.{FoundField}
-use Rattle.arc_class.specs.ClassRules.{field_place, fields_in_braces, fields_of_interface, class_above, broken_pairs}
+use Rattle.arc_class.specs.ClassRules.{field_place, least, inherited_place}
 use Rattle.arc_class.specs.Classes.{class_number, superclass, superclass_of, or_then, nearest}
-use Rattle.arc_class.specs.Entries.{FieldsTree, fields_tree, root_fields, class_fields, class_fields_from, class_fields_with, all_class_fields, count_at, count_among, fields_at}
-use Rattle.arc_class.specs.Fields.{ClassField, fields_added, fields_declared, fields_of, own_fields, owned, fields_below, inherited_below, fields, all_fields_from, inherited, numbered, own_field, known_field}
-use Rattle.arc_class.specs.Table.{at_name, own_field_in, superclass_of_fields, field_among, list_of, list_at, list_among}
+use Rattle.arc_class.specs.Entries.{FieldsTree, fields_tree, root_fields, class_fields, class_fields_from, class_fields_with, all_class_fields, count_at, count_among}
+use Rattle.arc_class.specs.Fields.{ClassField, fields_declared, fields_of, own_fields, owned, fields_below, inherited_below, fields, all_fields_from, inherited, numbered, own_field, known_field}
+use Rattle.arc_class.specs.Table.{at_name, own_field_in, own_place_in, superclass_of_fields, field_among, place_among, list_of, list_at, list_among}
 use Rattle.arc_class.proofs.Parts.{kept_none}
+use Rattle.arc_class.proofs.Leasts.{least_same, nearest_least}
 use Rattle.arc_class.proofs.Results.{nearest_same}
-use Rattle.arc_class.proofs.Rules.{no_pairs}
 
 same : (n : ℕ) → nat_eq n n ≡ true
 same n = grind (arith, nat_tests)
@@ -93,17 +93,20 @@ root_is places named p n =
 abbrev whole : Option ℕ → (List ℕ → Option ℕ) → (List ℕ → Option FoundField) → ℕ → FieldsTree
 whole superclass places named count = record { superclass = superclass; places = places; named = named; count = count }
 
--- those of a class, by the maps that are made
-pub fields_made : (u : UnitTree) (class inherited next count : ℕ) (i : InterfaceTree) (superclass : Option ℕ) (places : BTreeMap (Bor (List ℕ)) ℕ) (named : BTreeMap (Bor (List ℕ)) FoundField)
-    → superclass ≡ class_number u.interfaces i.superclass → ((name : List ℕ) → at_name places name ≡ field_place name i.fields)
-    → ((name : List ℕ) → at_name named name ≡ or_then (numbered class inherited i.fields name) (numbered class next (fields_added u class i) name))
-    → next ≡ inherited + length i.fields → count ≡ next + length (fields_added u class i)
+-- those of a class, by the maps that are made of its fields in two parts
+pub fields_made : (u : UnitTree) (class inherited next count : ℕ) (i : InterfaceTree) (xs ys : List FieldTree) (superclass : Option ℕ) (places : BTreeMap (Bor (List ℕ)) ℕ) (named : BTreeMap (Bor (List ℕ)) FoundField)
+    → superclass ≡ class_number u.interfaces i.superclass → xs ++ ys ≡ fields_declared u class i → ((name : List ℕ) → at_name places name ≡ field_place name (xs ++ ys))
+    → ((name : List ℕ) → at_name named name ≡ or_then (numbered class inherited xs name) (numbered class next ys name))
+    → next ≡ inherited + length xs → count ≡ next + length ys
     → fields_tree (record { superclass = superclass; places = places; named = named; count = count }) ≡ class_fields_with u class inherited i
-fields_made u class inherited next count i superclass places named s p n e c =
-    ap (λ o. whole o (at_name places) (at_name named) count) s ∙ ap (λ f. whole (class_number u.interfaces i.superclass) f (at_name named) count) (fun_ext p)
-    ∙ ap (λ f. whole (class_number u.interfaces i.superclass) (λ name. field_place name i.fields) f count) (fun_ext (λ name. n name
-    ∙ ap (λ m. or_then (numbered class inherited i.fields name) (numbered class m (fields_added u class i) name)) e ∙ sym (numbered_append class inherited i.fields (fields_added u class i) name)))
-    ∙ ap (whole (class_number u.interfaces i.superclass) (λ name. field_place name i.fields) (numbered class inherited (fields_declared u class i))) (omega (arith, c, e, length-append i.fields (fields_added u class i)))
+fields_made u class inherited next count i xs ys superclass places named s d p n e c =
+    let above = class_number u.interfaces i.superclass in
+    let own = fields_declared u class i in
+    let total : count ≡ inherited + length own = omega (arith, c, e, length-append xs ys, ap length d) in
+    ap (λ o. whole o (at_name places) (at_name named) count) s ∙ ap (λ f. whole above f (at_name named) count) (fun_ext (λ name. p name ∙ ap (field_place name) d))
+    ∙ ap (λ f. whole above (λ name. field_place name own) f count) (fun_ext (λ name. n name
+    ∙ ap (λ m. or_then (numbered class inherited xs name) (numbered class m ys name)) e ∙ sym (numbered_append class inherited xs ys name) ∙ ap (λ fs. numbered class inherited fs name) d))
+    ∙ ap (whole above (λ name. field_place name own) (numbered class inherited own)) total
   where
     numbered_append : (owner k : ℕ) (xs ys : List FieldTree) (name : List ℕ) → numbered owner k (xs ++ ys) name ≡ or_then (numbered owner k xs name) (numbered owner (k + length xs) ys name)
     numbered_append owner k [] ys name = ap (λ m. numbered owner m ys name) (omega arith)
@@ -161,13 +164,28 @@ said_named u (suc n) name = ap (λ t. named_said t name) (said u n) ∙ go (slic
     go (Some i) e = sym (ap (λ s. numbered (suc n) (length (inherited_below (suc n) u s)) (own_fields u (suc n)) name) (superclass_here u n i e)
         ∙ ap (λ fs. numbered (suc n) (length (inherited_below (suc n) u (class_number u.interfaces i.superclass))) fs name) (own_here u n i e))
 
-said_places : (u : UnitTree) (class : ℕ) (name : List ℕ) → places_said (slice_get (all_class_fields u) class) name ≡ field_place name (fields_of_interface u (Some class))
+said_places : (u : UnitTree) (class : ℕ) (name : List ℕ) → places_said (slice_get (all_class_fields u) class) name ≡ field_place name (own_fields u class)
 said_places u zero name = refl
 said_places u (suc n) name = ap (λ t. places_said t name) (said u n) ∙ go (slice_get u.interfaces n)
   where
-    go : (o : Option InterfaceTree) → places_said (option_map (class_fields u (suc n)) o) name ≡ field_place name (fields_in_braces o)
+    go : (o : Option InterfaceTree) → places_said (option_map (class_fields u (suc n)) o) name ≡ field_place name (fields_of u (suc n) o)
     go None = refl
     go (Some i) = refl
+
+-- a class that has no field of a name has no place of one
+not_numbered : (owner k : ℕ) (xs : List FieldTree) (name : List ℕ) → numbered owner k xs name ≡ None → field_place name xs ≡ None
+not_numbered owner k [] name e = refl
+not_numbered owner k (x ∷ xs) name e = go (bytes_eq name x.name) e (not_numbered owner (suc k) xs name)
+  where
+    go : (b : Bool) → (if b then Some (record { owner = record { 0 = owner }; index = k; visibility = x.visibility }) else numbered owner (suc k) xs name) ≡ None
+        → (numbered owner (suc k) xs name ≡ None → field_place name xs ≡ None) → (if b then Some x.at else field_place name xs) ≡ None
+    go true h more = absurd (none-some _ (sym h))
+    go false h more = more h
+
+pub not_inherited : (u : UnitTree) (from : Option ℕ) (name : List ℕ) → known_field u from name ≡ None → inherited_place u from name ≡ None
+not_inherited u from name e =
+    nearest_least (length u.interfaces) (superclass u.interfaces) (λ class. own_field u class name) (λ class. field_place name (own_fields u class))
+    (λ class h. not_numbered class (length (inherited u class)) (own_fields u class) name h) from e
 
 slice_past : {X : Type 0} (xs : List X) (n : ℕ) → n < length xs → slice_get xs n ≡ None → ⊥
 slice_past [] n l e = omega (arith, l)
@@ -221,28 +239,20 @@ module _ (u : UnitTree) (all : List ClassFields) (e : map fields_tree all ≡ al
       ∙ nearest_same (length u.interfaces) (superclass_of_fields all) (superclass u.interfaces) (λ class. own_field_in (slice_get all class) name) (λ class. own_field u class name) from
       (fun_ext superclass_kept) (fun_ext (λ class. own_kept class name))
 
-  -- of a class that is known
-  pub above_kept : (class : Option ℕ) (x : ClassFields) → fields_at all class ≡ Some x → x.superclass ≡ class_above u class
-  above_kept None x h = cc
-  above_kept (Some n) x h = sym (ap superclass_said (ap (option_map fields_tree) h)) ∙ ap superclass_said (tree_at u all n e) ∙ said_superclass u n
-
-  pub places_kept : (class : Option ℕ) (x : ClassFields) → fields_at all class ≡ Some x → (name : List ℕ) → at_name x.places name ≡ field_place name (fields_of_interface u class)
-  places_kept None x h name = cc
-  places_kept (Some n) x h name = sym (ap (λ t. places_said t name) (ap (option_map fields_tree) h)) ∙ ap (λ t. places_said t name) (tree_at u all n e) ∙ said_places u n name
-
-  -- of one that isn't, nothing is
-  pub above_gone : (class : Option ℕ) → fields_at all class ≡ None → class_above u class ≡ None
-  above_gone None h = refl
-  above_gone (Some n) h = sym (sym (ap superclass_said (ap (option_map fields_tree) h)) ∙ ap superclass_said (tree_at u all n e) ∙ said_superclass u n)
-
-  pub pairs_gone : (class : Option ℕ) → fields_at all class ≡ None → (xs : List FieldTree) → broken_pairs (fields_of_interface u class) xs ≡ []
-  pairs_gone None h xs = no_pairs xs
-  pairs_gone (Some zero) h xs = no_pairs xs
-  pairs_gone (Some (suc n)) h xs = go (slice_get u.interfaces n) (sym (sym (ap (option_map fields_tree) h) ∙ tree_at u all (suc n) e ∙ said u n))
+  place_kept : (class : ℕ) (name : List ℕ) → own_place_in (slice_get all class) name ≡ field_place name (own_fields u class)
+  place_kept class name = go (slice_get all class) ∙ ap (λ t. places_said t name) (tree_at u all class e) ∙ said_places u class name
     where
-      go : (o : Option InterfaceTree) → option_map (class_fields u (suc n)) o ≡ None → broken_pairs (fields_in_braces o) xs ≡ []
-      go None t = no_pairs xs
-      go (Some i) t = cc
+      go : (o : Option ClassFields) → own_place_in o name ≡ places_said (option_map fields_tree o) name
+      go None = refl
+      go (Some x) = refl
+
+  -- and so is the least place
+  pub least_kept : (from : Option ℕ) (name : List ℕ) → place_among all from name ≡ inherited_place u from name
+  least_kept from name =
+      let fewer : length all - 1 ≡ length u.interfaces = omega (arith, length_kept) in
+      ap (λ n. least n (superclass_of_fields all) (λ class. own_place_in (slice_get all class) name) from) fewer
+      ∙ least_same (length u.interfaces) (superclass_of_fields all) (superclass u.interfaces) (λ class. own_place_in (slice_get all class) name) (λ class. field_place name (own_fields u class)) from
+      (fun_ext superclass_kept) (fun_ext (λ class. place_kept class name))
 
 -- ---- one class more
 

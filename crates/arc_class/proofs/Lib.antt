@@ -6,6 +6,7 @@ pub mod Walks
 pub mod Looks
 pub mod Answering
 pub mod Results
+pub mod Leasts
 pub mod Keeping
 pub mod Rules
 pub mod Parts

@@ -1,5 +1,5 @@
 -- The parts of a table, one class or one method more.
-use Rattle.std.proofs.Common.{◌≡◌, ℕ, ◌+◌, Bool, true, false, List, [], ◌∷◌, ◌++◌, length, map, Option, Some, None, option_map, if◌then◌else◌, append_assoc, refl, sym, ap, ◌∙◌}
+use Rattle.std.proofs.Common.{◌≡◌, ℕ, ◌+◌, Bool, true, false, List, [], ◌∷◌, ◌++◌, length, map, nat_lt, Option, Some, None, option_map, if◌then◌else◌, append_assoc, refl, sym, ap, ◌∙◌}
 use Rattle.std.proofs.lemmas.List.{length-append, map_push}
 use Rattle.std.proofs.Math.Path.{fun_ext}
 use Rattle.std.specs.BTreeMap.{BTreeMap}
@@ -14,7 +14,7 @@ use Rattle.arc_spec.specs.Classes.{Class}
 use Rattle.arc_class.specs.declared.heads.Heads.{Heads}
 use Rattle.arc_class.specs.Classes.{first_head, heads, result_of, defined_by, class_number}
 use Rattle.arc_class.specs.Entries.{EntryTree, entry_tree, root_entry, class_entry}
-use Rattle.arc_class.specs.Fields.{fields_by}
+use Rattle.arc_class.specs.Fields.{fields_by, implemented_before}
 use Rattle.arc_class.specs.Kept.{head_in}
 use Rattle.arc_class.specs.Running.{implemented, methods_of, dealloc_of, implementation_of, class_with}
 use Rattle.arc_class.specs.Table.{at_name, head_at, result_at}
@@ -62,6 +62,20 @@ fields_kept n (i ∷ ims) name = go (bytes_eq name i.name) (fields_kept (n + len
   where
     go : (b : Bool) → fields_by ims name ≡ fields_at (implemented (n + length i.methods) ims name)
         → (if b then i.fields else fields_by ims name) ≡ fields_at (if b then Some (n, i) else implemented (n + length i.methods) ims name)
+    go true h = refl
+    go false h = h
+
+-- whether an implementation stands before a place
+abbrev pub before_at : Option (ℕ × ImplementationTree) → (at : ℕ) → Bool
+before_at None at = false
+before_at (Some p) at = nat_lt (p.1).at at
+
+pub before_kept : (n : ℕ) (ims : List ImplementationTree) (name : List ℕ) (at : ℕ) → implemented_before ims name at ≡ before_at (implemented n ims name) at
+before_kept n [] name at = refl
+before_kept n (i ∷ ims) name at = go (bytes_eq name i.name) (before_kept (n + length i.methods) ims name at)
+  where
+    go : (b : Bool) → implemented_before ims name at ≡ before_at (implemented (n + length i.methods) ims name) at
+        → (if b then nat_lt i.at at else implemented_before ims name at) ≡ before_at (if b then Some (n, i) else implemented (n + length i.methods) ims name) at
     go true h = refl
     go false h = h
 

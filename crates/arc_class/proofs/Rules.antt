@@ -1,5 +1,5 @@
 -- What is told of methods, interfaces and implementations, and one more.
-use Rattle.std.proofs.Common.{◌≡◌, ℕ, zero, suc, ◌+◌, ◌<◌, Bool, true, false, ◌||◌, List, [], ◌∷◌, ◌++◌, length, not, nat_lt, Option, Some, None, is_some, is_none, option_map, slice_get, if◌then◌else◌, take, drop, get_or, length-take-le, refl, sym, ap, ◌∙◌, arith}
+use Rattle.std.proofs.Common.{◌≡◌, ℕ, zero, suc, ◌+◌, ◌<◌, Bool, true, false, ◌||◌, List, [], ◌∷◌, ◌++◌, length, not, nat_lt, Option, Some, None, is_some, is_none, option_map, slice_get, if◌then◌else◌, take, drop, get_or, length-take-le, append_assoc, refl, sym, ap, ◌∙◌, arith}
 use Rattle.std.proofs.lemmas.List.{take_more}
 use Rattle.std.specs.Str.{bytes_eq}
 use Rattle.std.specs.BTreeMap.{BTreeMap}
@@ -18,9 +18,8 @@ use Rattle.arc_class.specs.declared.kept.Implemented.{Implemented}
 use Rattle.arc_class.specs.declared.table.Place.{Place}
 use Rattle.arc_class.specs.Bodies.{Missing, and_name, broken_if, no_name, names_taken, broken_parameters, broken_stmts}
 use Rattle.arc_class.specs.Broken.{Broken, first, earlier_of}
-use Rattle.arc_class.specs.ClassRules.{broken_head, broken_heads, broken_inside, broken_method, broken_methods, broken_fields, broken_pair, broken_pairs, field_place, is_earlier, broken_interface, broken_interfaces, broken_implementation, broken_implementations, is_implemented, interface_before, class_before, named_as_classes}
+use Rattle.arc_class.specs.ClassRules.{broken_head, broken_heads, broken_inside, broken_method, broken_methods, broken_field, broken_fields, field_place, broken_interface, broken_interfaces, broken_implementation, broken_implementations, is_implemented, interface_before, class_before, named_as_classes}
 use Rattle.arc_class.specs.Classes.{heads, first_head, interface_number, class_number, is_root, or_then}
-use Rattle.arc_class.specs.Fields.{known_field}
 use Rattle.arc_class.specs.Kept.{place_before, places, implemented_tree}
 use Rattle.arc_class.specs.Running.{implemented}
 use Rattle.arc_class.specs.Table.{at_name, class_number_in}
@@ -177,23 +176,26 @@ abbrev pub field_at : Field → FieldTree
 field_at f = record { at = f.at; name = f.name.items; visibility = f.visibility }
 
 pub fields_turn : (u : UnitTree) (above : Option ℕ) (all : List FieldTree) (xs : List Field) (k : ℕ) (x : Field) (so_far one now whole : Option Broken) → k < length xs → x ≡ get_or xs k x
-    → one ≡ first (broken_if (is_some (known_field u above x.name.items) || is_earlier (field_place x.name.items all) x.at) x.at 21) → now ≡ earlier_of so_far one
+    → one ≡ first (broken_field u above all x.at x.name.items) → now ≡ earlier_of so_far one
     → whole ≡ earlier_of so_far (first (broken_fields u above all (field_trees (drop k xs)))) → whole ≡ earlier_of now (first (broken_fields u above all (field_trees (drop (k + 1) xs))))
 fields_turn u above all xs k x so_far one now whole l e o n w =
-    first_turn (broken_if (is_some (known_field u above x.name.items) || is_earlier (field_place x.name.items all) x.at) x.at 21) (broken_fields u above all (field_trees (drop (k + 1) xs))) so_far one now whole o n
+    first_turn (broken_field u above all x.at x.name.items) (broken_fields u above all (field_trees (drop (k + 1) xs))) so_far one now whole o n
     (w ∙ ap (λ us. earlier_of so_far (first (broken_fields u above all (field_trees us)))) (drop_turn xs k x l e))
 
-pub pairs_turn : (all : List FieldTree) (xs : List Field) (k : ℕ) (x : Field) (so_far one now whole : Option Broken) → k < length xs → x ≡ get_or xs k x
-    → one ≡ first (broken_pair (field_place x.name.items all) x.at) → now ≡ earlier_of so_far one
-    → whole ≡ earlier_of so_far (first (broken_pairs all (field_trees (drop k xs)))) → whole ≡ earlier_of now (first (broken_pairs all (field_trees (drop (k + 1) xs))))
-pairs_turn all xs k x so_far one now whole l e o n w =
-    first_turn (broken_pair (field_place x.name.items all) x.at) (broken_pairs all (field_trees (drop (k + 1) xs))) so_far one now whole o n
-    (w ∙ ap (λ us. earlier_of so_far (first (broken_pairs all (field_trees us)))) (drop_turn xs k x l e))
+pub broken_fields-append : (u : UnitTree) (above : Option ℕ) (all xs ys : List FieldTree) → broken_fields u above all (xs ++ ys) ≡ broken_fields u above all xs ++ broken_fields u above all ys
+broken_fields-append u above all [] ys = refl
+broken_fields-append u above all (x ∷ xs) ys =
+    ap (λ bs. broken_field u above all x.at x.name ++ bs) (broken_fields-append u above all xs ys)
+    ∙ sym (append_assoc (broken_field u above all x.at x.name) (broken_fields u above all xs) (broken_fields u above all ys))
 
--- no field is told of two where the interface has none
-pub no_pairs : (xs : List FieldTree) → broken_pairs [] xs ≡ []
-no_pairs [] = refl
-no_pairs (x ∷ xs) = no_pairs xs
+pub field_place-append : (name : List ℕ) (xs ys : List FieldTree) → field_place name (xs ++ ys) ≡ or_then (field_place name xs) (field_place name ys)
+field_place-append name [] ys = refl
+field_place-append name (x ∷ xs) ys = go (bytes_eq name x.name) (field_place-append name xs ys)
+  where
+    go : (b : Bool) → field_place name (xs ++ ys) ≡ or_then (field_place name xs) (field_place name ys)
+        → (if b then Some x.at else field_place name (xs ++ ys)) ≡ or_then (if b then Some x.at else field_place name xs) (field_place name ys)
+    go true h = refl
+    go false h = h
 
 -- ---- interfaces
 

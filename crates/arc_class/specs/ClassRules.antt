@@ -1,5 +1,5 @@
 -- The rules for classes, their methods and their fields.
-use Rattle.std.specs.Prelude.{ℕ, zero, suc, Bool, false, ◌&&◌, ◌||◌, not, nat_lt, List, [], ◌∷◌, ◌++◌, length, Option, Some, None, is_some, is_none, codes, slice_get, if◌then◌else◌}
+use Rattle.std.specs.Prelude.{ℕ, zero, suc, Bool, false, ◌&&◌, ◌||◌, not, nat_lt, List, [], ◌∷◌, ◌++◌, length, Option, Some, None, is_some, is_none, codes, if◌then◌else◌}
 use Rattle.std.specs.Str.{bytes_eq}
 use Rattle.arc_ast.specs.declared.tree.Kind.{Kind}
 use Rattle.arc_ast.specs.declared.tree.Kind.TheVariants as k
@@ -9,7 +9,7 @@ use Rattle.arc_ast.specs.Tree.{FunctionTree, HeadTree, MethodTree, FieldTree, In
 use Rattle.arc_class.specs.Bodies.{Missing, broken_if, broken_parameters, broken_stmts, names_taken, no_name}
 use Rattle.arc_class.specs.Broken.{Broken}
 use Rattle.arc_class.specs.Classes.{is_root, interface_number, class_number, superclass, first_head, built_in_result, or_then, declared, defined}
-use Rattle.arc_class.specs.Fields.{fields, known_field}
+use Rattle.arc_class.specs.Fields.{own_fields, fields_declared, fields}
 use Rattle.arc_class.specs.Functions.{is_library, same_kind, lacks_body_in, broken_in_functions}
 use Rattle.arc_class.specs.Names.{first_named}
 
@@ -88,38 +88,39 @@ abbrev pub is_earlier : Option ℕ → ℕ → Bool
 is_earlier None at = false
 is_earlier (Some other) at = nat_lt other at
 
--- 21 Duplicate: a field with the name of one that its class inherits, or of an earlier one of these, at its name (OPL, "Instance Variables")
-abbrev pub broken_fields : UnitTree → (above : Option ℕ) → (all : List FieldTree) → List FieldTree → List Broken
-broken_fields u above all [] = []
-broken_fields u above all (f ∷ others) =
-    broken_if (is_some (known_field u above f.name) || is_earlier (field_place f.name all) f.at) f.at 21 ++ broken_fields u above all others
+-- the lesser of two places, where there are any
+abbrev pub least_of : Option ℕ → Option ℕ → Option ℕ
+least_of None b = b
+least_of (Some a) None = Some a
+least_of (Some a) (Some b) = Some (if nat_lt b a then b else a)
 
--- the same of a field of an implementation and one of its interface, told at the later one
+-- the least place that a class or one of the next n above it has
+abbrev pub least : (n : ℕ) → (above : ℕ → Option ℕ) → (own : ℕ → Option ℕ) → Option ℕ → Option ℕ
+least n above own None = None
+least zero above own (Some class) = own class
+least (suc n) above own (Some class) = least_of (own class) (least n above own (above class))
+
+-- the first by position of the fields with a name that a class and those above it declare
+abbrev pub inherited_place : UnitTree → (above : Option ℕ) → List ℕ → Option ℕ
+inherited_place u above name = least (length u.interfaces) (superclass u.interfaces) (λ class. field_place name (own_fields u class)) above
+
+-- two fields with one name, told at the second by position
 abbrev pub broken_pair : Option ℕ → ℕ → List Broken
 broken_pair None at = []
 broken_pair (Some other) at = record { at = if nat_lt at other then other else at; number = 21 } ∷ []
 
-abbrev pub broken_pairs : (declared : List FieldTree) → List FieldTree → List Broken
-broken_pairs declared [] = []
-broken_pairs declared (f ∷ others) = broken_pair (field_place f.name declared) f.at ++ broken_pairs declared others
+-- 21 Duplicate: of two fields with one name, of one class or of a class and one above it, the second by position, at its name (OPL, "Instance Variables"). These
+-- are a field's, where its class declares all of these.
+abbrev pub broken_field : UnitTree → (above : Option ℕ) → (all : List FieldTree) → (at : ℕ) → (name : List ℕ) → List Broken
+broken_field u above all at name = broken_if (is_earlier (field_place name all) at) at 21 ++ broken_pair (inherited_place u above name) at
+
+abbrev pub broken_fields : UnitTree → (above : Option ℕ) → (all : List FieldTree) → List FieldTree → List Broken
+broken_fields u above all [] = []
+broken_fields u above all (f ∷ others) = broken_field u above all f.at f.name ++ broken_fields u above all others
 
 -- 27 TooManyFields: a class whose objects have more than 120 fields, at its interface's name (this project's own limit)
 abbrev pub most_fields : ℕ
 most_fields = 120
-
--- the fields in the braces of the interface of a class, and the class above it
-abbrev pub fields_in_braces : Option InterfaceTree → List FieldTree
-fields_in_braces None = []
-fields_in_braces (Some i) = i.fields
-
-abbrev pub fields_of_interface : UnitTree → (class : Option ℕ) → List FieldTree
-fields_of_interface u None = []
-fields_of_interface u (Some zero) = []
-fields_of_interface u (Some (suc n)) = fields_in_braces (slice_get u.interfaces n)
-
-abbrev pub class_above : UnitTree → (class : Option ℕ) → Option ℕ
-class_above u None = None
-class_above u (Some n) = superclass u.interfaces n
 
 -- ---- classes
 
@@ -143,9 +144,11 @@ abbrev pub broken_names : UnitTree → (before : List InterfaceTree) → Interfa
 broken_names u before i = (broken_if (is_taken u before i) i.at 21 ++ broken_if (not (is_implemented u.implementations i.name)) i.at 26)
     ++ broken_if (is_none (class_number before i.superclass)) i.superclass_at 22
 
+abbrev pub broken_own_fields : UnitTree → (class : ℕ) → InterfaceTree → List Broken
+broken_own_fields u class i = broken_fields u (class_number u.interfaces i.superclass) (fields_declared u class i) (fields_declared u class i)
+
 abbrev pub broken_members : UnitTree → (class : ℕ) → InterfaceTree → List Broken
-broken_members u class i = broken_if (nat_lt most_fields (length (fields u class))) i.at 27
-    ++ (broken_fields u (class_number u.interfaces i.superclass) i.fields i.fields ++ broken_heads u i.methods)
+broken_members u class i = broken_if (nat_lt most_fields (length (fields u class))) i.at 27 ++ (broken_own_fields u class i ++ broken_heads u i.methods)
 
 abbrev pub broken_interface : UnitTree → (before : List InterfaceTree) → InterfaceTree → List Broken
 broken_interface u before i = broken_names u before i ++ broken_members u (suc (length before)) i
@@ -160,12 +163,9 @@ abbrev pub broken_own_names : UnitTree → (before : List ImplementationTree) �
 broken_own_names u before i =
     broken_if (is_root i.name || is_implemented before i.name) i.at 21 ++ broken_if (is_none (class_number u.interfaces i.name)) i.at 22
 
-abbrev pub broken_own_fields : UnitTree → (class : Option ℕ) → ImplementationTree → List Broken
-broken_own_fields u class i = broken_fields u (class_above u class) i.fields i.fields ++ broken_pairs (fields_of_interface u class) i.fields
-
+-- the fields of an implementation are told with those of its class's interface
 abbrev pub broken_implementation : UnitTree → Missing → (before : List ImplementationTree) → ImplementationTree → List Broken
-broken_implementation u missing before i =
-    (broken_own_names u before i ++ broken_own_fields u (class_number u.interfaces i.name) i) ++ broken_methods u missing [] i.methods
+broken_implementation u missing before i = broken_own_names u before i ++ broken_methods u missing [] i.methods
 
 abbrev pub broken_implementations : UnitTree → Missing → (before : List ImplementationTree) → List ImplementationTree → List Broken
 broken_implementations u missing before [] = []

@@ -1,9 +1,10 @@
 -- What the entries of a table say of classes.
-use Rattle.std.specs.Prelude.{ℕ, suc, ◌+◌, List, [], ◌∷◌, length, slice_get, Option, Some, None}
+use Rattle.std.specs.Prelude.{ℕ, suc, ◌+◌, List, [], ◌∷◌, ◌++◌, length, slice_get, Option, Some, None}
 use Rattle.arc_ast.specs.declared.tree.Kind.{Kind}
 use Rattle.arc_ast.specs.declared.tree.Sign.{Sign}
-use Rattle.arc_ast.specs.Tree.{InterfaceTree, UnitTree}
+use Rattle.arc_ast.specs.Tree.{FieldTree, InterfaceTree, UnitTree, field_trees}
 use Rattle.arc_class.specs.declared.fields.ClassFields.{ClassFields}
+use Rattle.arc_class.specs.declared.fields.OwnFields.{OwnFields}
 use Rattle.arc_class.specs.declared.table.Entry.{Entry}
 use Rattle.arc_class.specs.declared.table.FoundField.{FoundField}
 use Rattle.arc_class.specs.ClassRules.{field_place}
@@ -26,7 +27,11 @@ root_entry = record { superclass = None; results = λ sign selector. None }
 abbrev pub class_entry : UnitTree → InterfaceTree → EntryTree
 class_entry u i = record { superclass = class_number u.interfaces i.superclass; results = own_result u (Some i) }
 
--- a class's superclass, the places of the fields in its interface's braces, its own fields, and how many its objects have
+-- the fields that a class declares, without where they lie in memory
+abbrev pub own_trees : OwnFields → List FieldTree
+own_trees own = field_trees own.earlier.now ++ field_trees own.later.now
+
+-- a class's superclass, the place of its own first field with each name, its own fields, and how many its objects have
 pub record FieldsTree : Type 0 where
   pub superclass : Option ℕ
   pub places : List ℕ → Option ℕ
@@ -43,7 +48,7 @@ root_fields = record { superclass = None; places = λ name. None; named = λ nam
 abbrev pub class_fields_with : UnitTree → (class inherited : ℕ) → InterfaceTree → FieldsTree
 class_fields_with u class inherited i = record {
   superclass = class_number u.interfaces i.superclass;
-  places = λ name. field_place name i.fields;
+  places = λ name. field_place name (fields_declared u class i);
   named = numbered class inherited (fields_declared u class i);
   count = inherited + length (fields_declared u class i);
 }
@@ -67,8 +72,3 @@ count_at (Some c) = c.count
 abbrev pub count_among : List ClassFields → Option ℕ → ℕ
 count_among classes None = 0
 count_among classes (Some class) = count_at (slice_get classes class)
-
--- what is known of the fields of a class, if there is one
-abbrev pub fields_at : List ClassFields → Option ℕ → Option ClassFields
-fields_at classes None = None
-fields_at classes (Some class) = slice_get classes class

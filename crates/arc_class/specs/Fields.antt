@@ -1,5 +1,5 @@
 -- The fields of objects.
-use Rattle.std.specs.Prelude.{ℕ, zero, suc, Bool, false, List, [], ◌∷◌, ◌++◌, length, map, Option, Some, None, nat_eq, slice_get, if◌then◌else◌}
+use Rattle.std.specs.Prelude.{ℕ, zero, suc, Bool, false, List, [], ◌∷◌, ◌++◌, length, map, Option, Some, None, nat_eq, nat_lt, slice_get, if◌then◌else◌}
 use Rattle.std.specs.Str.{bytes_eq}
 use Rattle.arc_ast.specs.declared.tree.Kind.{Kind}
 use Rattle.arc_ast.specs.declared.tree.Kind.TheVariants as k
@@ -30,9 +30,16 @@ is_number class (Some n) = nat_eq n class
 abbrev pub fields_added : UnitTree → (class : ℕ) → InterfaceTree → List FieldTree
 fields_added u class i = if is_number class (class_number u.interfaces i.name) then fields_by u.implementations i.name else []
 
--- The fields that a class declares: those in its interface's braces, and then those in its implementation's (OPL, "Instance Variables").
+-- whether the first implementation with a name stands before a place
+abbrev pub implemented_before : List ImplementationTree → List ℕ → (at : ℕ) → Bool
+implemented_before [] name at = false
+implemented_before (i ∷ others) name at = if bytes_eq name i.name then nat_lt i.at at else implemented_before others name at
+
+-- The fields that a class declares, by position in the file: those in its interface's braces and those in its implementation's, of which either may stand first
+-- (OPL, "Instance Variables").
 abbrev pub fields_declared : UnitTree → (class : ℕ) → InterfaceTree → List FieldTree
-fields_declared u class i = i.fields ++ fields_added u class i
+fields_declared u class i =
+    if implemented_before u.implementations i.name i.at then fields_added u class i ++ i.fields else i.fields ++ fields_added u class i
 
 abbrev pub fields_of : UnitTree → (class : ℕ) → Option InterfaceTree → List FieldTree
 fields_of u class None = []

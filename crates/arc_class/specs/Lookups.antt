@@ -22,6 +22,7 @@ use Rattle.arc_class.specs.declared.table.MethodId.{MethodId}
 use Rattle.arc_class.specs.declared.table.Place.{Place}
 use Rattle.arc_class.specs.declared.table.Sel.{Sel}
 use Rattle.arc_class.specs.Classes.{is_root, nearest, built_in_result}
+use Rattle.arc_class.specs.ClassRules.{least}
 use Rattle.arc_class.specs.Fields.{ClassField}
 use Rattle.arc_class.specs.Running.{classes}
 
@@ -74,6 +75,11 @@ abbrev pub own_field_in : Option ClassFields → List ℕ → Option FoundField
 own_field_in None name = None
 own_field_in (Some c) name = at_name c.named name
 
+-- the place of the first field with a name that a class itself declares
+abbrev pub own_place_in : Option ClassFields → List ℕ → Option ℕ
+own_place_in None name = None
+own_place_in (Some c) name = at_name c.places name
+
 abbrev pub superclass_of_fields : List ClassFields → ℕ → Option ℕ
 superclass_of_fields classes class = superclass_at (slice_get classes class)
   where
@@ -83,6 +89,10 @@ superclass_of_fields classes class = superclass_at (slice_get classes class)
 
 abbrev pub field_among : List ClassFields → Option ℕ → List ℕ → Option FoundField
 field_among classes from name = nearest (length classes - 1) (superclass_of_fields classes) (λ class. own_field_in (slice_get classes class) name) from
+
+-- the first by position of the fields with a name that a class and those above it declare
+abbrev pub place_among : List ClassFields → Option ℕ → List ℕ → Option ℕ
+place_among classes from name = least (length classes - 1) (superclass_of_fields classes) (λ class. own_place_in (slice_get classes class) name) from
 
 -- a field, without where it lies in memory; and all of a class's objects
 abbrev pub field_tree : Field → ClassField

@@ -1,5 +1,5 @@
 -- What a table of a source is.
-pub use Rattle.arc_class.specs.Lookups.{number_of_class, number_of_selector, number_of_method, at_name, class_number_in, head_at, result_at, own_result_in, superclass_among, result_among, own_field_in, superclass_of_fields, field_among, field_tree, list_of, items_at, list_at, list_among, colons, superclass_of_class, dealloc_of_class, nearest_dealloc, ends_object, built_in_at, names_of, built_in_from}
+pub use Rattle.arc_class.specs.Lookups.{number_of_class, number_of_selector, number_of_method, at_name, class_number_in, head_at, result_at, own_result_in, superclass_among, result_among, own_field_in, own_place_in, superclass_of_fields, field_among, place_among, field_tree, list_of, items_at, list_at, list_among, colons, superclass_of_class, dealloc_of_class, nearest_dealloc, ends_object, built_in_at, names_of, built_in_from}
 use Rattle.std.specs.Prelude.{◌≡◌, ℕ, List, [], position, slice_get, Option, Some, None, if◌then◌else◌}
 use Rattle.std.specs.Str.{bytes_eq}
 use Rattle.std.specs.Borrow.{Bor}

@@ -6,14 +6,14 @@ ghost use Rattle.arc_class.specs.ClassRules as rules;
 ghost use Rattle.arc_class.specs.ClassRules.{broken_names, broken_members, broken_interfaces, broken_own_names, broken_own_fields, broken_implementations, named_as_classes, missing_of};
 ghost use Rattle.arc_class.specs.Classes as classes;
 ghost use Rattle.arc_class.specs.Classes.{interface_number};
-ghost use Rattle.arc_class.specs.Entries.{fields_tree, all_class_fields, fields_at};
+ghost use Rattle.arc_class.specs.Entries.{fields_tree, all_class_fields};
 ghost use Rattle.arc_class.specs.Fault.{told};
 ghost use Rattle.arc_class.specs.Kept.{Knows, place_before};
 ghost use Rattle.arc_class.specs.Owners.{TellsFields};
 ghost use Rattle.arc_class.specs.Walk.{holds};
 
 use crate::fault::{earlier, fault_if};
-use crate::fields::{ClassFields, count_among, field_places, fields_fault, pairs_fault};
+use crate::fields::{ClassFields, count_among, field_places, fields_fault};
 use crate::kept::Source;
 use crate::look::is_library;
 use crate::owners::Owners;
@@ -51,19 +51,6 @@ fn is_known<'a>(before: &Scope<'a>, name: &'a [u8]) -> bool
     ensures { result ≡ (classes.is_root name.now || holds before.now name.now) }
 {
     is_root(name) || stands(before, name)
-}
-
-/// What is known of the fields of the class, if there is one.
-fn known_fields<'a, 'b>(
-    fields: &'b [ClassFields<'a>],
-    class: Option<usize>,
-) -> Option<&'b ClassFields<'a>>
-    ensures { option_map (λ c. c.now) result ≡ fields_at fields.now class }
-{
-    match class {
-        None => None,
-        Some(number) => fields.get(number),
-    }
 }
 
 impl<'a> Source<'a> {
@@ -118,6 +105,28 @@ impl<'a> Source<'a> {
         earlier(name, above)
     }
 
+    /// The first rule that the fields break which the interface's class declares, which has this number.
+    fn own_fields_fault(
+        &self,
+        alloc: Global,
+        fields: &[ClassFields<'a>],
+        owners: &Owners<'a>,
+        class: usize,
+        interface: &'a Interface,
+    ) -> Result<Option<ClassFault>, AllocError>
+        requires knows { Knows (unit_tree self.now.unit.now) self.now }
+        requires fields { map fields_tree fields.now ≡ all_class_fields (unit_tree self.now.unit.now) }
+        requires owners { TellsFields fields.now owners.now }
+        ensures { IfOk result (λ fault. option_map told fault ≡ first (broken_own_fields (unit_tree self.now.unit.now) class (interface_tree interface.now))) }
+    {
+        let own = self.own_fields(class, interface);
+        let places = field_places(alloc, &own)?;
+        let above = class_number(&self.names, &interface.superclass);
+        let before = fields_fault(fields, owners, above, &places, own.earlier);
+        let behind = fields_fault(fields, owners, above, &places, own.later);
+        Ok(earlier(before, behind))
+    }
+
     /// The first rule that the members of an interface break, whose class has this number.
     fn members_fault(
         &self,
@@ -135,9 +144,7 @@ impl<'a> Source<'a> {
     {
         let many = count_among(fields, Some(class)) > MOST_FIELDS;
         let many = fault_if(many, ClassFault::TooManyFields(interface.at));
-        let places = field_places(alloc, &interface.fields)?;
-        let above = class_number(&self.names, &interface.superclass);
-        let again = fields_fault(fields, owners, above, &places, &interface.fields);
+        let again = self.own_fields_fault(alloc, fields, owners, class, interface)?;
         let inside = earlier(again, self.heads_fault(&interface.methods));
         Ok(earlier(many, inside))
     }
@@ -185,43 +192,9 @@ impl<'a> Source<'a> {
         )
     }
 
-    /// The first rule that the fields of an implementation break.
-    fn own_fields_fault(
-        &self,
-        alloc: Global,
-        fields: &[ClassFields<'a>],
-        owners: &Owners<'a>,
-        implementation: &'a Implementation,
-    ) -> Result<Option<ClassFault>, AllocError>
-        requires knows { Knows (unit_tree self.now.unit.now) self.now }
-        requires fields { map fields_tree fields.now ≡ all_class_fields (unit_tree self.now.unit.now) }
-        requires owners { TellsFields fields.now owners.now }
-        ensures { IfOk result (λ fault. option_map told fault ≡ first (broken_own_fields (unit_tree self.now.unit.now)
-            (classes.class_number (unit_tree self.now.unit.now).interfaces implementation.now.name.items) (implementation_tree implementation.now))) }
-    {
-        let own = &implementation.fields;
-        let places = field_places(alloc, own)?;
-        let class = known_fields(fields, class_number(&self.names, &implementation.name));
-        let Some(class) = class else {
-            return Ok(fields_fault(fields, owners, None, &places, own));
-        };
-        let pairs = pairs_fault(&class.places, own);
-        Ok(earlier(
-            fields_fault(fields, owners, class.superclass, &places, own),
-            pairs,
-        ))
-    }
-
     /// The first rule that the implementations break.
-    fn implementations_fault(
-        &self,
-        alloc: Global,
-        fields: &[ClassFields<'a>],
-        owners: &Owners<'a>,
-    ) -> Result<Option<ClassFault>, AllocError>
-        requires knows { Knows (unit_tree self.now.unit.now) self.now }
-        requires fields { map fields_tree fields.now ≡ all_class_fields (unit_tree self.now.unit.now) }
-        requires owners { TellsFields fields.now owners.now }
+    fn implementations_fault(&self, alloc: Global) -> Result<Option<ClassFault>, AllocError>
+        requires { Knows (unit_tree self.now.unit.now) self.now }
         ensures { IfOk result (λ fault. option_map told fault
             ≡ first (broken_implementations (unit_tree self.now.unit.now) (missing_of (unit_tree self.now.unit.now)) [] (unit_tree self.now.unit.now).implementations)) }
     {
@@ -229,9 +202,8 @@ impl<'a> Source<'a> {
         let mut fault = None;
         for implementation in &self.unit.implementations {
             let names = self.own_names_fault(&before, implementation);
-            let members = self.own_fields_fault(alloc, fields, owners, implementation)?;
             let methods = self.methods_fault(alloc, &implementation.methods)?;
-            fault = earlier(fault, earlier(earlier(names, members), methods));
+            fault = earlier(fault, earlier(names, methods));
             before.insert(&implementation.name, ())?;
         }
         Ok(fault)
@@ -252,7 +224,7 @@ impl<'a> Source<'a> {
             ++ broken_implementations (unit_tree self.now.unit.now) (missing_of (unit_tree self.now.unit.now)) [] (unit_tree self.now.unit.now).implementations))) }
     {
         let interfaces = self.interfaces_fault(alloc, fields, owners)?;
-        let implementations = self.implementations_fault(alloc, fields, owners)?;
+        let implementations = self.implementations_fault(alloc)?;
         let inside = earlier(interfaces, implementations);
         Ok(earlier(self.function_names_fault(), inside))
     }

@@ -4,14 +4,14 @@ ghost use Rattle.arc_ast.specs.Tree.{UnitTree, FieldTree, unit_tree, interface_t
 ghost use Rattle.arc_class.specs.Broken.{first};
 ghost use Rattle.arc_class.specs.Classes.{or_then};
 ghost use Rattle.arc_class.specs.ClassRules as rules;
-ghost use Rattle.arc_class.specs.ClassRules.{broken_fields, broken_pair, broken_pairs};
+ghost use Rattle.arc_class.specs.ClassRules.{broken_field, broken_fields, broken_pair};
 ghost use Rattle.arc_fault.specs.declared.class.ClassFault.TheVariants.{Memory};
-ghost use Rattle.arc_class.specs.Entries.{fields_tree, root_fields, all_class_fields, class_fields_with, count_among};
+ghost use Rattle.arc_class.specs.Entries.{own_trees, fields_tree, root_fields, all_class_fields, class_fields_with, count_among};
 ghost use Rattle.arc_class.specs.Fault.{told};
 ghost use Rattle.arc_class.specs.Fields as specs;
 ghost use Rattle.arc_class.specs.Fields.{numbered, owned, fields_declared, all_fields_from};
 ghost use Rattle.arc_class.specs.Kept.{Knows};
-ghost use Rattle.arc_class.specs.Lookups.{at_name, own_field_in, field_among, field_tree, list_of, list_among, number_of_class};
+ghost use Rattle.arc_class.specs.Lookups.{at_name, own_field_in, own_place_in, field_among, place_among, field_tree, list_of, list_among, number_of_class};
 ghost use Rattle.arc_class.specs.Owners.{TellsFields};
 
 use crate::fault::{earlier, fault_if};
@@ -28,11 +28,19 @@ use std::collections::BTreeMap;
 /// The place of the first field of each name.
 pub type FieldPlaces<'a> = BTreeMap<&'a [u8], usize>;
 
+/// The fields that a class declares: those in its interface's braces and those in its
+/// implementation's, in the order in which these stand in the file.
+#[derive(Clone, Copy)]
+pub struct OwnFields<'a> {
+    pub earlier: &'a [tree::Field],
+    pub later: &'a [tree::Field],
+}
+
 /// What is known of the fields of a class.
 #[derive(Drop)]
 pub struct ClassFields<'a> {
     pub superclass: Option<usize>,
-    /// The fields in the braces of its interface.
+    /// The place of its own first field with each name.
     pub places: FieldPlaces<'a>,
     /// Its own fields.
     pub named: BTreeMap<&'a [u8], FoundField>,
@@ -40,17 +48,27 @@ pub struct ClassFields<'a> {
     pub count: usize,
 }
 
-/// The place of the first of the fields with each name.
-pub fn field_places<'a>(
-    alloc: Global,
+/// Keeps the place of the first of the fields with each name.
+fn keep_places<'a>(
+    places: &mut FieldPlaces<'a>,
     fields: &'a [tree::Field],
-) -> Result<FieldPlaces<'a>, AllocError>
-    ensures { IfOk result (λ places. (sought : List ℕ) → at_name places sought ≡ rules.field_place sought (field_trees fields.now)) }
+) -> Result<(), AllocError>
+    ensures { OnOk result ((sought : List ℕ)
+        → at_name places.new sought ≡ or_then (at_name places.old sought) (rules.field_place sought (field_trees fields.now))) }
+{
+    for field in fields {
+        keep_first(places, &field.name, field.at)?;
+    }
+    Ok(())
+}
+
+/// The place of the first of the fields with each name.
+pub fn field_places<'a>(alloc: Global, own: &OwnFields<'a>) -> Result<FieldPlaces<'a>, AllocError>
+    ensures { IfOk result (λ places. (sought : List ℕ) → at_name places sought ≡ rules.field_place sought (own_trees own.now)) }
 {
     let mut places = FieldPlaces::new(alloc);
-    for field in fields {
-        keep_first(&mut places, &field.name, field.at)?;
-    }
+    keep_places(&mut places, own.earlier)?;
+    keep_places(&mut places, own.later)?;
     Ok(places)
 }
 
@@ -173,6 +191,68 @@ pub fn is_earlier(place: Option<usize>, at: usize) -> bool
     }
 }
 
+/// The place of the class's own first field with the name, if it declares one.
+fn own_place<'a>(classes: &[ClassFields<'a>], class: usize, name: &'a [u8]) -> Option<usize>
+    ensures { result ≡ own_place_in (slice_get classes.now class) name.now }
+{
+    match classes.get(class) {
+        None => None,
+        Some(known) => at_name(&known.places, name),
+    }
+}
+
+/// The lesser of two places, where there are any.
+fn least_of(a: Option<usize>, b: Option<usize>) -> Option<usize>
+    ensures { result ≡ rules.least_of a b }
+{
+    match (a, b) {
+        (None, b) => b,
+        (a, None) => a,
+        (Some(a), Some(b)) => Some(if b < a { b } else { a }),
+    }
+}
+
+/// The first by position of the fields with the name that the class and those above it declare, a
+/// class at a time.
+fn least_from<'a>(
+    classes: &[ClassFields<'a>],
+    class: Option<usize>,
+    name: &'a [u8],
+) -> Option<usize>
+    ensures { result ≡ place_among classes.now class name.now }
+{
+    let mut place = None;
+    let mut next = class;
+    for _passed in 0..classes.len() {
+        let Some(number) = next else {
+            return place;
+        };
+        let Some(known) = classes.get(number) else {
+            return place;
+        };
+        place = least_of(place, at_name(&known.places, name));
+        next = known.superclass;
+    }
+    place
+}
+
+/// The first by position of the fields with the name that the class and those above it declare. Most
+/// names have none, which the owners tell at once.
+fn inherited_place<'a>(
+    classes: &[ClassFields<'a>],
+    owners: &Owners<'a>,
+    above: Option<usize>,
+    name: &'a [u8],
+) -> Option<usize>
+    requires { TellsFields classes.now owners.now }
+    ensures { (u : UnitTree) → map fields_tree classes.now ≡ all_class_fields u → result ≡ rules.inherited_place u above name.now }
+{
+    if field_of(classes, owners, above, name).is_none() {
+        return None;
+    }
+    least_from(classes, above, name)
+}
+
 /// The fault of a field at the place whose name has this other place too.
 fn pair_fault(place: Option<usize>, at: usize) -> Option<ClassFault>
     ensures { option_map told result ≡ first (broken_pair place at) }
@@ -184,19 +264,28 @@ fn pair_fault(place: Option<usize>, at: usize) -> Option<ClassFault>
     }
 }
 
-/// The first of the fields of an implementation with a name that its interface has in its braces.
-pub fn pairs_fault<'a>(places: &FieldPlaces<'a>, fields: &'a [tree::Field]) -> Option<ClassFault>
-    ensures { (all : List FieldTree) → ((name : List ℕ) → at_name places.now name ≡ rules.field_place name all)
-        → option_map told result ≡ first (broken_pairs all (field_trees fields.now)) }
+/// The rule that a field breaks, of a class whose own fields have these places and which has this
+/// class above it.
+fn field_fault<'a>(
+    classes: &[ClassFields<'a>],
+    owners: &Owners<'a>,
+    above: Option<usize>,
+    places: &FieldPlaces<'a>,
+    field: &'a tree::Field,
+) -> Option<ClassFault>
+    requires { TellsFields classes.now owners.now }
+    ensures { (u : UnitTree) (all : List FieldTree) → map fields_tree classes.now ≡ all_class_fields u
+        → ((name : List ℕ) → at_name places.now name ≡ rules.field_place name all)
+        → option_map told result ≡ first (broken_field u above all field.now.at field.now.name.items) }
 {
-    let mut fault = None;
-    for field in fields {
-        fault = earlier(fault, pair_fault(at_name(places, &field.name), field.at));
-    }
-    fault
+    let stands = is_earlier(at_name(places, &field.name), field.at);
+    let again = fault_if(stands, ClassFault::Duplicate(field.at));
+    let inherited = inherited_place(classes, owners, above, &field.name);
+    earlier(again, pair_fault(inherited, field.at))
 }
 
-/// The first of the fields with a name that the class above has too, or that has an earlier place.
+/// The first rule that the fields break, of a class whose own fields have these places and which has
+/// this class above it.
 pub fn fields_fault<'a>(
     classes: &[ClassFields<'a>],
     owners: &Owners<'a>,
@@ -211,10 +300,8 @@ pub fn fields_fault<'a>(
 {
     let mut fault = None;
     for field in fields {
-        let inherited = field_of(classes, owners, above, &field.name).is_some();
-        let stands = is_earlier(at_name(places, &field.name), field.at);
-        let again = inherited || stands;
-        fault = earlier(fault, fault_if(again, ClassFault::Duplicate(field.at)));
+        let own = field_fault(classes, owners, above, places, field);
+        fault = earlier(fault, own);
     }
     fault
 }
@@ -292,6 +379,37 @@ impl<'a> Source<'a> {
         }
     }
 
+    /// Whether the first implementation of the name stands before the place.
+    fn implemented_before(&self, name: &'a [u8], at: usize) -> bool
+        requires { Knows (unit_tree self.now.unit.now) self.now }
+        ensures { result ≡ specs.implemented_before (unit_tree self.now.unit.now).implementations name.now at }
+    {
+        match at_name(&self.implemented, name) {
+            None => false,
+            Some(own) => own.implementation.at < at,
+        }
+    }
+
+    /// The fields that the interface's class declares, which has this number.
+    pub fn own_fields(&self, class: usize, interface: &'a Interface) -> OwnFields<'a>
+        requires { Knows (unit_tree self.now.unit.now) self.now }
+        ensures { own_trees result ≡ fields_declared (unit_tree self.now.unit.now) class (interface_tree interface.now) }
+    {
+        let declared: &'a [tree::Field] = &interface.fields;
+        let added = self.fields_added(class, interface);
+        if self.implemented_before(&interface.name, interface.at) {
+            OwnFields {
+                earlier: added,
+                later: declared,
+            }
+        } else {
+            OwnFields {
+                earlier: declared,
+                later: added,
+            }
+        }
+    }
+
     /// What is known of the fields of the interface's class, which has this number, and whose
     /// superclass has so many. Memory: there was none, or so many fields have no numbers.
     fn fields_of(
@@ -307,11 +425,11 @@ impl<'a> Source<'a> {
     {
         let superclass = class_number(&self.names, &interface.superclass);
         let owner = ClassId(class);
-        let places = field_places(alloc, &interface.fields)?;
+        let own = self.own_fields(class, interface);
+        let places = field_places(alloc, &own)?;
         let mut named = BTreeMap::new(alloc);
-        let next = keep_fields(&mut named, owner, inherited, &interface.fields)?;
-        let added = self.fields_added(class, interface);
-        let count = keep_fields(&mut named, owner, next, added)?;
+        let next = keep_fields(&mut named, owner, inherited, own.earlier)?;
+        let count = keep_fields(&mut named, owner, next, own.later)?;
         Ok(ClassFields {
             superclass,
             places,
@@ -353,8 +471,9 @@ impl<'a> Source<'a> {
     {
         let mut fields = inherited;
         let owner = ClassId(class);
-        add_fields(&mut fields, owner, &interface.fields)?;
-        add_fields(&mut fields, owner, self.fields_added(class, interface))?;
+        let own = self.own_fields(class, interface);
+        add_fields(&mut fields, owner, own.earlier)?;
+        add_fields(&mut fields, owner, own.later)?;
         Ok(fields)
     }
 

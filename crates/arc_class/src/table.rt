@@ -394,8 +394,7 @@ impl<'a> ClassTable<'a> {
         )
     }
 
-    /// All fields of the class's objects, in the order of their numbers: inherited ones first, and then those in the interface's braces and
-    /// those in the implementation's.
+    /// All fields of the class's objects, in the order of their numbers: inherited ones first, and then its own by position in the file.
     pub fn fields(&self, class: ClassId) -> &[Field<'a>]
         ensures { map field_tree result.now ≡ fields_in self.now (number_of_class class) }
     {

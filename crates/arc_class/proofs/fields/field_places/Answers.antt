@@ -1,19 +1,15 @@
-use Rattle.std.proofs.Common.{◌+◌, drop, ap, ◌∙◌}
+use Rattle.std.proofs.Common.{ap, sym, ◌∙◌}
 use Rattle.arc_ast.specs.Tree.{field_trees}
 use Rattle.arc_class.specs.Classes.{or_then}
 use Rattle.arc_class.specs.ClassRules.{field_place}
-use Rattle.arc_class.specs.Kept.{one_at}
-use Rattle.arc_class.specs.Table.{at_name}
-use Rattle.arc_class.proofs.Keeping.{kept_turn, or_one}
-use Rattle.arc_class.proofs.Lists.{drop_turn}
+use Rattle.arc_class.proofs.Parts.{kept_none}
+use Rattle.arc_class.proofs.Rules.{field_place-append}
 use Rattle.arc_class.proofs.fields.field_places.Goals as goal
 
-pub loop-field-preserved : goal.loop-field-preserved
-loop-field-preserved c sought =
-    let xs = c.args.fields.now in
-    let k = c.loop-field.field-index in
-    let x = c.field-item.result in
-    let old = at_name c.loop-field.places sought in
-    let rest = field_place sought (field_trees (drop (k + 1) xs)) in
-    kept_turn old (one_at x.name.items x.at sought) _ rest _ (c.in_ok-keep_first.ensures sought ∙ ap (λ n. or_then old (one_at n x.at sought)) c.deref.ensures.value)
-    (c.loop-field.invariant sought ∙ ap (or_then old) (ap (λ us. field_place sought (field_trees us)) (drop_turn xs k x c.loop-field-test.true c.field-item.is) ∙ or_one x.name.items x.at rest sought))
+pub returns : goal.returns
+returns c sought =
+    let xs = field_trees c.args.own.now.earlier.now in
+    let ys = field_trees c.args.own.now.later.now in
+    c.in_ok-keep_places-2.ensures sought
+    ∙ ap (λ o. or_then o (field_place sought ys)) (c.in_ok-keep_places.ensures sought ∙ ap (λ o. or_then o (field_place sought xs)) (kept_none c.new-places.result sought c.new-places.ensures.empty))
+    ∙ sym (field_place-append sought xs ys)

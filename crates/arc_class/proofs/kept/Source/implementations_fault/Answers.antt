@@ -2,8 +2,7 @@ use Rattle.std.proofs.Common.{◌≡◌, ◌<◌, ◌++◌, [], length, get_or, 
 use Rattle.arc_ast.specs.Tree.{unit_tree, implementation_tree, implementation_trees, method_trees}
 use Rattle.arc_class.specs.Bodies.{and_name}
 use Rattle.arc_class.specs.Broken.{first}
-use Rattle.arc_class.specs.Classes.{class_number}
-use Rattle.arc_class.specs.ClassRules.{broken_own_names, broken_own_fields, broken_methods, broken_implementation, missing_of}
+use Rattle.arc_class.specs.ClassRules.{broken_own_names, broken_methods, broken_implementation, missing_of}
 use Rattle.arc_class.specs.Fault.{told}
 use Rattle.arc_class.specs.Walk.{holds}
 use Rattle.arc_class.proofs.Firsts.{first_both}
@@ -26,10 +25,9 @@ loop-implementation-preserved c =
     holds-more c.deref-in-loop-implementation.result.now c.loop-implementation.before c.insert.new.self c.in_ok-insert.ensures.updates ∙ ap (λ n. and_name n old) c.deref-in-loop-implementation.ensures.value in
     let methods : option_map told c.in_ok-methods.methods ≡ first (broken_methods u (missing_of u) [] i.methods) =
     c.in_ok-methods.ensures ∙ ap (λ us. first (broken_methods u (missing_of u) [] (method_trees us))) c.deref.ensures.value in
-    let one : option_map told c.earlier-in-loop-implementation.result ≡ first (broken_implementation u (missing_of u) before i) =
-    first_both (broken_own_names u before i ++ broken_own_fields u (class_number u.interfaces i.name) i) (broken_methods u (missing_of u) [] i.methods) _ _ _
-    (first_both (broken_own_names u before i) (broken_own_fields u (class_number u.interfaces i.name) i) _ _ _
-    (c.own_names_fault-names.ensures before c.loop-implementation.invariant.held) c.in_ok-members.ensures c.earlier.ensures) methods c.earlier-in-loop-implementation.ensures in
+    let one : option_map told c.earlier.result ≡ first (broken_implementation u (missing_of u) before i) =
+    first_both (broken_own_names u before i) (broken_methods u (missing_of u) [] i.methods) _ _ _
+    (c.own_names_fault-names.ensures before c.loop-implementation.invariant.held) methods c.earlier.ensures in
     record {
       fault = implementations_turn u (missing_of u) xs k x _ _ _ _ within same one c.earlier-fault.ensures c.loop-implementation.invariant.fault;
       held = implementations_held xs k x old (holds c.insert.new.self) within same more c.loop-implementation.invariant.held;
