@@ -28,12 +28,12 @@ listing-whole ops n d within =
     ap listing (sym (take-append-drop (n + 1) ops)) ∙ lines_from-append 0 (take (n + 1) ops) (drop (n + 1) ops)
     ∙ ap (λ l. l ++ lines_from (0 + length (take (n + 1) ops)) (drop (n + 1) ops)) (listing-take ops n d within)
 
-module _ (h0 h1 h2 : Option (List ℕ)) (f0 f1 f2 : ℕ) (ops : List Op) (n : ℕ) (d : Op) (within : n < length ops) (done : Written (Ok tt) (listing (take n ops)) h0 h1 f0 f1) where
-  pub one_more : Written (Ok tt) (line n (get_or ops n d)) h1 h2 f1 f2 → Written (Ok tt) (listing (take (n + 1) ops)) h0 h2 f0 f2
-  one_more w = subst (λ l. Written (Ok tt) l h0 h2 f0 f2) (sym (listing-take ops n d within)) (then_ok h0 h1 h2 f0 f1 f2 (listing (take n ops)) (line n (get_or ops n d)) done w)
+module _ (h0 h1 h2 : Option (List ℕ)) (f0 f1 f2 : ℕ) (F : Type 0) (ops : List Op) (n : ℕ) (d : Op) (within : n < length ops) (done : Written (Ok tt) (listing (take n ops)) h0 h1 f0 f1 F) where
+  pub one_more : Written (Ok tt) (line n (get_or ops n d)) h1 h2 f1 f2 F → Written (Ok tt) (listing (take (n + 1) ops)) h0 h2 f0 f2 F
+  one_more w = subst (λ l. Written (Ok tt) l h0 h2 f0 f2 F) (sym (listing-take ops n d within)) (then_ok h0 h1 h2 f0 f1 f2 F (listing (take n ops)) (line n (get_or ops n d)) done w)
 
-  pub cut_short : (e : IoFault) → Written (Err e) (line n (get_or ops n d)) h1 h2 f1 f2 → Written (Err e) (listing ops) h0 h2 f0 f2
+  pub cut_short : (e : IoFault) → Written (Err e) (line n (get_or ops n d)) h1 h2 f1 f2 F → Written (Err e) (listing ops) h0 h2 f0 f2 F
   cut_short e w =
-      subst (λ l. Written (Err e) l h0 h2 f0 f2) (sym (listing-whole ops n d within))
-      (wider e h0 h2 f0 f2 (listing (take n ops) ++ line n (get_or ops n d)) (lines_from (0 + length (take (n + 1) ops)) (drop (n + 1) ops))
-      (then_failed e h0 h1 h2 f0 f1 f2 (listing (take n ops)) (line n (get_or ops n d)) done w))
+      subst (λ l. Written (Err e) l h0 h2 f0 f2 F) (sym (listing-whole ops n d within))
+      (wider e h0 h2 f0 f2 F (listing (take n ops) ++ line n (get_or ops n d)) (lines_from (0 + length (take (n + 1) ops)) (drop (n + 1) ops))
+      (then_failed e h0 h1 h2 f0 f1 f2 F (listing (take n ops)) (line n (get_or ops n d)) done w))

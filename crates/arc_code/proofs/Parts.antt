@@ -1,5 +1,5 @@
 -- Bytes that are written in several calls.
-use Rattle.std.proofs.Common.{ℕ, ◌+◌, List, [], ◌++◌, Option, Result, Ok, Err, refl, sym, ap, ◌∙◌, append_assoc}
+use Rattle.std.proofs.Common.{ℕ, ◌+◌, List, [], ◌++◌, Option, Result, Ok, Err, refl, sym, ap, ◌∙◌, append_assoc, take, drop, take-append-drop}
 use Rattle.std.specs.Io.KnownBytes.{Appends}
 use Rattle.std.proofs.KnownBytes.{Appends-nil, Appends-trans}
 use Rattle.arc_code.specs.declared.code.IoFault.{IoFault}
@@ -15,34 +15,38 @@ pub part_after : (h0 h1 h2 : Option (List ℕ)) (xs ys : List ℕ) → Appends h
 part_after h0 h1 h2 xs ys first (part, rest, split, wrote) =
     (xs ++ part, rest, ap (λ l. xs ++ l) split ∙ sym (append_assoc xs part rest), Appends-trans h0 h1 h2 xs part first wrote)
 
+-- some first bytes are a part
+pub front_part : (h0 h1 : Option (List ℕ)) (n : ℕ) (bytes : List ℕ) → Appends h0 h1 (take n bytes) → AppendsPart h0 h1 bytes
+front_part h0 h1 n bytes wrote = (take n bytes, drop n bytes, sym (take-append-drop n bytes), wrote)
+
 -- where the first bytes were not all written, the later ones don't matter
-pub wider : (e : IoFault) (h0 h1 : Option (List ℕ)) (f0 f1 : ℕ) (xs ys : List ℕ) → Written (Err e) xs h0 h1 f0 f1 → Written (Err e) (xs ++ ys) h0 h1 f0 f1
-wider e h0 h1 f0 f1 xs ys (write, part, rose) = (write, part_wider h0 h1 xs ys part, rose)
+pub wider : (e : IoFault) (h0 h1 : Option (List ℕ)) (f0 f1 : ℕ) (F : Type 0) (xs ys : List ℕ) → Written (Err e) xs h0 h1 f0 f1 F → Written (Err e) (xs ++ ys) h0 h1 f0 f1 F
+wider e h0 h1 f0 f1 F xs ys (write, part, rose, failed) = (write, part_wider h0 h1 xs ys part, rose, failed)
 
 -- bytes after bytes that were written
-pub then_written : (r : Result (Unit {0}) IoFault) (h0 h1 h2 : Option (List ℕ)) (f0 f1 f2 : ℕ) (xs ys : List ℕ) → Written (Ok tt) xs h0 h1 f0 f1 → Written r ys h1 h2 f1 f2
-    → Written r (xs ++ ys) h0 h2 f0 f2
-then_written (Ok u) h0 h1 h2 f0 f1 f2 xs ys (first, same) (more, same') = (Appends-trans h0 h1 h2 xs ys first more, same' ∙ same)
-then_written (Err e) h0 h1 h2 f0 f1 f2 xs ys (first, same) (write, part, rose) = (write, part_after h0 h1 h2 xs ys first part, rose ∙ ap (λ f. f + 1) same)
+pub then_written : (r : Result (Unit {0}) IoFault) (h0 h1 h2 : Option (List ℕ)) (f0 f1 f2 : ℕ) (F : Type 0) (xs ys : List ℕ) → Written (Ok tt) xs h0 h1 f0 f1 F → Written r ys h1 h2 f1 f2 F
+    → Written r (xs ++ ys) h0 h2 f0 f2 F
+then_written (Ok u) h0 h1 h2 f0 f1 f2 F xs ys (first, same) (more, same') = (Appends-trans h0 h1 h2 xs ys first more, same' ∙ same)
+then_written (Err e) h0 h1 h2 f0 f1 f2 F xs ys (first, same) (write, part, rose, failed) = (write, part_after h0 h1 h2 xs ys first part, rose ∙ ap (λ f. f + 1) same, failed)
 
-pub then_ok : (h0 h1 h2 : Option (List ℕ)) (f0 f1 f2 : ℕ) (xs ys : List ℕ) → Written (Ok tt) xs h0 h1 f0 f1 → Written (Ok tt) ys h1 h2 f1 f2 → Written (Ok tt) (xs ++ ys) h0 h2 f0 f2
-then_ok h0 h1 h2 f0 f1 f2 xs ys first more = then_written (Ok tt) h0 h1 h2 f0 f1 f2 xs ys first more
+pub then_ok : (h0 h1 h2 : Option (List ℕ)) (f0 f1 f2 : ℕ) (F : Type 0) (xs ys : List ℕ) → Written (Ok tt) xs h0 h1 f0 f1 F → Written (Ok tt) ys h1 h2 f1 f2 F → Written (Ok tt) (xs ++ ys) h0 h2 f0 f2 F
+then_ok h0 h1 h2 f0 f1 f2 F xs ys first more = then_written (Ok tt) h0 h1 h2 f0 f1 f2 F xs ys first more
 
-pub then_failed : (e : IoFault) (h0 h1 h2 : Option (List ℕ)) (f0 f1 f2 : ℕ) (xs ys : List ℕ) → Written (Ok tt) xs h0 h1 f0 f1 → Written (Err e) ys h1 h2 f1 f2 → Written (Err e) (xs ++ ys) h0 h2 f0 f2
-then_failed e h0 h1 h2 f0 f1 f2 xs ys first more = then_written (Err e) h0 h1 h2 f0 f1 f2 xs ys first more
+pub then_failed : (e : IoFault) (h0 h1 h2 : Option (List ℕ)) (f0 f1 f2 : ℕ) (F : Type 0) (xs ys : List ℕ) → Written (Ok tt) xs h0 h1 f0 f1 F → Written (Err e) ys h1 h2 f1 f2 F → Written (Err e) (xs ++ ys) h0 h2 f0 f2 F
+then_failed e h0 h1 h2 f0 f1 f2 F xs ys first more = then_written (Err e) h0 h1 h2 f0 f1 f2 F xs ys first more
 
 -- no byte yet
-pub none_written : (h : Option (List ℕ)) (f : ℕ) → Written (Ok tt) [] h h f f
-none_written h f = (Appends-nil h, refl)
+pub none_written : (h : Option (List ℕ)) (f : ℕ) (F : Type 0) → Written (Ok tt) [] h h f f F
+none_written h f F = (Appends-nil h, refl)
 
 -- ---- bytes in four parts, of which the first ones were written
 
-module _ (e : IoFault) (h0 h1 : Option (List ℕ)) (f0 f1 : ℕ) (a b c z : List ℕ) where
-  pub third_failed : Written (Err e) ((a ++ b) ++ c) h0 h1 f0 f1 → Written (Err e) (((a ++ b) ++ c) ++ z) h0 h1 f0 f1
-  third_failed w = wider e h0 h1 f0 f1 ((a ++ b) ++ c) z w
+module _ (e : IoFault) (h0 h1 : Option (List ℕ)) (f0 f1 : ℕ) (F : Type 0) (a b c z : List ℕ) where
+  pub third_failed : Written (Err e) ((a ++ b) ++ c) h0 h1 f0 f1 F → Written (Err e) (((a ++ b) ++ c) ++ z) h0 h1 f0 f1 F
+  third_failed w = wider e h0 h1 f0 f1 F ((a ++ b) ++ c) z w
 
-  pub second_failed : Written (Err e) (a ++ b) h0 h1 f0 f1 → Written (Err e) (((a ++ b) ++ c) ++ z) h0 h1 f0 f1
-  second_failed w = third_failed (wider e h0 h1 f0 f1 (a ++ b) c w)
+  pub second_failed : Written (Err e) (a ++ b) h0 h1 f0 f1 F → Written (Err e) (((a ++ b) ++ c) ++ z) h0 h1 f0 f1 F
+  second_failed w = third_failed (wider e h0 h1 f0 f1 F (a ++ b) c w)
 
-  pub first_failed : Written (Err e) a h0 h1 f0 f1 → Written (Err e) (((a ++ b) ++ c) ++ z) h0 h1 f0 f1
-  first_failed w = second_failed (wider e h0 h1 f0 f1 a b w)
+  pub first_failed : Written (Err e) a h0 h1 f0 f1 F → Written (Err e) (((a ++ b) ++ c) ++ z) h0 h1 f0 f1 F
+  first_failed w = second_failed (wider e h0 h1 f0 f1 F a b w)

@@ -1,3 +1,5 @@
+pub mod Attempts
+pub mod Calls
 pub mod Running
 pub mod Counting
 pub mod Faulty

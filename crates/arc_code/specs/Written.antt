@@ -5,7 +5,7 @@ use Rattle.arc_code.specs.declared.code.IoFault.{IoFault}
 use Rattle.arc_code.specs.declared.code.IoFault.TheVariants.{Write}
 use Rattle.arc_code.specs.Counting.{AppendsPart}
 
--- all of them were written; or some first ones, and the failures rose by one
-abbrev pub Written : Result (Unit {0}) IoFault → (bytes : List ℕ) → (held0 held1 : Option (List ℕ)) → (failures0 failures1 : ℕ) → Type 0
-Written (Ok _) bytes h0 h1 f0 f1 = Appends h0 h1 bytes × (f1 ≡ f0)
-Written (Err fault) bytes h0 h1 f0 f1 = (fault ≡ Write) × AppendsPart h0 h1 bytes × (f1 ≡ f0 + 1)
+-- all of them were written; or some first ones, the failures rose by one, and the device has failed
+abbrev pub Written : Result (Unit {0}) IoFault → (bytes : List ℕ) → (held0 held1 : Option (List ℕ)) → (failures0 failures1 : ℕ) → (has_failed : Type 0) → Type 0
+Written (Ok _) bytes h0 h1 f0 f1 failed = Appends h0 h1 bytes × (f1 ≡ f0)
+Written (Err fault) bytes h0 h1 f0 f1 failed = (fault ≡ Write) × AppendsPart h0 h1 bytes × (f1 ≡ f0 + 1) × failed

@@ -3,5 +3,6 @@
 
 pub mod code;
 pub mod counted;
+pub mod device;
 pub mod fault;
 pub mod lines;

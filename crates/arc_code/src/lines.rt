@@ -1,25 +1,27 @@
 //! Lists code, an instruction a line.
 ghost use Rattle.std.specs.Prelude.{◌≡◌, ◌+◌, ◌-◌, ◌^◌, ◌<◌, ◌++◌, codes, decimal};
 ghost use Rattle.std.specs.Fmt.{signed_decimal};
-ghost use Rattle.arc_code.specs.Counting.{failures_of, held_by};
+ghost use Rattle.arc_code.specs.Attempts.{HasFailedToWrite};
+ghost use Rattle.arc_code.specs.Counting.{failures_of, inner_of, held_by};
 ghost use Rattle.arc_code.specs.Written.{Written};
 ghost use Rattle.arc_code.specs.Listing.{operator_number, kind_number, name, operand, operands, line, listing};
 
 use crate::code::{Code, IoFault, Op};
 use crate::counted::Counted;
+use crate::device::Output;
 use arc_ast::tree::{BinaryOperator, Kind};
 use itoa::Buffer;
-use std::io::Write;
 
 /// Writes a line for each instruction: its number, counted from 0, its name, and its operands in
 /// decimal, with single spaces between them. An operator and a kind are written as their number in
 /// their order, counted from 0. The error is `IoFault::Write`, where the writer failed; then some
 /// of the first bytes are written.
-pub fn list<W: Write>(code: &Code, writer: &mut Counted<W>) -> Result<(), IoFault>
+pub fn list<W: Output>(code: &Code, writer: &mut Counted<W>) -> Result<(), IoFault>
     requires { failures_of writer.old < 2 ^ 64 - 1 }
     ensures { Written result (listing code.now.ops.items)
         (held_by W.contents writer.old) (held_by W.contents writer.new)
-        (failures_of writer.old) (failures_of writer.new) }
+        (failures_of writer.old) (failures_of writer.new)
+        (HasFailedToWrite W.writes W.flushes (inner_of writer.new)) }
 {
     for (number, op) in code.ops.iter().enumerate() {
         put_line(number, *op, writer)?;
@@ -27,11 +29,12 @@ pub fn list<W: Write>(code: &Code, writer: &mut Counted<W>) -> Result<(), IoFaul
     Ok(())
 }
 
-fn put_line<W: Write>(number: usize, op: Op, writer: &mut Counted<W>) -> Result<(), IoFault>
+fn put_line<W: Output>(number: usize, op: Op, writer: &mut Counted<W>) -> Result<(), IoFault>
     requires { failures_of writer.old < 2 ^ 64 - 1 }
     ensures { Written result (line number op)
         (held_by W.contents writer.old) (held_by W.contents writer.new)
-        (failures_of writer.old) (failures_of writer.new) }
+        (failures_of writer.old) (failures_of writer.new)
+        (HasFailedToWrite W.writes W.flushes (inner_of writer.new)) }
 {
     put_number(number as u64, writer)?;
     put_name(op, writer)?;
@@ -39,11 +42,12 @@ fn put_line<W: Write>(number: usize, op: Op, writer: &mut Counted<W>) -> Result<
     put(b"\n", writer)
 }
 
-fn put_operands<W: Write>(op: Op, writer: &mut Counted<W>) -> Result<(), IoFault>
+fn put_operands<W: Output>(op: Op, writer: &mut Counted<W>) -> Result<(), IoFault>
     requires { failures_of writer.old < 2 ^ 64 - 1 }
     ensures { Written result (operands op)
         (held_by W.contents writer.old) (held_by W.contents writer.new)
-        (failures_of writer.old) (failures_of writer.new) }
+        (failures_of writer.old) (failures_of writer.new)
+        (HasFailedToWrite W.writes W.flushes (inner_of writer.new)) }
 {
     match op {
         Op::Num(number) => put_signed(number, writer),
@@ -76,17 +80,18 @@ fn put_operands<W: Write>(op: Op, writer: &mut Counted<W>) -> Result<(), IoFault
     }
 }
 
-fn put_pair<W: Write>(first: u64, second: u64, writer: &mut Counted<W>) -> Result<(), IoFault>
+fn put_pair<W: Output>(first: u64, second: u64, writer: &mut Counted<W>) -> Result<(), IoFault>
     requires { failures_of writer.old < 2 ^ 64 - 1 }
     ensures { Written result (operand first ++ operand second)
         (held_by W.contents writer.old) (held_by W.contents writer.new)
-        (failures_of writer.old) (failures_of writer.new) }
+        (failures_of writer.old) (failures_of writer.new)
+        (HasFailedToWrite W.writes W.flushes (inner_of writer.new)) }
 {
     put_operand(first, writer)?;
     put_operand(second, writer)
 }
 
-fn put_three<W: Write>(
+fn put_three<W: Output>(
     first: u64,
     second: u64,
     third: u64,
@@ -95,64 +100,71 @@ fn put_three<W: Write>(
     requires { failures_of writer.old < 2 ^ 64 - 1 }
     ensures { Written result (operand first ++ (operand second ++ operand third))
         (held_by W.contents writer.old) (held_by W.contents writer.new)
-        (failures_of writer.old) (failures_of writer.new) }
+        (failures_of writer.old) (failures_of writer.new)
+        (HasFailedToWrite W.writes W.flushes (inner_of writer.new)) }
 {
     put_operand(first, writer)?;
     put_pair(second, third, writer)
 }
 
-fn put_operand<W: Write>(number: u64, writer: &mut Counted<W>) -> Result<(), IoFault>
+fn put_operand<W: Output>(number: u64, writer: &mut Counted<W>) -> Result<(), IoFault>
     requires { failures_of writer.old < 2 ^ 64 - 1 }
     ensures { Written result (operand number)
         (held_by W.contents writer.old) (held_by W.contents writer.new)
-        (failures_of writer.old) (failures_of writer.new) }
+        (failures_of writer.old) (failures_of writer.new)
+        (HasFailedToWrite W.writes W.flushes (inner_of writer.new)) }
 {
     put_word(Buffer::new().format(number).as_bytes(), writer)
 }
 
-fn put_signed<W: Write>(number: i64, writer: &mut Counted<W>) -> Result<(), IoFault>
+fn put_signed<W: Output>(number: i64, writer: &mut Counted<W>) -> Result<(), IoFault>
     requires { failures_of writer.old < 2 ^ 64 - 1 }
     ensures { Written result (codes " " ++ signed_decimal number)
         (held_by W.contents writer.old) (held_by W.contents writer.new)
-        (failures_of writer.old) (failures_of writer.new) }
+        (failures_of writer.old) (failures_of writer.new)
+        (HasFailedToWrite W.writes W.flushes (inner_of writer.new)) }
 {
     put_word(Buffer::new().format(number).as_bytes(), writer)
 }
 
-fn put_number<W: Write>(number: u64, writer: &mut Counted<W>) -> Result<(), IoFault>
+fn put_number<W: Output>(number: u64, writer: &mut Counted<W>) -> Result<(), IoFault>
     requires { failures_of writer.old < 2 ^ 64 - 1 }
     ensures { Written result (decimal number)
         (held_by W.contents writer.old) (held_by W.contents writer.new)
-        (failures_of writer.old) (failures_of writer.new) }
+        (failures_of writer.old) (failures_of writer.new)
+        (HasFailedToWrite W.writes W.flushes (inner_of writer.new)) }
 {
     put(Buffer::new().format(number).as_bytes(), writer)
 }
 
-fn put_name<W: Write>(op: Op, writer: &mut Counted<W>) -> Result<(), IoFault>
+fn put_name<W: Output>(op: Op, writer: &mut Counted<W>) -> Result<(), IoFault>
     requires { failures_of writer.old < 2 ^ 64 - 1 }
     ensures { Written result (codes " " ++ name op)
         (held_by W.contents writer.old) (held_by W.contents writer.new)
-        (failures_of writer.old) (failures_of writer.new) }
+        (failures_of writer.old) (failures_of writer.new)
+        (HasFailedToWrite W.writes W.flushes (inner_of writer.new)) }
 {
     put_word(name_of(op).as_bytes(), writer)
 }
 
 /// Writes a space and the word.
-fn put_word<W: Write>(word: &[u8], writer: &mut Counted<W>) -> Result<(), IoFault>
+fn put_word<W: Output>(word: &[u8], writer: &mut Counted<W>) -> Result<(), IoFault>
     requires { failures_of writer.old < 2 ^ 64 - 1 }
     ensures { Written result (codes " " ++ word.now)
         (held_by W.contents writer.old) (held_by W.contents writer.new)
-        (failures_of writer.old) (failures_of writer.new) }
+        (failures_of writer.old) (failures_of writer.new)
+        (HasFailedToWrite W.writes W.flushes (inner_of writer.new)) }
 {
     put(b" ", writer)?;
     put(word, writer)
 }
 
-fn put<W: Write>(bytes: &[u8], writer: &mut Counted<W>) -> Result<(), IoFault>
+fn put<W: Output>(bytes: &[u8], writer: &mut Counted<W>) -> Result<(), IoFault>
     requires { failures_of writer.old < 2 ^ 64 - 1 }
     ensures { Written result bytes.now
         (held_by W.contents writer.old) (held_by W.contents writer.new)
-        (failures_of writer.old) (failures_of writer.new) }
+        (failures_of writer.old) (failures_of writer.new)
+        (HasFailedToWrite W.writes W.flushes (inner_of writer.new)) }
 {
     match writer.put_all(bytes) {
         Ok(()) => Ok(()),

@@ -126,6 +126,8 @@ impl Store for PlainStore {
 
     ghost stock = { λ _. None };
 
+    ghost refuses = { λ old _ new. new ≡ old };
+
     fn take(&mut self, words: usize) -> Option<Ref> {
         let class = class_for(words);
         if let Some(block) = self.reuse(class) {

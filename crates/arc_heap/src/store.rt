@@ -19,6 +19,11 @@ pub trait Store {
     /// What a store of fixed size has left. It is None of a store that grows.
     ghost stock: { Self → Option Stock };
 
+    /// A call of `take` in the first state was asked for so many words, had no block, and left the
+    /// other state. Of a store that isn't known only its own `take` says so; such a fact is the record of
+    /// a call.
+    ghost refuses: { Self → ℕ → Self → Type 0 };
+
     /// Takes a block of the least size that holds so many words, all of them 0. It is None, and
     /// nothing is changed, where no block of this size can be had: of a store of fixed size, where
     /// none is free and too few words are left; of one that grows, where memory is refused.
@@ -27,6 +32,7 @@ pub trait Store {
         ensures fresh { IfSome result (λ r. out self.old r.at ≡ None) }
         ensures taken { IfSome result (λ r. out self.new ≡ with_block (out self.old) r.at (Some (replicate (size_of (class_of words)) 0))) }
         ensures stock_taken { IfSome result (λ r. stock self.new ≡ option_map (after_take (class_of words)) (stock self.old)) }
+        ensures asked { IsNone result → refuses self.old words self.new }
         ensures refused { IsNone result → (out self.new ≡ out self.old) × (stock self.new ≡ stock self.old) }
         ensures full { IfSome (stock self.old) (λ left. IsNone result ↔ IsFull left (class_of words)) };
 

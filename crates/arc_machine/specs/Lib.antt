@@ -2,6 +2,7 @@ pub mod Cells
 pub mod Entering
 pub mod Patterns
 pub mod Places
+pub mod Refusals
 pub mod Releases
 pub mod Runs
 pub mod Standing

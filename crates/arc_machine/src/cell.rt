@@ -1,8 +1,9 @@
 //! The blocks of objects. A block has the object's class, how many places name it, its phase, its
 //! number, and then a word for each field.
-ghost use Rattle.std.specs.Prelude.{◌≡◌, ◌+◌, ◌-◌, ◌^◌, ◌<◌, ◌≤◌, Some, IsTrue, ◌↔◌, length, get_or};
+ghost use Rattle.std.specs.Prelude.{◌≡◌, ◌+◌, ◌-◌, ◌^◌, ◌<◌, ◌≤◌, Some, IsNone, IsTrue, ◌↔◌, length, get_or};
 ghost use Rattle.std.specs.Int.{w64, cast_signed};
 ghost use Rattle.arc_machine.specs.Cells.{Cell, IsCell, HasField, Becomes, Makes, with_count, with_phase, with_value, first_cell, fresh_cell};
+ghost use Rattle.arc_machine.specs.Refusals.{Refuses};
 
 use arc_heap::store::{Ref, Store};
 
@@ -117,7 +118,8 @@ pub fn begin_end<S: Store>(store: &mut S, object: Ref)
 /// changed, where the store has no block for it.
 pub fn make<S: Store>(store: &mut S, class: u64, fields: usize, number: u64) -> Option<Ref>
     requires { fields ≤ 124 }
-    ensures { Makes (S.out store.old) (S.out store.new) (fresh_cell class fields number) result }
+    ensures made { Makes (S.out store.old) (S.out store.new) (fresh_cell class fields number) result }
+    ensures refused { IsNone result → Refuses S.out S.stock S.refuses (4 + fields) store.old store.new }
 {
     let object = store.take(HEAD + fields)?;
     begin(store, object, class, number);

@@ -1,18 +1,19 @@
 //! A machine, which runs code.
-ghost use Rattle.std.specs.Prelude.{◌≡◌, ◌≢◌, ◌+◌, ◌-◌, ◌^◌, ◌<◌, ◌⊎◌, IfOk, Some, slice_get};
-ghost use Rattle.arc_code.specs.Counting.{failures_of, left_in, held_by};
+ghost use Rattle.std.specs.Prelude.{◌≡◌, ◌≢◌, ◌+◌, ◌-◌, ◌^◌, ◌<◌, ◌⊎◌, true, IfOk};
+ghost use Rattle.arc_code.specs.Attempts.{HasFailedToRead, HasFailedToWrite};
+ghost use Rattle.arc_code.specs.Counting.{failures_of, inner_of, left_in, held_by};
 ghost use Rattle.arc_code.specs.Running.{IsSound, program_of};
 ghost use Rattle.arc_machine.specs.Views.{fresh, said};
-ghost use Rattle.arc_machine.specs.Runs.{Runs, Troubled};
+ghost use Rattle.arc_machine.specs.Runs.{Runs, Troubled, Lacks, is_stopped};
 
 use crate::engine::Engine;
 use crate::stop::{Answer, Stop};
-use arc_code::code::{Code, IoFault, Op};
+use arc_code::code::{Code, IoFault};
 use arc_code::counted::Counted;
+use arc_code::device::{Input, Output};
 use arc_heap::store::Store;
 use arc_spec::event::{Event, NoMemory};
 use std::alloc::Global;
-use std::io::{Read, Write};
 use std::marker::Model;
 
 /// Code, with the stack on which it runs, its objects, and the instruction that is next.
@@ -51,8 +52,8 @@ impl<S: Store + Drop> Machine<S> {
         self.engine.steps()
     }
 
-    /// The events of the last step that was made, at most 20. A step that a device broke leaves
-    /// them, and so does a run without a step.
+    /// The events of the last step, at most 20; of a step that a device broke those that it gave
+    /// before, and none where the store had no block. A run without a step leaves them.
     pub fn events(&self) -> &[Event]
         ensures { result.now ≡ self.now.events }
     {
@@ -62,9 +63,10 @@ impl<S: Store + Drop> Machine<S> {
     /// Makes at most so many steps, and tells whether the program goes on: `Ended` and `Fault` say
     /// that it is over, and `StepsUsed` that all steps were made, or 2^64 - 1 of them in all. The
     /// error is a reader's or a writer's failure, in a step that is then not made; nor is it made where
-    /// the store has no block for a new object, which `NoHeap` says. Once a run has ended, was stopped
-    /// or failed, or had no block, each later one answers the same, and does nothing.
-    pub fn run<R: Read, W: Write>(
+    /// the store was asked for the block of a new object and has none, which `NoHeap` says. Once a run
+    /// has ended, was stopped or failed, or had no block, each later one answers the same, and does
+    /// nothing; nor does a run of no steps, or one after 2^64 - 1 steps.
+    pub fn run<R: Input, W: Output>(
         &mut self,
         steps: u64,
         reader: &mut Counted<R>,
@@ -77,14 +79,20 @@ impl<S: Store + Drop> Machine<S> {
             (left_in R.remaining reader.old) (left_in R.remaining reader.new)
             (held_by W.contents writer.old) (held_by W.contents writer.new) }
         ensures lacks { self.old.answer ≡ Answer.Going → self.new.answer ≡ Answer.NoHeap →
-            slice_get self.new.program.ops self.new.spot.at ≡ Some Op.Alloc }
+            Lacks S.out S.stock S.refuses self.new }
         ensures used { self.new.answer ≡ Answer.Going →
             (self.new.steps ≡ self.old.steps + steps) ⊎ (self.new.steps ≡ 2 ^ 64 - 1) }
+        ensures within { self.old.answer ≡ Answer.Going → is_stopped self.new.answer ≡ true →
+            self.new.steps < self.old.steps + steps }
+        ensures idle { (steps ≡ 0) ⊎ (self.old.steps ≡ 2 ^ 64 - 1) →
+            (self.new ≡ self.old) × (reader.new ≡ reader.old) × (writer.new ≡ writer.old) }
         ensures stays { self.old.answer ≢ Answer.Going →
             (self.new ≡ self.old) × (reader.new ≡ reader.old) × (writer.new ≡ writer.old) }
         ensures cause { self.old.answer ≡ Answer.Going → Troubled self.new.answer
             (failures_of reader.old) (failures_of reader.new)
-            (failures_of writer.old) (failures_of writer.new) }
+            (failures_of writer.old) (failures_of writer.new)
+            (HasFailedToRead R.reads (inner_of reader.new))
+            (HasFailedToWrite W.writes W.flushes (inner_of writer.new)) }
     {
         if !self.engine.is_going() {
             return said_of(self.engine.answer());

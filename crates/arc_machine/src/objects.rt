@@ -1,10 +1,11 @@
 //! The objects of a running program, the places that name them, and what waits.
-ghost use Rattle.std.specs.Prelude.{◌≡◌, ◌≢◌, ◌+◌, ◌-◌, ◌^◌, ◌<◌, ◌≤◌, ℕ, List, ◌∷◌, Option, Some, IsTrue, ◌↔◌, length, drop, nat_lt, slice_get, slice_set, get_or, IfOk};
+ghost use Rattle.std.specs.Prelude.{◌≡◌, ◌≢◌, ◌+◌, ◌-◌, ◌^◌, ◌<◌, ◌≤◌, ℕ, List, ◌∷◌, Option, Some, IsNone, IsTrue, ◌↔◌, length, drop, nat_lt, slice_get, slice_set, get_or, IfOk};
 ghost use Rattle.std.specs.Int.{w64, cast_signed};
 ghost use Rattle.arc_spec.specs.Meaning.{most_levels};
 ghost use Rattle.arc_machine.specs.declared.waiting.Waiting.{Waiting};
 ghost use Rattle.arc_machine.specs.declared.waiting.Waiting.TheVariants as waits;
 ghost use Rattle.arc_machine.specs.Cells.{Cell, IsCell, HasField, with_count, with_phase, with_value};
+ghost use Rattle.arc_machine.specs.Refusals.{Refuses};
 ghost use Rattle.arc_machine.specs.Standing.{NamesBlock, Alters, IsLast, NewIn, Turns, no_objects, memory_of, with_named, with_waits};
 ghost use Rattle.arc_machine.specs.Words.{Took};
 
@@ -313,6 +314,8 @@ impl<S: Store + Drop> Objects<S> {
         requires { self.old.made < 2 ^ 64 - 1 }
         ensures some { NewIn S.out self.old self.new class fields result }
         ensures few { (word : ℕ) → result ≡ Some word → fields ≤ 124 }
+        ensures refused { IsNone result →
+            Refuses S.out S.stock S.refuses (4 + fields) self.old.store self.new.store }
     {
         if fields > cell::MOST_FIELDS {
             return None;

@@ -1,4 +1,4 @@
-use Rattle.std.proofs.Common.{◌≡◌, arith, rules, ap, ◌∙◌, sym, add-one}
+use Rattle.std.proofs.Common.{◌≡◌, arith, rules, refl, ap, ◌∙◌, sym, add-one}
 use Rattle.arc_machine.specs.declared.stop.Answer.TheVariants as answer
 use Rattle.arc_machine.specs.Views.{Seen}
 use Rattle.arc_machine.proofs.Farther.{turned_start, turned}
@@ -8,27 +8,46 @@ use Rattle.arc_machine.proofs.machine.Machine.run.Goals as goal
 pub loop-turns-init : goal.loop-turns-init
 loop-turns-init g c =
     let engine = c.self.inside.engine in
-    let going : engine.answer ≡ answer.Going = search rules in (
-      omega arith,
-      ap (λ (m : Seen g.row.S.Denot). m.answer) (sym c.self.view_is) ∙ going,
-      turned_start g.S.Store.out _ engine _ _ _ _ c.self.view_is going c.self.invariant,
-    )
+    let going : engine.answer ≡ answer.Going = search rules in
+    record {
+      few = omega arith;
+      going = ap (λ (m : Seen g.row.S.Denot). m.answer) (sym c.self.view_is) ∙ going;
+      turned = turned_start g.S.Store.out g.S.Store.stock g.S.Store.refuses _ engine _ _ _ _ _ _ c.self.view_is going c.self.invariant;
+      none = λ _. (c.self.view_is, refl, refl);
+      room = λ some. absurd (omega arith);
+    }
 
 pub loop-turns-preserved : goal.loop-turns-preserved
 loop-turns-preserved g c =
     let engine = c.loop-turns.self-inside.engine in
     let going : engine.answer ≡ answer.Going = search rules in
     let e = c.slide-made.ensures in
-    (omega arith, c.loop-turns.invariant.1, turned_slid g.S.Store.out _ engine _ _ _ _ _ _ _ _ _ _ _ c.loop-turns.invariant.2 going e.slid e.sound)
+    let h = c.loop-turns.invariant in
+    let all = h.turned.all going in
+    record {
+      few = omega arith;
+      going = h.going;
+      turned = turned_slid g.S.Store.out g.S.Store.stock g.S.Store.refuses _ engine _ _ _ _ _ _ _ _ _ _ _ _ _ h.turned going e.slid e.sound;
+      none = λ none. absurd (omega arith);
+      room = λ some. omega arith;
+    }
 
 pub loop-turns-preserved-then-made-most : goal.loop-turns-preserved-then-made-most
 loop-turns-preserved-then-made-most g c =
     let engine = c.loop-turns.self-inside.engine in
     let going : engine.answer ≡ answer.Going = search rules in
     let s = c.slide-made.ensures in
-    let slid = turned_slid g.S.Store.out _ engine _ _ _ _ _ _ _ _ _ _ _ c.loop-turns.invariant.2 going s.slid s.sound in
+    let h = c.loop-turns.invariant in
+    let all = h.turned.all going in
+    let slid = turned_slid g.S.Store.out g.S.Store.stock g.S.Store.refuses _ engine _ _ _ _ _ _ _ _ _ _ _ _ _ h.turned going s.slid s.sound in
     let e = c.advance.ensures in
-    (omega arith, c.loop-turns.invariant.1, rw add-one (turned g.S.Store.out _ _ _ _ _ _ _ _ _ _ _ _ _ _ _ _ slid (s.slid.answer ∙ going) c.advance.result e.ok e.fine e.err e.cause))
+    record {
+      few = omega arith;
+      going = h.going;
+      turned = rw add-one (turned g.S.Store.out g.S.Store.stock g.S.Store.refuses _ _ _ _ _ _ _ _ _ _ _ _ _ _ _ _ _ _ _ _ slid (s.slid.answer ∙ going) c.advance.result e.ok e.fine e.err e.cause);
+      none = λ none. absurd (omega arith);
+      room = λ some. omega arith;
+    }
 
 pub loop-turns-smaller : goal.loop-turns-smaller
 loop-turns-smaller g c = omega arith

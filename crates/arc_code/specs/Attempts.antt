@@ -1,0 +1,60 @@
+-- Calls of a device that are made again where they were interrupted, at most 100 of them in a row.
+-- That 100 interruptions in a row are a failure is this project's own choice.
+use Rattle.std.specs.Prelude.{◌≡◌, ◌⊎◌, ℕ, zero, suc, ◌+◌, ◌<◌, List, drop, Option, ⊤}
+use Rattle.arc_code.specs.declared.device.Attempt.{Attempt}
+use Rattle.arc_code.specs.declared.device.Attempt.TheVariants.{Done, Interrupted, Failed}
+use Rattle.arc_code.specs.Calls.{IsUndone}
+
+-- so many calls in a row were interrupted
+abbrev pub Interruptions : {T A : Type 0} → (call : T → Attempt A → T → Type 0) → ℕ → (old new : T) → Type 0
+Interruptions call zero old new = new ≡ old
+Interruptions {T} call (suc n) old new = (between : T) × Interruptions call n old between × call between Interrupted new
+
+-- What came of up to 100 calls: the first one that isn't interrupted decides, or else the last one.
+pub record Tried {T A : Type 0} (call : T → Attempt A → T → Type 0) (old : T) (answer : Attempt A) (new : T) : Type 0 where
+  pub interrupted : ℕ
+  pub few : interrupted < 100
+  pub before : T
+  pub interruptions : Interruptions call interrupted old before
+  pub decides : call before answer new
+  pub last : answer ≡ Interrupted → interrupted ≡ 99
+
+-- ---- failures: an error that is no interruption, 100 interruptions, and a write that takes no byte
+
+-- a write isn't done, or took no byte
+abbrev pub IsFailedWrite : Attempt ℕ → Type 0
+IsFailedWrite (Done zero) = ⊤
+IsFailedWrite (Done (suc n)) = ⊥
+IsFailedWrite Interrupted = ⊤
+IsFailedWrite Failed = ⊤
+
+-- calls failed, which left the device so
+abbrev pub Fails : {T A : Type 0} → (call : T → Attempt A → T → Type 0) → (old new : T) → Type 0
+Fails {T} {A} call old new = (answer : Attempt A) × IsUndone answer × Tried call old answer new
+
+abbrev pub FailsToWrite : {T : Type 0} → (writes : List ℕ → T → Attempt ℕ → T → Type 0) → (bytes : List ℕ) → (old new : T) → Type 0
+FailsToWrite writes bytes old new = (answer : Attempt ℕ) × IsFailedWrite answer × Tried (writes bytes) old answer new
+
+-- the device is as a failed read left it
+abbrev pub HasFailedToRead : {T : Type 0} → (reads : T → Attempt (Option ℕ) → T → Type 0) → T → Type 0
+HasFailedToRead {T} reads new = (old : T) × Fails reads old new
+
+-- the device is as a failed write of some bytes left it, or a failed flush
+abbrev pub HasFailedToWrite : {T : Type 0} → (writes : List ℕ → T → Attempt ℕ → T → Type 0) → (flushes : T → Attempt (Unit {0}) → T → Type 0) → T → Type 0
+HasFailedToWrite {T} writes flushes new = ((old : T) × (bytes : List ℕ) × FailsToWrite writes bytes old new) ⊎ ((old : T) × Fails flushes old new)
+
+-- ---- all bytes
+
+-- of these bytes so many first ones were taken in so many writes, each of which offers all that are left
+abbrev pub Takings : {T : Type 0} → (writes : List ℕ → T → Attempt ℕ → T → Type 0) → (bytes : List ℕ) → (times : ℕ) → (old : T) → (taken : ℕ) → (new : T) → Type 0
+Takings writes bytes zero old taken new = (taken ≡ 0) × (new ≡ old)
+Takings {T} writes bytes (suc times) old taken new =
+    (between : T) × (fewer more : ℕ) × (taken ≡ fewer + more) × Takings writes bytes times old fewer between × Tried (writes (drop fewer bytes)) between (Done more) new
+
+-- of these bytes so many first ones were taken
+abbrev pub Took : {T : Type 0} → (writes : List ℕ → T → Attempt ℕ → T → Type 0) → (bytes : List ℕ) → (old : T) → (taken : ℕ) → (new : T) → Type 0
+Took writes bytes old taken new = (times : ℕ) × Takings writes bytes times old taken new
+
+-- so many first ones were taken, and then a write of the others failed
+abbrev pub TookPart : {T : Type 0} → (writes : List ℕ → T → Attempt ℕ → T → Type 0) → (bytes : List ℕ) → (old : T) → (taken : ℕ) → (new : T) → Type 0
+TookPart {T} writes bytes old taken new = (between : T) × Took writes bytes old taken between × FailsToWrite writes (drop taken bytes) between new
