@@ -248,7 +248,7 @@ takes_none zero some failed = omega arith
 takes_none (suc n) some failed = failed
 
 -- a writer that takes each byte doesn't fail
-pub never_fails : {T : Type 0} (new : T) → HasFailedToWrite {T} (λ bytes _ answer _. answer ≡ Done (length bytes)) (λ _ answer _. answer ≡ Done tt) new → ⊥
+pub never_fails : {T : Type 0} (new : T) → HasFailedToWrite {T = T} (λ bytes _ answer _. answer ≡ Done (length bytes)) (λ _ answer _. answer ≡ Done tt) new → ⊥
 never_fails new (inl (old, bytes, some, answer, failed, tried)) = takes_none (length bytes) some (subst IsFailedWrite tried.decides failed)
 never_fails new (inr (old, answer, undone, tried)) = subst IsUndone tried.decides undone
 

@@ -184,15 +184,18 @@ module _ {S : Type 0} (out : S → Blocks) (stock : S → Option Stock) (refuses
       ⊎_elim (λ e. omega (arith, e, none, made, within, limit)) (λ e. omega (arith, e, none, made, within, limit)) (used on)
 
   no_room_at : new.answer ≡ answer.NoHeap → (slice_get p.ops runs.4.state.at ≡ Some Alloc) × (runs.0 < steps)
-  no_room_at no =
+  no_room_at full =
       let made : new.steps ≡ 0 + runs.0 = runs.4.steps in
-      (makes_so out p new runs.4.state runs.4.program runs.4.stands (lacking going no).op, omega (arith, held going (ap is_stopped no), none, made))
+      (makes_so out p new runs.4.state runs.4.program runs.4.stands (lacking going full).op, omega (arith, held going (ap is_stopped full), none, made))
 
-  pub machine_stopped : (t : Stop) → said new.answer ≡ Ok t → RanCode p steps (Ok t) in0 in1 out0 out2
-  machine_stopped t is = stopped p steps runs.0 runs.3 in0 in1 out0 out1 out2 runs.1 runs.2 new.events runs.4.state runs.4.reads kept new.answer t is runs.4.run wrote all_made no_room_at
+  for_machine : (a : Result Stop IoFault) → RanCode p steps a in0 in1 out0 out2 → RanCode old.program steps a in0 in1 out0 out2
+  for_machine a run = subst (λ q. RanCode q steps a in0 in1 out0 out2) (sym (ap (λ (m : Seen S). m.program) first)) run
 
-  pub machine_failed : (f : IoFault) → RanCode p steps (Err f) in0 in1 out0 out2
-  machine_failed f = failed p steps runs.0 runs.3 in0 in1 out0 out1 out2 runs.1 runs.2 new.events runs.4.state runs.4.reads kept new.answer f runs.4.run wrote
+  pub machine_stopped : (t : Stop) → said new.answer ≡ Ok t → RanCode old.program steps (Ok t) in0 in1 out0 out2
+  machine_stopped t is = for_machine (Ok t) (stopped p steps runs.0 runs.3 in0 in1 out0 out1 out2 runs.1 runs.2 new.events runs.4.state runs.4.reads kept new.answer t is runs.4.run wrote all_made no_room_at)
+
+  pub machine_failed : (f : IoFault) → RanCode old.program steps (Err f) in0 in1 out0 out2
+  machine_failed f = for_machine (Err f) (failed p steps runs.0 runs.3 in0 in1 out0 out1 out2 runs.1 runs.2 new.events runs.4.state runs.4.reads kept new.answer f runs.4.run wrote)
 
 -- ---- what the program means
 

@@ -7,7 +7,7 @@ use Rattle.arc_machine.specs.declared.stop.Answer.TheVariants as answer
 use Rattle.arc_machine.specs.Views.{said}
 use Rattle.arc_tool.specs.Accepted.{bytes_of_name}
 use Rattle.arc_tool.specs.declared.lines.Left.TheVariants.{Stopped, Unread}
-use Rattle.arc_tool.proofs.Following.{left_stopped, left_unread, going_on, no_room, unread, reader_kept, reader_failed, writer_failed, never_fails, within_stop}
+use Rattle.arc_tool.proofs.Following.{left_of, left_stopped, left_unread, going_on, no_room, unread, reader_kept, reader_failed, writer_failed, never_fails, within_stop}
 use Rattle.arc_tool.proofs.Showing.{shows_fresh, one_step, shows_on, shows_part, is_left}
 use Rattle.arc_tool.proofs.trace.follow.Goals as goal
 
@@ -83,3 +83,8 @@ loop-preserved g c =
     let going = going_on _ said_so in
     let made : c.run-answer.new.self.steps ≡ c.loop.counter + 1 = ⊎_elim (λ e. omega (arith, e, i.0)) (λ e. omega (arith, e, i.0, most)) (c.run-answer.ensures.used going) in
     (made, going, reads, way)
+
+pub returns-clause-followed : goal.returns-clause-followed
+returns-clause-followed g c =
+    let i = c.loop.invariant in
+    is_left g.S.Store.out c.args.machine.now.program _ c.loop.machine c.loop.begun _ _ _ _ _ _ i.3 c.args.steps _ _ _ _ (ap left_of i.1) (λ full. absurd (let no = sym i.1 ∙ full in cc)) (omega arith) i.2
