@@ -93,6 +93,9 @@ judge_super-returns t c = λ at.
     (record { kind = c.super_kind-kind.result; class = c.super_class.result; fault = c.earlier.result; taken = c.judge_arguments-passed.result.taken }) c.judge_arguments-passed.result (option_map told c.unknown_method.result) c.super_kind-kind.ensures (c.super_class.ensures c.args.table.now)
     c.unknown_method.ensures (c.taken_by_super-between.ensures c.args.table.now) c.judge_arguments-passed.ensures.fault c.judge_arguments-passed.ensures.taken c.earlier.ensures refl
 
+pub judge_call-returns-in-Printf : goal.judge_call-returns-in-Printf
+judge_call-returns-in-Printf t c = rw (sym c.callee_of-callee.ensures, c.in-Printf.is) c.judge_print.ensures
+
 pub judge_call-returns-in_default : goal.judge_call-returns-in_default
 judge_call-returns-in_default t c =
     let s = seen c.args.table.now c.args.visible.now in
