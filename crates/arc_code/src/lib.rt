@@ -1,4 +1,4 @@
-//! Instructions, their listing, and readers and writers whose failures are counted.
+//! Instructions, their listing, and devices: readers and writers whose failures are counted.
 #![tactic(auto)]
 
 pub mod code;

@@ -18,11 +18,11 @@ use Rattle.arc_machine.specs.declared.stop.Stop.TheVariants as stop
 use Rattle.arc_machine.specs.declared.stop.Answer.{Answer}
 use Rattle.arc_machine.specs.declared.stop.Answer.TheVariants as answer
 use Rattle.arc_machine.specs.Views.{Seen, StandsAs, fresh, said}
-use Rattle.arc_machine.specs.Runs.{Leaves, Moves, Runs, Troubled, is_stopped, reached}
+use Rattle.arc_machine.specs.Runs.{Leaves, Moves, IsAsking, Runs, Troubled, is_stopped, reached}
 use Rattle.arc_machine.proofs.Chained.{moves_on}
 use Rattle.arc_tool.specs.declared.lines.Left.{Left}
 use Rattle.arc_tool.specs.declared.lines.Left.TheVariants.{Stopped, Unread}
-use Rattle.arc_tool.specs.Progress.{run_of, rest_of, Takes, MakesObject}
+use Rattle.arc_tool.specs.Progress.{run_of, rest_of, Takes, MakesObject, ReadsByte}
 use Rattle.arc_tool.specs.Traced.{Follows, Within, GoesOn, stop_seen, new_events}
 
 -- something that may be left
@@ -90,6 +90,7 @@ starts out p store i sound = record {
     run = λ rest l. refl;
     writes = tt;
     none = λ _. (refl, λ _. refl);
+    asks = λ broke. absurd (cc);
     last = λ k rest e l on. absurd (omega (arith, e));
   };
 }
@@ -153,14 +154,14 @@ reached_rest answer.NoHeap s i t = refl
 pub takes_so : (p : Program) (made : ℕ) (taken rest : List ℕ) (a : Answer) (s : State) (t : List Event) → after_steps (step p) made (Running start (taken ++ rest) []) ≡ reached a s rest t → Takes p made taken rest
 takes_so p made taken rest a s t run = ap rest_of run ∙ reached_rest a s rest t
 
--- a run that has no room for an object goes on with one
-goes_on_so : (p : Program) (run : Reached State) (a : Answer) (s : State) (i : List ℕ) (t : List Event) → run ≡ reached a s i t → (a ≡ answer.NoHeap → slice_get p.ops s.at ≡ Some Alloc) → GoesOn (left_of a) p run
-goes_on_so p run answer.Going s i t is makes = tt
-goes_on_so p run (answer.Ended n) s i t is makes = tt
-goes_on_so p run (answer.Faulted f) s i t is makes = tt
-goes_on_so p run (answer.Broken Read) s i t is makes = tt
-goes_on_so p run (answer.Broken Write) s i t is makes = tt
-goes_on_so p run answer.NoHeap s i t is makes = subst (MakesObject p) (sym is) (makes refl)
+-- a run that has no room for an object goes on with one, and one whose reader fails goes on with a step that reads
+goes_on_so : (p : Program) (run : Reached State) (a : Answer) (s : State) (i : List ℕ) (t : List Event) → run ≡ reached a s i t → (a ≡ answer.NoHeap → slice_get p.ops s.at ≡ Some Alloc) → (a ≡ answer.Broken Read → IsAsking (step p s)) → GoesOn (left_of a) p run
+goes_on_so p run answer.Going s i t is makes asks = tt
+goes_on_so p run (answer.Ended n) s i t is makes asks = tt
+goes_on_so p run (answer.Faulted f) s i t is makes asks = tt
+goes_on_so p run (answer.Broken Read) s i t is makes asks = subst (ReadsByte p) (sym is) (asks refl)
+goes_on_so p run (answer.Broken Write) s i t is makes asks = tt
+goes_on_so p run answer.NoHeap s i t is makes asks = subst (MakesObject p) (sym is) (makes refl)
 
 -- the machine stands at the instruction of the state for which it stands
 pub makes_so : {S : Type 0} → (out : S → Blocks) (p : Program) (m : Seen S) (s : State) → m.program ≡ p → StandsAs out m s → slice_get m.program.ops m.spot.at ≡ Some Alloc → slice_get p.ops s.at ≡ Some Alloc
@@ -175,7 +176,8 @@ follows out p m i0 i1 events way makes = record {
   shown = λ rest l. ap run_seen (way.moves.run rest l) ∙ seen_of m.answer way.moves.state rest events;
   goes_on = λ rest l.
       goes_on_so p (run_of p (way.taken ++ rest) m.steps) m.answer way.moves.state rest events (way.moves.run rest l)
-      (λ no. makes_so out p m way.moves.state way.moves.program way.moves.stands (makes no));
+      (λ full. makes_so out p m way.moves.state way.moves.program way.moves.stands (makes full))
+      (λ broke. subst (λ (q : Program). IsAsking (step q way.moves.state)) way.moves.program (way.moves.asks broke));
 }
 
 pub left_stopped : (a : Answer) (t : Stop) → said a ≡ Ok t → left_of a ≡ Stopped t
@@ -209,13 +211,16 @@ no_room (answer.Faulted f) e = absurd (cc)
 no_room (answer.Broken f) e = absurd (cc)
 no_room answer.NoHeap e = refl
 
--- the reader failed only where a step was stopped
+-- the reader failed only where the machine says so
+pub read_broke : (a : Answer) → said a ≡ Err Read → a ≡ answer.Broken Read
+read_broke answer.Going e = absurd (cc)
+read_broke (answer.Ended n) e = absurd (cc)
+read_broke (answer.Faulted f) e = absurd (cc)
+read_broke (answer.Broken f) e = let there : f ≡ Read = cc in ap answer.Broken there
+read_broke answer.NoHeap e = absurd (cc)
+
 pub unread : (a : Answer) → said a ≡ Err Read → is_stopped a ≡ true
-unread answer.Going e = absurd (cc)
-unread (answer.Ended n) e = absurd (cc)
-unread (answer.Faulted f) e = absurd (cc)
-unread (answer.Broken f) e = refl
-unread answer.NoHeap e = absurd (cc)
+unread a e = ap is_stopped (read_broke a e)
 
 -- ---- whose failures rose
 
@@ -249,8 +254,8 @@ takes_none (suc n) some failed = failed
 
 -- a writer that takes each byte doesn't fail
 pub never_fails : {T : Type 0} (new : T) → HasFailedToWrite {T = T} (λ bytes _ answer _. answer ≡ Done (length bytes)) (λ _ answer _. answer ≡ Done tt) new → ⊥
-never_fails new (inl (old, bytes, some, answer, failed, tried)) = takes_none (length bytes) some (subst IsFailedWrite tried.decides failed)
-never_fails new (inr (old, answer, undone, tried)) = subst IsUndone tried.decides undone
+never_fails new (inl (old, bytes, (some, answer, failed, tried))) = takes_none (length bytes) some (subst IsFailedWrite tried.decides failed)
+never_fails new (inr (old, (answer, undone, tried))) = subst IsUndone tried.decides undone
 
 -- how many steps a run made that stopped before they were used
 pub within_stop : (t : Stop) (a : Answer) (made steps : ℕ) → said a ≡ Ok t → (t ≡ stop.StepsUsed → ⊥) → made ≤ steps → (is_stopped a ≡ true → made < steps) → Within (Stopped t) made steps

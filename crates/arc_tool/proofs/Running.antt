@@ -11,6 +11,7 @@ use Rattle.arc_spec.specs.Classes.{class_at}
 use Rattle.arc_spec.specs.Correct.{IsPrefix, Sight, run_seen}
 use Rattle.arc_spec.proofs.Steadiness.{steady}
 use Rattle.arc_code.specs.declared.code.IoFault.{IoFault}
+use Rattle.arc_code.specs.declared.code.IoFault.TheVariants.{Read, Write}
 use Rattle.arc_code.specs.declared.code.Op.TheVariants.{Alloc}
 use Rattle.arc_code.specs.Running.{Program, State, start, executes, step, allocates, seen, IsSound}
 use Rattle.arc_heap.specs.Blocks.{Blocks}
@@ -20,16 +21,16 @@ use Rattle.arc_machine.specs.declared.stop.Stop.TheVariants as stop
 use Rattle.arc_machine.specs.declared.stop.Answer.{Answer}
 use Rattle.arc_machine.specs.declared.stop.Answer.TheVariants as answer
 use Rattle.arc_machine.specs.Views.{Seen, fresh, said}
-use Rattle.arc_machine.specs.Runs.{Leaves, Writes, Moves, Runs, Lacks, is_stopped, reached, next_events}
+use Rattle.arc_machine.specs.Runs.{Leaves, Writes, Moves, IsAsking, Runs, Lacks, is_stopped, reached, next_events}
 use Rattle.arc_machine.specs.Steps.{bytes_of}
 use Rattle.arc_machine.proofs.Farther.{bytes_of-append}
 use Rattle.arc_tool.specs.declared.run.ToolFault.{ToolFault}
 use Rattle.arc_tool.specs.Accepted.{Compiles, meant}
 use Rattle.arc_tool.specs.declared.refusal.Refusal.{Refusal}
 use Rattle.arc_tool.specs.Refused.{IsRefusal}
-use Rattle.arc_tool.specs.Progress.{run_of, MakesObject}
+use Rattle.arc_tool.specs.Progress.{run_of, MakesObject, ReadsByte}
 use Rattle.arc_tool.specs.Ran.{Starts, Shown, Meant, RanCode, Ran, Answered, Becomes}
-use Rattle.arc_tool.proofs.Following.{fresh_stands, takes_so, makes_so}
+use Rattle.arc_tool.proofs.Following.{fresh_stands, takes_so, makes_so, read_broke}
 
 -- the bytes of more events
 starts_so : (a b : List Event) → IsPrefix a b → Starts (bytes_of a) (bytes_of b)
@@ -70,12 +71,20 @@ stack_silent : (p : Program) (s : State) (stack : List ℤ) → next_events (on_
 stack_silent p s [] = refl
 stack_silent p s (v ∷ rest) = class_silent p s rest (class_at v)
 
+none_given : (given others : List Event) → given ++ others ≡ [] → given ≡ []
+none_given [] others e = refl
+none_given (x ∷ given) others e = absurd (cc)
+
 silent : (p : Program) (s : State) (given others : List Event) → slice_get p.ops s.at ≡ Some Alloc → next_events (step p s) ≡ given ++ others → given ≡ []
-silent p s given others makes split = first given others (sym split ∙ ap (λ op. next_events (executes p op s)) makes ∙ stack_silent p s s.stack)
-  where
-    first : (a b : List Event) → a ++ b ≡ [] → a ≡ []
-    first [] b e = refl
-    first (x ∷ a) b e = absurd (cc)
+silent p s given others makes split = none_given given others (sym split ∙ ap (λ op. next_events (executes p op s)) makes ∙ stack_silent p s s.stack)
+
+-- nor does one that reads
+asking_silent : (n : Next State) → IsAsking n → next_events n ≡ []
+asking_silent (Goes s es) asks = absurd asks
+asking_silent (Asks k) asks = refl
+asking_silent (Ends n) asks = absurd asks
+asking_silent (Faults f) asks = absurd asks
+asking_silent Stuck asks = absurd asks
 
 -- ---- a run of code
 
@@ -99,9 +108,9 @@ module _ (p : Program) (steps made : ℕ) (within : made ≤ steps) (in0 in1 out
     shown = shown;
   }
 
-  -- all bytes of the steps were written, and yet a device failed
-  all_written : (a : Answer) (f : IoFault) → Runs_to a → Appends out0 out1 (bytes_of trace) → RanCode p steps (Err f) in0 in1 out0 out2
-  all_written a f run writes = ran a run (Err f) (bytes_of trace) writes (λ rest l.
+  -- all bytes of the steps were written, and yet the writer failed
+  all_written : (a : Answer) → Runs_to a → Appends out0 out1 (bytes_of trace) → RanCode p steps (Err Write) in0 in1 out0 out2
+  all_written a run writes = ran a run (Err Write) (bytes_of trace) writes (λ rest l.
       let input = taken ++ rest in
       let now : (seen p input made).trace ≡ trace = ap (λ r. (run_seen r).trace) (run rest l) ∙ reached_trace a s rest trace in
       let same : bytes_of (seen p input made).trace ≡ bytes_of trace = ap bytes_of now in
@@ -109,8 +118,8 @@ module _ (p : Program) (steps made : ℕ) (within : made ≤ steps) (in0 in1 out
       (([], sym same ∙ sym (append-nil (bytes_of (seen p input made).trace))), starts_along (bytes_of (seen p input made).trace) (bytes_of trace) (bytes_of (seen p input (suc made)).trace) same next))
 
   -- a step was stopped that had given some of its events
-  part_written : (a : Answer) (f : IoFault) → Runs_to a → is_stopped a ≡ true → Writes true (step p s) trace given out0 out1 → RanCode p steps (Err f) in0 in1 out0 out2
-  part_written a f run held (others, split, writes) = ran a run (Err f) (bytes_of (trace ++ given)) writes (λ rest l.
+  part_written : (a : Answer) → Runs_to a → is_stopped a ≡ true → Writes true (step p s) trace given out0 out1 → RanCode p steps (Err Write) in0 in1 out0 out2
+  part_written a run held (others, split, writes) = ran a run (Err Write) (bytes_of (trace ++ given)) writes (λ rest l.
       let input = taken ++ rest in
       let here = run rest l ∙ stands a s rest trace held in
       let now : bytes_of (seen p input made).trace ≡ bytes_of trace = ap (λ r. bytes_of (run_seen r).trace) here in
@@ -151,13 +160,20 @@ module _ (p : Program) (steps made : ℕ) (within : made ≤ steps) (in0 in1 out
       (ran answer.NoHeap run (Ok stop.NoHeap) (bytes_of trace) (subst (λ es. Appends out0 out1 (bytes_of es)) none writes)
       (λ rest l. (ap (λ r. bytes_of (run_seen r).trace) (run rest l), subst (MakesObject p) (sym (run rest l)) stood.0, stood.1)))
 
-  -- a device failed, in the run or after it
-  pub failed : (a : Answer) (f : IoFault) → Runs_to a → Writes (is_stopped a) (step p s) trace given out0 out1 → RanCode p steps (Err f) in0 in1 out0 out2
-  failed answer.Going f run writes = all_written answer.Going f run writes
-  failed (answer.Ended n) f run writes = all_written (answer.Ended n) f run writes
-  failed (answer.Faulted g) f run writes = all_written (answer.Faulted g) f run writes
-  failed answer.NoHeap f run writes = part_written answer.NoHeap f run refl writes
-  failed (answer.Broken g) f run writes = part_written (answer.Broken g) f run refl writes
+  -- the writer failed, in the run or after it
+  pub unwritten : (a : Answer) → Runs_to a → Writes (is_stopped a) (step p s) trace given out0 out1 → RanCode p steps (Err Write) in0 in1 out0 out2
+  unwritten answer.Going run writes = all_written answer.Going run writes
+  unwritten (answer.Ended n) run writes = all_written (answer.Ended n) run writes
+  unwritten (answer.Faulted g) run writes = all_written (answer.Faulted g) run writes
+  unwritten answer.NoHeap run writes = part_written answer.NoHeap run refl writes
+  unwritten (answer.Broken g) run writes = part_written (answer.Broken g) run refl writes
+
+  -- the reader failed
+  pub unread_at : Runs_to (answer.Broken Read) → Writes true (step p s) trace given out0 out1 → IsAsking (step p s) → made < steps → RanCode p steps (Err Read) in0 in1 out0 out2
+  unread_at run (others, split, writes) asks fewer =
+      let none : trace ++ given ≡ trace = ap (λ es. trace ++ es) (none_given given others (sym split ∙ asking_silent (step p s) asks)) ∙ append-nil trace in
+      ran (answer.Broken Read) run (Err Read) (bytes_of trace) (subst (λ es. Appends out0 out1 (bytes_of es)) none writes)
+      (λ rest l. (ap (λ r. bytes_of (run_seen r).trace) (run rest l), subst (ReadsByte p) (sym (run rest l)) asks, fewer))
 
 -- ---- a run of a machine that was made for the code
 
@@ -194,8 +210,18 @@ module _ {S : Type 0} (out : S → Blocks) (stock : S → Option Stock) (refuses
   pub machine_stopped : (t : Stop) → said new.answer ≡ Ok t → RanCode old.program steps (Ok t) in0 in1 out0 out2
   machine_stopped t is = for_machine (Ok t) (stopped p steps runs.0 runs.3 in0 in1 out0 out1 out2 runs.1 runs.2 new.events runs.4.state runs.4.reads kept new.answer t is runs.4.run wrote all_made no_room_at)
 
-  pub machine_failed : (f : IoFault) → RanCode old.program steps (Err f) in0 in1 out0 out2
-  machine_failed f = for_machine (Err f) (failed p steps runs.0 runs.3 in0 in1 out0 out1 out2 runs.1 runs.2 new.events runs.4.state runs.4.reads kept new.answer f runs.4.run wrote)
+  pub machine_unwritten : (f : IoFault) → f ≡ Write → RanCode old.program steps (Err f) in0 in1 out0 out2
+  machine_unwritten f is = subst (λ f. RanCode old.program steps (Err f) in0 in1 out0 out2) (sym is)
+      (for_machine (Err Write) (unwritten p steps runs.0 runs.3 in0 in1 out0 out1 out2 runs.1 runs.2 new.events runs.4.state runs.4.reads kept new.answer runs.4.run wrote))
+
+  pub machine_unread : said new.answer ≡ Err Read → RanCode old.program steps (Err Read) in0 in1 out0 out2
+  machine_unread is =
+      let broke = read_broke new.answer is in
+      let made : new.steps ≡ 0 + runs.0 = runs.4.steps in
+      let fewer : runs.0 < steps = omega (arith, held going (ap is_stopped broke), none, made) in
+      let asks = subst (λ (q : Program). IsAsking (step q runs.4.state)) runs.4.program (runs.4.asks broke) in
+      for_machine (Err Read) (unread_at p steps runs.0 runs.3 in0 in1 out0 out1 out2 runs.1 runs.2 new.events runs.4.state runs.4.reads kept
+      (λ rest l. runs.4.run rest l ∙ ap (λ a. reached a runs.4.state rest runs.2) broke) (subst (λ a. Writes (is_stopped a) (step p runs.4.state) runs.2 new.events out0 out1) broke wrote) asks fewer)
 
 -- ---- what the program means
 
@@ -222,7 +248,8 @@ module _ (source : List ℕ) (p : Program) (compiled : Compiles source p) (steps
   meant_so (Ok (stop.Fault f)) written input h = let e = over input (correct.Faults f) h.1 in (ap (λ (x : Sight). bytes_of x.trace) e ∙ h.0, ap (λ (x : Sight). x.stop) e ∙ h.1)
   meant_so (Ok stop.StepsUsed) written input h = begun input written h.0
   meant_so (Ok stop.NoHeap) written input h = begun input written h.0
-  meant_so (Err f) written input h = starts_trans written (bytes_of (seen p input (suc made)).trace) (bytes_of (meant compiled.program input (suc made)).trace) h.1 (on_way input)
+  meant_so (Err Read) written input h = begun input written h.0
+  meant_so (Err Write) written input h = starts_trans written (bytes_of (seen p input (suc made)).trace) (bytes_of (meant compiled.program input (suc made)).trace) h.1 (on_way input)
 
 -- a run of the source's code
 pub ran_source : (source : List ℕ) (p : Program) → Compiles source p → (steps : ℕ) (a : Result Stop IoFault) (in0 in1 out0 out1 : Option (List ℕ)) → RanCode p steps a in0 in1 out0 out1 → Ran source steps a in0 in1 out0 out1

@@ -3,6 +3,7 @@ use Rattle.std.specs.Prelude.{◌≡◌, ℕ, List, [], ◌++◌, Some, slice_ge
 use Rattle.arc_spec.specs.Stepping.{Reached, Running, Ended, Faulted, Wedged, after_steps}
 use Rattle.arc_code.specs.declared.code.Op.TheVariants.{Alloc}
 use Rattle.arc_code.specs.Running.{Program, State, start, step}
+use Rattle.arc_machine.specs.Runs.{IsAsking}
 
 abbrev pub run_of : Program → (input : List ℕ) → (made : ℕ) → Reached State
 run_of p input made = after_steps (step p) made (Running start input [])
@@ -24,3 +25,10 @@ MakesObject p (Running s i t) = slice_get p.ops s.at ≡ Some Alloc
 MakesObject p (Ended n i t) = ⊥
 MakesObject p (Faulted f i t) = ⊥
 MakesObject p (Wedged i t) = ⊥
+
+-- it goes on at an instruction that reads a byte
+abbrev pub ReadsByte : Program → Reached State → Type 0
+ReadsByte p (Running s i t) = IsAsking (step p s)
+ReadsByte p (Ended n i t) = ⊥
+ReadsByte p (Faulted f i t) = ⊥
+ReadsByte p (Wedged i t) = ⊥

@@ -20,7 +20,7 @@ use Rattle.arc_tool.specs.declared.run.ToolFault.{ToolFault}
 use Rattle.arc_tool.specs.declared.run.ToolFault.TheVariants.{Refused, Memory, Io}
 use Rattle.arc_tool.specs.Accepted.{Compiles, class_names, meant}
 use Rattle.arc_tool.specs.Lines.{trace_text, events_text, end_text, open_after}
-use Rattle.arc_tool.specs.Progress.{run_of, Takes, MakesObject}
+use Rattle.arc_tool.specs.Progress.{run_of, Takes, MakesObject, ReadsByte}
 use Rattle.arc_tool.specs.Refused.{IsRefusal}
 use Rattle.arc_tool.specs.Told.{Names}
 
@@ -44,9 +44,10 @@ Within (Stopped StepsUsed) made steps = made ≡ steps
 Within (Stopped NoHeap) made steps = made < steps
 Within Unread made steps = made < steps
 
--- where there was no room for an object, the code goes on with one
+-- where there was no room for an object, the code goes on with one, and where the reader failed, with an instruction that reads
 abbrev pub GoesOn : Left → Program → Reached State → Type 0
 GoesOn (Stopped NoHeap) p r = MakesObject p r
+GoesOn Unread p r = ReadsByte p r
 GoesOn _ p r = ⊤
 
 -- A run of so many steps of the code, which took some first bytes of the reader's known ones: whatever is behind these, it takes exactly these, shows these events, and is over where it was left so.

@@ -2,7 +2,7 @@
 ghost use Rattle.std.specs.Prelude.{◌≡◌, ◌-◌, ◌^◌, ◌<◌, map, IfOk, IfErr, Ok, Err};
 ghost use Rattle.arc_code.specs.Attempts.{HasFailedToRead, HasFailedToWrite};
 ghost use Rattle.arc_code.specs.Counting.{failures_of, inner_of, left_in, held_by};
-ghost use Rattle.arc_code.specs.Running.{IsSound, Program, program_of};
+ghost use Rattle.arc_code.specs.Running.{IsSound, Program};
 ghost use Rattle.arc_code.specs.Written.{Written};
 ghost use Rattle.arc_machine.specs.Runs.{Lacks};
 ghost use Rattle.arc_machine.specs.Views.{fresh};

@@ -86,7 +86,10 @@ fn a_broken_step_has_the_events_that_it_gave(rt: HostRuntime) -> Result<(), Fail
     let mut writer = Counted::new(with_room(rt.alloc(), 2));
     let stop = machine.run(1_000, &mut reader, &mut writer);
     assert_eq!(rt; stop, Err(IoFault::Write));
-    assert_eq!(rt; machine.events(), [Event::Byte(b'a'), Event::Byte(b'b')].as_slice());
+    assert_eq!(rt;
+        machine.events(),
+        [Event::Byte(b'a'), Event::Byte(b'b')].as_slice()
+    );
     Ok(())
 }
 

@@ -1,6 +1,6 @@
 use Rattle.std.proofs.Common.{sym, subst, ap}
 use Rattle.std.proofs.lemmas.Result.{err_from_is_err_and}
-use Rattle.arc_code.specs.Running.{Program, program_of}
+use Rattle.arc_code.specs.Running.{Program}
 use Rattle.arc_tool.specs.Accepted.{Compiles}
 use Rattle.arc_tool.proofs.Running.{ran_source, refused_so}
 use Rattle.arc_tool.proofs.run.run_text.Goals as goal

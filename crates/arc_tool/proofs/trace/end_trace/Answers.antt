@@ -8,8 +8,7 @@ pub returns-in_err-flush-in-Stopped : goal.returns-in_err-flush-in-Stopped
 returns-in_err-flush-in-Stopped g c =
     let p = err_from_is_err_and c.from_residual-in_err-flush-in-Stopped.result c.from_residual-in_err-flush-in-Stopped.ensures.1 in
     let e = c.in_err-flush-in-Stopped.ensures in
-    let wrote = rw c.in-Stopped.is at c.in_ok-put_end-in-Stopped.ensures in
-    rw (c.in-Stopped.is, p.1, p.2) (flush_failed _ (end_text c.args.begun (Stopped c.in-Stopped.stop)) _ _ _ _ _ _ _ wrote e.kept e.fault e.cause e.failed)
+    rw (c.in-Stopped.is, p.1, p.2) (flush_failed _ (end_text c.args.begun (Stopped c.in-Stopped.stop)) _ _ _ _ _ _ _ c.in_ok-put_end-in-Stopped.ensures e.kept e.fault e.cause e.failed)
 
 pub returns-in-Ok : goal.returns-in-Ok
 returns-in-Ok g c =
