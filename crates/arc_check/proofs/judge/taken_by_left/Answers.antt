@@ -12,7 +12,7 @@ returns c = λ table.
     let behind = c.args.judged.taken in
     let unread = is_unread (seen table c.args.visible.now) (expr_tree c.args.left.now) in
     let read : c.if-is_unread.read ≡ (if c.is_unread.result then before else behind) = elim c.if-is_unread.branch [
-      then-is_unread w ↦ rw (w.read-is, w.if-is_unread.true) refl
+      | then-is_unread w ↦ rw (w.read-is, w.if-is_unread.true) refl
       | else-is_unread w ↦ rw (w.read-is, w.if-is_unread.false) refl
     ] in
     c.one_if.ensures ∙ ap (λ t. counted t (at_if c.is_object.result c.args.sign)) read
