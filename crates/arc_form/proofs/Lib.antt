@@ -1,0 +1,10 @@
+pub mod Sets
+pub mod Samples
+pub mod Static
+pub mod Local
+pub mod FormLocal
+pub mod FormSound
+pub mod FormBegins
+pub mod FormStarts
+pub mod FormComplete
+pub mod Rows
