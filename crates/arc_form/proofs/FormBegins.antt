@@ -23,11 +23,11 @@ unfolding loop
 loop_end h T ts s = rw s refl
 
 -- what is taken stays taken, whatever comes after it
-bind_left : {A B : Type 0} (x : Read A) (g : A → Reader B) (n : ℕ) → ((a : A) (s : List Tok) → length (rest_of (g a s)) ≤ length s) → length (rest_of x) < n → length (rest_of (bind x g)) < n
+pub bind_left : {A B : Type 0} (x : Read A) (g : A → Reader B) (n : ℕ) → ((a : A) (s : List Tok) → length (rest_of (g a s)) ≤ length s) → length (rest_of x) < n → length (rest_of (bind x g)) < n
 bind_left (Ok x) g n k p = omega (arith, k x.0 x.1)
 bind_left (Err x) g n k p = p
 
-ret_left : {A B : Type 0} (x : Read A) (h : A → B) → length (rest_of (bind x (λ a. ret (h a)))) ≤ length (rest_of x)
+pub ret_left : {A B : Type 0} (x : Read A) (h : A → B) → length (rest_of (bind x (λ a. ret (h a)))) ≤ length (rest_of x)
 ret_left (Ok x) h = omega arith
 ret_left (Err x) h = omega arith
 
@@ -43,7 +43,7 @@ turns_left {A = A} T h k (suc n) us = branch (λ v. turns_left T h k n v) (sees 
     branch m true = rest m (h us) (k us)
     branch m false = omega arith
 
-loop_first : {A : Type 0} (T : Kinds) (h : Reader A) (ts : List Tok) → ((us : List Tok) → length (rest_of (h us)) ≤ length us) → sees T ts ≡ true → length (rest_of (loop T h ts)) ≤ length (rest_of (h ts))
+pub loop_first : {A : Type 0} (T : Kinds) (h : Reader A) (ts : List Tok) → ((us : List Tok) → length (rest_of (h us)) ≤ length us) → sees T ts ≡ true → length (rest_of (loop T h ts)) ≤ length (rest_of (h ts))
 unfolding loop
 loop_first {A = A} T h ts k e = rw e (go (h ts))
   where
@@ -54,7 +54,7 @@ loop_first {A = A} T h ts k e = rw e (go (h ts))
 two_fails : (T U : Kinds) (ts : List Tok) → sees T ts ≡ false → sees_two T U ts ≡ false
 two_fails T U ts e = ap (λ b. b && sees_second U ts) e
 
-two_first : (T U : Kinds) (ts : List Tok) → sees_two T U ts ≡ true → sees T ts ≡ true
+pub two_first : (T U : Kinds) (ts : List Tok) → sees_two T U ts ≡ true → sees T ts ≡ true
 two_first T U ts e = (both (sees T ts) (sees_second U ts) e).0
 
 so_seen : (b : Bool) (T : Kinds) (ts : List Tok) → sees (if_so b T) ts ≡ true → (b ≡ true) × (sees T ts ≡ true)

@@ -35,7 +35,7 @@ loop_more {h = h} T ts r a front s e =
     let same : turns (length ts) T h r ≡ turns (suc (length r)) T h r = turns_same T (suc (length r)) (length ts) r (omega arith) fewer (front (suc (length r))) in
     rw (s, e, same) refl
 
-nested_fits : {A : Type 0} (most : Option ℕ) (d : ℕ) (T : Kinds) (f : Reader A) (ts : List Tok) → AtMost most d → nested most d T f ts ≡ f ts
+pub nested_fits : {A : Type 0} (most : Option ℕ) (d : ℕ) (T : Kinds) (f : Reader A) (ts : List Tok) → AtMost most d → nested most d T f ts ≡ f ts
 unfolding nested
 nested_fits None d T f ts p = refl
 nested_fits (Some n) d T f ts p = rw (le-ltb n d p) refl
@@ -102,7 +102,7 @@ module _ {N : Type 0} {Node : N → Type 0} (facts : N → Facts) where
         let p = of_many facts T f d in
         let m = sees_neither T (goes_on facts f) rest n in
         reads_all (run of limits f) (SpellsBy L limits f) T (goes_on facts f) (each_front limits f p.each p.head.some)
-          (λ a r ys y. sees_among (begins facts f) T ys p.head.within (some_starts facts L s limits f p.each p.head.some a r ys y)) p.further (reads limits f p.each) all rest xs x m.0 m.1
+        (λ a r ys y. sees_among (begins facts f) T ys p.head.within (some_starts facts L s limits f p.each p.head.some a r ys y)) p.further (reads limits f p.each) all rest xs x m.0 m.1
     reads limits (or_none T f b) d a rest xs (inl x) n =
         let p = of_headed facts T f d in
         let here : sees T (xs ++ rest) ≡ true = sees_more T xs rest (sees_among (begins facts f) T xs p.head.within (some_starts facts L s limits f p.each p.head.some a rest xs x)) in
@@ -121,14 +121,14 @@ module _ {N : Type 0} {Node : N → Type 0} (facts : N → Facts) where
         rw q (reads limits g p.right a rest xs x m.1)
 
   module _ (body : Bodies N Node) (sure : (n : N) → fits facts body n ≡ true) where
-    within_reads : (h : ℕ) → AllRead (read body) (Within body h)
+    pub within_reads : (h : ℕ) → AllRead (read body) (Within body h)
     unfolding Within
     within_reads zero limits n a rest xs x e = absurd x
     within_reads (suc h) limits n a rest xs x e =
         let p = of_fits facts body n (sure n) in
         read_is facts body sure limits n (xs ++ rest)
         ∙ reads (read body) (fronts facts body sure) (Within body h) (within_starts facts body sure h) (within_reads h) limits (body n) p.sure a rest xs x
-            (sees_none (goes_on facts (body n)) (facts n).goes_on rest p.further e)
+        (sees_none (goes_on facts (body n)) (facts n).goes_on rest p.further e)
 
     -- a rule reads what is spelled
     pub complete : AllRead (read body) (Spells body)

@@ -64,14 +64,14 @@ module _ {N : Type 0} {Node : N → Type 0} (facts : N → Facts) where
   inner S k g h plain fronts rec limits (f ⨾ f') d =
       let p = of_then facts f f' d in
       weaker (need (nullable facts f && nullable facts f')) (omega (arith, need_and (nullable facts f) (nullable facts f')))
-        (then (inner S k g h plain fronts rec limits f p.left) (λ a. then (inner S k g h plain fronts rec limits f' p.right) (λ b. local_ret (a, b))))
+      (then (inner S k g h plain fronts rec limits f p.left) (λ a. then (inner S k g h plain fronts rec limits f' p.right) (λ b. local_ret (a, b))))
   inner S k g h plain fronts rec limits (choose T f f') d =
       let p = of_choose facts T f f' d in
       local_if T (weaker (need (nullable facts f')) (need_one (nullable facts f')) (solid (nullable facts f) p.head.some (inner S k g h plain fronts rec limits f p.left))) (inner S k g h plain fronts rec limits f' p.right)
   inner S k g h plain fronts rec limits (many T f) d =
       let p = of_many facts T f d in
       local_loop T (λ so j. solid (nullable facts f) p.head.some (inner (λ l. ⊥) j h h (plain_none h) (λ l x. absurd x) (fronts limits so j) limits f p.each))
-        (solid (nullable facts f) p.head.some (inner S k g h plain fronts rec limits f p.each))
+      (solid (nullable facts f) p.head.some (inner S k g h plain fronts rec limits f p.each))
   inner S k g h plain fronts rec limits (or_none T f a) d =
       let p = of_headed facts T f d in
       local_if T (weaker 0 (omega arith) (inner S k g h plain fronts rec limits f p.each)) (local_ret a)
@@ -84,7 +84,7 @@ module _ {N : Type 0} {Node : N → Type 0} (facts : N → Facts) where
   inner S k g h plain fronts rec limits (two_ahead T U f f') d =
       let p = of_two_ahead facts T U f f' d in
       local_two T U (λ so. takes_here h limits _ f T p.head.all p.left (plain limits so)) (λ so. takes_here h limits _ f' T p.taken p.right (plain limits so))
-        (solid (nullable facts f) p.head.some (inner S k g h plain fronts rec limits f p.left)) (solid (nullable facts f') p.some (inner S k g h plain fronts rec limits f' p.right))
+      (solid (nullable facts f) p.head.some (inner S k g h plain fronts rec limits f p.left)) (solid (nullable facts f') p.some (inner S k g h plain fronts rec limits f' p.right))
 
   -- and one that reads a rule only after a token is local of k
   pub outer : (S : Deciding) (k : ℕ) (g h : Limits → Rules N Node) → Plain S h → ((limits : Limits) → S limits → Fronts h) → Alike S k g h
@@ -111,7 +111,7 @@ module _ {N : Type 0} {Node : N → Type 0} (facts : N → Facts) where
   outer S k g h plain fronts rec limits (many T f) d e =
       let p = of_many facts T f d in
       local_loop T (λ so j. solid (nullable facts f) p.head.some (inner (λ l. ⊥) j h h (plain_none h) (λ l x. absurd x) (fronts limits so j) limits f p.each))
-        (solid (nullable facts f) p.head.some (outer S k g h plain fronts rec limits f p.each e))
+      (solid (nullable facts f) p.head.some (outer S k g h plain fronts rec limits f p.each e))
   outer S k g h plain fronts rec limits (or_none T f a) d e =
       let p = of_headed facts T f d in
       local_if T (weaker 0 (omega arith) (outer S k g h plain fronts rec limits f p.each e)) (local_ret a)
@@ -125,7 +125,7 @@ module _ {N : Type 0} {Node : N → Type 0} (facts : N → Facts) where
       let p = of_two_ahead facts T U f f' d in
       let s = both (guarded facts f) (guarded facts f') e in
       local_two T U (λ so. takes_here h limits _ f T p.head.all p.left (plain limits so)) (λ so. takes_here h limits _ f' T p.taken p.right (plain limits so))
-        (solid (nullable facts f) p.head.some (outer S k g h plain fronts rec limits f p.left s.0)) (solid (nullable facts f') p.some (outer S k g h plain fronts rec limits f' p.right s.1))
+      (solid (nullable facts f) p.head.some (outer S k g h plain fronts rec limits f p.left s.0)) (solid (nullable facts f') p.some (outer S k g h plain fronts rec limits f' p.right s.1))
 
   module _ (body : Bodies N Node) (sure : (n : N) → fits facts body n ≡ true) where
     step : (S : Deciding) (k : ℕ) (g h : Limits → Rules N Node) → Plain S h → ((limits : Limits) → S limits → Fronts h) → Alike S k g h → Alike S (suc k) (λ limits n. run g limits (body n)) (λ limits n. run h limits (body n))

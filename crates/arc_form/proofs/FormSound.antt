@@ -75,14 +75,14 @@ sound_turns : {A : Type 0} {f : Reader A} {L : Spelling A} (n : ℕ) (T : Kinds)
 sound_turns zero T s = sound_unexpected
 sound_turns {L = L} (suc n) T s =
     sound_if T (sound_then s (λ a. sound_then (sound_turns n T s) (λ others. sound_ret (a ∷ others)
-      (λ r ys y xs x. (xs, ys ++ [], refl, subst (λ v. L a (v ++ r) xs) (sym (append-nil ys)) (subst (λ v. L a v xs) (ap (λ v. v ++ r) (append-nil ys)) x), last (SpellsAll L) others r ys y)))))
-      (sound_ret [] (λ r x. refl))
+    (λ r ys y xs x. (xs, ys ++ [], refl, subst (λ v. L a (v ++ r) xs) (sym (append-nil ys)) (subst (λ v. L a v xs) (ap (λ v. v ++ r) (append-nil ys)) x), last (SpellsAll L) others r ys y)))))
+    (sound_ret [] (λ r x. refl))
 
 sound_loop : {A : Type 0} {f : Reader A} {L : Spelling A} (T : Kinds) → Sound f L → Sound (loop T f) (SpellsAll L)
 unfolding loop
 sound_loop T s = record { each = λ ts a r e. (sound_turns (suc (length ts)) T s).each ts a r e }
 
-at_most : (most : Option ℕ) (d : ℕ) → is_above most d ≡ false → AtMost most d
+pub at_most : (most : Option ℕ) (d : ℕ) → is_above most d ≡ false → AtMost most d
 at_most None d e = tt
 at_most (Some n) d e = ltb-false n d e
 

@@ -70,7 +70,7 @@ two_fair T U (t ∷ []) r r' z (inl f) e = and_no (is T t) (sees U r') f
     and_no true b e = e
     and_no false b e = refl
 
-seen_some : (T : Kinds) (xs : List Tok) → sees T xs ≡ true → xs ≡ [] → ⊥
+pub seen_some : (T : Kinds) (xs : List Tok) → sees T xs ≡ true → xs ≡ [] → ⊥
 seen_some T [] s e = cc
 seen_some T (t ∷ xs) s e = cc
 
@@ -89,7 +89,7 @@ module _ {N : Type 0} {Node : N → Type 0} (facts : N → Facts) where
   starts L s limits (f ⨾ g) d a rest xs (ys, zs, c, x, y) =
       let p = of_then facts f g d in
       subst (Starts (nullable facts f && nullable facts g) (begins facts f ∪ if_so (nullable facts f) (begins facts g))) (sym c)
-        (starts_then (nullable facts f) (nullable facts g) (begins facts f) (begins facts g) ys zs (starts L s limits f p.left a.0 (zs ++ rest) ys x) (starts L s limits g p.right a.1 rest zs y))
+      (starts_then (nullable facts f) (nullable facts g) (begins facts f) (begins facts g) ys zs (starts L s limits f p.left a.0 (zs ++ rest) ys x) (starts L s limits g p.right a.1 rest zs y))
   starts L s limits (choose T f g) d a rest xs (inl x) =
       let p = of_choose facts T f g d in
       inr (sees_left (begins facts f) (begins facts g) xs (starts_some (nullable facts f) (begins facts f) xs p.head.some (starts L s limits f p.left a rest xs x)))
@@ -170,8 +170,10 @@ module _ {N : Type 0} {Node : N → Type 0} (facts : N → Facts) where
     fair c limits (two_ahead T U f g) d a r r' xs (inr (x, n)) q =
         let p = of_two_ahead facts T U f g d in
         let others = bars facts f ∪ bars facts g in
-        inr (fair c limits g p.right a r r' xs x (fair_less (bars facts g) (U ∪ others) r r' (λ ts m. none_right (bars facts f) (bars facts g) ts (none_right U others ts m)) q),
-          two_fair T U xs r r' (seen_some (begins facts g) xs (some_starts limits g p.right p.some a r xs x)) (fair_less U (U ∪ others) r r' (none_left U others) q) n)
+        inr (
+          fair c limits g p.right a r r' xs x (fair_less (bars facts g) (U ∪ others) r r' (λ ts m. none_right (bars facts f) (bars facts g) ts (none_right U others ts m)) q),
+          two_fair T U xs r r' (seen_some (begins facts g) xs (some_starts limits g p.right p.some a r xs x)) (fair_less U (U ∪ others) r r' (none_left U others) q) n,
+        )
 
   module _ (body : Bodies N Node) (sure : (n : N) → fits facts body n ≡ true) where
     pub within_starts : (h : ℕ) → AllStart (Within body h)
@@ -181,7 +183,7 @@ module _ {N : Type 0} {Node : N → Type 0} (facts : N → Facts) where
         let p = of_fits facts body n (sure n) in
         sees_among (begins facts (body n)) (facts n).begins xs p.head.within (some_starts (Within body h) (within_starts h) limits (body n) p.sure p.head.some a rest xs x)
 
-    within_fair : (h : ℕ) → AllFair (Within body h) (within_starts h)
+    pub within_fair : (h : ℕ) → AllFair (Within body h) (within_starts h)
     unfolding Within
     within_fair zero limits n a r r' xs x q = absurd x
     within_fair (suc h) limits n a r r' xs x q =

@@ -8,3 +8,9 @@ pub mod FormBegins
 pub mod FormStarts
 pub mod FormComplete
 pub mod Rows
+pub mod FormFirm
+pub mod FormStuck
+pub mod FormBelow
+pub mod FormTell
+pub mod FormWhole
+pub mod FormAnswers

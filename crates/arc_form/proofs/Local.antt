@@ -87,7 +87,7 @@ after {f = f} {h = h} {g = g} {g' = g'} l m = record { each = λ ts few. stops_b
 pub local_ret : {A : Type 0} {S : Type 0} {k : ℕ} (a : A) → Local S 0 k (ret a) (ret a)
 local_ret a = record { each = λ ts few. record { before = []; cut = refl; moves = omega arith; agrees = refl; same = λ so more e. refl } }
 
-local_unexpected : {A : Type 0} {S : Type 0} {d k : ℕ} → Local {A = A} S d k unexpected unexpected
+pub local_unexpected : {A : Type 0} {S : Type 0} {d k : ℕ} → Local {A = A} S d k unexpected unexpected
 local_unexpected = record { each = λ ts few. record { before = []; cut = refl; moves = tt; agrees = refl; same = λ so more e. refl } }
 
 local_too_deep : {A : Type 0} {S : Type 0} {d k : ℕ} → Local {A = A} S d k too_deep_here too_deep_here

@@ -88,14 +88,14 @@ module _ {N : Type 0} {Node : N → Type 0} (facts : N → Facts) where
   abbrev pub heads : Kinds → {A : Type 0} → Form N Node A → Bool
   heads T f = not (nullable f) && (among (begins f) T && among T (begins f))
 
-  -- whether it has an example that no rule takes part in, of the last alternatives and of as little as may be
+  -- whether it has an example that no rule takes part in
   abbrev pub simple : {A : Type 0} → Form N Node A → Bool
   simple (token T g) = is T (sample T)
   simple (give a) = true
   simple (call n) = false
   simple (map h f) = simple f
   simple (f ⨾ g) = simple f && simple g
-  simple (choose T f g) = simple g
+  simple (choose T f g) = simple g || (not (nullable g) && simple f)
   simple (many T f) = true
   simple (or_none T f a) = true
   simple (nest d T f) = simple f
