@@ -1,11 +1,11 @@
 -- Where a limit is passed, a form refuses the token there as too deep.
-use Rattle.std.proofs.Common.{◌≡◌, ◌⊎◌, inl, inr, ℕ, zero, suc, ◌<◌, ◌≤◌, ◌+◌, List, [], ◌∷◌, ◌++◌, length, length-append, append_assoc, drop, nat_lt, Ok, Err, Bool, true, false, cond, ◌&&◌, Option, Some, None, refl, sym, ap, subst, ◌∙◌, arith}
+use Rattle.std.proofs.Common.{◌≡◌, inl, inr, ℕ, zero, suc, ◌<◌, ◌≤◌, ◌+◌, List, [], ◌∷◌, ◌++◌, length, length-append, append_assoc, drop, nat_lt, Ok, Err, Bool, true, false, Option, Some, None, refl, sym, ap, subst, ◌∙◌, arith}
 use Rattle.std.proofs.lemmas.Bool.{ltb-true, ltb-false, lt-ltb}
 use Rattle.arc_lex.specs.Tokens.{Tok}
 use Rattle.arc_form.specs.Kinds.{Kinds, ◌∪◌}
-use Rattle.arc_form.specs.Reader.{Read, Reader, too_deep, bind, ◌>>=◌, ret, first, sees, sees_second, sees_two, loop, is_above, nested, goes_over, up_to}
+use Rattle.arc_form.specs.Reader.{Read, Reader, too_deep, bind, ◌>>=◌, ret, first, sees, sees_second, loop, is_above, nested, goes_over, up_to}
 use Rattle.arc_form.specs.Form.{Limits, unlimited, Form, Bodies, token, give, call, map, ◌⨾◌, choose, many, or_none, nest, bounded, two_ahead, run, read}
-use Rattle.arc_form.specs.Meaning.{AtMost, Spelling, SpellsAll, SpellsBy, Spells}
+use Rattle.arc_form.specs.Meaning.{Spelling, SpellsAll, SpellsBy, Spells}
 use Rattle.arc_form.specs.Places.{OneTooMany, PassesBy, PassesWithin, Passes}
 use Rattle.arc_form.specs.Whole.{end, read_whole}
 use Rattle.arc_form.proofs.Sets.{apart, sees_among, sees_apart, sees_other, sees_left, sees_right, sees_more}

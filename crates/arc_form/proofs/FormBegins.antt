@@ -1,13 +1,13 @@
 -- Without limits a form takes a first token with which it begins, and refuses any other.
-use Rattle.std.proofs.Common.{◌≡◌, inl, inr, ℕ, zero, suc, ◌<◌, ◌≤◌, ◌+◌, List, [], ◌∷◌, length, Ok, Err, Bool, true, false, cond, not, ◌&&◌, ◌||◌, Option, None, refl, sym, ap, subst, ◌∙◌, arith}
+use Rattle.std.proofs.Common.{◌≡◌, ℕ, zero, suc, ◌<◌, ◌≤◌, ◌+◌, List, [], ◌∷◌, length, Ok, Err, Bool, true, false, cond, not, ◌&&◌, ◌||◌, refl, sym, ap, subst, ◌∙◌, arith}
 use Rattle.arc_lex.specs.Tokens.{Tok}
 use Rattle.arc_form.specs.Kinds.{Kinds, none, ◌∪◌, is}
-use Rattle.arc_form.specs.Reader.{Read, Reader, misfit, bind, ◌>>=◌, ret, sees, sees_second, sees_two, taken, take_one, turns, loop, nested, up_to}
+use Rattle.arc_form.specs.Reader.{Read, Reader, misfit, bind, ◌>>=◌, ret, sees, sees_second, sees_two, taken, turns, loop, nested, up_to}
 use Rattle.arc_form.specs.Form.{Limits, unlimited, Form, Rules, Bodies, token, give, call, map, ◌⨾◌, choose, many, or_none, nest, bounded, two_ahead, run, deep, read}
-use Rattle.arc_form.proofs.Sets.{among, both, no_both, sees_among, sees_none, sees_other, sees_neither, sees_or}
+use Rattle.arc_form.proofs.Sets.{both, sees_among, sees_none, sees_neither, sees_or}
 use Rattle.arc_form.proofs.Static.{Facts, if_so, nullable, begins, guarded, decided, second, fits, of_then, of_choose, of_many, of_headed, of_bounded, of_two_ahead, of_heads, of_fits}
-use Rattle.arc_form.proofs.Local.{Local, rest_of}
-use Rattle.arc_form.proofs.FormLocal.{solid, read_is, form_front, form_left}
+use Rattle.arc_form.proofs.Local.{rest_of}
+use Rattle.arc_form.proofs.FormLocal.{read_is, form_left}
 
 -- nothing is taken: that gives a value where there may be no token, and is a refusal where there must be one
 abbrev pub Idle : {A : Type 0} → Bool → Read A → List Tok → Type 0

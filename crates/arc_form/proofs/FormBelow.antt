@@ -1,13 +1,13 @@
 -- Under limits a form reads what it reads without, or it refuses a token, as too deep, that it would get to without.
-use Rattle.std.proofs.Common.{◌≡◌, ◌⊎◌, inl, inr, ℕ, zero, suc, ◌<◌, ◌≤◌, ◌+◌, List, [], ◌∷◌, ◌++◌, length, length-append, append_assoc, drop, nat_lt, Ok, Err, Bool, true, false, cond, ◌&&◌, Option, Some, None, refl, sym, ap, subst, ◌∙◌, arith}
+use Rattle.std.proofs.Common.{◌≡◌, ◌⊎◌, inl, inr, ℕ, zero, suc, ◌<◌, ◌≤◌, ◌+◌, List, [], ◌∷◌, ◌++◌, length, length-append, append_assoc, drop, nat_lt, Ok, Err, Bool, true, false, cond, Option, Some, None, refl, sym, ap, subst, ◌∙◌, arith}
 use Rattle.std.proofs.lemmas.Bool.{ltb-true}
 use Rattle.arc_lex.specs.Tokens.{Tok}
 use Rattle.arc_form.specs.Kinds.{Kinds}
-use Rattle.arc_form.specs.Reader.{Read, Reader, misfit, too_deep, bind, ◌>>=◌, ret, unexpected, too_deep_here, sees, sees_two, if_sees, turns, loop, is_above, nested, goes_over, cut, up_to}
+use Rattle.arc_form.specs.Reader.{Read, Reader, misfit, too_deep, bind, ◌>>=◌, ret, unexpected, too_deep_here, sees, sees_two, if_sees, turns, loop, is_above, nested, goes_over, up_to}
 use Rattle.arc_form.specs.Form.{Limits, unlimited, Form, Rules, Bodies, token, give, call, map, ◌⨾◌, choose, many, or_none, nest, bounded, two_ahead, run, deep, read}
 use Rattle.arc_form.proofs.Sets.{both, sees_none}
 use Rattle.arc_form.proofs.Static.{Facts, nullable, begins, decided, fits, of_then, of_choose, of_many, of_headed, of_bounded, of_two_ahead, of_fits}
-use Rattle.arc_form.proofs.Local.{Local, rest_of, local_unexpected}
+use Rattle.arc_form.proofs.Local.{rest_of, local_unexpected}
 use Rattle.arc_form.proofs.FormLocal.{Fronts, inner, solid, fronts}
 use Rattle.arc_form.proofs.FormBegins.{Refuses, idle, idle_some, deep_refuses, read_refuses}
 

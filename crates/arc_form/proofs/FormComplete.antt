@@ -1,14 +1,14 @@
 -- A form reads what is spelled; and whatever comes after its tokens, it reads them all.
-use Rattle.std.proofs.Common.{◌≡◌, ◌⊎◌, inl, inr, ℕ, zero, suc, ◌<◌, ◌≤◌, ◌+◌, List, [], ◌∷◌, ◌++◌, length, length-append, append_assoc, append-nil, Ok, Err, Bool, true, false, cond, ◌&&◌, Option, Some, None, refl, sym, ap, subst, ◌∙◌, arith}
+use Rattle.std.proofs.Common.{◌≡◌, inl, inr, ℕ, zero, suc, ◌<◌, ◌+◌, List, [], ◌∷◌, ◌++◌, length, length-append, append_assoc, Ok, Bool, true, false, Option, Some, None, refl, ap, subst, ◌∙◌, arith}
 use Rattle.std.proofs.lemmas.Bool.{le-ltb}
 use Rattle.arc_lex.specs.Tokens.{Tok}
-use Rattle.arc_form.specs.Kinds.{Kinds, ◌∪◌, is}
-use Rattle.arc_form.specs.Reader.{Read, Reader, bind, ◌>>=◌, ret, sees, sees_second, sees_two, taken, take_one, turns, loop, nested, goes_over, up_to}
+use Rattle.arc_form.specs.Kinds.{Kinds, ◌∪◌}
+use Rattle.arc_form.specs.Reader.{Read, Reader, bind, ret, sees, sees_second, sees_two, turns, loop, nested, up_to}
 use Rattle.arc_form.specs.Form.{Limits, unlimited, Form, Rules, Bodies, token, give, call, map, ◌⨾◌, choose, many, or_none, nest, bounded, two_ahead, run, read}
 use Rattle.arc_form.specs.Meaning.{AtMost, Spelling, SpellsAll, SpellsBy, Within, Spells}
-use Rattle.arc_form.proofs.Sets.{among, apart, sees_among, sees_apart, sees_none, sees_other, sees_neither, sees_more, second_more}
-use Rattle.arc_form.proofs.Static.{Facts, if_so, nullable, begins, goes_on, bars, decided, fits, of_then, of_choose, of_many, of_headed, of_bounded, of_two_ahead, of_fits}
-use Rattle.arc_form.proofs.Local.{StopsAt, Local, turns_same, rest_of}
+use Rattle.arc_form.proofs.Sets.{apart, sees_among, sees_apart, sees_none, sees_other, sees_neither, sees_more, second_more}
+use Rattle.arc_form.proofs.Static.{Facts, if_so, nullable, begins, goes_on, decided, fits, of_then, of_choose, of_many, of_headed, of_bounded, of_two_ahead, of_fits}
+use Rattle.arc_form.proofs.Local.{StopsAt, Local, turns_same}
 use Rattle.arc_form.proofs.FormLocal.{Fronts, solid, inner, read_is, fronts}
 use Rattle.arc_form.proofs.FormBegins.{loop_end}
 use Rattle.arc_form.proofs.FormStarts.{Starts, AllStart, starts, start_all, some_starts, second_starts, within_starts}

@@ -1,13 +1,13 @@
 -- What is spelled is read to its end, whatever comes after it: a form gives it, or takes more.
-use Rattle.std.proofs.Common.{◌≡◌, ◌⊎◌, inl, inr, ℕ, zero, suc, ◌<◌, ◌≤◌, ◌+◌, List, [], ◌∷◌, ◌++◌, length, append_assoc, append-nil, Ok, Err, Bool, true, false, cond, ◌&&◌, Option, None, refl, sym, ap, subst, ◌∙◌, arith}
+use Rattle.std.proofs.Common.{◌≡◌, ◌⊎◌, inl, inr, ℕ, zero, suc, ◌<◌, ◌≤◌, ◌+◌, List, [], ◌∷◌, ◌++◌, length, append_assoc, Ok, Bool, true, false, cond, ◌&&◌, refl, sym, ap, subst, ◌∙◌, arith}
 use Rattle.arc_lex.specs.Tokens.{Tok}
-use Rattle.arc_form.specs.Kinds.{Kinds, ◌∪◌, is}
-use Rattle.arc_form.specs.Reader.{Read, Reader, bind, ◌>>=◌, ret, first, sees, sees_second, sees_two, loop, nested, up_to}
-use Rattle.arc_form.specs.Form.{Limits, unlimited, Form, Rules, Bodies, token, give, call, map, ◌⨾◌, choose, many, or_none, nest, bounded, two_ahead, run, read}
+use Rattle.arc_form.specs.Kinds.{Kinds, is}
+use Rattle.arc_form.specs.Reader.{Read, Reader, bind, ◌>>=◌, ret, sees, sees_two, loop, nested, up_to}
+use Rattle.arc_form.specs.Form.{Limits, unlimited, Form, Bodies, token, give, call, map, ◌⨾◌, choose, many, or_none, nest, bounded, two_ahead, run, read}
 use Rattle.arc_form.specs.Meaning.{Spelling, SpellsAll, SpellsBy, Within, Spells}
-use Rattle.arc_form.proofs.Sets.{among, apart, both, no_both, sees_among, sees_apart, sees_other, sees_more}
-use Rattle.arc_form.proofs.Static.{Facts, Many, nullable, begins, goes_on, bars, decided, fits, of_then, of_choose, of_many, of_headed, of_bounded, of_two_ahead, of_fits}
-use Rattle.arc_form.proofs.Local.{Local, rest_of}
+use Rattle.arc_form.proofs.Sets.{apart, sees_among, sees_apart, sees_other, sees_more}
+use Rattle.arc_form.proofs.Static.{Facts, Many, nullable, begins, goes_on, decided, fits, of_then, of_choose, of_many, of_headed, of_bounded, of_two_ahead, of_fits}
+use Rattle.arc_form.proofs.Local.{rest_of}
 use Rattle.arc_form.proofs.FormLocal.{read_is, fronts, form_left}
 use Rattle.arc_form.proofs.FormBegins.{loop_end, loop_first, bind_left, ret_left, form_takes, takes_two}
 use Rattle.arc_form.proofs.FormStarts.{Starts, AllStart, AllFair, starts, start_all, some_starts, second_starts, fair, within_starts, within_fair, spells_starts, spells_fair}

@@ -1,8 +1,8 @@
 -- What a rule of a grammar reads depends on no token after the one at which it stops, and on no bound of the rules under way.
-use Rattle.std.proofs.Common.{◌≡◌, ℕ, zero, suc, ◌<◌, ◌≤◌, ◌+◌, List, length, Ok, Err, Bool, true, false, cond, not, ◌&&◌, ◌||◌, Option, None, refl, sym, ap, subst, ◌∙◌, arith}
+use Rattle.std.proofs.Common.{◌≡◌, ℕ, zero, suc, ◌<◌, ◌≤◌, ◌+◌, List, length, Bool, true, false, not, ◌&&◌, ◌||◌, None, sym, ap, subst, arith}
 use Rattle.arc_lex.specs.Tokens.{Tok}
 use Rattle.arc_form.specs.Kinds.{Kinds}
-use Rattle.arc_form.specs.Reader.{Reader, ◌>>=◌, ret, sees}
+use Rattle.arc_form.specs.Reader.{Reader}
 use Rattle.arc_form.specs.Form.{Limits, unlimited, Form, Rules, Bodies, token, give, call, map, ◌⨾◌, choose, many, or_none, nest, bounded, two_ahead, run, deep, read}
 use Rattle.arc_form.proofs.Sets.{among, both, sees_among}
 use Rattle.arc_form.proofs.Static.{Facts, nullable, begins, guarded, decided, fits, of_then, of_choose, of_many, of_headed, of_bounded, of_two_ahead, of_fits}

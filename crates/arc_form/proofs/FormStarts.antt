@@ -1,12 +1,12 @@
 -- How the tokens begin that a form spells, and before which others they spell the same.
-use Rattle.std.proofs.Common.{◌≡◌, ◌⊎◌, inl, inr, ℕ, zero, suc, List, [], ◌∷◌, ◌++◌, append_assoc, Bool, true, false, not, ◌&&◌, ◌||◌, refl, sym, ap, subst, ◌∙◌}
+use Rattle.std.proofs.Common.{◌≡◌, ◌⊎◌, inl, inr, ℕ, zero, suc, List, [], ◌∷◌, ◌++◌, Bool, true, false, ◌&&◌, refl, sym, ap, subst, ◌∙◌}
 use Rattle.arc_lex.specs.Tokens.{Tok}
-use Rattle.arc_form.specs.Kinds.{Kinds, none, ◌∪◌, is}
+use Rattle.arc_form.specs.Kinds.{Kinds, ◌∪◌, is}
 use Rattle.arc_form.specs.Reader.{first, sees, sees_second, sees_two}
 use Rattle.arc_form.specs.Form.{Limits, unlimited, Form, Bodies, token, give, call, map, ◌⨾◌, choose, many, or_none, nest, bounded, two_ahead}
 use Rattle.arc_form.specs.Meaning.{Spelling, SpellsAll, SpellsBy, Within, Spells}
-use Rattle.arc_form.proofs.Sets.{among, apart, no_both, sees_among, sees_none, sees_other, sees_left, sees_right, sees_neither, sees_alike, sees_more}
-use Rattle.arc_form.proofs.Static.{Facts, if_so, nullable, begins, goes_on, bars, decided, second, fits, of_then, of_choose, of_many, of_headed, of_bounded, of_two_ahead, of_heads, of_fits}
+use Rattle.arc_form.proofs.Sets.{no_both, sees_among, sees_none, sees_left, sees_right, sees_neither, sees_alike, sees_more}
+use Rattle.arc_form.proofs.Static.{Facts, if_so, nullable, begins, bars, decided, second, fits, of_then, of_choose, of_many, of_headed, of_bounded, of_two_ahead, of_heads, of_fits}
 
 -- There are no tokens, where there may be none, or they begin so.
 abbrev pub Starts : Bool → Kinds → List Tok → Type 0

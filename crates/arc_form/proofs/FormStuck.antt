@@ -1,18 +1,18 @@
 -- Without limits, the tokens before a refused one go on to something that the form spells.
-use Rattle.std.proofs.Common.{◌≡◌, ◌⊎◌, inl, inr, ℕ, zero, suc, ◌<◌, ◌≤◌, ◌+◌, List, [], ◌∷◌, ◌++◌, length, length-append, append_assoc, append-nil, Ok, Err, Bool, true, false, cond, not, ◌&&◌, ◌||◌, Option, None, refl, sym, ap, subst, ◌∙◌, arith}
+use Rattle.std.proofs.Common.{◌≡◌, inl, inr, ℕ, zero, suc, ◌<◌, ◌≤◌, ◌+◌, List, [], ◌∷◌, ◌++◌, length, append_assoc, Ok, Err, Bool, true, false, cond, not, ◌&&◌, ◌||◌, refl, sym, ap, subst, ◌∙◌, arith}
 use Rattle.arc_lex.specs.Tokens.{Tok}
 use Rattle.arc_form.specs.Kinds.{Kinds, none, ◌∪◌, is}
-use Rattle.arc_form.specs.Reader.{Read, Reader, Fault, bind, ◌>>=◌, ret, unexpected, first, sees, sees_second, sees_two, if_sees, taken, take_one, turns, loop, nested, up_to}
-use Rattle.arc_form.specs.Form.{Limits, unlimited, Form, Rules, Bodies, token, give, call, map, ◌⨾◌, choose, many, or_none, nest, bounded, two_ahead, run, read}
+use Rattle.arc_form.specs.Reader.{Read, Reader, Fault, bind, ◌>>=◌, ret, first, sees, sees_two, taken, take_one, turns, loop, nested, up_to}
+use Rattle.arc_form.specs.Form.{Limits, unlimited, Form, Bodies, token, give, call, map, ◌⨾◌, choose, many, or_none, nest, bounded, two_ahead, run, read}
 use Rattle.arc_form.specs.Meaning.{Spelling, SpellsAll, SpellsBy, Within, Spells}
-use Rattle.arc_form.proofs.Sets.{apart, both, no_both, sees_among, sees_none, sees_other, sees_neither, sees_or, sees_more}
+use Rattle.arc_form.proofs.Sets.{apart, both, no_both, sees_among, sees_none, sees_other, sees_neither, sees_more}
 use Rattle.arc_form.proofs.Samples.{sample}
-use Rattle.arc_form.proofs.Static.{Facts, if_so, nullable, begins, goes_on, bars, guarded, simple, second, decided, fits, of_then, of_choose, of_many, of_headed, of_bounded, of_two_ahead, of_heads, of_fits}
+use Rattle.arc_form.proofs.Static.{Facts, if_so, nullable, begins, bars, guarded, simple, second, decided, fits, of_then, of_choose, of_many, of_headed, of_bounded, of_two_ahead, of_fits}
 use Rattle.arc_form.proofs.Local.{rest_of}
 use Rattle.arc_form.proofs.FormLocal.{form_front, form_left, read_is, solid}
 use Rattle.arc_form.proofs.FormSound.{Sound, form_sound}
 use Rattle.arc_form.proofs.FormBegins.{Idle, form_idle, form_takes}
-use Rattle.arc_form.proofs.FormStarts.{Starts, Fair, fair_less, none_left, none_right, none_so, starts, start_all, some_starts, spells_starts, form_fair}
+use Rattle.arc_form.proofs.FormStarts.{Starts, Fair, none_left, none_right, starts, start_all, some_starts, spells_starts, form_fair}
 use Rattle.arc_form.proofs.FormComplete.{stops_fewer}
 
 -- ---- one height for all parts

@@ -1,22 +1,20 @@
 -- Where a form refuses a token as too deep, a limit is passed there, and a form without limits would go on.
-use Rattle.std.proofs.Common.{◌≡◌, ◌⊎◌, inl, inr, ℕ, zero, suc, ◌<◌, ◌≤◌, ◌+◌, List, [], ◌∷◌, ◌++◌, length, length-append, append_assoc, append-nil, take, drop, nat_lt, Ok, Err, Bool, true, false, cond, not, ◌&&◌, ◌||◌, Option, Some, None, refl, sym, ap, subst, ◌∙◌, arith}
-use Rattle.std.proofs.lemmas.List.{append_cancel_right}
+use Rattle.std.proofs.Common.{◌≡◌, ◌⊎◌, inl, inr, ℕ, zero, suc, ◌<◌, ◌≤◌, ◌+◌, List, [], ◌∷◌, ◌++◌, length, length-append, append_assoc, drop, nat_lt, Ok, Err, Bool, true, false, cond, not, ◌&&◌, ◌||◌, Option, Some, None, refl, sym, ap, subst, ◌∙◌, arith}
 use Rattle.std.proofs.lemmas.Bool.{ltb-true, ltb-false}
 use Rattle.arc_lex.specs.Tokens.{Tok}
-use Rattle.arc_form.specs.Kinds.{Kinds, ◌∪◌, is}
+use Rattle.arc_form.specs.Kinds.{Kinds, is}
 use Rattle.arc_form.specs.Reader.{Read, Reader, Fault, misfit, too_deep, bind, ◌>>=◌, ret, unexpected, too_deep_here, sees, sees_two, if_sees, taken, take_one, turns, loop, is_above, nested, goes_over, up_to}
-use Rattle.arc_form.specs.Form.{Limits, unlimited, Form, Rules, Bodies, token, give, call, map, ◌⨾◌, choose, many, or_none, nest, bounded, two_ahead, run, read}
+use Rattle.arc_form.specs.Form.{Limits, unlimited, Form, Bodies, token, give, call, map, ◌⨾◌, choose, many, or_none, nest, bounded, two_ahead, run, read}
 use Rattle.arc_form.specs.Meaning.{AtMost, Spelling, SpellsAll, SpellsBy, Spells}
 use Rattle.arc_form.specs.Places.{Place, Begun, OneTooMany, PassesBy, PassesWithin, Passes}
-use Rattle.arc_form.proofs.Sets.{both, sees_nothing}
-use Rattle.arc_form.proofs.Static.{Facts, nullable, begins, bars, guarded, decided, fits, of_then, of_choose, of_many, of_headed, of_bounded, of_two_ahead, of_fits}
-use Rattle.arc_form.proofs.Local.{rest_of, fault_of, take_drop}
+use Rattle.arc_form.proofs.Static.{Facts, nullable, guarded, decided, fits, of_then, of_choose, of_many, of_headed, of_bounded, of_two_ahead, of_fits}
+use Rattle.arc_form.proofs.Local.{rest_of, fault_of}
 use Rattle.arc_form.proofs.FormLocal.{form_front, form_left, read_is, solid}
 use Rattle.arc_form.proofs.FormSound.{Sound, form_sound, at_most}
 use Rattle.arc_form.proofs.FormStarts.{form_fair}
 use Rattle.arc_form.proofs.FormComplete.{stops_fewer}
 use Rattle.arc_form.proofs.FormFirm.{Firm, form_firm}
-use Rattle.arc_form.proofs.FormStuck.{Stuck, Bound, bound_less, bound_next, or_here, or_there, or_next, form_stuck}
+use Rattle.arc_form.proofs.FormStuck.{Bound, bound_less, bound_next, or_here, or_there, or_next, form_stuck}
 use Rattle.arc_form.proofs.FormBelow.{over_takes}
 
 -- the tokens from r on come after some at which P holds

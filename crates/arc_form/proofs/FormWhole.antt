@@ -1,15 +1,14 @@
 -- All of the tokens: what is read of them is what they spell, and each refusal says where and why they spell nothing.
-use Rattle.std.proofs.Common.{◌≡◌, ◌⊎◌, inl, inr, ℕ, zero, suc, ◌<◌, ◌≤◌, ◌+◌, List, [], ◌∷◌, ◌++◌, length, length-append, append_assoc, append-nil, Ok, Err, Bool, true, false, Option, Some, None, refl, sym, ap, subst, ◌∙◌, arith}
+use Rattle.std.proofs.Common.{◌≡◌, ◌⊎◌, inl, inr, suc, List, [], ◌∷◌, ◌++◌, length, append_assoc, append-nil, Ok, Err, true, false, Some, None, refl, sym, ap, subst, ◌∙◌, arith}
 use Rattle.std.proofs.lemmas.List.{append_cancel_right}
 use Rattle.arc_lex.specs.Tokens.{Tok}
 use Rattle.arc_form.specs.Kinds.{Kinds}
-use Rattle.arc_form.specs.Reader.{Read, Reader, Fault, misfit, too_deep, bind, ◌>>=◌, ret, first, sees}
+use Rattle.arc_form.specs.Reader.{Read, Reader, Fault, misfit, too_deep, bind, ret, first, sees}
 use Rattle.arc_form.specs.Form.{Limits, unlimited, Form, Bodies, run, read}
 use Rattle.arc_form.specs.Meaning.{SpellsBy, Spells}
 use Rattle.arc_form.specs.Places.{Begun, Passes}
 use Rattle.arc_form.specs.Whole.{SpellsWhole, end, read_whole, FitsNone}
-use Rattle.arc_form.proofs.Sets.{sees_nothing}
-use Rattle.arc_form.proofs.Static.{Facts, nullable, decided, fits, goes_on}
+use Rattle.arc_form.proofs.Static.{Facts, nullable, decided, fits}
 use Rattle.arc_form.proofs.Local.{StopsAt, rest_of, fault_of, put}
 use Rattle.arc_form.proofs.FormLocal.{need, form_local}
 use Rattle.arc_form.proofs.FormSound.{ok_is, form_sound}

@@ -1,10 +1,10 @@
 -- Loops that read one thing more, whatever it is, after those that were read.
-use Rattle.std.proofs.Common.{◌≡◌, ℕ, List, [], ◌∷◌, ◌++◌, Ok, Err, Bool, true, false, refl, sym, ap, ◌∙◌}
+use Rattle.std.proofs.Common.{◌≡◌, ℕ, List, [], ◌∷◌, ◌++◌, Ok, Err, true, false, refl, sym, ap, ◌∙◌}
 use Rattle.arc_lex.specs.Tokens.{Tok, toks}
 use Rattle.arc_form.specs.Kinds.{Kinds}
 use Rattle.arc_form.specs.declared.fail.Fail.{Fail}
 use Rattle.arc_form.specs.declared.fail.Fail.TheVariants.{Memory, Unexpected, TooDeep}
-use Rattle.arc_form.specs.Reader.{Read, Reader, Fails, Fault, misfit, too_deep, bind, ret, sees, turns, loop}
+use Rattle.arc_form.specs.Reader.{Read, Reader, Fails, Fault, misfit, too_deep, bind, ret, sees, loop}
 use Rattle.arc_form.specs.Views.{all, before, with_row}
 use Rattle.arc_form.proofs.Local.{Local}
 use Rattle.arc_form.proofs.FormBegins.{loop_end}

@@ -1,5 +1,5 @@
 -- A token of each set of kinds.
-use Rattle.std.proofs.Common.{◌≡◌, ℕ, pos, List, [], ◌∷◌, Bool, if◌then◌else◌}
+use Rattle.std.proofs.Common.{pos, List, [], ◌∷◌, if◌then◌else◌}
 use Rattle.arc_lex.specs.declared.token.Mark.TheVariants as m
 use Rattle.arc_lex.specs.declared.token.Word.TheVariants as w
 use Rattle.arc_lex.specs.declared.token.AtWord.TheVariants as ats

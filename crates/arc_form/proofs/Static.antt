@@ -1,7 +1,6 @@
 -- What is read off a form without any tokens, and the test that each rule of a grammar must pass.
-use Rattle.std.proofs.Common.{◌≡◌, ℕ, Bool, true, false, cond, not, ◌&&◌, ◌||◌, refl, sym, ap, ◌∙◌}
-use Rattle.arc_lex.specs.Tokens.{Tok}
-use Rattle.arc_form.specs.Kinds.{Kinds, none, one, ◌∪◌, is}
+use Rattle.std.proofs.Common.{◌≡◌, Bool, true, false, not, ◌&&◌, ◌||◌}
+use Rattle.arc_form.specs.Kinds.{Kinds, none, ◌∪◌, is}
 use Rattle.arc_form.specs.Form.{Form, Bodies, token, give, call, map, ◌⨾◌, choose, many, or_none, nest, bounded, two_ahead}
 use Rattle.arc_form.proofs.Sets.{among, apart, both, not_true}
 use Rattle.arc_form.proofs.Samples.{sample}

@@ -1,5 +1,5 @@
 -- What functions promise that fill vectors.
-use Rattle.std.specs.Prelude.{List, [], ◌∷◌, Ok, Err}
+use Rattle.std.specs.Prelude.{List, [], ◌∷◌}
 use Rattle.arc_form.specs.Reader.{Read, bind, ret}
 
 -- the trees of what was made

@@ -1,7 +1,7 @@
 -- What a form spells of all of the tokens, and what a refusal says of them.
 use Rattle.std.specs.Prelude.{◌≡◌, List, [], ◌∷◌, ◌++◌, Ok, Err}
 use Rattle.arc_lex.specs.Tokens.{Tok}
-use Rattle.arc_form.specs.Reader.{Read, Reader, ◌>>=◌, misfit, first}
+use Rattle.arc_form.specs.Reader.{Reader, ◌>>=◌, misfit, first}
 use Rattle.arc_form.specs.Form.{Limits, unlimited, Form, Bodies, run, read}
 use Rattle.arc_form.specs.Meaning.{SpellsBy, Spells}
 use Rattle.arc_form.specs.Places.{Begun}

@@ -1,0 +1,6 @@
+pub mod Fits
+pub mod Fix
+pub mod Lists
+pub mod Stmts
+pub mod Bound
+pub mod Unit
