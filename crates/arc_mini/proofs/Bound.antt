@@ -2,7 +2,7 @@
 use Rattle.std.proofs.Common.{◌≡◌, ℕ, zero, suc, ◌<◌, ◌≤◌, ◌+◌, ◌-◌, List, [], ◌∷◌, length, drop, nat_lt, Ok, Err, Bool, true, false, ◌&&◌, refl, sym, ap, ◌∙◌, arith}
 use Rattle.std.proofs.lemmas.Bool.{lt-ltb, le-ltb}
 use Rattle.arc_lex.specs.declared.token.Token.{Token}
-use Rattle.arc_lex.specs.Tokens.{Tok, tok, toks}
+use Rattle.arc_lex.specs.Tokens.{toks}
 use Rattle.arc_form.specs.Form.{unlimited}
 use Rattle.arc_form.specs.Reader.{Read, Fault, too_deep, up_to}
 use Rattle.arc_form.proofs.FormLocal.{form_left}

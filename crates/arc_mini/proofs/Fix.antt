@@ -1,5 +1,5 @@
 -- What the rules read.
-use Rattle.std.proofs.Common.{◌≡◌, ℕ, List, Bool, true, false, Some, refl}
+use Rattle.std.proofs.Common.{◌≡◌, ℕ, List, true, false, Some}
 use Rattle.arc_lex.specs.Tokens.{Tok}
 use Rattle.arc_form.specs.Form.{unlimited}
 use Rattle.arc_form.specs.Reader.{nested}

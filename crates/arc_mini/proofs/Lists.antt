@@ -1,5 +1,5 @@
 -- The parts that loops read take tokens.
-use Rattle.std.proofs.Common.{◌≡◌, ℕ, refl}
+use Rattle.std.proofs.Common.{ℕ, refl}
 use Rattle.arc_form.proofs.Local.{Local}
 use Rattle.arc_mini.specs.Grammar.{reads, literal, variable_name, parenthesized, primary, prefixed, assigned, added, operation, expression, full, initial, variable, next_variable, more_variables, variables, object, not_int, item, items, block, function}
 use Rattle.arc_mini.proofs.Fix.{front}

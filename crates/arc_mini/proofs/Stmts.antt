@@ -1,5 +1,5 @@
 -- Statements that are read in many steps, and a block's statements, which stand in a Vec and are a list of the tree.
-use Rattle.std.proofs.Common.{◌≡◌, ℕ, suc, List, [], ◌∷◌, Vec, Global, Option, Ok, Err, refl, sym, ap, ◌∙◌}
+use Rattle.std.proofs.Common.{◌≡◌, ℕ, suc, List, Vec, Global, Option, Ok, Err, refl, sym, ap, ◌∙◌}
 use mathlib.Core.Former.{Count}
 use Rattle.arc_lex.specs.Tokens.{Tok, toks}
 use Rattle.arc_lex.specs.declared.token.Mark.TheVariants as m

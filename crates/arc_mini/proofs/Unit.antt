@@ -1,5 +1,5 @@
 -- What is read of all tokens is what they spell, and what is refused is spelled by nothing.
-use Rattle.std.proofs.Common.{◌≡◌, ℕ, ◌≤◌, List, ◌++◌, Ok, Err, Some, refl, sym, ap, ◌∙◌, arith}
+use Rattle.std.proofs.Common.{◌≡◌, List, ◌++◌, Ok, Err, refl, sym, ap, ◌∙◌, arith}
 use Rattle.arc_lex.specs.Tokens.{Tok}
 use Rattle.arc_form.specs.Form.{unlimited}
 use Rattle.arc_form.specs.Reader.{Fault, misfit, too_deep}
@@ -10,7 +10,7 @@ use Rattle.arc_form.specs.Places.{Passes}
 use Rattle.arc_form.specs.Reader.{Read}
 use Rattle.arc_form.proofs.Local.{rest_of, fault_of}
 use Rattle.arc_mini.specs.Tree.{FunctionTree}
-use Rattle.arc_mini.specs.Grammar.{Rule, Node, body, unit, these}
+use Rattle.arc_mini.specs.Grammar.{body, unit, these}
 use Rattle.arc_mini.specs.Refusal.{SpellsUnit, FitsNoneAt, TooDeepAt, place_of}
 use Rattle.arc_mini.proofs.Fits.{facts, sure, sure_unit}
 

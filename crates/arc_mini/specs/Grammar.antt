@@ -1,10 +1,10 @@
 -- The grammar, a line for each of its rules.
-use Rattle.std.specs.Prelude.{ℕ, ℤ, suc, List, [], ◌∷◌, Option, Some, None}
+use Rattle.std.specs.Prelude.{ℕ, suc, List, ◌∷◌, Option, Some, None}
 use Rattle.arc_lex.specs.declared.token.Mark.{Mark}
 use Rattle.arc_lex.specs.declared.token.Mark.TheVariants as m
 use Rattle.arc_lex.specs.declared.token.Word.{Word}
 use Rattle.arc_lex.specs.declared.token.Word.TheVariants as w
-use Rattle.arc_form.specs.Kinds.{Kinds, none, ◌∪◌, mark, word, name, integer}
+use Rattle.arc_form.specs.Kinds.{Kinds, ◌∪◌, mark, word, name, integer}
 use Rattle.arc_form.specs.Reader.{Reader, ◌>>=◌, ret, from, number}
 use Rattle.arc_form.specs.Reader as readers
 use Rattle.arc_form.specs.Form.{Limits, unlimited, Form, Rules, Bodies, token, give, call, map, ◌⨾◌, choose, many, or_none, nest, bounded, two_ahead, run, read}

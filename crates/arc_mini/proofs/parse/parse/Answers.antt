@@ -1,4 +1,4 @@
-use Rattle.std.proofs.Common.{◌≡◌, inl, sym, ap, subst, ◌∙◌}
+use Rattle.std.proofs.Common.{inl, sym, ap, subst, ◌∙◌}
 use Rattle.arc_lex.specs.Tokens.{toks}
 use Rattle.arc_mini.specs.Refusal.{FitsNoneAt, TooDeepAt, place_of}
 use Rattle.arc_mini.proofs.Unit.{within, spelled, alone, kept, accepted, refused, too_deep_at, not_misfit, same_place}

@@ -1,4 +1,4 @@
-use Rattle.std.proofs.Common.{◌≡◌, ◌+◌, sym, ap, ◌∙◌, Ok, option_map, arith}
+use Rattle.std.proofs.Common.{◌+◌, sym, ap, ◌∙◌, Ok, option_map, arith}
 use Rattle.std.proofs.lemmas.Result.{err_from_is_err_and}
 use Rattle.arc_lex.specs.Tokens.{toks}
 use Rattle.arc_form.specs.Views.{all, with_row}
