@@ -1,27 +1,16 @@
 -- The least place from a class upwards, a class at a time.
-use Rattle.std.proofs.Common.{◌≡◌, ℕ, zero, suc, ◌-◌, ◌+◌, ◌<◌, Bool, true, false, nat_lt, Option, Some, None, if◌then◌else◌, refl, sym, ap, ◌∙◌, arith}
+use Rattle.std.proofs.Common.{◌≡◌, ℕ, zero, suc, ◌-◌, ◌+◌, ◌<◌, true, false, nat_lt, Option, Some, None, refl, sym, ap, ◌∙◌, arith}
 use Rattle.std.proofs.lemmas.Bool.Decides.{nat_tests}
 use Rattle.std.proofs.lemmas.Option.{none-some}
 use Rattle.arc_class.specs.ClassRules.{least_of, least}
 use Rattle.arc_class.specs.Classes.{or_then, nearest}
-
-abbrev lesser : ℕ → ℕ → ℕ
-lesser a b = if nat_lt b a then b else a
+use Rattle.arc_class.proofs.Lessers.{lesser-assoc}
 
 below_both : (a b c : ℕ) → nat_lt b a ≡ true → nat_lt c b ≡ true → nat_lt c a ≡ true
 below_both a b c p q = grind (arith, nat_tests)
 
 below_none : (a b c : ℕ) → nat_lt b a ≡ false → nat_lt c b ≡ false → nat_lt c a ≡ false
 below_none a b c p q = grind (arith, nat_tests)
-
-lesser-assoc : (a b c : ℕ) → lesser (lesser a b) c ≡ lesser a (lesser b c)
-lesser-assoc a b c = go (nat_lt b a) (nat_lt c b) refl refl
-  where
-    go : (p q : Bool) → nat_lt b a ≡ p → nat_lt c b ≡ q → lesser (lesser a b) c ≡ lesser a (lesser b c)
-    go true true p q = rw (p, q, below_both a b c p q) refl
-    go true false p q = rw (p, q, p) refl
-    go false true p q = rw (p, q) refl
-    go false false p q = rw (p, q, below_none a b c p q, p) refl
 
 pub least_none : (a : Option ℕ) → least_of a None ≡ a
 least_none None = refl
@@ -31,7 +20,7 @@ least-assoc : (a b c : Option ℕ) → least_of (least_of a b) c ≡ least_of a 
 least-assoc None b c = refl
 least-assoc (Some a) None c = refl
 least-assoc (Some a) (Some b) None = refl
-least-assoc (Some a) (Some b) (Some c) = ap Some (lesser-assoc a b c)
+least-assoc (Some a) (Some b) (Some c) = ap Some (lesser-assoc nat_lt below_both below_none a b c)
 
 -- the same of n classes
 abbrev pub least_left : (n : ℕ) → (above : ℕ → Option ℕ) → (own : ℕ → Option ℕ) → Option ℕ → Option ℕ

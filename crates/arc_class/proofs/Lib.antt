@@ -1,5 +1,6 @@
 pub mod Names
 pub mod Lists
+pub mod Lessers
 pub mod Firsts
 pub mod Scopes
 pub mod Walks

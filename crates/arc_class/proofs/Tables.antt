@@ -9,7 +9,7 @@ use Rattle.arc_ast.specs.declared.tree.Sign.TheVariants as signs
 use Rattle.arc_ast.specs.Tree.{InterfaceTree, UnitTree}
 use Rattle.arc_class.specs.declared.table.ClassTable.{ClassTable}
 use Rattle.arc_class.specs.declared.table.Entry.{Entry}
-use Rattle.arc_class.specs.Classes.{superclass, superclass_of, own_result, result_in, result_of, built_in_result, counting_result, nearest_result, known_result, any_result, source_result, nearest, or_then, first_head, declared, defined}
+use Rattle.arc_class.specs.Classes.{superclass, superclass_of, own_result, result_in, result_of, built_in_result, counting_result, nearest_result, known_result, any_result, nearest, or_then, first_head, declared, defined}
 use Rattle.arc_class.specs.Entries.{EntryTree, entry_tree, root_entry, class_entry}
 use Rattle.arc_class.specs.Kept.{head_in}
 use Rattle.arc_class.specs.Table.{own_result_in, superclass_among, superclass_in, result_among, result_at, result_in_table, any_result_in}

@@ -9,7 +9,7 @@ use Rattle.arc_spec.specs.declared.event.Fault.TheVariants.{Unrecognized, FieldC
 use Rattle.arc_spec.specs.Classes.{class_at, lookup, descends}
 use Rattle.arc_spec.specs.Number.{converted, negated, combined, byte_or_end}
 use Rattle.arc_spec.specs.Objects.{Object, Dying, object_at, with_object, with_fields, new_object}
-use Rattle.arc_spec.specs.Resolved.{Piece, Value, Number, ReadByte, Print, Negated, Combined, Converted, Local, Assigned, Invoked, Sent, SentSuper, SentTo, SentToSuper, Field, FieldAssigned, Reference, Itself, Variable, Stored, Made, Initialized, Values, no_values, and_value}
+use Rattle.arc_spec.specs.Resolved.{Value, Number, ReadByte, Print, Negated, Combined, Converted, Local, Assigned, Invoked, Sent, SentSuper, SentTo, SentToSuper, Field, FieldAssigned, Reference, Itself, Variable, Stored, Made, Initialized, Values, no_values, and_value}
 use Rattle.arc_spec.specs.Resolved as resolved
 use Rattle.arc_spec.specs.Meaning.{Deeper, dispatched, finds, runs_found, class_in, sent_from, sent_to, next_object, field_count, made, in_object, field_read, field_set, difference, formatted, byte_count, or_fault, assigned, evaluated, referred, all_evaluated}
 use Rattle.arc_spec.specs.World as world

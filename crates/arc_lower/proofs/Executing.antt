@@ -3,7 +3,7 @@ use Rattle.std.proofs.Common.{◌≡◌, ℕ, zero, suc, ◌+◌, ◌-◌, ◌�
 use Rattle.std.proofs.lemmas.List.{length-set}
 use Rattle.arc_spec.specs.Number.{is_zero}
 use Rattle.arc_spec.specs.Objects.{nils}
-use Rattle.arc_spec.specs.Resolved.{Value, Reference, Command, Sequence, Evaluate, EvaluateReference, Begin, Choose, Repeat, Commands, no_commands, and_command, Function}
+use Rattle.arc_spec.specs.Resolved.{Value, Reference, Command, Sequence, Evaluate, EvaluateReference, Begin, Choose, Repeat, Commands, no_commands, and_command}
 use Rattle.arc_spec.specs.Resolved as resolved
 use Rattle.arc_spec.specs.Meaning.{Deeper, evaluated, referred, all_dropped, assigned, variables_dropped, whole, whole_reference, begun, Flow, Normal, Returned, if_normal, chosen, turns, scope_left, executed, all_executed, given, called}
 use Rattle.arc_spec.specs.World as world
