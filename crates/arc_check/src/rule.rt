@@ -16,7 +16,7 @@ use arc_ast::tree::{BinaryOperator, Expr, Kind};
 use arc_fault::check::CheckFault;
 
 /// The largest int.
-const LARGEST_INT: i64 = 2147483647;
+const LARGEST_INT: i64 = 2_147_483_647;
 
 /// The kind of an integer literal.
 pub fn literal_kind(number: i64) -> Kind
