@@ -6,7 +6,7 @@ use Rattle.arc_class.proofs.Firsts.{first_both}
 use Rattle.arc_ast.proofs.Trees.{length-parameter_trees}
 use Rattle.arc_check.specs.Fault.{told}
 use Rattle.arc_check.specs.Rules.{broken_body, is_void, most_parameters}
-use Rattle.arc_check.specs.Views.{known_in}
+use Rattle.arc_check.specs.private.Views.{known_in}
 use Rattle.arc_check.proofs.body.function.Goals as goal
 
 pub returns : goal.returns
