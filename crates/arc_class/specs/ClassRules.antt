@@ -1,6 +1,7 @@
 -- The rules for classes, their methods and their fields.
 use Rattle.std.specs.Prelude.{ℕ, zero, suc, Bool, false, ◌&&◌, ◌||◌, not, nat_lt, List, [], ◌∷◌, ◌++◌, length, Option, Some, None, is_some, is_none, codes, if◌then◌else◌}
 use Rattle.std.specs.Str.{bytes_eq}
+use Rattle.arc_class.specs.declared.classes.TheConstants.{MOST_FIELDS}
 use Rattle.arc_ast.specs.declared.tree.Kind.{Kind}
 use Rattle.arc_ast.specs.declared.tree.Kind.TheVariants as k
 use Rattle.arc_ast.specs.declared.tree.Sign.{Sign}
@@ -118,9 +119,9 @@ abbrev pub broken_fields : UnitTree → (above : Option ℕ) → (all : List Fie
 broken_fields u above all [] = []
 broken_fields u above all (f ∷ others) = broken_field u above all f.at f.name ++ broken_fields u above all others
 
--- 27 TooManyFields: a class whose objects have more than 120 fields, at its interface's name (this project's own limit)
+-- 27 TooManyFields: a class whose objects have more fields than this, at its interface's name (this project's own limit)
 abbrev pub most_fields : ℕ
-most_fields = 120
+most_fields = MOST_FIELDS
 
 -- ---- classes
 

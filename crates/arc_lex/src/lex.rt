@@ -10,7 +10,7 @@ use crate::token::{Span, Token};
 use std::alloc::Global;
 
 /// The most bytes that a source has.
-const MOST_BYTES: usize = 1048576;
+pub const MOST_BYTES: usize = 1_048_576;
 
 /// The fault of a broken rule at a place.
 fn fault_of(rule: Rule, at: usize) -> LexFault
