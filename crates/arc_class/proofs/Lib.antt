@@ -6,7 +6,6 @@ pub mod Scopes
 pub mod Walks
 pub mod Looks
 pub mod Answering
-pub mod Results
 pub mod Leasts
 pub mod Keeping
 pub mod Rules
