@@ -10,7 +10,7 @@ ghost use Rattle.arc_check.specs.Fault.{told};
 ghost use Rattle.arc_check.specs.Formats.{wanted};
 ghost use Rattle.arc_check.specs.private.Judging.{Judges, JudgesWhole, JudgesAll, JudgesCall, counted};
 ghost use Rattle.arc_check.specs.Rules as rules;
-ghost use Rattle.arc_check.specs.Rules.{broken_whole, kind_if, no_left, no_number, no_right, no_value, unless};
+ghost use Rattle.arc_check.specs.Rules.{kind_if, no_left, no_number, no_right, no_value, unless};
 ghost use Rattle.arc_check.specs.Scopes as scopes;
 ghost use Rattle.arc_check.specs.declared.scope.Visible.{Visible};
 ghost use Rattle.arc_check.specs.private.Views.{known_in, seen};

@@ -1,5 +1,5 @@
 //! The variables that are visible at a place of a body.
-ghost use Rattle.std.specs.Prelude.{◌≡◌, ◌+◌, ◌<◌, true, [], option_map, IfOk, OnOk, take, length, if◌then◌else◌};
+ghost use Rattle.std.specs.Prelude.{◌≡◌, ◌+◌, ◌<◌, true, option_map, OnOk, take, length, if◌then◌else◌};
 ghost use Rattle.arc_class.specs.declared.table.ClassTable.{ClassTable};
 ghost use Rattle.arc_class.specs.Table.{number_of_class};
 ghost use Rattle.arc_ast.specs.Tree.{Int, type_tree, parameter_trees};

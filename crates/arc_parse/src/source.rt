@@ -8,7 +8,7 @@ ghost use Rattle.arc_parse.specs.Limits.{these};
 ghost use Rattle.arc_parse.specs.UnitRules as rules;
 
 use crate::class::{implementation, interface, names};
-use crate::fail::{Fail, Read};
+use crate::fail::Read;
 use crate::function::function;
 use crate::step::{is_more, sees_at};
 use arc_ast::tree::{Function, Implementation, Interface, TranslationUnit};

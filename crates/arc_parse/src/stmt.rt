@@ -1,5 +1,5 @@
 //! Reads statements.
-ghost use Rattle.std.specs.Prelude.{◌≡◌, ◌<◌, ◌≤◌, length, IfOk, option_map};
+ghost use Rattle.std.specs.Prelude.{◌<◌, ◌≤◌, length, IfOk, option_map};
 ghost use Rattle.arc_lex.specs.Tokens.{toks};
 ghost use Rattle.arc_ast.specs.Tree.{expr_tree, stmt_tree, stmt_trees};
 ghost use Rattle.arc_parse.specs.Reader.{Gives};

@@ -1,5 +1,5 @@
 //! Reads declarations of variables.
-ghost use Rattle.std.specs.Prelude.{◌≡◌, ◌<◌, ◌≤◌, length, IfOk, option_map};
+ghost use Rattle.std.specs.Prelude.{◌<◌, ◌≤◌, length, IfOk, option_map};
 ghost use Rattle.arc_lex.specs.Tokens.{toks};
 ghost use Rattle.arc_ast.specs.Tree.{type_tree, expr_tree, variable_tree, variable_trees, stmt_tree};
 ghost use Rattle.arc_parse.specs.Reader.{Gives};
