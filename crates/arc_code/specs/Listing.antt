@@ -5,8 +5,10 @@ use Rattle.arc_ast.specs.declared.tree.Kind.{Kind}
 use Rattle.arc_ast.specs.declared.tree.Kind.TheVariants as k
 use Rattle.arc_ast.specs.declared.tree.BinaryOperator.{BinaryOperator}
 use Rattle.arc_ast.specs.declared.tree.BinaryOperator.TheVariants as o
-use Rattle.arc_code.specs.declared.code.Op.{Op}
-use Rattle.arc_code.specs.declared.code.Op.TheVariants.{Num, Bin, Un, Narrow, Pop, Get, Set, PrintText, PrintNum, PrintByte, GetChar, Jump, JumpZero, Call, Send, SendSuper, Return, Nil, HoldSelf, Hold, StoreStrong, Drop, Empty, Forget, Alloc, GetField, SetField, Differ, IsObject, SendTo, SendToSuper, EndStep}
+use Rattle.arc_code.specs.declared.instr.Op.{Op}
+use Rattle.arc_code.specs.declared.instr.Op.TheVariants.{Num, Bin, Un, Narrow, Pop, Get, Set, PrintNum, PrintByte, GetChar, Nil, HoldSelf, Hold, Forget, Alloc, GetField, SetField, Differ, IsObject}
+use Rattle.arc_code.specs.declared.instr.Instr.TheVariants.{Plain, PrintText, Jump, JumpZero, Call, Send, SendSuper, SendTo, SendToSuper, Return, StoreStrong, Drop, Empty, EndStep}
+use Rattle.arc_code.specs.Running.{Instruction}
 
 abbrev pub operator_number : BinaryOperator → ℕ
 operator_number o.Add = 0
@@ -22,75 +24,82 @@ kind_number k.Int = 2
 kind_number k.Long = 3
 kind_number k.Object = 4
 
-abbrev pub name : Op → List ℕ
-name (Num n) = codes "Num"
-name (Bin operator kind) = codes "Bin"
-name (Un kind) = codes "Un"
-name (Narrow kind) = codes "Narrow"
-name Pop = codes "Pop"
-name (Get depth) = codes "Get"
-name (Set depth) = codes "Set"
-name (PrintText from len) = codes "PrintText"
-name PrintNum = codes "PrintNum"
-name PrintByte = codes "PrintByte"
-name GetChar = codes "GetChar"
+abbrev pub op_name : Op → List ℕ
+op_name (Num n) = codes "Num"
+op_name (Bin operator kind) = codes "Bin"
+op_name (Un kind) = codes "Un"
+op_name (Narrow kind) = codes "Narrow"
+op_name Pop = codes "Pop"
+op_name (Get depth) = codes "Get"
+op_name (Set depth) = codes "Set"
+op_name PrintNum = codes "PrintNum"
+op_name PrintByte = codes "PrintByte"
+op_name GetChar = codes "GetChar"
+op_name Nil = codes "Nil"
+op_name HoldSelf = codes "HoldSelf"
+op_name (Hold depth) = codes "Hold"
+op_name (Forget count) = codes "Forget"
+op_name Alloc = codes "Alloc"
+op_name (GetField class index) = codes "GetField"
+op_name (SetField depth class index) = codes "SetField"
+op_name (Differ depth) = codes "Differ"
+op_name IsObject = codes "IsObject"
+
+abbrev pub name : Instruction → List ℕ
+name (Plain op) = op_name op
+name (PrintText piece) = codes "PrintText"
 name (Jump to) = codes "Jump"
 name (JumpZero to) = codes "JumpZero"
 name (Call to) = codes "Call"
 name (Send selector takes) = codes "Send"
 name (SendSuper from selector takes) = codes "SendSuper"
+name (SendTo depth selector takes) = codes "SendTo"
+name (SendToSuper from selector takes) = codes "SendToSuper"
 name Return = codes "Return"
-name Nil = codes "Nil"
-name HoldSelf = codes "HoldSelf"
-name (Hold depth) = codes "Hold"
 name (StoreStrong depth) = codes "StoreStrong"
 name Drop = codes "Drop"
 name (Empty depth) = codes "Empty"
-name (Forget count) = codes "Forget"
-name Alloc = codes "Alloc"
-name (GetField class index) = codes "GetField"
-name (SetField depth class index) = codes "SetField"
-name (Differ depth) = codes "Differ"
-name IsObject = codes "IsObject"
-name (SendTo depth selector takes) = codes "SendTo"
-name (SendToSuper from selector takes) = codes "SendToSuper"
 name EndStep = codes "EndStep"
 
 -- a space, and a number
 abbrev pub operand : ℕ → List ℕ
 operand n = codes " " ++ decimal n
 
-abbrev pub operands : Op → List ℕ
-operands (Num n) = codes " " ++ signed_decimal n
-operands (Bin operator kind) = operand (operator_number operator) ++ operand (kind_number kind)
-operands (Un kind) = operand (kind_number kind)
-operands (Narrow kind) = operand (kind_number kind)
-operands (Get depth) = operand depth
-operands (Set depth) = operand depth
-operands (PrintText from len) = operand from ++ operand len
+abbrev pub op_operands : Op → List ℕ
+op_operands (Num n) = codes " " ++ signed_decimal n
+op_operands (Bin operator kind) = operand (operator_number operator) ++ operand (kind_number kind)
+op_operands (Un kind) = operand (kind_number kind)
+op_operands (Narrow kind) = operand (kind_number kind)
+op_operands (Get depth) = operand depth
+op_operands (Set depth) = operand depth
+op_operands (Hold depth) = operand depth
+op_operands (Forget count) = operand count
+op_operands (GetField class index) = operand class ++ operand index
+op_operands (SetField depth class index) = operand depth ++ (operand class ++ operand index)
+op_operands (Differ depth) = operand depth
+op_operands _ = []
+
+abbrev pub operands : Instruction → List ℕ
+operands (Plain op) = op_operands op
+operands (PrintText piece) = operand piece.from ++ operand piece.len
 operands (Jump to) = operand to
 operands (JumpZero to) = operand to
 operands (Call to) = operand to
 operands (Send selector takes) = operand selector ++ operand takes
 operands (SendSuper from selector takes) = operand from ++ (operand selector ++ operand takes)
-operands (Hold depth) = operand depth
-operands (StoreStrong depth) = operand depth
-operands (Empty depth) = operand depth
-operands (Forget count) = operand count
-operands (GetField class index) = operand class ++ operand index
-operands (SetField depth class index) = operand depth ++ (operand class ++ operand index)
-operands (Differ depth) = operand depth
 operands (SendTo depth selector takes) = operand depth ++ (operand selector ++ operand takes)
 operands (SendToSuper from selector takes) = operand from ++ (operand selector ++ operand takes)
+operands (StoreStrong depth) = operand depth
+operands (Empty depth) = operand depth
 operands _ = []
 
 -- the instruction with this number
-abbrev pub line : ℕ → Op → List ℕ
-line number op = decimal number ++ (codes " " ++ name op) ++ operands op ++ codes "\n"
+abbrev pub line : ℕ → Instruction → List ℕ
+line number instr = decimal number ++ (codes " " ++ name instr) ++ operands instr ++ codes "\n"
 
-abbrev pub lines_from : ℕ → List Op → List ℕ
+abbrev pub lines_from : ℕ → List Instruction → List ℕ
 lines_from number [] = []
-lines_from number (op ∷ others) = line number op ++ lines_from (suc number) others
+lines_from number (instr ∷ others) = line number instr ++ lines_from (suc number) others
 
-abbrev pub listing : List Op → List ℕ
-listing ops = lines_from 0 ops
+abbrev pub listing : List Instruction → List ℕ
+listing instrs = lines_from 0 instrs

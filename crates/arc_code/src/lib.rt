@@ -5,4 +5,5 @@ pub mod code;
 pub mod counted;
 pub mod device;
 pub mod fault;
+pub mod instr;
 pub mod lines;

@@ -4,11 +4,12 @@ ghost use Rattle.std.specs.Fmt.{signed_decimal};
 ghost use Rattle.arc_code.specs.Attempts.{HasFailedToWrite};
 ghost use Rattle.arc_code.specs.Counting.{failures_of, inner_of, held_by};
 ghost use Rattle.arc_code.specs.Written.{Written};
-ghost use Rattle.arc_code.specs.Listing.{operator_number, kind_number, name, operand, operands, line, listing};
+ghost use Rattle.arc_code.specs.Listing.{operator_number, kind_number, op_name, name, operand, op_operands, operands, line, listing};
 
-use crate::code::{Code, IoFault, Op};
+use crate::code::{Code, Instruction, IoFault};
 use crate::counted::Counted;
 use crate::device::Output;
+use crate::instr::{Instr, Op};
 use arc_ast::tree::{BinaryOperator, Kind};
 use itoa::Buffer;
 
@@ -18,33 +19,59 @@ use itoa::Buffer;
 /// of the first bytes are written.
 pub fn list<W: Output>(code: &Code, writer: &mut Counted<W>) -> Result<(), IoFault>
     requires { failures_of writer.old < 2 ^ 64 - 1 }
-    ensures { Written result (listing code.now.ops.items)
+    ensures { Written result (listing code.now.instrs.items)
         (held_by W.contents writer.old) (held_by W.contents writer.new)
         (failures_of writer.old) (failures_of writer.new)
         (HasFailedToWrite W.writes W.flushes (inner_of writer.new)) }
 {
-    for (number, op) in code.ops.iter().enumerate() {
-        put_line(number, *op, writer)?;
+    for (number, instr) in code.instrs.iter().enumerate() {
+        put_line(number, *instr, writer)?;
     }
     Ok(())
 }
 
-fn put_line<W: Output>(number: usize, op: Op, writer: &mut Counted<W>) -> Result<(), IoFault>
+fn put_line<W: Output>(
+    number: usize,
+    instr: Instruction,
+    writer: &mut Counted<W>,
+) -> Result<(), IoFault>
     requires { failures_of writer.old < 2 ^ 64 - 1 }
-    ensures { Written result (line number op)
+    ensures { Written result (line number instr)
         (held_by W.contents writer.old) (held_by W.contents writer.new)
         (failures_of writer.old) (failures_of writer.new)
         (HasFailedToWrite W.writes W.flushes (inner_of writer.new)) }
 {
     put_number(number as u64, writer)?;
-    put_name(op, writer)?;
-    put_operands(op, writer)?;
+    put_name(instr, writer)?;
+    put_operands(instr, writer)?;
     put(b"\n", writer)
 }
 
-fn put_operands<W: Output>(op: Op, writer: &mut Counted<W>) -> Result<(), IoFault>
+fn put_operands<W: Output>(instr: Instruction, writer: &mut Counted<W>) -> Result<(), IoFault>
     requires { failures_of writer.old < 2 ^ 64 - 1 }
-    ensures { Written result (operands op)
+    ensures { Written result (operands instr)
+        (held_by W.contents writer.old) (held_by W.contents writer.new)
+        (failures_of writer.old) (failures_of writer.new)
+        (HasFailedToWrite W.writes W.flushes (inner_of writer.new)) }
+{
+    match instr {
+        Instr::Plain(op) => put_op_operands(op, writer),
+        Instr::PrintText(piece) => put_pair(u64::from(piece.from), u64::from(piece.len), writer),
+        Instr::Jump(to) | Instr::JumpZero(to) | Instr::Call(to) => put_operand(to as u64, writer),
+        Instr::StoreStrong(depth) | Instr::Empty(depth) => put_operand(depth as u64, writer),
+        Instr::Send(selector, takes) => put_pair(selector as u64, takes as u64, writer),
+        Instr::SendSuper(first, second, third)
+        | Instr::SendTo(first, second, third)
+        | Instr::SendToSuper(first, second, third) => {
+            put_three(first as u64, second as u64, third as u64, writer)
+        }
+        Instr::Return | Instr::Drop | Instr::EndStep => put(b"", writer),
+    }
+}
+
+fn put_op_operands<W: Output>(op: Op, writer: &mut Counted<W>) -> Result<(), IoFault>
+    requires { failures_of writer.old < 2 ^ 64 - 1 }
+    ensures { Written result (op_operands op)
         (held_by W.contents writer.old) (held_by W.contents writer.new)
         (failures_of writer.old) (failures_of writer.new)
         (HasFailedToWrite W.writes W.flushes (inner_of writer.new)) }
@@ -57,26 +84,15 @@ fn put_operands<W: Output>(op: Op, writer: &mut Counted<W>) -> Result<(), IoFaul
             writer,
         ),
         Op::Un(kind) | Op::Narrow(kind) => put_operand(number_of_kind(kind), writer),
-        Op::Get(depth) => put_operand(depth as u64, writer),
-        Op::Set(depth) => put_operand(depth as u64, writer),
-        Op::PrintText(from, len) => put_pair(u64::from(from), u64::from(len), writer),
-        Op::Jump(to) => put_operand(to as u64, writer),
-        Op::JumpZero(to) => put_operand(to as u64, writer),
-        Op::Call(to) => put_operand(to as u64, writer),
-        Op::Send(selector, takes) => put_pair(selector as u64, takes as u64, writer),
-        Op::Hold(depth) | Op::StoreStrong(depth) => put_operand(depth as u64, writer),
-        Op::Empty(depth) | Op::Differ(depth) => put_operand(depth as u64, writer),
+        Op::Get(depth) | Op::Set(depth) => put_operand(depth as u64, writer),
+        Op::Hold(depth) | Op::Differ(depth) => put_operand(depth as u64, writer),
         Op::Forget(count) => put_operand(count as u64, writer),
         Op::GetField(class, index) => put_pair(class as u64, index as u64, writer),
-        Op::SendSuper(first, second, third)
-        | Op::SetField(first, second, third)
-        | Op::SendTo(first, second, third)
-        | Op::SendToSuper(first, second, third) => {
-            put_three(first as u64, second as u64, third as u64, writer)
+        Op::SetField(depth, class, index) => {
+            put_three(depth as u64, class as u64, index as u64, writer)
         }
-        Op::Pop | Op::PrintNum | Op::PrintByte | Op::GetChar | Op::Return => put(b"", writer),
-        Op::Nil | Op::HoldSelf | Op::Drop | Op::Alloc => put(b"", writer),
-        Op::IsObject | Op::EndStep => put(b"", writer),
+        Op::Pop | Op::PrintNum | Op::PrintByte | Op::GetChar => put(b"", writer),
+        Op::Nil | Op::HoldSelf | Op::Alloc | Op::IsObject => put(b"", writer),
     }
 }
 
@@ -137,14 +153,14 @@ fn put_number<W: Output>(number: u64, writer: &mut Counted<W>) -> Result<(), IoF
     put(Buffer::new().format(number).as_bytes(), writer)
 }
 
-fn put_name<W: Output>(op: Op, writer: &mut Counted<W>) -> Result<(), IoFault>
+fn put_name<W: Output>(instr: Instruction, writer: &mut Counted<W>) -> Result<(), IoFault>
     requires { failures_of writer.old < 2 ^ 64 - 1 }
-    ensures { Written result (codes " " ++ name op)
+    ensures { Written result (codes " " ++ name instr)
         (held_by W.contents writer.old) (held_by W.contents writer.new)
         (failures_of writer.old) (failures_of writer.new)
         (HasFailedToWrite W.writes W.flushes (inner_of writer.new)) }
 {
-    put_word(name_of(op).as_bytes(), writer)
+    put_word(name_of(instr).as_bytes(), writer)
 }
 
 /// Writes a space and the word.
@@ -172,8 +188,29 @@ fn put<W: Output>(bytes: &[u8], writer: &mut Counted<W>) -> Result<(), IoFault>
     }
 }
 
-fn name_of(op: Op) -> &'static str
-    ensures { result.now ≡ name op }
+fn name_of(instr: Instruction) -> &'static str
+    ensures { result.now ≡ name instr }
+{
+    match instr {
+        Instr::Plain(op) => name_of_op(op),
+        Instr::PrintText(_) => "PrintText",
+        Instr::Jump(_) => "Jump",
+        Instr::JumpZero(_) => "JumpZero",
+        Instr::Call(_) => "Call",
+        Instr::Send(_, _) => "Send",
+        Instr::SendSuper(_, _, _) => "SendSuper",
+        Instr::SendTo(_, _, _) => "SendTo",
+        Instr::SendToSuper(_, _, _) => "SendToSuper",
+        Instr::Return => "Return",
+        Instr::StoreStrong(_) => "StoreStrong",
+        Instr::Drop => "Drop",
+        Instr::Empty(_) => "Empty",
+        Instr::EndStep => "EndStep",
+    }
+}
+
+fn name_of_op(op: Op) -> &'static str
+    ensures { result.now ≡ op_name op }
 {
     match op {
         Op::Num(_) => "Num",
@@ -183,31 +220,18 @@ fn name_of(op: Op) -> &'static str
         Op::Pop => "Pop",
         Op::Get(_) => "Get",
         Op::Set(_) => "Set",
-        Op::PrintText(_, _) => "PrintText",
         Op::PrintNum => "PrintNum",
         Op::PrintByte => "PrintByte",
         Op::GetChar => "GetChar",
-        Op::Jump(_) => "Jump",
-        Op::JumpZero(_) => "JumpZero",
-        Op::Call(_) => "Call",
-        Op::Send(_, _) => "Send",
-        Op::SendSuper(_, _, _) => "SendSuper",
-        Op::Return => "Return",
         Op::Nil => "Nil",
         Op::HoldSelf => "HoldSelf",
         Op::Hold(_) => "Hold",
-        Op::StoreStrong(_) => "StoreStrong",
-        Op::Drop => "Drop",
-        Op::Empty(_) => "Empty",
         Op::Forget(_) => "Forget",
         Op::Alloc => "Alloc",
         Op::GetField(_, _) => "GetField",
         Op::SetField(_, _, _) => "SetField",
         Op::Differ(_) => "Differ",
         Op::IsObject => "IsObject",
-        Op::SendTo(_, _, _) => "SendTo",
-        Op::SendToSuper(_, _, _) => "SendToSuper",
-        Op::EndStep => "EndStep",
     }
 }
 

@@ -4,18 +4,18 @@ ghost use Rattle.arc_spec.specs.Correct.{Refines, Steady};
 ghost use Rattle.arc_ir.specs.Acting as acting;
 ghost use Rattle.arc_code.specs.Running as running;
 ghost use Rattle.arc_code.specs.Running.{program_of};
-ghost use Rattle.arc_emit.specs.Emitted.{code_of, most_ops, IsLarge};
+ghost use Rattle.arc_emit.specs.Emitted.{code_of, most_instrs, IsLarge};
 
 use crate::classes::copy_classes;
 use crate::fault::EmitFault;
-use crate::op::{op_of, text_of};
+use crate::instr::{instr_of, text_of};
 use arc_class::table::ClassTable;
 use arc_code::code::Code;
 use arc_ir::action::Ir;
 use std::alloc::Global;
 
 /// The most instructions that code may have.
-const MOST_OPS: usize = 16_777_216;
+const MOST_INSTRS: usize = 16_777_216;
 
 /// The code of a program. Each action is the instruction with the same number, so jumps, functions,
 /// methods and the ends of objects go on at the same numbers. The texts stand one after another.
@@ -26,7 +26,7 @@ pub fn emit(alloc: Global, ir: &Ir, _table: &ClassTable) -> Result<Code, EmitFau
     ensures sound { IfOk result (λ code. running.IsSound (program_of code)) }
     ensures refines { IfOk result (λ code. Refines (acting.seen (acting.program_of ir.now)) (running.seen (program_of code))) }
     ensures steady { IfOk result (λ code. Steady (running.seen (program_of code))) }
-    ensures few_ops { IfOk result (λ code. length code.ops.items ≤ most_ops) }
+    ensures few_instrs { IfOk result (λ code. length code.instrs.items ≤ most_instrs) }
     ensures large { IsErrOf result EmitFault.TooLarge → IsLarge (acting.program_of ir.now) }
 {
     write_code(alloc, ir)
@@ -35,21 +35,21 @@ pub fn emit(alloc: Global, ir: &Ir, _table: &ClassTable) -> Result<Code, EmitFau
 /// The code of a program, whether it is sound or not.
 fn write_code(alloc: Global, ir: &Ir) -> Result<Code, EmitFault>
     ensures code { IfOk result (λ code. program_of code ≡ code_of (acting.program_of ir.now)) }
-    ensures few_ops { IfOk result (λ code. length code.ops.items ≤ most_ops) }
+    ensures few_instrs { IfOk result (λ code. length code.instrs.items ≤ most_instrs) }
     ensures large { IsErrOf result EmitFault.TooLarge → IsLarge (acting.program_of ir.now) }
 {
-    if ir.actions.len() > MOST_OPS {
+    if ir.actions.len() > MOST_INSTRS {
         return Err(EmitFault::TooLarge);
     }
-    let mut ops = Vec::new(alloc);
+    let mut instrs = Vec::new(alloc);
     let mut texts = Vec::new(alloc);
     for action in &ir.actions {
-        ops.push(op_of(ir, texts.len() as u32, action))?;
+        instrs.push(instr_of(ir, texts.len() as u32, action))?;
         texts.extend_from_slice(text_of(action))?;
     }
     let classes = copy_classes(alloc, &ir.classes)?;
     Ok(Code {
-        ops,
+        instrs,
         texts,
         end_step: ir.end_step,
         room: ir.room,

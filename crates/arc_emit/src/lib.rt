@@ -4,4 +4,4 @@
 mod classes;
 pub mod emit;
 pub mod fault;
-mod op;
+mod instr;

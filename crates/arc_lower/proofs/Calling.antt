@@ -12,7 +12,7 @@ use Rattle.arc_spec.specs.World.{World, Outcome, Done, Faulted, Cut, Finished, f
 use Rattle.arc_spec.specs.Holding.{Held, Frame, Calling, Ending, holders, gone_in}
 use Rattle.arc_spec.specs.Stepping.{Goes, Faults, Reached, Running, follow}
 use Rattle.arc_ir.specs.Acting.{Program, State, has_level, enters, answers, begins_end, ends_object, runs_dealloc, ends_class}
-use Rattle.arc_lower.specs.Order.{Call, Jump, EndStep}
+use Rattle.arc_code.specs.declared.instr.Instr.TheVariants.{Call, Jump, EndStep}
 use Rattle.arc_lower.specs.Lowered.{number_of, slots_of, entry_of, entries_of, fit_orders, leave_orders, body_orders, passes}
 use Rattle.arc_lower.proofs.CountsPlaces.{no_one, names_holders}
 use Rattle.arc_lower.proofs.CountsThere.{AllThere, changed_there, gone_there, set_here}

@@ -7,9 +7,10 @@ use Rattle.arc_spec.specs.Meaning.{chosen}
 use Rattle.arc_spec.specs.Objects.{Object, object_at}
 use Rattle.arc_spec.specs.Stepping.{Next}
 use Rattle.arc_spec.specs.Holding.{Held, Frame, Calling, Ending, Counted, with_places, with_field, is_there}
-use Rattle.arc_ir.specs.declared.action.Action.{Action}
-use Rattle.arc_ir.specs.declared.action.Action.TheVariants.{Num, Bin, Un, Narrow, Pop, Get, Set, PrintText, PrintNum, PrintByte, GetChar, Jump, JumpZero, Call, Send, SendSuper, Return, Nil, HoldSelf, Hold, StoreStrong, Drop, Empty, Forget, Alloc, GetField, SetField, Differ, IsObject, SendTo, SendToSuper, EndStep}
-use Rattle.arc_ir.specs.Acting.{Program, State, or_fault, has_level, enters, answers, taken, sends, sends_up, begins_end, releases, ends_object, runs_dealloc, ends_class, end_goes_on, leaves, allocates, acts, step}
+use Rattle.arc_ir.specs.Acting.{Action}
+use Rattle.arc_code.specs.declared.instr.Op.TheVariants.{Num, Bin, Un, Narrow, Pop, Get, Set, PrintNum, PrintByte, GetChar, Nil, HoldSelf, Hold, Forget, Alloc, GetField, SetField, Differ, IsObject}
+use Rattle.arc_code.specs.declared.instr.Instr.TheVariants.{Plain, PrintText, Jump, JumpZero, Call, Send, SendSuper, Return, StoreStrong, Drop, Empty, SendTo, SendToSuper, EndStep}
+use Rattle.arc_ir.specs.Acting.{Program, State, entry, or_fault, has_level, enters, answers, taken, sends, sends_up, begins_end, releases, ends_object, runs_dealloc, ends_class, end_goes_on, leaves, allocates, executes, step}
 use Rattle.arc_lower.proofs.CountsKept.{IsKept, Sane, counted_kept, sane_kept}
 use Rattle.arc_lower.proofs.CountsSteps.{After, top_after, two_after, found_after, if_after, object_after, place_after, holds_after, lets_go_after, forgets_after, field_after}
 
@@ -113,18 +114,18 @@ module _ (p : Program) (Q : Held → Type 0) (kept : IsKept p.classes Q) (F : Li
   leaves_keeps (Calling back self ∷ others) v rest c f = (kept.self s.held self c.0, framed.back _ others f)
   leaves_keeps (Ending back self o next left ∷ others) v rest c f = c
 
-  allocates_keeps : (rest : List ℤ) (class : Option ℕ) → Right s → After Right (allocates p s rest class)
+  allocates_keeps : (rest : List ℤ) (class : Option ℕ) → Right s → After Right (allocates p.classes s rest class)
   allocates_keeps rest None c = tt
   allocates_keeps rest (Some class) c = (kept.make s.held class c.0, c.1)
 
-  stores_keeps : (depth : ℕ) → Right s → After Right (acts p (Some (StoreStrong depth)) s)
+  stores_keeps : (depth : ℕ) → Right s → After Right (executes p (Some (StoreStrong depth)) s)
   stores_keeps depth c = place_after Right s.held.places _ (λ r rest top. found_after Right (slice_get rest depth) _ (λ old found.
       holds_after Right r s.held _ (λ there. releases_keeps old _ (kept.store (with_places s.held (r ∷ rest)) (suc depth) old r found there (at_places (r ∷ rest) top c)) c.1)))
 
-  empties_keeps : (depth : ℕ) → Right s → After Right (acts p (Some (Empty depth)) s)
+  empties_keeps : (depth : ℕ) → Right s → After Right (executes p (Some (Empty depth)) s)
   empties_keeps depth c = found_after Right (slice_get s.held.places depth) _ (λ r found. releases_keeps r _ (kept.store s.held depth r 0 found tt c.0) c.1)
 
-  sets_field_keeps : (depth class index : ℕ) → Right s → After Right (acts p (Some (SetField depth class index)) s)
+  sets_field_keeps : (depth class index : ℕ) → Right s → After Right (executes p (Some (Plain (SetField depth class index))) s)
   sets_field_keeps depth class index c = found_after Right (slice_get s.held.places depth) _ (λ r _. top_after Right s.stack _ (λ v rest.
       field_after Right p.classes class r s.held _ (λ k o is found there. (set_field r k o v is found there, c.1))))
     where
@@ -132,37 +133,37 @@ module _ (p : Program) (Q : Held → Type 0) (kept : IsKept p.classes Q) (F : Li
       set_field r k o v is found there = subst (λ n. Q (with_field s.held n o index v)) (sym is) (kept.field s.held k o (slice_set o.fields index v) found there c.0)
 
   -- one action
-  pub acts_keeps : (action : Option Action) → Right s → After Right (acts p action s)
+  pub acts_keeps : (action : Option Action) → Right s → After Right (executes p action s)
   acts_keeps None c = tt
-  acts_keeps (Some (Num n)) c = c
-  acts_keeps (Some (Bin operator kind)) c = two_after Right s.stack _ (λ y x rest. or_fault_keeps (combined operator kind x y) rest c)
-  acts_keeps (Some (Un kind)) c = top_after Right s.stack _ (λ x rest. c)
-  acts_keeps (Some (Narrow kind)) c = top_after Right s.stack _ (λ x rest. c)
-  acts_keeps (Some Pop) c = top_after Right s.stack _ (λ x rest. c)
-  acts_keeps (Some (Get depth)) c = found_after Right (slice_get s.stack depth) _ (λ v _. c)
-  acts_keeps (Some (Set depth)) c = top_after Right s.stack _ (λ v rest. found_after Right (slice_get rest depth) _ (λ _ _. c))
+  acts_keeps (Some (Plain (Num n))) c = c
+  acts_keeps (Some (Plain (Bin operator kind))) c = two_after Right s.stack _ (λ y x rest. or_fault_keeps (combined operator kind x y) rest c)
+  acts_keeps (Some (Plain (Un kind))) c = top_after Right s.stack _ (λ x rest. c)
+  acts_keeps (Some (Plain (Narrow kind))) c = top_after Right s.stack _ (λ x rest. c)
+  acts_keeps (Some (Plain Pop)) c = top_after Right s.stack _ (λ x rest. c)
+  acts_keeps (Some (Plain (Get depth))) c = found_after Right (slice_get s.stack depth) _ (λ v _. c)
+  acts_keeps (Some (Plain (Set depth))) c = top_after Right s.stack _ (λ v rest. found_after Right (slice_get rest depth) _ (λ _ _. c))
   acts_keeps (Some (PrintText bytes)) c = top_after Right s.stack _ (λ count rest. c)
-  acts_keeps (Some PrintNum) c = two_after Right s.stack _ (λ v count rest. c)
-  acts_keeps (Some PrintByte) c = two_after Right s.stack _ (λ v count rest. c)
-  acts_keeps (Some GetChar) c = λ answer. c
+  acts_keeps (Some (Plain PrintNum)) c = two_after Right s.stack _ (λ v count rest. c)
+  acts_keeps (Some (Plain PrintByte)) c = two_after Right s.stack _ (λ v count rest. c)
+  acts_keeps (Some (Plain GetChar)) c = λ answer. c
   acts_keeps (Some (Jump to)) c = c
   acts_keeps (Some (JumpZero to)) c = top_after Right s.stack _ (λ v rest. jump_keeps (is_zero v) _ _ c c)
-  acts_keeps (Some (Call f)) c = found_after Right (slice_get p.entries f) _ (λ to _. enters_keeps to 0 (has_level s) c)
+  acts_keeps (Some (Call f)) c = enters_keeps (entry p f) 0 (has_level s) c
   acts_keeps (Some (Send selector takes)) c = found_after Right (slice_get s.stack takes) _ (λ self _. answers_keeps 0 (lookup p.classes (class_at self) signs.Class selector takes) c)
   acts_keeps (Some (SendSuper from selector takes)) c = answers_keeps 0 (lookup p.classes (Some from) signs.Class selector takes) c
   acts_keeps (Some Return) c = top_after Right s.stack _ (λ v rest. leaves_keeps s.frames v rest c c.1)
-  acts_keeps (Some Nil) c = (kept.place s.held 0 tt c.0, c.1)
-  acts_keeps (Some HoldSelf) c = holds_after Right s.held.self s.held _ (λ there. (kept.place s.held s.held.self there c.0, c.1))
-  acts_keeps (Some (Hold depth)) c = found_after Right (slice_get s.held.places depth) _ (λ r _. holds_after Right r s.held _ (λ there. (kept.place s.held r there c.0, c.1)))
+  acts_keeps (Some (Plain Nil)) c = (kept.place s.held 0 tt c.0, c.1)
+  acts_keeps (Some (Plain HoldSelf)) c = holds_after Right s.held.self s.held _ (λ there. (kept.place s.held s.held.self there c.0, c.1))
+  acts_keeps (Some (Plain (Hold depth))) c = found_after Right (slice_get s.held.places depth) _ (λ r _. holds_after Right r s.held _ (λ there. (kept.place s.held r there c.0, c.1)))
   acts_keeps (Some (StoreStrong depth)) c = stores_keeps depth c
   acts_keeps (Some Drop) c = place_after Right s.held.places _ (λ r rest top. releases_keeps r (with_places s.held rest) (at_places (r ∷ rest) top c) c.1)
   acts_keeps (Some (Empty depth)) c = empties_keeps depth c
-  acts_keeps (Some (Forget count)) c = forgets_after Right p.classes Q kept count s.held s.held.places _ c.0 (λ rest h. (h, c.1))
-  acts_keeps (Some Alloc) c = top_after Right s.stack _ (λ v rest. allocates_keeps rest (class_at v) c)
-  acts_keeps (Some (GetField class index)) c = place_after Right s.held.places _ (λ r rest _. field_after Right p.classes class r s.held _ (λ k o _ _ _. c))
-  acts_keeps (Some (SetField depth class index)) c = sets_field_keeps depth class index c
-  acts_keeps (Some (Differ depth)) c = place_after Right s.held.places _ (λ r rest _. found_after Right (slice_get rest depth) _ (λ other _. c))
-  acts_keeps (Some IsObject) c = place_after Right s.held.places _ (λ r rest _. c)
+  acts_keeps (Some (Plain (Forget count))) c = forgets_after Right p.classes Q kept count s.held s.held.places _ c.0 (λ rest h. (h, c.1))
+  acts_keeps (Some (Plain Alloc)) c = top_after Right s.stack _ (λ v rest. allocates_keeps rest (class_at v) c)
+  acts_keeps (Some (Plain (GetField class index))) c = place_after Right s.held.places _ (λ r rest _. field_after Right p.classes class r s.held _ (λ k o _ _ _. c))
+  acts_keeps (Some (Plain (SetField depth class index))) c = sets_field_keeps depth class index c
+  acts_keeps (Some (Plain (Differ depth))) c = place_after Right s.held.places _ (λ r rest _. found_after Right (slice_get rest depth) _ (λ other _. c))
+  acts_keeps (Some (Plain IsObject)) c = place_after Right s.held.places _ (λ r rest _. c)
   acts_keeps (Some (SendTo depth selector takes)) c = found_after Right (slice_get s.held.places depth) _ (λ r _. sends_keeps r selector takes c)
   acts_keeps (Some (SendToSuper from selector takes)) c = sends_up_keeps from s.held.self selector takes c
   acts_keeps (Some EndStep) c = end_goes_on_keeps s.frames c.0 c.1

@@ -18,7 +18,9 @@ use Rattle.arc_spec.specs.Holding.{Held, Frame, is_there, holds, on_place, on_fi
 use Rattle.arc_spec.specs.Stepping.{Next, Goes, Faults, Reached, follow, fed, on_found}
 use Rattle.arc_ir.specs.Acting.{Program, State, onward, goes, keeps, answers, taken, sends, sends_up, allocates}
 use Rattle.arc_ir.specs.Acting as acting
-use Rattle.arc_lower.specs.Order.{Order, Num, Bin, Un, Narrow, Get, Set, GetChar, Call, Send, SendSuper, Nil, HoldSelf, Hold, Alloc, GetField, SetField, Differ, IsObject, SendTo, SendToSuper}
+use Rattle.arc_code.specs.declared.instr.Op.TheVariants.{Num, Bin, Un, Narrow, Get, Set, GetChar, Nil, HoldSelf, Hold, Alloc, GetField, SetField, Differ, IsObject}
+use Rattle.arc_code.specs.declared.instr.Instr.TheVariants.{Plain, Call, Send, SendSuper, SendTo, SendToSuper}
+use Rattle.arc_lower.specs.Order.{Order}
 use Rattle.arc_lower.specs.Lowered.{value_count, value_takes, reference_takes, values_take, print_orders, get_orders, set_orders, fit_orders, hold_orders, store_orders, number_of, slots_of, passes, call_orders, value_orders, reference_orders, all_value_orders}
 use Rattle.arc_lower.proofs.CountsThere.{IsThere, AllThere, placed_there, place_there, changed_there, made_there, object_goes, holds_goes}
 use Rattle.arc_lower.proofs.Leading.{Leads, leads_same, leads_step, Runs, leads_runs, then_runs, better_runs}
@@ -114,24 +116,24 @@ module _ (p : Program) (frames : List Frame) (bound : ℕ) (R : resolved.Program
   or_fault_runs good None pc all operands w g = leads_same (moves p) _ _ refl
   or_fault_runs good (Some v) pc all operands w g = (g v, quiet p frames bound (pc + 1) (v ∷ framed operands w) w)
 
-  get_passes : (operands : List ℤ) (i : ℕ) (w : World) → i < length w.frame.locals → Passes p frames bound (Get (length operands + (length w.frame.locals - suc i)) ∷ []) (framed operands w) w (local_at w.frame.locals i ∷ framed operands w) w
+  get_passes : (operands : List ℤ) (i : ℕ) (w : World) → i < length w.frame.locals → Passes p frames bound (Plain (Get (length operands + (length w.frame.locals - suc i))) ∷ []) (framed operands w) w (local_at w.frame.locals i ∷ framed operands w) w
   get_passes operands i w lt =
       let n = length w.frame.locals - suc i in
       let e : n + suc i ≡ length w.frame.locals = omega (arith, lt) in
       let found = get_below operands (onto w.frame.locals below) n ∙ get_local w.frame.locals below i n e in
-      one_passes p frames bound (Get (length operands + n)) (framed operands w) w (local_at w.frame.locals i ∷ framed operands w) w (λ pc.
+      one_passes p frames bound (Plain (Get (length operands + n))) (framed operands w) w (local_at w.frame.locals i ∷ framed operands w) w (λ pc.
       subst (λ o. Leads (moves p) (follow (recount (on_found o (λ u. goes (at frames pc (framed operands w) (held_of w)) (u ∷ framed operands w)))) w.input w.trace) (running frames (pc + 1) (local_at w.frame.locals i ∷ framed operands w) w)) (sym found) (quiet p frames bound (pc + 1) (local_at w.frame.locals i ∷ framed operands w) w))
 
-  num_passes : (n : ℤ) (stack : List ℤ) (w : World) → Passes p frames bound (Num n ∷ []) stack w (n ∷ stack) w
-  num_passes n stack w = one_passes p frames bound (Num n) stack w (n ∷ stack) w (λ pc. quiet p frames bound (pc + 1) (n ∷ stack) w)
+  num_passes : (n : ℤ) (stack : List ℤ) (w : World) → Passes p frames bound (Plain (Num n) ∷ []) stack w (n ∷ stack) w
+  num_passes n stack w = one_passes p frames bound (Plain (Num n)) stack w (n ∷ stack) w (λ pc. quiet p frames bound (pc + 1) (n ∷ stack) w)
 
-  local_by : (operands : List ℤ) (i : ℕ) (w : World) (b : Bool) → nat_lt i (length w.frame.locals) ≡ b → Passes p frames bound (if b then Get (length operands + (length w.frame.locals - suc i)) ∷ [] else Num (pos 0) ∷ []) (framed operands w) w (local_at w.frame.locals i ∷ framed operands w) w
+  local_by : (operands : List ℤ) (i : ℕ) (w : World) (b : Bool) → nat_lt i (length w.frame.locals) ≡ b → Passes p frames bound (if b then Plain (Get (length operands + (length w.frame.locals - suc i))) ∷ [] else Plain (Num (pos 0)) ∷ []) (framed operands w) w (local_at w.frame.locals i ∷ framed operands w) w
   local_by operands i w true e = get_passes operands i w (ltb-true i (length w.frame.locals) e)
   local_by operands i w false e =
       let none : local_at w.frame.locals i ≡ pos 0 = get_or_past w.frame.locals i (pos 0) (ltb-false i (length w.frame.locals) e) in
-      subst (λ v. Passes p frames bound (Num (pos 0) ∷ []) (framed operands w) w (v ∷ framed operands w) w) (sym none) (num_passes (pos 0) (framed operands w) w)
+      subst (λ v. Passes p frames bound (Plain (Num (pos 0)) ∷ []) (framed operands w) w (v ∷ framed operands w) w) (sym none) (num_passes (pos 0) (framed operands w) w)
 
-  set_passes : (operands : List ℤ) (i : ℕ) (v : ℤ) (w : World) → i < length w.frame.locals → Passes p frames bound (Set (suc (length operands) + (length w.frame.locals - suc i)) ∷ []) (v ∷ v ∷ framed operands w) w (v ∷ framed operands (with_locals w (slice_set w.frame.locals i v))) (with_locals w (slice_set w.frame.locals i v))
+  set_passes : (operands : List ℤ) (i : ℕ) (v : ℤ) (w : World) → i < length w.frame.locals → Passes p frames bound (Plain (Set (suc (length operands) + (length w.frame.locals - suc i))) ∷ []) (v ∷ v ∷ framed operands w) w (v ∷ framed operands (with_locals w (slice_set w.frame.locals i v))) (with_locals w (slice_set w.frame.locals i v))
   set_passes operands i v w lt =
       let n = length w.frame.locals - suc i in
       let e : n + suc i ≡ length w.frame.locals = omega (arith, lt) in
@@ -140,17 +142,17 @@ module _ (p : Program) (frames : List Frame) (bound : ℕ) (R : resolved.Program
       let depth = suc (length operands) + n in
       let found : slice_get rest depth ≡ Some (local_at w.frame.locals i) = get_below (v ∷ operands) (onto w.frame.locals below) n ∙ get_local w.frame.locals below i n e in
       let now : slice_set rest depth v ≡ v ∷ framed operands w' = set_below (v ∷ operands) (onto w.frame.locals below) n v ∙ ap (λ l. v ∷ operands ++ l) (set_local w.frame.locals below i n v e) in
-      one_passes p frames bound (Set depth) (v ∷ rest) w (v ∷ framed operands w') w' (λ pc.
+      one_passes p frames bound (Plain (Set depth)) (v ∷ rest) w (v ∷ framed operands w') w' (λ pc.
       subst (λ o. Leads (moves p) (follow (recount (on_found o (λ _. goes (at frames pc (v ∷ rest) (held_of w)) (slice_set rest depth v)))) w.input w.trace) (running frames (pc + 1) (v ∷ framed operands w') w')) (sym found)
       (subst (λ s. Leads (moves p) (follow (recount (goes (at frames pc (v ∷ rest) (held_of w)) s)) w.input w.trace) (running frames (pc + 1) (v ∷ framed operands w') w')) (sym now) (quiet p frames bound (pc + 1) (v ∷ framed operands w') w')))
 
-  top_passes : (v : ℤ) (stack : List ℤ) (w : World) → Passes p frames bound (Get 0 ∷ []) (v ∷ stack) w (v ∷ v ∷ stack) w
-  top_passes v stack w = one_passes p frames bound (Get 0) (v ∷ stack) w (v ∷ v ∷ stack) w (λ pc. quiet p frames bound (pc + 1) (v ∷ v ∷ stack) w)
+  top_passes : (v : ℤ) (stack : List ℤ) (w : World) → Passes p frames bound (Plain (Get 0) ∷ []) (v ∷ stack) w (v ∷ v ∷ stack) w
+  top_passes v stack w = one_passes p frames bound (Plain (Get 0)) (v ∷ stack) w (v ∷ v ∷ stack) w (λ pc. quiet p frames bound (pc + 1) (v ∷ v ∷ stack) w)
 
-  set_by : (operands : List ℤ) (i : ℕ) (v : ℤ) (w : World) (b : Bool) → nat_lt i (length w.frame.locals) ≡ b → Passes p frames bound (if b then Get 0 ∷ Set (suc (length operands) + (length w.frame.locals - suc i)) ∷ [] else []) (v ∷ framed operands w) w (v ∷ framed operands (with_locals w (slice_set w.frame.locals i v))) (with_locals w (slice_set w.frame.locals i v))
+  set_by : (operands : List ℤ) (i : ℕ) (v : ℤ) (w : World) (b : Bool) → nat_lt i (length w.frame.locals) ≡ b → Passes p frames bound (if b then Plain (Get 0) ∷ Plain (Set (suc (length operands) + (length w.frame.locals - suc i))) ∷ [] else []) (v ∷ framed operands w) w (v ∷ framed operands (with_locals w (slice_set w.frame.locals i v))) (with_locals w (slice_set w.frame.locals i v))
   set_by operands i v w true e =
       let w' = with_locals w (slice_set w.frame.locals i v) in
-      then_passes p frames bound (Get 0 ∷ []) (Set (suc (length operands) + (length w.frame.locals - suc i)) ∷ []) (v ∷ framed operands w) w (v ∷ v ∷ framed operands w) w (v ∷ framed operands w') w' (top_passes v (framed operands w) w) (set_passes operands i v w (ltb-true i (length w.frame.locals) e))
+      then_passes p frames bound (Plain (Get 0) ∷ []) (Plain (Set (suc (length operands) + (length w.frame.locals - suc i))) ∷ []) (v ∷ framed operands w) w (v ∷ v ∷ framed operands w) w (v ∷ framed operands w') w' (top_passes v (framed operands w) w) (set_passes operands i v w (ltb-true i (length w.frame.locals) e))
   set_by operands i v w false e =
       let w' = with_locals w (slice_set w.frame.locals i v) in
       let same : w.frame.locals ≡ slice_set w.frame.locals i v = sym (set_past w.frame.locals i v (ltb-false i (length w.frame.locals) e)) in
@@ -227,11 +229,11 @@ module _ (p : Program) (frames : List Frame) (bound : ℕ) (R : resolved.Program
   takes_passes x r stack w e = one_passes p frames bound x stack w stack (takes r w) (λ pc.
       subst (λ n. Leads (moves p) (follow n w.input w.trace) (running frames (pc + 1) stack (takes r w))) (sym (e pc)) (quiet p frames bound (pc + 1) stack (takes r w)))
 
-  nil_passes : (stack : List ℤ) (w : World) → Passes p frames bound (Nil ∷ []) stack w stack (takes 0 w)
-  nil_passes stack w = takes_passes Nil 0 stack w (λ pc. refl)
+  nil_passes : (stack : List ℤ) (w : World) → Passes p frames bound (Plain Nil ∷ []) stack w stack (takes 0 w)
+  nil_passes stack w = takes_passes (Plain Nil) 0 stack w (λ pc. refl)
 
-  hold_passes : (depth r : ℕ) (stack : List ℤ) (w : World) → slice_get (places w) depth ≡ Some r → IsThere w.objects r → Passes p frames bound (Hold depth ∷ []) stack w stack (takes r w)
-  hold_passes depth r stack w found there = takes_passes (Hold depth) r stack w (λ pc.
+  hold_passes : (depth r : ℕ) (stack : List ℤ) (w : World) → slice_get (places w) depth ≡ Some r → IsThere w.objects r → Passes p frames bound (Plain (Hold depth) ∷ []) stack w stack (takes r w)
+  hold_passes depth r stack w found there = takes_passes (Plain (Hold depth)) r stack w (λ pc.
       let s = at frames pc stack (held_of w) in
       ap recount (ap (λ f. on_found f (λ q. holds q (held_of w) (keeps s stack))) found ∙ holds_goes r (held_of w) (keeps s stack) there))
 
@@ -240,12 +242,12 @@ module _ (p : Program) (frames : List Frame) (bound : ℕ) (R : resolved.Program
       let held : AllThere w.objects waiting = subst (AllThere w.objects) g.waits (last_there w.objects (world.frame_places w.frame) w.waiting g.fine.there) in
       subst (IsThere w.objects) (sym g.itself) (alive w.objects held g.fine.dying)
 
-  hold_self_passes : (stack : List ℤ) (w : World) → Good w → Passes p frames bound (HoldSelf ∷ []) stack w stack (takes w.frame.self w)
-  hold_self_passes stack w g = takes_passes HoldSelf w.frame.self stack w (λ pc.
+  hold_self_passes : (stack : List ℤ) (w : World) → Good w → Passes p frames bound (Plain HoldSelf ∷ []) stack w stack (takes w.frame.self w)
+  hold_self_passes stack w g = takes_passes (Plain HoldSelf) w.frame.self stack w (λ pc.
       let s = at frames pc stack (held_of w) in
       ap recount (holds_goes w.frame.self (held_of w) (keeps s stack) (self_there w g)))
 
-  variable_by : (b : Bool) (t i : ℕ) (stack : List ℤ) (w : World) → nat_lt i (length w.frame.strong) ≡ b → t ≡ length w.frame.temporaries → Good w → Passes p frames bound (if b then Hold (t + i) ∷ [] else Nil ∷ []) stack w stack (takes (name_at w.frame.strong i) w) × IsThere w.objects (name_at w.frame.strong i)
+  variable_by : (b : Bool) (t i : ℕ) (stack : List ℤ) (w : World) → nat_lt i (length w.frame.strong) ≡ b → t ≡ length w.frame.temporaries → Good w → Passes p frames bound (if b then Plain (Hold (t + i)) ∷ [] else Plain Nil ∷ []) stack w stack (takes (name_at w.frame.strong i) w) × IsThere w.objects (name_at w.frame.strong i)
   variable_by true t i stack w e size g =
       let lt = ltb-true i (length w.frame.strong) e in
       let found = get_variable w.frame.temporaries w.frame.strong w.waiting t i size lt in
@@ -253,7 +255,7 @@ module _ (p : Program) (frames : List Frame) (bound : ℕ) (R : resolved.Program
       (hold_passes (t + i) (name_at w.frame.strong i) stack w found there, there)
   variable_by false t i stack w e size g =
       let none : name_at w.frame.strong i ≡ 0 = get_or_past w.frame.strong i 0 (ltb-false i (length w.frame.strong) e) in
-      subst (λ r. Passes p frames bound (Nil ∷ []) stack w stack (takes r w) × IsThere w.objects r) (sym none) (nil_passes stack w, tt)
+      subst (λ r. Passes p frames bound (Plain Nil ∷ []) stack w stack (takes r w) × IsThere w.objects r) (sym none) (nil_passes stack w, tt)
 
   -- the last temporary
   top_place : (r : ℕ) (w : World) → Named r w → slice_get (places w) 0 ≡ Some r
@@ -263,7 +265,7 @@ module _ (p : Program) (frames : List Frame) (bound : ℕ) (R : resolved.Program
   top_there r w named g = place_there w.objects 0 r (places w) (top_place r w named) g.fine.there
 
   -- once more the last temporary
-  again_segment : (n r : ℕ) (operands : List ℤ) (w0 w : World) → Referred n w0 r w → Segment p frames bound (Referred (suc n) w0) (Hold 0 ∷ []) (framed operands w) w (beside operands) (Done r (takes r w))
+  again_segment : (n r : ℕ) (operands : List ℤ) (w0 w : World) → Referred n w0 r w → Segment p frames bound (Referred (suc n) w0) (Plain (Hold 0) ∷ []) (framed operands w) w (beside operands) (Done r (takes r w))
   again_segment n r operands w0 w h = λ pc has.
       let there = top_there r w h.2 h.0 in
       (taken_behind n r w0 w there (h.0, h.1), hold_passes 0 r (framed operands w) w (top_place r w h.2) there pc has)
@@ -290,7 +292,7 @@ module _ (p : Program) (frames : List Frame) (bound : ℕ) (R : resolved.Program
   -- ---- objects
 
   -- an object is made, by its class
-  made_by : (n : ℕ) (found : Option ℕ) (pc : ℕ) (v : ℤ) (operands : List ℤ) (w0 w : World) → Behind n w0 w → Runs (moves p) (Referred (suc n) w0) bound (follow (recount (allocates p (at frames pc (v ∷ framed operands w) (held_of w)) (framed operands w) found)) w.input w.trace) (beside operands (pc + 1)) (made D found w)
+  made_by : (n : ℕ) (found : Option ℕ) (pc : ℕ) (v : ℤ) (operands : List ℤ) (w0 w : World) → Behind n w0 w → Runs (moves p) (Referred (suc n) w0) bound (follow (recount (allocates p.classes (at frames pc (v ∷ framed operands w) (held_of w)) (framed operands w) found)) w.input w.trace) (beside operands (pc + 1)) (made D found w)
   made_by n None pc v operands w0 w h = leads_same (moves p) _ _ refl
   made_by n (Some class) pc v operands w0 w h =
       let x : (fields : ℕ) → Object = λ fields. new_object class fields in
@@ -327,7 +329,7 @@ module _ (p : Program) (frames : List Frame) (bound : ℕ) (R : resolved.Program
       subst (λ n. Runs (moves p) good bound (follow (recount n) w.input w.trace) exit (in_object D class (object_at w.objects (suc k)) go w)) (sym step)
       (subst (Runs (moves p) good bound (follow (recount (if descends D.classes (Some o.class) class then next o else Faults FieldClass)) w.input w.trace) exit) (sym meant) (by_descent (descends D.classes (Some o.class) class) good w (next o) (go o) exit (h k o refl there.1)))
 
-  get_field_runs : (n class index r pc : ℕ) (operands : List ℤ) (w0 w : World) → Referred n w0 r w → Runs (moves p) (λ (v : ℤ) w1. Behind n w0 w1) bound (follow (recount (does p (GetField class index) (at frames pc (framed operands w) (held_of w)))) w.input w.trace) (above operands (pc + 1)) (field_read D r class index w)
+  get_field_runs : (n class index r pc : ℕ) (operands : List ℤ) (w0 w : World) → Referred n w0 r w → Runs (moves p) (λ (v : ℤ) w1. Behind n w0 w1) bound (follow (recount (does p (Plain (GetField class index)) (at frames pc (framed operands w) (held_of w)))) w.input w.trace) (above operands (pc + 1)) (field_read D r class index w)
   get_field_runs n class index r pc operands w0 w h =
       let s = at frames pc (framed operands w) (held_of w) in
       let next : Object → Next State = λ o. goes s (slice_index_or o.fields index (pos 0) ∷ framed operands w) in
@@ -355,7 +357,7 @@ module _ (p : Program) (frames : List Frame) (bound : ℕ) (R : resolved.Program
       dies : (x : Object) → Some x ≡ Some o → x.phase ≡ Dying → o.phase ≡ Dying
       dies x e h = let same : x ≡ o = cc in subst (λ (y : Object). y.phase ≡ Dying) same h
 
-  set_field_runs : (n m class index r pc : ℕ) (v : ℤ) (operands : List ℤ) (w0 w w1 : World) → Referred n w0 r w → Behind m w w1 → Runs (moves p) (λ (x : ℤ) w2. Behind (n + m) w0 w2) bound (follow (recount (does p (SetField m class index) (at frames pc (v ∷ framed operands w1) (held_of w1)))) w1.input w1.trace) (above operands (pc + 1)) (field_set D r class index v w1)
+  set_field_runs : (n m class index r pc : ℕ) (v : ℤ) (operands : List ℤ) (w0 w w1 : World) → Referred n w0 r w → Behind m w w1 → Runs (moves p) (λ (x : ℤ) w2. Behind (n + m) w0 w2) bound (follow (recount (does p (Plain (SetField m class index)) (at frames pc (v ∷ framed operands w1) (held_of w1)))) w1.input w1.trace) (above operands (pc + 1)) (field_set D r class index v w1)
   set_field_runs n m class index r pc v operands w0 w w1 h h1 =
       let stack = v ∷ framed operands w1 in
       let s = at frames pc stack (held_of w1) in
@@ -373,7 +375,7 @@ module _ (p : Program) (frames : List Frame) (bound : ℕ) (R : resolved.Program
           let good : Good w2 = subst (λ q. Good (with_objects w1 (with_object w1.objects q (with_fields o (slice_set o.fields index v))))) (sym same) changed in
           ((good, took_more n m w0.frame.temporaries w.frame.temporaries w1.frame.temporaries h.1 h1.1), quiet p frames bound (pc + 1) (v ∷ framed operands w1) w2)
 
-  differ_runs : (n m x y pc : ℕ) (operands : List ℤ) (w0 w w1 : World) → 1 ≤ m → Referred n w0 x w → Referred m w y w1 → Runs (moves p) (λ (v : ℤ) w2. Behind (n + m) w0 w2) bound (follow (recount (does p (Differ (m - 1)) (at frames pc (framed operands w1) (held_of w1)))) w1.input w1.trace) (above operands (pc + 1)) (Done (difference x y) w1)
+  differ_runs : (n m x y pc : ℕ) (operands : List ℤ) (w0 w w1 : World) → 1 ≤ m → Referred n w0 x w → Referred m w y w1 → Runs (moves p) (λ (v : ℤ) w2. Behind (n + m) w0 w2) bound (follow (recount (does p (Plain (Differ (m - 1))) (at frames pc (framed operands w1) (held_of w1)))) w1.input w1.trace) (above operands (pc + 1)) (Done (difference x y) w1)
   differ_runs n m x y pc operands w0 w w1 some h h1 =
       let stack = framed operands w1 in
       let s = at frames pc stack (held_of w1) in
@@ -435,26 +437,26 @@ module _ (p : Program) (frames : List Frame) (bound : ℕ) (R : resolved.Program
   mutual
     pub value_segment : (e : Value) (operands : List ℤ) (t : ℕ) (w : World) → t ≡ length w.frame.temporaries → Good w → Segment p frames bound (λ v w1. Behind (value_takes e) w w1) (value_orders R slots names (length operands) t e) (framed operands w) w (above operands) (evaluated D e w)
     value_segment (Number n) operands t w at_t g = λ pc has. ((g, nothing_taken w), num_passes n (framed operands w) w pc has)
-    value_segment ReadByte operands t w at_t g = one_segment p frames bound (λ v w1. Behind 0 w w1) GetChar (framed operands w) w (above operands) (Done (next_number w.input) (has_read w)) (λ pc. ((g, nothing_taken w), leads_same (moves p) _ _ (read_next frames pc (framed operands w) w w.input w.trace)))
+    value_segment ReadByte operands t w at_t g = one_segment p frames bound (λ v w1. Behind 0 w w1) (Plain GetChar) (framed operands w) w (above operands) (Done (next_number w.input) (has_read w)) (λ pc. ((g, nothing_taken w), leads_same (moves p) _ _ (read_next frames pc (framed operands w) w w.input w.trace)))
     value_segment (Print pieces arguments) operands t w at_t g =
         let n = values_take arguments in
         then_segment p frames bound (AllBehind (value_count arguments) n w) (λ v w1. Behind n w w1) (all_value_orders R slots names (length operands) t arguments) (print_orders pieces (value_count arguments)) (framed operands w) w (all_above operands) (above operands) (all_evaluated D arguments w) (λ values w1. let bytes = formatted pieces values in Done (byte_count bytes) (prints bytes w1)) (all_segment arguments operands t w at_t g) (λ values w1 h.
         subst (λ m. Segment p frames bound (λ v w2. Behind n w w2) (print_orders pieces m) (onto values (framed operands w1)) w1 (above operands) (Done (byte_count (formatted pieces values)) (prints (formatted pieces values) w1))) h.0 (λ q has. ((h.1, h.2), print_passes p frames bound pieces values (framed operands w1) w1 q has)))
     value_segment (Negated kind a) operands t w at_t g =
         let n = value_takes a in
-        then_segment p frames bound (λ v w1. Behind n w w1) (λ v w1. Behind n w w1) (value_orders R slots names (length operands) t a) (Un kind ∷ []) (framed operands w) w (above operands) (above operands) (evaluated D a w) (λ x w1. Done (negated kind x) w1) (value_segment a operands t w at_t g) (λ x w1 h.
-        one_segment p frames bound (λ v w2. Behind n w w2) (Un kind) (x ∷ framed operands w1) w1 (above operands) (Done (negated kind x) w1) (λ pc. (h, quiet p frames bound (pc + 1) (negated kind x ∷ framed operands w1) w1)))
+        then_segment p frames bound (λ v w1. Behind n w w1) (λ v w1. Behind n w w1) (value_orders R slots names (length operands) t a) (Plain (Un kind) ∷ []) (framed operands w) w (above operands) (above operands) (evaluated D a w) (λ x w1. Done (negated kind x) w1) (value_segment a operands t w at_t g) (λ x w1 h.
+        one_segment p frames bound (λ v w2. Behind n w w2) (Plain (Un kind)) (x ∷ framed operands w1) w1 (above operands) (Done (negated kind x) w1) (λ pc. (h, quiet p frames bound (pc + 1) (negated kind x ∷ framed operands w1) w1)))
     value_segment (Combined operator kind a b) operands t w at_t g =
         let n = value_takes a in
         let m = value_takes b in
         let ys = value_orders R slots names (suc (length operands)) (t + n) b in
-        then_segment p frames bound (λ v w1. Behind n w w1) (λ v w1. Behind (n + m) w w1) (value_orders R slots names (length operands) t a) (ys ++ Bin operator kind ∷ []) (framed operands w) w (above operands) (above operands) (evaluated D a w) (λ x w1. then_do (evaluated D b w1) (λ y w2. or_fault (combined operator kind x y) w2)) (value_segment a operands t w at_t g) (λ x w1 h.
-        then_segment p frames bound (λ v w2. Behind m w1 w2) (λ v w2. Behind (n + m) w w2) ys (Bin operator kind ∷ []) (x ∷ framed operands w1) w1 (above (x ∷ operands)) (above operands) (evaluated D b w1) (λ y w2. or_fault (combined operator kind x y) w2) (value_segment b (x ∷ operands) (t + n) w1 (count n t w w1 at_t h.1) h.0) (λ y w2 h2.
-        one_segment p frames bound (λ v w3. Behind (n + m) w w3) (Bin operator kind) (y ∷ x ∷ framed operands w2) w2 (above operands) (or_fault (combined operator kind x y) w2) (λ pc. or_fault_runs (λ v w3. Behind (n + m) w w3) (combined operator kind x y) pc (y ∷ x ∷ framed operands w2) operands w2 (λ v. both n m w w1 w2 h h2))))
+        then_segment p frames bound (λ v w1. Behind n w w1) (λ v w1. Behind (n + m) w w1) (value_orders R slots names (length operands) t a) (ys ++ Plain (Bin operator kind) ∷ []) (framed operands w) w (above operands) (above operands) (evaluated D a w) (λ x w1. then_do (evaluated D b w1) (λ y w2. or_fault (combined operator kind x y) w2)) (value_segment a operands t w at_t g) (λ x w1 h.
+        then_segment p frames bound (λ v w2. Behind m w1 w2) (λ v w2. Behind (n + m) w w2) ys (Plain (Bin operator kind) ∷ []) (x ∷ framed operands w1) w1 (above (x ∷ operands)) (above operands) (evaluated D b w1) (λ y w2. or_fault (combined operator kind x y) w2) (value_segment b (x ∷ operands) (t + n) w1 (count n t w w1 at_t h.1) h.0) (λ y w2 h2.
+        one_segment p frames bound (λ v w3. Behind (n + m) w w3) (Plain (Bin operator kind)) (y ∷ x ∷ framed operands w2) w2 (above operands) (or_fault (combined operator kind x y) w2) (λ pc. or_fault_runs (λ v w3. Behind (n + m) w w3) (combined operator kind x y) pc (y ∷ x ∷ framed operands w2) operands w2 (λ v. both n m w w1 w2 h h2))))
     value_segment (Converted kind a) operands t w at_t g =
         let n = value_takes a in
-        then_segment p frames bound (λ v w1. Behind n w w1) (λ v w1. Behind n w w1) (value_orders R slots names (length operands) t a) (Narrow kind ∷ []) (framed operands w) w (above operands) (above operands) (evaluated D a w) (λ x w1. Done (converted kind x) w1) (value_segment a operands t w at_t g) (λ x w1 h.
-        one_segment p frames bound (λ v w2. Behind n w w2) (Narrow kind) (x ∷ framed operands w1) w1 (above operands) (Done (converted kind x) w1) (λ pc. (h, quiet p frames bound (pc + 1) (converted kind x ∷ framed operands w1) w1)))
+        then_segment p frames bound (λ v w1. Behind n w w1) (λ v w1. Behind n w w1) (value_orders R slots names (length operands) t a) (Plain (Narrow kind) ∷ []) (framed operands w) w (above operands) (above operands) (evaluated D a w) (λ x w1. Done (converted kind x) w1) (value_segment a operands t w at_t g) (λ x w1 h.
+        one_segment p frames bound (λ v w2. Behind n w w2) (Plain (Narrow kind)) (x ∷ framed operands w1) w1 (above operands) (Done (converted kind x) w1) (λ pc. (h, quiet p frames bound (pc + 1) (converted kind x ∷ framed operands w1) w1)))
     value_segment (Local i) operands t w at_t g = λ pc has.
         ((g, nothing_taken w), subst (λ n. Passes p frames bound (get_orders n (length operands) i) (framed operands w) w (local_at w.frame.locals i ∷ framed operands w) w) g.locals (local_by operands i w (nat_lt i (length w.frame.locals)) refl) pc has)
     value_segment (Assigned i a) operands t w at_t g =
@@ -516,7 +518,7 @@ module _ (p : Program) (frames : List Frame) (bound : ℕ) (R : resolved.Program
         let ys = xs ++ SendToSuper from selector c ∷ [] in
         let o = evaluated D (SentToSuper from selector arguments) w in
         let q = pc + 1 in
-        let e : q + length ys ≡ pc + length (HoldSelf ∷ ys) = omega arith in
+        let e : q + length ys ≡ pc + length (Plain HoldSelf ∷ ys) = omega arith in
         let sent = then_segment p frames bound (AllBehind c m w1) (λ v w2. Behind (suc m) w w2) xs (SendToSuper from selector c ∷ []) (framed operands w1) w1 (all_above operands) (above operands) (all_evaluated D arguments w1) (λ given w2. sent_from D (Some from) r selector given w2) (all_segment arguments operands (suc t) w1 (ap suc at_t) first.0) (λ given w2 h2 k has2.
         let found = place_named m r first.2.0 w2.frame.strong w2.waiting w1.frame.temporaries w2.frame.temporaries first.2.1 h2.2 in
         let s = at frames k (onto given (framed operands w2)) (held_of w2) in
@@ -528,33 +530,33 @@ module _ (p : Program) (frames : List Frame) (bound : ℕ) (R : resolved.Program
         (leads_runs (moves p) (λ v w2. Behind (suc m) w w2) bound (running frames pc (framed operands w) w) (running frames q (framed operands w1) w1) (above operands (q + length ys)) o (hold_self_passes (framed operands w) w g pc (has.0, tt)) sent)
     value_segment (Field a class index) operands t w at_t g =
         let n = reference_takes a in
-        then_segment p frames bound (Referred n w) (λ v w1. Behind n w w1) (reference_orders R slots names (length operands) t a) (GetField class index ∷ []) (framed operands w) w (beside operands) (above operands) (referred D a w) (λ r w1. field_read D r class index w1) (reference_segment a operands t w at_t g) (λ r w1 h.
-        one_segment p frames bound (λ v w2. Behind n w w2) (GetField class index) (framed operands w1) w1 (above operands) (field_read D r class index w1) (λ pc. get_field_runs n class index r pc operands w w1 h))
+        then_segment p frames bound (Referred n w) (λ v w1. Behind n w w1) (reference_orders R slots names (length operands) t a) (Plain (GetField class index) ∷ []) (framed operands w) w (beside operands) (above operands) (referred D a w) (λ r w1. field_read D r class index w1) (reference_segment a operands t w at_t g) (λ r w1 h.
+        one_segment p frames bound (λ v w2. Behind n w w2) (Plain (GetField class index)) (framed operands w1) w1 (above operands) (field_read D r class index w1) (λ pc. get_field_runs n class index r pc operands w w1 h))
     value_segment (FieldAssigned a class index b) operands t w at_t g =
         let n = reference_takes a in
         let m = value_takes b in
         let ys = value_orders R slots names (length operands) (t + n) b in
-        then_segment p frames bound (Referred n w) (λ v w1. Behind (n + m) w w1) (reference_orders R slots names (length operands) t a) (ys ++ SetField m class index ∷ []) (framed operands w) w (beside operands) (above operands) (referred D a w) (λ r w1. then_do (evaluated D b w1) (λ v w2. field_set D r class index v w2)) (reference_segment a operands t w at_t g) (λ r w1 h.
-        then_segment p frames bound (λ v w2. Behind m w1 w2) (λ v w2. Behind (n + m) w w2) ys (SetField m class index ∷ []) (framed operands w1) w1 (above operands) (above operands) (evaluated D b w1) (λ v w2. field_set D r class index v w2) (value_segment b operands (t + n) w1 (count n t w w1 at_t h.1) h.0) (λ v w2 h2.
-        one_segment p frames bound (λ v w3. Behind (n + m) w w3) (SetField m class index) (v ∷ framed operands w2) w2 (above operands) (field_set D r class index v w2) (λ pc. set_field_runs n m class index r pc v operands w w1 w2 h h2)))
+        then_segment p frames bound (Referred n w) (λ v w1. Behind (n + m) w w1) (reference_orders R slots names (length operands) t a) (ys ++ Plain (SetField m class index) ∷ []) (framed operands w) w (beside operands) (above operands) (referred D a w) (λ r w1. then_do (evaluated D b w1) (λ v w2. field_set D r class index v w2)) (reference_segment a operands t w at_t g) (λ r w1 h.
+        then_segment p frames bound (λ v w2. Behind m w1 w2) (λ v w2. Behind (n + m) w w2) ys (Plain (SetField m class index) ∷ []) (framed operands w1) w1 (above operands) (above operands) (evaluated D b w1) (λ v w2. field_set D r class index v w2) (value_segment b operands (t + n) w1 (count n t w w1 at_t h.1) h.0) (λ v w2 h2.
+        one_segment p frames bound (λ v w3. Behind (n + m) w w3) (Plain (SetField m class index)) (v ∷ framed operands w2) w2 (above operands) (field_set D r class index v w2) (λ pc. set_field_runs n m class index r pc v operands w w1 w2 h h2)))
     value_segment (resolved.Differ a b) operands t w at_t g =
         let n = reference_takes a in
         let m = reference_takes b in
         let ys = reference_orders R slots names (length operands) (t + n) b in
-        then_segment p frames bound (Referred n w) (λ v w1. Behind (n + m) w w1) (reference_orders R slots names (length operands) t a) (ys ++ Differ (m - 1) ∷ []) (framed operands w) w (beside operands) (above operands) (referred D a w) (λ x w1. then_do (referred D b w1) (λ y w2. Done (difference x y) w2)) (reference_segment a operands t w at_t g) (λ x w1 h.
-        then_segment p frames bound (Referred m w1) (λ v w2. Behind (n + m) w w2) ys (Differ (m - 1) ∷ []) (framed operands w1) w1 (beside operands) (above operands) (referred D b w1) (λ y w2. Done (difference x y) w2) (reference_segment b operands (t + n) w1 (count n t w w1 at_t h.1) h.0) (λ y w2 h2.
-        one_segment p frames bound (λ v w3. Behind (n + m) w w3) (Differ (m - 1)) (framed operands w2) w2 (above operands) (Done (difference x y) w2) (λ pc. differ_runs n m x y pc operands w w1 w2 (reference_positive b) h h2)))
+        then_segment p frames bound (Referred n w) (λ v w1. Behind (n + m) w w1) (reference_orders R slots names (length operands) t a) (ys ++ Plain (Differ (m - 1)) ∷ []) (framed operands w) w (beside operands) (above operands) (referred D a w) (λ x w1. then_do (referred D b w1) (λ y w2. Done (difference x y) w2)) (reference_segment a operands t w at_t g) (λ x w1 h.
+        then_segment p frames bound (Referred m w1) (λ v w2. Behind (n + m) w w2) ys (Plain (Differ (m - 1)) ∷ []) (framed operands w1) w1 (beside operands) (above operands) (referred D b w1) (λ y w2. Done (difference x y) w2) (reference_segment b operands (t + n) w1 (count n t w w1 at_t h.1) h.0) (λ y w2 h2.
+        one_segment p frames bound (λ v w3. Behind (n + m) w w3) (Plain (Differ (m - 1))) (framed operands w2) w2 (above operands) (Done (difference x y) w2) (λ pc. differ_runs n m x y pc operands w w1 w2 (reference_positive b) h h2)))
     value_segment (resolved.IsObject a) operands t w at_t g =
         let n = reference_takes a in
-        then_segment p frames bound (Referred n w) (λ v w1. Behind n w w1) (reference_orders R slots names (length operands) t a) (IsObject ∷ []) (framed operands w) w (beside operands) (above operands) (referred D a w) (λ x w1. Done (difference x 0) w1) (reference_segment a operands t w at_t g) (λ x w1 h.
-        one_segment p frames bound (λ v w2. Behind n w w2) IsObject (framed operands w1) w1 (above operands) (Done (difference x 0) w1) (λ pc.
+        then_segment p frames bound (Referred n w) (λ v w1. Behind n w w1) (reference_orders R slots names (length operands) t a) (Plain IsObject ∷ []) (framed operands w) w (beside operands) (above operands) (referred D a w) (λ x w1. Done (difference x 0) w1) (reference_segment a operands t w at_t g) (λ x w1 h.
+        one_segment p frames bound (λ v w2. Behind n w w2) (Plain IsObject) (framed operands w1) w1 (above operands) (Done (difference x 0) w1) (λ pc.
         let s = at frames pc (framed operands w1) (held_of w1) in
         let step = ap (λ l. on_place ((l ++ w1.frame.strong) ++ w1.waiting) (λ r rest. goes s (acting.difference r 0 ∷ framed operands w1))) h.2.1 in
         ((h.0, h.1), subst (λ y. Leads (moves p) (follow (recount y) w1.input w1.trace) (running frames (pc + 1) (difference x 0 ∷ framed operands w1) w1)) (sym step) (quiet p frames bound (pc + 1) (difference x 0 ∷ framed operands w1) w1))))
 
     pub reference_segment : (e : Reference) (operands : List ℤ) (t : ℕ) (w : World) → t ≡ length w.frame.temporaries → Good w → Segment p frames bound (Referred (reference_takes e) w) (reference_orders R slots names (length operands) t e) (framed operands w) w (beside operands) (referred D e w)
-    reference_segment resolved.Nil operands t w at_t g = passes_referred 1 0 (Nil ∷ []) operands w refl tt g (nil_passes (framed operands w) w)
-    reference_segment Itself operands t w at_t g = passes_referred 1 w.frame.self (HoldSelf ∷ []) operands w refl (self_there w g) g (hold_self_passes (framed operands w) w g)
+    reference_segment resolved.Nil operands t w at_t g = passes_referred 1 0 (Plain Nil ∷ []) operands w refl tt g (nil_passes (framed operands w) w)
+    reference_segment Itself operands t w at_t g = passes_referred 1 w.frame.self (Plain HoldSelf ∷ []) operands w refl (self_there w g) g (hold_self_passes (framed operands w) w g)
     reference_segment (Variable i) operands t w at_t g =
         let r = name_at w.frame.strong i in
         let held = variable_by (nat_lt i (length w.frame.strong)) t i (framed operands w) w refl at_t g in
@@ -562,19 +564,19 @@ module _ (p : Program) (frames : List Frame) (bound : ℕ) (R : resolved.Program
     reference_segment (Stored i a) operands t w at_t g =
         let n = reference_takes a in
         let stores_i = store_orders names (t + n - 1) i in
-        then_segment p frames bound (Referred n w) (Referred (suc n) w) (reference_orders R slots names (length operands) t a) (stores_i ++ Hold 0 ∷ []) (framed operands w) w (beside operands) (beside operands) (referred D a w) (λ r w1. then_do (assigned D i r w1) (λ _ w2. Done r (takes r w2))) (reference_segment a operands t w at_t g) (λ r w1 h.
+        then_segment p frames bound (Referred n w) (Referred (suc n) w) (reference_orders R slots names (length operands) t a) (stores_i ++ Plain (Hold 0) ∷ []) (framed operands w) w (beside operands) (beside operands) (referred D a w) (λ r w1. then_do (assigned D i r w1) (λ _ w2. Done r (takes r w2))) (reference_segment a operands t w at_t g) (λ r w1 h.
         let size : t + n - 1 ≡ length h.2.0 = omega (arith, count n t w w1 at_t h.1, ap length h.2.1) in
-        then_segment p frames bound (λ (done : Finished) w2. Kept frames (stores i r w1) w2) (Referred (suc n) w) stores_i (Hold 0 ∷ []) (framed operands w1) w1 (stays p frames bound D deep.ends (framed operands w1)) (beside operands) (assigned D i r w1) (λ _ w2. Done r (takes r w2)) (store_segment p frames bound D deep.ends names (t + n - 1) i r h.2.0 (framed operands w1) w1 h.0.strong h.2.1 size h.0.fine) (λ done w2 k.
+        then_segment p frames bound (λ (done : Finished) w2. Kept frames (stores i r w1) w2) (Referred (suc n) w) stores_i (Plain (Hold 0) ∷ []) (framed operands w1) w1 (stays p frames bound D deep.ends (framed operands w1)) (beside operands) (assigned D i r w1) (λ _ w2. Done r (takes r w2)) (store_segment p frames bound D deep.ends names (t + n - 1) i r h.2.0 (framed operands w1) w1 h.0.strong h.2.1 size h.0.fine) (λ done w2 k.
         let same : framed operands w2 ≡ framed operands w1 = ap (λ (f : world.Frame). operands ++ onto f.locals below) k.frame in
         let again = again_segment n r operands w w2 (stored_referred n i r w w1 w2 h k) in
-        subst (λ x. Segment p frames bound (Referred (suc n) w) (Hold 0 ∷ []) x w2 (beside operands) (Done r (takes r w2))) same again))
+        subst (λ x. Segment p frames bound (Referred (suc n) w) (Plain (Hold 0) ∷ []) x w2 (beside operands) (Done r (takes r w2))) same again))
     reference_segment (Made a) operands t w at_t g =
         let n = value_takes a in
-        then_segment p frames bound (λ v w1. Behind n w w1) (Referred (suc n) w) (value_orders R slots names (length operands) t a) (Alloc ∷ []) (framed operands w) w (above operands) (beside operands) (evaluated D a w) (λ class w1. made D (class_at class) w1) (value_segment a operands t w at_t g) (λ class w1 h.
-        one_segment p frames bound (Referred (suc n) w) Alloc (class ∷ framed operands w1) w1 (beside operands) (made D (class_at class) w1) (λ pc. made_by n (class_at class) pc class operands w w1 h))
+        then_segment p frames bound (λ v w1. Behind n w w1) (Referred (suc n) w) (value_orders R slots names (length operands) t a) (Plain Alloc ∷ []) (framed operands w) w (above operands) (beside operands) (evaluated D a w) (λ class w1. made D (class_at class) w1) (value_segment a operands t w at_t g) (λ class w1 h.
+        one_segment p frames bound (Referred (suc n) w) (Plain Alloc) (class ∷ framed operands w1) w1 (beside operands) (made D (class_at class) w1) (λ pc. made_by n (class_at class) pc class operands w w1 h))
     reference_segment (Initialized a) operands t w at_t g =
         let n = reference_takes a in
-        then_segment p frames bound (Referred n w) (Referred (suc n) w) (reference_orders R slots names (length operands) t a) (Hold 0 ∷ []) (framed operands w) w (beside operands) (beside operands) (referred D a w) (λ r w1. Done r (takes r w1)) (reference_segment a operands t w at_t g) (λ r w1 h. again_segment n r operands w w1 h)
+        then_segment p frames bound (Referred n w) (Referred (suc n) w) (reference_orders R slots names (length operands) t a) (Plain (Hold 0) ∷ []) (framed operands w) w (beside operands) (beside operands) (referred D a w) (λ r w1. Done r (takes r w1)) (reference_segment a operands t w at_t g) (λ r w1 h. again_segment n r operands w w1 h)
 
     all_segment : (arguments : Values) (operands : List ℤ) (t : ℕ) (w : World) → t ≡ length w.frame.temporaries → Good w → Segment p frames bound (AllBehind (value_count arguments) (values_take arguments) w) (all_value_orders R slots names (length operands) t arguments) (framed operands w) w (all_above operands) (all_evaluated D arguments w)
     all_segment no_values operands t w at_t g = λ pc has. let e : pc ≡ pc + 0 = omega arith in ((refl, g, nothing_taken w), leads_same (moves p) _ _ (ap (λ q. running frames q (framed operands w) w) e))

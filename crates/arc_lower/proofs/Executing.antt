@@ -12,7 +12,9 @@ use Rattle.arc_spec.specs.Holding.{Frame, holders, with_places, forgets}
 use Rattle.arc_spec.specs.Stepping.{Next, Reached, Goes, follow}
 use Rattle.arc_ir.specs.Acting.{Program, State, keeps}
 use Rattle.arc_ir.specs.Acting as acting
-use Rattle.arc_lower.specs.Order.{Order, Num, Pop, Jump, JumpZero, Return, Nil, Forget}
+use Rattle.arc_code.specs.declared.instr.Op.TheVariants.{Num, Pop, Nil, Forget}
+use Rattle.arc_code.specs.declared.instr.Instr.TheVariants.{Plain, Jump, JumpZero, Return}
+use Rattle.arc_lower.specs.Order.{Order}
 use Rattle.arc_lower.specs.Lowered.{value_takes, reference_takes, keep_orders, nil_orders, store_orders, drop_orders, all_empty_orders, value_orders, reference_orders, whole_orders, whole_reference_orders, begin_orders, leave_orders, command_orders, all_command_orders, body_orders}
 use Rattle.arc_lower.proofs.CountsThere.{AllThere, placed_there}
 use Rattle.arc_lower.proofs.Leading.{Leads, leads_same, leads_trans, leads_step, Runs, leads_runs, later_runs, fewer_runs, then_runs, better_runs}
@@ -145,10 +147,10 @@ module _ (p : Program) (frames : List Frame) (bound : ℕ) (R : resolved.Program
   return_leads v w pc has =
       leads_trans (moves p) (running frames pc (v ∷ vars w) w) (follow (Goes (at frames exit (v ∷ vars w) (held_of w)) []) w.input w.trace) (running frames exit (v ∷ vars w) w) (jump_leads exit (v ∷ vars w) w pc has) (quiet p frames bound exit (v ∷ vars w) w)
 
-  zero_leads : (w : World) (pc : ℕ) → HasAt p pc (Num (pos 0) ∷ []) → Leads (moves p) (running frames pc (vars w) w) (running frames (pc + 1) (pos 0 ∷ vars w) w)
-  zero_leads w pc has = one_passes p frames bound (Num (pos 0)) (vars w) w (pos 0 ∷ vars w) w (λ q. quiet p frames bound (q + 1) (pos 0 ∷ vars w) w) pc has
+  zero_leads : (w : World) (pc : ℕ) → HasAt p pc (Plain (Num (pos 0)) ∷ []) → Leads (moves p) (running frames pc (vars w) w) (running frames (pc + 1) (pos 0 ∷ vars w) w)
+  zero_leads w pc has = one_passes p frames bound (Plain (Num (pos 0))) (vars w) w (pos 0 ∷ vars w) w (λ q. quiet p frames bound (q + 1) (pos 0 ∷ vars w) w) pc has
 
-  zero_returns : (w : World) (pc : ℕ) → HasAt p pc (Num (pos 0) ∷ Jump exit ∷ []) → Leads (moves p) (running frames pc (vars w) w) (running frames exit (pos 0 ∷ vars w) w)
+  zero_returns : (w : World) (pc : ℕ) → HasAt p pc (Plain (Num (pos 0)) ∷ Jump exit ∷ []) → Leads (moves p) (running frames pc (vars w) w) (running frames exit (pos 0 ∷ vars w) w)
   zero_returns w pc has = leads_trans (moves p) (running frames pc (vars w) w) (running frames (pc + 1) (pos 0 ∷ vars w) w) (running frames exit (pos 0 ∷ vars w) w) (zero_leads w pc (has.0, tt)) (return_leads (pos 0) w (pc + 1) has.1)
 
   -- by the number on top a run goes on behind the test, or elsewhere
@@ -238,8 +240,8 @@ module _ (p : Program) (frames : List Frame) (bound : ℕ) (R : resolved.Program
         then_at p frames bound Good Good xs ys (running frames place (vars w) w) place flows flows (all_executed D bound all w) (λ flow w1. scope_left D first n flow w1) has (λ h. all_runs all place h w g) (λ flow w1 g1 h. scope_runs first n flow (place + length xs) w1 g1 h)
     command_runs (Evaluate a) place has w g =
         let xs = whole_orders R slots names a in
-        then_at p frames bound Good Good xs (Pop ∷ []) (running frames place (vars w) w) place valued flows (whole D a w) (λ v w1. Done Normal w1) has (λ h. whole_runs a w place g h) (λ v w1 g1 h.
-        one_segment p frames bound Good Pop (v ∷ vars w1) w1 flows (Done Normal w1) (λ pc. (g1, quiet p frames bound (pc + 1) (vars w1) w1)) (place + length xs) h)
+        then_at p frames bound Good Good xs (Plain Pop ∷ []) (running frames place (vars w) w) place valued flows (whole D a w) (λ v w1. Done Normal w1) has (λ h. whole_runs a w place g h) (λ v w1 g1 h.
+        one_segment p frames bound Good (Plain Pop) (v ∷ vars w1) w1 flows (Done Normal w1) (λ pc. (g1, quiet p frames bound (pc + 1) (vars w1) w1)) (place + length xs) h)
     command_runs (EvaluateReference a) place has w g = normal_runs (place + length (whole_reference_orders R slots names a)) (running frames place (vars w) w) (whole_reference D a w) (reference_runs a w place g has)
     command_runs (Begin i a) place has w g = normal_runs (place + length (begin_orders R slots names i a)) (running frames place (vars w) w) (begun D i a w) (begin_runs i a w place g has)
     command_runs (resolved.Return None) place has w g = (g, zero_returns w place has)
@@ -293,11 +295,11 @@ module _ (p : Program) (frames : List Frame) (bound : ℕ) (R : resolved.Program
   abbrev pub leaving : ℤ → World → Reached State
   leaving v w = follow (recount (acting.leaves p (at frames (exit + length (all_empty_orders names 0 names) + 1 + length (keep_orders slots)) (v ∷ below) (held_of (bared w))) frames v below)) w.input w.trace
 
-  forget_leads : (stack : List ℤ) (w : World) (q : ℕ) → w.frame.temporaries ≡ [] → w.frame.strong ≡ nils names → w.waiting ≡ places before → w.frame.self ≡ self → HasAt p q (Forget names ∷ []) → Leads (moves p) (running frames q stack w) (running frames (q + 1) stack (bared w))
+  forget_leads : (stack : List ℤ) (w : World) (q : ℕ) → w.frame.temporaries ≡ [] → w.frame.strong ≡ nils names → w.waiting ≡ places before → w.frame.self ≡ self → HasAt p q (Plain (Forget names) ∷ []) → Leads (moves p) (running frames q stack w) (running frames (q + 1) stack (bared w))
   forget_leads stack w q none empty waits itself has =
       let s = at frames q stack (held_of w) in
       let all : places w ≡ nils names ++ places before = ap (λ t. (t ++ w.frame.strong) ++ w.waiting) none ∙ ap (λ l. l ++ w.waiting) empty ∙ ap (λ l. nils names ++ l) waits in
-      let step : does p (Forget names) s ≡ keeps s stack (with_places (held_of w) (places before)) = ap (λ l. forgets names l (λ rest. keeps s stack (with_places (held_of w) rest))) all ∙ forgets_nils names (places before) (λ rest. keeps s stack (with_places (held_of w) rest)) in
+      let step : does p (Plain (Forget names)) s ≡ keeps s stack (with_places (held_of w) (places before)) = ap (λ l. forgets names l (λ rest. keeps s stack (with_places (held_of w) rest))) all ∙ forgets_nils names (places before) (λ rest. keeps s stack (with_places (held_of w) rest)) in
       let reached = (ap recount (has.0 frames stack (held_of w))) ∙ ap recount step ∙ ap (λ x. Goes (at frames (q + 1) stack (record { places = places before; self = x; objects = w.objects; counts = λ k. holders k (places before) })) []) itself in
       leads_trans (moves p) (running frames q stack w) (follow (Goes (at frames (q + 1) stack (held_of (bared w))) []) w.input w.trace) (running frames (q + 1) stack (bared w)) (leads_step (moves p) s w.input w.trace (Goes (at frames (q + 1) stack (held_of (bared w))) []) reached) (quiet p frames bound (q + 1) stack (bared w))
 
@@ -308,9 +310,9 @@ module _ (p : Program) (frames : List Frame) (bound : ℕ) (R : resolved.Program
       let keep = keep_orders slots in
       let stack = v ∷ vars w in
       let q = exit + length xs in
-      let later = has_back p exit xs (Forget names ∷ (keep ++ Return ∷ [])) has in
+      let later = has_back p exit xs (Plain (Forget names) ∷ (keep ++ Return ∷ [])) has in
       let last = has_back p (q + 1) keep (Return ∷ []) later.1 in
-      then_runs (moves p) (λ (done : Finished) w1. Kept frames (emptied 0 names w) w1) (λ (x : ℤ) w2. Kept frames before w2) bound (running frames exit stack w) (stays p frames bound D deep.ends stack q) leaving (variables_dropped D 0 names w) (λ _ w2. Done v (left before w2)) (empties_segment p frames bound D deep.ends names 0 names stack w g.0.strong g.1 g.0.fine exit (has_front p exit xs (Forget names ∷ (keep ++ Return ∷ [])) has)) (λ done w1 k.
+      then_runs (moves p) (λ (done : Finished) w1. Kept frames (emptied 0 names w) w1) (λ (x : ℤ) w2. Kept frames before w2) bound (running frames exit stack w) (stays p frames bound D deep.ends stack q) leaving (variables_dropped D 0 names w) (λ _ w2. Done v (left before w2)) (empties_segment p frames bound D deep.ends names 0 names stack w g.0.strong g.1 g.0.fine exit (has_front p exit xs (Plain (Forget names) ∷ (keep ++ Return ∷ [])) has)) (λ done w1 k.
       let calm = emptied_calm 0 names w w1 g k in
       let empty : w1.frame.strong ≡ nils names = ap (λ (f : world.Frame). f.strong) k.frame ∙ subst (λ n. empties 0 n w.frame.strong ≡ nils n) g.0.strong (empties_all w.frame.strong) in
       let forgotten = forget_leads stack w1 q calm.1 empty calm.0.waits calm.0.itself (later.0, tt) in
@@ -333,13 +335,13 @@ module _ (p : Program) (frames : List Frame) (bound : ℕ) (R : resolved.Program
       let w = entered slots m self arguments before in
       let w1 = entered slots (suc m) self arguments before in
       subst (λ k. Passes p frames bound (nil_orders (suc n)) stack w stack (entered slots k self arguments before)) e
-      (then_passes p frames bound (Nil ∷ []) (nil_orders n) stack w stack w1 stack (entered slots (n + suc m) self arguments before) (one_passes p frames bound Nil stack w stack w1 (λ pc. quiet p frames bound (pc + 1) stack w1)) (nils_pass n (suc m) arguments stack))
+      (then_passes p frames bound (Plain Nil ∷ []) (nil_orders n) stack w stack w1 stack (entered slots (n + suc m) self arguments before) (one_passes p frames bound (Plain Nil) stack w stack w1 (λ pc. quiet p frames bound (pc + 1) stack w1)) (nils_pass n (suc m) arguments stack))
 
   nils_there : (n : ℕ) (objects : List _) → AllThere objects (places before) → AllThere objects (nils n ++ places before)
   nils_there zero objects there = there
   nils_there (suc n) objects there = placed_there objects 0 (nils n ++ places before) tt (nils_there n objects there)
 
-  flow_leaves : (flow : Flow) (q : ℕ) (w : World) → Calm w → HasAt p q (Num (pos 0) ∷ Jump exit ∷ []) → HasAt p exit (leave_orders slots names) → Runs (moves p) (λ (x : ℤ) w2. Kept frames before w2) bound (flows q flow w) leaving (then_do (variables_dropped D 0 names w) (λ _ w2. Done (given flow) (left before w2)))
+  flow_leaves : (flow : Flow) (q : ℕ) (w : World) → Calm w → HasAt p q (Plain (Num (pos 0)) ∷ Jump exit ∷ []) → HasAt p exit (leave_orders slots names) → Runs (moves p) (λ (x : ℤ) w2. Kept frames before w2) bound (flows q flow w) leaving (then_do (variables_dropped D 0 names w) (λ _ w2. Done (given flow) (left before w2)))
   flow_leaves Normal q w g has leave = leads_runs (moves p) (λ (x : ℤ) w2. Kept frames before w2) bound (running frames q (vars w) w) (running frames exit (pos 0 ∷ vars w) w) leaving (then_do (variables_dropped D 0 names w) (λ _ w2. Done (pos 0) (left before w2))) (zero_returns w q has) (leave_runs (pos 0) w g leave)
   flow_leaves (Returned v) q w g has leave = leave_runs v w g leave
 
@@ -349,7 +351,7 @@ module _ (p : Program) (frames : List Frame) (bound : ℕ) (R : resolved.Program
       let none = nil_orders names in
       let place = entry + length none in
       let xs = all_command_orders R slots names exit place body in
-      let ys = Num (pos 0) ∷ Jump exit ∷ [] in
+      let ys : List Order = Plain (Num (pos 0)) ∷ Jump exit ∷ [] in
       let w0 = entered slots names self arguments before in
       let stack = onto (first_locals slots arguments) below in
       let e : names + 0 ≡ names = omega arith in

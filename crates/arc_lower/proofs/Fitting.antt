@@ -3,7 +3,8 @@ use Rattle.std.proofs.Common.{◌≡◌, ℕ, zero, suc, ◌+◌, ◌-◌, ℤ, 
 use Rattle.arc_spec.specs.World.{World, first_locals}
 use Rattle.arc_spec.specs.Holding.{Frame}
 use Rattle.arc_ir.specs.Acting.{Program}
-use Rattle.arc_lower.specs.Order.{Num}
+use Rattle.arc_code.specs.declared.instr.Op.TheVariants.{Num}
+use Rattle.arc_code.specs.declared.instr.Instr.TheVariants.{Plain}
 use Rattle.arc_lower.specs.Lowered.{pop_orders, zero_orders, fit_orders}
 use Rattle.arc_lower.proofs.Segments.{quiet, Passes, then_passes, one_passes, no_passes}
 use Rattle.arc_lower.proofs.Stacking.{onto, peels_onto}
@@ -13,8 +14,8 @@ module _ (p : Program) (frames : List Frame) (bound : ℕ) where
   pub zeros_pass : (n : ℕ) (stack : List ℤ) (w : World) → Passes p frames bound (zero_orders n) stack w (onto (first_locals n []) stack) w
   zeros_pass zero stack w = no_passes p frames bound stack w stack w refl refl
   zeros_pass (suc n) stack w =
-      then_passes p frames bound (Num (pos 0) ∷ []) (zero_orders n) stack w (pos 0 ∷ stack) w (onto (first_locals n []) (pos 0 ∷ stack)) w
-      (one_passes p frames bound (Num (pos 0)) stack w (pos 0 ∷ stack) w (λ pc. quiet p frames bound (pc + 1) (pos 0 ∷ stack) w))
+      then_passes p frames bound (Plain (Num (pos 0)) ∷ []) (zero_orders n) stack w (pos 0 ∷ stack) w (onto (first_locals n []) (pos 0 ∷ stack)) w
+      (one_passes p frames bound (Plain (Num (pos 0))) stack w (pos 0 ∷ stack) w (λ pc. quiet p frames bound (pc + 1) (pos 0 ∷ stack) w))
       (zeros_pass n (pos 0 ∷ stack) w)
 
   fits_by : (slots : ℕ) (given stack : List ℤ) (w : World) (pops zeros : ℕ) → pops ≡ length given - slots → zeros ≡ slots - length given → Passes p frames bound (pop_orders pops ++ zero_orders zeros) (onto given stack) w (onto (first_locals slots given) stack) w

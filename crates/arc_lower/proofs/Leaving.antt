@@ -7,7 +7,9 @@ use Rattle.arc_spec.specs.Resolved as resolved
 use Rattle.arc_spec.specs.Holding.{Held, with_places, forgets}
 use Rattle.arc_spec.specs.Stepping.{Next, Along, on_top}
 use Rattle.arc_ir.specs.Acting.{Program, State, keeps, leaves}
-use Rattle.arc_lower.specs.Order.{Order, Num, Jump, Return, Nil, Empty, Forget}
+use Rattle.arc_code.specs.declared.instr.Op.TheVariants.{Num, Nil, Forget}
+use Rattle.arc_code.specs.declared.instr.Instr.TheVariants.{Plain, Jump, Return, Empty}
+use Rattle.arc_lower.specs.Order.{Order}
 use Rattle.arc_lower.specs.Lowered.{nil_orders, keep_orders, empty_orders, all_empty_orders, leave_orders, all_command_orders}
 use Rattle.arc_lower.proofs.CountsSound.{SafeIfSane}
 use Rattle.arc_lower.proofs.Recounting.{at}
@@ -62,7 +64,7 @@ module _ (p : Program) (g : Stage) (limit few : ℕ) (within : limit ≤ p.room)
       subst (Along (SafeIfSane p n)) (sym (has.0 g.frames stack held)) (empty_safe p g limit few within enough R slots names below safe_calls k (suc high) names n pc stack held mine lt fits some e f o sane (λ m le stack1 held1 e1 o1.
       behind m (omega (arith, le)) stack1 held1 (slice_set mine k 0) e1 (length-set mine k 0 ∙ f) (nil_from_set k mine nil) o1))
 
-  empty_by : (b : Bool) (k n pc : ℕ) → nat_lt k names ≡ b → k < names → suc high ≤ limit → names ≤ few → HasAt p pc (if b then Empty k ∷ [] else []) → ((m : ℕ) → m ≤ n → EmptiedFrom k m (pc + length (if b then Empty k ∷ [] else []))) → EmptiedFrom (suc k) n pc
+  empty_by : (b : Bool) (k n pc : ℕ) → nat_lt k names ≡ b → k < names → suc high ≤ limit → names ≤ few → HasAt p pc (if b then Empty k ∷ [] else []) → ((m : ℕ) → m ≤ n → EmptiedFrom k m (pc + length {A = Order} (if b then Empty k ∷ [] else []))) → EmptiedFrom (suc k) n pc
   empty_by true k n pc t lt fits some has behind = empty_one k n pc lt fits some has behind
   empty_by false k n pc t lt fits some has behind = absurd (omega (arith, lt, ltb-false k names t))
 
@@ -87,7 +89,7 @@ module _ (p : Program) (g : Stage) (limit few : ℕ) (within : limit ≤ p.room)
   forgets_along (r ∷ mine) zero n waiting go e nil h = absurd (omega (arith, e))
   forgets_along (r ∷ mine) (suc k) n waiting go e nil h = subst (λ q. Along (SafeIfSane p n) (forgets (suc k) (q ∷ mine ++ waiting) go)) (sym nil.0) (forgets_along mine k n waiting go (omega (arith, e)) nil.1 h)
 
-  forget_safe : (n pc : ℕ) → suc high ≤ limit → names ≤ few → HasAt p pc (Forget names ∷ []) → Until p g n (pc + 1) (suc high) 0 → Emptied n pc
+  forget_safe : (n pc : ℕ) → suc high ≤ limit → names ≤ few → HasAt p pc (Plain (Forget names) ∷ []) → Until p g n (pc + 1) (suc high) 0 → Emptied n pc
   forget_safe n pc fits some has behind zero le stack held mine e f nil o = λ sane. roomy p g limit few within enough (suc high) names zero pc fits some stack held mine e f o
   forget_safe n pc fits some has behind (suc m) le stack held mine e f nil o = λ sane.
       subst (Along (SafeIfSane p m)) (sym (has.0 g.frames stack held)) (subst (λ l. Along (SafeIfSane p m) (forgets names l (λ rest. keeps (at g.frames pc stack held) stack (with_places held rest)))) (sym o.is)
@@ -110,7 +112,7 @@ module _ (p : Program) (g : Stage) (limit few : ℕ) (within : limit ≤ p.room)
   leave_safe n pc fits some kept has home = λ stack held mine e f o.
       let xs = all_empty_orders names 0 names in
       let ys = keep_orders slots in
-      let rest = Forget names ∷ (ys ++ Return ∷ []) in
+      let rest = Plain (Forget names) ∷ (ys ++ Return ∷ []) in
       let q = pc + length xs in
       let back = has_back p pc xs rest has in
       let keeps = keep_keeps p g limit few within enough slots high 0 below refl in
@@ -123,18 +125,18 @@ module _ (p : Program) (g : Stage) (limit few : ℕ) (within : limit ≤ p.room)
   nils_keep zero height own = no_keeps p g limit few within enough height own height (0 + own) refl (omega arith)
   nils_keep (suc n) height own =
       let h : n + suc own ≡ suc n + own = omega arith in
-      subst (Keeps p g limit few within enough (nil_orders (suc n)) height own height) h (then_keeps p g limit few within enough (Nil ∷ []) (nil_orders n) height own height (suc own) height (n + suc own) (nil_keeps p g limit few within enough height own) (nils_keep n height (suc own)))
+      subst (Keeps p g limit few within enough (nil_orders (suc n)) height own height) h (then_keeps p g limit few within enough (Plain Nil ∷ []) (nil_orders n) height own height (suc own) height (n + suc own) (nil_keeps p g limit few within enough height own) (nils_keep n height (suc own)))
 
   -- what a function does from its entry on, where it is left at `exit`
   abbrev body_from : Commands → (exit entry : ℕ) → List Order
-  body_from all exit entry = nil_orders names ++ (all_command_orders R slots names exit (entry + length (nil_orders names)) all ++ Num (pos 0) ∷ (Jump exit ∷ []))
+  body_from all exit entry = nil_orders names ++ (all_command_orders R slots names exit (entry + length (nil_orders names)) all ++ Plain (Num (pos 0)) ∷ (Jump exit ∷ []))
 
   entered_safe : (all : Commands) (exit entry : ℕ) → HasAt p entry (body_from all exit entry) → high + rise (body_from all exit entry) ≤ limit → grow (body_from all exit entry) ≤ few → (n : ℕ) → Until p g n exit (suc high) names → SafeAt p g n entry high 0
   entered_safe all exit entry has fits some n left =
       let nils = nil_orders names in
       let start = entry + length nils in
       let xs = all_command_orders R slots names exit start all in
-      let end : List Order = Num (pos 0) ∷ (Jump exit ∷ []) in
+      let end : List Order = Plain (Num (pos 0)) ∷ (Jump exit ∷ []) in
       let r1 = rise_append nils (xs ++ end) in
       let r2 = rise_append xs end in
       let q1 = grow_append nils (xs ++ end) in
@@ -156,11 +158,11 @@ module _ (p : Program) (g : Stage) (limit few : ℕ) (within : limit ≤ p.room)
       let body = body_from all exit entry in
       let nils = nil_orders names in
       let xs = all_command_orders R slots names exit (entry + length nils) all in
-      let end : List Order = Num (pos 0) ∷ (Jump exit ∷ []) in
+      let end : List Order = Plain (Num (pos 0)) ∷ (Jump exit ∷ []) in
       let emptied = all_empty_orders names 0 names in
       let kept = keep_orders slots in
       let s1 = length-append leave body in
-      let s2 = length-append emptied (Forget names ∷ (kept ++ Return ∷ [])) in
+      let s2 = length-append emptied (Plain (Forget names) ∷ (kept ++ Return ∷ [])) in
       let s3 = length-append kept (Return ∷ []) in
       let r1 = rise_append nils (xs ++ end) in
       let r2 = rise_append xs end in

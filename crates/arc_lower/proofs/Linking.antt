@@ -1,14 +1,15 @@
 -- Each function stands at its entry.
-use Rattle.std.proofs.Common.{◌≡◌, ℕ, ℤ, zero, suc, ◌+◌, ◌<◌, ◌≤◌, Bool, true, false, max, nat_lt, if◌then◌else◌, List, [], ◌∷◌, ◌++◌, length, Some, refl, ap, ◌∙◌, subst, arith, slice_get, slice_index_or}
+use Rattle.std.proofs.Common.{◌≡◌, ℕ, ℤ, zero, suc, ◌+◌, ◌<◌, ◌≤◌, Bool, true, false, max, nat_lt, if◌then◌else◌, List, [], ◌∷◌, ◌++◌, length, Some, refl, ap, ◌∙◌, subst, arith, slice_get, slice_index_or, get_or}
 use Rattle.std.proofs.lemmas.Bool.{ltb-true, ltb-false}
 use Rattle.arc_spec.specs.Classes.{Class}
 use Rattle.arc_spec.specs.Resolved.{Function}
 use Rattle.arc_spec.specs.Resolved as resolved
 use Rattle.arc_spec.specs.Meaning.{function_at, most_levels}
 use Rattle.arc_spec.specs.Holding.{Held, Frame}
-use Rattle.arc_spec.specs.Stepping.{on_found}
+use Rattle.arc_ir.specs.Acting as acting
 use Rattle.arc_ir.specs.Acting.{Program, has_level, enters, step}
-use Rattle.arc_lower.specs.Order.{Order, Call, Return, EndStep, orders}
+use Rattle.arc_code.specs.declared.instr.Instr.TheVariants.{Call, Return, EndStep}
+use Rattle.arc_lower.specs.Order.{Order, orders}
 use Rattle.arc_lower.specs.Lowered.{nothing, all_functions, number_of, slots_of, zero_orders, end_step_of, entry_of, function_orders, functions_orders, entries_from, longest_from, start_orders, running_orders, lowered, entries_of, classes_orders}
 use Rattle.arc_lower.proofs.Rows.{zeros_length}
 use Rattle.arc_lower.proofs.Recounting.{at}
@@ -21,7 +22,7 @@ longest R = longest_from R (length (start_orders R)) (all_functions R) (length (
 -- where a function begins, and where it is entered
 pub record Begins (p : Program) (R : resolved.Program) (n : ℕ) (f : Function) : Type 0 where
   pub place : ℕ
-  pub entry : slice_get p.entries n ≡ Some (entry_of place f)
+  pub entry : acting.entry p n ≡ entry_of place f
   pub first : slice_index_or (entries_of R) n 0 ≡ entry_of place f
   pub code : HasAt p place (function_orders R place f)
   pub small : length (function_orders R place f) ≤ longest R
@@ -30,7 +31,7 @@ pub record Begins (p : Program) (R : resolved.Program) (n : ℕ) (f : Function) 
 pub call_enters : (p : Program) (R : resolved.Program) (f : ℕ) (b : Begins p R (number_of R f) (function_at R f)) (pc : ℕ) (frames : List Frame) (stack : List ℤ) (held : Held) (more : Bool) → HasAt p pc (Call (number_of R f) ∷ []) → nat_lt (length frames) most_levels ≡ more → step p (at frames pc stack held) ≡ enters (at frames pc stack held) (entry_of b.place (function_at R f)) 0 more
 call_enters p R f b pc frames stack held more has e =
     let s = at frames pc stack held in
-    has.0 frames stack held ∙ ap (λ o. on_found o (λ to. enters s to 0 (has_level s))) b.entry ∙ ap (enters s (entry_of b.place (function_at R f)) 0) e
+    has.0 frames stack held ∙ ap (λ to. enters s to 0 (has_level s)) b.entry ∙ ap (enters s (entry_of b.place (function_at R f)) 0) e
 
 record Found (p : Program) (R : resolved.Program) (entries : List ℕ) (most n : ℕ) (f : Function) : Type 0 where
   place : ℕ
@@ -100,6 +101,11 @@ get_index [] n x e = cc
 get_index (y ∷ list) zero x e = cc
 get_index (y ∷ list) (suc n) x e = get_index list n x e
 
+found_entry : (list : List ℕ) (n none x : ℕ) → slice_get list n ≡ Some x → get_or list n none ≡ x
+found_entry [] n none x e = cc
+found_entry (y ∷ list) zero none x e = cc
+found_entry (y ∷ list) (suc n) none x e = found_entry list n none x e
+
 module _ (p : Program) (R : resolved.Program) (is : orders p.actions ≡ lowered R) (entries : p.entries ≡ entries_of R) where
   abbrev stubs : List Order
   stubs = classes_orders R (entries_of R) R.classes
@@ -133,7 +139,7 @@ module _ (p : Program) (R : resolved.Program) (is : orders p.actions ≡ lowered
       let there = find p R (all_functions R) (length start) (length start) (number_of R f) (function_at R f) (numbered R f) has in
       record {
         place = there.place;
-        entry = ap (λ l. slice_get l (number_of R f)) entries ∙ there.entry;
+        entry = found_entry p.entries (number_of R f) (length p.actions) (entry_of there.place (function_at R f)) (ap (λ l. slice_get l (number_of R f)) entries ∙ there.entry);
         first = get_index (entries_of R) (number_of R f) (entry_of there.place (function_at R f)) there.entry;
         code = there.code;
         small = there.small;

@@ -1,8 +1,9 @@
 -- Jumps are written once it is known where they lead.
 use Rattle.std.proofs.Common.{◌≡◌, ℕ, zero, suc, ◌+◌, List, [], ◌∷◌, ◌++◌, length, refl, sym, ap, ◌∙◌, arith, append_assoc, length-append, slice_set}
 use Rattle.std.proofs.Math.Seq.{set-append_seam}
-use Rattle.arc_ir.specs.declared.action.Action.{Action}
-use Rattle.arc_lower.specs.Order.{Order, Jump, JumpZero, order, orders}
+use Rattle.arc_ir.specs.Acting.{Action}
+use Rattle.arc_code.specs.declared.instr.Instr.TheVariants.{Jump, JumpZero}
+use Rattle.arc_lower.specs.Order.{Order, order, orders}
 use Rattle.arc_lower.specs.Lowered.{choose_orders, repeat_orders}
 
 pub orders_set : (is : List Action) (n : ℕ) (a : Action) → orders (slice_set is n a) ≡ slice_set (orders is) n (order a)

@@ -9,7 +9,7 @@ use Rattle.arc_spec.specs.Meaning.{Deeper, released, temporaries_dropped, all_dr
 use Rattle.arc_spec.specs.Holding.{Held, Frame, holders, with_places, with_things, raised, lowered, holds}
 use Rattle.arc_spec.specs.Stepping.{Reached, on_found, follow}
 use Rattle.arc_ir.specs.Acting.{Program, State, keeps, has_level, begins_end, releases}
-use Rattle.arc_lower.specs.Order.{Drop, StoreStrong, Empty}
+use Rattle.arc_code.specs.declared.instr.Instr.TheVariants.{Drop, StoreStrong, Empty}
 use Rattle.arc_lower.specs.Lowered.{drop_orders, store_orders, empty_orders, all_empty_orders}
 use Rattle.arc_lower.proofs.CountsPlaces.{tally, one_more_if, tally_same, holders_head, holders_set, last_one}
 use Rattle.arc_lower.proofs.CountsThere.{IsThere, AllThere, rest_there, stored_there, place_there, object_goes, holds_goes}

@@ -3,7 +3,8 @@ use Rattle.std.proofs.Common.{◌≡◌, ℕ, zero, suc, ◌+◌, ◌-◌, ◌/�
 use Rattle.arc_check.specs.declared.checked.Value.{Value}
 use Rattle.arc_check.specs.declared.checked.CheckedFunction.{CheckedFunction}
 use Rattle.arc_check.specs.Checked.{values, functions}
-use Rattle.arc_lower.specs.Order.{Num, Pop, PrintText, Nil, Drop}
+use Rattle.arc_code.specs.declared.instr.Op.TheVariants.{Num, Pop, Nil}
+use Rattle.arc_code.specs.declared.instr.Instr.TheVariants.{Plain, PrintText, Drop}
 use Rattle.arc_lower.specs.Lowered.{part_orders, text_orders, pop_orders, zero_orders, nil_orders, drop_orders, empty_orders, all_empty_orders, value_count}
 
 pub values_counted : (all : List Value) → value_count (values all) ≡ length all
@@ -16,25 +17,25 @@ text_more bytes long =
     let e : (length bytes - 1) / 16 ≡ suc ((length (drop 16 bytes) - 1) / 16) = omega (arith, length-drop 16 bytes) in
     ap (λ n. part_orders n bytes) e
 
-pops_snoc : (n : ℕ) → pop_orders (suc n) ≡ pop_orders n ++ Pop ∷ []
+pops_snoc : (n : ℕ) → pop_orders (suc n) ≡ pop_orders n ++ Plain Pop ∷ []
 pops_snoc zero = refl
-pops_snoc (suc n) = ap (λ l. Pop ∷ l) (pops_snoc n)
+pops_snoc (suc n) = ap (λ l. Plain Pop ∷ l) (pops_snoc n)
 
-pub pops_more : (n : ℕ) → pop_orders (n + 1) ≡ pop_orders n ++ Pop ∷ []
+pub pops_more : (n : ℕ) → pop_orders (n + 1) ≡ pop_orders n ++ Plain Pop ∷ []
 pops_more n = rw add-one (pops_snoc n)
 
-zeros_snoc : (n : ℕ) → zero_orders (suc n) ≡ zero_orders n ++ Num (pos 0) ∷ []
+zeros_snoc : (n : ℕ) → zero_orders (suc n) ≡ zero_orders n ++ Plain (Num (pos 0)) ∷ []
 zeros_snoc zero = refl
-zeros_snoc (suc n) = ap (λ l. Num (pos 0) ∷ l) (zeros_snoc n)
+zeros_snoc (suc n) = ap (λ l. Plain (Num (pos 0)) ∷ l) (zeros_snoc n)
 
-pub zeros_more : (n : ℕ) → zero_orders (n + 1) ≡ zero_orders n ++ Num (pos 0) ∷ []
+pub zeros_more : (n : ℕ) → zero_orders (n + 1) ≡ zero_orders n ++ Plain (Num (pos 0)) ∷ []
 zeros_more n = rw add-one (zeros_snoc n)
 
-nils_snoc : (n : ℕ) → nil_orders (suc n) ≡ nil_orders n ++ Nil ∷ []
+nils_snoc : (n : ℕ) → nil_orders (suc n) ≡ nil_orders n ++ Plain Nil ∷ []
 nils_snoc zero = refl
-nils_snoc (suc n) = ap (λ l. Nil ∷ l) (nils_snoc n)
+nils_snoc (suc n) = ap (λ l. Plain Nil ∷ l) (nils_snoc n)
 
-pub nils_more : (n : ℕ) → nil_orders (n + 1) ≡ nil_orders n ++ Nil ∷ []
+pub nils_more : (n : ℕ) → nil_orders (n + 1) ≡ nil_orders n ++ Plain Nil ∷ []
 nils_more n = rw add-one (nils_snoc n)
 
 drops_snoc : (n : ℕ) → drop_orders (suc n) ≡ drop_orders n ++ Drop ∷ []

@@ -15,7 +15,9 @@ use Rattle.arc_spec.specs.Resolved as resolved
 use Rattle.arc_spec.specs.Holding.{Held, Frame, with_places, with_things, lowered, raised, placed, holds, on_place, on_field, makes, with_field}
 use Rattle.arc_spec.specs.Stepping.{Next, Faults, Along, on_top, on_found}
 use Rattle.arc_ir.specs.Acting.{Program, State, keeps, or_fault, has_level, answers, taken, sends, sends_up, allocates, difference, begins_end, releases}
-use Rattle.arc_lower.specs.Order.{Order, Num, Bin, Un, Narrow, Pop, Get, Set, PrintText, PrintNum, PrintByte, GetChar, Jump, Call, Send, SendSuper, Nil, HoldSelf, Hold, StoreStrong, Drop, Empty, Alloc, GetField, SetField, Differ, IsObject, SendTo, SendToSuper}
+use Rattle.arc_code.specs.declared.instr.Op.TheVariants.{Num, Bin, Un, Narrow, Pop, Get, Set, PrintNum, PrintByte, GetChar, Nil, HoldSelf, Hold, Alloc, GetField, SetField, Differ, IsObject}
+use Rattle.arc_code.specs.declared.instr.Instr.TheVariants.{Plain, PrintText, Jump, Call, Send, SendSuper, StoreStrong, Drop, Empty, SendTo, SendToSuper}
+use Rattle.arc_lower.specs.Order.{Order}
 use Rattle.arc_lower.specs.Lowered.{value_count, value_takes, reference_takes, values_take, part_orders, text_orders, format_orders, pop_orders, keep_orders, print_orders, get_orders, set_orders, zero_orders, fit_orders, drop_orders, store_orders, number_of, slots_of, passes, call_orders, value_orders, reference_orders, all_value_orders}
 use Rattle.arc_lower.proofs.CountsThere.{IsThere, AllThere, place_there, object_goes, holds_goes}
 use Rattle.arc_lower.proofs.CountsKept.{Sane}
@@ -121,27 +123,27 @@ module _ (p : Program) (g : Stage) (limit few : ℕ) (within : limit ≤ p.room)
   jump_safe height own fits some zero pc to has there stack held mine e f o = λ sane. roomy height own zero pc fits some stack held mine e f o
   jump_safe height own fits some (suc n) pc to has there stack held mine e f o = λ sane. subst (Along (SafeIfSane p n)) (sym (has.0 g.frames stack held)) (there n (omega arith) stack held mine e f o)
 
-  pub num_keeps : (v : ℤ) (height own : ℕ) → Keeps (Num v ∷ []) height own (suc height) own
-  num_keeps v height own = one_keeps (Num v) height own (suc height) own (omega arith) (omega arith) (λ n pc stack held mine fits some e f o sane behind. behind n (omega arith) (v ∷ stack) held mine (ap suc e) f o)
+  pub num_keeps : (v : ℤ) (height own : ℕ) → Keeps (Plain (Num v) ∷ []) height own (suc height) own
+  num_keeps v height own = one_keeps (Plain (Num v)) height own (suc height) own (omega arith) (omega arith) (λ n pc stack held mine fits some e f o sane behind. behind n (omega arith) (v ∷ stack) held mine (ap suc e) f o)
 
-  read_keeps : (height own : ℕ) → Keeps (GetChar ∷ []) height own (suc height) own
-  read_keeps height own = one_keeps GetChar height own (suc height) own (omega arith) (omega arith) (λ n pc stack held mine fits some e f o sane behind answer. behind n (omega arith) (byte_or_end answer ∷ stack) held mine (ap suc e) f o)
+  read_keeps : (height own : ℕ) → Keeps (Plain GetChar ∷ []) height own (suc height) own
+  read_keeps height own = one_keeps (Plain GetChar) height own (suc height) own (omega arith) (omega arith) (λ n pc stack held mine fits some e f o sane behind answer. behind n (omega arith) (byte_or_end answer ∷ stack) held mine (ap suc e) f o)
 
-  pub pop_keeps : (height own : ℕ) → Keeps (Pop ∷ []) (suc height) own height own
-  pop_keeps height own = one_keeps Pop (suc height) own height own (omega arith) (omega arith) (λ n pc stack held mine fits some e f o sane behind. top_along p n height stack _ e (λ v rest r. behind n (omega arith) rest held mine r f o))
+  pub pop_keeps : (height own : ℕ) → Keeps (Plain Pop ∷ []) (suc height) own height own
+  pop_keeps height own = one_keeps (Plain Pop) (suc height) own height own (omega arith) (omega arith) (λ n pc stack held mine fits some e f o sane behind. top_along p n height stack _ e (λ v rest r. behind n (omega arith) rest held mine r f o))
 
-  unary_keeps : (kind : _) (height own : ℕ) → Keeps (Un kind ∷ []) (suc height) own (suc height) own
-  unary_keeps kind height own = one_keeps (Un kind) (suc height) own (suc height) own (omega arith) (omega arith) (λ n pc stack held mine fits some e f o sane behind. top_along p n height stack _ e (λ v rest r. behind n (omega arith) (negated kind v ∷ rest) held mine (ap suc r) f o))
+  unary_keeps : (kind : _) (height own : ℕ) → Keeps (Plain (Un kind) ∷ []) (suc height) own (suc height) own
+  unary_keeps kind height own = one_keeps (Plain (Un kind)) (suc height) own (suc height) own (omega arith) (omega arith) (λ n pc stack held mine fits some e f o sane behind. top_along p n height stack _ e (λ v rest r. behind n (omega arith) (negated kind v ∷ rest) held mine (ap suc r) f o))
 
-  narrow_keeps : (kind : _) (height own : ℕ) → Keeps (Narrow kind ∷ []) (suc height) own (suc height) own
-  narrow_keeps kind height own = one_keeps (Narrow kind) (suc height) own (suc height) own (omega arith) (omega arith) (λ n pc stack held mine fits some e f o sane behind. top_along p n height stack _ e (λ v rest r. behind n (omega arith) (converted kind v ∷ rest) held mine (ap suc r) f o))
+  narrow_keeps : (kind : _) (height own : ℕ) → Keeps (Plain (Narrow kind) ∷ []) (suc height) own (suc height) own
+  narrow_keeps kind height own = one_keeps (Plain (Narrow kind)) (suc height) own (suc height) own (omega arith) (omega arith) (λ n pc stack held mine fits some e f o sane behind. top_along p n height stack _ e (λ v rest r. behind n (omega arith) (converted kind v ∷ rest) held mine (ap suc r) f o))
 
   or_fault_safe : (v : Option ℤ) (n pc : ℕ) (all rest : List ℤ) (held : Held) → ((x : ℤ) → SafeIfSane p n (at g.frames (pc + 1) (x ∷ rest) held)) → Along (SafeIfSane p n) (or_fault v (at g.frames pc all held) rest)
   or_fault_safe None n pc all rest held behind = tt
   or_fault_safe (Some v) n pc all rest held behind = behind v
 
-  binary_keeps : (operator : _) (kind : _) (height own : ℕ) → Keeps (Bin operator kind ∷ []) (suc (suc height)) own (suc height) own
-  binary_keeps operator kind height own = one_keeps (Bin operator kind) (suc (suc height)) own (suc height) own (omega arith) (omega arith) (λ n pc stack held mine fits some e f o sane behind.
+  binary_keeps : (operator : _) (kind : _) (height own : ℕ) → Keeps (Plain (Bin operator kind) ∷ []) (suc (suc height)) own (suc height) own
+  binary_keeps operator kind height own = one_keeps (Plain (Bin operator kind)) (suc (suc height)) own (suc height) own (omega arith) (omega arith) (λ n pc stack held mine fits some e f o sane behind.
       top_along p n (suc height) stack _ e (λ y rest r. top_along p n height rest _ r (λ x below b. or_fault_safe (combined operator kind x y) n pc stack below held (λ v. behind n (omega arith) (v ∷ below) held mine (ap suc b) f o))))
 
   text_keeps : (bytes : List ℕ) (height own : ℕ) → Keeps (PrintText bytes ∷ []) (suc height) own (suc height) own
@@ -151,20 +153,20 @@ module _ (p : Program) (g : Stage) (limit few : ℕ) (within : limit ≤ p.room)
   parts_keep zero bytes height own = text_keeps bytes height own
   parts_keep (suc full) bytes height own = then_keeps (PrintText (take 16 bytes) ∷ []) (part_orders full (drop 16 bytes)) (suc height) own (suc height) own (suc height) own (text_keeps (take 16 bytes) height own) (parts_keep full (drop 16 bytes) height own)
 
-  number_keeps : (height own : ℕ) → Keeps (PrintNum ∷ []) (suc (suc height)) own (suc height) own
-  number_keeps height own = one_keeps PrintNum (suc (suc height)) own (suc height) own (omega arith) (omega arith) (λ n pc stack held mine fits some e f o sane behind.
+  number_keeps : (height own : ℕ) → Keeps (Plain PrintNum ∷ []) (suc (suc height)) own (suc height) own
+  number_keeps height own = one_keeps (Plain PrintNum) (suc (suc height)) own (suc height) own (omega arith) (omega arith) (λ n pc stack held mine fits some e f o sane behind.
       top_along p n (suc height) stack _ e (λ v rest r. top_along p n height rest _ r (λ c below b. behind n (omega arith) (counted c (signed_decimal v) ∷ below) held mine (ap suc b) f o)))
 
-  byte_keeps : (height own : ℕ) → Keeps (PrintByte ∷ []) (suc (suc height)) own (suc height) own
-  byte_keeps height own = one_keeps PrintByte (suc (suc height)) own (suc height) own (omega arith) (omega arith) (λ n pc stack held mine fits some e f o sane behind.
+  byte_keeps : (height own : ℕ) → Keeps (Plain PrintByte ∷ []) (suc (suc height)) own (suc height) own
+  byte_keeps height own = one_keeps (Plain PrintByte) (suc (suc height)) own (suc height) own (omega arith) (omega arith) (λ n pc stack held mine fits some e f o sane behind.
       top_along p n (suc height) stack _ e (λ v rest r. top_along p n height rest _ r (λ c below b. behind n (omega arith) (counted c (low_byte v ∷ []) ∷ below) held mine (ap suc b) f o)))
 
-  pub get_keeps : (depth height own : ℕ) → depth < height → Keeps (Get depth ∷ []) height own (suc height) own
-  get_keeps depth height own lt = one_keeps (Get depth) height own (suc height) own (omega arith) (omega arith) (λ n pc stack held mine fits some e f o sane behind.
+  pub get_keeps : (depth height own : ℕ) → depth < height → Keeps (Plain (Get depth) ∷ []) height own (suc height) own
+  get_keeps depth height own lt = one_keeps (Plain (Get depth)) height own (suc height) own (omega arith) (omega arith) (λ n pc stack held mine fits some e f o sane behind.
       found_along p n stack depth _ (omega (arith, e, lt)) (λ v _. behind n (omega arith) (v ∷ stack) held mine (ap suc e) f o))
 
-  pub set_keeps : (depth height own : ℕ) → depth < height → Keeps (Set depth ∷ []) (suc height) own height own
-  set_keeps depth height own lt = one_keeps (Set depth) (suc height) own height own (omega arith) (omega arith) (λ n pc stack held mine fits some e f o sane behind.
+  pub set_keeps : (depth height own : ℕ) → depth < height → Keeps (Plain (Set depth) ∷ []) (suc height) own height own
+  set_keeps depth height own lt = one_keeps (Plain (Set depth)) (suc height) own height own (omega arith) (omega arith) (λ n pc stack held mine fits some e f o sane behind.
       top_along p n height stack _ e (λ v rest r. found_along p n rest depth _ (omega (arith, r, lt)) (λ u _. behind n (omega arith) (slice_set rest depth v) held mine (length-set rest depth v ∙ r) f o)))
 
   format_keeps : (pieces : List Piece) (left height own : ℕ) → left ≤ height → Keeps (format_orders pieces left) (suc height) own (suc height) own
@@ -172,34 +174,34 @@ module _ (p : Program) (g : Stage) (limit few : ℕ) (within : limit ≤ p.room)
   format_keeps (Bytes bytes ∷ others) left height own le = then_keeps (text_orders bytes) (format_orders others left) (suc height) own (suc height) own (suc height) own (parts_keep ((length bytes - 1) / 16) bytes height own) (format_keeps others left height own le)
   format_keeps (Decimal ∷ others) zero height own le = format_keeps others zero height own le
   format_keeps (Decimal ∷ others) (suc left) height own le =
-      then_keeps (Get (suc left) ∷ PrintNum ∷ []) (format_orders others left) (suc height) own (suc height) own (suc height) own
-      (then_keeps (Get (suc left) ∷ []) (PrintNum ∷ []) (suc height) own (suc (suc height)) own (suc height) own (get_keeps (suc left) (suc height) own (omega (arith, le))) (number_keeps height own))
+      then_keeps (Plain (Get (suc left)) ∷ Plain PrintNum ∷ []) (format_orders others left) (suc height) own (suc height) own (suc height) own
+      (then_keeps (Plain (Get (suc left)) ∷ []) (Plain PrintNum ∷ []) (suc height) own (suc (suc height)) own (suc height) own (get_keeps (suc left) (suc height) own (omega (arith, le))) (number_keeps height own))
       (format_keeps others left height own (omega (arith, le)))
   format_keeps (Character ∷ others) zero height own le = format_keeps others zero height own le
   format_keeps (Character ∷ others) (suc left) height own le =
-      then_keeps (Get (suc left) ∷ PrintByte ∷ []) (format_orders others left) (suc height) own (suc height) own (suc height) own
-      (then_keeps (Get (suc left) ∷ []) (PrintByte ∷ []) (suc height) own (suc (suc height)) own (suc height) own (get_keeps (suc left) (suc height) own (omega (arith, le))) (byte_keeps height own))
+      then_keeps (Plain (Get (suc left)) ∷ Plain PrintByte ∷ []) (format_orders others left) (suc height) own (suc height) own (suc height) own
+      (then_keeps (Plain (Get (suc left)) ∷ []) (Plain PrintByte ∷ []) (suc height) own (suc (suc height)) own (suc height) own (get_keeps (suc left) (suc height) own (omega (arith, le))) (byte_keeps height own))
       (format_keeps others left height own (omega (arith, le)))
 
   pub pops_keep : (n height own after : ℕ) → height ≡ n + after → Keeps (pop_orders n) height own after own
   pops_keep zero height own after e = no_keeps height own after own (omega (arith, e)) refl
   pops_keep (suc n) height own after e =
       let h : suc (n + after) ≡ height = omega (arith, e) in
-      subst (λ m. Keeps (pop_orders (suc n)) m own after own) h (then_keeps (Pop ∷ []) (pop_orders n) (suc (n + after)) own (n + after) own after own (pop_keeps (n + after) own) (pops_keep n (n + after) own after refl))
+      subst (λ m. Keeps (pop_orders (suc n)) m own after own) h (then_keeps (Plain Pop ∷ []) (pop_orders n) (suc (n + after)) own (n + after) own after own (pop_keeps (n + after) own) (pops_keep n (n + after) own after refl))
 
   pub keep_keeps : (n height own after : ℕ) → height ≡ n + after → Keeps (keep_orders n) (suc height) own (suc after) own
   keep_keeps zero height own after e = no_keeps (suc height) own (suc after) own (omega (arith, e)) refl
-  keep_keeps (suc n) height own after e = then_keeps (Set n ∷ []) (pop_orders n) (suc height) own height own (suc after) own (set_keeps n height own (omega (arith, e))) (pops_keep n height own (suc after) (omega (arith, e)))
+  keep_keeps (suc n) height own after e = then_keeps (Plain (Set n) ∷ []) (pop_orders n) (suc height) own height own (suc after) own (set_keeps n height own (omega (arith, e))) (pops_keep n height own (suc after) (omega (arith, e)))
 
   print_keeps : (pieces : List Piece) (n height own after : ℕ) → height ≡ n + after → Keeps (print_orders pieces n) height own (suc after) own
   print_keeps pieces n height own after e =
-      then_keeps (Num (pos 0) ∷ []) (format_orders pieces n ++ (Narrow k.Int ∷ [] ++ keep_orders n)) height own (suc height) own (suc after) own (num_keeps (pos 0) height own)
-      (then_keeps (format_orders pieces n) (Narrow k.Int ∷ [] ++ keep_orders n) (suc height) own (suc height) own (suc after) own (format_keeps pieces n height own (omega (arith, e)))
-      (then_keeps (Narrow k.Int ∷ []) (keep_orders n) (suc height) own (suc height) own (suc after) own (narrow_keeps k.Int height own) (keep_keeps n height own after e)))
+      then_keeps (Plain (Num (pos 0)) ∷ []) (format_orders pieces n ++ (Plain (Narrow k.Int) ∷ [] ++ keep_orders n)) height own (suc height) own (suc after) own (num_keeps (pos 0) height own)
+      (then_keeps (format_orders pieces n) (Plain (Narrow k.Int) ∷ [] ++ keep_orders n) (suc height) own (suc height) own (suc after) own (format_keeps pieces n height own (omega (arith, e)))
+      (then_keeps (Plain (Narrow k.Int) ∷ []) (keep_orders n) (suc height) own (suc height) own (suc after) own (narrow_keeps k.Int height own) (keep_keeps n height own after e)))
 
   pub zeros_keep : (n height own after : ℕ) → after ≡ n + height → Keeps (zero_orders n) height own after own
   zeros_keep zero height own after e = no_keeps height own after own (omega (arith, e)) refl
-  zeros_keep (suc n) height own after e = then_keeps (Num (pos 0) ∷ []) (zero_orders n) height own (suc height) own after own (num_keeps (pos 0) height own) (zeros_keep n (suc height) own after (omega (arith, e)))
+  zeros_keep (suc n) height own after e = then_keeps (Plain (Num (pos 0)) ∷ []) (zero_orders n) height own (suc height) own after own (num_keeps (pos 0) height own) (zeros_keep n (suc height) own after (omega (arith, e)))
 
   pub fit_keeps : (values slots height own after stack : ℕ) → height ≡ values + stack → after ≡ slots + stack → Keeps (fit_orders values slots) height own after own
   fit_keeps values slots height own after stack e1 e2 =
@@ -222,11 +224,11 @@ module _ (p : Program) (g : Stage) (limit few : ℕ) (within : limit ≤ p.room)
       let size = ap length o.is in
       omega (arith, lt, f, size, length-append mine g.waiting)
 
-  pub nil_keeps : (height own : ℕ) → Keeps (Nil ∷ []) height own height (suc own)
-  nil_keeps height own = one_keeps Nil height own height (suc own) (omega arith) (omega arith) (λ n pc stack held mine fits some e f o sane behind. behind n (omega arith) stack (placed 0 held) (0 ∷ mine) e (ap suc f) (owns_more 0 mine held o))
+  pub nil_keeps : (height own : ℕ) → Keeps (Plain Nil ∷ []) height own height (suc own)
+  nil_keeps height own = one_keeps (Plain Nil) height own height (suc own) (omega arith) (omega arith) (λ n pc stack held mine fits some e f o sane behind. behind n (omega arith) stack (placed 0 held) (0 ∷ mine) e (ap suc f) (owns_more 0 mine held o))
 
-  pub hold_keeps : (depth height own : ℕ) → depth < own → Keeps (Hold depth ∷ []) height own height (suc own)
-  hold_keeps depth height own lt = one_keeps (Hold depth) height own height (suc own) (omega arith) (omega arith) (λ n pc stack held mine fits some e f o sane behind.
+  pub hold_keeps : (depth height own : ℕ) → depth < own → Keeps (Plain (Hold depth) ∷ []) height own height (suc own)
+  hold_keeps depth height own lt = one_keeps (Plain (Hold depth)) height own height (suc own) (omega arith) (omega arith) (λ n pc stack held mine fits some e f o sane behind.
       found_along p n held.places depth _ (within_own depth own mine held lt f o) (λ r found.
       holds_along r n held _ (place_there held.objects depth r held.places found sane.there) (behind n (omega arith) stack (placed r held) (r ∷ mine) e (ap suc f) (owns_more r mine held o))))
 
@@ -298,18 +300,18 @@ module _ (p : Program) (g : Stage) (limit few : ℕ) (within : limit ≤ p.room)
         let all : AllThere held.objects g.waiting = last_there held.objects mine g.waiting (subst (AllThere held.objects) o.is sane.there) in
         subst (IsThere held.objects) (sym o.itself) (safe_calls.alive held.objects all o.dying)
 
-    hold_self_keeps : (height own : ℕ) → Keeps (HoldSelf ∷ []) height own height (suc own)
-    hold_self_keeps height own = one_keeps HoldSelf height own height (suc own) (omega arith) (omega arith) (λ n pc stack held mine fits some e f o sane behind.
+    hold_self_keeps : (height own : ℕ) → Keeps (Plain HoldSelf ∷ []) height own height (suc own)
+    hold_self_keeps height own = one_keeps (Plain HoldSelf) height own height (suc own) (omega arith) (omega arith) (λ n pc stack held mine fits some e f o sane behind.
         holds_along held.self n held _ (self_there held mine o sane) (behind n (omega arith) stack (placed held.self held) (held.self ∷ mine) e (ap suc f) (owns_more held.self mine held o)))
 
-    made_safe : (found : Option ℕ) (n pc height own : ℕ) (stack rest : List ℤ) (held : Held) (mine : List ℕ) → length rest ≡ height → length mine ≡ own → Owns g mine held → Until p g n (pc + 1) height (suc own) → Along (SafeIfSane p n) (allocates p (at g.frames pc stack held) rest found)
+    made_safe : (found : Option ℕ) (n pc height own : ℕ) (stack rest : List ℤ) (held : Held) (mine : List ℕ) → length rest ≡ height → length mine ≡ own → Owns g mine held → Until p g n (pc + 1) height (suc own) → Along (SafeIfSane p n) (allocates p.classes (at g.frames pc stack held) rest found)
     made_safe None n pc height own stack rest held mine e f o behind = tt
     made_safe (Some c) n pc height own stack rest held mine e f o behind =
         let r = suc (length held.objects) in
         behind n (omega arith) rest (makes p.classes c held) (r ∷ mine) e (ap suc f) (record { is = ap (λ l. r ∷ l) o.is; itself = o.itself; dying = made_dying held.objects _ (ending g.frames) o.dying })
 
-    made_keeps : (height own : ℕ) → Keeps (Alloc ∷ []) (suc height) own height (suc own)
-    made_keeps height own = one_keeps Alloc (suc height) own height (suc own) (omega arith) (omega arith) (λ n pc stack held mine fits some e f o sane behind.
+    made_keeps : (height own : ℕ) → Keeps (Plain Alloc ∷ []) (suc height) own height (suc own)
+    made_keeps height own = one_keeps (Plain Alloc) (suc height) own height (suc own) (omega arith) (omega arith) (λ n pc stack held mine fits some e f o sane behind.
         top_along p n height stack _ e (λ v rest r. made_safe (class_at v) n pc height own stack rest held mine r f o behind))
 
     if_along : (b : Bool) (n : ℕ) (x y : Next State) → Along (SafeIfSane p n) x → Along (SafeIfSane p n) y → Along (SafeIfSane p n) (if b then x else y)
@@ -323,14 +325,14 @@ module _ (p : Program) (g : Stage) (limit few : ℕ) (within : limit ≤ p.room)
         subst (Along (SafeIfSane p n)) (sym (object_goes (object_at held.objects (suc j)) o (λ x. if descends p.classes (Some x.class) class then go x else Faults FieldClass) there.1 there.2))
         (if_along (descends p.classes (Some o.class) class) n (go o) (Faults FieldClass) (h j o refl there.1) tt)
 
-    get_field_by : (class index height own n pc : ℕ) (stack : List ℤ) (held : Held) (mine : List ℕ) → 1 ≤ own → length stack ≡ height → length mine ≡ own → Owns g mine held → Sane held → Until p g n (pc + 1) (suc height) own → Along (SafeIfSane p n) (does p (GetField class index) (at g.frames pc stack held))
+    get_field_by : (class index height own n pc : ℕ) (stack : List ℤ) (held : Held) (mine : List ℕ) → 1 ≤ own → length stack ≡ height → length mine ≡ own → Owns g mine held → Sane held → Until p g n (pc + 1) (suc height) own → Along (SafeIfSane p n) (does p (Plain (GetField class index)) (at g.frames pc stack held))
     get_field_by class index height own n pc stack held [] one e f o sane behind = absurd (omega (arith, f, one))
     get_field_by class index height own n pc stack held (r ∷ mine) one e f o sane behind =
         place_along n r held.places (mine ++ g.waiting) _ o.is
         (field_along class r n held _ (place_there held.objects 0 r held.places (ap (λ l. slice_get l 0) o.is) sane.there) (λ j ob same found. behind n (omega arith) (slice_index_or ob.fields index (pos 0) ∷ stack) held (r ∷ mine) (ap suc e) f o))
 
-    get_field_keeps : (class index height own : ℕ) → 1 ≤ own → Keeps (GetField class index ∷ []) height own (suc height) own
-    get_field_keeps class index height own one = one_keeps (GetField class index) height own (suc height) own (omega arith) (omega arith) (λ n pc stack held mine fits some e f o sane behind. get_field_by class index height own n pc stack held mine one e f o sane behind)
+    get_field_keeps : (class index height own : ℕ) → 1 ≤ own → Keeps (Plain (GetField class index) ∷ []) height own (suc height) own
+    get_field_keeps class index height own one = one_keeps (Plain (GetField class index)) height own (suc height) own (omega arith) (omega arith) (λ n pc stack held mine fits some e f o sane behind. get_field_by class index height own n pc stack held mine one e f o sane behind)
 
     set_dying : (held : Held) (j : ℕ) (o : Object) (fields : List ℤ) (r : ℕ) → r ≡ suc j → object_at held.objects (suc j) ≡ Some o → AllDying held.objects (ending g.frames) → AllDying (with_object held.objects r (with_fields o fields)) (ending g.frames)
     set_dying held j o fields r same found d = subst (λ q. AllDying (with_object held.objects q (with_fields o fields)) (ending g.frames)) (sym same) (changed_dying held.objects j (with_fields o fields) (ending g.frames) (λ x. dies x.0 (sym x.1 ∙ found) x.2) d)
@@ -338,26 +340,26 @@ module _ (p : Program) (g : Stage) (limit few : ℕ) (within : limit ≤ p.room)
         dies : (x : Object) → Some x ≡ Some o → x.phase ≡ Dying → o.phase ≡ Dying
         dies x e h = let alike : x ≡ o = cc in subst (λ (y : Object). y.phase ≡ Dying) alike h
 
-    set_field_keeps : (depth class index height own : ℕ) → depth < own → Keeps (SetField depth class index ∷ []) (suc height) own (suc height) own
-    set_field_keeps depth class index height own lt = one_keeps (SetField depth class index) (suc height) own (suc height) own (omega arith) (omega arith) (λ n pc stack held mine fits some e f o sane behind.
+    set_field_keeps : (depth class index height own : ℕ) → depth < own → Keeps (Plain (SetField depth class index) ∷ []) (suc height) own (suc height) own
+    set_field_keeps depth class index height own lt = one_keeps (Plain (SetField depth class index)) (suc height) own (suc height) own (omega arith) (omega arith) (λ n pc stack held mine fits some e f o sane behind.
         found_along p n held.places depth _ (within_own depth own mine held lt f o) (λ r found. top_along p n height stack _ e (λ v rest b.
         field_along class r n held _ (place_there held.objects depth r held.places found sane.there) (λ j ob same at_j. behind n (omega arith) stack (with_field held r ob index v) mine e f (record { is = o.is; itself = o.itself; dying = set_dying held j ob (slice_set ob.fields index v) r same at_j o.dying })))))
 
-    differ_by : (depth height own n pc : ℕ) (stack : List ℤ) (held : Held) (mine : List ℕ) → suc depth < own → length stack ≡ height → length mine ≡ own → Owns g mine held → Until p g n (pc + 1) (suc height) own → Along (SafeIfSane p n) (does p (Differ depth) (at g.frames pc stack held))
+    differ_by : (depth height own n pc : ℕ) (stack : List ℤ) (held : Held) (mine : List ℕ) → suc depth < own → length stack ≡ height → length mine ≡ own → Owns g mine held → Until p g n (pc + 1) (suc height) own → Along (SafeIfSane p n) (does p (Plain (Differ depth)) (at g.frames pc stack held))
     differ_by depth height own n pc stack held [] lt e f o behind = absurd (omega (arith, f, lt))
     differ_by depth height own n pc stack held (r ∷ mine) lt e f o behind =
         place_along n r held.places (mine ++ g.waiting) _ o.is
         (found_along p n (mine ++ g.waiting) depth _ (omega (arith, lt, f, length-append mine g.waiting)) (λ other found. behind n (omega arith) (difference other r ∷ stack) held (r ∷ mine) (ap suc e) f o))
 
-    differ_keeps : (depth height own : ℕ) → suc depth < own → Keeps (Differ depth ∷ []) height own (suc height) own
-    differ_keeps depth height own lt = one_keeps (Differ depth) height own (suc height) own (omega arith) (omega arith) (λ n pc stack held mine fits some e f o sane behind. differ_by depth height own n pc stack held mine lt e f o behind)
+    differ_keeps : (depth height own : ℕ) → suc depth < own → Keeps (Plain (Differ depth) ∷ []) height own (suc height) own
+    differ_keeps depth height own lt = one_keeps (Plain (Differ depth)) height own (suc height) own (omega arith) (omega arith) (λ n pc stack held mine fits some e f o sane behind. differ_by depth height own n pc stack held mine lt e f o behind)
 
-    is_object_by : (height own n pc : ℕ) (stack : List ℤ) (held : Held) (mine : List ℕ) → 1 ≤ own → length stack ≡ height → length mine ≡ own → Owns g mine held → Until p g n (pc + 1) (suc height) own → Along (SafeIfSane p n) (does p IsObject (at g.frames pc stack held))
+    is_object_by : (height own n pc : ℕ) (stack : List ℤ) (held : Held) (mine : List ℕ) → 1 ≤ own → length stack ≡ height → length mine ≡ own → Owns g mine held → Until p g n (pc + 1) (suc height) own → Along (SafeIfSane p n) (does p (Plain IsObject) (at g.frames pc stack held))
     is_object_by height own n pc stack held [] one e f o behind = absurd (omega (arith, f, one))
     is_object_by height own n pc stack held (r ∷ mine) one e f o behind = place_along n r held.places (mine ++ g.waiting) _ o.is (behind n (omega arith) (difference r 0 ∷ stack) held (r ∷ mine) (ap suc e) f o)
 
-    is_object_keeps : (height own : ℕ) → 1 ≤ own → Keeps (IsObject ∷ []) height own (suc height) own
-    is_object_keeps height own one = one_keeps IsObject height own (suc height) own (omega arith) (omega arith) (λ n pc stack held mine fits some e f o sane behind. is_object_by height own n pc stack held mine one e f o behind)
+    is_object_keeps : (height own : ℕ) → 1 ≤ own → Keeps (Plain IsObject ∷ []) height own (suc height) own
+    is_object_keeps height own one = one_keeps (Plain IsObject) height own (suc height) own (omega arith) (omega arith) (λ n pc stack held mine fits some e f o sane behind. is_object_by height own n pc stack held mine one e f o behind)
 
     -- ---- calls and messages
 
@@ -409,17 +411,17 @@ module _ (p : Program) (g : Stage) (limit few : ℕ) (within : limit ≤ p.room)
 
     -- ---- expressions
 
-    local_keeps : (depth i height own : ℕ) (b : Bool) → nat_lt i slots ≡ b → height ≡ depth + (slots + below) → Keeps (if b then Get (depth + (slots - suc i)) ∷ [] else Num (pos 0) ∷ []) height own (suc height) own
+    local_keeps : (depth i height own : ℕ) (b : Bool) → nat_lt i slots ≡ b → height ≡ depth + (slots + below) → Keeps (if b then Plain (Get (depth + (slots - suc i))) ∷ [] else Plain (Num (pos 0)) ∷ []) height own (suc height) own
     local_keeps depth i height own true e h = let lt = ltb-true i slots e in get_keeps (depth + (slots - suc i)) height own (omega (arith, lt, h))
     local_keeps depth i height own false e h = num_keeps (pos 0) height own
 
-    assigned_keeps : (depth i height own : ℕ) (b : Bool) → nat_lt i slots ≡ b → height ≡ depth + (slots + below) → Keeps (if b then Get 0 ∷ Set (suc depth + (slots - suc i)) ∷ [] else []) (suc height) own (suc height) own
+    assigned_keeps : (depth i height own : ℕ) (b : Bool) → nat_lt i slots ≡ b → height ≡ depth + (slots + below) → Keeps (if b then Plain (Get 0) ∷ Plain (Set (suc depth + (slots - suc i))) ∷ [] else []) (suc height) own (suc height) own
     assigned_keeps depth i height own true e h =
         let lt = ltb-true i slots e in
-        then_keeps (Get 0 ∷ []) (Set (suc depth + (slots - suc i)) ∷ []) (suc height) own (suc (suc height)) own (suc height) own (get_keeps 0 (suc height) own (omega arith)) (set_keeps (suc depth + (slots - suc i)) (suc height) own (omega (arith, lt, h)))
+        then_keeps (Plain (Get 0) ∷ []) (Plain (Set (suc depth + (slots - suc i))) ∷ []) (suc height) own (suc (suc height)) own (suc height) own (get_keeps 0 (suc height) own (omega arith)) (set_keeps (suc depth + (slots - suc i)) (suc height) own (omega (arith, lt, h)))
     assigned_keeps depth i height own false e h = no_keeps (suc height) own (suc height) own refl refl
 
-    variable_keeps : (taken i height own : ℕ) (b : Bool) → nat_lt i names ≡ b → own ≡ taken + names → Keeps (if b then Hold (taken + i) ∷ [] else Nil ∷ []) height own height (suc own)
+    variable_keeps : (taken i height own : ℕ) (b : Bool) → nat_lt i names ≡ b → own ≡ taken + names → Keeps (if b then Plain (Hold (taken + i)) ∷ [] else Plain Nil ∷ []) height own height (suc own)
     variable_keeps taken i height own true e h = let lt = ltb-true i names e in hold_keeps (taken + i) height own (omega (arith, lt, h))
     variable_keeps taken i height own false e h = nil_keeps height own
 
@@ -446,12 +448,12 @@ module _ (p : Program) (g : Stage) (limit few : ℕ) (within : limit ≤ p.room)
       value_keeps (Print pieces arguments) depth taken height own left h o e =
           let n = value_count arguments in
           then_keeps (all_value_orders R slots names depth taken arguments) (print_orders pieces n) height own (n + height) left (suc height) left (all_keep arguments depth taken height own (n + height) left h o refl e) (print_keeps pieces n (n + height) left height refl)
-      value_keeps (Negated kind a) depth taken height own left h o e = then_keeps (value_orders R slots names depth taken a) (Un kind ∷ []) height own (suc height) left (suc height) left (value_keeps a depth taken height own left h o e) (unary_keeps kind height left)
+      value_keeps (Negated kind a) depth taken height own left h o e = then_keeps (value_orders R slots names depth taken a) (Plain (Un kind) ∷ []) height own (suc height) left (suc height) left (value_keeps a depth taken height own left h o e) (unary_keeps kind height left)
       value_keeps (Combined operator kind a b) depth taken height own left h o e =
           let middle = value_takes a + own in
-          then_keeps (value_orders R slots names depth taken a) (value_orders R slots names (suc depth) (taken + value_takes a) b ++ Bin operator kind ∷ []) height own (suc height) middle (suc height) left (value_keeps a depth taken height own middle h o refl)
-          (then_keeps (value_orders R slots names (suc depth) (taken + value_takes a) b) (Bin operator kind ∷ []) (suc height) middle (suc (suc height)) left (suc height) left (value_keeps b (suc depth) (taken + value_takes a) (suc height) middle left (omega (arith, h)) (omega (arith, o)) (omega (arith, e))) (binary_keeps operator kind height left))
-      value_keeps (Converted kind a) depth taken height own left h o e = then_keeps (value_orders R slots names depth taken a) (Narrow kind ∷ []) height own (suc height) left (suc height) left (value_keeps a depth taken height own left h o e) (narrow_keeps kind height left)
+          then_keeps (value_orders R slots names depth taken a) (value_orders R slots names (suc depth) (taken + value_takes a) b ++ Plain (Bin operator kind) ∷ []) height own (suc height) middle (suc height) left (value_keeps a depth taken height own middle h o refl)
+          (then_keeps (value_orders R slots names (suc depth) (taken + value_takes a) b) (Plain (Bin operator kind) ∷ []) (suc height) middle (suc (suc height)) left (suc height) left (value_keeps b (suc depth) (taken + value_takes a) (suc height) middle left (omega (arith, h)) (omega (arith, o)) (omega (arith, e))) (binary_keeps operator kind height left))
+      value_keeps (Converted kind a) depth taken height own left h o e = then_keeps (value_orders R slots names depth taken a) (Plain (Narrow kind) ∷ []) height own (suc height) left (suc height) left (value_keeps a depth taken height own left h o e) (narrow_keeps kind height left)
       value_keeps (Local i) depth taken height own left h o e = alike _ height own (suc height) own own left refl (omega (arith, e)) (local_keeps depth i height own (nat_lt i slots) refl h)
       value_keeps (Assigned i a) depth taken height own left h o e = then_keeps (value_orders R slots names depth taken a) (set_orders slots depth i) height own (suc height) left (suc height) left (value_keeps a depth taken height own left h o e) (assigned_keeps depth i height left (nat_lt i slots) refl h)
       value_keeps (Invoked f arguments) depth taken height own left h o e =
@@ -478,18 +480,18 @@ module _ (p : Program) (g : Stage) (limit few : ℕ) (within : limit ≤ p.room)
       value_keeps (SentToSuper from selector arguments) depth taken height own left h o e =
           let n = value_count arguments in
           let xs = all_value_orders R slots names depth (suc taken) arguments in
-          then_keeps (HoldSelf ∷ []) (xs ++ SendToSuper from selector n ∷ []) height own height (suc own) (suc height) left (hold_self_keeps height own)
+          then_keeps (Plain HoldSelf ∷ []) (xs ++ SendToSuper from selector n ∷ []) height own height (suc own) (suc height) left (hold_self_keeps height own)
           (then_keeps xs (SendToSuper from selector n ∷ []) height (suc own) (n + height) left (suc height) left (all_keep arguments depth (suc taken) height (suc own) (n + height) left h (omega (arith, o)) refl (omega (arith, e))) (send_up_keeps from selector n height left))
-      value_keeps (Field a class index) depth taken height own left h o e = then_keeps (reference_orders R slots names depth taken a) (GetField class index ∷ []) height own height left (suc height) left (reference_keeps a depth taken height own left h o e) (get_field_keeps class index height left (omega (arith, e, positive a)))
+      value_keeps (Field a class index) depth taken height own left h o e = then_keeps (reference_orders R slots names depth taken a) (Plain (GetField class index) ∷ []) height own height left (suc height) left (reference_keeps a depth taken height own left h o e) (get_field_keeps class index height left (omega (arith, e, positive a)))
       value_keeps (FieldAssigned a class index b) depth taken height own left h o e =
           let middle = reference_takes a + own in
-          then_keeps (reference_orders R slots names depth taken a) (value_orders R slots names depth (taken + reference_takes a) b ++ SetField (value_takes b) class index ∷ []) height own height middle (suc height) left (reference_keeps a depth taken height own middle h o refl)
-          (then_keeps (value_orders R slots names depth (taken + reference_takes a) b) (SetField (value_takes b) class index ∷ []) height middle (suc height) left (suc height) left (value_keeps b depth (taken + reference_takes a) height middle left h (omega (arith, o)) (omega (arith, e))) (set_field_keeps (value_takes b) class index height left (omega (arith, e, positive a))))
+          then_keeps (reference_orders R slots names depth taken a) (value_orders R slots names depth (taken + reference_takes a) b ++ Plain (SetField (value_takes b) class index) ∷ []) height own height middle (suc height) left (reference_keeps a depth taken height own middle h o refl)
+          (then_keeps (value_orders R slots names depth (taken + reference_takes a) b) (Plain (SetField (value_takes b) class index) ∷ []) height middle (suc height) left (suc height) left (value_keeps b depth (taken + reference_takes a) height middle left h (omega (arith, o)) (omega (arith, e))) (set_field_keeps (value_takes b) class index height left (omega (arith, e, positive a))))
       value_keeps (resolved.Differ a b) depth taken height own left h o e =
           let middle = reference_takes a + own in
-          then_keeps (reference_orders R slots names depth taken a) (reference_orders R slots names depth (taken + reference_takes a) b ++ Differ (reference_takes b - 1) ∷ []) height own height middle (suc height) left (reference_keeps a depth taken height own middle h o refl)
-          (then_keeps (reference_orders R slots names depth (taken + reference_takes a) b) (Differ (reference_takes b - 1) ∷ []) height middle height left (suc height) left (reference_keeps b depth (taken + reference_takes a) height middle left h (omega (arith, o)) (omega (arith, e))) (differ_keeps (reference_takes b - 1) height left (omega (arith, e, positive a, positive b))))
-      value_keeps (resolved.IsObject a) depth taken height own left h o e = then_keeps (reference_orders R slots names depth taken a) (IsObject ∷ []) height own height left (suc height) left (reference_keeps a depth taken height own left h o e) (is_object_keeps height left (omega (arith, e, positive a)))
+          then_keeps (reference_orders R slots names depth taken a) (reference_orders R slots names depth (taken + reference_takes a) b ++ Plain (Differ (reference_takes b - 1)) ∷ []) height own height middle (suc height) left (reference_keeps a depth taken height own middle h o refl)
+          (then_keeps (reference_orders R slots names depth (taken + reference_takes a) b) (Plain (Differ (reference_takes b - 1)) ∷ []) height middle height left (suc height) left (reference_keeps b depth (taken + reference_takes a) height middle left h (omega (arith, o)) (omega (arith, e))) (differ_keeps (reference_takes b - 1) height left (omega (arith, e, positive a, positive b))))
+      value_keeps (resolved.IsObject a) depth taken height own left h o e = then_keeps (reference_orders R slots names depth taken a) (Plain IsObject ∷ []) height own height left (suc height) left (reference_keeps a depth taken height own left h o e) (is_object_keeps height left (omega (arith, e, positive a)))
 
       pub reference_keeps : (e : Reference) (depth taken height own left : ℕ) → height ≡ depth + (slots + below) → own ≡ taken + names → left ≡ reference_takes e + own → Keeps (reference_orders R slots names depth taken e) height own height left
       reference_keeps resolved.Nil depth taken height own left h o e = alike _ height own height (suc own) own left refl (omega (arith, e)) (nil_keeps height own)
@@ -499,14 +501,14 @@ module _ (p : Program) (g : Stage) (limit few : ℕ) (within : limit ≤ p.room)
           let middle = reference_takes a + own in
           let stored = store_orders names (taken + reference_takes a - 1) i in
           let less : middle ≡ suc (middle - 1) = omega (arith, positive a) in
-          then_keeps (reference_orders R slots names depth taken a) (stored ++ Hold 0 ∷ []) height own height middle height left (reference_keeps a depth taken height own middle h o refl)
-          (then_keeps stored (Hold 0 ∷ []) height middle height middle height left (alike stored height (suc (middle - 1)) height (suc (middle - 1)) middle middle (sym less) (sym less) (stored_keeps (taken + reference_takes a - 1) i height (middle - 1) (nat_lt i names) refl (omega (arith, o, positive a)))) (alike _ height middle height (suc middle) middle left refl (omega (arith, e)) (hold_keeps 0 height middle (omega (arith, positive a)))))
+          then_keeps (reference_orders R slots names depth taken a) (stored ++ Plain (Hold 0) ∷ []) height own height middle height left (reference_keeps a depth taken height own middle h o refl)
+          (then_keeps stored (Plain (Hold 0) ∷ []) height middle height middle height left (alike stored height (suc (middle - 1)) height (suc (middle - 1)) middle middle (sym less) (sym less) (stored_keeps (taken + reference_takes a - 1) i height (middle - 1) (nat_lt i names) refl (omega (arith, o, positive a)))) (alike _ height middle height (suc middle) middle left refl (omega (arith, e)) (hold_keeps 0 height middle (omega (arith, positive a)))))
       reference_keeps (Made a) depth taken height own left h o e =
           let middle = value_takes a + own in
-          then_keeps (value_orders R slots names depth taken a) (Alloc ∷ []) height own (suc height) middle height left (value_keeps a depth taken height own middle h o refl) (alike _ (suc height) middle height (suc middle) middle left refl (omega (arith, e)) (made_keeps height middle))
+          then_keeps (value_orders R slots names depth taken a) (Plain Alloc ∷ []) height own (suc height) middle height left (value_keeps a depth taken height own middle h o refl) (alike _ (suc height) middle height (suc middle) middle left refl (omega (arith, e)) (made_keeps height middle))
       reference_keeps (Initialized a) depth taken height own left h o e =
           let middle = reference_takes a + own in
-          then_keeps (reference_orders R slots names depth taken a) (Hold 0 ∷ []) height own height middle height left (reference_keeps a depth taken height own middle h o refl) (alike _ height middle height (suc middle) middle left refl (omega (arith, e)) (hold_keeps 0 height middle (omega (arith, positive a))))
+          then_keeps (reference_orders R slots names depth taken a) (Plain (Hold 0) ∷ []) height own height middle height left (reference_keeps a depth taken height own middle h o refl) (alike _ height middle height (suc middle) middle left refl (omega (arith, e)) (hold_keeps 0 height middle (omega (arith, positive a))))
 
       all_keep : (arguments : Values) (depth taken height own after left : ℕ) → height ≡ depth + (slots + below) → own ≡ taken + names → after ≡ value_count arguments + height → left ≡ values_take arguments + own → Keeps (all_value_orders R slots names depth taken arguments) height own after left
       all_keep no_values depth taken height own after left h o c e = no_keeps height own after left (omega (arith, c)) (omega (arith, e))

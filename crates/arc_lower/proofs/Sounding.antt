@@ -9,7 +9,9 @@ use Rattle.arc_spec.specs.Meaning.{function_at, most_levels}
 use Rattle.arc_spec.specs.Holding.{Held, nothing_held, Calling, Ending, with_self, with_things, gone_in}
 use Rattle.arc_spec.specs.Stepping.{Goes, Faults, Along, on_top}
 use Rattle.arc_ir.specs.Acting.{Program, has_level, enters, answers, begins_end, runs_dealloc, ends_class, end_goes_on, leaves, IsSound}
-use Rattle.arc_lower.specs.Order.{Jump, Call, Return, Forget, EndStep, orders}
+use Rattle.arc_code.specs.declared.instr.Op.TheVariants.{Forget}
+use Rattle.arc_code.specs.declared.instr.Instr.TheVariants.{Plain, Jump, Call, Return, EndStep}
+use Rattle.arc_lower.specs.Order.{orders}
 use Rattle.arc_lower.specs.Lowered.{number_of, slots_of, passes, pop_orders, keep_orders, zero_orders, all_empty_orders, leave_orders, body_orders, entry_of, entries_of, end_step_of, start_orders, all_functions, lowered, classes_linked, room_of}
 use Rattle.arc_lower.proofs.CountsThere.{set_here}
 use Rattle.arc_lower.proofs.CountsSound.{SafeIfSane, sound_if_sane}
@@ -43,7 +45,7 @@ module _ (p : Program) (R : resolved.Program) (begins : (f : ℕ) → Begins p R
       let emptied = all_empty_orders F.names 0 F.names in
       let kept = keep_orders F.slots in
       let s1 = length-append leave body in
-      let s2 = length-append emptied (Forget F.names ∷ (kept ++ Return ∷ [])) in
+      let s2 = length-append emptied (Plain (Forget F.names) ∷ (kept ++ Return ∷ [])) in
       let s3 = length-append kept (Return ∷ []) in
       let long = keep_length F.slots in
       let raised = rise_small body in

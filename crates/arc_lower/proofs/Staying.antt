@@ -7,7 +7,9 @@ use Rattle.arc_spec.specs.Resolved as resolved
 use Rattle.arc_spec.specs.Meaning.{chosen}
 use Rattle.arc_spec.specs.Stepping.{Next, Goes, Along}
 use Rattle.arc_ir.specs.Acting.{Program, State}
-use Rattle.arc_lower.specs.Order.{Order, Num, Pop, Jump, JumpZero, Empty}
+use Rattle.arc_code.specs.declared.instr.Op.TheVariants.{Num, Pop}
+use Rattle.arc_code.specs.declared.instr.Instr.TheVariants.{Plain, Jump, JumpZero, Empty}
+use Rattle.arc_lower.specs.Order.{Order}
 use Rattle.arc_lower.specs.Lowered.{value_takes, reference_takes, value_orders, reference_orders, drop_orders, store_orders, empty_orders, all_empty_orders, whole_orders, whole_reference_orders, begin_orders, command_orders, all_command_orders}
 use Rattle.arc_lower.proofs.CountsSound.{SafeIfSane}
 use Rattle.arc_lower.proofs.Recounting.{at}
@@ -75,7 +77,7 @@ module _ (p : Program) (g : Stage) (limit few : ℕ) (within : limit ≤ p.room)
   returns : suc high ≤ limit → names ≤ few → (n pc : ℕ) → HasAt p pc (Jump exit ∷ []) → Until p g n exit (suc high) names → SafeAt p g n pc (suc high) names
   returns fits some n pc has left = jump_safe p g limit few within enough (suc high) names fits some n pc exit has (λ m lt. left m (omega (arith, lt)))
 
-  pub zero_returns : suc high ≤ limit → names ≤ few → (n pc : ℕ) → HasAt p pc (Num (pos 0) ∷ Jump exit ∷ []) → Until p g n exit (suc high) names → SafeAt p g n pc high names
+  pub zero_returns : suc high ≤ limit → names ≤ few → (n pc : ℕ) → HasAt p pc (Plain (Num (pos 0)) ∷ Jump exit ∷ []) → Until p g n exit (suc high) names → SafeAt p g n pc high names
   zero_returns fits some n pc has left =
       let keeps = num_keeps p g limit few within enough (pos 0) high names in
       keeps.safe (omega (arith, fits)) (omega (arith, some)) n pc (has.0, tt) (λ m le. returns fits some m (pc + 1) has.1 (λ j le2. left j (omega (arith, le, le2))))
@@ -111,7 +113,7 @@ module _ (p : Program) (g : Stage) (limit few : ℕ) (within : limit ≤ p.room)
         all_safe all place top (has_front p place xs ys has) (omega (arith, r, fits)) (omega (arith, q, some)) n (λ m le.
         held_stays ys (place + length xs) (emptied first count) (has_back p place xs ys has) (omega (arith, r, fits)) (omega (arith, q, some)) m (λ j le2. last j (omega (arith, le, le2))) (λ j le2. left j (omega (arith, le, le2)))) left
     command_safe (Evaluate a) place top has = λ fits some n behind left.
-        let keeps = then_keeps p g limit few within enough (whole_orders R slots names a) (Pop ∷ []) high names (suc high) names high names (whole a) (pop_keeps p g limit few within enough high names) in
+        let keeps = then_keeps p g limit few within enough (whole_orders R slots names a) (Plain Pop ∷ []) high names (suc high) names high names (whole a) (pop_keeps p g limit few within enough high names) in
         keeps.safe fits some n place has behind
     command_safe (EvaluateReference a) place top has = held_stays (whole_reference_orders R slots names a) place (whole_reference a) has
     command_safe (Begin i a) place top has = held_stays (begin_orders R slots names i a) place (begin i a) has

@@ -10,9 +10,10 @@ use Rattle.arc_spec.specs.Objects.{Object, Dying, object_at, with_object, in_pha
 use Rattle.arc_spec.specs.Stepping.{Next, Goes, Asks, Ends, Faults, Stuck, Reached, Running, Ended, Faulted, Wedged, fed, follow, further, after_steps, on_top, on_two, on_found, only_if}
 use Rattle.arc_spec.specs.Correct.{run_seen}
 use Rattle.arc_spec.specs.Holding.{Held, Frame, Calling, Ending, Counted, holders, is_there, on_object, on_place, holds, forgets, on_field, gone_in}
-use Rattle.arc_ir.specs.declared.action.Action.{Action}
-use Rattle.arc_ir.specs.declared.action.Action.TheVariants.{Num, Bin, Un, Narrow, Pop, Get, Set, PrintText, PrintNum, PrintByte, GetChar, Jump, JumpZero, Call, Send, SendSuper, Return, Nil, HoldSelf, Hold, StoreStrong, Drop, Empty, Forget, Alloc, GetField, SetField, Differ, IsObject, SendTo, SendToSuper, EndStep}
-use Rattle.arc_ir.specs.Acting.{Program, State, start, or_fault, has_level, enters, answers, taken, sends, sends_up, begins_end, releases, ends_object, runs_dealloc, ends_class, end_goes_on, leaves, allocates, acts, step, seen}
+use Rattle.arc_ir.specs.Acting.{Action}
+use Rattle.arc_code.specs.declared.instr.Op.TheVariants.{Num, Bin, Un, Narrow, Pop, Get, Set, PrintNum, PrintByte, GetChar, Nil, HoldSelf, Hold, Forget, Alloc, GetField, SetField, Differ, IsObject}
+use Rattle.arc_code.specs.declared.instr.Instr.TheVariants.{Plain, PrintText, Jump, JumpZero, Call, Send, SendSuper, Return, StoreStrong, Drop, Empty, SendTo, SendToSuper, EndStep}
+use Rattle.arc_ir.specs.Acting.{Program, State, entry, start, or_fault, has_level, enters, answers, taken, sends, sends_up, begins_end, releases, ends_object, runs_dealloc, ends_class, end_goes_on, leaves, allocates, executes, step, seen}
 use Rattle.arc_lower.proofs.CountsHeld.{nothing_counted}
 use Rattle.arc_lower.proofs.CountsSteps.{After}
 use Rattle.arc_lower.proofs.CountsActing.{NamedEnds, counts_kept}
@@ -147,7 +148,7 @@ module _ (p : Program) (s : State) (c : Counted s.held) where
   leaves_agree (Calling back self ∷ others) v rest = refl
   leaves_agree (Ending back self o next left ∷ others) v rest = refl
 
-  allocates_agree : (rest : List ℤ) (class : Option ℕ) → Agree (allocates p s rest class) (allocates p t rest class)
+  allocates_agree : (rest : List ℤ) (class : Option ℕ) → Agree (allocates p.classes s rest class) (allocates p.classes t rest class)
   allocates_agree rest None = refl
   allocates_agree rest (Some class) = refl
 
@@ -159,37 +160,37 @@ module _ (p : Program) (s : State) (c : Counted s.held) where
   raised_same : (r k : ℕ) → (if nat_eq (suc k) r then suc (s.held.counts (suc k)) else s.held.counts (suc k)) ≡ (if nat_eq (suc k) r then suc (holders (suc k) s.held.places) else holders (suc k) s.held.places)
   raised_same r k = ap (λ n. if nat_eq (suc k) r then suc n else n) (c.counted k)
 
-  acts_agree : (action : Option Action) → NamedEnds s.frames → Agree (acts p action s) (acts p action t)
+  acts_agree : (action : Option Action) → NamedEnds s.frames → Agree (executes p action s) (executes p action t)
   acts_agree None named = refl
-  acts_agree (Some (Num n)) named = refl
-  acts_agree (Some (Bin operator kind)) named = two_agree s.stack _ _ (λ y x rest. or_fault_agrees (combined operator kind x y) rest)
-  acts_agree (Some (Un kind)) named = top_agrees s.stack _ _ (λ x rest. refl)
-  acts_agree (Some (Narrow kind)) named = top_agrees s.stack _ _ (λ x rest. refl)
-  acts_agree (Some Pop) named = top_agrees s.stack _ _ (λ x rest. refl)
-  acts_agree (Some (Get depth)) named = found_agrees (slice_get s.stack depth) _ _ (λ v _. refl)
-  acts_agree (Some (Set depth)) named = top_agrees s.stack _ _ (λ v rest. found_agrees (slice_get rest depth) _ _ (λ _ _. refl))
+  acts_agree (Some (Plain (Num n))) named = refl
+  acts_agree (Some (Plain (Bin operator kind))) named = two_agree s.stack _ _ (λ y x rest. or_fault_agrees (combined operator kind x y) rest)
+  acts_agree (Some (Plain (Un kind))) named = top_agrees s.stack _ _ (λ x rest. refl)
+  acts_agree (Some (Plain (Narrow kind))) named = top_agrees s.stack _ _ (λ x rest. refl)
+  acts_agree (Some (Plain Pop)) named = top_agrees s.stack _ _ (λ x rest. refl)
+  acts_agree (Some (Plain (Get depth))) named = found_agrees (slice_get s.stack depth) _ _ (λ v _. refl)
+  acts_agree (Some (Plain (Set depth))) named = top_agrees s.stack _ _ (λ v rest. found_agrees (slice_get rest depth) _ _ (λ _ _. refl))
   acts_agree (Some (PrintText bytes)) named = top_agrees s.stack _ _ (λ count rest. refl)
-  acts_agree (Some PrintNum) named = two_agree s.stack _ _ (λ v count rest. refl)
-  acts_agree (Some PrintByte) named = two_agree s.stack _ _ (λ v count rest. refl)
-  acts_agree (Some GetChar) named = refl
+  acts_agree (Some (Plain PrintNum)) named = two_agree s.stack _ _ (λ v count rest. refl)
+  acts_agree (Some (Plain PrintByte)) named = two_agree s.stack _ _ (λ v count rest. refl)
+  acts_agree (Some (Plain GetChar)) named = refl
   acts_agree (Some (Jump to)) named = refl
   acts_agree (Some (JumpZero to)) named = top_agrees s.stack _ _ (λ v rest. chosen_agrees (is_zero v) _ _ _ _ refl refl)
-  acts_agree (Some (Call f)) named = found_agrees (slice_get p.entries f) _ _ (λ to _. enters_agree to 0 (has_level s))
+  acts_agree (Some (Call f)) named = enters_agree (entry p f) 0 (has_level s)
   acts_agree (Some (Send selector takes)) named = found_agrees (slice_get s.stack takes) _ _ (λ self _. answers_agree 0 (lookup p.classes (class_at self) signs.Class selector takes))
   acts_agree (Some (SendSuper from selector takes)) named = answers_agree 0 (lookup p.classes (Some from) signs.Class selector takes)
   acts_agree (Some Return) named = top_agrees s.stack _ _ (λ v rest. leaves_agree s.frames v rest)
-  acts_agree (Some Nil) named = refl
-  acts_agree (Some HoldSelf) named = holds_agree s.held.self _ _ refl
-  acts_agree (Some (Hold depth)) named = found_agrees (slice_get s.held.places depth) _ _ (λ r _. holds_agree r _ _ refl)
+  acts_agree (Some (Plain Nil)) named = refl
+  acts_agree (Some (Plain HoldSelf)) named = holds_agree s.held.self _ _ refl
+  acts_agree (Some (Plain (Hold depth))) named = found_agrees (slice_get s.held.places depth) _ _ (λ r _. holds_agree r _ _ refl)
   acts_agree (Some (StoreStrong depth)) named = place_agrees s.held.places _ _ (λ r rest _. found_agrees (slice_get rest depth) _ _ (λ old _. holds_agree r _ _ (releases_agree old (r ∷ slice_set rest depth r) (λ k. if nat_eq k r then suc (s.held.counts k) else s.held.counts k) (λ k. if nat_eq k r then suc (holders k s.held.places) else holders k s.held.places) (raised_same r))))
   acts_agree (Some Drop) named = place_agrees s.held.places _ _ (λ r rest _. releases_agree r rest s.held.counts (λ k. holders k s.held.places) c.counted)
   acts_agree (Some (Empty depth)) named = found_agrees (slice_get s.held.places depth) _ _ (λ r _. releases_agree r (slice_set s.held.places depth 0) (λ k. if nat_eq k 0 then suc (s.held.counts k) else s.held.counts k) (λ k. if nat_eq k 0 then suc (holders k s.held.places) else holders k s.held.places) (raised_same 0))
-  acts_agree (Some (Forget count)) named = forgets_agree count s.held.places _ _ (λ rest. refl)
-  acts_agree (Some Alloc) named = top_agrees s.stack _ _ (λ v rest. allocates_agree rest (class_at v))
-  acts_agree (Some (GetField class index)) named = place_agrees s.held.places _ _ (λ r rest _. field_agrees class r _ _ (λ o. refl))
-  acts_agree (Some (SetField depth class index)) named = found_agrees (slice_get s.held.places depth) _ _ (λ r _. top_agrees s.stack _ _ (λ v rest. field_agrees class r _ _ (λ o. refl)))
-  acts_agree (Some (Differ depth)) named = place_agrees s.held.places _ _ (λ r rest _. found_agrees (slice_get rest depth) _ _ (λ other _. refl))
-  acts_agree (Some IsObject) named = place_agrees s.held.places _ _ (λ r rest _. refl)
+  acts_agree (Some (Plain (Forget count))) named = forgets_agree count s.held.places _ _ (λ rest. refl)
+  acts_agree (Some (Plain Alloc)) named = top_agrees s.stack _ _ (λ v rest. allocates_agree rest (class_at v))
+  acts_agree (Some (Plain (GetField class index))) named = place_agrees s.held.places _ _ (λ r rest _. field_agrees class r _ _ (λ o. refl))
+  acts_agree (Some (Plain (SetField depth class index))) named = found_agrees (slice_get s.held.places depth) _ _ (λ r _. top_agrees s.stack _ _ (λ v rest. field_agrees class r _ _ (λ o. refl)))
+  acts_agree (Some (Plain (Differ depth))) named = place_agrees s.held.places _ _ (λ r rest _. found_agrees (slice_get rest depth) _ _ (λ other _. refl))
+  acts_agree (Some (Plain IsObject)) named = place_agrees s.held.places _ _ (λ r rest _. refl)
   acts_agree (Some (SendTo depth selector takes)) named = found_agrees (slice_get s.held.places depth) _ _ (λ r _. sends_agree r selector takes)
   acts_agree (Some (SendToSuper from selector takes)) named = sends_up_agree from s.held.self selector takes
   acts_agree (Some EndStep) named = end_goes_on_agrees s.frames named

@@ -9,7 +9,8 @@ use Rattle.arc_spec.specs.Stepping.{Ended}
 use Rattle.arc_spec.specs.Correct.{meaning_seen, run_seen}
 use Rattle.arc_spec.proofs.Steadiness.{steady}
 use Rattle.arc_ir.specs.Acting.{Program, step, start, seen}
-use Rattle.arc_lower.specs.Order.{Call, Return, EndStep, orders}
+use Rattle.arc_code.specs.declared.instr.Instr.TheVariants.{Call, Return, EndStep}
+use Rattle.arc_lower.specs.Order.{orders}
 use Rattle.arc_lower.specs.Lowered.{number_of, slots_of, zero_orders, lowered, entries_of, end_step_of, classes_linked}
 use Rattle.arc_lower.specs.Promise.{Performs, IsLowered}
 use Rattle.arc_lower.proofs.Leading.{leads_step, Runs, leads_runs, then_runs}

@@ -10,7 +10,9 @@ use Rattle.arc_spec.specs.Resolved as resolved
 use Rattle.arc_spec.specs.declared.class.Method.{Method}
 use Rattle.arc_spec.specs.Classes.{Class}
 use Rattle.arc_spec.specs.Meaning.{function_at, most_levels}
-use Rattle.arc_lower.specs.Order.{Order, Num, Bin, Un, Narrow, Pop, Get, Set, PrintText, PrintNum, PrintByte, GetChar, Jump, JumpZero, Call, Send, SendSuper, Return, Nil, HoldSelf, Hold, StoreStrong, Drop, Empty, Forget, Alloc, GetField, SetField, Differ, IsObject, SendTo, SendToSuper, EndStep}
+use Rattle.arc_code.specs.declared.instr.Op.TheVariants.{Num, Bin, Un, Narrow, Pop, Get, Set, PrintNum, PrintByte, GetChar, Nil, HoldSelf, Hold, Forget, Alloc, GetField, SetField, Differ, IsObject}
+use Rattle.arc_code.specs.declared.instr.Instr.TheVariants.{Plain, PrintText, Jump, JumpZero, Call, Send, SendSuper, Return, StoreStrong, Drop, Empty, SendTo, SendToSuper, EndStep}
+use Rattle.arc_lower.specs.Order.{Order}
 
 abbrev pub value_count : Values → ℕ
 value_count no_values = 0
@@ -52,7 +54,7 @@ abbrev mutual
 -- prints the first of so many values that lie below the count of bytes, the first one deepest; nothing where there is none
 abbrev pub conversion_orders : Order → (left : ℕ) → List Order
 conversion_orders print zero = []
-conversion_orders print (suc left) = Get (suc left) ∷ print ∷ []
+conversion_orders print (suc left) = Plain (Get (suc left)) ∷ print ∷ []
 
 -- prints a text: so many parts of 16 bytes each, and then the rest
 abbrev pub part_orders : (full : ℕ) → (bytes : List ℕ) → List Order
@@ -66,8 +68,8 @@ text_orders bytes = part_orders ((length bytes - 1) / 16) bytes
 -- prints a piece of a format, where so many values aren't printed yet
 abbrev pub piece_orders : Piece → (left : ℕ) → List Order
 piece_orders (Bytes bytes) left = text_orders bytes
-piece_orders Decimal left = conversion_orders PrintNum left
-piece_orders Character left = conversion_orders PrintByte left
+piece_orders Decimal left = conversion_orders (Plain PrintNum) left
+piece_orders Character left = conversion_orders (Plain PrintByte) left
 
 -- how many values aren't printed yet behind a piece
 abbrev pub left_behind : Piece → (left : ℕ) → ℕ
@@ -82,29 +84,29 @@ format_orders (piece ∷ others) left = piece_orders piece left ++ format_orders
 -- takes so many numbers
 abbrev pub pop_orders : ℕ → List Order
 pop_orders zero = []
-pop_orders (suc n) = Pop ∷ pop_orders n
+pop_orders (suc n) = Plain Pop ∷ pop_orders n
 
 -- puts the top number in the place of the last of so many numbers below it, and takes the others
 abbrev pub keep_orders : ℕ → List Order
 keep_orders zero = []
-keep_orders (suc n) = Set n ∷ pop_orders n
+keep_orders (suc n) = Plain (Set n) ∷ pop_orders n
 
 -- prints a format behind its values, and leaves the count of bytes alone, as an int
 abbrev pub print_orders : List Piece → (values : ℕ) → List Order
-print_orders pieces n = Num (pos 0) ∷ [] ++ (format_orders pieces n ++ (Narrow k.Int ∷ [] ++ keep_orders n))
+print_orders pieces n = Plain (Num (pos 0)) ∷ [] ++ (format_orders pieces n ++ (Plain (Narrow k.Int) ∷ [] ++ keep_orders n))
 
 -- the number of a variable, above which so many operands lie; 0 for one that there isn't
 abbrev pub get_orders : (slots depth i : ℕ) → List Order
-get_orders slots depth i = if nat_lt i slots then Get (depth + (slots - suc i)) ∷ [] else Num (pos 0) ∷ []
+get_orders slots depth i = if nat_lt i slots then Plain (Get (depth + (slots - suc i))) ∷ [] else Plain (Num (pos 0)) ∷ []
 
 -- puts a copy of the top number, below which so many operands lie, in a variable's place, where there is one
 abbrev pub set_orders : (slots depth i : ℕ) → List Order
-set_orders slots depth i = if nat_lt i slots then Get 0 ∷ Set (suc depth + (slots - suc i)) ∷ [] else []
+set_orders slots depth i = if nat_lt i slots then Plain (Get 0) ∷ Plain (Set (suc depth + (slots - suc i))) ∷ [] else []
 
 -- puts 0 on the stack so many times
 abbrev pub zero_orders : ℕ → List Order
 zero_orders zero = []
-zero_orders (suc n) = Num (pos 0) ∷ zero_orders n
+zero_orders (suc n) = Plain (Num (pos 0)) ∷ zero_orders n
 
 -- makes so many numbers on top the variables of a function: those beyond are taken, and those that lack are 0
 abbrev pub fit_orders : (values slots : ℕ) → List Order
@@ -113,11 +115,11 @@ fit_orders values slots = pop_orders (values - slots) ++ zero_orders (slots - va
 -- so many further places
 abbrev pub nil_orders : ℕ → List Order
 nil_orders zero = []
-nil_orders (suc n) = Nil ∷ nil_orders n
+nil_orders (suc n) = Plain Nil ∷ nil_orders n
 
 -- a further place takes what a variable names, above which so many temporaries stand; nil for one that there isn't
 abbrev pub hold_orders : (names taken i : ℕ) → List Order
-hold_orders names taken i = if nat_lt i names then Hold (taken + i) ∷ [] else Nil ∷ []
+hold_orders names taken i = if nat_lt i names then Plain (Hold (taken + i)) ∷ [] else Plain Nil ∷ []
 
 -- a variable takes what the last temporary names, below which so many others stand, where there is such a variable
 abbrev pub store_orders : (names taken i : ℕ) → List Order
@@ -158,14 +160,14 @@ call_orders P f values = fit_orders values (slots_of P f) ++ Call (number_of P f
 -- its arguments; a message to `super` goes to `self`, in a class method the first variable.
 abbrev mutual
   pub value_orders : Program → (slots names depth taken : ℕ) → Value → List Order
-  value_orders P slots names depth taken (Number n) = Num n ∷ []
-  value_orders P slots names depth taken ReadByte = GetChar ∷ []
+  value_orders P slots names depth taken (Number n) = Plain (Num n) ∷ []
+  value_orders P slots names depth taken ReadByte = Plain GetChar ∷ []
   value_orders P slots names depth taken (Print pieces arguments) =
       all_value_orders P slots names depth taken arguments ++ print_orders pieces (value_count arguments)
-  value_orders P slots names depth taken (Negated kind a) = value_orders P slots names depth taken a ++ Un kind ∷ []
+  value_orders P slots names depth taken (Negated kind a) = value_orders P slots names depth taken a ++ Plain (Un kind) ∷ []
   value_orders P slots names depth taken (Combined operator kind a b) =
-      value_orders P slots names depth taken a ++ (value_orders P slots names (suc depth) (taken + value_takes a) b ++ Bin operator kind ∷ [])
-  value_orders P slots names depth taken (Converted kind a) = value_orders P slots names depth taken a ++ Narrow kind ∷ []
+      value_orders P slots names depth taken a ++ (value_orders P slots names (suc depth) (taken + value_takes a) b ++ Plain (Bin operator kind) ∷ [])
+  value_orders P slots names depth taken (Converted kind a) = value_orders P slots names depth taken a ++ Plain (Narrow kind) ∷ []
   value_orders P slots names depth taken (Local i) = get_orders slots depth i
   value_orders P slots names depth taken (Assigned i a) = value_orders P slots names depth taken a ++ set_orders slots depth i
   value_orders P slots names depth taken (Invoked f arguments) =
@@ -179,25 +181,25 @@ abbrev mutual
       reference_orders P slots names depth taken a
       ++ (all_value_orders P slots names depth (taken + reference_takes a) arguments ++ SendTo (values_take arguments) selector (value_count arguments) ∷ [])
   value_orders P slots names depth taken (SentToSuper from selector arguments) =
-      HoldSelf ∷ [] ++ (all_value_orders P slots names depth (suc taken) arguments ++ SendToSuper from selector (value_count arguments) ∷ [])
-  value_orders P slots names depth taken (Field a class index) = reference_orders P slots names depth taken a ++ GetField class index ∷ []
+      Plain HoldSelf ∷ [] ++ (all_value_orders P slots names depth (suc taken) arguments ++ SendToSuper from selector (value_count arguments) ∷ [])
+  value_orders P slots names depth taken (Field a class index) = reference_orders P slots names depth taken a ++ Plain (GetField class index) ∷ []
   value_orders P slots names depth taken (FieldAssigned a class index b) =
       reference_orders P slots names depth taken a
-      ++ (value_orders P slots names depth (taken + reference_takes a) b ++ SetField (value_takes b) class index ∷ [])
+      ++ (value_orders P slots names depth (taken + reference_takes a) b ++ Plain (SetField (value_takes b) class index) ∷ [])
   value_orders P slots names depth taken (resolved.Differ a b) =
       reference_orders P slots names depth taken a
-      ++ (reference_orders P slots names depth (taken + reference_takes a) b ++ Differ (reference_takes b - 1) ∷ [])
-  value_orders P slots names depth taken (resolved.IsObject a) = reference_orders P slots names depth taken a ++ IsObject ∷ []
+      ++ (reference_orders P slots names depth (taken + reference_takes a) b ++ Plain (Differ (reference_takes b - 1)) ∷ [])
+  value_orders P slots names depth taken (resolved.IsObject a) = reference_orders P slots names depth taken a ++ Plain IsObject ∷ []
 
   -- leaves what it gives in the last temporary
   pub reference_orders : Program → (slots names depth taken : ℕ) → Reference → List Order
-  reference_orders P slots names depth taken resolved.Nil = Nil ∷ []
-  reference_orders P slots names depth taken Itself = HoldSelf ∷ []
+  reference_orders P slots names depth taken resolved.Nil = Plain Nil ∷ []
+  reference_orders P slots names depth taken Itself = Plain HoldSelf ∷ []
   reference_orders P slots names depth taken (Variable i) = hold_orders names taken i
   reference_orders P slots names depth taken (Stored i a) =
-      reference_orders P slots names depth taken a ++ (store_orders names (taken + reference_takes a - 1) i ++ Hold 0 ∷ [])
-  reference_orders P slots names depth taken (Made a) = value_orders P slots names depth taken a ++ Alloc ∷ []
-  reference_orders P slots names depth taken (Initialized a) = reference_orders P slots names depth taken a ++ Hold 0 ∷ []
+      reference_orders P slots names depth taken a ++ (store_orders names (taken + reference_takes a - 1) i ++ Plain (Hold 0) ∷ [])
+  reference_orders P slots names depth taken (Made a) = value_orders P slots names depth taken a ++ Plain Alloc ∷ []
+  reference_orders P slots names depth taken (Initialized a) = reference_orders P slots names depth taken a ++ Plain (Hold 0) ∷ []
 
   pub all_value_orders : Program → (slots names depth taken : ℕ) → Values → List Order
   all_value_orders P slots names depth taken no_values = []
@@ -218,7 +220,7 @@ begin_orders P slots names i a =
 
 -- leaves a function with so many variables of each kind: those that name objects are emptied, and its result, on top, is put in the place of the others
 abbrev pub leave_orders : (slots names : ℕ) → List Order
-leave_orders slots names = all_empty_orders names 0 names ++ (Forget names ∷ [] ++ (keep_orders slots ++ Return ∷ []))
+leave_orders slots names = all_empty_orders names 0 names ++ (Plain (Forget names) ∷ [] ++ (keep_orders slots ++ Return ∷ []))
 
 -- A choice, whose first action has this number: the test, a jump to the second where it is 0, the first, a jump behind all, the second.
 abbrev pub choose_orders : (place : ℕ) → (test : List Order) → (first second : ℕ → List Order) → List Order
@@ -237,10 +239,10 @@ repeat_orders place test body =
 abbrev mutual
   pub command_orders : Program → (slots names exit place : ℕ) → Command → List Order
   command_orders P slots names exit place (Sequence first count all) = all_command_orders P slots names exit place all ++ all_empty_orders names first count
-  command_orders P slots names exit place (Evaluate a) = whole_orders P slots names a ++ Pop ∷ []
+  command_orders P slots names exit place (Evaluate a) = whole_orders P slots names a ++ Plain Pop ∷ []
   command_orders P slots names exit place (EvaluateReference a) = whole_reference_orders P slots names a
   command_orders P slots names exit place (Begin i a) = begin_orders P slots names i a
-  command_orders P slots names exit place (resolved.Return None) = Num (pos 0) ∷ [] ++ Jump exit ∷ []
+  command_orders P slots names exit place (resolved.Return None) = Plain (Num (pos 0)) ∷ [] ++ Jump exit ∷ []
   command_orders P slots names exit place (resolved.Return (Some a)) = whole_orders P slots names a ++ Jump exit ∷ []
   command_orders P slots names exit place (Choose test a b) =
       choose_orders place (whole_orders P slots names test) (λ at. command_orders P slots names exit at a) (λ at. command_orders P slots names exit at b)
@@ -256,7 +258,7 @@ abbrev mutual
 -- what a function does from its entry on, which stands at this place; it gives 0 at its end
 abbrev pub body_orders : Program → (exit place : ℕ) → Function → List Order
 body_orders P exit place f =
-    nil_orders f.names ++ (all_command_orders P f.slots f.names exit (place + length (nil_orders f.names)) f.body ++ (Num (pos 0) ∷ [] ++ Jump exit ∷ []))
+    nil_orders f.names ++ (all_command_orders P f.slots f.names exit (place + length (nil_orders f.names)) f.body ++ (Plain (Num (pos 0)) ∷ [] ++ Jump exit ∷ []))
 
 -- where a function is entered whose first action has this number
 abbrev pub entry_of : (place : ℕ) → Function → ℕ

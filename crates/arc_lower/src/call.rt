@@ -9,6 +9,7 @@ use crate::place::append_all_empty;
 use crate::print::{append_keep, append_pops};
 use crate::variable::append_zeros;
 use arc_check::checked::Checked;
+use arc_code::instr::{Instr, Op};
 use arc_ir::action::Action;
 use arc_spec::event::NoMemory;
 
@@ -52,7 +53,7 @@ pub(crate) fn append_call(
     ensures { OnOk result (orders actions.new.items ≡ orders actions.old.items ++ call_orders (program_of program.now) function count) }
 {
     append_fit(actions, count, slots_of(program, function))?;
-    append(actions, Action::Call(number_of(program, function)))
+    append(actions, Instr::Call(number_of(program, function)))
 }
 
 /// Appends the actions that leave a function with the number on top.
@@ -64,7 +65,7 @@ pub(crate) fn append_leave(
     ensures { OnOk result (orders actions.new.items ≡ orders actions.old.items ++ leave_orders slots names) }
 {
     append_all_empty(actions, names, 0, names)?;
-    append(actions, Action::Forget(names))?;
+    append(actions, Instr::Plain(Op::Forget(names)))?;
     append_keep(actions, slots)?;
-    append(actions, Action::Return)
+    append(actions, Instr::Return)
 }

@@ -12,6 +12,7 @@ use crate::place::{append_hold, append_store};
 use crate::print::append_print;
 use crate::variable::{append_get, append_set, one_more};
 use arc_check::checked::{Checked, Piece, Reference, Value};
+use arc_code::instr::{Instr, Op};
 use arc_ir::action::Action;
 use arc_spec::event::NoMemory;
 use std::alloc::Global;
@@ -60,20 +61,31 @@ pub(crate) fn append_value(
     ensures temporaries { IfOk result (λ there. there ≡ frame.temporaries + value_takes (value expression.now)) }
 {
     match expression {
-        Value::Number(number) => append_counted(actions, Action::Num(*number), frame.temporaries),
-        Value::ReadByte => append_counted(actions, Action::GetChar, frame.temporaries),
+        Value::Number(number) => append_counted(
+            actions,
+            Instr::Plain(Op::Num(*number)),
+            frame.temporaries,
+        ),
+        Value::ReadByte => append_counted(actions, Instr::Plain(Op::GetChar), frame.temporaries),
         Value::Print(pieces, arguments) => {
             append_printed(alloc, actions, program, frame, pieces, arguments)
         }
         Value::Negated(kind, operand) => {
-            append_value_then(alloc, actions, program, frame, operand, Action::Un(*kind))
+            append_value_then(
+                alloc,
+                actions,
+                program,
+                frame,
+                operand,
+                Instr::Plain(Op::Un(*kind)),
+            )
         }
         Value::Combined(operator, kind, left, right) => {
-            let action = Action::Bin(*operator, *kind);
+            let action = Instr::Plain(Op::Bin(*operator, *kind));
             append_both(alloc, actions, program, frame, left, right, action)
         }
         Value::Converted(kind, operand) => {
-            let action = Action::Narrow(*kind);
+            let action = Instr::Plain(Op::Narrow(*kind));
             append_value_then(alloc, actions, program, frame, operand, action)
         }
         Value::Local(index) => append_local(actions, frame, *index),
@@ -96,7 +108,7 @@ pub(crate) fn append_value(
             append_sent_to_super(alloc, actions, program, frame, *from, *selector, arguments)
         }
         Value::Field(object, class, index) => {
-            let action = Action::GetField(*class, *index);
+            let action = Instr::Plain(Op::GetField(*class, *index));
             append_reference_then(alloc, actions, program, frame, object, action)
         }
         Value::FieldAssigned(object, class, index, operand) => {
@@ -106,7 +118,14 @@ pub(crate) fn append_value(
         }
         Value::Differ(left, right) => append_differ(alloc, actions, program, frame, left, right),
         Value::IsObject(object) => {
-            append_reference_then(alloc, actions, program, frame, object, Action::IsObject)
+            append_reference_then(
+                alloc,
+                actions,
+                program,
+                frame,
+                object,
+                Instr::Plain(Op::IsObject),
+            )
         }
     }
 }
@@ -247,7 +266,7 @@ fn append_sent(
         ..frame
     };
     let there = append_values(alloc, actions, program, above_receiver, arguments)?;
-    append_counted(actions, Action::Send(selector, arguments.len()), there)
+    append_counted(actions, Instr::Send(selector, arguments.len()), there)
 }
 
 /// Appends the actions of a message to `super` in a class method, which `self` gets, the first
@@ -271,7 +290,7 @@ fn append_sent_super(
     let there = append_values(alloc, actions, program, above, arguments)?;
     append_counted(
         actions,
-        Action::SendSuper(from, selector, arguments.len()),
+        Instr::SendSuper(from, selector, arguments.len()),
         there,
     )
 }
@@ -300,7 +319,7 @@ fn append_sent_to(
     let depth = there.saturating_sub(temporaries);
     append_counted(
         actions,
-        Action::SendTo(depth, selector, arguments.len()),
+        Instr::SendTo(depth, selector, arguments.len()),
         there,
     )
 }
@@ -319,7 +338,7 @@ fn append_sent_to_super(
     ensures actions { OnOk result (orders actions.new.items ≡ orders actions.old.items ++ value_orders (program_of program.now) frame.slots frame.names frame.operands frame.temporaries (resolved.SentToSuper from selector (values arguments.now))) }
     ensures temporaries { IfOk result (λ there. there ≡ frame.temporaries + value_takes (resolved.SentToSuper from selector (values arguments.now))) }
 {
-    append(actions, Action::HoldSelf)?;
+    append(actions, Instr::Plain(Op::HoldSelf))?;
     let temporaries = one_more(frame.temporaries)?;
     let above = Frame {
         temporaries,
@@ -328,7 +347,7 @@ fn append_sent_to_super(
     let there = append_values(alloc, actions, program, above, arguments)?;
     append_counted(
         actions,
-        Action::SendToSuper(from, selector, arguments.len()),
+        Instr::SendToSuper(from, selector, arguments.len()),
         there,
     )
 }
@@ -355,7 +374,11 @@ fn append_field_assigned(
     };
     let there = append_value(alloc, actions, program, above, operand)?;
     let depth = there.saturating_sub(temporaries);
-    append_counted(actions, Action::SetField(depth, class, index), there)
+    append_counted(
+        actions,
+        Instr::Plain(Op::SetField(depth, class, index)),
+        there,
+    )
 }
 
 /// Appends the actions that say whether two objects differ, the left one's first.
@@ -378,7 +401,11 @@ fn append_differ(
     };
     let there = append_reference(alloc, actions, program, above, right)?;
     let taken = there.saturating_sub(temporaries);
-    append_counted(actions, Action::Differ(taken.saturating_sub(1)), there)
+    append_counted(
+        actions,
+        Instr::Plain(Op::Differ(taken.saturating_sub(1))),
+        there,
+    )
 }
 
 /// Appends the actions of an expression that gives an object or nil, which its last temporary then
@@ -396,11 +423,11 @@ pub(crate) fn append_reference(
 {
     match expression {
         Reference::Nil => {
-            append(actions, Action::Nil)?;
+            append(actions, Instr::Plain(Op::Nil))?;
             one_more(frame.temporaries)
         }
         Reference::Itself => {
-            append(actions, Action::HoldSelf)?;
+            append(actions, Instr::Plain(Op::HoldSelf))?;
             one_more(frame.temporaries)
         }
         Reference::Variable(index) => {
@@ -410,15 +437,22 @@ pub(crate) fn append_reference(
         Reference::Stored(index, operand) => {
             let there = append_reference(alloc, actions, program, frame, operand)?;
             append_store(actions, frame.names, there.saturating_sub(1), *index)?;
-            append(actions, Action::Hold(0))?;
+            append(actions, Instr::Plain(Op::Hold(0)))?;
             one_more(there)
         }
         Reference::Made(class) => {
-            let there = append_value_then(alloc, actions, program, frame, class, Action::Alloc)?;
+            let there = append_value_then(
+                alloc,
+                actions,
+                program,
+                frame,
+                class,
+                Instr::Plain(Op::Alloc),
+            )?;
             one_more(there)
         }
         Reference::Initialized(operand) => {
-            let action = Action::Hold(0);
+            let action = Instr::Plain(Op::Hold(0));
             let there = append_reference_then(alloc, actions, program, frame, operand, action)?;
             one_more(there)
         }

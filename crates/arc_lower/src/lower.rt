@@ -15,6 +15,7 @@ use crate::statement::append_commands;
 use crate::stub::append_classes;
 use crate::variable::append_zeros;
 use arc_check::checked::{Checked, Command};
+use arc_code::instr::{Instr, Op};
 use arc_family::owned::Owned;
 use arc_ir::action::{Action, Ir};
 use arc_spec::event::NoMemory;
@@ -64,10 +65,10 @@ fn append_start(actions: &mut Vec<Action>, program: &Checked) -> Result<usize, N
     ensures end_step { IfOk result (λ place. place ≡ length (orders actions.old.items) + end_step_of (program_of program.now)) }
 {
     append_zeros(actions, slots_of(program, program.main))?;
-    append(actions, Action::Call(number_of(program, program.main)))?;
-    append(actions, Action::Return)?;
+    append(actions, Instr::Call(number_of(program, program.main)))?;
+    append(actions, Instr::Return)?;
     let end_step = actions.len();
-    append(actions, Action::EndStep)?;
+    append(actions, Instr::EndStep)?;
     Ok(end_step)
 }
 
@@ -138,6 +139,6 @@ fn append_body(
 {
     append_nils(actions, body.names)?;
     append_commands(alloc, actions, program, body, all)?;
-    append(actions, Action::Num(0))?;
-    append(actions, Action::Jump(body.exit))
+    append(actions, Instr::Plain(Op::Num(0)))?;
+    append(actions, Instr::Jump(body.exit))
 }

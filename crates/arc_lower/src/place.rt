@@ -5,6 +5,7 @@ ghost use Rattle.arc_lower.specs.Lowered.{nil_orders, hold_orders, store_orders,
 
 use crate::expression::append;
 use crate::variable::add_operands;
+use arc_code::instr::{Instr, Op};
 use arc_ir::action::Action;
 use arc_spec::event::NoMemory;
 
@@ -13,7 +14,7 @@ pub(crate) fn append_nils(actions: &mut Vec<Action>, count: usize) -> Result<(),
     ensures { OnOk result (orders actions.new.items ≡ orders actions.old.items ++ nil_orders count) }
 {
     for _place in 0..count {
-        append(actions, Action::Nil)?;
+        append(actions, Instr::Plain(Op::Nil))?;
     }
     Ok(())
 }
@@ -30,9 +31,9 @@ pub(crate) fn append_hold(
 {
     if index < names {
         let depth = add_operands(taken, index)?;
-        append(actions, Action::Hold(depth))
+        append(actions, Instr::Plain(Op::Hold(depth)))
     } else {
-        append(actions, Action::Nil)
+        append(actions, Instr::Plain(Op::Nil))
     }
 }
 
@@ -48,7 +49,7 @@ pub(crate) fn append_store(
 {
     if index < names {
         let depth = add_operands(taken, index)?;
-        append(actions, Action::StoreStrong(depth))
+        append(actions, Instr::StoreStrong(depth))
     } else {
         Ok(())
     }
@@ -59,7 +60,7 @@ pub(crate) fn append_drops(actions: &mut Vec<Action>, count: usize) -> Result<()
     ensures { OnOk result (orders actions.new.items ≡ orders actions.old.items ++ drop_orders count) }
 {
     for _temporary in 0..count {
-        append(actions, Action::Drop)?;
+        append(actions, Instr::Drop)?;
     }
     Ok(())
 }
@@ -69,7 +70,7 @@ fn append_empty(actions: &mut Vec<Action>, names: usize, index: usize) -> Result
     ensures { OnOk result (orders actions.new.items ≡ orders actions.old.items ++ empty_orders names index) }
 {
     if index < names {
-        append(actions, Action::Empty(index))
+        append(actions, Instr::Empty(index))
     } else {
         Ok(())
     }

@@ -1,12 +1,14 @@
 //! From a call of `printf`, whose values lie on the stack, to actions.
 ghost use Rattle.std.specs.Prelude.{◌≡◌, ◌≤◌, [], ◌∷◌, ◌++◌, length, pred, OnOk, IfOk};
 ghost use Rattle.arc_check.specs.Checked as checked;
-ghost use Rattle.arc_lower.specs.Order.{PrintText, order, orders};
+ghost use Rattle.arc_code.specs.declared.instr.Instr.TheVariants.{PrintText};
+ghost use Rattle.arc_lower.specs.Order.{order, orders};
 ghost use Rattle.arc_lower.specs.Lowered.{conversion_orders, text_orders, piece_orders, left_behind, format_orders, pop_orders, keep_orders, print_orders};
 
 use crate::expression::append;
 use arc_ast::tree::Kind;
 use arc_check::checked::Piece;
+use arc_code::instr::{Instr, Op};
 use arc_ir::action::{Action, TextPart};
 use arc_spec::event::NoMemory;
 use std::alloc::Global;
@@ -21,9 +23,9 @@ pub(crate) fn append_print(
 ) -> Result<(), NoMemory>
     ensures { OnOk result (orders actions.new.items ≡ orders actions.old.items ++ print_orders (checked.pieces pieces.now) count) }
 {
-    append(actions, Action::Num(0))?;
+    append(actions, Instr::Plain(Op::Num(0)))?;
     append_pieces(alloc, actions, pieces, count)?;
-    append(actions, Action::Narrow(Kind::Int))?;
+    append(actions, Instr::Plain(Op::Narrow(Kind::Int)))?;
     append_keep(actions, count)
 }
 
@@ -59,8 +61,8 @@ fn append_piece(
             append_text(alloc, actions, bytes)?;
             Ok(left)
         }
-        Piece::Decimal => append_conversion(actions, Action::PrintNum, left),
-        Piece::Character => append_conversion(actions, Action::PrintByte, left),
+        Piece::Decimal => append_conversion(actions, Instr::Plain(Op::PrintNum), left),
+        Piece::Character => append_conversion(actions, Instr::Plain(Op::PrintByte), left),
     }
 }
 
@@ -87,7 +89,7 @@ fn append_part(alloc: Global, actions: &mut Vec<Action>, part: &[u8]) -> Result<
     ensures { OnOk result (orders actions.new.items ≡ orders actions.old.items ++ PrintText part.now ∷ []) }
 {
     let bytes = Vec::from_slice(alloc, part)?;
-    append(actions, Action::PrintText(TextPart { bytes }))
+    append(actions, Instr::PrintText(TextPart { bytes }))
 }
 
 /// Appends the actions that print the first of `left` values, where there is one.
@@ -102,7 +104,7 @@ fn append_conversion(
     if left == 0 {
         return Ok(0);
     }
-    append(actions, Action::Get(left))?;
+    append(actions, Instr::Plain(Op::Get(left)))?;
     append(actions, print)?;
     Ok(left - 1)
 }
@@ -115,7 +117,7 @@ pub(crate) fn append_keep(actions: &mut Vec<Action>, count: usize) -> Result<(),
     if count == 0 {
         return Ok(());
     }
-    append(actions, Action::Set(count - 1))?;
+    append(actions, Instr::Plain(Op::Set(count - 1)))?;
     append_pops(actions, count - 1)
 }
 
@@ -124,7 +126,7 @@ pub(crate) fn append_pops(actions: &mut Vec<Action>, count: usize) -> Result<(),
     ensures { OnOk result (orders actions.new.items ≡ orders actions.old.items ++ pop_orders count) }
 {
     for _number in 0..count {
-        append(actions, Action::Pop)?;
+        append(actions, Instr::Plain(Op::Pop))?;
     }
     Ok(())
 }

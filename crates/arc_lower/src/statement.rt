@@ -2,13 +2,15 @@
 ghost use Rattle.std.specs.Prelude.{◌≡◌, ◌++◌, ◌<◌, [], ◌∷◌, length, OnOk, option_map, slice_set};
 ghost use Rattle.arc_spec.specs.Resolved.{Return};
 ghost use Rattle.arc_check.specs.Checked.{value as value_of, reference as reference_of, command, commands, program_of};
-ghost use Rattle.arc_lower.specs.Order.{Jump, order, orders};
+ghost use Rattle.arc_code.specs.declared.instr.Instr.TheVariants.{Jump};
+ghost use Rattle.arc_lower.specs.Order.{order, orders};
 ghost use Rattle.arc_lower.specs.Lowered.{whole_orders, whole_reference_orders, begin_orders, command_orders, all_command_orders};
 
 use crate::expression::{append, append_reference, append_value};
 use crate::frame::{Body, Frame};
 use crate::place::{append_all_empty, append_drops, append_store};
 use arc_check::checked::{Checked, Command, Reference, Value};
+use arc_code::instr::{Instr, Op};
 use arc_ir::action::Action;
 use arc_spec::event::NoMemory;
 use std::alloc::Global;
@@ -93,7 +95,7 @@ pub(crate) fn append_command(
         }
         Command::Evaluate(value) => {
             append_whole(alloc, actions, program, body, value)?;
-            append(actions, Action::Pop)
+            append(actions, Instr::Plain(Op::Pop))
         }
         Command::EvaluateReference(reference) => {
             append_whole_reference(alloc, actions, program, body, reference)
@@ -105,26 +107,26 @@ pub(crate) fn append_command(
         Command::Choose(test, first, second) => {
             append_whole(alloc, actions, program, body, test)?;
             let branch = actions.len();
-            append(actions, Action::JumpZero(0))?;
+            append(actions, Instr::JumpZero(0))?;
             append_command(alloc, actions, program, body, first)?;
             let skip = actions.len();
-            append(actions, Action::Jump(0))?;
+            append(actions, Instr::Jump(0))?;
             let other = actions.len();
             append_command(alloc, actions, program, body, second)?;
             let end = actions.len();
-            replace(actions, branch, Action::JumpZero(other));
-            replace(actions, skip, Action::Jump(end));
+            replace(actions, branch, Instr::JumpZero(other));
+            replace(actions, skip, Instr::Jump(end));
             Ok(())
         }
         Command::Repeat(test, turn) => {
             let begin = actions.len();
             append_whole(alloc, actions, program, body, test)?;
             let branch = actions.len();
-            append(actions, Action::JumpZero(0))?;
+            append(actions, Instr::JumpZero(0))?;
             append_command(alloc, actions, program, body, turn)?;
-            append(actions, Action::Jump(begin))?;
+            append(actions, Instr::Jump(begin))?;
             let end = actions.len();
-            replace(actions, branch, Action::JumpZero(end));
+            replace(actions, branch, Instr::JumpZero(end));
             Ok(())
         }
     }
@@ -158,7 +160,7 @@ fn append_return(
     ensures { OnOk result (orders actions.new.items ≡ orders actions.old.items ++ command_orders (program_of program.now) body.slots body.names body.exit (length (orders actions.old.items)) (Return (option_map value_of value.now))) }
 {
     match value {
-        None => append(actions, Action::Num(0))?,
+        None => append(actions, Instr::Plain(Op::Num(0)))?,
         Some(value) => append_whole(alloc, actions, program, body, value)?,
     }
     append_exit(actions, body)
@@ -168,7 +170,7 @@ fn append_return(
 fn append_exit(actions: &mut Vec<Action>, body: Body) -> Result<(), NoMemory>
     ensures { OnOk result (orders actions.new.items ≡ orders actions.old.items ++ Jump body.exit ∷ []) }
 {
-    append(actions, Action::Jump(body.exit))
+    append(actions, Instr::Jump(body.exit))
 }
 
 /// Puts another action in the place of the one with this number.

@@ -10,6 +10,7 @@ use crate::expression::append;
 use crate::variable::one_more;
 use arc_ast::tree::Sign;
 use arc_check::checked::Checked;
+use arc_code::instr::Instr;
 use arc_ir::action::Action;
 use arc_spec::class::{Class, Method};
 use arc_spec::event::NoMemory;
@@ -49,7 +50,7 @@ fn append_stub(
 {
     append_fit(actions, count, slots_of(program, function))?;
     let entry = entry_of(entries, number_of(program, function));
-    append(actions, Action::Jump(entry))
+    append(actions, Instr::Jump(entry))
 }
 
 /// Appends the stubs of methods. Gives the methods, each of which runs its stub.

@@ -4,6 +4,7 @@ ghost use Rattle.arc_lower.specs.Order.{orders};
 ghost use Rattle.arc_lower.specs.Lowered.{get_orders, set_orders, zero_orders};
 
 use crate::expression::append;
+use arc_code::instr::{Instr, Op};
 use arc_ir::action::Action;
 use arc_spec::event::NoMemory;
 
@@ -35,9 +36,9 @@ pub(crate) fn append_get(
 {
     if index < slots {
         let below = add_operands(depth, slots - 1 - index)?;
-        append(actions, Action::Get(below))
+        append(actions, Instr::Plain(Op::Get(below)))
     } else {
-        append(actions, Action::Num(0))
+        append(actions, Instr::Plain(Op::Num(0)))
     }
 }
 
@@ -54,8 +55,8 @@ pub(crate) fn append_set(
     if index < slots {
         let operands = one_more(depth)?;
         let below = add_operands(operands, slots - 1 - index)?;
-        append(actions, Action::Get(0))?;
-        append(actions, Action::Set(below))
+        append(actions, Instr::Plain(Op::Get(0)))?;
+        append(actions, Instr::Plain(Op::Set(below)))
     } else {
         Ok(())
     }
@@ -66,7 +67,7 @@ pub(crate) fn append_zeros(actions: &mut Vec<Action>, count: usize) -> Result<()
     ensures { OnOk result (orders actions.new.items ≡ orders actions.old.items ++ zero_orders count) }
 {
     for _number in 0..count {
-        append(actions, Action::Num(0))?;
+        append(actions, Instr::Plain(Op::Num(0)))?;
     }
     Ok(())
 }

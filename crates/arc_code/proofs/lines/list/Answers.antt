@@ -6,10 +6,10 @@ use Rattle.arc_code.proofs.lines.list.Goals as goal
 pub returns-in_err-put_line : goal.returns-in_err-put_line
 returns-in_err-put_line g c =
     let p = err_from_is_err_and c.from_residual.result c.from_residual.ensures.1 in
-    let line = rw c.deref-op-items.ensures.value at c.in_err-put_line.ensures in
-    rw (p.1, p.2) (cut_short _ _ _ _ _ _ _ c.args.code.now.ops.items _ _ (omega arith) c.loop-number.invariant _ line)
+    let line = rw c.deref-instr-items.ensures.value at c.in_err-put_line.ensures in
+    rw (p.1, p.2) (cut_short _ _ _ _ _ _ _ c.args.code.now.instrs.items _ _ (omega arith) c.loop-number.invariant _ line)
 
 pub loop-number-preserved : goal.loop-number-preserved
 loop-number-preserved g c =
-    let line = rw c.deref-op-items.ensures.value at c.in_ok-put_line.ensures in
-    one_more _ _ _ _ _ _ (Unit {0}) c.args.code.now.ops.items _ _ (omega arith) c.loop-number.invariant line
+    let line = rw c.deref-instr-items.ensures.value at c.in_ok-put_line.ensures in
+    one_more _ _ _ _ _ _ (Unit {0}) c.args.code.now.instrs.items _ _ (omega arith) c.loop-number.invariant line

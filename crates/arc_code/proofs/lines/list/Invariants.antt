@@ -6,4 +6,4 @@ use Rattle.arc_code.proofs.lines.list.Given as goal
 
 abbrev pub invariant-loop-number : goal.invariant-loop-number
 invariant-loop-number g l =
-    Written (Ok tt) (listing (take l.number l.code.ops.items)) (held_by g.W.Output.contents l.fn.writer) (held_by g.W.Output.contents l.writer) (failures_of l.fn.writer) (failures_of l.writer) (Unit {0})
+    Written (Ok tt) (listing (take l.number l.code.instrs.items)) (held_by g.W.Output.contents l.fn.writer) (held_by g.W.Output.contents l.writer) (failures_of l.fn.writer) (failures_of l.writer) (Unit {0})

@@ -23,7 +23,7 @@ returns-clause-sound c =
 pub returns-clause-refines : goal.returns-clause-refines
 returns-clause-refines c =
     let p = acting.program_of c.args.ir.now in
-    of_code (λ q. Refines (acting.seen p) (running.seen q)) p c.write_code.result c.write_code.ensures.code (code_refines p c.requires)
+    of_code (λ q. Refines (acting.seen p) (running.seen q)) p c.write_code.result c.write_code.ensures.code (code_refines p)
 
 pub returns-clause-steady : goal.returns-clause-steady
 returns-clause-steady c =

@@ -1,14 +1,14 @@
 use Rattle.std.proofs.Common.{◌≡◌, ◌*◌, ◌≤◌, ◌++◌, length, drop}
 use Rattle.arc_ir.specs.Acting.{program_of}
-use Rattle.arc_emit.specs.Emitted.{ops_of, texts_of}
+use Rattle.arc_emit.specs.Emitted.{instrs_of, texts_of}
 use Rattle.arc_emit.proofs.emit.write_code.Given as goal
 
 abbrev pub invariant-loop-action : goal.invariant-loop-action
 invariant-loop-action l = record {
-  ops :
-      l.ops.items ++ ops_of (program_of l.ir) (length l.texts.items) (drop l.action-index l.ir.actions.items)
-      ≡ ops_of (program_of l.ir) 0 l.ir.actions.items;
+  instrs :
+      l.instrs.items ++ instrs_of (program_of l.ir) (length l.texts.items) (drop l.action-index l.ir.actions.items)
+      ≡ instrs_of (program_of l.ir) 0 l.ir.actions.items;
   texts : l.texts.items ++ texts_of (drop l.action-index l.ir.actions.items) ≡ texts_of l.ir.actions.items;
-  number : length l.ops.items ≡ l.action-index;
+  number : length l.instrs.items ≡ l.action-index;
   few : length l.texts.items ≤ 16 * l.action-index;
 }

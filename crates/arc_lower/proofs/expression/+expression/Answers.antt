@@ -4,7 +4,9 @@ use Rattle.arc_spec.specs.Resolved as resolved
 use Rattle.arc_spec.specs.Resolved.{and_value}
 use Rattle.arc_check.specs.declared.checked.Value.{Value}
 use Rattle.arc_check.specs.Checked.{pieces, value, reference, values, program_of}
-use Rattle.arc_lower.specs.Order.{Order, Send, SendSuper, HoldSelf, SendTo, SendToSuper, SetField, Differ, order, orders}
+use Rattle.arc_code.specs.declared.instr.Op.TheVariants.{HoldSelf, SetField, Differ}
+use Rattle.arc_code.specs.declared.instr.Instr.TheVariants.{Plain, Send, SendSuper, SendTo, SendToSuper}
+use Rattle.arc_lower.specs.Order.{Order, order, orders}
 use Rattle.arc_lower.specs.Lowered.{value_takes, reference_takes, values_take, value_orders, reference_orders, all_value_orders, print_orders, call_orders, get_orders, set_orders, value_count}
 use Rattle.arc_lower.proofs.Rows.{values_counted}
 use Rattle.arc_check.proofs.Trees.{is_print, is_invoked, is_sent, is_sent_super, is_sent_to, is_sent_to_super}
@@ -484,7 +486,7 @@ append_sent_to_super-returns-clause-actions t c =
     in
     rightly c.append_counted.result (orders c.append_counted.new.actions.items) _ _
     (ap (λ n. o2 ++ SendToSuper from selector n ∷ []) (sym (values_counted these))
-    ∙ behind_two old o1 o2 (HoldSelf ∷ []) ys (SendToSuper from selector (value_count (values these)) ∷ []) c.in_ok-append.ensures next)
+    ∙ behind_two old o1 o2 (Plain HoldSelf ∷ []) ys (SendToSuper from selector (value_count (values these)) ∷ []) c.in_ok-append.ensures next)
     c.append_counted.ensures.actions
 
 pub append_sent_to_super-returns-clause-temporaries : goal.append_sent_to_super-returns-clause-temporaries
@@ -507,8 +509,8 @@ append_field_assigned-returns-clause-actions t c =
     in
     let depth : c.saturating_sub-depth.result ≡ value_takes b = omega (arith, c.saturating_sub-depth.ensures, c.in_ok-there.ensures.temporaries) in
     rightly c.append_counted.result (orders c.append_counted.new.actions.items) _ _
-    (ap (λ n. o2 ++ SetField n c.args.class c.args.index ∷ []) depth
-    ∙ behind_two old o1 o2 (reference_orders P f.slots f.names f.operands f.temporaries a) ys (SetField (value_takes b) c.args.class c.args.index ∷ []) c.in_ok-temporaries.ensures.actions next)
+    (ap (λ n. o2 ++ Plain (SetField n c.args.class c.args.index) ∷ []) depth
+    ∙ behind_two old o1 o2 (reference_orders P f.slots f.names f.operands f.temporaries a) ys (Plain (SetField (value_takes b) c.args.class c.args.index) ∷ []) c.in_ok-temporaries.ensures.actions next)
     c.append_counted.ensures.actions
 
 pub append_field_assigned-returns-clause-temporaries : goal.append_field_assigned-returns-clause-temporaries
@@ -547,8 +549,8 @@ append_differ-returns-clause-actions t c =
     in
     let depth : c.saturating_sub.result ≡ reference_takes b - 1 = omega (arith, c.saturating_sub.ensures, c.saturating_sub-taken.ensures, c.in_ok-there.ensures.temporaries) in
     rightly c.append_counted.result (orders c.append_counted.new.actions.items) _ _
-    (ap (λ n. o2 ++ Differ n ∷ []) depth
-    ∙ behind_two old o1 o2 (reference_orders P f.slots f.names f.operands f.temporaries a) ys (Differ (reference_takes b - 1) ∷ []) c.in_ok-temporaries.ensures.actions next)
+    (ap (λ n. o2 ++ Plain (Differ n) ∷ []) depth
+    ∙ behind_two old o1 o2 (reference_orders P f.slots f.names f.operands f.temporaries a) ys (Plain (Differ (reference_takes b - 1)) ∷ []) c.in_ok-temporaries.ensures.actions next)
     c.append_counted.ensures.actions
 
 pub append_values-loop-expression-preserved : goal.append_values-loop-expression-preserved

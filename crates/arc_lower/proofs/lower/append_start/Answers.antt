@@ -1,6 +1,7 @@
 use Rattle.std.proofs.Common.{[], ◌∷◌, length, ap, sym, ◌∙◌, length-append, arith}
 use Rattle.std.proofs.lemmas.List.{length-map}
-use Rattle.arc_lower.specs.Order.{Call, Return, order, orders}
+use Rattle.arc_code.specs.declared.instr.Instr.TheVariants.{Call, Return}
+use Rattle.arc_lower.specs.Order.{order, orders}
 use Rattle.arc_lower.specs.Lowered.{zero_orders}
 use Rattle.arc_lower.proofs.Rows.{zeros_length}
 use Rattle.arc_lower.proofs.lower.append_start.Goals as goal

@@ -1,5 +1,6 @@
 use Rattle.std.proofs.Common.{arith, ◌≡◌, ◌++◌, [], ◌∷◌, sym, ap, ◌∙◌, append_assoc}
-use Rattle.arc_lower.specs.Order.{Drop, orders}
+use Rattle.arc_code.specs.declared.instr.Instr.TheVariants.{Drop}
+use Rattle.arc_lower.specs.Order.{orders}
 use Rattle.arc_lower.specs.Lowered.{drop_orders}
 use Rattle.arc_lower.proofs.Rows.{drops_more}
 use Rattle.arc_lower.proofs.place.append_drops.Goals as goal

@@ -1,5 +1,6 @@
 use Rattle.std.proofs.Common.{[], ◌∷◌, ◌++◌, take, sym, ap, ◌∙◌, append_assoc}
-use Rattle.arc_lower.specs.Order.{PrintText, orders}
+use Rattle.arc_code.specs.declared.instr.Instr.TheVariants.{PrintText}
+use Rattle.arc_lower.specs.Order.{orders}
 use Rattle.arc_lower.specs.Lowered.{text_orders}
 use Rattle.arc_lower.proofs.Rows.{text_more}
 use Rattle.arc_lower.proofs.print.append_text.Goals as goal

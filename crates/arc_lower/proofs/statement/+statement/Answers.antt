@@ -1,7 +1,8 @@
 use Rattle.std.proofs.Common.{◌≡◌, ℕ, List, ◌++◌, length, slice_set, ap, sym, subst, ◌∙◌, OnOk, append_assoc}
 use Rattle.std.proofs.lemmas.List.{length-map}
 use Rattle.arc_check.specs.Checked.{value, command, commands, program_of}
-use Rattle.arc_lower.specs.Order.{Order, Jump, order, orders}
+use Rattle.arc_code.specs.declared.instr.Instr.TheVariants.{Jump}
+use Rattle.arc_lower.specs.Order.{Order, order, orders}
 use Rattle.arc_lower.specs.Lowered.{whole_orders, all_empty_orders, command_orders, all_command_orders, choose_orders, repeat_orders}
 use Rattle.arc_check.proofs.Trees.{sequence_command}
 use Rattle.arc_lower.proofs.Patching.{patch_repeat, patch_choose}

@@ -1,0 +1,35 @@
+-- Instructions with other names for where jumps go, for functions and for texts.
+use Rattle.std.specs.Prelude.{ℕ, List, Option}
+use Rattle.arc_code.specs.declared.instr.Instr.{Instr}
+use Rattle.arc_code.specs.declared.instr.Instr.TheVariants.{Plain, PrintText, Jump, JumpZero, Call, Send, SendSuper, SendTo, SendToSuper, Return, StoreStrong, Drop, Empty, EndStep}
+use Rattle.arc_code.specs.Instructions.{Program}
+
+module _ {J F T K G U : Type 0} (jump : J → K) (call : F → G) (text : T → U) where
+  abbrev pub renamed : Instr J F T → Instr K G U
+  renamed (Plain o) = Plain o
+  renamed (PrintText t) = PrintText (text t)
+  renamed (Jump j) = Jump (jump j)
+  renamed (JumpZero j) = JumpZero (jump j)
+  renamed (Call f) = Call (call f)
+  renamed (Send selector takes) = Send selector takes
+  renamed (SendSuper from selector takes) = SendSuper from selector takes
+  renamed (SendTo depth selector takes) = SendTo depth selector takes
+  renamed (SendToSuper from selector takes) = SendToSuper from selector takes
+  renamed Return = Return
+  renamed (StoreStrong depth) = StoreStrong depth
+  renamed Drop = Drop
+  renamed (Empty depth) = Empty depth
+  renamed EndStep = EndStep
+
+-- a program whose instructions name what these say
+abbrev pub relinked : {J F T K G U : Type 0} → Program J F T → List (Instr K G U) → (lands : ℕ → K → ℕ) → (entry : G → Option ℕ) → (text : U → Option (List ℕ)) → Program K G U
+relinked p instrs lands entry text = record {
+  instrs = instrs;
+  lands = lands;
+  entry = entry;
+  text = text;
+  end_step = p.end_step;
+  room = p.room;
+  places = p.places;
+  classes = p.classes;
+}

@@ -1,0 +1,55 @@
+//! The instruction of one action, and its text.
+ghost use Rattle.std.specs.Prelude.{◌≡◌, ◌≤◌, length};
+ghost use Rattle.arc_ir.specs.Acting.{program_of, entry};
+ghost use Rattle.arc_emit.specs.Emitted.{instr_of, text_of};
+
+use arc_code::code::{Instruction, Piece};
+use arc_code::instr::Instr;
+use arc_ir::action::{Action, Ir};
+
+/// The instruction of an action of this program; `from` is where the action's text begins among all
+/// texts.
+pub fn instr_of(ir: &Ir, from: u32, action: &Action) -> Instruction
+    ensures { result ≡ instr_of (program_of ir.now) from action.now }
+{
+    match action {
+        Instr::Plain(op) => Instr::Plain(*op),
+        Instr::PrintText(part) => Instr::PrintText(Piece {
+            from,
+            len: part.bytes.len() as u8,
+        }),
+        Instr::Jump(to) => Instr::Jump(*to),
+        Instr::JumpZero(to) => Instr::JumpZero(*to),
+        Instr::Call(function) => Instr::Call(entry(ir, *function)),
+        Instr::Send(selector, takes) => Instr::Send(*selector, *takes),
+        Instr::SendSuper(from, selector, takes) => Instr::SendSuper(*from, *selector, *takes),
+        Instr::SendTo(depth, selector, takes) => Instr::SendTo(*depth, *selector, *takes),
+        Instr::SendToSuper(from, selector, takes) => Instr::SendToSuper(*from, *selector, *takes),
+        Instr::Return => Instr::Return,
+        Instr::StoreStrong(depth) => Instr::StoreStrong(*depth),
+        Instr::Drop => Instr::Drop,
+        Instr::Empty(depth) => Instr::Empty(*depth),
+        Instr::EndStep => Instr::EndStep,
+    }
+}
+
+/// Where the function with this number begins. One that doesn't exist begins after the last action.
+fn entry(ir: &Ir, function: usize) -> usize
+    ensures { result ≡ entry (program_of ir.now) function }
+{
+    match ir.entries.get(function) {
+        Some(number) => *number,
+        None => ir.actions.len(),
+    }
+}
+
+/// The text that an action prints, of at most 16 bytes; of an action without a text it is empty.
+pub fn text_of(action: &Action) -> &[u8]
+    ensures text { result.now ≡ text_of action.now }
+    ensures short { length (text_of action.now) ≤ 16 }
+{
+    match action {
+        Instr::PrintText(part) => &part.bytes,
+        _ => &[],
+    }
+}
