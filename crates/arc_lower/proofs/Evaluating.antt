@@ -33,7 +33,7 @@ use Rattle.arc_lower.proofs.Fitting.{fit_passes}
 use Rattle.arc_lower.proofs.Standing.{ending, Fine, Alive, nil_alive, last_there, IsFramed, Kept, kept_framed, Took, took_none, took_more, took_suc, took_length, get_variable, place_named, made_dying, changed_dying}
 use Rattle.arc_lower.proofs.Releasing.{Ends, stays, store_segment}
 
-read_next : (frames : List Frame) (pc : ℕ) (stack : List ℤ) (w : World) (i : List ℕ) (t : List Event) → fed (λ answer. fresh (onward (at frames pc stack (held_of w)) (byte_or_end answer ∷ stack))) i t ≡ running frames (pc + 1) (next_number i ∷ stack) (record { input = after_next i; trace = t; objects = w.objects; frame = w.frame; waiting = w.waiting })
+read_next : (frames : List Frame) (pc : ℕ) (stack : List ℤ) (w : World) (i : List ℕ) (t : List Event) → fed (λ answer. fresh (onward (at frames pc stack (held_of w)) (byte_or_end answer ∷ stack))) i t ≡ running frames (pc + 1) (next_number i ∷ stack) (record w { input = after_next i; trace = t })
 read_next frames pc stack w [] t = refl
 read_next frames pc stack w (b ∷ i) t = refl
 
