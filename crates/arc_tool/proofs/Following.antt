@@ -10,7 +10,8 @@ use Rattle.arc_code.specs.Attempts.{HasFailedToWrite, IsFailedWrite}
 use Rattle.arc_code.specs.Calls.{IsUndone}
 use Rattle.arc_code.specs.declared.device.Attempt.TheVariants.{Done}
 use Rattle.arc_code.specs.declared.code.IoFault.TheVariants.{Read, Write}
-use Rattle.arc_code.specs.declared.code.Op.TheVariants.{Alloc}
+use Rattle.arc_code.specs.declared.instr.Op.TheVariants.{Alloc}
+use Rattle.arc_code.specs.declared.instr.Instr.TheVariants.{Plain}
 use Rattle.arc_code.specs.Running.{Program, State, start, step, seen, IsSound}
 use Rattle.arc_heap.specs.Blocks.{Blocks}
 use Rattle.arc_machine.specs.declared.stop.Stop.{Stop}
@@ -165,7 +166,7 @@ pub takes_so : (p : Program) (made : ℕ) (taken rest : List ℕ) (a : Answer) (
 takes_so p made taken rest a s t run = ap rest_of run ∙ reached_rest a s rest t
 
 -- a run that has no room for an object goes on with one, and one whose reader fails goes on with a step that reads
-goes_on_so : (p : Program) (run : Reached State) (a : Answer) (s : State) (i : List ℕ) (t : List Event) → run ≡ reached a s i t → (a ≡ answer.NoHeap → slice_get p.ops s.at ≡ Some Alloc) → (a ≡ answer.Broken Read → IsAsking (step p s)) → GoesOn (left_of a) p run
+goes_on_so : (p : Program) (run : Reached State) (a : Answer) (s : State) (i : List ℕ) (t : List Event) → run ≡ reached a s i t → (a ≡ answer.NoHeap → slice_get p.instrs s.at ≡ Some (Plain Alloc)) → (a ≡ answer.Broken Read → IsAsking (step p s)) → GoesOn (left_of a) p run
 goes_on_so p run answer.Going s i t is makes asks = tt
 goes_on_so p run (answer.Ended n) s i t is makes asks = tt
 goes_on_so p run (answer.Faulted f) s i t is makes asks = tt
@@ -174,11 +175,11 @@ goes_on_so p run (answer.Broken Write) s i t is makes asks = tt
 goes_on_so p run answer.NoHeap s i t is makes asks = subst (MakesObject p) (sym is) (makes refl)
 
 -- the machine stands at the instruction of the state for which it stands
-pub makes_so : {S : Type 0} → (out : S → Blocks) (p : Program) (m : Seen S) (s : State) → m.program ≡ p → StandsAs out m s → slice_get m.program.ops m.spot.at ≡ Some Alloc → slice_get p.ops s.at ≡ Some Alloc
-makes_so out p m s program stands makes = ap (slice_get p.ops) (sym stands.at) ∙ ap (λ (q : Program). slice_get q.ops m.spot.at) (sym program) ∙ makes
+pub makes_so : {S : Type 0} → (out : S → Blocks) (p : Program) (m : Seen S) (s : State) → m.program ≡ p → StandsAs out m s → slice_get m.program.instrs m.spot.at ≡ Some (Plain Alloc) → slice_get p.instrs s.at ≡ Some (Plain Alloc)
+makes_so out p m s program stands makes = ap (slice_get p.instrs) (sym stands.at) ∙ ap (λ (q : Program). slice_get q.instrs m.spot.at) (sym program) ∙ makes
 
 pub follows : {S : Type 0} → (out : S → Blocks) (p : Program) (m : Seen S) (i0 i1 : Option (List ℕ)) (events : List Event) → Reaches out p m i0 i1 events
-    → (m.answer ≡ answer.NoHeap → slice_get m.program.ops m.spot.at ≡ Some Alloc) → Follows p m.steps (left_of m.answer) i0 i1 events
+    → (m.answer ≡ answer.NoHeap → slice_get m.program.instrs m.spot.at ≡ Some (Plain Alloc)) → Follows p m.steps (left_of m.answer) i0 i1 events
 follows out p m i0 i1 events way makes = record {
   taken = way.taken;
   reads = way.moves.reads;
@@ -192,7 +193,7 @@ follows out p m i0 i1 events way makes = record {
 
 -- what a machine had shown before is what such a run had
 pub follows_before : {S : Type 0} → (out : S → Blocks) (p : Program) (m : Seen S) (i0 i1 : Option (List ℕ)) (events earlier : List Event) (way : Reaches out p m i0 i1 events)
-    (makes : m.answer ≡ answer.NoHeap → slice_get m.program.ops m.spot.at ≡ Some Alloc) (k : ℕ) → ((rest : List ℕ) → Leaves i1 rest → (seen p (way.taken ++ rest) k).trace ≡ earlier)
+    (makes : m.answer ≡ answer.NoHeap → slice_get m.program.instrs m.spot.at ≡ Some (Plain Alloc)) (k : ℕ) → ((rest : List ℕ) → Leaves i1 rest → (seen p (way.taken ++ rest) k).trace ≡ earlier)
     → (rest : List ℕ) → Leaves i1 rest → (seen p ((follows out p m i0 i1 events way makes).taken ++ rest) k).trace ≡ earlier
 unfolding follows
 follows_before out p m i0 i1 events earlier way makes k shown = shown

@@ -3,7 +3,8 @@ use Rattle.std.proofs.Common.{◌≡◌, ◌≢◌, ℕ, suc, ◌+◌, ◌<◌, 
 use Rattle.std.specs.Prelude.{slice_get, ⊤}
 use Rattle.arc_spec.specs.declared.event.Event.{Event}
 use Rattle.arc_code.specs.declared.code.IoFault.{IoFault}
-use Rattle.arc_code.specs.declared.code.Op.TheVariants.{Alloc}
+use Rattle.arc_code.specs.declared.instr.Op.TheVariants.{Alloc}
+use Rattle.arc_code.specs.declared.instr.Instr.TheVariants.{Plain}
 use Rattle.arc_code.specs.Running.{Program, IsSound, seen}
 use Rattle.arc_code.specs.Written.{Written}
 use Rattle.arc_code.proofs.Parts.{then_ok, none_written}
@@ -66,7 +67,7 @@ module _ {S : Type 0} (out : S → Blocks) (p : Program) (names : List (List ℕ
   abbrev FollowsOn : (made : ℕ) → Type 0
   FollowsOn made = (run : Follows p made (left_of new.answer) i0 i2 (way.events ++ shown)) × ((rest : List ℕ) → Leaves i2 rest → (seen p (run.taken ++ rest) old.steps).trace ≡ way.events)
 
-  follows_on : (new.answer ≡ answer.NoHeap → slice_get new.program.ops new.spot.at ≡ Some Alloc) → FollowsOn new.steps
+  follows_on : (new.answer ≡ answer.NoHeap → slice_get new.program.instrs new.spot.at ≡ Some (Plain Alloc)) → FollowsOn new.steps
   follows_on makes = (
     follows out p new i0 i2 (way.events ++ shown) reached_on makes,
     follows_before out p new i0 i2 (way.events ++ shown) way.events reached_on makes old.steps (goes_on out p old new i0 i1 i2 way.events way.reaches going held runs).0.1,
@@ -74,7 +75,7 @@ module _ {S : Type 0} (out : S → Blocks) (p : Program) (names : List (List ℕ
 
   -- the writer failed
   pub shows_part : (o2 : Option (List ℕ)) (w2 : ℕ) (F : Type 0) (f : IoFault) (steps : ℕ) → new.steps ≢ old.steps → old.steps < steps
-      → (new.answer ≡ answer.NoHeap → slice_get new.program.ops new.spot.at ≡ Some Alloc) → Written (Err f) (more_text begun) o1 o2 w1 w2 F → Interrupted p names steps f i0 i2 o0 o2 w0 w2 F
+      → (new.answer ≡ answer.NoHeap → slice_get new.program.instrs new.spot.at ≡ Some (Plain Alloc)) → Written (Err f) (more_text begun) o1 o2 w1 w2 F → Interrupted p names steps f i0 i2 o0 o2 w0 w2 F
   shows_part o2 w2 F f steps more within makes wrote =
       let run = subst FollowsOn (one_more more) (follows_on makes) in
       record {
@@ -93,7 +94,7 @@ module _ {S : Type 0} (out : S → Blocks) (p : Program) (names : List (List ℕ
 
 -- the run was left
 pub is_left : {S : Type 0} → (out : S → Blocks) (p : Program) (names : List (List ℕ)) (m : Seen S) (begun : Bool) (i0 i1 o0 o1 : Option (List ℕ)) (w0 w1 : ℕ) → Shows out p names m begun i0 i1 o0 o1 w0 w1
-    → (steps : ℕ) (left : Left) (r0 r1 : ℕ) (R : Type 0) → left_of m.answer ≡ left → (m.answer ≡ answer.NoHeap → slice_get m.program.ops m.spot.at ≡ Some Alloc) → Within left m.steps steps → Reads left r0 r1 R
+    → (steps : ℕ) (left : Left) (r0 r1 : ℕ) (R : Type 0) → left_of m.answer ≡ left → (m.answer ≡ answer.NoHeap → slice_get m.program.instrs m.spot.at ≡ Some (Plain Alloc)) → Within left m.steps steps → Reads left r0 r1 R
     → Followed p names steps left begun i0 i1 o0 o1 r0 r1 w0 w1 R
 is_left out p names m begun i0 i1 o0 o1 w0 w1 way steps left r0 r1 R e makes within reads =
     subst (λ l. Within l m.steps steps → Reads l r0 r1 R → Followed p names steps l begun i0 i1 o0 o1 r0 r1 w0 w1 R) e
