@@ -3,6 +3,7 @@
 
 mod calling;
 mod cell;
+mod decoded;
 mod engine;
 pub mod fault;
 mod field;
