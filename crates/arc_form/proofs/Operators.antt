@@ -166,8 +166,14 @@ pair_then {A} {B} {C} (Ok x) g k = go (g x.1)
     go (Err y) = refl
 pair_then (Err x) g k = refl
 
-pub second_then : {A B C : Type 0} (x : Read A) (g : Reader B) (k : B → Reader C) → bind {A = A × B} (bind x (λ a. g >>= (λ b. ret (a, b)))) (λ p. k p.1) ≡ bind x (λ a. g >>= k)
-second_then x g k = pair_then x g (λ p. k p.1)
+-- and of which the second is given on
+pub second_then : {A B C : Type 0} (x : Read A) (g : Reader B) (k : B → Reader C) → bind (bind {A = A × B} (bind x (λ a. g >>= (λ b. ret (a, b)))) (λ p. ret p.1)) k ≡ bind x (λ a. g >>= k)
+second_then {A} {B} {C} (Ok x) g k = go (g x.1)
+  where
+    go : (y : Read B) → bind (bind {A = A × B} (bind y (λ b. ret (x.0, b))) (λ p. ret p.1)) k ≡ bind y k
+    go (Ok y) = refl
+    go (Err y) = refl
+second_then (Err x) g k = refl
 
 -- a first part and one that makes a value of it
 pub after_left : {A B : Type 0} (x : Read A) (h : Reader (A → B)) → bind {A = A × (A → B)} (bind x (λ a. h >>= (λ make. ret (a, make)))) (λ p. ret (p.1 p.0)) ≡ bind x (λ a. h >>= (λ make. ret (make a)))

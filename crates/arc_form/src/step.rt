@@ -109,6 +109,19 @@ pub fn sees_integer(tokens: &[Token]) -> bool
     )
 }
 
+/// Whether the first token is a text.
+pub fn sees_text(tokens: &[Token]) -> bool
+    ensures { result ≡ sees kinds.text (toks tokens.now) }
+{
+    matches!(
+        tokens.first(),
+        Some(Token {
+            kind: TokenKind::Text(_),
+            ..
+        })
+    )
+}
+
 /// The place of the first token, which is this mark.
 ///
 /// `Unexpected` comes with all of the tokens where it is not.
