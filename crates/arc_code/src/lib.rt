@@ -6,4 +6,5 @@ pub mod counted;
 pub mod device;
 pub mod fault;
 pub mod instr;
+pub mod law;
 pub mod lines;
