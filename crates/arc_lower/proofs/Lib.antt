@@ -27,6 +27,7 @@ mod Linking
 mod Finding
 mod Calling
 mod Rising
+mod HeightsEnd
 mod Safety
 mod Staying
 mod Leaving

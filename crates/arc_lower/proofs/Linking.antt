@@ -80,7 +80,7 @@ in_list [] main cs f lt = absurd (omega (arith, lt))
 in_list (g ∷ fs) main cs zero lt = refl
 in_list (g ∷ fs) main cs (suc f) lt = in_list fs main cs f (omega (arith, lt))
 
-out_of_list : (fs : List Function) (main : ℕ) (cs : List Class) (f : ℕ) → length fs ≤ f → nothing ≡ function_at (record { functions = fs; main = main; classes = cs }) f
+pub out_of_list : (fs : List Function) (main : ℕ) (cs : List Class) (f : ℕ) → length fs ≤ f → nothing ≡ function_at (record { functions = fs; main = main; classes = cs }) f
 out_of_list [] main cs f le = refl
 out_of_list (g ∷ fs) main cs zero le = absurd (omega (arith, le))
 out_of_list (g ∷ fs) main cs (suc f) le = out_of_list fs main cs f (omega (arith, le))
