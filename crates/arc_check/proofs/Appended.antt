@@ -9,7 +9,7 @@ use Rattle.arc_spec.specs.declared.class.Class as declared
 use Rattle.arc_spec.specs.Classes.{Class, class_of, classes_of}
 use Rattle.arc_spec.specs.Resolved as resolved
 use Rattle.arc_check.specs.declared.checked.CheckedFunction.{CheckedFunction}
-use Rattle.arc_check.specs.Building.{function_of, functions_ahead}
+use Rattle.arc_check.specs.private.Building.{function_of, functions_ahead}
 use Rattle.arc_check.specs.Checked as checked
 use Rattle.arc_check.specs.Resolving.{resolved_body, with_methods, resolved_methods}
 use Rattle.arc_check.specs.Scopes.{Known, Scope, with_parameters, in_method}

@@ -11,7 +11,7 @@ use Rattle.arc_check.specs.Formats.{parts, printed}
 use Rattle.arc_spec.specs.Resolved.{Values, no_values, and_value}
 use Rattle.arc_check.specs.declared.checked.Value.{Value}
 use Rattle.arc_check.specs.Checked as checked
-use Rattle.arc_check.specs.Building.{Resolves, resolution, in_front, printing}
+use Rattle.arc_check.specs.private.Building.{Resolves, resolution, in_front, printing}
 use Rattle.arc_check.specs.declared.callee.Callee.{Callee}
 use Rattle.arc_check.specs.declared.resolution.Typed.{Typed}
 use Rattle.arc_check.specs.Resolving as resolving

@@ -13,7 +13,7 @@ use Rattle.arc_class.specs.Bodies.{named_parameters}
 use Rattle.arc_check.specs.declared.checked.Command as command
 use Rattle.arc_check.specs.declared.checked.Command.{Command}
 use Rattle.arc_check.specs.declared.checked.CheckedFunction.{CheckedFunction}
-use Rattle.arc_check.specs.Building.{ahead_of, function_of, functions_ahead}
+use Rattle.arc_check.specs.private.Building.{ahead_of, function_of, functions_ahead}
 use Rattle.arc_check.specs.Checked as checked
 use Rattle.arc_check.specs.Resolving.{declared, resolved_variables, resolved_stmt, resolved_stmts, resolved_body, with_function, resolved_functions}
 use Rattle.arc_check.specs.Scopes.{Known, Scope, declare, with_parameters, leave, behind, behind_all, outermost}

@@ -1,7 +1,7 @@
 -- Counts of objects that are taken.
 use Rattle.std.proofs.Common.{◌≡◌, ℕ, zero, suc, List, [], ◌∷◌, ◌++◌, Option, Some, None, slice_get, refl, sym, ap, ◌∙◌}
 use Rattle.arc_check.specs.declared.taken.Taken.{Taken}
-use Rattle.arc_check.specs.Judging.{one_counted, counted}
+use Rattle.arc_check.specs.private.Judging.{one_counted, counted}
 
 pub counted-append : (t : Taken) (xs ys : List ℕ) → counted t (xs ++ ys) ≡ counted (counted t xs) ys
 counted-append t [] ys = refl

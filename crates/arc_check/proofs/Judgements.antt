@@ -20,7 +20,7 @@ use Rattle.arc_check.specs.declared.judge.Judged.{Judged}
 use Rattle.arc_check.specs.declared.taken.Taken.{Taken}
 use Rattle.arc_check.specs.Fault.{told}
 use Rattle.arc_check.specs.Formats.{fits}
-use Rattle.arc_check.specs.Judging.{Judges, JudgesCall, JudgesWhole, counted, none_counted}
+use Rattle.arc_check.specs.private.Judging.{Judges, JudgesCall, JudgesWhole, counted, none_counted}
 use Rattle.arc_check.specs.Rules.{all_taken, arrow_kind, at_if, binary_kind, broken, broken_arguments, broken_at, broken_field, call_rule, count, is_assignable, is_object, is_unread, kind_if, kind_of, kinds, message_kind, most_taken, no_left, no_method, no_number, no_object, no_right, no_such, number_kind, one_too_many, other_rule, taken, unless}
 use Rattle.arc_check.specs.Scopes.{Scope, callee, class_of, class_receiver, is_printf, own_class, result_kind, sent_class, static_class, super_class, super_kind}
 use Rattle.arc_check.proofs.Counting.{counted_both, past_is}

@@ -6,7 +6,7 @@ use Rattle.arc_class.specs.declared.table.ClassTable.{ClassTable}
 use Rattle.arc_class.specs.Table.{number_of_class}
 use Rattle.arc_check.specs.declared.scope.Visible.{Visible}
 use Rattle.arc_check.specs.Scopes.{Scope, has_place, with_variable, declare, with_variables, leave, behind, behind_all}
-use Rattle.arc_check.specs.Views.{local_in, seen}
+use Rattle.arc_check.specs.private.Views.{local_in, seen}
 use Rattle.arc_check.proofs.Scoping.{scope_is}
 
 -- the method that a scope is in is another's

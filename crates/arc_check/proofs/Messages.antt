@@ -7,7 +7,7 @@ use Rattle.arc_ast.specs.Tree.{ExprTree, ExprTrees, Send, SendSuper, expr_tree}
 use Rattle.arc_class.specs.Table.{number_of_class}
 use Rattle.arc_spec.specs.Resolved.{Values}
 use Rattle.arc_check.specs.declared.resolution.Typed.{Typed}
-use Rattle.arc_check.specs.Building.{Resolves, resolution}
+use Rattle.arc_check.specs.private.Building.{Resolves, resolution}
 use Rattle.arc_check.specs.Resolving.{Resolution, assigned, number, resolved, resolved_all, sent, sent_super, to_super}
 use Rattle.arc_check.specs.Scopes.{Scope, above, class_of, class_receiver, sent_class, super_class, super_kind}
 

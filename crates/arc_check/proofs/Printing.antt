@@ -8,7 +8,7 @@ use Rattle.arc_check.specs.declared.format.Part.TheVariants as p
 use Rattle.arc_check.specs.declared.checked.Piece.{Piece}
 use Rattle.arc_check.specs.Checked as checked
 use Rattle.arc_check.specs.Formats.{put_byte, printed, unfinished}
-use Rattle.arc_check.specs.Runs.{put_bytes, run_piece}
+use Rattle.arc_check.specs.private.Runs.{put_bytes, run_piece}
 
 pub pieces-append : (xs ys : List Piece) → checked.pieces (xs ++ ys) ≡ checked.pieces xs ++ checked.pieces ys
 pieces-append [] ys = refl

@@ -7,7 +7,7 @@ use Rattle.arc_check.specs.declared.format.Part.{Part}
 use Rattle.arc_check.specs.declared.format.Reading.TheVariants.{Goes, Gives}
 use Rattle.arc_check.specs.Formats.{reading, before, parts, unfinished, printed}
 use Rattle.arc_check.specs.declared.format.Printed.{Printed}
-use Rattle.arc_check.specs.Runs.{whole, Adds}
+use Rattle.arc_check.specs.private.Runs.{whole, Adds}
 use Rattle.arc_spec.specs.Resolved as resolved
 use Rattle.arc_check.proofs.Lists.{drop_turn, drop_end}
 

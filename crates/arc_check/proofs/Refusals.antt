@@ -19,7 +19,7 @@ use Rattle.arc_check.specs.Fault.{told, Refuses}
 use Rattle.arc_check.specs.Resolving.{number, resolved_functions, resolved_methods, resolved_unit}
 use Rattle.arc_check.specs.Rules.{broken_functions, broken_interfaces, broken_implementations, broken_unit, known_of}
 use Rattle.arc_check.specs.Scopes.{Known}
-use Rattle.arc_check.specs.Views.{known_in}
+use Rattle.arc_check.specs.private.Views.{known_in}
 use Rattle.arc_spec.specs.Classes.{Class, classes_of, descends}
 use Rattle.arc_spec.specs.Resolved as resolved
 

@@ -11,7 +11,7 @@ use Rattle.arc_class.specs.Table.{number_of_class}
 use Rattle.arc_check.specs.declared.scope.Bound.{Bound}
 use Rattle.arc_check.specs.declared.scope.Visible.{Visible}
 use Rattle.arc_check.specs.Scopes.{Known, Local, Int, Object, Scope, bound, has_place, declare, with_object, with_parameters}
-use Rattle.arc_check.specs.Views.{local_of, later, local_at, local_in, seen}
+use Rattle.arc_check.specs.private.Views.{local_of, later, local_at, local_in, seen}
 use Rattle.arc_check.proofs.Lists.{drop_turn}
 
 later-cond : (p : Bool) (a b : Option Local) (n : Local) → later a (cond p (Some n) b) ≡ cond p (Some n) (later a b)

@@ -1,13 +1,14 @@
 -- Kinds of numbers.
-use Rattle.std.specs.Prelude.{ℤ, pos, int_le, if◌then◌else◌}
+use Rattle.std.specs.Prelude.{ℤ, int_le, if◌then◌else◌}
 use Rattle.arc_ast.specs.declared.tree.Kind.{Kind}
 use Rattle.arc_ast.specs.declared.tree.Kind.TheVariants as k
 use Rattle.arc_ast.specs.declared.tree.BinaryOperator.{BinaryOperator}
 use Rattle.arc_ast.specs.declared.tree.BinaryOperator.TheVariants as o
+use Rattle.arc_check.specs.declared.rule.TheConstants.{LARGEST_INT}
 
 -- a decimal integer is an int, where an int can hold it, and else a long (C99, section 6.4.4.1)
 abbrev pub literal_kind : ℤ → Kind
-literal_kind n = if int_le n (pos 2147483647) then k.Int else k.Long
+literal_kind n = if int_le n LARGEST_INT then k.Int else k.Long
 
 -- the kind in which an operator computes: long, where an operand is long, and else int (C99, section 6.3.1.8)
 abbrev pub wider : Kind → Kind → Kind

@@ -5,7 +5,4 @@ pub mod Formats
 pub mod Scopes
 pub mod Rules
 pub mod Resolving
-pub mod Runs
-pub mod Views
-pub mod Judging
-pub mod Building
+pub mod private

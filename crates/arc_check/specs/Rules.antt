@@ -14,6 +14,8 @@ use Rattle.arc_class.specs.Running.{classes}
 use Rattle.arc_class.specs.declared.table.FoundField.{FoundField}
 use Rattle.arc_class.specs.Names.{known}
 use Rattle.arc_spec.specs.Classes.{descends}
+use Rattle.arc_check.specs.declared.body.TheConstants.{MOST_PARAMETERS}
+use Rattle.arc_check.specs.declared.taken.TheConstants.{MOST_TAKEN}
 use Rattle.arc_check.specs.declared.callee.Callee.{Callee}
 use Rattle.arc_check.specs.declared.callee.Callee.TheVariants.{Printf, GetChar, Defined, Unknown}
 use Rattle.arc_check.specs.Formats.{wanted, fits}
@@ -274,7 +276,7 @@ abbrev mutual
 
 -- how many objects a full-expression takes at most (this project's own choice)
 abbrev pub most_taken : ℕ
-most_taken = 200
+most_taken = MOST_TAKEN
 
 -- 50 TooManyLocals, at the place at which one more is taken
 abbrev pub one_too_many : Option ℕ → List Broken
@@ -350,7 +352,7 @@ broken_body gives_nothing known parameters (Some body) =
 
 -- how many parameters a function has at most (this project's own choice)
 abbrev pub most_parameters : ℕ
-most_parameters = 16
+most_parameters = MOST_PARAMETERS
 
 -- 45 ArgumentCount too: a function with more parameters, at its name
 abbrev pub broken_function : Known → FunctionTree → List Broken

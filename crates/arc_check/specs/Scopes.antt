@@ -12,6 +12,7 @@ use Rattle.arc_ast.specs.Tree.{TypeTree, ExprTree, Paren, Cast, Itself, Name, As
 use Rattle.arc_class.specs.declared.table.Declared.{Declared}
 use Rattle.arc_class.specs.declared.table.FoundField.{FoundField}
 use Rattle.arc_class.specs.Table.{number_of_class}
+use Rattle.arc_check.specs.declared.scope.TheConstants.{MOST_VARIABLES}
 use Rattle.arc_check.specs.declared.callee.Callee.{Callee}
 use Rattle.arc_check.specs.declared.callee.Callee.TheVariants.{Printf, GetChar, Defined, Unknown}
 
@@ -46,7 +47,7 @@ pub record Scope : Type 0 where
 
 -- how many parameters and variables, of both sorts together, a body has at most (this project's own choice)
 abbrev pub most_variables : ℕ
-most_variables = 200
+most_variables = MOST_VARIABLES
 
 -- whether there is place for one variable more
 abbrev pub has_place : Scope → Bool

@@ -1,6 +1,6 @@
 //! Finds the first rule that is broken in the functions of a source.
 ghost use Rattle.std.specs.Prelude.{◌≡◌, ◌++◌, IfOk, OnOk, nat_lt, option_map, take, length};
-ghost use Rattle.arc_ast.specs.Tree.{Int, expr_tree, type_tree, variable_trees, parameter_trees, parameters_tree, stmt_tree, stmt_trees, function_tree, function_trees};
+ghost use Rattle.arc_ast.specs.Tree.{expr_tree, type_tree, variable_trees, parameter_trees, parameters_tree, stmt_tree, stmt_trees, function_tree, function_trees};
 ghost use Rattle.arc_class.specs.Bodies as bodies;
 ghost use Rattle.arc_class.specs.Broken.{first};
 ghost use Rattle.arc_class.specs.declared.table.ClassTable.{ClassTable};
@@ -8,7 +8,7 @@ ghost use Rattle.arc_check.specs.Fault.{told};
 ghost use Rattle.arc_check.specs.Rules as rules;
 ghost use Rattle.arc_check.specs.Rules.{broken_initial, broken_variables, broken_parameters, broken_result, broken_stmt, broken_stmts, broken_body, most_parameters, broken_function, broken_functions};
 ghost use Rattle.arc_check.specs.Scopes.{is_full, leave, behind, behind_all, with_variables, with_parameters};
-ghost use Rattle.arc_check.specs.Views.{known_in, seen};
+ghost use Rattle.arc_check.specs.private.Views.{known_in, seen};
 
 use crate::fault::earlier;
 use crate::judge::{initial_fault, judge_whole, number_fault, test_fault};

@@ -1,7 +1,7 @@
 //! The functions that a program may call.
 ghost use Rattle.std.specs.Prelude.{◌≡◌};
 ghost use Rattle.arc_check.specs.Scopes as scopes;
-ghost use Rattle.arc_check.specs.Views.{known_in};
+ghost use Rattle.arc_check.specs.private.Views.{known_in};
 
 use arc_ast::tree::Kind;
 use arc_class::table::{ClassTable, Declared};

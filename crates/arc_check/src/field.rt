@@ -5,7 +5,7 @@ ghost use Rattle.arc_class.specs.Table.{number_of_class};
 ghost use Rattle.arc_check.specs.Fault.{told};
 ghost use Rattle.arc_check.specs.Rules as rules;
 ghost use Rattle.arc_check.specs.Scopes as scopes;
-ghost use Rattle.arc_check.specs.Views.{known_in, seen};
+ghost use Rattle.arc_check.specs.private.Views.{known_in, seen};
 
 use crate::scope::Visible;
 use arc_ast::tree::{Kind, Visibility};

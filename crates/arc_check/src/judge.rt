@@ -8,12 +8,12 @@ ghost use Rattle.arc_class.specs.declared.table.ClassTable.{ClassTable};
 ghost use Rattle.arc_class.specs.Table.{number_of_class};
 ghost use Rattle.arc_check.specs.Fault.{told};
 ghost use Rattle.arc_check.specs.Formats.{wanted};
-ghost use Rattle.arc_check.specs.Judging.{Judges, JudgesWhole, JudgesAll, JudgesCall, counted};
+ghost use Rattle.arc_check.specs.private.Judging.{Judges, JudgesWhole, JudgesAll, JudgesCall, counted};
 ghost use Rattle.arc_check.specs.Rules as rules;
-ghost use Rattle.arc_check.specs.Rules.{broken_whole, kind_if, no_left, no_number, no_right, no_value, unless};
+ghost use Rattle.arc_check.specs.Rules.{kind_if, no_left, no_number, no_right, no_value, unless};
 ghost use Rattle.arc_check.specs.Scopes as scopes;
 ghost use Rattle.arc_check.specs.declared.scope.Visible.{Visible};
-ghost use Rattle.arc_check.specs.Views.{known_in, seen};
+ghost use Rattle.arc_check.specs.private.Views.{known_in, seen};
 
 use crate::callee::{Callee, callee_of, result_kind};
 use crate::fault::earlier;

@@ -4,7 +4,7 @@ ghost use Rattle.arc_ast.specs.Tree.{expr_tree, type_tree};
 ghost use Rattle.arc_class.specs.declared.table.ClassTable.{ClassTable};
 ghost use Rattle.arc_class.specs.Table.{number_of_class};
 ghost use Rattle.arc_check.specs.Scopes as scopes;
-ghost use Rattle.arc_check.specs.Views.{known_in, seen};
+ghost use Rattle.arc_check.specs.private.Views.{known_in, seen};
 
 use crate::field::is_variable;
 use crate::scope::Visible;

@@ -5,7 +5,7 @@ ghost use Rattle.arc_class.specs.Broken.{first};
 ghost use Rattle.arc_class.specs.Table.{number_of_class};
 ghost use Rattle.arc_check.specs.Fault.{told};
 ghost use Rattle.arc_check.specs.Rules.{broken_head, broken_heads, broken_interfaces, broken_method, broken_methods, broken_implementations};
-ghost use Rattle.arc_check.specs.Views.{known_in};
+ghost use Rattle.arc_check.specs.private.Views.{known_in};
 
 use crate::body::{count_fault, inside, is_void};
 use crate::fault::earlier;

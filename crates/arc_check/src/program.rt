@@ -4,12 +4,12 @@ ghost use Rattle.arc_ast.specs.Tree.{expr_tree, type_tree, variable_trees, param
 ghost use Rattle.arc_class.specs.Table.{number_of_class};
 ghost use Rattle.arc_spec.specs.Resolved.{Sequence, Choose, Repeat};
 ghost use Rattle.arc_spec.specs.Resolved as spec;
-ghost use Rattle.arc_check.specs.Building.{ahead_of, function_of, functions_ahead, resolution};
+ghost use Rattle.arc_check.specs.private.Building.{ahead_of, function_of, functions_ahead, resolution};
 ghost use Rattle.arc_check.specs.Checked as checked;
 ghost use Rattle.arc_check.specs.Resolving as resolving;
 ghost use Rattle.arc_check.specs.Resolving.{as_int, resolved_variables, resolved_stmt, resolved_stmts, resolved_body, resolved_functions, with_methods, resolved_methods};
 ghost use Rattle.arc_check.specs.Scopes.{declare, leave, behind, behind_all, with_parameters, with_variables};
-ghost use Rattle.arc_check.specs.Views.{known_in, seen};
+ghost use Rattle.arc_check.specs.private.Views.{known_in, seen};
 
 use crate::body::named_parameters;
 use crate::checked::{CheckedFunction, Command, Value};

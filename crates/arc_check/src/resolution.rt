@@ -2,12 +2,12 @@
 ghost use Rattle.std.specs.Prelude.{◌≡◌, Option, Some, None, option_map, IfOk};
 ghost use Rattle.arc_ast.specs.Tree.{expr_tree, Name};
 ghost use Rattle.arc_class.specs.Table.{number_of_class, number_of_selector};
-ghost use Rattle.arc_check.specs.Building.{resolution};
+ghost use Rattle.arc_check.specs.private.Building.{resolution};
 ghost use Rattle.arc_check.specs.Checked as checked;
 ghost use Rattle.arc_check.specs.Kinds as kinds;
 ghost use Rattle.arc_check.specs.Resolving as resolving;
 ghost use Rattle.arc_check.specs.Resolving.{resolved};
-ghost use Rattle.arc_check.specs.Views.{local_of};
+ghost use Rattle.arc_check.specs.private.Views.{local_of};
 
 use crate::checked::{Reference, Value};
 use crate::rule::{is_object, wider};

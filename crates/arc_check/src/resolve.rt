@@ -2,13 +2,13 @@
 ghost use Rattle.std.specs.Prelude.{◌≡◌, ℕ, List, Option, Some, None, option_map, IfOk};
 ghost use Rattle.arc_ast.specs.Tree.{ExprTree, type_tree, expr_tree, expr_trees, Integer, Text, Name, Negate, Plus, Cast, Binary, Arrow, Assign, Call, Send, SendSuper};
 ghost use Rattle.arc_class.specs.Table.{number_of_class};
-ghost use Rattle.arc_check.specs.Building.{Resolves, printing, resolution};
+ghost use Rattle.arc_check.specs.private.Building.{Resolves, printing, resolution};
 ghost use Rattle.arc_check.specs.Checked as checked;
 ghost use Rattle.arc_check.specs.Resolving as resolving;
 ghost use Rattle.arc_check.specs.Resolving.{as_int, resolved, resolved_all};
 ghost use Rattle.arc_check.specs.Scopes as scopes;
 ghost use Rattle.arc_check.specs.declared.scope.Visible.{Visible};
-ghost use Rattle.arc_check.specs.Views.{local_of, seen};
+ghost use Rattle.arc_check.specs.private.Views.{local_of, seen};
 
 use crate::callee::{Callee, callee_of, result_kind};
 use crate::checked::{Reference, Value};

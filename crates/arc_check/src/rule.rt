@@ -8,7 +8,7 @@ ghost use Rattle.arc_check.specs.Fault.{told};
 ghost use Rattle.arc_check.specs.Kinds as kinds;
 ghost use Rattle.arc_check.specs.Rules as rules;
 ghost use Rattle.arc_check.specs.Rules.{broken_at, no_left, no_number, no_right, no_value, number_kind, other_rule};
-ghost use Rattle.arc_check.specs.Views.{seen};
+ghost use Rattle.arc_check.specs.private.Views.{seen};
 
 use crate::callee::Callee;
 use crate::scope::Visible;
@@ -16,7 +16,7 @@ use arc_ast::tree::{BinaryOperator, Expr, Kind};
 use arc_fault::check::CheckFault;
 
 /// The largest int.
-const LARGEST_INT: i64 = 2147483647;
+const LARGEST_INT: i64 = 2_147_483_647;
 
 /// The kind of an integer literal.
 pub fn literal_kind(number: i64) -> Kind

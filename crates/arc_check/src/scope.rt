@@ -1,10 +1,10 @@
 //! The variables that are visible at a place of a body.
-ghost use Rattle.std.specs.Prelude.{◌≡◌, ◌+◌, ◌<◌, true, [], option_map, IfOk, OnOk, take, length, if◌then◌else◌};
+ghost use Rattle.std.specs.Prelude.{◌≡◌, ◌+◌, ◌<◌, true, option_map, OnOk, take, length, if◌then◌else◌};
 ghost use Rattle.arc_class.specs.declared.table.ClassTable.{ClassTable};
 ghost use Rattle.arc_class.specs.Table.{number_of_class};
 ghost use Rattle.arc_ast.specs.Tree.{Int, type_tree, parameter_trees};
 ghost use Rattle.arc_check.specs.Scopes as scopes;
-ghost use Rattle.arc_check.specs.Views.{local_of, local_in, known_in, seen};
+ghost use Rattle.arc_check.specs.private.Views.{local_of, local_in, known_in, seen};
 
 use arc_ast::tree::{Parameter, Sign, TypeName};
 use arc_class::table::{ClassId, ClassTable};

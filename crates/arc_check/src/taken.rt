@@ -2,7 +2,7 @@
 ghost use Rattle.std.specs.Prelude.{◌≡◌, option_map};
 ghost use Rattle.arc_class.specs.Broken.{first};
 ghost use Rattle.arc_check.specs.Fault.{told};
-ghost use Rattle.arc_check.specs.Judging.{counted, none_counted, one_counted};
+ghost use Rattle.arc_check.specs.private.Judging.{counted, none_counted, one_counted};
 ghost use Rattle.arc_check.specs.Rules.{at_if, one_too_many};
 
 use arc_fault::check::CheckFault;

@@ -1,12 +1,13 @@
 -- The maps of classes, added in turn, tell the nearest class that has a name.
-use Rattle.std.proofs.Common.{◌≡◌, ℕ, zero, suc, ◌+◌, ◌-◌, ◌<◌, ◌≤◌, ◌⊎◌, inl, inr, Bool, true, List, [], ◌∷◌, ◌++◌, length, map, Option, Some, None, option_map, is_some, slice_get, IfSome, if◌then◌else◌, refl, sym, ap, subst, ◌∙◌, true≢false, arith}
+use Rattle.std.proofs.Common.{◌≡◌, ℕ, zero, suc, ◌-◌, ◌<◌, ◌≤◌, ◌⊎◌, inl, inr, Bool, true, List, [], ◌∷◌, ◌++◌, length, map, Option, Some, None, option_map, is_some, slice_get, IfSome, if◌then◌else◌, refl, sym, ap, subst, ◌∙◌, true≢false, arith}
 use Rattle.std.proofs.Math.Path.{fun_ext}
 use Rattle.std.proofs.lemmas.Option.{slice_get-map, slice_get_within}
+use Rattle.arc_spec.specs.Classes.{and_above, ancestry, ancestry_within, first_that_has}
 use Rattle.arc_class.specs.declared.owners.Map.{Map}
 use Rattle.arc_class.specs.declared.owners.Maps.{Maps}
 use Rattle.arc_class.specs.declared.owners.Owners.{Owners}
 use Rattle.arc_class.specs.declared.numbered.TheConstants.{LEVELS}
-use Rattle.arc_class.specs.Classes.{or_then, nearest, number_among}
+use Rattle.arc_class.specs.Classes.{or_else, number_among}
 use Rattle.arc_class.specs.Numbered.{at_number, IsWithin}
 use Rattle.arc_class.specs.Owners.{names_in, at_number_of, in_map, IsMap, Keeps, Adds, view_of, views, IsOwners, joined, view_at, has_at, with_own, own_of, owner_by, Tells}
 use Rattle.arc_class.proofs.Digits.{none_within, at_none}
@@ -25,7 +26,7 @@ empty_is_map maps map e = record {
 }
 
 pub empty_view : (maps : Maps) (otherwise : Option ℕ) → in_map maps (record { first = None; otherwise = otherwise }) ≡ (λ name. otherwise)
-empty_view maps otherwise = fun_ext (λ name. ap (λ o. or_then o otherwise) (nothing_at maps (number_among (names_in maps) name)))
+empty_view maps otherwise = fun_ext (λ name. ap (λ o. or_else o otherwise) (nothing_at maps (number_among (names_in maps) name)))
 
 -- ---- one class more
 
@@ -75,82 +76,87 @@ own_view old new m made passes class view a e = ap Some (fun_ext a.found) ∙ ap
 
 -- ---- from a class up
 
--- `Tells`, for any number of classes that are looked at, if it is at least the class's own number
-abbrev pub Follows : {X : Type 0} → (above : ℕ → Option ℕ) → (own : ℕ → List ℕ → Option X) → List (Option (List ℕ → Option ℕ)) → Type 0
-Follows above own all = (class : ℕ) (view : List ℕ → Option ℕ) → slice_get all class ≡ Some (Some view) → (n : ℕ) → class ≤ n → (name : List ℕ)
-    → nearest n above (λ c. own c name) (Some class) ≡ own_of (λ c. own c name) (view name)
+-- `Tells`, for any number of classes that are looked at, if it is more than the class's own number
+abbrev pub Follows : {X : Type 0} → (superclasses : List (Option ℕ)) → (own : ℕ → List ℕ → Option X) → List (Option (List ℕ → Option ℕ)) → Type 0
+Follows superclasses own all = (class : ℕ) (view : List ℕ → Option ℕ) → slice_get all class ≡ Some (Some view) → (n : ℕ) → class < n → (name : List ℕ)
+    → first_that_has (λ c. own c name) (ancestry_within n superclasses (Some class)) ≡ own_of (λ c. own c name) (view name)
 
-module _ {X : Type 0} (above : ℕ → Option ℕ) (own : ℕ → List ℕ → Option X) (all : List (Option (List ℕ → Option ℕ))) where
-  pub tells_all : (count : ℕ) → length all ≤ count + 1 → Follows above own all → Tells count above own all
-  tells_all count few f class view e name =
+module _ {X : Type 0} (superclasses : List (Option ℕ)) (own : ℕ → List ℕ → Option X) (all : List (Option (List ℕ → Option ℕ))) where
+  pub tells_all : length all ≤ length superclasses → Follows superclasses own all → Tells superclasses own all
+  tells_all few f class view e name =
       let within : class < length all = slice_get_within all class (Some view) e in
-      f class view e count (omega arith) name
+      f class view e (length superclasses) (omega arith) name
+
+  -- a class, and what is nearest above it
+  class_first : (n class : ℕ) (name : List ℕ) (superclass : Option ℕ) → slice_get superclasses class ≡ Some superclass
+      → first_that_has (λ c. own c name) (ancestry_within (suc n) superclasses (Some class)) ≡ or_else (own class name) (first_that_has (λ c. own c name) (ancestry_within n superclasses superclass))
+  class_first n class name superclass e = ap (λ s. first_that_has (λ c. own c name) (and_above class s (λ above. ancestry_within n superclasses above))) e
 
   -- with nothing above it, a class has only its own
-  no_more : (n : ℕ) (class : ℕ) (name : List ℕ) → above class ≡ None → nearest n above (λ c. own c name) (Some class) ≡ own class name
-  no_more zero class name e = refl
-  no_more (suc n) class name e = ap (λ o. or_then (own class name) (nearest n above (λ c. own c name) o)) e ∙ go n
-    where
-      go : (n : ℕ) → or_then (own class name) (nearest n above (λ c. own c name) None) ≡ own class name
-      go zero = or_none (own class name)
-      go (suc n) = or_none (own class name)
+  no_more : (n class : ℕ) (name : List ℕ) → slice_get superclasses class ≡ Some None → first_that_has (λ c. own c name) (ancestry_within (suc n) superclasses (Some class)) ≡ own class name
+  no_more n class name e =
+      class_first n class name None e ∙ or_none (own class name)
 
   -- the root has all names
-  pub follows_root : all ≡ [] → above 0 ≡ None → Follows above own (all ++ Some (λ name. Some 0) ∷ [])
-  follows_root e top class view at n le name = go (pushed_get all (Some (λ name. Some 0)) (Some view) class at)
+  pub follows_root : all ≡ [] → slice_get superclasses 0 ≡ Some None → Follows superclasses own (all ++ Some (λ name. Some 0) ∷ [])
+  follows_root e top class view at n lt name = go (pushed_get all (Some (λ name. Some 0)) (Some view) class at)
     where
-      go : (slice_get all class ≡ Some (Some view)) ⊎ ((class ≡ length all) × (Some (λ (name : List ℕ). Some 0) ≡ Some view)) → nearest n above (λ c. own c name) (Some class) ≡ own_of (λ c. own c name) (view name)
+      go : (slice_get all class ≡ Some (Some view)) ⊎ ((class ≡ length all) × (Some (λ (name : List ℕ). Some 0) ≡ Some view))
+          → first_that_has (λ c. own c name) (ancestry_within n superclasses (Some class)) ≡ own_of (λ c. own c name) (view name)
       go (inl h) =
           let none : None ≡ Some (Some view) = ap (λ vs. slice_get vs class) (sym e) ∙ h in
           cc
       go (inr h) =
           let first : class ≡ 0 = h.0 ∙ ap length e in
           let same : Some 0 ≡ view name = ap (λ o. has_at o name) h.1 in
-          ap (λ c. nearest n above (λ c. own c name) (Some c)) first ∙ no_more n 0 name top ∙ ap (own_of (λ c. own c name)) same
+          let fuel : n ≡ suc (n - 1) = omega (arith, lt) in
+          ap (λ m. first_that_has (λ c. own c name) (ancestry_within m superclasses (Some class))) fuel
+          ∙ ap (λ c. first_that_has (λ c. own c name) (ancestry_within (suc (n - 1)) superclasses (Some c))) first ∙ no_more (n - 1) 0 name top ∙ ap (own_of (λ c. own c name)) same
 
   -- a class whose superclass stands before it
-  module _ (passes : List ℕ → Bool) (has : (name : List ℕ) → passes name ≡ is_some (own (length all) name)) (f : Follows above own all) where
+  module _ (passes : List ℕ → Bool) (has : (name : List ℕ) → passes name ≡ is_some (own (length all) name)) (f : Follows superclasses own all) where
     abbrev class : ℕ
     class = length all
 
     -- a class's own, or what is above it, is what its map names
     chosen : (name : List ℕ) (rest : Option X) (further : Option ℕ) → rest ≡ own_of (λ c. own c name) further
-        → or_then (own class name) rest ≡ own_of (λ c. own c name) (if passes name then Some class else further)
+        → or_else (own class name) rest ≡ own_of (λ c. own c name) (if passes name then Some class else further)
     chosen name rest further e = go (own class name) refl
       where
-        go : (o : Option X) → own class name ≡ o → or_then o rest ≡ own_of (λ c. own c name) (if passes name then Some class else further)
+        go : (o : Option X) → own class name ≡ o → or_else o rest ≡ own_of (λ c. own c name) (if passes name then Some class else further)
         go None h = e ∙ sym (ap (λ b. own_of (λ c. own c name) (if b then Some class else further)) (has name ∙ ap is_some h))
         go (Some x) h = sym (ap (λ b. own_of (λ c. own c name) (if b then Some class else further)) (has name ∙ ap is_some h) ∙ h)
 
-    -- the map of the class behind all others follows it up
-    further_up : (superclass : Option ℕ) → above class ≡ superclass → (view : List ℕ → Option ℕ) → with_own passes class (view_at all superclass) ≡ Some view
-        → (n : ℕ) → class ≤ n → (name : List ℕ) → nearest n above (λ c. own c name) (Some class) ≡ own_of (λ c. own c name) (view name)
+    -- the map of the class after all others follows it up
+    further_up : (superclass : Option ℕ) → slice_get superclasses class ≡ Some superclass → (view : List ℕ → Option ℕ) → with_own passes class (view_at all superclass) ≡ Some view
+        → (n : ℕ) → class ≤ n → (name : List ℕ) → first_that_has (λ c. own c name) (ancestry_within (suc n) superclasses (Some class)) ≡ own_of (λ c. own c name) (view name)
     further_up None up view e n le name =
         let same : (if passes name then Some class else None) ≡ view name = ap (λ o. has_at o name) e in
         no_more n class name up ∙ sym (or_none (own class name)) ∙ chosen name None None refl ∙ ap (own_of (λ c. own c name)) same
     further_up (Some s) up view e n le name = go (slice_get all s) refl e
       where
-        go : (o : Option (Option (List ℕ → Option ℕ))) → slice_get all s ≡ o → with_own passes class (joined o) ≡ Some view → nearest n above (λ c. own c name) (Some class) ≡ own_of (λ c. own c name) (view name)
+        go : (o : Option (Option (List ℕ → Option ℕ))) → slice_get all s ≡ o → with_own passes class (joined o) ≡ Some view
+            → first_that_has (λ c. own c name) (ancestry_within (suc n) superclasses (Some class)) ≡ own_of (λ c. own c name) (view name)
         go None h e = cc
         go (Some None) h e = cc
         go (Some (Some higher)) h e =
             let within : s < class = slice_get_within all s (Some higher) h in
-            let m : ℕ = n - 1 in
-            let fuel : n ≡ suc m = omega arith in
             let same : (if passes name then Some class else higher name) ≡ view name = ap (λ o. has_at o name) e in
-            ap (λ k. nearest k above (λ c. own c name) (Some class)) fuel
-            ∙ ap (λ o. or_then (own class name) (nearest m above (λ c. own c name) o)) up
-            ∙ chosen name (nearest m above (λ c. own c name) (Some s)) (higher name) (f s higher h m (omega arith) name)
+            class_first n class name (Some s) up
+            ∙ chosen name (first_that_has (λ c. own c name) (ancestry_within n superclasses (Some s))) (higher name) (f s higher h n (omega arith) name)
             ∙ ap (own_of (λ c. own c name)) same
 
-    pub follows_class : (superclass : Option ℕ) → above class ≡ superclass → Follows above own (all ++ with_own passes class (view_at all superclass) ∷ [])
-    follows_class superclass up at view e n le name = go (pushed_get all (with_own passes class (view_at all superclass)) (Some view) at e)
+    pub follows_class : (superclass : Option ℕ) → slice_get superclasses class ≡ Some superclass → Follows superclasses own (all ++ with_own passes class (view_at all superclass) ∷ [])
+    follows_class superclass up at view e n lt name = go (pushed_get all (with_own passes class (view_at all superclass)) (Some view) at e)
       where
-        go : (slice_get all at ≡ Some (Some view)) ⊎ ((at ≡ length all) × (with_own passes class (view_at all superclass) ≡ Some view)) → nearest n above (λ c. own c name) (Some at) ≡ own_of (λ c. own c name) (view name)
-        go (inl h) = f at view h n le name
+        go : (slice_get all at ≡ Some (Some view)) ⊎ ((at ≡ length all) × (with_own passes class (view_at all superclass) ≡ Some view))
+            → first_that_has (λ c. own c name) (ancestry_within n superclasses (Some at)) ≡ own_of (λ c. own c name) (view name)
+        go (inl h) = f at view h n lt name
         go (inr h) =
-            let here : class ≤ n = omega (arith, h.0) in
-            ap (λ c. nearest n above (λ c. own c name) (Some c)) h.0 ∙ further_up superclass up view h.1 n here name
+            let here : class ≤ n - 1 = omega (arith, h.0, lt) in
+            let fuel : n ≡ suc (n - 1) = omega (arith, lt) in
+            ap (λ m. first_that_has (λ c. own c name) (ancestry_within m superclasses (Some at))) fuel
+            ∙ ap (λ c. first_that_has (λ c. own c name) (ancestry_within (suc (n - 1)) superclasses (Some c))) h.0 ∙ further_up superclass up view h.1 (n - 1) here name
 
 -- ---- what is kept of a class
 
@@ -174,28 +180,28 @@ owned_again {X} own (Some c) = go (own c) refl
     go None e = sym e
     go (Some a) e = refl
 
-nearest_owner : {X : Type 0} (n : ℕ) (above : ℕ → Option ℕ) (own : ℕ → Option X) (from : Option ℕ) → nearest n above own from ≡ own_of own (nearest n above (λ c. option_map (λ found. c) (own c)) from)
-nearest_owner zero above own None = refl
-nearest_owner (suc n) above own None = refl
-nearest_owner zero above own (Some c) = sym (owned_again own (Some c))
-nearest_owner {X} (suc n) above own (Some c) = go (own c) refl (nearest_owner n above own (above c))
+first_owner : {X : Type 0} (own : ℕ → Option X) (classes : List ℕ) → first_that_has own classes ≡ own_of own (first_that_has (λ c. option_map (λ found. c) (own c)) classes)
+first_owner own [] = refl
+first_owner {X} own (c ∷ others) = go (own c) refl (first_owner own others)
   where
-    go : (x : Option X) → own c ≡ x → nearest n above own (above c) ≡ own_of own (nearest n above (λ c. option_map (λ found. c) (own c)) (above c))
-        → or_then x (nearest n above own (above c)) ≡ own_of own (or_then (option_map (λ found. c) x) (nearest n above (λ c. option_map (λ found. c) (own c)) (above c)))
+    go : (x : Option X) → own c ≡ x → first_that_has own others ≡ own_of own (first_that_has (λ c. option_map (λ found. c) (own c)) others)
+        → or_else x (first_that_has own others) ≡ own_of own (or_else (option_map (λ found. c) x) (first_that_has (λ c. option_map (λ found. c) (own c)) others))
     go None e h = h
     go (Some a) e h = sym e
 
-told_nearest : {X : Type 0} (count : ℕ) (above : ℕ → Option ℕ) (own : ℕ → List ℕ → Option X) (all : List (Option (List ℕ → Option ℕ))) → Tells count above (owner_by own) all
-    → (number : ℕ) (view : List ℕ → Option ℕ) → slice_get all number ≡ Some (Some view) → (name : List ℕ) → nearest count above (λ c. own c name) (Some number) ≡ own_of (λ c. own c name) (view name)
-told_nearest count above own all t number view e name =
-    nearest_owner count above (λ c. own c name) (Some number) ∙ ap (own_of (λ c. own c name)) (t number view e name) ∙ owned_again (λ c. own c name) (view name)
+told_nearest : {X : Type 0} (superclasses : List (Option ℕ)) (own : ℕ → List ℕ → Option X) (all : List (Option (List ℕ → Option ℕ))) → Tells superclasses (owner_by own) all
+    → (number : ℕ) (view : List ℕ → Option ℕ) → slice_get all number ≡ Some (Some view) → (name : List ℕ)
+    → first_that_has (λ c. own c name) (ancestry superclasses (Some number)) ≡ own_of (λ c. own c name) (view name)
+told_nearest superclasses own all t number view e name =
+    first_owner (λ c. own c name) (ancestry superclasses (Some number)) ∙ ap (own_of (λ c. own c name)) (t number view e name) ∙ owned_again (λ c. own c name) (view name)
 
-pub told_at : {X : Type 0} (count : ℕ) (above : ℕ → Option ℕ) (own : ℕ → List ℕ → Option X) (all : List (Option (List ℕ → Option ℕ))) → Tells count above (owner_by own) all
+pub told_at : {X : Type 0} (superclasses : List (Option ℕ)) (own : ℕ → List ℕ → Option X) (all : List (Option (List ℕ → Option ℕ))) → Tells superclasses (owner_by own) all
     → (number : ℕ) → is_some (view_at all (Some number)) ≡ true → (name : List ℕ) (found : Option ℕ) → found ≡ has_at (view_at all (Some number)) name
-    → own_of (λ c. own c name) found ≡ nearest count above (λ c. own c name) (Some number)
-told_at {X} count above own all t number known name found is = ap (own_of (λ c. own c name)) is ∙ go (slice_get all number) refl known
+    → own_of (λ c. own c name) found ≡ first_that_has (λ c. own c name) (ancestry superclasses (Some number))
+told_at {X} superclasses own all t number known name found is = ap (own_of (λ c. own c name)) is ∙ go (slice_get all number) refl known
   where
-    go : (o : Option (Option (List ℕ → Option ℕ))) → slice_get all number ≡ o → is_some (joined o) ≡ true → own_of (λ c. own c name) (has_at (joined o) name) ≡ nearest count above (λ c. own c name) (Some number)
+    go : (o : Option (Option (List ℕ → Option ℕ))) → slice_get all number ≡ o → is_some (joined o) ≡ true
+        → own_of (λ c. own c name) (has_at (joined o) name) ≡ first_that_has (λ c. own c name) (ancestry superclasses (Some number))
     go None e h = absurd (true≢false (sym h))
     go (Some None) e h = absurd (true≢false (sym h))
-    go (Some (Some view)) e h = sym (told_nearest count above own all t number view e name)
+    go (Some (Some view)) e h = sym (told_nearest superclasses own all t number view e name)

@@ -1,66 +1,124 @@
 -- The fields of classes, a class at a time.
-use Rattle.std.proofs.Common.{◌≡◌, ℕ, zero, suc, ◌+◌, ◌-◌, ◌<◌, ◌≤◌, Bool, true, false, nat_eq, List, [], ◌∷◌, ◌++◌, length, map, nat_lt, slice_get, Option, Some, None, option_map, Vec, Global, if◌then◌else◌, refl, sym, ap, ◌∙◌, arith}
+use Rattle.std.proofs.Common.{◌≡◌, ℕ, zero, suc, ◌+◌, ◌<◌, ◌≤◌, Bool, true, false, List, [], ◌∷◌, ◌++◌, length, map, reverse, nat_lt, slice_get, Option, Some, None, option_map, Vec, Global, if◌then◌else◌, refl, sym, ap, subst, ◌∙◌, arith}
 use Rattle.std.proofs.Math.Path.{fun_ext}
+use Rattle.std.proofs.lemmas.Bool.{lt-ltb, le-ltb}
 use Rattle.std.proofs.lemmas.Bool.Decides.{nat_tests, Decides-ltb}
-use Rattle.std.proofs.lemmas.List.{length-map, length-append}
-use Rattle.std.proofs.lemmas.Option.{slice_get-map, none-some}
+use Rattle.std.proofs.lemmas.Grind.{reverse_onto}
+use Rattle.std.proofs.lemmas.List.{append-nil, length-map, length-append}
+use Rattle.std.proofs.lemmas.List.Concat.{flat_map-append}
+use Rattle.std.proofs.lemmas.Option.{slice_get-map, slice_get_within, none-some}
+use Rattle.std.specs.List.{flat_map}
 use Rattle.std.specs.BTreeMap.{BTreeMap}
 use Rattle.std.specs.Borrow.{Bor}
 use Rattle.std.specs.Str.{bytes_eq}
 use Rattle.arc_ast.specs.Tree.{FieldTree, InterfaceTree, UnitTree}
+use Rattle.arc_spec.specs.Classes.{and_above, ancestry, ancestry_within, first_that_has}
 use Rattle.arc_class.specs.declared.fields.ClassFields.{ClassFields}
 use Rattle.arc_class.specs.declared.table.Field.{Field}
 use Rattle.arc_class.specs.declared.table.FoundField.{FoundField}
-use Rattle.arc_class.specs.ClassRules.{field_place, least, inherited_place}
-use Rattle.arc_class.specs.Classes.{class_number, superclass, superclass_of, or_then, nearest}
+use Rattle.arc_class.specs.ClassRules.{field_place, least_among, inherited_place}
+use Rattle.arc_class.specs.Classes.{class_number, superclass, superclass_of, superclasses, or_else}
 use Rattle.arc_class.specs.Entries.{FieldsTree, fields_tree, root_fields, class_fields, class_fields_from, class_fields_with, all_class_fields, count_at, count_among}
-use Rattle.arc_class.specs.Fields.{ClassField, fields_declared, fields_of, own_fields, owned, fields_below, inherited_below, fields, all_fields_from, inherited, numbered, own_field, known_field}
+use Rattle.arc_class.specs.Fields.{ClassField, fields_declared, fields_of, own_fields, owned, if_before, earlier_superclasses_from, earlier_superclasses, own_class_fields, fields_from, inherited_by, fields, all_fields_from, inherited, numbered, own_field, known_field}
 use Rattle.arc_class.specs.Table.{at_name, own_field_in, own_place_in, superclass_of_fields, field_among, place_among, list_of, list_at, list_among}
 use Rattle.arc_class.proofs.Parts.{kept_none}
-use Rattle.arc_class.proofs.Leasts.{least_same, nearest_least}
-use Rattle.arc_class.proofs.Results.{nearest_same}
+use Rattle.arc_class.proofs.Leasts.{nothing_least}
 
-same : (n : ℕ) → nat_eq n n ≡ true
-same n = grind (arith, nat_tests)
+-- ---- the superclasses that stand before their classes
 
-apart : (c n : ℕ) → c < n → nat_eq c n ≡ false
-apart c n l = grind (arith, nat_tests)
+before_is : (class : ℕ) (superclass : Option ℕ) (above : ℕ) → if_before class superclass ≡ Some above → above < class
+before_is class None above e = absurd (none-some _ e)
+before_is class (Some other) above e = go (nat_lt other class) refl e
+  where
+    go : (b : Bool) → nat_lt other class ≡ b → (if b then Some other else None) ≡ Some above → above < class
+    go true t e =
+        let same : other ≡ above = cc in
+        subst (λ n. n < class) same ((Decides-ltb other class).0 t)
+    go false t e = absurd (none-some _ e)
 
--- ---- classes with lower numbers
+before_at : (interfaces : List InterfaceTree) (first : ℕ) (is : List InterfaceTree) (n : ℕ)
+    → slice_get (earlier_superclasses_from interfaces first is) n ≡ option_map (λ i. if_before (first + n) (class_number interfaces i.superclass)) (slice_get is n)
+before_at interfaces first [] n = refl
+before_at interfaces first (i ∷ is) zero = ap (λ m. Some (if_before m (class_number interfaces i.superclass))) (omega arith)
+before_at interfaces first (i ∷ is) (suc n) =
+    let e : suc first + n ≡ first + suc n = omega arith in
+    before_at interfaces (suc first) is n ∙ ap (λ m. option_map (λ i. if_before m (class_number interfaces i.superclass)) (slice_get is n)) e
 
-here : (n : ℕ) (u : UnitTree) → fields_below (suc n) u n ≡ inherited_below n u (superclass u.interfaces n) ++ map (owned n) (own_fields u n)
-here n u = ap (λ b. if b then inherited_below n u (superclass u.interfaces n) ++ map (owned n) (own_fields u n) else fields_below n u n) (same n)
+before_count : (interfaces : List InterfaceTree) (first : ℕ) (is : List InterfaceTree) → length (earlier_superclasses_from interfaces first is) ≡ length is
+before_count interfaces first [] = refl
+before_count interfaces first (i ∷ is) = ap (λ n. suc n) (before_count interfaces (suc first) is)
 
-further : (n : ℕ) (u : UnitTree) (class : ℕ) → class < n → fields_below (suc n) u class ≡ fields_below n u class
-further n u class l = ap (λ b. if b then inherited_below n u (superclass u.interfaces n) ++ map (owned n) (own_fields u n) else fields_below n u class) (apart class n l)
+module _ (interfaces : List InterfaceTree) where
+  abbrev chain : List (Option ℕ)
+  chain = earlier_superclasses interfaces
 
--- more classes may be looked at
-pub fields_more : (d : ℕ) (u : UnitTree) (class : ℕ) → fields_below (suc class + d) u class ≡ fields u class
-fields_more zero u class =
-    let e : suc class + 0 ≡ suc class = omega arith in
-    ap (λ n. fields_below n u class) e
-fields_more (suc d) u class =
-    let e : suc class + suc d ≡ suc (suc class + d) = omega arith in
-    ap (λ n. fields_below n u class) e ∙ further (suc class + d) u class (omega arith) ∙ fields_more d u class
+  -- the class of an interface, and a class that there isn't
+  chain_here : (n : ℕ) (i : InterfaceTree) → slice_get interfaces n ≡ Some i → slice_get chain (suc n) ≡ Some (if_before (suc n) (class_number interfaces i.superclass))
+  chain_here n i e = before_at interfaces 1 interfaces n ∙ ap (option_map (λ i. if_before (1 + n) (class_number interfaces i.superclass))) e ∙ ap (λ m. Some (if_before m (class_number interfaces i.superclass))) (omega arith)
 
-pub fields_among : (n : ℕ) (u : UnitTree) (class : ℕ) → class < n → fields_below n u class ≡ fields u class
-fields_among n u class l =
-    let e : n ≡ suc class + (n - suc class) = omega (arith, l) in
-    ap (λ m. fields_below m u class) e ∙ fields_more (n - suc class) u class
+  chain_past : (n : ℕ) → slice_get interfaces n ≡ None → slice_get chain (suc n) ≡ None
+  chain_past n e = before_at interfaces 1 interfaces n ∙ ap (option_map (λ i. if_before (1 + n) (class_number interfaces i.superclass))) e
 
--- and a class that stands behind them has none
-pub fields_past : (n : ℕ) (u : UnitTree) (class : ℕ) → n ≤ class → fields_below n u class ≡ []
-fields_past zero u class l = refl
-fields_past (suc n) u class l =
-    let e : nat_eq class n ≡ false = grind (arith, nat_tests) in
-    ap (λ b. if b then inherited_below n u (superclass u.interfaces n) ++ map (owned n) (own_fields u n) else fields_below n u class) e ∙ fields_past n u class (omega (arith, l))
+  chain_falls : (class above : ℕ) → slice_get chain class ≡ Some (Some above) → above < class
+  chain_falls zero above e = cc
+  chain_falls (suc n) above e = go (slice_get interfaces n) refl
+    where
+      go : (o : Option InterfaceTree) → slice_get interfaces n ≡ o → above < suc n
+      go None h = absurd (none-some _ (sym (chain_past n h) ∙ e))
+      go (Some i) h =
+          let is : Some (if_before (suc n) (class_number interfaces i.superclass)) ≡ Some (Some above) = sym (chain_here n i h) ∙ e in
+          let same : if_before (suc n) (class_number interfaces i.superclass) ≡ Some above = cc in
+          before_is (suc n) (class_number interfaces i.superclass) above same
 
--- the fields of a class are those that it inherits and its own
-pub fields_here : (u : UnitTree) (class : ℕ) → fields u class ≡ inherited u class ++ map (owned class) (own_fields u class)
-fields_here u class = here class u
+  -- more classes may be looked at
+  chain_more : (n m class : ℕ) → class < n → class < m → ancestry_within n chain (Some class) ≡ ancestry_within m chain (Some class)
+  chain_more zero m class l k = absurd (omega (arith, l))
+  chain_more (suc n) zero class l k = absurd (omega (arith, k))
+  chain_more (suc n) (suc m) class l k =
+      go (slice_get chain class) refl (λ above falls. chain_more n m above (omega (arith, falls, l)) (omega (arith, falls, k)))
+    where
+      go : (o : Option (Option ℕ)) → slice_get chain class ≡ o → ((above : ℕ) → above < class → ancestry_within n chain (Some above) ≡ ancestry_within m chain (Some above))
+          → and_above class (slice_get chain class) (λ above. ancestry_within n chain above) ≡ and_above class (slice_get chain class) (λ above. ancestry_within m chain above)
+      go None e more = rw e refl
+      go (Some None) e more = rw e refl
+      go (Some (Some above)) e more =
+          let falls : above < class = chain_falls class above e in
+          ap (λ o. and_above class o (λ above. ancestry_within n chain above)) e ∙ ap (λ l. class ∷ l) (more above falls)
+          ∙ sym (ap (λ o. and_above class o (λ above. ancestry_within m chain above)) e)
 
-pub fields_root : (u : UnitTree) → fields u 0 ≡ []
-fields_root u = refl
+-- ---- the fields of a class
+
+-- those of the classes above a class, if the class itself is there
+above_fields : (u : UnitTree) (class : ℕ) (superclass : Option ℕ) → class ≤ length u.interfaces
+    → flat_map (own_class_fields u) (reverse (ancestry_within (length u.interfaces) (chain u.interfaces) (if_before class superclass))) ≡ inherited_by u class superclass
+above_fields u class superclass l = go (if_before class superclass) refl
+  where
+    go : (o : Option ℕ) → if_before class superclass ≡ o
+        → flat_map (own_class_fields u) (reverse (ancestry_within (length u.interfaces) (chain u.interfaces) o)) ≡ fields_from u o
+    go None e = refl
+    go (Some above) e =
+        let falls : above < class = before_is class superclass above e in
+        let all : above < length (chain u.interfaces) = omega (arith, falls, l, before_count u.interfaces 1 u.interfaces) in
+        ap (λ classes. flat_map (own_class_fields u) (reverse classes)) (chain_more u.interfaces (length u.interfaces) (length (chain u.interfaces)) above (omega (arith, falls, l)) all)
+
+last_one : {X Y : Type 0} (f : X → List Y) (xs : List X) (x : X) → flat_map f (reverse (x ∷ xs)) ≡ flat_map f (reverse xs) ++ f x
+last_one f xs x = ap (flat_map f) (reverse_onto xs x []) ∙ flat_map-append f (reverse xs) (x ∷ []) ∙ ap (λ ys. flat_map f (reverse xs) ++ ys) (append-nil (f x))
+
+in_chain : (u : UnitTree) (class : ℕ) (superclass : Option ℕ) → class ≤ length u.interfaces → slice_get (chain u.interfaces) class ≡ Some (if_before class superclass)
+    → fields u class ≡ inherited_by u class superclass ++ own_class_fields u class
+in_chain u class superclass l e =
+    let count : length (earlier_superclasses_from u.interfaces 1 u.interfaces) ≡ length u.interfaces = before_count u.interfaces 1 u.interfaces in
+    ap (λ n. flat_map (own_class_fields u) (reverse (ancestry_within (suc n) (chain u.interfaces) (Some class)))) count
+    ∙ ap (λ o. flat_map (own_class_fields u) (reverse (and_above class o (λ above. ancestry_within (length u.interfaces) (chain u.interfaces) above)))) e
+    ∙ last_one (own_class_fields u) (ancestry_within (length u.interfaces) (chain u.interfaces) (if_before class superclass)) class
+    ∙ ap (λ fs. fs ++ own_class_fields u class) (above_fields u class superclass l)
+
+-- those of a class that stands before another are inherited, and of one that doesn't none are
+pub fields_among : (n : ℕ) (u : UnitTree) (class : ℕ) → class < n → inherited_by u n (Some class) ≡ fields u class
+fields_among n u class l = ap (λ b. fields_from u (if b then Some class else None)) (lt-ltb class n l)
+
+pub fields_past : (n : ℕ) (u : UnitTree) (class : ℕ) → n ≤ class → inherited_by u n (Some class) ≡ []
+fields_past n u class l = ap (λ b. fields_from u (if b then Some class else None)) (le-ltb class n l)
 
 -- the class of an interface
 pub superclass_here : (u : UnitTree) (n : ℕ) (i : InterfaceTree) → slice_get u.interfaces n ≡ Some i → superclass u.interfaces (suc n) ≡ class_number u.interfaces i.superclass
@@ -70,15 +128,22 @@ pub own_here : (u : UnitTree) (n : ℕ) (i : InterfaceTree) → slice_get u.inte
 own_here u n i e = ap (fields_of u (suc n)) e
 
 pub class_here : (u : UnitTree) (n : ℕ) (i : InterfaceTree) → slice_get u.interfaces n ≡ Some i
-    → fields u (suc n) ≡ inherited_below (suc n) u (class_number u.interfaces i.superclass) ++ map (owned (suc n)) (fields_declared u (suc n) i)
+    → fields u (suc n) ≡ inherited_by u (suc n) (class_number u.interfaces i.superclass) ++ map (owned (suc n)) (fields_declared u (suc n) i)
 class_here u n i e =
-    fields_here u (suc n) ∙ ap (λ s. inherited_below (suc n) u s ++ map (owned (suc n)) (own_fields u (suc n))) (superclass_here u n i e)
-    ∙ ap (λ fs. inherited_below (suc n) u (class_number u.interfaces i.superclass) ++ map (owned (suc n)) fs) (own_here u n i e)
+    let within : n < length u.interfaces = slice_get_within u.interfaces n i e in
+    in_chain u (suc n) (class_number u.interfaces i.superclass) (omega (arith, within)) (chain_here u.interfaces n i e)
+    ∙ ap (λ fs. inherited_by u (suc n) (class_number u.interfaces i.superclass) ++ map (owned (suc n)) fs) (own_here u n i e)
+
+-- a class that there isn't has none
+class_past : (u : UnitTree) (n : ℕ) → slice_get u.interfaces n ≡ None → fields u (suc n) ≡ []
+class_past u n e =
+    ap (λ n1. flat_map (own_class_fields u) (reverse (ancestry_within (suc n1) (chain u.interfaces) (Some (suc n))))) (before_count u.interfaces 1 u.interfaces)
+    ∙ ap (λ o. flat_map (own_class_fields u) (reverse (and_above (suc n) o (λ above. ancestry_within (length u.interfaces) (chain u.interfaces) above)))) (chain_past u.interfaces n e)
 
 pub class_count : (u : UnitTree) (n : ℕ) (i : InterfaceTree) → slice_get u.interfaces n ≡ Some i → length (fields u (suc n)) ≡ (class_fields u (suc n) i).count
 class_count u n i e =
-    ap length (class_here u n i e) ∙ length-append (inherited_below (suc n) u (class_number u.interfaces i.superclass)) (map (owned (suc n)) (fields_declared u (suc n) i))
-    ∙ ap (λ m. length (inherited_below (suc n) u (class_number u.interfaces i.superclass)) + m) (length-map (fields_declared u (suc n) i) (owned (suc n)))
+    ap length (class_here u n i e) ∙ length-append (inherited_by u (suc n) (class_number u.interfaces i.superclass)) (map (owned (suc n)) (fields_declared u (suc n) i))
+    ∙ ap (λ m. length (inherited_by u (suc n) (class_number u.interfaces i.superclass)) + m) (length-map (fields_declared u (suc n) i) (owned (suc n)))
 
 -- ---- what is known of the fields of classes
 
@@ -96,7 +161,7 @@ whole superclass places named count = record { superclass = superclass; places =
 -- those of a class, by the maps that are made of its fields in two parts
 pub fields_made : (u : UnitTree) (class inherited next count : ℕ) (i : InterfaceTree) (xs ys : List FieldTree) (superclass : Option ℕ) (places : BTreeMap (Bor (List ℕ)) ℕ) (named : BTreeMap (Bor (List ℕ)) FoundField)
     → superclass ≡ class_number u.interfaces i.superclass → xs ++ ys ≡ fields_declared u class i → ((name : List ℕ) → at_name places name ≡ field_place name (xs ++ ys))
-    → ((name : List ℕ) → at_name named name ≡ or_then (numbered class inherited xs name) (numbered class next ys name))
+    → ((name : List ℕ) → at_name named name ≡ or_else (numbered class inherited xs name) (numbered class next ys name))
     → next ≡ inherited + length xs → count ≡ next + length ys
     → fields_tree (record { superclass = superclass; places = places; named = named; count = count }) ≡ class_fields_with u class inherited i
 fields_made u class inherited next count i xs ys superclass places named s d p n e c =
@@ -105,16 +170,16 @@ fields_made u class inherited next count i xs ys superclass places named s d p n
     let total : count ≡ inherited + length own = omega (arith, c, e, length-append xs ys, ap length d) in
     ap (λ o. whole o (at_name places) (at_name named) count) s ∙ ap (λ f. whole above f (at_name named) count) (fun_ext (λ name. p name ∙ ap (field_place name) d))
     ∙ ap (λ f. whole above (λ name. field_place name own) f count) (fun_ext (λ name. n name
-    ∙ ap (λ m. or_then (numbered class inherited xs name) (numbered class m ys name)) e ∙ sym (numbered_append class inherited xs ys name) ∙ ap (λ fs. numbered class inherited fs name) d))
+    ∙ ap (λ m. or_else (numbered class inherited xs name) (numbered class m ys name)) e ∙ sym (numbered_append class inherited xs ys name) ∙ ap (λ fs. numbered class inherited fs name) d))
     ∙ ap (whole above (λ name. field_place name own) (numbered class inherited own)) total
   where
-    numbered_append : (owner k : ℕ) (xs ys : List FieldTree) (name : List ℕ) → numbered owner k (xs ++ ys) name ≡ or_then (numbered owner k xs name) (numbered owner (k + length xs) ys name)
+    numbered_append : (owner k : ℕ) (xs ys : List FieldTree) (name : List ℕ) → numbered owner k (xs ++ ys) name ≡ or_else (numbered owner k xs name) (numbered owner (k + length xs) ys name)
     numbered_append owner k [] ys name = ap (λ m. numbered owner m ys name) (omega arith)
     numbered_append owner k (x ∷ xs) ys name = go (bytes_eq name x.name) (record { owner = record { 0 = owner }; index = k; visibility = x.visibility })
-        (numbered_append owner (suc k) xs ys name ∙ ap (λ m. or_then (numbered owner (suc k) xs name) (numbered owner m ys name)) (omega arith))
+        (numbered_append owner (suc k) xs ys name ∙ ap (λ m. or_else (numbered owner (suc k) xs name) (numbered owner m ys name)) (omega arith))
       where
-        go : (b : Bool) (found : FoundField) → numbered owner (suc k) (xs ++ ys) name ≡ or_then (numbered owner (suc k) xs name) (numbered owner (k + suc (length xs)) ys name)
-            → (if b then Some found else numbered owner (suc k) (xs ++ ys) name) ≡ or_then (if b then Some found else numbered owner (suc k) xs name) (numbered owner (k + suc (length xs)) ys name)
+        go : (b : Bool) (found : FoundField) → numbered owner (suc k) (xs ++ ys) name ≡ or_else (numbered owner (suc k) xs name) (numbered owner (k + suc (length xs)) ys name)
+            → (if b then Some found else numbered owner (suc k) (xs ++ ys) name) ≡ or_else (if b then Some found else numbered owner (suc k) xs name) (numbered owner (k + suc (length xs)) ys name)
         go true found h = refl
         go false found h = h
 
@@ -124,10 +189,6 @@ class_at u first (i ∷ is) zero = ap (λ m. Some (class_fields u m i)) (omega a
 class_at u first (i ∷ is) (suc n) =
     let e : suc first + n ≡ first + suc n = omega arith in
     class_at u (suc first) is n ∙ ap (λ m. option_map (class_fields u m) (slice_get is n)) e
-
-abbrev superclass_said : Option FieldsTree → Option ℕ
-superclass_said None = None
-superclass_said (Some t) = t.superclass
 
 abbrev named_said : Option FieldsTree → List ℕ → Option FoundField
 named_said None name = None
@@ -147,22 +208,14 @@ tree_at u all class e = sym (slice_get-map fields_tree all class) ∙ ap (λ ts.
 said : (u : UnitTree) (n : ℕ) → slice_get (all_class_fields u) (suc n) ≡ option_map (class_fields u (suc n)) (slice_get u.interfaces n)
 said u n = class_at u 1 u.interfaces n ∙ ap (λ m. option_map (class_fields u m) (slice_get u.interfaces n)) (omega arith)
 
-said_superclass : (u : UnitTree) (class : ℕ) → superclass_said (slice_get (all_class_fields u) class) ≡ superclass u.interfaces class
-said_superclass u zero = refl
-said_superclass u (suc n) = ap superclass_said (said u n) ∙ go (slice_get u.interfaces n)
-  where
-    go : (o : Option InterfaceTree) → superclass_said (option_map (class_fields u (suc n)) o) ≡ superclass_of u.interfaces o
-    go None = refl
-    go (Some i) = refl
-
 said_named : (u : UnitTree) (class : ℕ) (name : List ℕ) → named_said (slice_get (all_class_fields u) class) name ≡ own_field u class name
 said_named u zero name = refl
 said_named u (suc n) name = ap (λ t. named_said t name) (said u n) ∙ go (slice_get u.interfaces n) refl
   where
     go : (o : Option InterfaceTree) → slice_get u.interfaces n ≡ o → named_said (option_map (class_fields u (suc n)) o) name ≡ own_field u (suc n) name
     go None e = sym (ap (λ o. numbered (suc n) (length (inherited u (suc n))) (fields_of u (suc n) o) name) e)
-    go (Some i) e = sym (ap (λ s. numbered (suc n) (length (inherited_below (suc n) u s)) (own_fields u (suc n)) name) (superclass_here u n i e)
-        ∙ ap (λ fs. numbered (suc n) (length (inherited_below (suc n) u (class_number u.interfaces i.superclass))) fs name) (own_here u n i e))
+    go (Some i) e = sym (ap (λ s. numbered (suc n) (length (inherited_by u (suc n) s)) (own_fields u (suc n)) name) (superclass_here u n i e)
+        ∙ ap (λ fs. numbered (suc n) (length (inherited_by u (suc n) (class_number u.interfaces i.superclass))) fs name) (own_here u n i e))
 
 said_places : (u : UnitTree) (class : ℕ) (name : List ℕ) → places_said (slice_get (all_class_fields u) class) name ≡ field_place name (own_fields u class)
 said_places u zero name = refl
@@ -184,8 +237,8 @@ not_numbered owner k (x ∷ xs) name e = go (bytes_eq name x.name) e (not_number
 
 pub not_inherited : (u : UnitTree) (from : Option ℕ) (name : List ℕ) → known_field u from name ≡ None → inherited_place u from name ≡ None
 not_inherited u from name e =
-    nearest_least (length u.interfaces) (superclass u.interfaces) (λ class. own_field u class name) (λ class. field_place name (own_fields u class))
-    (λ class h. not_numbered class (length (inherited u class)) (own_fields u class) name h) from e
+    nothing_least (λ class. own_field u class name) (λ class. field_place name (own_fields u class))
+    (λ class h. not_numbered class (length (inherited u class)) (own_fields u class) name h) (ancestry (superclasses u.interfaces) from) e
 
 slice_past : {X : Type 0} (xs : List X) (n : ℕ) → n < length xs → slice_get xs n ≡ None → ⊥
 slice_past [] n l e = omega (arith, l)
@@ -203,12 +256,16 @@ said_count u (suc n) l = ap count_said (said u n) ∙ go (slice_get u.interfaces
 -- ---- by a list that is kept
 
 module _ (u : UnitTree) (all : List ClassFields) (e : map fields_tree all ≡ all_class_fields u) where
-  pub superclass_kept : (class : ℕ) → superclass_of_fields all class ≡ superclass u.interfaces class
-  superclass_kept class = go (slice_get all class) refl ∙ ap superclass_said (tree_at u all class e) ∙ said_superclass u class
+  superclasses_kept : map superclass_of_fields all ≡ superclasses u.interfaces
+  superclasses_kept = tree_superclasses all ∙ ap (map (λ t. t.superclass)) e ∙ ap (λ above. None ∷ above) (from_interfaces 1 u.interfaces)
     where
-      go : (o : Option ClassFields) → slice_get all class ≡ o → superclass_of_fields all class ≡ superclass_said (option_map fields_tree (slice_get all class))
-      go None h = rw h refl
-      go (Some x) h = rw h refl
+      tree_superclasses : (xs : List ClassFields) → map superclass_of_fields xs ≡ map (λ t. t.superclass) (map fields_tree xs)
+      tree_superclasses [] = refl
+      tree_superclasses (x ∷ xs) = ap (λ above. x.superclass ∷ above) (tree_superclasses xs)
+
+      from_interfaces : (first : ℕ) (is : List InterfaceTree) → map (λ t. t.superclass) (class_fields_from u first is) ≡ map (λ i. class_number u.interfaces i.superclass) is
+      from_interfaces first [] = refl
+      from_interfaces first (i ∷ is) = ap (λ above. class_number u.interfaces i.superclass ∷ above) (from_interfaces (suc first) is)
 
   own_kept : (class : ℕ) (name : List ℕ) → own_field_in (slice_get all class) name ≡ own_field u class name
   own_kept class name = go (slice_get all class) ∙ ap (λ t. named_said t name) (tree_at u all class e) ∙ said_named u class name
@@ -224,20 +281,11 @@ module _ (u : UnitTree) (all : List ClassFields) (e : map fields_tree all ≡ al
       go None = refl
       go (Some x) = refl
 
-  length_kept : length all ≡ suc (length u.interfaces)
-  length_kept = sym (length-map all fields_tree) ∙ ap length e ∙ ap (λ n. suc n) (many 1 u.interfaces)
-    where
-      many : (first : ℕ) (is : List InterfaceTree) → length (class_fields_from u first is) ≡ length is
-      many first [] = refl
-      many first (i ∷ is) = ap (λ n. suc n) (many (suc first) is)
-
   -- the field with a name is the known one
   pub field_kept : (from : Option ℕ) (name : List ℕ) → field_among all from name ≡ known_field u from name
   field_kept from name =
-      let fewer : length all - 1 ≡ length u.interfaces = omega (arith, length_kept) in
-      ap (λ n. nearest n (superclass_of_fields all) (λ class. own_field_in (slice_get all class) name) from) fewer
-      ∙ nearest_same (length u.interfaces) (superclass_of_fields all) (superclass u.interfaces) (λ class. own_field_in (slice_get all class) name) (λ class. own_field u class name) from
-      (fun_ext superclass_kept) (fun_ext (λ class. own_kept class name))
+      ap (λ above. first_that_has (λ class. own_field_in (slice_get all class) name) (ancestry above from)) superclasses_kept
+      ∙ ap (λ (own : ℕ → Option FoundField). first_that_has own (ancestry (superclasses u.interfaces) from)) (fun_ext (λ class. own_kept class name))
 
   place_kept : (class : ℕ) (name : List ℕ) → own_place_in (slice_get all class) name ≡ field_place name (own_fields u class)
   place_kept class name = go (slice_get all class) ∙ ap (λ t. places_said t name) (tree_at u all class e) ∙ said_places u class name
@@ -249,10 +297,8 @@ module _ (u : UnitTree) (all : List ClassFields) (e : map fields_tree all ≡ al
   -- and so is the least place
   pub least_kept : (from : Option ℕ) (name : List ℕ) → place_among all from name ≡ inherited_place u from name
   least_kept from name =
-      let fewer : length all - 1 ≡ length u.interfaces = omega (arith, length_kept) in
-      ap (λ n. least n (superclass_of_fields all) (λ class. own_place_in (slice_get all class) name) from) fewer
-      ∙ least_same (length u.interfaces) (superclass_of_fields all) (superclass u.interfaces) (λ class. own_place_in (slice_get all class) name) (λ class. field_place name (own_fields u class)) from
-      (fun_ext superclass_kept) (fun_ext (λ class. place_kept class name))
+      ap (λ above. least_among (λ class. own_place_in (slice_get all class) name) (ancestry above from)) superclasses_kept
+      ∙ ap (λ (own : ℕ → Option ℕ). least_among own (ancestry (superclasses u.interfaces) from)) (fun_ext (λ class. place_kept class name))
 
 -- ---- one class more
 
@@ -268,7 +314,7 @@ slice_none (x ∷ xs) (suc n) l = slice_none xs n (omega (arith, l))
 
 -- how many fields a class inherits, by what is kept of those before it
 pub inherited_so_far : (u : UnitTree) (all : List ClassFields) (rest : List FieldsTree) → all_class_fields u ≡ map fields_tree all ++ rest → length all ≤ suc (length u.interfaces)
-    → (superclass : Option ℕ) → count_among all superclass ≡ length (inherited_below (length all) u superclass)
+    → (superclass : Option ℕ) → count_among all superclass ≡ length (inherited_by u (length all) superclass)
 inherited_so_far u all rest e l None = refl
 inherited_so_far u all rest e l (Some class) = go (nat_lt class (length all)) refl
   where
@@ -276,7 +322,7 @@ inherited_so_far u all rest e l (Some class) = go (nat_lt class (length all)) re
     tree None = refl
     tree (Some x) = refl
 
-    go : (b : Bool) → nat_lt class (length all) ≡ b → count_at (slice_get all class) ≡ length (fields_below (length all) u class)
+    go : (b : Bool) → nat_lt class (length all) ≡ b → count_at (slice_get all class) ≡ length (inherited_by u (length all) (Some class))
     go true t =
         let lt : class < length all = (Decides-ltb class (length all)).0 t in
         let within : class < length (map fields_tree all) = omega (arith, lt, length-map all fields_tree) in
@@ -308,11 +354,11 @@ list_tree None = refl
 list_tree (Some x) = refl
 
 pub lists_so_far : (u : UnitTree) (all : List (Vec Field Global)) (rest : List (List ClassField)) → all_fields_from u 0 (suc (length u.interfaces)) ≡ map list_of all ++ rest → length all ≤ suc (length u.interfaces)
-    → (superclass : Option ℕ) → list_among all superclass ≡ inherited_below (length all) u superclass
+    → (superclass : Option ℕ) → list_among all superclass ≡ inherited_by u (length all) superclass
 lists_so_far u all rest e l None = refl
 lists_so_far u all rest e l (Some class) = go (nat_lt class (length all)) refl
   where
-    go : (b : Bool) → nat_lt class (length all) ≡ b → list_at (slice_get all class) ≡ fields_below (length all) u class
+    go : (b : Bool) → nat_lt class (length all) ≡ b → list_at (slice_get all class) ≡ inherited_by u (length all) (Some class)
     go true t =
         let lt : class < length all = (Decides-ltb class (length all)).0 t in
         let within : class < length (map list_of all) = omega (arith, lt, length-map all list_of) in
@@ -331,8 +377,7 @@ lists_kept u all e class = go (nat_lt class (suc (length u.interfaces))) refl
 
     gone : (n : ℕ) → length u.interfaces ≤ n → fields u (suc n) ≡ []
     gone n past =
-        let none : slice_get u.interfaces n ≡ None = slice_none u.interfaces n past in
-        fields_here u (suc n) ∙ ap (λ s. inherited_below (suc n) u s ++ map (owned (suc n)) (own_fields u (suc n))) (ap (superclass_of u.interfaces) none) ∙ ap (λ o. map (owned (suc n)) (fields_of u (suc n) o)) none
+        class_past u n (slice_none u.interfaces n past)
 
     behind : (class : ℕ) → suc (length u.interfaces) ≤ class → fields u class ≡ []
     behind zero past = refl

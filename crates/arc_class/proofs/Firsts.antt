@@ -5,6 +5,7 @@ use Rattle.std.proofs.lemmas.Bool.Decides.{nat_tests}
 use Rattle.std.proofs.lemmas.List.Elements.{All-nil, All-cons, All-head, All-tail, All-contains, All-contains_itself}
 use Rattle.std.proofs.lemmas.Option.{none-some, same_Some}
 use Rattle.arc_class.specs.Broken.{Broken, is_before, earlier, earlier_of, first, IsFirst}
+use Rattle.arc_class.proofs.Lessers.{lesser-assoc}
 
 before_all : (a b c : Broken) → is_before b a ≡ true → is_before c b ≡ true → is_before c a ≡ true
 before_all a b c p q = grind (arith, nat_tests)
@@ -12,20 +13,11 @@ before_all a b c p q = grind (arith, nat_tests)
 before_none : (a b c : Broken) → is_before b a ≡ false → is_before c b ≡ false → is_before c a ≡ false
 before_none a b c p q = grind (arith, nat_tests)
 
-earlier-assoc : (a b c : Broken) → earlier (earlier a b) c ≡ earlier a (earlier b c)
-earlier-assoc a b c = go (is_before b a) (is_before c b) refl refl
-  where
-    go : (p q : Bool) → is_before b a ≡ p → is_before c b ≡ q → earlier (earlier a b) c ≡ earlier a (earlier b c)
-    go true true p q = rw (p, q, before_all a b c p q) refl
-    go true false p q = rw (p, q, p) refl
-    go false true p q = rw (p, q) refl
-    go false false p q = rw (p, q, before_none a b c p q, p) refl
-
 pub earlier_of-assoc : (a b c : Option Broken) → earlier_of (earlier_of a b) c ≡ earlier_of a (earlier_of b c)
 earlier_of-assoc None b c = refl
 earlier_of-assoc (Some a) None c = refl
 earlier_of-assoc (Some a) (Some b) None = refl
-earlier_of-assoc (Some a) (Some b) (Some c) = ap Some (earlier-assoc a b c)
+earlier_of-assoc (Some a) (Some b) (Some c) = ap Some (lesser-assoc is_before before_all before_none a b c)
 
 pub earlier_of-none : (a : Option Broken) → earlier_of a None ≡ a
 earlier_of-none None = refl

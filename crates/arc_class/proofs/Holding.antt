@@ -16,7 +16,7 @@ use Rattle.arc_class.specs.declared.owners.Map.{Map}
 use Rattle.arc_class.specs.declared.owners.Maps.{Maps}
 use Rattle.arc_class.specs.declared.numbered.Node.{Node}
 use Rattle.arc_class.specs.declared.numbered.TheConstants.{LEVELS}
-use Rattle.arc_class.specs.Classes.{or_then, among, and_name, number_among}
+use Rattle.arc_class.specs.Classes.{or_else, among, and_name, number_among}
 use Rattle.arc_class.specs.Lookups.{at_name}
 use Rattle.arc_class.specs.Numbered.{at_number, IsWithin, Puts}
 use Rattle.arc_class.specs.Owners.{names_in, at_number_of, in_map, IsMap, Keeps, Adds}
@@ -129,7 +129,7 @@ module _ (old new : Maps) (map : Map) (name : List ℕ) (number class at : ℕ)
       within = let P : List Node → Type 0 = λ ns. IsWithin LEVELS ns other.first in subst P (sym p.extends.is) (IsWithin-append LEVELS old.nodes.items p.extends.more other.first h.within);
       unnamed = λ sought le lt. same_at other h sought ∙ h.unnamed sought (omega (arith, grows)) lt;
     };
-    same = λ other h sought. ap (λ o. or_then o other.otherwise) (kept_at other h sought);
+    same = λ other h sought. ap (λ o. or_else o other.otherwise) (kept_at other h sought);
   }
 
   abbrev made : Map
@@ -168,12 +168,12 @@ module _ (old new : Maps) (map : Map) (name : List ℕ) (number class at : ℕ)
           let same : sought ≡ name = (bytes_eq-Decides sought name).0 e in
           let there : number_among (names_in new) sought ≡ Some number = ap (number_among (names_in new)) same ∙ k in
           let lt : number < 2 ^ LEVELS = omega (arith, numbered_within) in
-          ap (λ o. or_then (at_number_of new (Some at) o) map.otherwise) there
-          ∙ ap (λ o. or_then o map.otherwise) (p.found number lt ∙ ap (λ b. if b then Some class else at_number LEVELS old.nodes.items map.first number) ((Decides-eqb number number).1 refl))
+          ap (λ o. or_else (at_number_of new (Some at) o) map.otherwise) there
+          ∙ ap (λ o. or_else o map.otherwise) (p.found number lt ∙ ap (λ b. if b then Some class else at_number LEVELS old.nodes.items map.first number) ((Decides-eqb number number).1 refl))
       go false e =
           let there : number_among (names_in new) sought ≡ number_among (names_in old) sought = ap (λ ns. number_among ns sought) n ∙ other_number (names_in old) name sought e in
-          ap (λ o. or_then (at_number_of new (Some at) o) map.otherwise) there
-          ∙ ap (λ o. or_then o map.otherwise) (found_of sought e (number_among (names_in old) sought) refl)
+          ap (λ o. or_else (at_number_of new (Some at) o) map.otherwise) there
+          ∙ ap (λ o. or_else o map.otherwise) (found_of sought e (number_among (names_in old) sought) refl)
 
   pub adds_name : Adds old new map made (λ sought. bytes_eq sought name) class
   adds_name = record { keeps = all_kept; is_map = made_is_map; found = found_at }

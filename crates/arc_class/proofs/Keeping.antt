@@ -7,30 +7,37 @@ use Rattle.arc_ast.specs.declared.tree.Sign.{Sign}
 use Rattle.arc_ast.specs.Tree.{HeadTree}
 use Rattle.arc_class.specs.Classes.{is_method, first_head}
 use Rattle.arc_class.specs.Kept.{one_at}
-use Rattle.arc_class.specs.Classes.{or_then}
+use Rattle.arc_class.specs.Classes.{or_else}
 use Rattle.arc_class.proofs.Names.{eq_turned}
 
-pub or_none : {X : Type 0} (a : Option X) → or_then a None ≡ a
+pub or_none : {X : Type 0} (a : Option X) → or_else a None ≡ a
 or_none None = refl
 or_none (Some a) = refl
 
-or_assoc : {X : Type 0} (a b c : Option X) → or_then (or_then a b) c ≡ or_then a (or_then b c)
+or_assoc : {X : Type 0} (a b c : Option X) → or_else (or_else a b) c ≡ or_else a (or_else b c)
 or_assoc None b c = refl
 or_assoc (Some a) b c = refl
 
--- one more is kept
-pub kept_turn : {X : Type 0} (old one new rest whole : Option X) → new ≡ or_then old one → whole ≡ or_then old (or_then one rest) → whole ≡ or_then new rest
-kept_turn old one new rest whole n w = w ∙ sym (or_assoc old one rest) ∙ ap (λ o. or_then o rest) (sym n)
+-- the own one comes first, and with none the next is asked
+pub own_first : {X : Type 0} (own : Option X) (x : X) (all above : Option X) → own ≡ Some x → all ≡ or_else own above → Some x ≡ all
+own_first own x all above same is = sym (is ∙ ap (λ o. or_else o above) same)
 
-pub or_one : {X : Type 0} (name : List ℕ) (value : X) (rest : Option X) (sought : List ℕ) → (if bytes_eq sought name then Some value else rest) ≡ or_then (one_at name value sought) rest
+pub above_next : {X : Type 0} (own : Option X) (all above : Option X) → own ≡ None → all ≡ or_else own above → all ≡ above
+above_next own all above missing is = is ∙ ap (λ o. or_else o above) missing
+
+-- one more is kept
+pub kept_turn : {X : Type 0} (old one new rest whole : Option X) → new ≡ or_else old one → whole ≡ or_else old (or_else one rest) → whole ≡ or_else new rest
+kept_turn old one new rest whole n w = w ∙ sym (or_assoc old one rest) ∙ ap (λ o. or_else o rest) (sym n)
+
+pub or_one : {X : Type 0} (name : List ℕ) (value : X) (rest : Option X) (sought : List ℕ) → (if bytes_eq sought name then Some value else rest) ≡ or_else (one_at name value sought) rest
 or_one name value rest sought = go (bytes_eq sought name)
   where
-    go : (b : Bool) → (if b then Some value else rest) ≡ or_then (if b then Some value else None) rest
+    go : (b : Bool) → (if b then Some value else rest) ≡ or_else (if b then Some value else None) rest
     go true = refl
     go false = refl
 
 -- what is kept, as a tree
-pub map_or : {X Y : Type 0} (f : X → Y) (a b : Option X) → option_map f (or_then a b) ≡ or_then (option_map f a) (option_map f b)
+pub map_or : {X Y : Type 0} (f : X → Y) (a b : Option X) → option_map f (or_else a b) ≡ or_else (option_map f a) (option_map f b)
 map_or f None b = refl
 map_or f (Some a) b = refl
 
@@ -41,30 +48,30 @@ map_one f name value sought = go (bytes_eq sought name)
     go true = refl
     go false = refl
 
-pub kept_map : {X Y : Type 0} (f : X → Y) (old new : Option X) (name : List ℕ) (value : X) (sought : List ℕ) → new ≡ or_then old (one_at name value sought)
-    → option_map f new ≡ or_then (option_map f old) (one_at name (f value) sought)
-kept_map f old new name value sought e = ap (option_map f) e ∙ map_or f old (one_at name value sought) ∙ ap (or_then (option_map f old)) (map_one f name value sought)
+pub kept_map : {X Y : Type 0} (f : X → Y) (old new : Option X) (name : List ℕ) (value : X) (sought : List ℕ) → new ≡ or_else old (one_at name value sought)
+    → option_map f new ≡ or_else (option_map f old) (one_at name (f value) sought)
+kept_map f old new name value sought e = ap (option_map f) e ∙ map_or f old (one_at name value sought) ∙ ap (or_else (option_map f old)) (map_one f name value sought)
 
 pub none_is : {X : Type 0} (o : Option X) → is_some o ≡ false → o ≡ None
 none_is None e = refl
 none_is (Some a) e = absurd (true≢false e)
 
 -- a value is kept for a name, where there is none, and else what there was
-pub put_first : {X : Type 0} (old : List ℕ → Option X) (name : List ℕ) (value : X) (sought : List ℕ) → old name ≡ None → update bytes_eq old name (Some value) sought ≡ or_then (old sought) (one_at name value sought)
+pub put_first : {X : Type 0} (old : List ℕ → Option X) (name : List ℕ) (value : X) (sought : List ℕ) → old name ≡ None → update bytes_eq old name (Some value) sought ≡ or_else (old sought) (one_at name value sought)
 put_first {X} old name value sought none = go (bytes_eq name sought) refl
   where
-    go : (b : Bool) → bytes_eq name sought ≡ b → cond b (Some value) (old sought) ≡ or_then (old sought) (one_at name value sought)
+    go : (b : Bool) → bytes_eq name sought ≡ b → cond b (Some value) (old sought) ≡ or_else (old sought) (one_at name value sought)
     go true e =
         let same : name ≡ sought = (bytes_eq-Decides name sought).0 e in
         let turned : bytes_eq sought name ≡ true = eq_turned sought name ∙ e in
-        sym (ap (λ o. or_then o (one_at name value sought)) (ap old (sym same) ∙ none) ∙ ap (λ b. if b then Some value else None) turned)
-    go false e = sym (ap (λ b. or_then (old sought) (if b then Some value else None)) (eq_turned sought name ∙ e) ∙ or_none (old sought))
+        sym (ap (λ o. or_else o (one_at name value sought)) (ap old (sym same) ∙ none) ∙ ap (λ b. if b then Some value else None) turned)
+    go false e = sym (ap (λ b. or_else (old sought) (if b then Some value else None)) (eq_turned sought name ∙ e) ∙ or_none (old sought))
 
-pub first_head-append : (sign : Sign) (selector : List ℕ) (xs ys : List HeadTree) → first_head sign selector (xs ++ ys) ≡ or_then (first_head sign selector xs) (first_head sign selector ys)
+pub first_head-append : (sign : Sign) (selector : List ℕ) (xs ys : List HeadTree) → first_head sign selector (xs ++ ys) ≡ or_else (first_head sign selector xs) (first_head sign selector ys)
 first_head-append sign selector [] ys = refl
 first_head-append sign selector (x ∷ xs) ys = go (is_method sign selector x) (first_head-append sign selector xs ys)
   where
-    go : (b : Bool) → first_head sign selector (xs ++ ys) ≡ or_then (first_head sign selector xs) (first_head sign selector ys)
-        → (if b then Some x else first_head sign selector (xs ++ ys)) ≡ or_then (if b then Some x else first_head sign selector xs) (first_head sign selector ys)
+    go : (b : Bool) → first_head sign selector (xs ++ ys) ≡ or_else (first_head sign selector xs) (first_head sign selector ys)
+        → (if b then Some x else first_head sign selector (xs ++ ys)) ≡ or_else (if b then Some x else first_head sign selector xs) (first_head sign selector ys)
     go true h = refl
     go false h = h

@@ -1,11 +1,11 @@
 pub mod Names
 pub mod Lists
+pub mod Lessers
 pub mod Firsts
 pub mod Scopes
 pub mod Walks
 pub mod Looks
 pub mod Answering
-pub mod Results
 pub mod Leasts
 pub mod Keeping
 pub mod Rules

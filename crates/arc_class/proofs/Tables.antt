@@ -1,20 +1,19 @@
 -- From the parts of a table to what it is a table of.
-use Rattle.std.proofs.Common.{◌≡◌, ℕ, zero, suc, ◌-◌, List, ◌∷◌, length, map, slice_get, Option, Some, None, option_map, refl, sym, ap, ◌∙◌, arith}
+use Rattle.std.proofs.Common.{◌≡◌, ℕ, zero, suc, List, [], ◌∷◌, map, slice_get, Option, Some, None, option_map, refl, sym, ap, ◌∙◌}
 use Rattle.std.proofs.Math.Path.{fun_ext}
-use Rattle.std.proofs.lemmas.List.{length-map}
 use Rattle.std.proofs.lemmas.Option.{slice_get-map}
 use Rattle.arc_ast.specs.declared.tree.Kind.{Kind}
 use Rattle.arc_ast.specs.declared.tree.Sign.{Sign}
 use Rattle.arc_ast.specs.declared.tree.Sign.TheVariants as signs
 use Rattle.arc_ast.specs.Tree.{InterfaceTree, UnitTree}
+use Rattle.arc_spec.specs.Classes.{ancestry, first_that_has}
 use Rattle.arc_class.specs.declared.table.ClassTable.{ClassTable}
 use Rattle.arc_class.specs.declared.table.Entry.{Entry}
-use Rattle.arc_class.specs.Classes.{superclass, superclass_of, own_result, result_in, result_of, built_in_result, counting_result, nearest_result, known_result, any_result, source_result, nearest, or_then, first_head, declared, defined}
+use Rattle.arc_class.specs.Classes.{superclass, superclass_of, own_result, result_in, result_of, built_in_result, counting_result, nearest_result, known_result, any_result, superclasses, class_number, or_else, first_head, declared, defined}
 use Rattle.arc_class.specs.Entries.{EntryTree, entry_tree, root_entry, class_entry}
 use Rattle.arc_class.specs.Kept.{head_in}
-use Rattle.arc_class.specs.Table.{own_result_in, superclass_among, superclass_in, result_among, result_at, result_in_table, any_result_in}
+use Rattle.arc_class.specs.Table.{own_result_in, superclass_of_entry, superclass_in, result_among, result_at, result_in_table, any_result_in}
 use Rattle.arc_class.proofs.Parts.{result_kept}
-use Rattle.arc_class.proofs.Results.{nearest_same}
 
 abbrev superclass_said : Option EntryTree → Option ℕ
 superclass_said None = None
@@ -52,6 +51,17 @@ superclass_is u table class e = go (slice_get table.entries.items class) refl �
     go None h = rw h refl
     go (Some x) h = rw h refl
 
+entry_superclasses : (entries : List Entry) → map superclass_of_entry entries ≡ map (λ t. t.superclass) (map entry_tree entries)
+entry_superclasses [] = refl
+entry_superclasses (x ∷ xs) = ap (λ above. x.superclass ∷ above) (entry_superclasses xs)
+
+class_superclasses : (u : UnitTree) (is : List InterfaceTree) → map (λ t. t.superclass) (map (class_entry u) is) ≡ map (λ i. class_number u.interfaces i.superclass) is
+class_superclasses u [] = refl
+class_superclasses u (i ∷ is) = ap (λ above. class_number u.interfaces i.superclass ∷ above) (class_superclasses u is)
+
+superclasses_are : (u : UnitTree) (entries : List Entry) → map entry_tree entries ≡ root_entry ∷ map (class_entry u) u.interfaces → map superclass_of_entry entries ≡ superclasses u.interfaces
+superclasses_are u entries e = entry_superclasses entries ∙ ap (map (λ t. t.superclass)) e ∙ ap (λ above. None ∷ above) (class_superclasses u u.interfaces)
+
 own_is : (u : UnitTree) (table : ClassTable) (class : ℕ) (sign : Sign) (selector : List ℕ) → map entry_tree table.entries.items ≡ root_entry ∷ map (class_entry u) u.interfaces
     → own_result_in class (slice_get table.entries.items class) sign selector ≡ result_in u class sign selector
 own_is u table class sign selector e = go class (slice_get table.entries.items class) ∙ ap (λ o. result_said class o sign selector) (entry_at u table.entries.items class e) ∙ said_result u class sign selector
@@ -65,16 +75,13 @@ own_is u table class sign selector e = go class (slice_get table.entries.items c
 among_is : (u : UnitTree) (table : ClassTable) (from : Option ℕ) (sign : Sign) (selector : List ℕ) → map entry_tree table.entries.items ≡ root_entry ∷ map (class_entry u) u.interfaces
     → result_among table.entries.items from sign selector ≡ nearest_result u from sign selector
 among_is u table from sign selector e =
-    let many : length table.entries.items ≡ suc (length u.interfaces) = sym (length-map table.entries.items entry_tree) ∙ ap length e ∙ ap (λ n. suc n) (length-map u.interfaces (class_entry u)) in
-    let fewer : length table.entries.items - 1 ≡ length u.interfaces = omega (arith, many) in
-    ap (λ n. nearest n (superclass_among table.entries.items) (λ class. own_result_in class (slice_get table.entries.items class) sign selector) from) fewer
-    ∙ nearest_same (length u.interfaces) (superclass_among table.entries.items) (superclass u.interfaces) (λ class. own_result_in class (slice_get table.entries.items class) sign selector) (λ class. result_in u class sign selector) from
-    (fun_ext (λ class. superclass_is u table class e)) (fun_ext (λ class. own_is u table class sign selector e))
+    ap (λ above. first_that_has (λ class. own_result_in class (slice_get table.entries.items class) sign selector) (ancestry above from)) (superclasses_are u table.entries.items e)
+    ∙ ap (λ (own : ℕ → Option Kind). first_that_has own (ancestry (superclasses u.interfaces) from)) (fun_ext (λ class. own_is u table class sign selector e))
 
 pub result_is : (u : UnitTree) (table : ClassTable) (from : Option ℕ) (sign : Sign) (selector : List ℕ) → map entry_tree table.entries.items ≡ root_entry ∷ map (class_entry u) u.interfaces
     → result_in_table table from sign selector ≡ known_result u from sign selector
 result_is u table None sign selector e = refl
-result_is u table (Some class) sign selector e = ap (or_then (counting_result selector)) (among_is u table (Some class) sign selector e)
+result_is u table (Some class) sign selector e = ap (or_else (counting_result selector)) (among_is u table (Some class) sign selector e)
 
 -- what any object gives
 pub any_is : (u : UnitTree) (table : ClassTable) (selector : List ℕ) → head_in table.declared signs.Instance selector ≡ first_head signs.Instance selector (declared u.interfaces)
@@ -82,6 +89,6 @@ pub any_is : (u : UnitTree) (table : ClassTable) (selector : List ℕ) → head_
 any_is u table selector d e =
     let one : result_at table.declared signs.Instance selector ≡ option_map result_of (first_head signs.Instance selector (declared u.interfaces)) = sym (result_kept table.declared signs.Instance selector) ∙ ap (option_map result_of) d in
     let other : result_at table.defined signs.Instance selector ≡ option_map result_of (first_head signs.Instance selector (defined u.implementations)) = sym (result_kept table.defined signs.Instance selector) ∙ ap (option_map result_of) e in
-    ap (or_then (counting_result selector))
-    (ap (λ o. or_then o (or_then (result_at table.defined signs.Instance selector) (built_in_result signs.Instance selector))) one
-    ∙ ap (λ o. or_then (option_map result_of (first_head signs.Instance selector (declared u.interfaces))) (or_then o (built_in_result signs.Instance selector))) other)
+    ap (or_else (counting_result selector))
+    (ap (λ o. or_else o (or_else (result_at table.defined signs.Instance selector) (built_in_result signs.Instance selector))) one
+    ∙ ap (λ o. or_else (option_map result_of (first_head signs.Instance selector (declared u.interfaces))) (or_else o (built_in_result signs.Instance selector))) other)

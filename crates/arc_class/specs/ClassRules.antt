@@ -1,14 +1,16 @@
 -- The rules for classes, their methods and their fields.
-use Rattle.std.specs.Prelude.{ℕ, zero, suc, Bool, false, ◌&&◌, ◌||◌, not, nat_lt, List, [], ◌∷◌, ◌++◌, length, Option, Some, None, is_some, is_none, codes, if◌then◌else◌}
+use Rattle.std.specs.Prelude.{ℕ, suc, Bool, false, ◌&&◌, ◌||◌, not, nat_lt, List, [], ◌∷◌, ◌++◌, length, Option, Some, None, is_some, is_none, codes, if◌then◌else◌}
 use Rattle.std.specs.Str.{bytes_eq}
+use Rattle.arc_class.specs.declared.classes.TheConstants.{MOST_FIELDS}
 use Rattle.arc_ast.specs.declared.tree.Kind.{Kind}
 use Rattle.arc_ast.specs.declared.tree.Kind.TheVariants as k
 use Rattle.arc_ast.specs.declared.tree.Sign.{Sign}
 use Rattle.arc_ast.specs.declared.tree.Sign.TheVariants as signs
 use Rattle.arc_ast.specs.Tree.{FunctionTree, HeadTree, MethodTree, FieldTree, InterfaceTree, ImplementationTree, UnitTree}
+use Rattle.arc_spec.specs.Classes.{ancestry}
 use Rattle.arc_class.specs.Bodies.{Missing, broken_if, broken_parameters, broken_stmts, names_taken, no_name}
 use Rattle.arc_class.specs.Broken.{Broken}
-use Rattle.arc_class.specs.Classes.{is_root, interface_number, class_number, superclass, first_head, built_in_result, or_then, declared, defined}
+use Rattle.arc_class.specs.Classes.{is_root, interface_number, class_number, superclasses, first_head, built_in_result, or_else, declared, defined}
 use Rattle.arc_class.specs.Fields.{own_fields, fields_declared, fields}
 use Rattle.arc_class.specs.Functions.{is_library, same_kind, lacks_body_in, broken_in_functions}
 use Rattle.arc_class.specs.Names.{first_named}
@@ -37,7 +39,7 @@ told_kind signs.Instance selector = if tells_class selector then Some k.Bool els
 
 -- what the methods of the root give, which are built in
 abbrev pub built_in_kind : Sign → List ℕ → Option Kind
-built_in_kind sign selector = or_then (built_in_result sign selector) (told_kind sign selector)
+built_in_kind sign selector = or_else (built_in_result sign selector) (told_kind sign selector)
 
 -- 24 SelectorKinds: a method whose result is of another kind than that of an earlier method of its sign with its selector, those of the root being built in, at
 -- its `+` or `-` (this project's own choice)
@@ -94,15 +96,14 @@ least_of None b = b
 least_of (Some a) None = Some a
 least_of (Some a) (Some b) = Some (if nat_lt b a then b else a)
 
--- the least place that a class or one of the next n above it has
-abbrev pub least : (n : ℕ) → (above : ℕ → Option ℕ) → (own : ℕ → Option ℕ) → Option ℕ → Option ℕ
-least n above own None = None
-least zero above own (Some class) = own class
-least (suc n) above own (Some class) = least_of (own class) (least n above own (above class))
+-- the least place that one of these classes has
+abbrev pub least_among : (own : ℕ → Option ℕ) → (classes : List ℕ) → Option ℕ
+least_among own [] = None
+least_among own (class ∷ others) = least_of (own class) (least_among own others)
 
 -- the first by position of the fields with a name that a class and those above it declare
 abbrev pub inherited_place : UnitTree → (above : Option ℕ) → List ℕ → Option ℕ
-inherited_place u above name = least (length u.interfaces) (superclass u.interfaces) (λ class. field_place name (own_fields u class)) above
+inherited_place u above name = least_among (λ class. field_place name (own_fields u class)) (ancestry (superclasses u.interfaces) above)
 
 -- two fields with one name, told at the second by position
 abbrev pub broken_pair : Option ℕ → ℕ → List Broken
@@ -118,9 +119,9 @@ abbrev pub broken_fields : UnitTree → (above : Option ℕ) → (all : List Fie
 broken_fields u above all [] = []
 broken_fields u above all (f ∷ others) = broken_field u above all f.at f.name ++ broken_fields u above all others
 
--- 27 TooManyFields: a class whose objects have more than 120 fields, at its interface's name (this project's own limit)
+-- 27 TooManyFields: a class whose objects have more fields than this, at its interface's name (this project's own limit)
 abbrev pub most_fields : ℕ
-most_fields = 120
+most_fields = MOST_FIELDS
 
 -- ---- classes
 

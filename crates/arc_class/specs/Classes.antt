@@ -1,12 +1,13 @@
 -- The classes of a source, their methods and their selectors.
-use Rattle.std.specs.Prelude.{ℕ, zero, suc, ◌+◌, Bool, false, ◌&&◌, ◌||◌, nat_lt, List, [], ◌∷◌, ◌++◌, length, Option, Some, None, option_map, slice_get, codes, if◌then◌else◌}
+use Rattle.std.specs.Prelude.{ℕ, zero, suc, ◌+◌, Bool, false, ◌&&◌, ◌||◌, nat_lt, List, [], ◌∷◌, ◌++◌, length, map, Option, Some, None, option_map, slice_get, codes, if◌then◌else◌}
 use Rattle.std.specs.Str.{bytes_eq}
 use Rattle.arc_ast.specs.declared.tree.Kind.{Kind}
 use Rattle.arc_ast.specs.declared.tree.Kind.TheVariants as k
 use Rattle.arc_ast.specs.declared.tree.Sign.{Sign}
 use Rattle.arc_ast.specs.declared.tree.Sign.TheVariants as signs
 use Rattle.arc_ast.specs.Tree.{FunctionTree, HeadTree, MethodTree, InterfaceTree, ImplementationTree, UnitTree}
-use Rattle.arc_spec.specs.Classes.{same_sign}
+use Rattle.arc_spec.specs.Classes.{same_sign, ancestry, first_that_has}
+pub use Rattle.arc_spec.specs.Classes.{or_else}
 use Rattle.arc_class.specs.Names.{has_body}
 
 -- the one root class, which is built in (this project's own choice)
@@ -31,6 +32,10 @@ superclass_of interfaces (Some i) = class_number interfaces i.superclass
 abbrev pub superclass : List InterfaceTree → (class : ℕ) → Option ℕ
 superclass interfaces zero = None
 superclass interfaces (suc n) = superclass_of interfaces (slice_get interfaces n)
+
+-- the superclasses of all classes, in the order of their numbers
+abbrev pub superclasses : List InterfaceTree → List (Option ℕ)
+superclasses interfaces = None ∷ map (λ i. class_number interfaces i.superclass) interfaces
 
 -- what is declared of methods
 abbrev pub heads : List MethodTree → List HeadTree
@@ -74,30 +79,18 @@ counting_result selector =
     else if bytes_eq selector (codes "retainCount") then Some k.Long
     else if bytes_eq selector (codes "release") || bytes_eq selector (codes "dealloc") then Some k.Void else None
 
--- the first of two, if there is one
-abbrev pub or_then : {X : Type 0} → Option X → Option X → Option X
-or_then (Some a) b = Some a
-or_then None b = b
-
 abbrev pub result_in : UnitTree → (class : ℕ) → Sign → List ℕ → Option Kind
 result_in u zero sign selector = built_in_result sign selector
 result_in u (suc n) sign selector = own_result u (slice_get u.interfaces n) sign selector
 
--- the nearest that a class or one of the next n above it has of its own
-abbrev pub nearest : {X : Type 0} → (n : ℕ) → (above : ℕ → Option ℕ) → (own : ℕ → Option X) → Option ℕ → Option X
-nearest n above own None = None
-nearest zero above own (Some class) = own class
-nearest (suc n) above own (Some class) = or_then (own class) (nearest n above own (above class))
-
 -- What the method gives that is known for a message to a class or to its objects: the nearest that the class or a class above it declares or defines (OPL,
--- "Messages to self and super"), those of the root being built in, and those that count owners as they are always known. There are no more classes above one than
--- there are interfaces.
+-- "Messages to self and super"), those of the root being built in, and those that count owners as they are always known.
 abbrev pub nearest_result : UnitTree → Option ℕ → Sign → List ℕ → Option Kind
-nearest_result u from sign selector = nearest (length u.interfaces) (superclass u.interfaces) (λ class. result_in u class sign selector) from
+nearest_result u from sign selector = first_that_has (λ class. result_in u class sign selector) (ancestry (superclasses u.interfaces) from)
 
 abbrev pub known_result : UnitTree → Option ℕ → Sign → List ℕ → Option Kind
 known_result u None sign selector = None
-known_result u (Some class) sign selector = or_then (counting_result selector) (nearest_result u (Some class) sign selector)
+known_result u (Some class) sign selector = or_else (counting_result selector) (nearest_result u (Some class) sign selector)
 
 -- the methods of all interfaces, and those of all implementations
 abbrev pub declared : List InterfaceTree → List HeadTree
@@ -111,11 +104,11 @@ defined (i ∷ others) = heads i.methods ++ defined others
 -- What a message to an object gives of which no class is known (OPL, "Dynamic Typing"): where it counts owners as that is known, and else as the first method of
 -- objects does that is declared, or else defined, or built in. All of these give the same.
 abbrev pub source_result : UnitTree → List ℕ → Option Kind
-source_result u selector = or_then (option_map result_of (first_head signs.Instance selector (declared u.interfaces)))
-    (or_then (option_map result_of (first_head signs.Instance selector (defined u.implementations))) (built_in_result signs.Instance selector))
+source_result u selector = or_else (option_map result_of (first_head signs.Instance selector (declared u.interfaces)))
+    (or_else (option_map result_of (first_head signs.Instance selector (defined u.implementations))) (built_in_result signs.Instance selector))
 
 abbrev pub any_result : UnitTree → List ℕ → Option Kind
-any_result u selector = or_then (counting_result selector) (source_result u selector)
+any_result u selector = or_else (counting_result selector) (source_result u selector)
 
 -- ---- selectors
 

@@ -9,7 +9,7 @@ use Rattle.arc_class.specs.declared.table.Entry.{Entry}
 use Rattle.arc_class.specs.declared.table.FoundField.{FoundField}
 use Rattle.arc_class.specs.ClassRules.{field_place}
 use Rattle.arc_class.specs.Classes.{class_number, own_result}
-use Rattle.arc_class.specs.Fields.{numbered, fields_declared, inherited_below}
+use Rattle.arc_class.specs.Fields.{numbered, fields_declared, inherited_by}
 use Rattle.arc_class.specs.Lookups.{at_name, result_at}
 
 -- a class's superclass, and what its own methods give
@@ -54,7 +54,7 @@ class_fields_with u class inherited i = record {
 }
 
 abbrev pub class_fields : UnitTree → (class : ℕ) → InterfaceTree → FieldsTree
-class_fields u class i = class_fields_with u class (length (inherited_below class u (class_number u.interfaces i.superclass))) i
+class_fields u class i = class_fields_with u class (length (inherited_by u class (class_number u.interfaces i.superclass))) i
 
 abbrev pub class_fields_from : UnitTree → (class : ℕ) → List InterfaceTree → List FieldsTree
 class_fields_from u class [] = []

@@ -1,5 +1,5 @@
 -- The fields of objects.
-use Rattle.std.specs.Prelude.{ℕ, zero, suc, Bool, false, List, [], ◌∷◌, ◌++◌, length, map, Option, Some, None, nat_eq, nat_lt, slice_get, if◌then◌else◌}
+use Rattle.std.specs.Prelude.{ℕ, zero, suc, Bool, false, List, [], ◌∷◌, ◌++◌, length, map, Option, Some, None, nat_eq, nat_lt, reverse, flat_map, slice_get, if◌then◌else◌}
 use Rattle.std.specs.Str.{bytes_eq}
 use Rattle.arc_ast.specs.declared.tree.Kind.{Kind}
 use Rattle.arc_ast.specs.declared.tree.Kind.TheVariants as k
@@ -7,7 +7,8 @@ use Rattle.arc_ast.specs.declared.tree.Qual.{Qual}
 use Rattle.arc_ast.specs.declared.tree.Visibility.{Visibility}
 use Rattle.arc_ast.specs.Tree.{FieldTree, InterfaceTree, ImplementationTree, UnitTree}
 use Rattle.arc_class.specs.declared.table.FoundField.{FoundField}
-use Rattle.arc_class.specs.Classes.{class_number, superclass, nearest}
+use Rattle.arc_class.specs.Classes.{class_number, superclass, superclasses}
+use Rattle.arc_spec.specs.Classes.{ancestry, first_that_has}
 
 -- a field that the objects of a class have, with what it is, how it holds an object, if it is one (ARC, "Ownership qualification"), and the class that declares it
 pub record ClassField : Type 0 where
@@ -52,23 +53,34 @@ own_fields u (suc n) = fields_of u (suc n) (slice_get u.interfaces n)
 abbrev pub owned : (owner : ℕ) → FieldTree → ClassField
 owned owner f = record { name = f.name; kind = k.Int; qual = None; owner = owner; visibility = f.visibility }
 
-abbrev pub of_superclass : (superclass : Option ℕ) → (ℕ → List ClassField) → List ClassField
-of_superclass None these = []
-of_superclass (Some class) these = these class
+-- a superclass that stands before its class; another one is inherited from by nobody, since it is refused (rule 22, UnknownClass)
+abbrev pub if_before : (class : ℕ) → (superclass : Option ℕ) → Option ℕ
+if_before class None = None
+if_before class (Some above) = if nat_lt above class then Some above else None
 
--- The fields of a class's objects, inherited ones first, where classes with lower numbers than n are looked at: a superclass stands before its subclasses
+abbrev pub earlier_superclasses_from : List InterfaceTree → (class : ℕ) → List InterfaceTree → List (Option ℕ)
+earlier_superclasses_from interfaces class [] = []
+earlier_superclasses_from interfaces class (i ∷ others) = if_before class (class_number interfaces i.superclass) ∷ earlier_superclasses_from interfaces (suc class) others
+
+-- the superclasses of all classes, as far as these inherit from them
+abbrev pub earlier_superclasses : List InterfaceTree → List (Option ℕ)
+earlier_superclasses interfaces = None ∷ earlier_superclasses_from interfaces 1 interfaces
+
+abbrev pub own_class_fields : UnitTree → (class : ℕ) → List ClassField
+own_class_fields u class = map (owned class) (own_fields u class)
+
+-- The fields of a class's objects, in the order of their numbers, which count from 0: those that the classes declare from the root down to this one
 -- (OPL, "Inheriting Instance Variables").
-abbrev pub fields_below : (n : ℕ) → UnitTree → (class : ℕ) → List ClassField
-fields_below zero u class = []
-fields_below (suc n) u class =
-    if nat_eq class n then of_superclass (superclass u.interfaces n) (λ above. fields_below n u above) ++ map (owned n) (own_fields u n) else fields_below n u class
-
-abbrev pub inherited_below : (n : ℕ) → UnitTree → (superclass : Option ℕ) → List ClassField
-inherited_below n u above = of_superclass above (fields_below n u)
-
--- the fields of a class's objects, in the order of their numbers, which count from 0
 abbrev pub fields : UnitTree → (class : ℕ) → List ClassField
-fields u class = fields_below (suc class) u class
+fields u class = flat_map (own_class_fields u) (reverse (ancestry (earlier_superclasses u.interfaces) (Some class)))
+
+abbrev pub fields_from : UnitTree → (class : Option ℕ) → List ClassField
+fields_from u None = []
+fields_from u (Some class) = fields u class
+
+-- those that a class inherits from a superclass
+abbrev pub inherited_by : UnitTree → (class : ℕ) → (superclass : Option ℕ) → List ClassField
+inherited_by u class superclass = fields_from u (if_before class superclass)
 
 -- the same of so many classes, from one on
 abbrev pub all_fields_from : UnitTree → (class count : ℕ) → List (List ClassField)
@@ -77,7 +89,7 @@ all_fields_from u class (suc n) = fields u class ∷ all_fields_from u (suc clas
 
 -- those of its superclass
 abbrev pub inherited : UnitTree → (class : ℕ) → List ClassField
-inherited u class = inherited_below class u (superclass u.interfaces class)
+inherited u class = inherited_by u class (superclass u.interfaces class)
 
 -- the first field with a name among those that a class declares, of which the first has this number
 abbrev pub numbered : (owner number : ℕ) → List FieldTree → List ℕ → Option FoundField
@@ -90,4 +102,4 @@ own_field u class name = numbered class (length (inherited u class)) (own_fields
 
 -- the field with a name that the objects of a class have: the nearest that the class or a class above it declares
 abbrev pub known_field : UnitTree → Option ℕ → List ℕ → Option FoundField
-known_field u from name = nearest (length u.interfaces) (superclass u.interfaces) (λ class. own_field u class name) from
+known_field u from name = first_that_has (λ class. own_field u class name) (ancestry (superclasses u.interfaces) from)

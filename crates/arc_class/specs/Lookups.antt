@@ -1,5 +1,5 @@
 -- What tables, maps and lists have at names and numbers.
-use Rattle.std.specs.Prelude.{ℕ, zero, suc, ◌+◌, ◌-◌, Bool, false, List, [], ◌∷◌, length, map, slice_get, nat_eq, codes, Option, Some, None, option_map, Vec, if◌then◌else◌}
+use Rattle.std.specs.Prelude.{ℕ, zero, suc, ◌+◌, Bool, false, List, [], ◌∷◌, map, slice_get, nat_eq, codes, Option, Some, None, option_map, Vec, if◌then◌else◌}
 use Rattle.std.specs.Global.{Global}
 use Rattle.std.specs.Str.{bytes_eq}
 use Rattle.std.specs.BTreeMap.{BTreeMap, get_by}
@@ -10,7 +10,7 @@ use Rattle.arc_ast.specs.declared.tree.Kind.{Kind}
 use Rattle.arc_ast.specs.declared.tree.MethodHead.{MethodHead}
 use Rattle.arc_ast.specs.declared.tree.Sign.{Sign}
 use Rattle.arc_ast.specs.declared.tree.Sign.TheVariants as signs
-use Rattle.arc_spec.specs.Classes.{Class}
+use Rattle.arc_spec.specs.Classes.{Class, superclasses, ancestry, first_that_has, own_dealloc}
 use Rattle.arc_class.specs.declared.fields.ClassFields.{ClassFields}
 use Rattle.arc_class.specs.declared.heads.Heads.{Heads}
 use Rattle.arc_class.specs.declared.root.BuiltIn.{BuiltIn}
@@ -21,8 +21,8 @@ use Rattle.arc_class.specs.declared.table.FoundField.{FoundField}
 use Rattle.arc_class.specs.declared.table.MethodId.{MethodId}
 use Rattle.arc_class.specs.declared.table.Place.{Place}
 use Rattle.arc_class.specs.declared.table.Sel.{Sel}
-use Rattle.arc_class.specs.Classes.{is_root, nearest, built_in_result}
-use Rattle.arc_class.specs.ClassRules.{least}
+use Rattle.arc_class.specs.Classes.{is_root, built_in_result}
+use Rattle.arc_class.specs.ClassRules.{least_among}
 use Rattle.arc_class.specs.Fields.{ClassField}
 use Rattle.arc_class.specs.Running.{classes}
 
@@ -65,10 +65,13 @@ superclass_among entries class = superclass_at (slice_get entries class)
     superclass_at None = None
     superclass_at (Some e) = e.superclass
 
+abbrev pub superclass_of_entry : Entry → Option ℕ
+superclass_of_entry e = e.superclass
+
 -- the nearest that a class and those above it have
 abbrev pub result_among : List Entry → Option ℕ → Sign → List ℕ → Option Kind
 result_among entries from sign selector =
-    nearest (length entries - 1) (superclass_among entries) (λ class. own_result_in class (slice_get entries class) sign selector) from
+    first_that_has (λ class. own_result_in class (slice_get entries class) sign selector) (ancestry (map superclass_of_entry entries) from)
 
 -- the field that a class itself declares, and the nearest of it and those above it, by a table of the fields of each class
 abbrev pub own_field_in : Option ClassFields → List ℕ → Option FoundField
@@ -80,19 +83,15 @@ abbrev pub own_place_in : Option ClassFields → List ℕ → Option ℕ
 own_place_in None name = None
 own_place_in (Some c) name = at_name c.places name
 
-abbrev pub superclass_of_fields : List ClassFields → ℕ → Option ℕ
-superclass_of_fields classes class = superclass_at (slice_get classes class)
-  where
-    superclass_at : Option ClassFields → Option ℕ
-    superclass_at None = None
-    superclass_at (Some c) = c.superclass
+abbrev pub superclass_of_fields : ClassFields → Option ℕ
+superclass_of_fields c = c.superclass
 
 abbrev pub field_among : List ClassFields → Option ℕ → List ℕ → Option FoundField
-field_among classes from name = nearest (length classes - 1) (superclass_of_fields classes) (λ class. own_field_in (slice_get classes class) name) from
+field_among classes from name = first_that_has (λ class. own_field_in (slice_get classes class) name) (ancestry (map superclass_of_fields classes) from)
 
 -- the first by position of the fields with a name that a class and those above it declare
 abbrev pub place_among : List ClassFields → Option ℕ → List ℕ → Option ℕ
-place_among classes from name = least (length classes - 1) (superclass_of_fields classes) (λ class. own_place_in (slice_get classes class) name) from
+place_among classes from name = least_among (λ class. own_place_in (slice_get classes class) name) (ancestry (map superclass_of_fields classes) from)
 
 -- a field, without where it lies in memory; and all of a class's objects
 abbrev pub field_tree : Field → ClassField
@@ -119,18 +118,9 @@ abbrev pub colons : List ℕ → ℕ
 colons [] = 0
 colons (b ∷ others) = if nat_eq b 58 then suc (colons others) else colons others
 
--- a class's superclass, and the function that its own `dealloc` runs
-abbrev pub superclass_of_class : Option Class → Option ℕ
-superclass_of_class None = None
-superclass_of_class (Some c) = c.superclass
-
-abbrev pub dealloc_of_class : Option Class → Option ℕ
-dealloc_of_class None = None
-dealloc_of_class (Some c) = c.dealloc
-
 -- the function that the nearest `dealloc` runs of a class and those above it
 abbrev pub nearest_dealloc : List Class → Option ℕ → Option ℕ
-nearest_dealloc classes = nearest (length classes - 1) (λ class. superclass_of_class (slice_get classes class)) (λ class. dealloc_of_class (slice_get classes class))
+nearest_dealloc classes from = first_that_has (λ class. own_dealloc (slice_get classes class)) (ancestry (superclasses classes) from)
 
 -- whether a message of this sign with this selector ends an object
 abbrev pub ends_object : Sign → List ℕ → Bool

@@ -1,15 +1,16 @@
 -- For each class and each name, the nearest class from that one up that has the name.
-use Rattle.std.specs.Prelude.{◌≡◌, ℕ, zero, suc, ◌<◌, ◌≤◌, ◌^◌, Bool, List, [], length, map, slice_get, Option, Some, None, is_some, option_map, ◌-◌, if◌then◌else◌}
+use Rattle.std.specs.Prelude.{◌≡◌, ℕ, zero, suc, ◌<◌, ◌≤◌, ◌^◌, Bool, List, [], length, map, slice_get, Option, Some, None, is_some, option_map, if◌then◌else◌}
 use Rattle.arc_ast.specs.declared.tree.Sign.{Sign}
+use Rattle.arc_spec.specs.Classes.{ancestry, first_that_has}
 use Rattle.arc_class.specs.declared.fields.ClassFields.{ClassFields}
 use Rattle.arc_class.specs.declared.table.Entry.{Entry}
 use Rattle.arc_class.specs.declared.owners.Map.{Map}
 use Rattle.arc_class.specs.declared.owners.Maps.{Maps}
 use Rattle.arc_class.specs.declared.owners.Owners.{Owners}
 use Rattle.arc_class.specs.declared.numbered.TheConstants.{LEVELS}
-use Rattle.arc_class.specs.Classes.{or_then, nearest, number_among}
+use Rattle.arc_class.specs.Classes.{or_else, number_among}
 use Rattle.arc_class.specs.Numbered.{at_number, IsWithin}
-use Rattle.arc_class.specs.Lookups.{head_at, superclass_among, own_result_in, superclass_of_fields, own_field_in, names_of}
+use Rattle.arc_class.specs.Lookups.{head_at, superclass_of_entry, own_result_in, superclass_of_fields, own_field_in, names_of}
 
 -- the names that maps have, in the order of their numbers
 abbrev pub names_in : Maps → List (List ℕ)
@@ -22,7 +23,7 @@ at_number_of maps first (Some number) = at_number LEVELS maps.nodes.items first 
 
 -- what a map has at a name
 abbrev pub in_map : Maps → Map → List ℕ → Option ℕ
-in_map maps map name = or_then (at_number_of maps map.first (number_among (names_in maps) name)) map.otherwise
+in_map maps map name = or_else (at_number_of maps map.first (number_among (names_in maps) name)) map.otherwise
 
 -- nothing is shared yet
 pub record no_maps (maps : Maps) : Type 0 where
@@ -91,9 +92,9 @@ owner_by own class name = option_map (λ found. class) (own class name)
 
 -- Where a class's map is known, it says which class has the nearest of a name. A map may name a class that has nothing of the name, as those of methods name the
 -- root for all selectors: so what the named class has is asked for (`own_of`).
-abbrev pub Tells : {X : Type 0} → (count : ℕ) → (above : ℕ → Option ℕ) → (own : ℕ → List ℕ → Option X) → List (Option (List ℕ → Option ℕ)) → Type 0
-Tells count above own all = (class : ℕ) (view : List ℕ → Option ℕ) → slice_get all class ≡ Some (Some view) → (name : List ℕ)
-    → nearest count above (λ c. own c name) (Some class) ≡ own_of (λ c. own c name) (view name)
+abbrev pub Tells : {X : Type 0} → (superclasses : List (Option ℕ)) → (own : ℕ → List ℕ → Option X) → List (Option (List ℕ → Option ℕ)) → Type 0
+Tells superclasses own all = (class : ℕ) (view : List ℕ → Option ℕ) → slice_get all class ≡ Some (Some view) → (name : List ℕ)
+    → first_that_has (λ c. own c name) (ancestry superclasses (Some class)) ≡ own_of (λ c. own c name) (view name)
 
 -- what is known of a class behind others by its methods of a sign; the root, which is the first, has all
 abbrev pub entry_view : (class : ℕ) → Entry → Sign → List (Option (List ℕ → Option ℕ)) → Option (List ℕ → Option ℕ)
@@ -103,7 +104,7 @@ entry_view (suc n) e sign all = with_own (λ name. is_some (head_at e.methods si
 -- The owners of the methods of a sign, and of the fields: which class has the nearest, by what is known of each class.
 abbrev pub TellsMethods : List Entry → Sign → Owners → Type 0
 TellsMethods entries sign owners =
-    Tells (length entries - 1) (superclass_among entries) (owner_by (λ class selector. own_result_in class (slice_get entries class) sign selector)) (views owners)
+    Tells (map superclass_of_entry entries) (owner_by (λ class selector. own_result_in class (slice_get entries class) sign selector)) (views owners)
 
 abbrev pub TellsFields : List ClassFields → Owners → Type 0
-TellsFields classes owners = Tells (length classes - 1) (superclass_of_fields classes) (owner_by (λ class name. own_field_in (slice_get classes class) name)) (views owners)
+TellsFields classes owners = Tells (map superclass_of_fields classes) (owner_by (λ class name. own_field_in (slice_get classes class) name)) (views owners)

@@ -1,5 +1,5 @@
 -- What a table of a source is.
-pub use Rattle.arc_class.specs.Lookups.{number_of_class, number_of_selector, number_of_method, at_name, class_number_in, head_at, result_at, own_result_in, superclass_among, result_among, own_field_in, own_place_in, superclass_of_fields, field_among, place_among, field_tree, list_of, items_at, list_at, list_among, colons, superclass_of_class, dealloc_of_class, nearest_dealloc, ends_object, built_in_at, names_of, built_in_from}
+pub use Rattle.arc_class.specs.Lookups.{number_of_class, number_of_selector, number_of_method, at_name, class_number_in, head_at, result_at, own_result_in, superclass_among, superclass_of_entry, result_among, own_field_in, own_place_in, superclass_of_fields, field_among, place_among, field_tree, list_of, items_at, list_at, list_among, colons, nearest_dealloc, ends_object, built_in_at, names_of, built_in_from}
 use Rattle.std.specs.Prelude.{◌≡◌, ℕ, List, [], position, slice_get, Option, Some, None, if◌then◌else◌}
 use Rattle.std.specs.Str.{bytes_eq}
 use Rattle.std.specs.Borrow.{Bor}
@@ -12,7 +12,7 @@ use Rattle.arc_class.specs.declared.owners.Owners.{Owners}
 use Rattle.arc_class.specs.declared.table.ClassTable.{ClassTable}
 use Rattle.arc_class.specs.declared.table.Declared.{Declared}
 use Rattle.arc_class.specs.declared.table.FoundField.{FoundField}
-use Rattle.arc_class.specs.Classes.{and_name, class_number, superclass, or_then, built_in_result, counting_result, known_result, any_result, selector_number, function_count}
+use Rattle.arc_class.specs.Classes.{and_name, class_number, superclass, or_else, built_in_result, counting_result, known_result, any_result, selector_number, function_count}
 use Rattle.arc_class.specs.Fields.{ClassField, fields, known_field}
 use Rattle.arc_class.specs.Names.{known, number_of, is_main}
 use Rattle.arc_class.specs.Running.{classes}
@@ -36,7 +36,7 @@ nearest_result_in table class = result_among table.entries.items (Some class)
 
 abbrev pub result_in_table : ClassTable → Option ℕ → Sign → List ℕ → Option Kind
 result_in_table table None sign selector = None
-result_in_table table (Some class) sign selector = or_then (counting_result selector) (nearest_result_in table class sign selector)
+result_in_table table (Some class) sign selector = or_else (counting_result selector) (nearest_result_in table class sign selector)
 
 -- which class has the nearest method of a sign, by a table
 abbrev pub owners_in : ClassTable → Sign → Owners
@@ -45,8 +45,8 @@ owners_in table signs.Instance = table.instance_methods
 
 -- what a message to an object gives of which no class is known
 abbrev pub any_result_in : ClassTable → List ℕ → Option Kind
-any_result_in table selector = or_then (counting_result selector)
-    (or_then (result_at table.declared signs.Instance selector) (or_then (result_at table.defined signs.Instance selector) (built_in_result signs.Instance selector)))
+any_result_in table selector = or_else (counting_result selector)
+    (or_else (result_at table.declared signs.Instance selector) (or_else (result_at table.defined signs.Instance selector) (built_in_result signs.Instance selector)))
 
 abbrev pub field_in_table : ClassTable → Option ℕ → List ℕ → Option FoundField
 field_in_table table = field_among table.named_fields.items
@@ -74,7 +74,7 @@ built_in_method table class sign selector =
     if descends (classes_of table.classes.items) (Some class) 0 then built_in_at table.built_in sign (selector_name table selector) else None
 
 abbrev pub method_in : ClassTable → (class : ℕ) → Sign → (selector : ℕ) → Option ℕ
-method_in table class sign selector = or_then (defined_in table class sign selector) (built_in_method table class sign selector)
+method_in table class sign selector = or_else (defined_in table class sign selector) (built_in_method table class sign selector)
 
 abbrev pub selector_names : ClassTable → List (List ℕ)
 selector_names table = names_of table.selectors.keys

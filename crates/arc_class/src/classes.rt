@@ -1,6 +1,6 @@
 //! The rules for classes.
 ghost use Rattle.std.specs.Prelude.{◌≡◌, ◌≤◌, ◌||◌, List, ℕ, [], ◌++◌, length, map, option_map, is_some, IfOk};
-ghost use Rattle.arc_ast.specs.Tree.{FunctionTree, InterfaceTree, ImplementationTree, unit_tree, function_tree, interface_tree, interface_trees, implementation_tree, implementation_trees};
+ghost use Rattle.arc_ast.specs.Tree.{InterfaceTree, ImplementationTree, unit_tree, function_tree, interface_tree, implementation_tree};
 ghost use Rattle.arc_class.specs.Broken.{first};
 ghost use Rattle.arc_class.specs.ClassRules as rules;
 ghost use Rattle.arc_class.specs.ClassRules.{broken_names, broken_members, broken_interfaces, broken_own_names, broken_own_fields, broken_implementations, named_as_classes, missing_of};

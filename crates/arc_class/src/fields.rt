@@ -2,7 +2,7 @@
 ghost use Rattle.std.specs.Prelude.{◌≡◌, ℕ, List, ◌+◌, ◌++◌, length, map, option_map, slice_get, suc, IfOk, IfErr, OnOk};
 ghost use Rattle.arc_ast.specs.Tree.{UnitTree, FieldTree, unit_tree, interface_tree, field_trees};
 ghost use Rattle.arc_class.specs.Broken.{first};
-ghost use Rattle.arc_class.specs.Classes.{or_then};
+ghost use Rattle.arc_class.specs.Classes.{or_else};
 ghost use Rattle.arc_class.specs.ClassRules as rules;
 ghost use Rattle.arc_class.specs.ClassRules.{broken_field, broken_fields, broken_pair};
 ghost use Rattle.arc_fault.specs.declared.class.ClassFault.TheVariants.{Memory};
@@ -54,7 +54,7 @@ fn keep_places<'a>(
     fields: &'a [tree::Field],
 ) -> Result<(), AllocError>
     ensures { OnOk result ((sought : List ℕ)
-        → at_name places.new sought ≡ or_then (at_name places.old sought) (rules.field_place sought (field_trees fields.now))) }
+        → at_name places.new sought ≡ or_else (at_name places.old sought) (rules.field_place sought (field_trees fields.now))) }
 {
     for field in fields {
         keep_first(places, &field.name, field.at)?;
@@ -81,7 +81,7 @@ fn keep_fields<'a>(
     fields: &'a [tree::Field],
 ) -> Result<usize, ClassFault>
     ensures kept { OnOk result ((sought : List ℕ)
-        → at_name named.new sought ≡ or_then (at_name named.old sought) (numbered (number_of_class owner) number (field_trees fields.now) sought)) }
+        → at_name named.new sought ≡ or_else (at_name named.old sought) (numbered (number_of_class owner) number (field_trees fields.now) sought)) }
     ensures counted { IfOk result (λ next. next ≡ number + length (field_trees fields.now)) }
     ensures refused { IfErr result (λ fault. fault ≡ Memory) }
 {

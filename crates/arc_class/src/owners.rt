@@ -2,7 +2,6 @@
 ghost use Rattle.std.specs.Prelude.{◌≡◌, ◌++◌, ◌∷◌, [], length, is_some, IfOk, IfErr, OnOk, IfSome};
 ghost use Rattle.std.specs.Str.{bytes_eq};
 ghost use Rattle.arc_fault.specs.declared.class.ClassFault.TheVariants.{Memory};
-ghost use Rattle.arc_class.specs.Owners as specs;
 ghost use Rattle.arc_class.specs.Owners.{no_maps, IsMap, Adds, in_map, IsOwners, view_of, view_at, views, has_at, with_own};
 ghost use Rattle.arc_class.specs.Table.{at_name};
 

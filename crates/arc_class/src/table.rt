@@ -12,7 +12,7 @@ ghost use Rattle.arc_class.specs.Functions.{missing_main};
 ghost use Rattle.arc_class.specs.Kept.{Knows};
 ghost use Rattle.arc_class.specs.Names.{number_of, is_main};
 ghost use Rattle.arc_ast.specs.declared.tree.Sign.TheVariants as signs;
-ghost use Rattle.arc_class.specs.Lookups.{at_name, class_number_in, own_result_in, result_at, result_among, field_among, field_tree, items_at, ends_object, nearest_dealloc, colons, number_of_class, number_of_selector, number_of_method};
+ghost use Rattle.arc_class.specs.Lookups.{at_name, class_number_in, own_result_in, result_at, result_among, field_tree, items_at, ends_object, nearest_dealloc, colons, number_of_class, number_of_selector, number_of_method};
 ghost use Rattle.arc_class.specs.Owners.{TellsMethods, TellsFields};
 ghost use Rattle.std.proofs.Props.{props};
 

@@ -3,7 +3,7 @@ ghost use Rattle.std.specs.Prelude.{◌≡◌, ◌++◌, IfOk, OnOk, option_map}
 ghost use Rattle.arc_ast.specs.Tree.{type_tree, expr_tree, expr_trees, variable_trees, parameter_trees, parameters_tree, stmt_tree, stmt_trees, function_tree, function_trees};
 ghost use Rattle.arc_class.specs.Bodies as bodies;
 ghost use Rattle.arc_class.specs.Bodies.{broken_if, broken_type, broken_expr, broken_exprs, broken_maybe, broken_variables, broken_stmt, broken_stmts, broken_parameters, broken_function, no_name, and_name, names_with, names_after, names_taken};
-ghost use Rattle.arc_class.specs.Broken.{first, earlier_of};
+ghost use Rattle.arc_class.specs.Broken.{first};
 ghost use Rattle.arc_class.specs.Fault.{told};
 ghost use Rattle.arc_class.specs.Functions.{broken_functions};
 ghost use Rattle.arc_class.specs.Walk.{missing_in, holds};

@@ -56,14 +56,6 @@ impl<T> Counted<T> {
         &self.inner
     }
 
-    /// Counts the failures of another device as failures of this one, which it stands in for.
-    pub fn count_failures<U>(&mut self, other: &Counted<U>)
-        requires { failures_of self.old + failures_of other.now < 2 ^ 64 }
-        ensures { self.new ≡ record self.old { failures = self.old.failures + other.now.failures } }
-    {
-        self.failures += other.failures;
-    }
-
     fn fail(&mut self) -> Failed
         requires { failures_of self.old < 2 ^ 64 - 1 }
         ensures { self.new ≡ record self.old { failures = self.old.failures + 1 } }

@@ -5,5 +5,5 @@ pub mod family;
 pub mod fault;
 pub mod law;
 pub mod owned;
+mod rules;
 pub mod signature;
-mod walk;

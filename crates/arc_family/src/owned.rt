@@ -4,9 +4,10 @@ ghost use Rattle.arc_ast.specs.Tree.{unit_tree};
 ghost use Rattle.arc_family.specs.Rules.{broken};
 ghost use Rattle.arc_family.specs.Fault.{Refuses};
 
-use crate::walk::walk;
+use crate::rules::Ownership;
 use arc_check::checked::Checked;
 use arc_fault::own::OwnFault;
+use arc_sites::walk::walk;
 use std::alloc::Global;
 
 /// A program that keeps the rules of ownership.
@@ -21,7 +22,9 @@ pub fn own<'a>(_alloc: Global, program: &'a Checked<'a>) -> Result<Owned<'a>, Ow
     ensures same { IfOk result (λ owned. owned.program.now ≡ program.now) }
     ensures refused { IfErr result (λ fault. Refuses (broken (unit_tree program.now.unit.now)) fault) }
 {
-    match walk(program.unit) {
+    let mut ownership = Ownership { fault: None };
+    walk(&mut ownership, program.unit);
+    match ownership.fault {
         Some(fault) => Err(fault),
         None => Ok(Owned { program }),
     }

@@ -1,5 +1,5 @@
 //! A store that grows.
-ghost use Rattle.std.specs.Prelude.{◌≡◌, ℕ, ◌+◌, ◌<◌, ◌≤◌, ◌⊎◌, List, [], Option, Some, None, true, length, get_or, replicate, IfSome, IsNone};
+ghost use Rattle.std.specs.Prelude.{◌≡◌, ℕ, ◌+◌, ◌<◌, ◌≤◌, ◌⊎◌, List, Option, Some, None, true, length, get_or, replicate, IfSome, IsNone};
 ghost use Rattle.arc_heap.specs.Blocks.{no_blocks, with_block};
 ghost use Rattle.arc_heap.specs.Sizes.{size_of};
 ghost use Rattle.arc_heap.specs.Plain.{blocks_in, mark_at};

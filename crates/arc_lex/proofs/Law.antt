@@ -3,7 +3,7 @@ use Rattle.std.proofs.Common.{◌≡◌, ◌<◌, ℕ, List, [], ◌∷◌, leng
 use Rattle.std.proofs.lemmas.Bool.{cond_both, eqb-true, eqb-false, both_ways}
 use Rattle.arc_lex.specs.declared.piece.Rule.TheVariants as rules
 use Rattle.arc_lex.specs.Bytes.{is_letter, is_digit, is_blank}
-use Rattle.arc_lex.specs.Pieces.{Blank, Broken, Law, is_comment, name_piece, number_piece, text_piece, at_piece, mark_piece, not_blank, not_at, not_text, not_number, not_name, piece}
+use Rattle.arc_lex.specs.private.Pieces.{Blank, Broken, Law, is_comment, name_piece, number_piece, text_piece, at_piece, mark_piece, not_blank, not_at, not_text, not_number, not_name, piece}
 use Rattle.arc_lex.proofs.MarkLaw.{at_law, blank_law, comment_law, mark_law}
 use Rattle.arc_lex.proofs.NameLaw.{name_law}
 use Rattle.arc_lex.proofs.NumberLaw.{number_law}

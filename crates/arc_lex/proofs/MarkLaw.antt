@@ -6,7 +6,7 @@ use Rattle.arc_lex.specs.declared.spelling.TheConstants.{MARKS, AT_WORDS}
 use Rattle.arc_lex.specs.declared.token.Mark.{Mark}
 use Rattle.arc_lex.specs.declared.token.AtWord.{AtWord}
 use Rattle.arc_lex.specs.Bytes.{is_letter, is_digit, is_blank}
-use Rattle.arc_lex.specs.Pieces.{Blank, Broken, Law, first_front, is_comment, at_found, at_piece, mark_found, mark_piece}
+use Rattle.arc_lex.specs.private.Pieces.{Blank, Broken, Law, first_front, is_comment, at_found, at_piece, mark_found, mark_piece}
 use Rattle.arc_lex.specs.Source.{IsToken, IsComment, NothingBegins, Faultless}
 use Rattle.arc_lex.specs.Spellings.{mark_bytes, at_bytes}
 use Rattle.arc_lex.specs.Tokens.{Sort, At, Sign}

@@ -10,7 +10,7 @@ use Rattle.arc_lex.specs.declared.bytes.Class.TheVariants as c
 use Rattle.arc_lex.specs.declared.spelling.TheConstants.{MARKS, WORDS, AT_WORDS}
 use Rattle.arc_lex.specs.Bytes.{all_in, begins, is_letter, is_digit, is_blank}
 use Rattle.arc_lex.specs.Spellings.{mark_bytes, word_bytes, at_bytes}
-use Rattle.arc_lex.specs.Pieces.{first_equal}
+use Rattle.arc_lex.specs.private.Pieces.{first_equal}
 use Rattle.arc_lex.proofs.Tables.{nth, passes, descending, equal_sound, one_entry}
 
 pub mark_stands : (it : Mark) → (n : ℕ) × (nth n MARKS ≡ Some it)

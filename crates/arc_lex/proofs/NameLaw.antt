@@ -5,7 +5,7 @@ use Rattle.arc_lex.specs.declared.bytes.Class.TheVariants as c
 use Rattle.arc_lex.specs.declared.spelling.TheConstants.{WORDS}
 use Rattle.arc_lex.specs.declared.token.Word.{Word}
 use Rattle.arc_lex.specs.Bytes.{has, all_in, begins, run, is_letter, is_digit}
-use Rattle.arc_lex.specs.Pieces.{Whole, Law, first_equal, word_or_name, name_piece}
+use Rattle.arc_lex.specs.private.Pieces.{Whole, Law, first_equal, word_or_name, name_piece}
 use Rattle.arc_lex.specs.Source.{IsToken, IsWordLike, Faultless}
 use Rattle.arc_lex.specs.Spellings.{word_bytes}
 use Rattle.arc_lex.specs.Tokens.{Sort, Name, Key}

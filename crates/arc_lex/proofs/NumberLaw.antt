@@ -5,7 +5,7 @@ use Rattle.arc_lex.specs.declared.bytes.Class.{Class}
 use Rattle.arc_lex.specs.declared.bytes.Class.TheVariants as c
 use Rattle.arc_lex.specs.declared.piece.Rule.TheVariants as rules
 use Rattle.arc_lex.specs.Bytes.{all_in, begins, run, is_digit}
-use Rattle.arc_lex.specs.Pieces.{Whole, Broken, Law, is_hexadecimal, digits_piece, number_piece}
+use Rattle.arc_lex.specs.private.Pieces.{Whole, Broken, Law, is_hexadecimal, digits_piece, number_piece}
 use Rattle.arc_lex.specs.Source.{IsToken, IsDigits, IsInteger, IsComment, IsHexadecimal, IsSuffixed, ComesLater, IsWrongInteger, Faultless}
 use Rattle.arc_lex.specs.Texts.{number, largest, leads_with_zero, is_suffix}
 use Rattle.arc_lex.specs.Tokens.{Sort, Integer}

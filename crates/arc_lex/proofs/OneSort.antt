@@ -2,7 +2,7 @@
 use Rattle.std.proofs.Common.{◌≡◌, ◌⊎◌, inl, inr, ℕ, List, [], ◌∷◌, ◌++◌, length, take, drop, false, Some, refl, sym, ap, subst, ◌∙◌, arith}
 use Rattle.std.proofs.lemmas.List.{take_at, drop_at}
 use Rattle.arc_lex.specs.declared.token.Word.{Word}
-use Rattle.arc_lex.specs.Pieces.{scan}
+use Rattle.arc_lex.specs.private.Pieces.{scan}
 use Rattle.arc_lex.specs.Source.{IsToken, Longest}
 use Rattle.arc_lex.specs.Texts.{parts_bytes, parts_value}
 use Rattle.arc_lex.specs.Tokens.{Sort, Name, Integer, Text, Key, At, Sign}

@@ -3,7 +3,7 @@ use Rattle.std.proofs.Common.{◌≡◌, ℕ, ◌+◌, List, [], ◌∷◌, ◌+
 use Rattle.std.proofs.lemmas.List.{append-nil}
 use Rattle.std.proofs.lemmas.Bool.{ne_eqb}
 use Rattle.arc_lex.specs.Texts.{Part, Plain, Escape, part_bytes, parts_bytes, part_value, parts_value, put_front, is_plain, escape_value}
-use Rattle.arc_lex.specs.Pieces.{scan}
+use Rattle.arc_lex.specs.private.Pieces.{scan}
 
 -- the parts read so far, and a lone backslash behind them where escaped
 pub record ReadSoFar (right escaped : Bool) (items : List ℕ) (at : ℕ) (rest all : List ℕ) : Type 0 where

@@ -5,7 +5,7 @@ use Rattle.std.specs.List.{starts_with}
 use Rattle.std.proofs.lemmas.Bool.{and_parts, leb-true, true≢false, not-true}
 use Rattle.std.proofs.lemmas.List.{take-append-drop, take_at}
 use Rattle.std.proofs.lemmas.Slice.Eq.{bytes_eq-Decides}
-use Rattle.arc_lex.specs.Pieces.{first_front, first_equal}
+use Rattle.arc_lex.specs.private.Pieces.{first_front, first_equal}
 
 -- the entry at a place
 abbrev pub nth : {A : Type 0} → ℕ → List A → Option A

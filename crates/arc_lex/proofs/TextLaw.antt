@@ -3,7 +3,7 @@ use Rattle.std.proofs.Common.{◌≡◌, ◌≤◌, inl, inr, ℕ, ◌+◌, List
 use Rattle.std.proofs.lemmas.List.{append-nil}
 use Rattle.std.proofs.lemmas.Bool.{and_parts, and_from, eqb-true, not-true, not_from_false}
 use Rattle.std.proofs.lemmas.Bool.Decides.{nat_tests}
-use Rattle.arc_lex.specs.Pieces.{Law, scan, value_piece, parts_piece, text_piece}
+use Rattle.arc_lex.specs.private.Pieces.{Law, scan, value_piece, parts_piece, text_piece}
 use Rattle.arc_lex.specs.Source.{IsToken, Faultless}
 use Rattle.arc_lex.specs.Texts.{Part, Plain, Escape, parts_bytes, part_value, parts_value, put_front, is_plain, escape_value, goes_on, all_go_on}
 use Rattle.arc_lex.specs.Tokens.{Sort, Text}

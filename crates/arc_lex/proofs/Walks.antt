@@ -3,7 +3,7 @@ use Rattle.std.proofs.Common.{◌≡◌, ℕ, ◌+◌, List, [], ◌∷◌, ◌+
 use Rattle.std.proofs.lemmas.List.{drop_at}
 use Rattle.arc_lex.specs.declared.piece.Rule.{Rule}
 use Rattle.arc_lex.specs.declared.token.Token.{Token}
-use Rattle.arc_lex.specs.Pieces.{Piece, Blank, Whole, Broken, Law, Fits}
+use Rattle.arc_lex.specs.private.Pieces.{Piece, Blank, Whole, Broken, Law, Fits}
 use Rattle.arc_lex.specs.Source.{Cuts, blank, token, FaultAt, behind_blank, behind_token}
 use Rattle.arc_lex.specs.Tokens.{Sort, Tok, tok, toks}
 

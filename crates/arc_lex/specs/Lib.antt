@@ -1,8 +1,7 @@
 pub mod Bytes
 pub mod Faults
-pub mod Pieces
-pub mod Scans
 pub mod Source
 pub mod Spellings
 pub mod Texts
 pub mod Tokens
+pub mod private

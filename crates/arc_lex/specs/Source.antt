@@ -5,6 +5,7 @@ use Rattle.arc_lex.specs.declared.token.AtWord.{AtWord}
 use Rattle.arc_lex.specs.declared.bytes.Class.TheVariants as c
 use Rattle.arc_lex.specs.declared.piece.Rule.{Rule}
 use Rattle.arc_lex.specs.declared.piece.Rule.TheVariants as rules
+use Rattle.arc_lex.specs.declared.lex.TheConstants.{MOST_BYTES}
 use Rattle.arc_lex.specs.Bytes.{has, all_in, begins, is_blank}
 use Rattle.arc_lex.specs.Spellings.{mark_bytes, word_bytes, at_bytes}
 use Rattle.arc_lex.specs.Texts.{Part, parts_bytes, parts_value, all_go_on, number, largest, leads_with_zero, is_suffix}
@@ -117,7 +118,7 @@ pub data FaultAt : ℕ → List ℕ → ℕ → Rule → Type 0 where
 
 -- the most bytes that a source has (the choice of this project)
 abbrev pub most_bytes : ℕ
-most_bytes = 1048576
+most_bytes = MOST_BYTES
 
 -- the tokens of a source
 abbrev pub Tokens : List ℕ → List Tok → Type 0

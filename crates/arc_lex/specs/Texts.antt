@@ -1,5 +1,6 @@
 -- Texts and integers: which bytes they are written with, and what they stand for.
 use Rattle.std.specs.Prelude.{ℕ, ◌+◌, ◌-◌, ◌*◌, List, [], ◌∷◌, ◌++◌, Bool, true, false, not, ◌&&◌, ◌||◌, nat_le, nat_eq, if◌then◌else◌, Option, Some, None}
+use Rattle.arc_lex.specs.declared.number.TheConstants.{LARGEST}
 
 -- What stands between the quotes of a text is a row of parts: a byte for itself, or a backslash and the byte behind it.
 pub data Part : Type 0 where
@@ -68,7 +69,7 @@ number ds = number_after 0 ds
 
 -- the largest integer
 abbrev pub largest : ℕ
-largest = 9223372036854775807
+largest = LARGEST
 
 -- a 0 with more behind it
 abbrev pub leads_with_zero : List ℕ → Bool

@@ -2,6 +2,7 @@
 ghost use Rattle.std.specs.Prelude.{◌≡◌};
 ghost use Rattle.arc_lex.specs.Faults.{fault_number, fault_name, fault_at};
 
+use crate::lex::MOST_BYTES;
 use std::alloc::{AllocError, AllocFailed};
 use thiserror::Error;
 
@@ -58,7 +59,8 @@ impl LexFault {
         }
     }
 
-    /// The byte that the fault names, counted from 0: 1048576 for a source that is too long, and 0 for want of memory.
+    /// The byte that the fault names, counted from 0: the first one too many of a source that is too long, and 0 for
+    /// want of memory.
     pub fn at(&self) -> usize
         ensures { result ≡ fault_at self.now }
     {
@@ -67,7 +69,7 @@ impl LexFault {
             LexFault::OpenLiteral(at) => *at,
             LexFault::Literal(at) => *at,
             LexFault::Directive(at) => *at,
-            LexFault::TooLong => 1048576,
+            LexFault::TooLong => MOST_BYTES,
             LexFault::Memory => 0,
         }
     }

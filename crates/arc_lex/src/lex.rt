@@ -1,5 +1,5 @@
 //! Cuts a source into tokens.
-ghost use Rattle.std.specs.Prelude.{◌≡◌, ◌<◌, ◌≤◌, length, IfOk, IfErr};
+ghost use Rattle.std.specs.Prelude.{◌≡◌, ◌<◌, IfOk, IfErr};
 ghost use Rattle.arc_lex.specs.Faults.{fault_of, IsLexFault, OnlyTokens, OnlyFault};
 ghost use Rattle.arc_lex.specs.Source.{Tokens, SpansSpell};
 ghost use Rattle.arc_lex.specs.Tokens.{toks};
@@ -10,7 +10,7 @@ use crate::token::{Span, Token};
 use std::alloc::Global;
 
 /// The most bytes that a source has.
-const MOST_BYTES: usize = 1048576;
+pub const MOST_BYTES: usize = 1_048_576;
 
 /// The fault of a broken rule at a place.
 fn fault_of(rule: Rule, at: usize) -> LexFault

@@ -1,6 +1,6 @@
 //! The piece at the front of bytes: a blank, a token, or a broken rule.
 ghost use Rattle.std.specs.Prelude.{◌≡◌, ◌∷◌, ◌<◌, ◌≤◌, ◌+◌, ℕ, length, IfOk, List};
-ghost use Rattle.arc_lex.specs.Pieces as spec;
+ghost use Rattle.arc_lex.specs.private.Pieces as spec;
 
 use crate::bytes::{Class, begins, has, is_blank, run};
 use crate::number::{is_suffix, leads_with_zero, value};
@@ -28,7 +28,7 @@ pub enum Piece {
 }
 
 /// A name or a reserved word.
-#[tactic(auto, unfolding(crate::specs::Pieces::name_piece))]
+#[tactic(auto, unfolding(crate::specs::private::Pieces::name_piece))]
 fn name_piece(alloc: Global, bytes: &[u8]) -> Result<Piece, AllocError>
     ensures { IfOk result (λ p. spec.seen p ≡ spec.name_piece bytes.now) }
 {
@@ -72,7 +72,7 @@ fn digits_piece(digits: &[u8], rest: &[u8]) -> Piece
 }
 
 /// An integer.
-#[tactic(auto, unfolding(crate::specs::Pieces::number_piece))]
+#[tactic(auto, unfolding(crate::specs::private::Pieces::number_piece))]
 fn number_piece(bytes: &[u8]) -> Piece
     ensures { spec.seen result ≡ spec.number_piece bytes.now }
 {
@@ -85,7 +85,7 @@ fn number_piece(bytes: &[u8]) -> Piece
 }
 
 /// A text, behind its opening quote.
-#[tactic(auto, unfolding(crate::specs::Pieces::text_piece))]
+#[tactic(auto, unfolding(crate::specs::private::Pieces::text_piece))]
 fn text_piece(alloc: Global, bytes: &[u8]) -> Result<Piece, AllocError>
     ensures { IfOk result (λ p. (b : ℕ) → spec.seen p ≡ spec.text_piece (b ∷ bytes.now)) }
 {
@@ -102,7 +102,7 @@ fn text_piece(alloc: Global, bytes: &[u8]) -> Result<Piece, AllocError>
 }
 
 /// A word behind `@`.
-#[tactic(auto, unfolding(crate::specs::Pieces::at_piece))]
+#[tactic(auto, unfolding(crate::specs::private::Pieces::at_piece))]
 fn at_piece(bytes: &[u8]) -> Piece
     ensures { spec.seen result ≡ spec.at_piece bytes.now }
 {
@@ -113,7 +113,7 @@ fn at_piece(bytes: &[u8]) -> Piece
 }
 
 /// A mark.
-#[tactic(auto, unfolding(crate::specs::Pieces::mark_piece))]
+#[tactic(auto, unfolding(crate::specs::private::Pieces::mark_piece))]
 fn mark_piece(bytes: &[u8]) -> Piece
     ensures { spec.seen result ≡ spec.mark_piece bytes.now }
 {
@@ -134,7 +134,7 @@ fn is_comment(bytes: &[u8]) -> bool
 }
 
 /// The piece at the front of the bytes.
-#[tactic(auto, unfolding(crate::specs::Pieces::piece))]
+#[tactic(auto, unfolding(crate::specs::private::Pieces::piece))]
 fn next_piece(alloc: Global, bytes: &[u8]) -> Result<Piece, AllocError>
     requires { 0 < length bytes.now }
     ensures value { IfOk result (λ p. spec.seen p ≡ spec.piece bytes.now) }

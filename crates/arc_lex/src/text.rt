@@ -1,8 +1,8 @@
 //! What stands between the quotes of a text.
-ghost use Rattle.std.specs.Prelude.{◌≡◌, ◌<◌, length, IfOk, IfSome, false, [], Option, List};
+ghost use Rattle.std.specs.Prelude.{◌≡◌, ◌<◌, length, IfOk, IfSome, false, [], Option};
 ghost use Rattle.arc_lex.specs.Texts.{is_plain, escape_value};
-ghost use Rattle.arc_lex.specs.Scans.{seen, seen_parts};
-ghost use Rattle.arc_lex.specs.Pieces.{scan};
+ghost use Rattle.arc_lex.specs.private.Scans.{seen, seen_parts};
+ghost use Rattle.arc_lex.specs.private.Pieces.{scan};
 
 use std::alloc::{AllocError, Global};
 

@@ -1,16 +1,17 @@
 -- A run calls functions and methods, and ends objects, to the most levels.
 use Rattle.std.proofs.Common.{◌≡◌, ℕ, zero, suc, ◌+◌, ℤ, Bool, true, false, not, nat_lt, if◌then◌else◌, List, [], ◌∷◌, ◌++◌, length, Option, Some, None, slice_get, slice_index_or, refl, sym, ap, ◌∙◌, subst, arith}
 use Rattle.std.proofs.lemmas.Bool.{lt-ltb, le-ltb, ltb-false}
-use Rattle.std.proofs.lemmas.List.{append-nil}
+use Rattle.std.proofs.lemmas.List.{append-nil, length-map}
 use Rattle.arc_spec.specs.declared.event.Fault.TheVariants.{Unrecognized, Depth, Resurrected}
-use Rattle.arc_spec.specs.Classes.{Class, lookup}
+use Rattle.arc_spec.specs.Classes.{Class, superclass_of, superclasses, ancestry_within, lookup}
 use Rattle.arc_spec.specs.Objects.{Object, Dying, Gone, object_at, with_object, in_phase, names}
 use Rattle.arc_spec.specs.Resolved as resolved
-use Rattle.arc_spec.specs.Meaning.{function_at, called, class_in, dealloc_run, dealloc_and_above, deallocs_run, turned, gone, dying, level, most_levels}
+use Rattle.arc_spec.specs.Meaning.{function_at, called, class_in, dealloc_run, deallocs_run, turned, gone, dying, level, most_levels}
 use Rattle.arc_spec.specs.World as world
 use Rattle.arc_spec.specs.World.{World, Outcome, Done, Faulted, Cut, Finished, finished, then_do, places, frame_places, with_objects, first_locals, entered}
 use Rattle.arc_spec.specs.Holding.{Held, Frame, Calling, Ending, holders, gone_in}
 use Rattle.arc_spec.specs.Stepping.{Goes, Faults, Reached, Running, follow}
+use Rattle.arc_spec.proofs.Deallocs.{dealloc_and_above, deallocs_from}
 use Rattle.arc_ir.specs.Acting.{Program, State, has_level, enters, answers, begins_end, ends_object, runs_dealloc, ends_class}
 use Rattle.arc_code.specs.declared.instr.Instr.TheVariants.{Call, Jump, EndStep}
 use Rattle.arc_lower.specs.Lowered.{number_of, slots_of, entry_of, entries_of, fit_orders, leave_orders, body_orders, passes}
@@ -42,6 +43,10 @@ call_kept frames back self w w1 k = record { frame = k.frame; waiting = k.waitin
 
 kept_more : (frames : List Frame) (w w1 w2 : World) → w1.frame ≡ w.frame → w1.waiting ≡ w.waiting → Kept frames w1 w2 → Kept frames w w2
 kept_more frames w w1 w2 frame waiting k = record { frame = k.frame ∙ frame; waiting = k.waiting ∙ waiting; fine = k.fine }
+
+-- the next n classes from this one up
+abbrev above_in : resolved.Program → (n : ℕ) → Option ℕ → List ℕ
+above_in R n class = ancestry_within n (superclasses R.classes) class
 
 -- a state by its own places and those that wait
 abbrev placed_at : List Frame → (pc : ℕ) → List ℤ → (self : ℕ) → World → world.Frame → List ℕ → Reached State
@@ -171,20 +176,20 @@ module _ (p : Program) (R : resolved.Program) (bound : ℕ) (begins : (f : ℕ) 
 
     -- the deallocs of n classes, and then the last step
     abbrev EndRuns : (n : ℕ) → (next : Option ℕ) → World → Type 0
-    EndRuns n next w = Runs (moves p) (λ (done : Finished) w2. Kept frames w w2) bound (at_end (Ending back self (suc k) next n ∷ frames) (suc k) stack w) (ended_at frames back stack) (then_do (deallocs_run R (level R bound levels) bound n next (suc k) w) (λ _ w1. gone (suc k) w1))
+    EndRuns n next w = Runs (moves p) (λ (done : Finished) w2. Kept frames w w2) bound (at_end (Ending back self (suc k) next n ∷ frames) (suc k) stack w) (ended_at frames back stack) (then_do (deallocs_run R (level R bound levels) bound (above_in R n next) (suc k) w) (λ _ w1. gone (suc k) w1))
 
     -- what follows a dealloc
-    above_runs : (n : ℕ) (next : Option ℕ) (w w1 : World) → Kept (Ending back self (suc k) next n ∷ frames) w w1 → Still w → (Still w1 → EndRuns n next w1) → Runs (moves p) (λ (done : Finished) w2. Kept frames w w2) bound (at_end (Ending back self (suc k) next n ∷ frames) (suc k) stack w1) (ended_at frames back stack) (then_do (deallocs_run R (level R bound levels) bound n next (suc k) w1) (λ _ w2. gone (suc k) w2))
+    above_runs : (n : ℕ) (next : Option ℕ) (w w1 : World) → Kept (Ending back self (suc k) next n ∷ frames) w w1 → Still w → (Still w1 → EndRuns n next w1) → Runs (moves p) (λ (done : Finished) w2. Kept frames w w2) bound (at_end (Ending back self (suc k) next n ∷ frames) (suc k) stack w1) (ended_at frames back stack) (then_do (deallocs_run R (level R bound levels) bound (above_in R n next) (suc k) w1) (λ _ w2. gone (suc k) w2))
     above_runs n next w w1 kept still go =
-        let o = then_do (deallocs_run R (level R bound levels) bound n next (suc k) w1) (λ _ w2. gone (suc k) w2) in
+        let o = then_do (deallocs_run R (level R bound levels) bound (above_in R n next) (suc k) w1) (λ _ w2. gone (suc k) w2) in
         better_runs (moves p) (λ (done : Finished) w2. Kept frames w1 w2) (λ (done : Finished) w2. Kept frames w w2) bound (at_end (Ending back self (suc k) next n ∷ frames) (suc k) stack w1) (ended_at frames back stack) (ended_at frames back stack) o (λ done w2 k2. (kept_more frames w w1 w2 kept.frame kept.waiting k2, refl))
         (go (kept.fine.there, kept.fine.dying, ap (λ (f : world.Frame). f.self) kept.frame ∙ still.2))
 
     -- the dealloc of one class, and then what is above it
-    by_dealloc : (n : ℕ) (next : Option ℕ) (w : World) (from : Reached State) (meant stands : Option ℕ) → Still w → Meets p R 0 meant stands → Leads (moves p) from (follow (recount (runs_dealloc stands (at [] p.end_step stack (record { places = places w; self = suc k; objects = w.objects; counts = λ i. holders i (places w) })) (Ending back self (suc k) next n ∷ frames))) w.input w.trace) → ((w1 : World) → Still w1 → EndRuns n next w1) → Runs (moves p) (λ (done : Finished) w2. Kept frames w w2) bound from (ended_at frames back stack) (then_do (then_do (dealloc_run R (level R bound levels) bound meant (suc k) w) (λ _ w1. deallocs_run R (level R bound levels) bound n next (suc k) w1)) (λ _ w1. gone (suc k) w1))
+    by_dealloc : (n : ℕ) (next : Option ℕ) (w : World) (from : Reached State) (meant stands : Option ℕ) → Still w → Meets p R 0 meant stands → Leads (moves p) from (follow (recount (runs_dealloc stands (at [] p.end_step stack (record { places = places w; self = suc k; objects = w.objects; counts = λ i. holders i (places w) })) (Ending back self (suc k) next n ∷ frames))) w.input w.trace) → ((w1 : World) → Still w1 → EndRuns n next w1) → Runs (moves p) (λ (done : Finished) w2. Kept frames w w2) bound from (ended_at frames back stack) (then_do (then_do (dealloc_run R (level R bound levels) bound meant (suc k) w) (λ _ w1. deallocs_run R (level R bound levels) bound (above_in R n next) (suc k) w1)) (λ _ w1. gone (suc k) w1))
     by_dealloc n next w from None None still meets e go =
         let inner = Ending back self (suc k) next n ∷ frames in
-        let o = then_do (deallocs_run R (level R bound levels) bound n next (suc k) w) (λ _ w1. gone (suc k) w1) in
+        let o = then_do (deallocs_run R (level R bound levels) bound (above_in R n next) (suc k) w) (λ _ w1. gone (suc k) w1) in
         let there = leads_trans (moves p) from _ (at_end inner (suc k) stack w) e (leads_same (moves p) _ (at_end inner (suc k) stack w) (ap (λ t. Running (at inner p.end_step stack (record { places = places w; self = suc k; objects = w.objects; counts = λ i. holders i (places w) })) w.input t) (append-nil w.trace))) in
         leads_runs (moves p) (λ (done : Finished) w2. Kept frames w w2) bound from (at_end inner (suc k) stack w) (ended_at frames back stack) o there (go w still)
     by_dealloc n next w from (Some f) (Some to) still meets e go =
@@ -200,9 +205,9 @@ module _ (p : Program) (R : resolved.Program) (bound : ℕ) (begins : (f : ℕ) 
         let o = called D bound F (suc k) [] w in
         let body = body_runs levels f (suc k) inner [] stack w (deep next n) fine alive in
         let runs = leads_runs (moves p) (λ (v : ℤ) w2. Kept inner w w2) bound from (running inner (entry f) ready w0) (leaving p inner bound R F.slots F.names (suc k) w stack D (deep next n) alive (begins f).place) o there body in
-        subst (Runs (moves p) (λ (done : Finished) w2. Kept frames w w2) bound from (ended_at frames back stack)) (then_thrice o (λ _ w1. Done finished w1) (λ _ w1. deallocs_run R D bound n next (suc k) w1) (λ _ w1. gone (suc k) w1))
-        (then_runs (moves p) (λ (v : ℤ) w2. Kept inner w w2) (λ (done : Finished) w2. Kept frames w w2) bound from (leaving p inner bound R F.slots F.names (suc k) w stack D (deep next n) alive (begins f).place) (ended_at frames back stack) o (λ _ w1. then_do (then_do (Done finished w1) (λ _ w2. deallocs_run R D bound n next (suc k) w2)) (λ _ w2. gone (suc k) w2)) runs (λ v w1 kept.
-        let after = then_do (deallocs_run R D bound n next (suc k) w1) (λ _ w2. gone (suc k) w2) in
+        subst (Runs (moves p) (λ (done : Finished) w2. Kept frames w w2) bound from (ended_at frames back stack)) (then_thrice o (λ _ w1. Done finished w1) (λ _ w1. deallocs_run R D bound (above_in R n next) (suc k) w1) (λ _ w1. gone (suc k) w1))
+        (then_runs (moves p) (λ (v : ℤ) w2. Kept inner w w2) (λ (done : Finished) w2. Kept frames w w2) bound from (leaving p inner bound R F.slots F.names (suc k) w stack D (deep next n) alive (begins f).place) (ended_at frames back stack) o (λ _ w1. then_do (then_do (Done finished w1) (λ _ w2. deallocs_run R D bound (above_in R n next) (suc k) w2)) (λ _ w2. gone (suc k) w2)) runs (λ v w1 kept.
+        let after = then_do (deallocs_run R D bound (above_in R n next) (suc k) w1) (λ _ w2. gone (suc k) w2) in
         let home : leaving p inner bound R F.slots F.names (suc k) w stack D (deep next n) alive (begins f).place v w1 ≡ at_end inner (suc k) stack w1 =
         ap (λ t. Running (at inner p.end_step stack (record { places = places w; self = suc k; objects = w1.objects; counts = λ i. holders i (places w) })) w1.input t) (append-nil w1.trace)
         ∙ ap (λ (g : world.Frame). placed_at inner p.end_step stack (suc k) w1 g w.waiting) (sym kept.frame)
@@ -213,7 +218,7 @@ module _ (p : Program) (R : resolved.Program) (bound : ℕ) (begins : (f : ℕ) 
     by_dealloc n next w from (Some f) None still meets e go = absurd meets
 
     module _ (links : Linked p R) (has_end : HasAt p p.end_step (EndStep ∷ [])) where
-      by_class : (n c : ℕ) (w : World) (a b : Option Class) → Still w → Same p R a b → moves p (at (Ending back self (suc k) (Some c) (suc n) ∷ frames) p.end_step stack (record { places = places w; self = suc k; objects = w.objects; counts = λ i. holders i (places w) })) ≡ recount (ends_class p (at (Ending back self (suc k) (Some c) (suc n) ∷ frames) p.end_step stack (record { places = places w; self = suc k; objects = w.objects; counts = λ i. holders i (places w) })) back self (suc k) b n frames) → ((next : Option ℕ) (w1 : World) → Still w1 → EndRuns n next w1) → Runs (moves p) (λ (done : Finished) w2. Kept frames w w2) bound (at_end (Ending back self (suc k) (Some c) (suc n) ∷ frames) (suc k) stack w) (ended_at frames back stack) (then_do (dealloc_and_above R (level R bound levels) bound a (suc k) (λ above w1. deallocs_run R (level R bound levels) bound n above (suc k) w1) w) (λ _ w1. gone (suc k) w1))
+      by_class : (n c : ℕ) (w : World) (a b : Option Class) → Still w → Same p R a b → moves p (at (Ending back self (suc k) (Some c) (suc n) ∷ frames) p.end_step stack (record { places = places w; self = suc k; objects = w.objects; counts = λ i. holders i (places w) })) ≡ recount (ends_class p (at (Ending back self (suc k) (Some c) (suc n) ∷ frames) p.end_step stack (record { places = places w; self = suc k; objects = w.objects; counts = λ i. holders i (places w) })) back self (suc k) b n frames) → ((next : Option ℕ) (w1 : World) → Still w1 → EndRuns n next w1) → Runs (moves p) (λ (done : Finished) w2. Kept frames w w2) bound (at_end (Ending back self (suc k) (Some c) (suc n) ∷ frames) (suc k) stack w) (ended_at frames back stack) (then_do (dealloc_and_above R (level R bound levels) bound a (suc k) (λ above w1. deallocs_run R (level R bound levels) bound (above_in R n above) (suc k) w1) w) (λ _ w1. gone (suc k) w1))
       by_class n c w None None still same e go = last_runs (Some c) (suc n) w still e
       by_class n c w (Some x) (Some d) still same e go =
           let inner = Ending back self (suc k) (Some c) (suc n) ∷ frames in
@@ -234,7 +239,10 @@ module _ (p : Program) (R : resolved.Program) (bound : ℕ) (begins : (f : ℕ) 
       end_runs zero None w still = last_runs None zero w still (ap recount (has_end.0 (Ending back self (suc k) None zero ∷ frames) stack (record { places = places w; self = suc k; objects = w.objects; counts = λ i. holders i (places w) })))
       end_runs zero (Some c) w still = last_runs (Some c) zero w still (ap recount (has_end.0 (Ending back self (suc k) (Some c) zero ∷ frames) stack (record { places = places w; self = suc k; objects = w.objects; counts = λ i. holders i (places w) })))
       end_runs (suc n) None w still = last_runs None (suc n) w still (ap recount (has_end.0 (Ending back self (suc k) None (suc n) ∷ frames) stack (record { places = places w; self = suc k; objects = w.objects; counts = λ i. holders i (places w) })))
-      end_runs (suc n) (Some c) w still = by_class n c w (slice_get R.classes c) (slice_get p.classes c) still (links.same c) (ap recount (has_end.0 (Ending back self (suc k) (Some c) (suc n) ∷ frames) stack (record { places = places w; self = suc k; objects = w.objects; counts = λ i. holders i (places w) }))) (λ next w1 still1. end_runs n next w1 still1)
+      end_runs (suc n) (Some c) w still =
+          subst (λ o. Runs (moves p) (λ (done : Finished) w2. Kept frames w w2) bound (at_end (Ending back self (suc k) (Some c) (suc n) ∷ frames) (suc k) stack w) (ended_at frames back stack) (then_do o (λ _ w1. gone (suc k) w1)))
+          (sym (deallocs_from R (level R bound levels) bound n c (suc k) w))
+          (by_class n c w (slice_get R.classes c) (slice_get p.classes c) still (links.same c) (ap recount (has_end.0 (Ending back self (suc k) (Some c) (suc n) ∷ frames) stack (record { places = places w; self = suc k; objects = w.objects; counts = λ i. holders i (places w) }))) (λ next w1 still1. end_runs n next w1 still1))
 
   module _ (links : Linked p R) (has_end : HasAt p p.end_step (EndStep ∷ [])) where
     -- the end of an object at the last level
@@ -245,7 +253,7 @@ module _ (p : Program) (R : resolved.Program) (bound : ℕ) (begins : (f : ℕ) 
 
     level_ends : (levels : ℕ) (frames : List Frame) → length frames + suc levels ≡ most_levels → ((frame : Frame) → Deep p (frame ∷ frames) bound R (level R bound levels)) → Ends p frames bound (level R bound (suc levels))
     level_ends levels frames full deep k ob c h0 stack w pc same found live none fine =
-        let n = length R.classes in
+        let n = length (superclasses R.classes) in
         let back = pc + 1 in
         let self = w.frame.self in
         let inner = Ending back self (suc k) (Some ob.class) n ∷ frames in
@@ -262,12 +270,12 @@ module _ (p : Program) (R : resolved.Program) (bound : ℕ) (begins : (f : ℕ) 
         let path : from ≡ at_end inner (suc k) stack w1 =
         ap (λ b. follow (recount (begins_end p s (suc k) ob.class h b)) w.input w.trace) (lt-ltb (length frames) most_levels (omega (arith, full)))
         ∙ ap (λ x. Running (at (Ending back x (suc k) (Some ob.class) (length p.classes) ∷ frames) p.end_step stack (record { places = places w; self = suc k; objects = w1.objects; counts = λ i. holders i (places w) })) w.input w1.trace) same
-        ∙ ap (λ m. Running (at (Ending back self (suc k) (Some ob.class) m ∷ frames) p.end_step stack (record { places = places w; self = suc k; objects = w1.objects; counts = λ i. holders i (places w) })) w.input w1.trace) links.count
+        ∙ ap (λ m. Running (at (Ending back self (suc k) (Some ob.class) m ∷ frames) p.end_step stack (record { places = places w; self = suc k; objects = w1.objects; counts = λ i. holders i (places w) })) w.input w1.trace) (links.count ∙ sym (length-map R.classes superclass_of))
         in
-        let meant : then_do (deallocs_run R D bound n (Some ob.class) (suc k) w1) (λ _ w2. gone (suc k) w2) ≡ (level R bound (suc levels)).end_of (suc k) w = ap (λ x. then_do (deallocs_run R D bound n (class_in x) (suc k) (dying (suc k) x w)) (λ _ w2. gone (suc k) w2)) (sym found) in
+        let meant : then_do (deallocs_run R D bound (above_in R n (Some ob.class)) (suc k) w1) (λ _ w2. gone (suc k) w2) ≡ (level R bound (suc levels)).end_of (suc k) w = ap (λ x. then_do (deallocs_run R D bound (above_in R n (class_in x)) (suc k) (dying (suc k) x w)) (λ _ w2. gone (suc k) w2)) (sym found) in
         subst (Runs (moves p) (λ (done : Finished) w2. Kept frames w w2) bound from (λ done w2. running frames back stack w2)) meant
-        (leads_runs (moves p) (λ (done : Finished) w2. Kept frames w w2) bound from (at_end inner (suc k) stack w1) (λ done w2. running frames back stack w2) (then_do (deallocs_run R D bound n (Some ob.class) (suc k) w1) (λ _ w2. gone (suc k) w2)) (leads_same (moves p) _ _ path)
-        (better_runs (moves p) (λ (done : Finished) w2. Kept frames w1 w2) (λ (done : Finished) w2. Kept frames w w2) bound (at_end inner (suc k) stack w1) (λ done w2. running frames back stack w2) (λ done w2. running frames back stack w2) (then_do (deallocs_run R D bound n (Some ob.class) (suc k) w1) (λ _ w2. gone (suc k) w2)) (λ done w2 k2. (kept_more frames w w1 w2 refl refl k2, refl)) runs))
+        (leads_runs (moves p) (λ (done : Finished) w2. Kept frames w w2) bound from (at_end inner (suc k) stack w1) (λ done w2. running frames back stack w2) (then_do (deallocs_run R D bound (above_in R n (Some ob.class)) (suc k) w1) (λ _ w2. gone (suc k) w2)) (leads_same (moves p) _ _ path)
+        (better_runs (moves p) (λ (done : Finished) w2. Kept frames w1 w2) (λ (done : Finished) w2. Kept frames w w2) bound (at_end inner (suc k) stack w1) (λ done w2. running frames back stack w2) (λ done w2. running frames back stack w2) (then_do (deallocs_run R D bound (above_in R n (Some ob.class)) (suc k) w1) (λ _ w2. gone (suc k) w2)) (λ done w2 k2. (kept_more frames w w1 w2 refl refl k2, refl)) runs))
 
     pub calls_run : (levels : ℕ) (frames : List Frame) → length frames + levels ≡ most_levels → Deep p frames bound R (level R bound levels)
     calls_run zero frames full = record {

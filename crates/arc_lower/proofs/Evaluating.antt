@@ -9,7 +9,7 @@ use Rattle.arc_spec.specs.declared.event.Fault.TheVariants.{Unrecognized, FieldC
 use Rattle.arc_spec.specs.Classes.{class_at, lookup, descends}
 use Rattle.arc_spec.specs.Number.{converted, negated, combined, byte_or_end}
 use Rattle.arc_spec.specs.Objects.{Object, Dying, object_at, with_object, with_fields, new_object}
-use Rattle.arc_spec.specs.Resolved.{Piece, Value, Number, ReadByte, Print, Negated, Combined, Converted, Local, Assigned, Invoked, Sent, SentSuper, SentTo, SentToSuper, Field, FieldAssigned, Reference, Itself, Variable, Stored, Made, Initialized, Values, no_values, and_value}
+use Rattle.arc_spec.specs.Resolved.{Value, Number, ReadByte, Print, Negated, Combined, Converted, Local, Assigned, Invoked, Sent, SentSuper, SentTo, SentToSuper, Field, FieldAssigned, Reference, Itself, Variable, Stored, Made, Initialized, Values, no_values, and_value}
 use Rattle.arc_spec.specs.Resolved as resolved
 use Rattle.arc_spec.specs.Meaning.{Deeper, dispatched, finds, runs_found, class_in, sent_from, sent_to, next_object, field_count, made, in_object, field_read, field_set, difference, formatted, byte_count, or_fault, assigned, evaluated, referred, all_evaluated}
 use Rattle.arc_spec.specs.World as world
@@ -33,7 +33,7 @@ use Rattle.arc_lower.proofs.Fitting.{fit_passes}
 use Rattle.arc_lower.proofs.Standing.{ending, Fine, Alive, nil_alive, last_there, IsFramed, Kept, kept_framed, Took, took_none, took_more, took_suc, took_length, get_variable, place_named, made_dying, changed_dying}
 use Rattle.arc_lower.proofs.Releasing.{Ends, stays, store_segment}
 
-read_next : (frames : List Frame) (pc : ℕ) (stack : List ℤ) (w : World) (i : List ℕ) (t : List Event) → fed (λ answer. fresh (onward (at frames pc stack (held_of w)) (byte_or_end answer ∷ stack))) i t ≡ running frames (pc + 1) (next_number i ∷ stack) (record { input = after_next i; trace = t; objects = w.objects; frame = w.frame; waiting = w.waiting })
+read_next : (frames : List Frame) (pc : ℕ) (stack : List ℤ) (w : World) (i : List ℕ) (t : List Event) → fed (λ answer. fresh (onward (at frames pc stack (held_of w)) (byte_or_end answer ∷ stack))) i t ≡ running frames (pc + 1) (next_number i ∷ stack) (record w { input = after_next i; trace = t })
 read_next frames pc stack w [] t = refl
 read_next frames pc stack w (b ∷ i) t = refl
 

@@ -3,11 +3,11 @@ use Rattle.std.proofs.Common.{◌≡◌, ℕ, zero, suc, ◌+◌, ◌-◌, ◌�
 use Rattle.std.proofs.lemmas.List.{length-set}
 use Rattle.arc_spec.specs.Number.{is_zero}
 use Rattle.arc_spec.specs.Objects.{nils}
-use Rattle.arc_spec.specs.Resolved.{Value, Reference, Command, Sequence, Evaluate, EvaluateReference, Begin, Choose, Repeat, Commands, no_commands, and_command, Function}
+use Rattle.arc_spec.specs.Resolved.{Value, Reference, Command, Sequence, Evaluate, EvaluateReference, Begin, Choose, Repeat, Commands, no_commands, and_command}
 use Rattle.arc_spec.specs.Resolved as resolved
 use Rattle.arc_spec.specs.Meaning.{Deeper, evaluated, referred, all_dropped, assigned, variables_dropped, whole, whole_reference, begun, Flow, Normal, Returned, if_normal, chosen, turns, scope_left, executed, all_executed, given, called}
 use Rattle.arc_spec.specs.World as world
-use Rattle.arc_spec.specs.World.{World, Outcome, Done, Faulted, Cut, Finished, then_do, places, first_locals, entered, left, with_temporaries, stores}
+use Rattle.arc_spec.specs.World.{World, Outcome, Done, Faulted, Cut, Finished, then_do, places, first_frame, first_locals, entered, left, with_temporaries, stores}
 use Rattle.arc_spec.specs.Holding.{Frame, holders, with_places, forgets}
 use Rattle.arc_spec.specs.Stepping.{Next, Reached, Goes, follow}
 use Rattle.arc_ir.specs.Acting.{Program, State, keeps}
@@ -289,7 +289,7 @@ module _ (p : Program) (frames : List Frame) (bound : ℕ) (R : resolved.Program
 
   -- what the function keeps once its own places are forgotten
   abbrev bared : World → World
-  bared w = record { input = w.input; trace = w.trace; objects = w.objects; frame = record { self = self; locals = []; strong = []; temporaries = [] }; waiting = places before }
+  bared w = record w { frame = record first_frame { self = self }; waiting = places before }
 
   -- the last step of a function
   abbrev pub leaving : ℤ → World → Reached State

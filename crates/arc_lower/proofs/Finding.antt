@@ -1,10 +1,11 @@
 -- A message finds the stub of the method that is meant, and a class the stub of its dealloc.
-use Rattle.std.proofs.Common.{◌≡◌, ℕ, zero, suc, ◌+◌, Bool, true, false, ◌||◌, if◌then◌else◌, nat_eq, List, [], ◌∷◌, length, Option, Some, None, refl, sym, true≢false, ap, ◌∙◌, subst, slice_get}
+use Rattle.std.proofs.Common.{◌≡◌, ℕ, zero, suc, ◌+◌, Bool, true, false, if◌then◌else◌, nat_eq, List, [], ◌∷◌, length, Option, Some, None, refl, sym, true≢false, ap, ◌∙◌, subst, slice_get}
+use Rattle.std.specs.List.{list_any}
 use Rattle.std.proofs.lemmas.Bool.{eqb-true, and_parts}
 use Rattle.arc_ast.specs.declared.tree.Sign.{Sign}
 use Rattle.arc_ast.specs.declared.tree.Sign.TheVariants as signs
 use Rattle.arc_spec.specs.declared.class.Method.{Method}
-use Rattle.arc_spec.specs.Classes.{Class, same_sign, answers, found, or_else, found_from, lookup_up, lookup, found_or, descends_up, descends}
+use Rattle.arc_spec.specs.Classes.{Class, superclasses, ancestry, first_that_has, own_methods, same_sign, answers, found, or_else, lookup, descends}
 use Rattle.arc_spec.specs.Meaning.{field_count}
 use Rattle.arc_spec.specs.Holding.{count_of}
 use Rattle.arc_spec.specs.Resolved as resolved
@@ -33,6 +34,7 @@ Same p R (Some c) None = ⊥
 -- the classes of actions are those of the program, linked to their stubs
 pub record Linked (p : Program) (R : resolved.Program) : Type 0 where
   pub same : (i : ℕ) → Same p R (slice_get R.classes i) (slice_get p.classes i)
+  pub above : superclasses p.classes ≡ superclasses R.classes
   pub count : length p.classes ≡ length R.classes
 
 sign_same : (a b : Sign) → same_sign a b ≡ true → a ≡ b
@@ -79,9 +81,14 @@ module _ (p : Program) (R : resolved.Program) where
   linked_length place [] = refl
   linked_length place (c ∷ others) = ap suc (linked_length (place + length (class_orders R (entries_of R) c)) others)
 
+  linked_superclasses : (place : ℕ) (cs : List Class) → superclasses (linked_classes R (entries_of R) place cs) ≡ superclasses cs
+  linked_superclasses place [] = refl
+  linked_superclasses place (c ∷ others) = ap (λ above. c.superclass ∷ above) (linked_superclasses (place + length (class_orders R (entries_of R) c)) others)
+
   pub linked : p.classes ≡ classes_linked R → HasAt p (length (running_orders R)) (classes_orders R (entries_of R) R.classes) → Linked p R
   linked e has = record {
     same = λ i. subst (λ ds. Same p R (slice_get R.classes i) (slice_get ds i)) (sym e) (classes_same (length (running_orders R)) R.classes has i);
+    above = ap superclasses e ∙ linked_superclasses (length (running_orders R)) R.classes;
     count = ap length e ∙ linked_length (length (running_orders R)) R.classes;
   }
 
@@ -93,38 +100,30 @@ module _ (p : Program) (R : resolved.Program) where
   else_meets values None (Some place) x y first above = absurd first
   else_meets values (Some f) None x y first above = absurd first
 
-  from_meets : (sign : Sign) (selector takes : ℕ) (a b : Option Class) (up up' : Option ℕ → Option ℕ) → Same p R a b → ((above : Option ℕ) → Meets p R (passes sign takes) (up above) (up' above)) → Meets p R (passes sign takes) (found_from sign selector takes a up) (found_from sign selector takes b up')
-  from_meets sign selector takes None None up up' same above = tt
-  from_meets sign selector takes (Some c) (Some d) up up' same above = else_meets (passes sign takes) (found sign selector takes c.methods) (found sign selector takes d.methods) (up c.superclass) (up' d.superclass) (same.3 sign selector takes) (subst (λ x. Meets p R (passes sign takes) (up c.superclass) (up' x)) (sym same.0) (above c.superclass))
-  from_meets sign selector takes None (Some d) up up' same above = absurd same
-  from_meets sign selector takes (Some c) None up up' same above = absurd same
+  own_meets : (sign : Sign) (selector takes : ℕ) (a b : Option Class) → Same p R a b → Meets p R (passes sign takes) (found sign selector takes (own_methods a)) (found sign selector takes (own_methods b))
+  own_meets sign selector takes None None same = tt
+  own_meets sign selector takes (Some c) (Some d) same = same.3 sign selector takes
+  own_meets sign selector takes None (Some d) same = absurd same
+  own_meets sign selector takes (Some c) None same = absurd same
 
-  up_meets : (sign : Sign) (selector takes : ℕ) (cs ds : List Class) → ((i : ℕ) → Same p R (slice_get cs i) (slice_get ds i)) → (n : ℕ) (from : Option ℕ) → Meets p R (passes sign takes) (lookup_up n cs from sign selector takes) (lookup_up n ds from sign selector takes)
-  up_meets sign selector takes cs ds same zero from = tt
-  up_meets sign selector takes cs ds same (suc n) None = tt
-  up_meets sign selector takes cs ds same (suc n) (Some i) = from_meets sign selector takes (slice_get cs i) (slice_get ds i) (λ above. lookup_up n cs above sign selector takes) (λ above. lookup_up n ds above sign selector takes) (same i) (λ above. up_meets sign selector takes cs ds same n above)
+  first_found_meets : (sign : Sign) (selector takes : ℕ) (cs ds : List Class) → ((i : ℕ) → Same p R (slice_get cs i) (slice_get ds i)) → (classes : List ℕ)
+      → Meets p R (passes sign takes) (first_that_has (λ class. found sign selector takes (own_methods (slice_get cs class))) classes) (first_that_has (λ class. found sign selector takes (own_methods (slice_get ds class))) classes)
+  first_found_meets sign selector takes cs ds same [] = tt
+  first_found_meets sign selector takes cs ds same (i ∷ above) =
+      else_meets (passes sign takes) (found sign selector takes (own_methods (slice_get cs i))) (found sign selector takes (own_methods (slice_get ds i))) _ _
+      (own_meets sign selector takes (slice_get cs i) (slice_get ds i) (same i)) (first_found_meets sign selector takes cs ds same above)
 
   -- looking a method up among the linked classes comes to the stub of what is meant
   pub lookup_meets : Linked p R → (sign : Sign) (from : Option ℕ) (selector takes : ℕ) → Meets p R (passes sign takes) (lookup R.classes from sign selector takes) (lookup p.classes from sign selector takes)
   lookup_meets links sign from selector takes =
       let meant = lookup R.classes from sign selector takes in
-      subst (λ n. Meets p R (passes sign takes) meant (lookup_up n p.classes from sign selector takes)) (sym links.count) (up_meets sign selector takes R.classes p.classes links.same (length R.classes) from)
+      subst (λ above. Meets p R (passes sign takes) meant (first_that_has (λ class. found sign selector takes (own_methods (slice_get p.classes class))) (ancestry above from))) (sym links.above)
+      (first_found_meets sign selector takes R.classes p.classes links.same (ancestry (superclasses R.classes) from))
 
   -- ---- descent and fields
 
-  or_same : (here : Bool) (a b : Option Class) (up up' : Option ℕ → Bool) → Same p R a b → ((above : Option ℕ) → up' above ≡ up above) → found_or here b up' ≡ found_or here a up
-  or_same here None None up up' same above = refl
-  or_same here (Some c) (Some d) up up' same above = ap (λ b. here || b) (ap up' same.0 ∙ above c.superclass)
-  or_same here None (Some d) up up' same above = absurd same
-  or_same here (Some c) None up up' same above = absurd same
-
-  up_same : (cs ds : List Class) → ((i : ℕ) → Same p R (slice_get cs i) (slice_get ds i)) → (n : ℕ) (from : Option ℕ) (other : ℕ) → descends_up n ds from other ≡ descends_up n cs from other
-  up_same cs ds same zero from other = refl
-  up_same cs ds same (suc n) None other = refl
-  up_same cs ds same (suc n) (Some i) other = or_same (nat_eq i other) (slice_get cs i) (slice_get ds i) (λ above. descends_up n cs above other) (λ above. descends_up n ds above other) (same i) (λ above. up_same cs ds same n above other)
-
   pub descent_same : Linked p R → (from : Option ℕ) (other : ℕ) → descends p.classes from other ≡ descends R.classes from other
-  descent_same links from other = ap (λ n. descends_up n p.classes from other) links.count ∙ up_same R.classes p.classes links.same (length R.classes) from other
+  descent_same links from other = ap (λ above. list_any (λ class. nat_eq class other) (ancestry above from)) links.above
 
   counts_same : (a b : Option Class) → Same p R a b → count_of b ≡ field_count a
   counts_same None None same = refl

@@ -109,7 +109,7 @@ module _ (p : Program) (frames : List Frame) (bound : ℕ) (D : Deeper) (ends : 
       subst (λ (x : World). Runs (moves p) (λ (done : Finished) w3. Kept frames none w3) bound (running frames q stack x) (stays stack behind) (temporaries_dropped D others x)) e
       (better_runs (moves p) (λ (done : Finished) w3. Kept frames (with_temporaries w2 []) w3) (λ (done : Finished) w3. Kept frames none w3) bound (running frames q stack (with_temporaries w2 others)) (stays stack behind) (stays stack behind) (temporaries_dropped D others (with_temporaries w2 others)) (λ done w3 k3. (
         record {
-          frame = k3.frame ∙ ap (λ (f : world.Frame). (with_temporaries (world.with_frame w2 f) []).frame) k.frame;
+          frame = k3.frame ∙ ap (λ (f : world.Frame). (with_temporaries (record w2 { frame = f }) []).frame) k.frame;
           waiting = k3.waiting ∙ k.waiting;
           fine = k3.fine;
         },
@@ -211,7 +211,7 @@ module _ (p : Program) (frames : List Frame) (bound : ℕ) (D : Deeper) (ends : 
       let none2 = ap (λ (f : world.Frame). f.temporaries) k.frame ∙ none in
       better_runs (moves p) (λ (done : Finished) w3. Kept frames (emptied first n w2) w3) (λ (done : Finished) w3. Kept frames end w3) bound (running frames q stack w2) (stays stack behind) (stays stack behind) (variables_dropped D first n w2) (λ done w3 k3. (
         record {
-          frame = k3.frame ∙ ap (λ (f : world.Frame). (emptied first n (world.with_frame w2 f)).frame) k.frame;
+          frame = k3.frame ∙ ap (λ (f : world.Frame). (emptied first n (record w2 { frame = f })).frame) k.frame;
           waiting = k3.waiting ∙ k.waiting;
           fine = k3.fine;
         },

@@ -78,7 +78,7 @@ pub kept_count : (bytes : List ℕ) → converted k.Int (kept (length bytes)) �
 kept_count bytes = ap (cast_signed w32) (mod-mod (length bytes) (2 ^ 32))
 
 pub prints_none : (w : World) → w ≡ prints [] w
-prints_none w = ap (λ t. record { input = w.input; trace = t; objects = w.objects; frame = w.frame; waiting = w.waiting }) (sym (append-nil w.trace))
+prints_none w = ap (λ t. record w { trace = t }) (sym (append-nil w.trace))
 
 pub prints_both : (a b : List ℕ) (w : World) → prints b (prints a w) ≡ prints (a ++ b) w
-prints_both a b w = ap (λ t. record { input = w.input; trace = t; objects = w.objects; frame = w.frame; waiting = w.waiting }) (append_assoc w.trace (map Byte a) (map Byte b) ∙ ap (λ l. w.trace ++ l) (sym (map-append Byte a b)))
+prints_both a b w = ap (λ t. record w { trace = t }) (append_assoc w.trace (map Byte a) (map Byte b) ∙ ap (λ l. w.trace ++ l) (sym (map-append Byte a b)))

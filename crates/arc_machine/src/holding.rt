@@ -6,18 +6,19 @@ ghost use Rattle.arc_machine.specs.Places.{Ready, Executes, spot};
 use crate::objects::Objects;
 use crate::place::Place;
 use crate::stop::Answer;
-use arc_code::code::{Code, Op};
+use arc_code::code::Code;
+use arc_code::instr::{Instr, Op};
 use arc_heap::store::Store;
 
 impl Place {
     /// A further place, which is nil.
     #[inline(always)]
     pub fn nil<S: Store + Drop>(&mut self, _code: &Code, objects: &mut Objects<S>) -> Answer
-        requires ready { Ready S.out (program_of _code.now) Op.Nil (spot self.old objects.old) }
+        requires ready { Ready S.out (program_of _code.now) (Instr.Plain Op.Nil) (spot self.old objects.old) }
         requires place { self.old.at < 2 ^ 64 - 1 }
         requires room { _code.now.room ≤ self.old.stack.room }
         requires places { _code.now.places ≤ objects.old.room }
-        ensures went { Executes S.out (program_of _code.now) Op.Nil result []
+        ensures went { Executes S.out (program_of _code.now) (Instr.Plain Op.Nil) result []
             (spot self.old objects.old) (spot self.new objects.new) }
         ensures room { self.new.stack.room ≡ self.old.stack.room }
     {
@@ -29,11 +30,11 @@ impl Place {
     /// A further place takes `self`.
     #[inline(always)]
     pub fn hold_self<S: Store + Drop>(&mut self, code: &Code, objects: &mut Objects<S>) -> Answer
-        requires ready { Ready S.out (program_of code.now) Op.HoldSelf (spot self.old objects.old) }
+        requires ready { Ready S.out (program_of code.now) (Instr.Plain Op.HoldSelf) (spot self.old objects.old) }
         requires place { self.old.at < 2 ^ 64 - 1 }
         requires room { code.now.room ≤ self.old.stack.room }
         requires places { code.now.places ≤ objects.old.room }
-        ensures went { Executes S.out (program_of code.now) Op.HoldSelf result []
+        ensures went { Executes S.out (program_of code.now) (Instr.Plain Op.HoldSelf) result []
             (spot self.old objects.old) (spot self.new objects.new) }
         ensures room { self.new.stack.room ≡ self.old.stack.room }
     {
@@ -54,11 +55,11 @@ impl Place {
         code: &Code,
         objects: &mut Objects<S>,
     ) -> Answer
-        requires ready { Ready S.out (program_of code.now) (Op.Hold depth) (spot self.old objects.old) }
+        requires ready { Ready S.out (program_of code.now) (Instr.Plain (Op.Hold depth)) (spot self.old objects.old) }
         requires place { self.old.at < 2 ^ 64 - 1 }
         requires room { code.now.room ≤ self.old.stack.room }
         requires places { code.now.places ≤ objects.old.room }
-        ensures went { Executes S.out (program_of code.now) (Op.Hold depth) result []
+        ensures went { Executes S.out (program_of code.now) (Instr.Plain (Op.Hold depth)) result []
             (spot self.old objects.old) (spot self.new objects.new) }
         ensures room { self.new.stack.room ≡ self.old.stack.room }
     {
@@ -79,11 +80,11 @@ impl Place {
         _code: &Code,
         objects: &mut Objects<S>,
     ) -> Answer
-        requires ready { Ready S.out (program_of _code.now) (Op.Forget count) (spot self.old objects.old) }
+        requires ready { Ready S.out (program_of _code.now) (Instr.Plain (Op.Forget count)) (spot self.old objects.old) }
         requires place { self.old.at < 2 ^ 64 - 1 }
         requires room { _code.now.room ≤ self.old.stack.room }
         requires places { _code.now.places ≤ objects.old.room }
-        ensures went { Executes S.out (program_of _code.now) (Op.Forget count) result []
+        ensures went { Executes S.out (program_of _code.now) (Instr.Plain (Op.Forget count)) result []
             (spot self.old objects.old) (spot self.new objects.new) }
         ensures going { result ≡ Answer.Going }
         ensures at { self.new.at ≡ self.old.at + 1 }
@@ -102,11 +103,11 @@ impl Place {
         code: &Code,
         objects: &mut Objects<S>,
     ) -> Answer
-        requires ready { Ready S.out (program_of code.now) (Op.Differ depth) (spot self.old objects.old) }
+        requires ready { Ready S.out (program_of code.now) (Instr.Plain (Op.Differ depth)) (spot self.old objects.old) }
         requires place { self.old.at < 2 ^ 64 - 1 }
         requires room { code.now.room ≤ self.old.stack.room }
         requires places { code.now.places ≤ objects.old.room }
-        ensures went { Executes S.out (program_of code.now) (Op.Differ depth) result []
+        ensures went { Executes S.out (program_of code.now) (Instr.Plain (Op.Differ depth)) result []
             (spot self.old objects.old) (spot self.new objects.new) }
         ensures room { self.new.stack.room ≡ self.old.stack.room }
     {
@@ -121,11 +122,11 @@ impl Place {
     /// Puts 1 on the stack where the last place isn't nil, and else 0.
     #[inline(always)]
     pub fn is_object<S: Store + Drop>(&mut self, _code: &Code, objects: &mut Objects<S>) -> Answer
-        requires ready { Ready S.out (program_of _code.now) Op.IsObject (spot self.old objects.old) }
+        requires ready { Ready S.out (program_of _code.now) (Instr.Plain Op.IsObject) (spot self.old objects.old) }
         requires place { self.old.at < 2 ^ 64 - 1 }
         requires room { _code.now.room ≤ self.old.stack.room }
         requires places { _code.now.places ≤ objects.old.room }
-        ensures went { Executes S.out (program_of _code.now) Op.IsObject result []
+        ensures went { Executes S.out (program_of _code.now) (Instr.Plain Op.IsObject) result []
             (spot self.old objects.old) (spot self.new objects.new) }
         ensures room { self.new.stack.room ≡ self.old.stack.room }
     {

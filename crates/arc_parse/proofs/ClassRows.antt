@@ -13,7 +13,7 @@ use Rattle.arc_parse.specs.declared.fail.Fail.{Fail}
 use Rattle.arc_parse.specs.declared.fail.Fail.TheVariants.{Memory, Unexpected, TooDeep}
 use Rattle.arc_parse.specs.Grammar.{TopTree, OfNames, OfFunction, OfInterface, OfImplementation, and_part, unit_of, functions_of, interfaces_of, implementations_of}
 use Rattle.arc_parse.specs.Reader.{Read, Fails, any, begins, bind, ret, ◌>>=◌, sees_mark, sees_name}
-use Rattle.arc_parse.specs.Views.{before, with_row, parameter_tree, parts_then, and_top}
+use Rattle.arc_parse.specs.private.Views.{before, with_row, parameter_tree, parts_then, and_top}
 use Rattle.arc_parse.specs.Limits.{these}
 use Rattle.arc_parse.specs.UnitRules.{Typed, typed_parts, heads, methods, more_names, tops, read, unit, next_part, typed_parts_by, selector_by, typed, begins_method, next_head_by, heads_by, method_by, methods_by, next_name, more_names_by, top_by, tops_by}
 use Rattle.arc_parse.proofs.ListRows.{Behind, before_one, before_none, row_more, row_fails}

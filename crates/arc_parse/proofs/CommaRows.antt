@@ -7,7 +7,7 @@ use Rattle.arc_ast.specs.declared.tree.Parameter.{Parameter}
 use Rattle.arc_ast.specs.Tree.{VariableTree, ParameterTree, variable_tree, variable_trees, parameter_trees}
 use Rattle.arc_parse.specs.declared.fail.Fail.{Fail}
 use Rattle.arc_parse.specs.Reader.{Read, Fails, sees_mark}
-use Rattle.arc_parse.specs.Views.{with_row, parameter_tree}
+use Rattle.arc_parse.specs.private.Views.{with_row, parameter_tree}
 use Rattle.arc_parse.specs.Limits.{these}
 use Rattle.arc_parse.specs.UnitRules.{more_variables, more_references, more_parameters, read, next_variable_by, more_variables_by, next_reference_by, more_references_by, next_parameter, more_parameters_by}
 use Rattle.arc_parse.proofs.ListRows.{Behind, before_none, row_more, row_fails}

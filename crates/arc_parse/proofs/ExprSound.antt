@@ -12,7 +12,7 @@ use Rattle.arc_ast.specs.Tree.{ExprTree, ExprTrees, Id, Object, Integer, Text, P
 use Rattle.arc_parse.specs.Language.{Language, ◌⨾◌, One, The, TheWord}
 use Rattle.arc_parse.specs.Grammar.{Spells, SpellsArguments, SpellsMore, SpellsCastType, SpellsSent, SpellsParts, and_part, mark_of, binds, widest}
 use Rattle.arc_parse.specs.Reader.{Fault, ret}
-use Rattle.arc_parse.specs.Knot.{deep, tied}
+use Rattle.arc_parse.specs.private.Knot.{deep, tied}
 use Rattle.arc_parse.specs.ExprRules.{Rule, Node, Rules, Sent, expr, unary, arrows, more, arguments, parts, literal, literal_of, operator, operator_of, is_operator, is_there, at_level, mark_operator, parenthesized_by, given_by, call_by, named_by, part_by, parts_by, sent_by, super_by, object_by, message_by, primary_by, arrows_by, postfix_by, begins_cast, cast_type, cast_by, negate_by, plus_by, unary_by, binary_by, more_by, is_unary, assign_by, expr_by, arguments_by, body, read}
 use Rattle.arc_parse.proofs.Leaves.{a_token, some_is, viable_expect, viable_keyword, viable_name}
 use Rattle.arc_parse.proofs.Sound.{Sound, Behind, sound_token, sound_as}

@@ -8,7 +8,7 @@ use Rattle.arc_ast.specs.Tree.{FieldTree, field_trees}
 use Rattle.arc_parse.specs.declared.fail.Fail.{Fail}
 use Rattle.arc_parse.specs.declared.fail.Fail.TheVariants.{Memory, Unexpected, TooDeep}
 use Rattle.arc_parse.specs.Reader.{Read, Fault, misfit, too_deep, Fails, bind, ret, sees_mark}
-use Rattle.arc_parse.specs.Views.{before, with_row, field_tree}
+use Rattle.arc_parse.specs.private.Views.{before, with_row, field_tree}
 use Rattle.arc_parse.specs.Limits.{these}
 use Rattle.arc_parse.specs.UnitRules.{more_fields, groups, read, next_field, more_fields_by, group_by, groups_by}
 use Rattle.arc_parse.proofs.ListRows.{Behind, before_none, row_more, row_fails}

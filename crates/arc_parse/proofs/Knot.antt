@@ -2,7 +2,7 @@
 use Rattle.std.proofs.Common.{◌≡◌, ℕ, zero, suc, ◌<◌, ◌≤◌, List, length, sym, arith}
 use Rattle.arc_lex.specs.Tokens.{Tok}
 use Rattle.arc_parse.specs.Reader.{Reader}
-use Rattle.arc_parse.specs.Knot.{deep, tied}
+use Rattle.arc_parse.specs.private.Knot.{deep, tied}
 use Rattle.arc_parse.proofs.Local.{StopsAt, Local, local_as}
 
 module _ (Rule : Type 0) (Node : Rule → Type 0) (body : ((rule : Rule) → Reader (Node rule)) → (rule : Rule) → Reader (Node rule)) (need : Rule → ℕ) where

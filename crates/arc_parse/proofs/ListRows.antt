@@ -4,7 +4,7 @@ use Rattle.arc_lex.specs.Tokens.{Tok}
 use Rattle.arc_parse.specs.declared.fail.Fail.{Fail}
 use Rattle.arc_parse.specs.declared.fail.Fail.TheVariants.{Memory, Unexpected, TooDeep}
 use Rattle.arc_parse.specs.Reader.{Read, Reader, Fails, bind, ret, ◌>>=◌}
-use Rattle.arc_parse.specs.Views.{before, with_row}
+use Rattle.arc_parse.specs.private.Views.{before, with_row}
 
 before_push : {A T : Type 0} (tree : A → T) (all : List A) (a : A) (others : List T) → before tree (all ++ a ∷ []) others ≡ before tree all (tree a ∷ others)
 before_push tree [] a others = refl

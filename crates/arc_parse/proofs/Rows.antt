@@ -11,7 +11,7 @@ use Rattle.arc_parse.specs.declared.fail.Fail.TheVariants.{Memory, Unexpected, T
 use Rattle.arc_parse.specs.Reader.{Read, Fails, bind, ret, expect, sees_mark, ◌>>=◌}
 use Rattle.arc_parse.specs.Grammar.{and_part}
 use Rattle.arc_parse.specs.ExprRules.{Sent, read, expr, parts, part_by, sent_by}
-use Rattle.arc_parse.specs.Views.{AppendsArguments, AppendsParts}
+use Rattle.arc_parse.specs.private.Views.{AppendsArguments, AppendsParts}
 
 -- one argument in front of what is appended behind it
 pub appends_more : (old mid new : List Expr) (one : Expr) (r : Result (Bor (List Token)) Fail) (f whole : Read ExprTrees)

@@ -11,7 +11,7 @@ use Rattle.arc_ast.specs.Tree.{TypeTree, ExprTree, StmtTree, ParameterTree, Unit
 use Rattle.arc_parse.specs.Grammar.{begins_reference}
 use Rattle.arc_parse.specs.Limits.{Limits, unlimited, is_above, nested, up_to, cut, goes_over, plain}
 use Rattle.arc_parse.specs.Reader.{Read, Reader, misfit, too_deep, bind, ◌>>=◌, unexpected, too_deep_here, if_first, if_ahead, any, begins, expect, keyword, at_word, name, is_mark, is_word, is_name}
-use Rattle.arc_parse.specs.Knot.{deep, tied}
+use Rattle.arc_parse.specs.private.Knot.{deep, tied}
 use Rattle.arc_parse.specs.ExprRules.{expr}
 use Rattle.arc_parse.specs.ExprRules as exprs
 use Rattle.arc_parse.specs.UnitRules.{Rule, Rules, stmt, items, more_variables, more_references, more_parameters, more_fields, more_names, typed_parts, heads, methods, groups, tops, begins_expr, begins_stmt, full, simple_by, value_by, return_by, block_by, test_by, else_by, if_by, while_by, worded_by, stmt_by, initial_by, variable_by, next_variable_by, more_variables_by, variables_by, declaration_by, reference_by, next_reference_by, more_references_by, references_by, objects_by, perhaps_by, item_by, items_by, parameter, more_parameters_by, with_others_by, second_by, some_by, parameters_by, result_kind, head_by, braces_by, body_by, function_by, typed, next_part, typed_parts_by, selector_by, sign, method_head_by, next_head_by, heads_by, perhaps_semicolon, method_by, methods_by, field, next_field, more_fields_by, ints_by, group_by, groups_by, fields_by, interface_by, title, implementation_by, next_name, more_names_by, names_by, names_top_by, interface_top_by, implementation_top_by, function_top_by, top_by, tops_by, body, read, unit}

@@ -16,7 +16,7 @@ use Rattle.arc_ast.specs.Tree.{TypeTree, ExprTree, VariableTree, StmtTree, Param
 use Rattle.arc_parse.specs.Language.{Language, ◌⨾◌, ◌∣◌, One, The, TheWord, TheAt, SomeName, Nothing}
 use Rattle.arc_parse.specs.Reader.{Read, Reader, ◌>>=◌, ret, any, begins, sees_word, expect, unexpected, too_deep_here, if_first}
 use Rattle.arc_parse.specs.Limits.{Limits, AtMost, Nested, is_above, nested, plainly, plain}
-use Rattle.arc_parse.specs.Knot.{deep, tied}
+use Rattle.arc_parse.specs.private.Knot.{deep, tied}
 use Rattle.arc_parse.specs.Grammar.{Full, SpellsValue, SpellsInitial, SpellsVariable, SpellsVariables, SpellsMoreVariables, SpellsReferences, SpellsMoreReferences, SpellsDeclaration, begins_reference, FieldGroup, OfWord, OfInts, word_of, sign_mark, SpellsMoreNames, SpellsGroup, SpellsGroups, named_fields, fields_of, SpellsFields, SpellsTest, is_open, SpellsStmt, SpellsStmts, main_bytes, SpellsResult, SpellsParameter, SpellsMoreParameters, TextsName, SpellsParameters, SpellsHead, SpellsBraces, SpellsBody, SpellsFunction, SpellsTyped, SpellsTypedParts, SpellsSelector, SpellsMethodHead, SpellsHeads, SpellsMethod, SpellsMethods, SpellsInterface, SpellsTitle, SpellsImplementation, MoreNames, SpellsNames, SpellsTop, SpellsTops, OfNames, OfFunction, OfInterface, OfImplementation, and_part}
 use Rattle.arc_parse.specs.ExprRules.{expr}
 use Rattle.arc_parse.specs.UnitRules.{Rule, Node, Rules, stmt, items, more_variables, more_references, more_parameters, more_fields, more_names, typed_parts, heads, methods, groups, tops, full, simple_by, empty, value_by, return_by, block_by, test_by, else_by, if_by, while_by, worded_by, stmt_by, initial_by, variable_by, next_variable_by, more_variables_by, variables_by, declaration_by, reference_by, next_reference_by, more_references_by, references_by, objects_by, perhaps_by, item_by, items_by, texts_name, perhaps_const, texts, parameter, next_parameter, more_parameters_by, begins_texts, with_others_by, second_by, some_by, parameters_by, result_kind, head_by, braces_by, body_by, function_by, typed, next_part, typed_parts_by, selector_by, sign, method_head_by, next_head_by, heads_by, perhaps_semicolon, method_by, methods_by, field, next_field, more_fields_by, ints_by, visibility, visibility_of, group_by, groups_by, fields_by, interface_by, title, implementation_by, next_name, more_names_by, names_by, names_top_by, interface_top_by, implementation_top_by, function_top_by, top_by, tops_by, body, read}

@@ -12,7 +12,7 @@ use Rattle.arc_ast.specs.Tree.{TypeTree, ExprTree, VariableTree, StmtTree, StmtT
 use Rattle.arc_parse.specs.Language.{Nothing, One, ◌⨾◌, ◌∣◌, The, TheWord}
 use Rattle.arc_parse.specs.Reader.{Read, Reader, too_deep, bind, ret}
 use Rattle.arc_parse.specs.Limits.{Limits, AtMost}
-use Rattle.arc_parse.specs.Knot.{deep, tied}
+use Rattle.arc_parse.specs.private.Knot.{deep, tied}
 use Rattle.arc_parse.specs.Grammar.{begins_reference, SpellsVariable, SpellsTest, SpellsStmts, SpellsHead, SpellsMethodHead, SpellsMethods, TopTree, SpellsTops, unit_of}
 use Rattle.arc_parse.specs.UnitRules.{Rule, Rules, stmt, items, more_variables, more_references, more_parameters, more_fields, more_names, typed_parts, heads, methods, groups, tops, simple_by, empty, value_by, return_by, block_by, test_by, else_by, if_by, while_by, worded_by, stmt_by, initial_by, variable_by, next_variable_by, more_variables_by, variables_by, declaration_by, reference_by, next_reference_by, more_references_by, references_by, objects_by, perhaps_by, item_by, items_by, texts_name, perhaps_const, texts, parameter, next_parameter, more_parameters_by, with_others_by, second_by, some_by, parameters_by, result_kind, head_by, braces_by, body_by, function_by, typed, next_part, typed_parts_by, sign, field, next_field, more_fields_by, ints_by, group_by, groups_by, fields_by, selector_by, method_head_by, next_head_by, heads_by, perhaps_semicolon, method_by, methods_by, interface_by, title, implementation_by, next_name, more_names_by, names_by, names_top_by, interface_top_by, implementation_top_by, function_top_by, top_by, tops_by, body, read, unit}
 use Rattle.arc_parse.specs.TooDeep.{Role, must, may, takes_test, Heading, BeginsBody, of_function, of_method, Begins, in_body, in_block, in_branch, in_other, Declarator, plain, starred, BeginsVariable, first_variable, first_reference, next_variable, of_simple, of_return, of_test, of_variable, TooDeep, statement}

@@ -15,7 +15,7 @@ use Rattle.arc_ast.specs.Tree.{TypeTree, ExprTree, VariableTree, StmtTree, Param
 use Rattle.arc_parse.specs.Language.{Language, ◌⨾◌, ◌∣◌, One, The, TheWord, TheAt, SomeName, Nothing}
 use Rattle.arc_parse.specs.Reader.{Read, Reader, Fault, unexpected, ◌>>=◌, bind, ret, begins, sees_word, expect, keyword, at_word, name, if_ahead, is_name, is_at, place_if}
 use Rattle.arc_parse.specs.Limits.{unlimited, nested, up_to, plainly, plain, Nested}
-use Rattle.arc_parse.specs.Knot.{deep, tied}
+use Rattle.arc_parse.specs.private.Knot.{deep, tied}
 use Rattle.arc_parse.specs.Grammar.{Full, SpellsValue, SpellsInitial, SpellsVariable, SpellsVariables, SpellsMoreVariables, SpellsReferences, SpellsMoreReferences, SpellsDeclaration, begins_reference, FieldGroup, OfWord, OfInts, word_of, sign_mark, SpellsMoreNames, SpellsGroup, SpellsGroups, named_fields, fields_of, SpellsFields, SpellsTest, is_open, SpellsStmt, SpellsStmts, SpellsResult, SpellsParameter, SpellsMoreParameters, TextsName, SpellsParameters, SpellsHead, SpellsBraces, SpellsBody, SpellsFunction, SpellsTyped, SpellsTypedParts, SpellsSelector, SpellsMethodHead, SpellsHeads, SpellsMethod, SpellsMethods, SpellsInterface, SpellsTitle, SpellsImplementation, MoreNames, SpellsNames, SpellsTop, SpellsTops, SpellsUnit, TopTree, OfNames, OfFunction, OfInterface, OfImplementation, unit_of, and_part}
 use Rattle.arc_parse.specs.ExprRules.{expr}
 use Rattle.arc_parse.specs.ExprRules as exprs

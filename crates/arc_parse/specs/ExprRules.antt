@@ -9,7 +9,7 @@ use Rattle.arc_ast.specs.declared.tree.BinaryOperator.{BinaryOperator}
 use Rattle.arc_ast.specs.declared.tree.BinaryOperator.TheVariants.{Add, Subtract, Multiply, Divide, NotEqual}
 use Rattle.arc_ast.specs.Tree.{TypeTree, ExprTree, ExprTrees, Id, Object, Integer, Text, Paren, Call, Nil, Itself, Name, Negate, Plus, Cast, Binary, Arrow, Assign, Send, SendSuper, no_exprs, and_expr, begins}
 use Rattle.arc_parse.specs.Grammar.{and_part, begins_reference}
-use Rattle.arc_parse.specs.Knot.{tied}
+use Rattle.arc_parse.specs.private.Knot.{tied}
 use Rattle.arc_parse.specs.Reader.{Reader, ◌>>=◌, ret, token, expect, keyword, name, is_mark, sees_mark, sees_word, if_first, if_ahead, if_mark, if_word, if_name}
 
 -- What is read by recursion: an expression, a unary one, the fields behind an object, the operators of a level behind a left

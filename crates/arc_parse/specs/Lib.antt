@@ -1,10 +1,9 @@
 pub mod Language
 pub mod Reader
 pub mod Limits
-pub mod Knot
 pub mod Grammar
 pub mod ExprRules
 pub mod UnitRules
 pub mod TooDeep
 pub mod Refusal
-pub mod Views
+pub mod private

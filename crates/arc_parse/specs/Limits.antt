@@ -1,6 +1,8 @@
 -- How deep statements nest, and how many tokens a full-expression has at most.
 use Rattle.std.specs.Prelude.{◌≤◌, ◌+◌, ℕ, suc, List, length, drop, Option, Some, None, Bool, false, nat_lt, ◌&&◌, Ok, Err, if◌then◌else◌}
 use Rattle.arc_lex.specs.Tokens.{Tok}
+use Rattle.arc_parse.specs.declared.limit.TheConstants.{MOST}
+use Rattle.arc_parse.specs.declared.stmt.TheConstants.{DEEPEST}
 use Rattle.arc_parse.specs.Language.{Language}
 use Rattle.arc_parse.specs.Reader.{Read, Reader, misfit, too_deep, unexpected, too_deep_here, if_first}
 
@@ -12,10 +14,10 @@ pub record Limits : Type 0 where
 abbrev pub unlimited : Limits
 unlimited = record { depth = None; tokens = None }
 
--- This compiler's own limits (C99, section 5.2.4.1, asks for 127 levels of blocks and 63 of parentheses): a statement of a
--- function's body nests 200 deep, where the body itself counts as 1, and a full-expression has 1,000 tokens.
+-- This compiler's own limits (C99, section 5.2.4.1, asks for 127 levels of blocks and 63 of parentheses): how deep a statement
+-- of a function's body nests, where the body itself counts as 1, and how many tokens a full-expression has.
 abbrev pub these : Limits
-these = record { depth = Some 200; tokens = Some 1000 }
+these = record { depth = Some DEEPEST; tokens = Some MOST }
 
 abbrev pub AtMost : Option ℕ → ℕ → Type 0
 AtMost None n = Unit {0}

@@ -15,7 +15,7 @@ use Rattle.arc_ast.specs.declared.tree.Visibility.{Visibility}
 use Rattle.arc_ast.specs.declared.tree.Visibility.TheVariants as seen
 use Rattle.arc_ast.specs.Tree.{TypeTree, ExprTree, VariableTree, StmtTree, StmtTrees, ParameterTree, ParametersTree, FunctionTree, HeadTree, MethodTree, FieldTree, InterfaceTree, ImplementationTree, UnitTree, Int, Id, Object, Block, Empty, Simple, Return, Variables, If, IfElse, While, no_stmts, and_stmt, Ints, CountAndTexts}
 use Rattle.arc_parse.specs.Grammar.{TopTree, OfNames, OfFunction, OfInterface, OfImplementation, begins_reference, main_bytes, and_part, unit_of}
-use Rattle.arc_parse.specs.Knot.{tied}
+use Rattle.arc_parse.specs.private.Knot.{tied}
 use Rattle.arc_parse.specs.Limits.{Limits, nested, up_to, plain}
 use Rattle.arc_parse.specs.Reader.{Reader, ◌>>=◌, ret, any, unexpected, token, expect, keyword, at_word, name, if_first, if_ahead, if_mark, if_word, if_at, if_name, is_mark, is_word}
 use Rattle.arc_parse.specs.ExprRules.{expr}

@@ -3,7 +3,7 @@ ghost use Rattle.std.specs.Prelude.{◌≡◌, ◌<◌, ◌≤◌, [], length, I
 ghost use Rattle.arc_lex.specs.Tokens.{toks};
 ghost use Rattle.arc_ast.specs.Tree.{type_tree, expr_tree, expr_trees, begins};
 ghost use Rattle.arc_parse.specs.Reader.{Gives};
-ghost use Rattle.arc_parse.specs.Views.{AppendsArguments, AppendsParts};
+ghost use Rattle.arc_parse.specs.private.Views.{AppendsArguments, AppendsParts};
 ghost use Rattle.arc_parse.specs.ExprRules as rules;
 ghost use Rattle.arc_parse.specs.ExprRules.{read, is_unary};
 

@@ -3,7 +3,7 @@ ghost use Rattle.std.specs.Prelude.{◌<◌, ◌≤◌, length, IfOk};
 ghost use Rattle.arc_lex.specs.Tokens.{toks};
 ghost use Rattle.arc_ast.specs.Tree.{field_trees};
 ghost use Rattle.arc_parse.specs.Reader.{Gives};
-ghost use Rattle.arc_parse.specs.Views.{field_tree, with_row};
+ghost use Rattle.arc_parse.specs.private.Views.{field_tree, with_row};
 ghost use Rattle.arc_parse.specs.Limits.{these};
 ghost use Rattle.arc_parse.specs.UnitRules as rules;
 

@@ -1,5 +1,5 @@
 //! Reads functions.
-ghost use Rattle.std.specs.Prelude.{◌≡◌, ◌<◌, ◌≤◌, length, IfOk, option_map};
+ghost use Rattle.std.specs.Prelude.{◌<◌, length, IfOk, option_map};
 ghost use Rattle.arc_lex.specs.Tokens.{toks};
 ghost use Rattle.arc_ast.specs.Tree.{stmt_trees, parameters_tree, function_tree};
 ghost use Rattle.arc_parse.specs.Reader.{Gives};

@@ -1,5 +1,5 @@
 //! Reads full-expressions, of so many tokens at most.
-ghost use Rattle.std.specs.Prelude.{◌≡◌, ◌<◌, ◌≤◌, length, take, drop, Err, IfOk};
+ghost use Rattle.std.specs.Prelude.{◌≡◌, ◌+◌, ◌<◌, ◌≤◌, length, take, drop, Err, IfOk};
 ghost use Rattle.arc_lex.specs.Tokens.{toks};
 ghost use Rattle.arc_ast.specs.Tree.{expr_tree};
 ghost use Rattle.arc_parse.specs.Reader.{Gives, Fails, Fault};
@@ -38,7 +38,7 @@ fn behind(tokens: &[Token], taken: usize) -> &[Token]
 
 /// Why there is no full-expression, where none was read of the tokens up to the limit and one more, and this rest was left.
 fn refused<'a>(tokens: &'a [Token], ahead: &'a [Token], rest: &'a [Token]) -> Fail<'a>
-    requires first { ahead.now ≡ take 1001 tokens.now }
+    requires first { ahead.now ≡ take (MOST + 1) tokens.now }
     requires fails { (why : Fault) × (exprs.read exprs.expr (toks ahead.now) ≡ Err (why, toks rest.now)) }
     ensures { Fails result (rules.full these (toks tokens.now)) }
 {

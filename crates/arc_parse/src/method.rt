@@ -1,9 +1,9 @@
 //! Reads methods.
 ghost use Rattle.std.specs.Prelude.{◌<◌, ◌≤◌, length, IfOk};
 ghost use Rattle.arc_lex.specs.Tokens.{toks};
-ghost use Rattle.arc_ast.specs.Tree.{stmt_trees, parameter_trees, head_tree, head_trees, method_tree, method_trees};
+ghost use Rattle.arc_ast.specs.Tree.{parameter_trees, head_tree, head_trees, method_tree, method_trees};
 ghost use Rattle.arc_parse.specs.Reader.{Gives};
-ghost use Rattle.arc_parse.specs.Views.{parameter_tree, parts_then};
+ghost use Rattle.arc_parse.specs.private.Views.{parameter_tree, parts_then};
 ghost use Rattle.arc_parse.specs.Limits.{these};
 ghost use Rattle.arc_parse.specs.UnitRules as rules;
 

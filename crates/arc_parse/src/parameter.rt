@@ -1,9 +1,9 @@
 //! Reads what functions take.
-ghost use Rattle.std.specs.Prelude.{◌≡◌, ◌<◌, ◌≤◌, List, [], ◌∷◌, length, IfOk};
+ghost use Rattle.std.specs.Prelude.{◌<◌, ◌≤◌, length, IfOk};
 ghost use Rattle.arc_lex.specs.Tokens.{toks};
-ghost use Rattle.arc_ast.specs.Tree.{ParameterTree, parameter_trees, parameters_tree};
+ghost use Rattle.arc_ast.specs.Tree.{parameter_trees, parameters_tree};
 ghost use Rattle.arc_parse.specs.Reader.{Gives};
-ghost use Rattle.arc_parse.specs.Views.{parameter_tree, with_row};
+ghost use Rattle.arc_parse.specs.private.Views.{parameter_tree, with_row};
 ghost use Rattle.arc_parse.specs.Limits.{these};
 ghost use Rattle.arc_parse.specs.UnitRules as rules;
 

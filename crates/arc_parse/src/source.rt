@@ -3,12 +3,12 @@ ghost use Rattle.std.specs.Prelude.{◌≡◌, ◌<◌, length, IfOk};
 ghost use Rattle.arc_lex.specs.Tokens.{toks};
 ghost use Rattle.arc_ast.specs.Tree.{unit_tree};
 ghost use Rattle.arc_parse.specs.Reader.{Gives};
-ghost use Rattle.arc_parse.specs.Views.{top_tree, and_top};
+ghost use Rattle.arc_parse.specs.private.Views.{top_tree, and_top};
 ghost use Rattle.arc_parse.specs.Limits.{these};
 ghost use Rattle.arc_parse.specs.UnitRules as rules;
 
 use crate::class::{implementation, interface, names};
-use crate::fail::{Fail, Read};
+use crate::fail::Read;
 use crate::function::function;
 use crate::step::{is_more, sees_at};
 use arc_ast::tree::{Function, Implementation, Interface, TranslationUnit};

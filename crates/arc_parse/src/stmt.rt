@@ -1,5 +1,5 @@
 //! Reads statements.
-ghost use Rattle.std.specs.Prelude.{◌≡◌, ◌<◌, ◌≤◌, length, IfOk, option_map};
+ghost use Rattle.std.specs.Prelude.{◌<◌, ◌≤◌, length, IfOk, option_map};
 ghost use Rattle.arc_lex.specs.Tokens.{toks};
 ghost use Rattle.arc_ast.specs.Tree.{expr_tree, stmt_tree, stmt_trees};
 ghost use Rattle.arc_parse.specs.Reader.{Gives};
@@ -89,7 +89,7 @@ fn branch<'a>(alloc: Global, depth: usize, tokens: &'a [Token]) -> Read<'a, Box<
 #[cycle(stmts)]
 #[tactic(auto, unfolding(crate::specs::UnitRules::stmt_by))]
 fn stmt<'a>(alloc: Global, depth: usize, tokens: &'a [Token]) -> Read<'a, Stmt>
-    requires { depth ≤ 200 }
+    requires { depth ≤ DEEPEST }
     ensures gives { Gives (λ x. (stmt_tree x.0, toks x.1.now)) result (rules.stmt_by these (rules.read these) depth (toks tokens.now)) }
     ensures shorter { IfOk result (λ x. length x.1.now < length tokens.now) }
 {
@@ -106,7 +106,7 @@ fn stmt<'a>(alloc: Global, depth: usize, tokens: &'a [Token]) -> Read<'a, Stmt>
 #[cycle(stmts)]
 #[tactic(auto, unfolding(crate::specs::UnitRules::worded_by))]
 fn worded<'a>(alloc: Global, depth: usize, tokens: &'a [Token]) -> Read<'a, Stmt>
-    requires { depth ≤ 200 }
+    requires { depth ≤ DEEPEST }
     ensures gives { Gives (λ x. (stmt_tree x.0, toks x.1.now)) result (rules.worded_by these (rules.read these) depth (toks tokens.now)) }
     ensures shorter { IfOk result (λ x. length x.1.now < length tokens.now) }
 {
@@ -125,7 +125,7 @@ fn worded<'a>(alloc: Global, depth: usize, tokens: &'a [Token]) -> Read<'a, Stmt
 #[cycle(stmts)]
 #[tactic(auto, unfolding(crate::specs::UnitRules::if_by))]
 fn conditional<'a>(alloc: Global, depth: usize, tokens: &'a [Token]) -> Read<'a, Stmt>
-    requires { depth ≤ 200 }
+    requires { depth ≤ DEEPEST }
     ensures gives { Gives (λ x. (stmt_tree x.0, toks x.1.now)) result (rules.if_by these (rules.read these) depth (toks tokens.now)) }
     ensures shorter { IfOk result (λ x. length x.1.now < length tokens.now) }
 {
@@ -146,7 +146,7 @@ fn otherwise<'a>(
     first: Box<Stmt>,
     tokens: &'a [Token],
 ) -> Read<'a, Stmt>
-    requires { depth ≤ 200 }
+    requires { depth ≤ DEEPEST }
     ensures gives { Gives (λ x. (stmt_tree x.0, toks x.1.now)) result (rules.else_by (rules.read these) depth at (expr_tree condition.value) (stmt_tree first.value) (toks tokens.now)) }
     ensures shorter { IfOk result (λ x. length x.1.now ≤ length tokens.now) }
 {
@@ -163,7 +163,7 @@ fn otherwise<'a>(
 #[cycle(stmts)]
 #[tactic(auto, unfolding(crate::specs::UnitRules::while_by))]
 fn repeated<'a>(alloc: Global, depth: usize, tokens: &'a [Token]) -> Read<'a, Stmt>
-    requires { depth ≤ 200 }
+    requires { depth ≤ DEEPEST }
     ensures gives { Gives (λ x. (stmt_tree x.0, toks x.1.now)) result (rules.while_by these (rules.read these) depth (toks tokens.now)) }
     ensures shorter { IfOk result (λ x. length x.1.now < length tokens.now) }
 {
@@ -189,7 +189,7 @@ fn test<'a>(alloc: Global, tokens: &'a [Token]) -> Read<'a, Box<Expr>>
 #[cycle(stmts)]
 #[tactic(auto, unfolding(crate::specs::UnitRules::block_by))]
 fn block<'a>(alloc: Global, depth: usize, tokens: &'a [Token]) -> Read<'a, Stmt>
-    requires { depth ≤ 200 }
+    requires { depth ≤ DEEPEST }
     ensures gives { Gives (λ x. (stmt_tree x.0, toks x.1.now)) result (rules.block_by (rules.read these) depth (toks tokens.now)) }
     ensures shorter { IfOk result (λ x. length x.1.now < length tokens.now) }
 {

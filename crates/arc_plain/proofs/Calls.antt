@@ -5,11 +5,12 @@ use Rattle.std.proofs.lemmas.Option.{slice_get-map}
 use Rattle.arc_check.specs.declared.checked.CheckedFunction.{CheckedFunction}
 use Rattle.arc_check.specs.Checked.{functions, program_of}
 use Rattle.arc_spec.specs.declared.class.Class as declared
-use Rattle.arc_spec.specs.Classes.{class_of, classes_of, lookup}
+use Rattle.arc_spec.specs.Classes.{class_of, classes_of, superclasses, ancestry_within, lookup}
+use Rattle.arc_spec.proofs.Deallocs.{dealloc_and_above, deallocs_from}
 use Rattle.arc_ast.specs.declared.tree.Sign.TheVariants as signs
 use Rattle.arc_spec.specs.Resolved.{Function, Program, no_commands}
 use Rattle.arc_spec.specs.World.{Frame, World, Outcome, Done, then_do, Finished, finished, entered, left, stores, name_at, with_temporaries}
-use Rattle.arc_spec.specs.Meaning.{Deeper, Flow, given, called, all_executed, variables_dropped, released, temporaries_dropped, all_dropped, function_at, dealloc_run, dealloc_and_above, deallocs_run, sent_from, runs_found}
+use Rattle.arc_spec.specs.Meaning.{Deeper, Flow, given, called, all_executed, variables_dropped, released, temporaries_dropped, all_dropped, function_at, dealloc_run, deallocs_run, sent_from, runs_found}
 use Rattle.arc_plain.specs.declared.context.Context.{Context}
 use Rattle.arc_plain.specs.declared.halt.Halt.{Halt}
 use Rattle.arc_plain.specs.Views.{Tells, left_at, function_of}
@@ -34,7 +35,7 @@ module _ (D : Deeper) (steady : Steady D) (bound : ℕ) (f : Function) (self : �
       let between : w2.waiting ≡ w1.waiting = after_done (Waits w1) (all_executed D bound f.body w1) flow w2 (commands_wait D steady bound f.body w1) body in
       let behind : w3.waiting ≡ w2.waiting = after_done (Waits w2) (variables_dropped D 0 f.names w2) finished w3 (variables_wait D steady 0 f.names w2) dropped in
       let back : reverse (take count now) ≡ w0.waiting = ap reverse (same_below old begun now count w1 w3 first last (behind ∙ between) below) ∙ sym waits in
-      let there : w4 ≡ left w0 w3 = leaves ∙ ap (λ (l : List ℕ). record { input = w3.input; trace = w3.trace; objects = w3.objects; frame = w0.frame; waiting = l }) back in
+      let there : w4 ≡ left w0 w3 = leaves ∙ ap (λ (l : List ℕ). record w3 { frame = w0.frame; waiting = l }) back in
       let meant : called D bound f self arguments w0 ≡ then_do (all_executed D bound f.body w1) (λ flow1 v1. then_do (variables_dropped D 0 f.names v1) (λ _ v2. Done (given flow1) (left w0 v2))) =
       ap (λ w. then_do (all_executed D bound f.body w) (λ flow1 v1. then_do (variables_dropped D 0 f.names v1) (λ _ v2. Done (given flow1) (left w0 v2)))) (sym begins) in
       meant ∙ ap (λ o. then_do o (λ flow1 v1. then_do (variables_dropped D 0 f.names v1) (λ _ v2. Done (given flow1) (left w0 v2)))) body
@@ -147,45 +148,48 @@ object_sent D from zero selector arguments w some = nothing_below some
 object_sent D from (suc k) selector arguments w some = refl
 
 module _ (P : Program) (D : Deeper) (bound : ℕ) (all : List declared.Class) (o : ℕ) (classes : P.classes ≡ classes_of all) where
+  found_here : (number : ℕ) (c : Option declared.Class) → slice_get all number ≡ c → slice_get P.classes number ≡ option_map class_of c
+  found_here number c there = ap (λ l. slice_get l number) classes ∙ slice_get-map class_of all number ∙ ap (option_map class_of) there
+
   pub dealloc_here : (left i number : ℕ) (c : declared.Class) (w : World) → left ≡ suc i → slice_get all number ≡ Some c
-      → deallocs_run P D bound left (Some number) o w ≡ then_do (dealloc_run P D bound c.dealloc o w) (λ _ w1. deallocs_run P D bound i c.superclass o w1)
+      → deallocs_run P D bound (ancestry_within left (superclasses P.classes) (Some number)) o w
+      ≡ then_do (dealloc_run P D bound c.dealloc o w) (λ _ w1. deallocs_run P D bound (ancestry_within i (superclasses P.classes) c.superclass) o w1)
   dealloc_here left i number c w one there =
-      let found : slice_get P.classes number ≡ Some (class_of c) = ap (λ l. slice_get l number) classes ∙ slice_get-map class_of all number ∙ ap (option_map class_of) there in
-      ap (λ n. deallocs_run P D bound n (Some number) o w) one ∙ ap (λ x. dealloc_and_above P D bound x o (λ above w1. deallocs_run P D bound i above o w1) w) found
+      ap (λ n. deallocs_run P D bound (ancestry_within n (superclasses P.classes) (Some number)) o w) one ∙ deallocs_from P D bound i number o w
+      ∙ ap (λ x. dealloc_and_above P D bound x o (λ above w1. deallocs_run P D bound (ancestry_within i (superclasses P.classes) above) o w1) w) (found_here number (Some c) there)
 
   -- above the root, and above what is no class
-  pub no_class_left : (left : ℕ) (class : Option ℕ) (w : World) → class ≡ None → deallocs_run P D bound left class o w ≡ Done finished w
-  no_class_left zero class w none = refl
-  no_class_left (suc n) class w none = ap (λ c. deallocs_run P D bound (suc n) c o w) none
+  pub no_class_left : (left : ℕ) (class : Option ℕ) (w : World) → class ≡ None → deallocs_run P D bound (ancestry_within left (superclasses P.classes) class) o w ≡ Done finished w
+  no_class_left left class w none = ap (λ c. deallocs_run P D bound (ancestry_within left (superclasses P.classes) c) o w) none
 
-  pub no_such_class : (left number : ℕ) (w : World) → slice_get all number ≡ None → deallocs_run P D bound left (Some number) o w ≡ Done finished w
+  pub no_such_class : (left number : ℕ) (w : World) → slice_get all number ≡ None → deallocs_run P D bound (ancestry_within left (superclasses P.classes) (Some number)) o w ≡ Done finished w
   no_such_class zero number w none = refl
   no_such_class (suc n) number w none =
-      let missing : slice_get P.classes number ≡ None = ap (λ l. slice_get l number) classes ∙ slice_get-map class_of all number ∙ ap (option_map class_of) none in
-      ap (λ x. dealloc_and_above P D bound x o (λ above w1. deallocs_run P D bound n above o w1) w) missing
+      deallocs_from P D bound n number o w
+      ∙ ap (λ x. dealloc_and_above P D bound x o (λ above w1. deallocs_run P D bound (ancestry_within n (superclasses P.classes) above) o w1) w) (found_here number None none)
 
 -- one class more, whose dealloc and what is above it are known
 layer_run : (P : Program) (D : Deeper) (bound : ℕ) (whole : Outcome Finished) (count i o : ℕ) (class dealloc above : Option ℕ) (w : World) → i < count
-    → whole ≡ deallocs_run P D bound (count - i) class o w
-    → ((n : ℕ) → deallocs_run P D bound (suc n) class o w ≡ then_do (dealloc_run P D bound dealloc o w) (λ _ w1. deallocs_run P D bound n above o w1))
-    → whole ≡ then_do (dealloc_run P D bound dealloc o w) (λ _ w1. deallocs_run P D bound (count - (i + 1)) above o w1)
+    → whole ≡ deallocs_run P D bound (ancestry_within (count - i) (superclasses P.classes) class) o w
+    → ((n : ℕ) → deallocs_run P D bound (ancestry_within (suc n) (superclasses P.classes) class) o w ≡ then_do (dealloc_run P D bound dealloc o w) (λ _ w1. deallocs_run P D bound (ancestry_within n (superclasses P.classes) above) o w1))
+    → whole ≡ then_do (dealloc_run P D bound dealloc o w) (λ _ w1. deallocs_run P D bound (ancestry_within (count - (i + 1)) (superclasses P.classes) above) o w1)
 layer_run P D bound whole count i o class dealloc above w below old layer =
     let one : count - i ≡ suc (count - (i + 1)) = omega (arith, below) in
-    old ∙ ap (λ n. deallocs_run P D bound n class o w) one ∙ layer (count - (i + 1))
+    old ∙ ap (λ n. deallocs_run P D bound (ancestry_within n (superclasses P.classes) class) o w) one ∙ layer (count - (i + 1))
 
 pub layer_done : (P : Program) (D : Deeper) (bound : ℕ) (whole : Outcome Finished) (count i o : ℕ) (class dealloc above : Option ℕ) (w after : World) → i < count
-    → whole ≡ deallocs_run P D bound (count - i) class o w
-    → ((n : ℕ) → deallocs_run P D bound (suc n) class o w ≡ then_do (dealloc_run P D bound dealloc o w) (λ _ w1. deallocs_run P D bound n above o w1))
-    → dealloc_run P D bound dealloc o w ≡ Done finished after → whole ≡ deallocs_run P D bound (count - (i + 1)) above o after
+    → whole ≡ deallocs_run P D bound (ancestry_within (count - i) (superclasses P.classes) class) o w
+    → ((n : ℕ) → deallocs_run P D bound (ancestry_within (suc n) (superclasses P.classes) class) o w ≡ then_do (dealloc_run P D bound dealloc o w) (λ _ w1. deallocs_run P D bound (ancestry_within n (superclasses P.classes) above) o w1))
+    → dealloc_run P D bound dealloc o w ≡ Done finished after → whole ≡ deallocs_run P D bound (ancestry_within (count - (i + 1)) (superclasses P.classes) above) o after
 layer_done P D bound whole count i o class dealloc above w after below old layer done =
     layer_run P D bound whole count i o class dealloc above w below old layer
-    ∙ ap (λ x. then_do x (λ _ w1. deallocs_run P D bound (count - (i + 1)) above o w1)) done
+    ∙ ap (λ x. then_do x (λ _ w1. deallocs_run P D bound (ancestry_within (count - (i + 1)) (superclasses P.classes) above) o w1)) done
 
 pub layer_failed : {A : Type 0} (P : Program) (D : Deeper) (bound : ℕ) (whole : Outcome Finished) (count i o : ℕ) (class dealloc above : Option ℕ) (w after : World) (view other : A → Finished) (e : Halt) (result : Result A Halt) → i < count
-    → whole ≡ deallocs_run P D bound (count - i) class o w
-    → ((n : ℕ) → deallocs_run P D bound (suc n) class o w ≡ then_do (dealloc_run P D bound dealloc o w) (λ _ w1. deallocs_run P D bound n above o w1))
+    → whole ≡ deallocs_run P D bound (ancestry_within (count - i) (superclasses P.classes) class) o w
+    → ((n : ℕ) → deallocs_run P D bound (ancestry_within (suc n) (superclasses P.classes) class) o w ≡ then_do (dealloc_run P D bound dealloc o w) (λ _ w1. deallocs_run P D bound (ancestry_within n (superclasses P.classes) above) o w1))
     → result ≡ Err e → Tells view (Err e) (dealloc_run P D bound dealloc o w) after → Tells other result whole after
 layer_failed P D bound whole count i o class dealloc above w after view other e result below old layer failed h =
-    let go = λ (u : Finished) (w1 : World). deallocs_run P D bound (count - (i + 1)) above o w1 in
+    let go = λ (u : Finished) (w1 : World). deallocs_run P D bound (ancestry_within (count - (i + 1)) (superclasses P.classes) above) o w1 in
     subst (λ x. Tells other x whole after) (sym failed)
     (tells_through e view other after go (dealloc_run P D bound dealloc o w) whole (layer_run P D bound whole count i o class dealloc above w below old layer) h)

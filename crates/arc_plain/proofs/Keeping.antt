@@ -1,12 +1,12 @@
 -- What a part of a program leaves as it was: the places that wait and, where only objects end, the running function.
-use Rattle.std.proofs.Common.{◌≡◌, ℕ, zero, suc, ◌+◌, ℤ, pos, List, [], ◌∷◌, length, Option, Some, None, Bool, true, false, not, ◌&&◌, slice_get, refl, ◌∙◌}
+use Rattle.std.proofs.Common.{◌≡◌, ℕ, zero, suc, ◌+◌, ℤ, pos, List, [], ◌∷◌, Option, Some, None, Bool, true, false, not, ◌&&◌, slice_get, refl, ◌∙◌}
 use Rattle.std.specs.Prelude.{slice_set, slice_index_or, if◌then◌else◌}
-use Rattle.arc_spec.specs.Classes.{Class, class_at, descends}
+use Rattle.arc_spec.specs.Classes.{superclasses, ancestry, own_dealloc, class_at, descends}
 use Rattle.arc_spec.specs.Number.{converted, negated, combined, is_zero}
 use Rattle.arc_spec.specs.Objects.{Object, Phase, object_at, is_live, names, with_object, with_fields}
 use Rattle.arc_spec.specs.Resolved.{Value, Number, ReadByte, Print, Negated, Combined, Converted, Local, Assigned, Invoked, Sent, SentSuper, SentTo, SentToSuper, Field, FieldAssigned, Differ, IsObject, Reference, Nil, Itself, Variable, Stored, Made, Initialized, Values, no_values, and_value, Command, Sequence, Evaluate, EvaluateReference, Begin, Return, Choose, Repeat, Commands, no_commands, and_command, Function, Program}
 use Rattle.arc_spec.specs.World.{World, Outcome, Done, Faulted, Cut, then_do, Finished, finished, places, prints, entered, left, takes, stores, with_temporaries, with_locals, with_objects, local_at, name_at}
-use Rattle.arc_spec.specs.Meaning.{Deeper, formatted, byte_count, or_fault, released, temporaries_dropped, all_dropped, assigned, variables_dropped, dispatched, finds, runs_found, class_in, sent_from, sent_to, made, in_object, field_read, field_set, difference, evaluated, referred, all_evaluated, whole, whole_reference, begun, Flow, Normal, Returned, if_normal, chosen, turns, scope_left, normally, executed, all_executed, given, function_at, called, dealloc_run, dealloc_and_above, deallocs_run, turned, gone, dying, ended, level}
+use Rattle.arc_spec.specs.Meaning.{Deeper, formatted, byte_count, or_fault, released, temporaries_dropped, all_dropped, assigned, variables_dropped, dispatched, finds, runs_found, class_in, sent_from, sent_to, made, in_object, field_read, field_set, difference, evaluated, referred, all_evaluated, whole, whole_reference, begun, Flow, Normal, Returned, if_normal, chosen, turns, scope_left, normally, executed, all_executed, given, function_at, called, dealloc_run, deallocs_run, turned, gone, dying, ended, level}
 
 -- what holds of the world behind a part that was done
 abbrev pub After : {A : Type 0} → (World → Type 0) → Outcome A → Type 0
@@ -81,17 +81,11 @@ dealloc_same P D bound None o w = same_refl w
 dealloc_same P D bound (Some f) o w =
     same_then w (called D bound (function_at P f) o [] w) (λ _ w1. Done finished w1) (called_same D bound (function_at P f) o [] w) (λ _ w1. same_refl w1)
 
-above_same : (P : Program) (D : Deeper) (bound : ℕ) (c : Option Class) (o : ℕ) (above : Option ℕ → World → Outcome Finished) (w : World)
-    → ((class : Option ℕ) (w1 : World) → After (Same w1) (above class w1)) → After (Same w) (dealloc_and_above P D bound c o above w)
-above_same P D bound None o above w next = same_refl w
-above_same P D bound (Some c) o above w next =
-    same_then w (dealloc_run P D bound c.dealloc o w) (λ _ w1. above c.superclass w1) (dealloc_same P D bound c.dealloc o w) (λ _ w1. next c.superclass w1)
-
-deallocs_same : (P : Program) (D : Deeper) (bound n : ℕ) (class : Option ℕ) (o : ℕ) (w : World) → After (Same w) (deallocs_run P D bound n class o w)
-deallocs_same P D bound zero class o w = same_refl w
-deallocs_same P D bound (suc n) None o w = same_refl w
-deallocs_same P D bound (suc n) (Some c) o w =
-    above_same P D bound (slice_get P.classes c) o (λ above w1. deallocs_run P D bound n above o w1) w (λ above w1. deallocs_same P D bound n above o w1)
+deallocs_same : (P : Program) (D : Deeper) (bound : ℕ) (classes : List ℕ) (o : ℕ) (w : World) → After (Same w) (deallocs_run P D bound classes o w)
+deallocs_same P D bound [] o w = same_refl w
+deallocs_same P D bound (class ∷ others) o w =
+    let own = own_dealloc (slice_get P.classes class) in
+    same_then w (dealloc_run P D bound own o w) (λ _ w1. deallocs_run P D bound others o w1) (dealloc_same P D bound own o w) (λ _ w1. deallocs_same P D bound others o w1)
 
 turned_same : (phase : Phase) (o : ℕ) (ob : Option Object) (w : World) → Same w (turned phase o ob w)
 turned_same phase o None w = same_refl w
@@ -107,9 +101,10 @@ gone_same o w = after_if (Same w) (names o (places w)) _ _ tt (turned_same _ o (
 ended_same : (P : Program) (D : Deeper) (bound o : ℕ) (w : World) → After (Same w) (ended P D bound o w)
 ended_same P D bound o w =
     let first = dying o (object_at w.objects o) w in
-    let run = deallocs_run P D bound (length P.classes) (class_in (object_at w.objects o)) o first in
+    let classes = ancestry (superclasses P.classes) (class_in (object_at w.objects o)) in
+    let run = deallocs_run P D bound classes o first in
     after_weaker (Same first) (Same w) (then_do run (λ _ w1. gone o w1)) (λ w1 s. same_trans w first w1 (dying_same o (object_at w.objects o) w) s)
-    (same_then first run (λ _ w1. gone o w1) (deallocs_same P D bound (length P.classes) (class_in (object_at w.objects o)) o first) (λ _ w1. gone_same o w1))
+    (same_then first run (λ _ w1. gone o w1) (deallocs_same P D bound classes o first) (λ _ w1. gone_same o w1))
 
 pub level_steady : (P : Program) (bound levels : ℕ) → Steady (level P bound levels)
 level_steady P bound zero = record { calls = λ f self arguments w. tt; ends = λ o w. tt }

@@ -1,6 +1,6 @@
 -- Objects and the places that name them.
 use Rattle.std.proofs.Common.{arith, ◌≡◌, ℕ, zero, suc, ◌-◌, ◌<◌, ◌≤◌, ℤ, pos, Bool, true, false, ◌||◌, nat_eq, nat_lt, List, [], ◌∷◌, ◌++◌, length, map, reverse, replicate, get_or, Option, Some, None, option_map, Result, MatchOption, slice_get, slice_set, refl, sym, ap, subst, ◌∙◌}
-use Rattle.std.specs.Prelude.{if◌then◌else◌}
+use Rattle.std.specs.Prelude.{slice_index_or, if◌then◌else◌}
 use Rattle.std.specs.Option.{is_some, IfSome}
 use Rattle.std.proofs.lemmas.List.{reverse-append, map-set, map-append, length-map, length-append}
 use Rattle.std.proofs.lemmas.Option.{slice_get-map, slice_get_read, slice_get_past}
@@ -11,7 +11,7 @@ use Rattle.arc_spec.specs.Classes.{Class, descends}
 use Rattle.arc_spec.specs.Objects as objects
 use Rattle.arc_spec.specs.Objects.{object_at, with_object, with_fields, new_object, names, nils, zeros}
 use Rattle.arc_spec.specs.World.{World, Outcome, Done, Faulted, takes, with_objects}
-use Rattle.arc_spec.specs.Meaning.{Deeper, class_in, field_count, next_object, made, in_object, field_set}
+use Rattle.arc_spec.specs.Meaning.{Deeper, class_in, field_count, next_object, made, in_object, field_read, field_set}
 use Rattle.arc_plain.specs.declared.halt.Halt.{Halt}
 use Rattle.arc_plain.specs.declared.object.Object.{Object}
 use Rattle.arc_plain.specs.Views.{Tells, object_of, changed, changed_to}
@@ -121,7 +121,22 @@ changed_there all number o new change some below is changes =
 
 -- ---- fields
 
--- of an object of another class
+-- a field that is read, of an object of another class and of one that has it
+pub read_other : (D : Deeper) (classes : List Class) (r class index : ℕ) (o : objects.Object) (w : World) → D.classes ≡ classes → object_at w.objects r ≡ Some o
+    → descends classes (Some o.class) class ≡ false → field_read D r class index w ≡ Faulted FieldClass w
+read_other D classes r class index o w same is other =
+    let go = λ (o : objects.Object). Done (slice_index_or o.fields index (pos 0)) w in
+    ap (λ ob. in_object D class ob go w) is
+    ∙ ap (λ b. if b then go o else Faulted FieldClass w) (ap (λ l. descends l (Some o.class) class) same ∙ other)
+
+pub read_told : (D : Deeper) (classes : List Class) (r class index : ℕ) (v : ℤ) (o : objects.Object) (w : World) → D.classes ≡ classes → object_at w.objects r ≡ Some o
+    → descends classes (Some o.class) class ≡ true → slice_index_or o.fields index (pos 0) ≡ v → field_read D r class index w ≡ Done v w
+read_told D classes r class index v o w same is holds gives =
+    let go = λ (o : objects.Object). Done (slice_index_or o.fields index (pos 0)) w in
+    ap (λ ob. in_object D class ob go w) is
+    ∙ ap (λ b. if b then go o else Faulted FieldClass w) (ap (λ l. descends l (Some o.class) class) same ∙ holds) ∙ ap (λ n. Done n w) gives
+
+-- a field that is set, of an object of another class
 pub set_other : (D : Deeper) (classes : List Class) (r class index own : ℕ) (v : ℤ) (w : World) → D.classes ≡ classes → Some own ≡ class_in (object_at w.objects r)
     → descends classes (Some own) class ≡ false → field_set D r class index v w ≡ Faulted FieldClass w
 set_other D classes r class index own v w same is other =

@@ -13,7 +13,7 @@ use Rattle.arc_check.specs.declared.checked.CheckedFunction.{CheckedFunction}
 use Rattle.arc_plain.specs.declared.halt.Halt.{Halt}
 use Rattle.arc_plain.specs.declared.halt.Halt.TheVariants.{Stopped, Cut, Memory}
 use Rattle.arc_spec.specs.Meaning as meaning
-use Rattle.arc_spec.specs.Meaning.{Deeper, Normal, level, called, dispatched, finds, turns, chosen, if_normal, function_at, ended, evaluated, all_evaluated, executed, all_executed}
+use Rattle.arc_spec.specs.Meaning.{Deeper, Normal, level, called, dispatched, finds, turns, chosen, if_normal, function_at, ended, evaluated, all_evaluated, executed}
 use Rattle.arc_plain.specs.declared.run.Flow.{Flow}
 use Rattle.arc_plain.specs.Views.{Tells, flow_of, function_of}
 

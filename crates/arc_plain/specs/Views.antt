@@ -53,7 +53,7 @@ world progress = record {
 
 -- the world in which this function runs again, and these places wait
 abbrev pub left_at : worlds.Frame → (waiting : List ℕ) → World → World
-left_at frame waiting w = record { input = w.input; trace = w.trace; objects = w.objects; frame = frame; waiting = reverse waiting }
+left_at frame waiting w = record w { frame = frame; waiting = reverse waiting }
 
 -- the objects, of which the one with this number is changed, where there is one
 abbrev pub changed_to : List objects.Object → (o : ℕ) → (objects.Object → objects.Object) → Option objects.Object → List objects.Object

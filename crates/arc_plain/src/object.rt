@@ -1,6 +1,6 @@
 //! Objects. They go by their numbers, which count from 1 in the order of their making; 0 is nil.
 ghost use Rattle.std.specs.Prelude.{◌≡◌, ℕ, suc, map, IfOk, MatchOption, None, Some, OnOk, slice_get, slice_set};
-ghost use Rattle.arc_spec.specs.Classes.{classes_of};
+ghost use Rattle.arc_spec.specs.Classes.{classes_of, superclasses, ancestry_within};
 ghost use Rattle.arc_check.specs.Checked.{program_of};
 ghost use Rattle.arc_spec.specs.Meaning.{Deeper, made, field_read, field_set, field_count, dying, gone, class_in, dealloc_run, deallocs_run};
 ghost use Rattle.arc_spec.specs.Objects.{object_at, is_live, new_object, in_phase, with_fields};
@@ -206,7 +206,7 @@ pub fn dealloc_from(
     context: &Context,
     class: Option<usize>,
 ) -> Option<(Option<usize>, Option<usize>)>
-    ensures { let P = program_of context.now.program.now in MatchOption result ((D : Deeper) (bound n o : ℕ) (w : World) → deallocs_run P D bound n class o w ≡ Done finished w) (λ layer. (D : Deeper) (bound n o : ℕ) (w : World) → deallocs_run P D bound (suc n) class o w ≡ then_do (dealloc_run P D bound layer.0 o w) (λ _ after. deallocs_run P D bound n layer.1 o after)) }
+    ensures { let P = program_of context.now.program.now in MatchOption result ((D : Deeper) (bound n o : ℕ) (w : World) → deallocs_run P D bound (ancestry_within n (superclasses P.classes) class) o w ≡ Done finished w) (λ layer. (D : Deeper) (bound n o : ℕ) (w : World) → deallocs_run P D bound (ancestry_within (suc n) (superclasses P.classes) class) o w ≡ then_do (dealloc_run P D bound layer.0 o w) (λ _ after. deallocs_run P D bound (ancestry_within n (superclasses P.classes) layer.1) o after)) }
 {
     let Some(number) = class else {
         return None;

@@ -1,5 +1,6 @@
 //! What expressions, statements and calls do.
 ghost use Rattle.std.specs.Prelude.{◌≡◌, Some, length};
+ghost use Rattle.arc_spec.specs.Classes.{superclasses, ancestry};
 ghost use Rattle.arc_check.specs.Checked as checked;
 ghost use Rattle.arc_check.specs.Checked.{program_of};
 ghost use Rattle.arc_spec.specs.Resolved as resolved;
@@ -622,7 +623,7 @@ fn run_deallocs(
     class: Option<usize>,
     object: usize,
 ) -> Result<(), Halt>
-    ensures { let program = program_of context.now.program.now in Tells nothing_of result (deallocs_run program (deeper context.now) context.now.bound (length program.classes) class object (world progress.old)) (world progress.new) }
+    ensures { let program = program_of context.now.program.now in Tells nothing_of result (deallocs_run program (deeper context.now) context.now.bound (ancestry (superclasses program.classes) class) object (world progress.old)) (world progress.new) }
 {
     let classes = &context.program.classes;
     let mut next = class;

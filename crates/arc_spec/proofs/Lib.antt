@@ -1,3 +1,4 @@
 pub mod Steadiness
 pub mod Composition
-pub mod Lookups
+pub mod Ancestry
+pub mod Deallocs

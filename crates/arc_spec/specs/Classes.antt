@@ -1,5 +1,6 @@
 -- Classes, and the methods that messages find.
-use Rattle.std.specs.Prelude.{ℕ, zero, suc, ℤ, pos, negsuc, Bool, true, false, ◌&&◌, ◌||◌, nat_eq, List, [], ◌∷◌, length, map, Option, Some, None, slice_get, if◌then◌else◌}
+use Rattle.std.specs.Prelude.{ℕ, zero, suc, ℤ, pos, negsuc, Bool, true, false, ◌&&◌, nat_eq, List, [], ◌∷◌, length, map, Option, Some, None, slice_get, if◌then◌else◌}
+use Rattle.std.specs.List.{list_any}
 use Rattle.arc_ast.specs.declared.tree.Sign.{Sign}
 use Rattle.arc_ast.specs.declared.tree.Sign.TheVariants as signs
 use Rattle.arc_spec.specs.declared.class.Method.{Method}
@@ -32,40 +33,57 @@ abbrev pub found : Sign → (selector takes : ℕ) → List Method → Option �
 found sign selector takes [] = None
 found sign selector takes (m ∷ others) = if answers sign selector takes m then Some m.runs else found sign selector takes others
 
-abbrev pub or_else : Option ℕ → Option ℕ → Option ℕ
+-- ---- the classes above a class
+
+abbrev pub and_above : (class : ℕ) → (superclass : Option (Option ℕ)) → (above : Option ℕ → List ℕ) → List ℕ
+and_above class None above = []
+and_above class (Some superclass) above = class ∷ above superclass
+
+abbrev pub ancestry_within : (n : ℕ) → (superclasses : List (Option ℕ)) → (from : Option ℕ) → List ℕ
+ancestry_within n superclasses None = []
+ancestry_within zero superclasses (Some class) = []
+ancestry_within (suc n) superclasses (Some class) = and_above class (slice_get superclasses class) (λ above. ancestry_within n superclasses above)
+
+-- The class with a number and those above it, up to the root, where these are the superclasses of all classes (OPL, "Inheritance"). There are no more of them
+-- than classes.
+abbrev pub ancestry : (superclasses : List (Option ℕ)) → (from : Option ℕ) → List ℕ
+ancestry superclasses = ancestry_within (length superclasses) superclasses
+
+abbrev pub superclass_of : Class → Option ℕ
+superclass_of c = c.superclass
+
+abbrev pub superclasses : List Class → List (Option ℕ)
+superclasses = map superclass_of
+
+-- the first of two, if there is one
+abbrev pub or_else : {X : Type 0} → Option X → Option X → Option X
 or_else (Some a) b = Some a
 or_else None b = b
 
--- a class's own method, or what is found above it
-abbrev pub found_from : Sign → (selector takes : ℕ) → Option Class → (above : Option ℕ → Option ℕ) → Option ℕ
-found_from sign selector takes None above = None
-found_from sign selector takes (Some c) above = or_else (found sign selector takes c.methods) (above c.superclass)
+-- what the first of these has that has something
+abbrev pub first_that_has : {X Y : Type 0} → (X → Option Y) → List X → Option Y
+first_that_has has [] = None
+first_that_has has (x ∷ others) = or_else (has x) (first_that_has has others)
 
--- the same of the next n classes
-abbrev pub lookup_up : (n : ℕ) → List Class → Option ℕ → Sign → (selector takes : ℕ) → Option ℕ
-lookup_up zero classes from sign selector takes = None
-lookup_up (suc n) classes None sign selector takes = None
-lookup_up (suc n) classes (Some c) sign selector takes = found_from sign selector takes (slice_get classes c) (λ above. lookup_up n classes above sign selector takes)
+-- ---- messages
 
--- What a message runs: the method of the first class that has one, from the class with this number up to the root (OPL, "How Messaging Works"). There are no
--- more classes on the way than there are classes.
+abbrev pub own_methods : Option Class → List Method
+own_methods None = []
+own_methods (Some c) = c.methods
+
+-- What a message runs: the method of the first class that has one, from the class with this number up to the root (OPL, "How Messaging Works").
 abbrev pub lookup : List Class → Option ℕ → Sign → (selector takes : ℕ) → Option ℕ
-lookup classes = lookup_up (length classes) classes
+lookup classes from sign selector takes =
+    first_that_has (λ class. found sign selector takes (own_methods (slice_get classes class))) (ancestry (superclasses classes) from)
 
--- a class that there is, or what holds above it
-abbrev pub found_or : Bool → Option Class → (above : Option ℕ → Bool) → Bool
-found_or here None above = false
-found_or here (Some c) above = here || above c.superclass
-
--- whether the other class is among the next n classes
-abbrev pub descends_up : (n : ℕ) → List Class → Option ℕ → (other : ℕ) → Bool
-descends_up zero classes from other = false
-descends_up (suc n) classes None other = false
-descends_up (suc n) classes (Some c) other = found_or (nat_eq c other) (slice_get classes c) (λ above. descends_up n classes above other)
+-- what the dealloc of a class runs
+abbrev pub own_dealloc : Option Class → Option ℕ
+own_dealloc None = None
+own_dealloc (Some c) = c.dealloc
 
 -- whether the class with this number is the other one, or comes from it (OPL, "Inheritance")
 abbrev pub descends : List Class → Option ℕ → (other : ℕ) → Bool
-descends classes = descends_up (length classes) classes
+descends classes from other = list_any (λ class. nat_eq class other) (ancestry (superclasses classes) from)
 
 -- the class that a number is the number of
 abbrev pub class_at : ℤ → Option ℕ

@@ -21,13 +21,13 @@ pub data Frame : Type 0 where
   Ending : (back self object : ℕ) → (next : Option ℕ) → (classes : ℕ) → Frame
 
 abbrev pub with_places : Held → List ℕ → Held
-with_places h places = record { places = places; self = h.self; objects = h.objects; counts = h.counts }
+with_places h places = record h { places = places }
 
 abbrev pub with_self : Held → ℕ → Held
-with_self h self = record { places = h.places; self = self; objects = h.objects; counts = h.counts }
+with_self h self = record h { self = self }
 
 abbrev pub with_things : Held → List Object → Held
-with_things h objects = record { places = h.places; self = h.self; objects = objects; counts = h.counts }
+with_things h objects = record h { objects = objects }
 
 -- how many places name an object
 abbrev pub holders : ℕ → List ℕ → ℕ
@@ -41,10 +41,10 @@ pub record Counted (h : Held) : Type 0 where
 
 -- one more place names an object, or one less
 abbrev pub raised : ℕ → Held → Held
-raised o h = record { places = h.places; self = h.self; objects = h.objects; counts = λ k. if nat_eq k o then suc (h.counts k) else h.counts k }
+raised o h = record h { counts = λ k. if nat_eq k o then suc (h.counts k) else h.counts k }
 
 abbrev pub lowered : ℕ → Held → Held
-lowered o h = record { places = h.places; self = h.self; objects = h.objects; counts = λ k. if nat_eq k o then h.counts k - 1 else h.counts k }
+lowered o h = record h { counts = λ k. if nat_eq k o then h.counts k - 1 else h.counts k }
 
 abbrev pub is_there : Phase → Bool
 is_there Live = true

@@ -5,7 +5,7 @@ use Rattle.arc_ast.specs.declared.tree.Kind.TheVariants as k
 use Rattle.arc_ast.specs.declared.tree.Sign.TheVariants as signs
 use Rattle.arc_spec.specs.declared.event.Event.TheVariants.{Dealloc}
 use Rattle.arc_spec.specs.declared.event.Fault.TheVariants.{Arithmetic, Unrecognized, NilField, FieldClass, Depth, Resurrected}
-use Rattle.arc_spec.specs.Classes.{Class, lookup, descends, class_at}
+use Rattle.arc_spec.specs.Classes.{Class, superclasses, ancestry, own_dealloc, lookup, descends, class_at}
 use Rattle.arc_spec.specs.Number.{converted, negated, combined, low_byte, is_zero}
 use Rattle.arc_spec.specs.Objects.{Object, Phase, Dying, Gone, object_at, with_object, in_phase, with_fields, is_live, new_object, names}
 use Rattle.arc_spec.specs.Resolved.{Piece, Bytes, Decimal, Character, Value, Number, ReadByte, Print, Negated, Combined, Converted, Local, Assigned, Invoked, Sent, SentSuper, SentTo, SentToSuper, Field, FieldAssigned, Differ, IsObject, Reference, Nil, Itself, Variable, Stored, Made, Initialized, Values, no_values, and_value, Command, Sequence, Evaluate, EvaluateReference, Begin, Return, Choose, Repeat, Commands, no_commands, and_command, Function, Program}
@@ -247,16 +247,11 @@ abbrev pub dealloc_run : Program → Deeper → (bound : ℕ) → Option ℕ →
 dealloc_run P D bound None o w = Done finished w
 dealloc_run P D bound (Some f) o w = then_do (called D bound (function_at P f) o [] w) (λ _ w1. Done finished w1)
 
--- that, and then what is above it
-abbrev pub dealloc_and_above : Program → Deeper → (bound : ℕ) → Option Class → (o : ℕ) → (above : Option ℕ → World → Outcome Finished) → World → Outcome Finished
-dealloc_and_above P D bound None o above w = Done finished w
-dealloc_and_above P D bound (Some c) o above w = then_do (dealloc_run P D bound c.dealloc o w) (λ _ w1. above c.superclass w1)
-
--- what the deallocs of the next n classes do, from this one up to the root, each once (ARC, "dealloc")
-abbrev pub deallocs_run : Program → Deeper → (bound n : ℕ) → (class : Option ℕ) → (o : ℕ) → World → Outcome Finished
-deallocs_run P D bound zero class o w = Done finished w
-deallocs_run P D bound (suc n) None o w = Done finished w
-deallocs_run P D bound (suc n) (Some c) o w = dealloc_and_above P D bound (slice_get P.classes c) o (λ above w1. deallocs_run P D bound n above o w1) w
+-- what the deallocs of these classes do, each once (ARC, "dealloc")
+abbrev pub deallocs_run : Program → Deeper → (bound : ℕ) → (classes : List ℕ) → (o : ℕ) → World → Outcome Finished
+deallocs_run P D bound [] o w = Done finished w
+deallocs_run P D bound (class ∷ others) o w =
+    then_do (dealloc_run P D bound (own_dealloc (slice_get P.classes class)) o w) (λ _ w1. deallocs_run P D bound others o w1)
 
 -- an object in another phase
 abbrev pub turned : Phase → (o : ℕ) → Option Object → World → World
@@ -272,9 +267,10 @@ abbrev pub dying : (o : ℕ) → Option Object → World → World
 dying o None w = w
 dying o (Some ob) w = shows (Dealloc o ob.class ∷ []) (turned Dying o (Some ob) w)
 
+-- the end of an object: the deallocs of its class and of those above it run, up to the root (ARC, "dealloc")
 abbrev pub ended : Program → Deeper → (bound : ℕ) → (o : ℕ) → World → Outcome Finished
 ended P D bound o w =
-    then_do (deallocs_run P D bound (length P.classes) (class_in (object_at w.objects o)) o (dying o (object_at w.objects o) w)) (λ _ w1. gone o w1)
+    then_do (deallocs_run P D bound (ancestry (superclasses P.classes) (class_in (object_at w.objects o))) o (dying o (object_at w.objects o) w)) (λ _ w1. gone o w1)
 
 -- calls and ends of objects where so many levels are left: with none they are a fault
 abbrev pub level : Program → (bound levels : ℕ) → Deeper

@@ -22,10 +22,10 @@ with_object all zero o = all
 with_object all (suc k) o = slice_set all k o
 
 abbrev pub in_phase : Phase → Object → Object
-in_phase phase o = record { class = o.class; fields = o.fields; phase = phase }
+in_phase phase o = record o { phase = phase }
 
 abbrev pub with_fields : Object → List ℤ → Object
-with_fields o fields = record { class = o.class; fields = fields; phase = o.phase }
+with_fields o fields = record o { fields = fields }
 
 abbrev pub object_live : Object → Bool
 object_live o = phase_live o.phase

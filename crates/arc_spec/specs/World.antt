@@ -35,20 +35,17 @@ frame_places f = f.temporaries ++ f.strong
 abbrev pub places : World → List ℕ
 places w = frame_places w.frame ++ w.waiting
 
-abbrev pub with_frame : World → Frame → World
-with_frame w frame = record { input = w.input; trace = w.trace; objects = w.objects; frame = frame; waiting = w.waiting }
-
 abbrev pub with_objects : World → List Object → World
-with_objects w objects = record { input = w.input; trace = w.trace; objects = objects; frame = w.frame; waiting = w.waiting }
+with_objects w objects = record w { objects = objects }
 
 abbrev pub with_locals : World → List ℤ → World
-with_locals w locals = with_frame w (record { self = w.frame.self; locals = locals; strong = w.frame.strong; temporaries = w.frame.temporaries })
+with_locals w locals = record w { frame = record w.frame { locals = locals } }
 
 abbrev pub with_strong : World → List ℕ → World
-with_strong w strong = with_frame w (record { self = w.frame.self; locals = w.frame.locals; strong = strong; temporaries = w.frame.temporaries })
+with_strong w strong = record w { frame = record w.frame { strong = strong } }
 
 abbrev pub with_temporaries : World → List ℕ → World
-with_temporaries w temporaries = with_frame w (record { self = w.frame.self; locals = w.frame.locals; strong = w.frame.strong; temporaries = temporaries })
+with_temporaries w temporaries = record w { frame = record w.frame { temporaries = temporaries } }
 
 -- the number of a variable; one that there isn't counts as 0
 abbrev pub local_at : List ℤ → ℕ → ℤ
@@ -66,17 +63,14 @@ first_locals (suc n) (v ∷ given) = v ∷ first_locals n given
 
 -- a function begins (C99, section 6.5.2.2): the running one waits for it
 abbrev pub entered : (slots count self : ℕ) → List ℤ → World → World
-entered slots count self given w = record {
-  input = w.input;
-  trace = w.trace;
-  objects = w.objects;
+entered slots count self given w = record w {
   frame = record { self = self; locals = first_locals slots given; strong = nils count; temporaries = [] };
   waiting = places w;
 }
 
 -- a function is left, and the one that waited for it runs again
 abbrev pub left : (before now : World) → World
-left before now = record { input = now.input; trace = now.trace; objects = now.objects; frame = before.frame; waiting = before.waiting }
+left before now = record now { frame = before.frame; waiting = before.waiting }
 
 -- a temporary takes an object; nil is taken too, and then the temporary names nothing (ARC, "Object operands")
 abbrev pub takes : ℕ → World → World
@@ -103,7 +97,7 @@ pub data Finished : Type 0 where
 
 -- events are shown
 abbrev pub shows : List Event → World → World
-shows events w = record { input = w.input; trace = w.trace ++ events; objects = w.objects; frame = w.frame; waiting = w.waiting }
+shows events w = record w { trace = w.trace ++ events }
 
 -- these bytes are printed
 abbrev pub prints : List ℕ → World → World
@@ -119,4 +113,4 @@ after_next [] = []
 after_next (b ∷ rest) = rest
 
 abbrev pub has_read : World → World
-has_read w = record { input = after_next w.input; trace = w.trace; objects = w.objects; frame = w.frame; waiting = w.waiting }
+has_read w = record w { input = after_next w.input }

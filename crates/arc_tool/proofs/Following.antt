@@ -1,17 +1,18 @@
 -- A run that is made step by step is one run of the code.
-use Rattle.std.proofs.Common.{◌≡◌, ◌≢◌, Bool, true, false, nat_eq, if◌then◌else◌, ℕ, zero, suc, ◌+◌, ◌<◌, ◌≤◌, List, [], ◌++◌, length, inl, inr, Option, Some, None, Ok, Err, refl, sym, ap, subst, ◌∙◌, arith}
+use Rattle.std.proofs.Common.{◌≡◌, ◌≢◌, Bool, true, false, nat_eq, if◌then◌else◌, ℕ, zero, suc, ◌+◌, ◌<◌, ◌≤◌, List, [], ◌++◌, length, inl, inr, Option, Some, None, Ok, Err, refl, sym, ap, subst, ◌∙◌, append_assoc, arith}
 use Rattle.std.specs.Prelude.{slice_get}
 use Rattle.std.proofs.lemmas.Bool.{eq-eqb, eqb-true}
 use Rattle.std.proofs.KnownBytes.{Consumes-nil}
 use Rattle.arc_spec.specs.declared.event.Event.{Event}
 use Rattle.arc_spec.specs.Stepping.{Reached, Running, after_steps}
-use Rattle.arc_spec.specs.Correct.{run_seen}
+use Rattle.arc_spec.specs.Correct.{Sight, run_seen}
 use Rattle.arc_code.specs.Attempts.{HasFailedToWrite, IsFailedWrite}
 use Rattle.arc_code.specs.Calls.{IsUndone}
 use Rattle.arc_code.specs.declared.device.Attempt.TheVariants.{Done}
 use Rattle.arc_code.specs.declared.code.IoFault.TheVariants.{Read, Write}
-use Rattle.arc_code.specs.declared.code.Op.TheVariants.{Alloc}
-use Rattle.arc_code.specs.Running.{Program, State, start, step, IsSound}
+use Rattle.arc_code.specs.declared.instr.Op.TheVariants.{Alloc}
+use Rattle.arc_code.specs.declared.instr.Instr.TheVariants.{Plain}
+use Rattle.arc_code.specs.Running.{Program, State, start, step, seen, IsSound}
 use Rattle.arc_heap.specs.Blocks.{Blocks}
 use Rattle.arc_machine.specs.declared.stop.Stop.{Stop}
 use Rattle.arc_machine.specs.declared.stop.Stop.TheVariants as stop
@@ -19,7 +20,7 @@ use Rattle.arc_machine.specs.declared.stop.Answer.{Answer}
 use Rattle.arc_machine.specs.declared.stop.Answer.TheVariants as answer
 use Rattle.arc_machine.specs.Views.{Seen, StandsAs, fresh, said}
 use Rattle.arc_machine.specs.Runs.{Leaves, Moves, IsAsking, Runs, Troubled, is_stopped, reached}
-use Rattle.arc_machine.proofs.Chained.{moves_on}
+use Rattle.arc_machine.proofs.Chained.{moves_on, leaves_before}
 use Rattle.arc_tool.specs.declared.lines.Left.{Left}
 use Rattle.arc_tool.specs.declared.lines.Left.TheVariants.{Stopped, Unread}
 use Rattle.arc_tool.specs.Progress.{run_of, rest_of, Takes, MakesObject, ReadsByte}
@@ -45,6 +46,24 @@ all_new m before ne = go (nat_eq m.steps before) refl
     go : (b : Bool) → nat_eq m.steps before ≡ b → (if b then [] else m.events) ≡ m.events
     go true h = absurd (ne (eqb-true m.steps before h))
     go false h = refl
+
+-- ---- how a run was left
+
+abbrev pub left_of : Answer → Left
+left_of answer.Going = Stopped stop.StepsUsed
+left_of (answer.Ended n) = Stopped (stop.Ended n)
+left_of (answer.Faulted f) = Stopped (stop.Fault f)
+left_of (answer.Broken Read) = Unread
+left_of (answer.Broken Write) = Stopped stop.StepsUsed
+left_of answer.NoHeap = Stopped stop.NoHeap
+
+seen_of : (a : Answer) (s : State) (i : List ℕ) (t : List Event) → run_seen (reached a s i t) ≡ record { trace = t; stop = stop_seen (left_of a) }
+seen_of answer.Going s i t = refl
+seen_of (answer.Ended n) s i t = refl
+seen_of (answer.Faulted f) s i t = refl
+seen_of (answer.Broken Read) s i t = refl
+seen_of (answer.Broken Write) s i t = refl
+seen_of answer.NoHeap s i t = refl
 
 -- ---- a machine that runs the code
 
@@ -97,12 +116,22 @@ starts out p store i sound = record {
 
 module _ {S : Type 0} (out : S → Blocks) (p : Program) (old new : Seen S) (i0 i1 i2 : Option (List ℕ)) (events : List Event) (way : Reaches out p old i0 i1 events) (going : old.answer ≡ answer.Going)
     (within : is_stopped new.answer ≡ true → new.steps < old.steps + 1) where
+  -- the machine has these events more, and had shown the others after the steps of the old one
+  abbrev ReachesOn : List Event → Type 0
+  ReachesOn trace = (all : Reaches out p new i0 i2 (events ++ trace)) × ((rest : List ℕ) → Leaves i2 rest → (seen p (all.taken ++ rest) old.steps).trace ≡ events)
+
   module _ (n : ℕ) (taken : List ℕ) (trace : List Event) (m : Moves out old new way.moves.state i1 i2 None None n taken trace) where
-    reaches_on : Reaches out p new i0 i2 (events ++ trace)
+    shown_before : (rest : List ℕ) → Leaves i2 rest → (seen p ((way.taken ++ taken) ++ rest) old.steps).trace ≡ events
+    shown_before rest l =
+        let later = taken ++ rest in
+        ap (λ i. (seen p i old.steps).trace) (append_assoc way.taken taken rest)
+        ∙ ap (λ (x : Sight). x.trace) (ap run_seen (way.moves.run later (leaves_before i1 i2 taken rest m.reads l)) ∙ seen_of old.answer way.moves.state later events)
+
+    reaches_on : ReachesOn trace
     reaches_on =
         let count : n + old.steps ≡ new.steps = omega (arith, m.steps) in
         let all = moves_on out (fresh p way.store) old new start i0 i1 i2 None None None old.steps n way.taken taken events trace going way.moves m in
-        record { store = way.store; taken = way.taken ++ taken; moves = subst (λ k. Moves out (fresh p way.store) new start i0 i2 None None k (way.taken ++ taken) (events ++ trace)) count all }
+        (record { store = way.store; taken = way.taken ++ taken; moves = subst (λ k. Moves out (fresh p way.store) new start i0 i2 None None k (way.taken ++ taken) (events ++ trace)) count all }, shown_before)
 
     -- the events of one step or none are those that the machine has of it
     trace_is : (k : ℕ) → n ≡ k → k ≤ 1 → trace ≡ new_events new old.steps
@@ -119,29 +148,11 @@ module _ {S : Type 0} (out : S → Blocks) (p : Program) (old new : Seen S) (i0 
     trace_is (suc (suc k)) e l = absurd (omega (arith, l))
 
   -- one step more or none
-  pub goes_on : Runs out 1 old new i1 i2 None None → Reaches out p new i0 i2 (events ++ new_events new old.steps) × (new.steps ≤ old.steps + 1)
+  pub goes_on : Runs out 1 old new i1 i2 None None → ReachesOn (new_events new old.steps) × (old.steps ≤ new.steps) × (new.steps ≤ old.steps + 1)
   goes_on runs =
       let r = runs way.moves.state way.moves.stands (way.moves.sound going) in
       let all = reaches_on r.0 r.1 r.2 r.4 in
-      (subst (λ es. Reaches out p new i0 i2 (events ++ es)) (trace_is r.0 r.1 r.2 r.4 r.0 refl r.3) all, omega (arith, r.3, r.4.steps))
-
--- ---- how a run was left
-
-abbrev pub left_of : Answer → Left
-left_of answer.Going = Stopped stop.StepsUsed
-left_of (answer.Ended n) = Stopped (stop.Ended n)
-left_of (answer.Faulted f) = Stopped (stop.Fault f)
-left_of (answer.Broken Read) = Unread
-left_of (answer.Broken Write) = Stopped stop.StepsUsed
-left_of answer.NoHeap = Stopped stop.NoHeap
-
-seen_of : (a : Answer) (s : State) (i : List ℕ) (t : List Event) → run_seen (reached a s i t) ≡ record { trace = t; stop = stop_seen (left_of a) }
-seen_of answer.Going s i t = refl
-seen_of (answer.Ended n) s i t = refl
-seen_of (answer.Faulted f) s i t = refl
-seen_of (answer.Broken Read) s i t = refl
-seen_of (answer.Broken Write) s i t = refl
-seen_of answer.NoHeap s i t = refl
+      (subst ReachesOn (trace_is r.0 r.1 r.2 r.4 r.0 refl r.3) all, omega (arith, r.4.steps), omega (arith, r.3, r.4.steps))
 
 reached_rest : (a : Answer) (s : State) (i : List ℕ) (t : List Event) → rest_of (reached a s i t) ≡ i
 reached_rest answer.Going s i t = refl
@@ -155,7 +166,7 @@ pub takes_so : (p : Program) (made : ℕ) (taken rest : List ℕ) (a : Answer) (
 takes_so p made taken rest a s t run = ap rest_of run ∙ reached_rest a s rest t
 
 -- a run that has no room for an object goes on with one, and one whose reader fails goes on with a step that reads
-goes_on_so : (p : Program) (run : Reached State) (a : Answer) (s : State) (i : List ℕ) (t : List Event) → run ≡ reached a s i t → (a ≡ answer.NoHeap → slice_get p.ops s.at ≡ Some Alloc) → (a ≡ answer.Broken Read → IsAsking (step p s)) → GoesOn (left_of a) p run
+goes_on_so : (p : Program) (run : Reached State) (a : Answer) (s : State) (i : List ℕ) (t : List Event) → run ≡ reached a s i t → (a ≡ answer.NoHeap → slice_get p.instrs s.at ≡ Some (Plain Alloc)) → (a ≡ answer.Broken Read → IsAsking (step p s)) → GoesOn (left_of a) p run
 goes_on_so p run answer.Going s i t is makes asks = tt
 goes_on_so p run (answer.Ended n) s i t is makes asks = tt
 goes_on_so p run (answer.Faulted f) s i t is makes asks = tt
@@ -164,11 +175,11 @@ goes_on_so p run (answer.Broken Write) s i t is makes asks = tt
 goes_on_so p run answer.NoHeap s i t is makes asks = subst (MakesObject p) (sym is) (makes refl)
 
 -- the machine stands at the instruction of the state for which it stands
-pub makes_so : {S : Type 0} → (out : S → Blocks) (p : Program) (m : Seen S) (s : State) → m.program ≡ p → StandsAs out m s → slice_get m.program.ops m.spot.at ≡ Some Alloc → slice_get p.ops s.at ≡ Some Alloc
-makes_so out p m s program stands makes = ap (slice_get p.ops) (sym stands.at) ∙ ap (λ (q : Program). slice_get q.ops m.spot.at) (sym program) ∙ makes
+pub makes_so : {S : Type 0} → (out : S → Blocks) (p : Program) (m : Seen S) (s : State) → m.program ≡ p → StandsAs out m s → slice_get m.program.instrs m.spot.at ≡ Some (Plain Alloc) → slice_get p.instrs s.at ≡ Some (Plain Alloc)
+makes_so out p m s program stands makes = ap (slice_get p.instrs) (sym stands.at) ∙ ap (λ (q : Program). slice_get q.instrs m.spot.at) (sym program) ∙ makes
 
 pub follows : {S : Type 0} → (out : S → Blocks) (p : Program) (m : Seen S) (i0 i1 : Option (List ℕ)) (events : List Event) → Reaches out p m i0 i1 events
-    → (m.answer ≡ answer.NoHeap → slice_get m.program.ops m.spot.at ≡ Some Alloc) → Follows p m.steps (left_of m.answer) i0 i1 events
+    → (m.answer ≡ answer.NoHeap → slice_get m.program.instrs m.spot.at ≡ Some (Plain Alloc)) → Follows p m.steps (left_of m.answer) i0 i1 events
 follows out p m i0 i1 events way makes = record {
   taken = way.taken;
   reads = way.moves.reads;
@@ -179,6 +190,13 @@ follows out p m i0 i1 events way makes = record {
       (λ full. makes_so out p m way.moves.state way.moves.program way.moves.stands (makes full))
       (λ broke. subst (λ (q : Program). IsAsking (step q way.moves.state)) way.moves.program (way.moves.asks broke));
 }
+
+-- what a machine had shown before is what such a run had
+pub follows_before : {S : Type 0} → (out : S → Blocks) (p : Program) (m : Seen S) (i0 i1 : Option (List ℕ)) (events earlier : List Event) (way : Reaches out p m i0 i1 events)
+    (makes : m.answer ≡ answer.NoHeap → slice_get m.program.instrs m.spot.at ≡ Some (Plain Alloc)) (k : ℕ) → ((rest : List ℕ) → Leaves i1 rest → (seen p (way.taken ++ rest) k).trace ≡ earlier)
+    → (rest : List ℕ) → Leaves i1 rest → (seen p ((follows out p m i0 i1 events way makes).taken ++ rest) k).trace ≡ earlier
+unfolding follows
+follows_before out p m i0 i1 events earlier way makes k shown = shown
 
 pub left_stopped : (a : Answer) (t : Stop) → said a ≡ Ok t → left_of a ≡ Stopped t
 left_stopped answer.Going t e = let there : stop.StepsUsed ≡ t = cc in ap Stopped there

@@ -12,7 +12,8 @@ use Rattle.arc_spec.specs.Correct.{IsPrefix, Sight, run_seen}
 use Rattle.arc_spec.proofs.Steadiness.{steady}
 use Rattle.arc_code.specs.declared.code.IoFault.{IoFault}
 use Rattle.arc_code.specs.declared.code.IoFault.TheVariants.{Read, Write}
-use Rattle.arc_code.specs.declared.code.Op.TheVariants.{Alloc}
+use Rattle.arc_code.specs.declared.instr.Op.TheVariants.{Alloc}
+use Rattle.arc_code.specs.declared.instr.Instr.TheVariants.{Plain}
 use Rattle.arc_code.specs.Running.{Program, State, start, executes, step, allocates, seen, IsSound}
 use Rattle.arc_heap.specs.Blocks.{Blocks}
 use Rattle.arc_heap.specs.Stock.{Stock}
@@ -63,11 +64,11 @@ reached_trace answer.NoHeap s i t = refl
 
 -- ---- an instruction that makes an object shows nothing
 
-class_silent : (p : Program) (s : State) (rest : List ℤ) (class : Option ℕ) → next_events (allocates p s rest class) ≡ []
+class_silent : (p : Program) (s : State) (rest : List ℤ) (class : Option ℕ) → next_events (allocates p.classes s rest class) ≡ []
 class_silent p s rest None = refl
 class_silent p s rest (Some c) = refl
 
-stack_silent : (p : Program) (s : State) (stack : List ℤ) → next_events (on_top stack (λ v rest. allocates p s rest (class_at v))) ≡ []
+stack_silent : (p : Program) (s : State) (stack : List ℤ) → next_events (on_top stack (λ v rest. allocates p.classes s rest (class_at v))) ≡ []
 stack_silent p s [] = refl
 stack_silent p s (v ∷ rest) = class_silent p s rest (class_at v)
 
@@ -75,7 +76,7 @@ none_given : (given others : List Event) → given ++ others ≡ [] → given �
 none_given [] others e = refl
 none_given (x ∷ given) others e = absurd (cc)
 
-silent : (p : Program) (s : State) (given others : List Event) → slice_get p.ops s.at ≡ Some Alloc → next_events (step p s) ≡ given ++ others → given ≡ []
+silent : (p : Program) (s : State) (given others : List Event) → slice_get p.instrs s.at ≡ Some (Plain Alloc) → next_events (step p s) ≡ given ++ others → given ≡ []
 silent p s given others makes split = none_given given others (sym split ∙ ap (λ op. next_events (executes p op s)) makes ∙ stack_silent p s s.stack)
 
 -- nor does one that reads
@@ -138,7 +139,7 @@ module _ (p : Program) (steps made : ℕ) (within : made ≤ steps) (in0 in1 out
 
   -- no device failed
   pub stopped : (a : Answer) (t : Stop) → said a ≡ Ok t → Runs_to a → Writes (is_stopped a) (step p s) trace given out0 out1 → (a ≡ answer.Going → made ≡ steps)
-      → (a ≡ answer.NoHeap → (slice_get p.ops s.at ≡ Some Alloc) × (made < steps)) → RanCode p steps (Ok t) in0 in1 out0 out2
+      → (a ≡ answer.NoHeap → (slice_get p.instrs s.at ≡ Some (Plain Alloc)) × (made < steps)) → RanCode p steps (Ok t) in0 in1 out0 out2
   stopped answer.Going t is run writes used lacks =
       let there : stop.StepsUsed ≡ t = cc in
       subst (λ x. RanCode p steps (Ok x) in0 in1 out0 out2) there
@@ -199,7 +200,7 @@ module _ {S : Type 0} (out : S → Blocks) (stock : S → Option Stock) (refuses
       let within : runs.0 ≤ steps = runs.3 in
       ⊎_elim (λ e. omega (arith, e, none, made, within, limit)) (λ e. omega (arith, e, none, made, within, limit)) (used on)
 
-  no_room_at : new.answer ≡ answer.NoHeap → (slice_get p.ops runs.4.state.at ≡ Some Alloc) × (runs.0 < steps)
+  no_room_at : new.answer ≡ answer.NoHeap → (slice_get p.instrs runs.4.state.at ≡ Some (Plain Alloc)) × (runs.0 < steps)
   no_room_at full =
       let made : new.steps ≡ 0 + runs.0 = runs.4.steps in
       (makes_so out p new runs.4.state runs.4.program runs.4.stands (lacking going full).op, omega (arith, held going (ap is_stopped full), none, made))

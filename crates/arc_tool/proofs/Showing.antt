@@ -1,21 +1,22 @@
 -- A run whose events are written as its steps are made.
-use Rattle.std.proofs.Common.{◌≡◌, ℕ, ◌+◌, ◌<◌, ◌≤◌, List, [], ◌++◌, Bool, true, false, Option, Some, None, Ok, Err, refl, sym, ap, subst, ◌∙◌}
+use Rattle.std.proofs.Common.{◌≡◌, ◌≢◌, ℕ, suc, ◌+◌, ◌<◌, ◌≤◌, List, [], ◌++◌, Bool, true, false, Option, Some, None, Ok, Err, refl, sym, ap, subst, ◌∙◌, arith}
 use Rattle.std.specs.Prelude.{slice_get, ⊤}
 use Rattle.arc_spec.specs.declared.event.Event.{Event}
 use Rattle.arc_code.specs.declared.code.IoFault.{IoFault}
-use Rattle.arc_code.specs.declared.code.Op.TheVariants.{Alloc}
-use Rattle.arc_code.specs.Running.{Program, IsSound}
+use Rattle.arc_code.specs.declared.instr.Op.TheVariants.{Alloc}
+use Rattle.arc_code.specs.declared.instr.Instr.TheVariants.{Plain}
+use Rattle.arc_code.specs.Running.{Program, IsSound, seen}
 use Rattle.arc_code.specs.Written.{Written}
-use Rattle.arc_code.proofs.Parts.{then_ok, then_failed, none_written}
+use Rattle.arc_code.proofs.Parts.{then_ok, none_written}
 use Rattle.arc_heap.specs.Blocks.{Blocks}
 use Rattle.arc_machine.specs.declared.stop.Answer.TheVariants as answer
 use Rattle.arc_machine.specs.Views.{Seen, fresh}
-use Rattle.arc_machine.specs.Runs.{Runs, is_stopped}
+use Rattle.arc_machine.specs.Runs.{Runs, Leaves, is_stopped}
 use Rattle.arc_tool.specs.declared.lines.Left.{Left}
 use Rattle.arc_tool.specs.Lines.{events_text, open_after}
-use Rattle.arc_tool.specs.Traced.{new_events, Followed, Interrupted, Within, Reads}
+use Rattle.arc_tool.specs.Traced.{new_events, Follows, Followed, Interrupted, Within, Reads}
 use Rattle.arc_tool.proofs.Lining.{more_events, open_further}
-use Rattle.arc_tool.proofs.Following.{Reaches, starts, goes_on, follows, left_of}
+use Rattle.arc_tool.proofs.Following.{Reaches, starts, goes_on, follows, follows_before, left_of}
 
 -- the machine's steps are steps of the code, and their events were written
 pub record Shows {S : Type 0} (out : S → Blocks) (p : Program) (names : List (List ℕ)) (m : Seen S) (begun : Bool) (in0 in1 out0 out1 : Option (List ℕ)) (writes0 writes1 : ℕ) : Type 0 where
@@ -39,10 +40,13 @@ module _ {S : Type 0} (out : S → Blocks) (p : Program) (names : List (List ℕ
   shown = new_events new old.steps
 
   pub one_step : new.steps ≤ old.steps + 1
-  one_step = (goes_on out p old new i0 i1 i2 way.events way.reaches going held runs).1
+  one_step = (goes_on out p old new i0 i1 i2 way.events way.reaches going held runs).2
 
-  reached_on : Reaches out p new i0 i2 (way.events ++ shown)
-  reached_on = (goes_on out p old new i0 i1 i2 way.events way.reaches going held runs).0
+  abbrev reached_on : Reaches out p new i0 i2 (way.events ++ shown)
+  reached_on = (goes_on out p old new i0 i1 i2 way.events way.reaches going held runs).0.0
+
+  one_more : new.steps ≢ old.steps → new.steps ≡ suc old.steps
+  one_more more = omega (arith, one_step, (goes_on out p old new i0 i1 i2 way.events way.reaches going held runs).1)
 
   abbrev more_text : Bool → List ℕ
   more_text b = events_text names b shown
@@ -59,21 +63,38 @@ module _ {S : Type 0} (out : S → Blocks) (p : Program) (names : List (List ℕ
     written = subst (λ l. Written (Ok tt) l o0 o2 w0 w2 ⊤) whole (then_ok o0 o1 o2 w0 w1 w2 ⊤ (events_text names false way.events) (more_text begun) way.written wrote);
   }
 
+  -- a run of so many steps had shown what it showed before the last one
+  abbrev FollowsOn : (made : ℕ) → Type 0
+  FollowsOn made = (run : Follows p made (left_of new.answer) i0 i2 (way.events ++ shown)) × ((rest : List ℕ) → Leaves i2 rest → (seen p (run.taken ++ rest) old.steps).trace ≡ way.events)
+
+  follows_on : (new.answer ≡ answer.NoHeap → slice_get new.program.instrs new.spot.at ≡ Some (Plain Alloc)) → FollowsOn new.steps
+  follows_on makes = (
+    follows out p new i0 i2 (way.events ++ shown) reached_on makes,
+    follows_before out p new i0 i2 (way.events ++ shown) way.events reached_on makes old.steps (goes_on out p old new i0 i1 i2 way.events way.reaches going held runs).0.1,
+  )
+
   -- the writer failed
-  pub shows_part : (o2 : Option (List ℕ)) (w2 : ℕ) (F : Type 0) (f : IoFault) (steps : ℕ) → new.steps ≤ steps → (new.answer ≡ answer.NoHeap → slice_get new.program.ops new.spot.at ≡ Some Alloc)
-      → Written (Err f) (more_text begun) o1 o2 w1 w2 F → Interrupted p names steps f i0 i2 o0 o2 w0 w2 F
-  shows_part o2 w2 F f steps within makes wrote = record {
-    made = new.steps;
-    left = left_of new.answer;
-    events = way.events ++ shown;
-    within = within;
-    follows = follows out p new i0 i2 (way.events ++ shown) reached_on makes;
-    written = subst (λ l. Written (Err f) l o0 o2 w0 w2 F) whole (then_failed f o0 o1 o2 w0 w1 w2 F (events_text names false way.events) (more_text begun) way.written wrote);
-  }
+  pub shows_part : (o2 : Option (List ℕ)) (w2 : ℕ) (F : Type 0) (f : IoFault) (steps : ℕ) → new.steps ≢ old.steps → old.steps < steps
+      → (new.answer ≡ answer.NoHeap → slice_get new.program.instrs new.spot.at ≡ Some (Plain Alloc)) → Written (Err f) (more_text begun) o1 o2 w1 w2 F → Interrupted p names steps f i0 i2 o0 o2 w0 w2 F
+  shows_part o2 w2 F f steps more within makes wrote =
+      let run = subst FollowsOn (one_more more) (follows_on makes) in
+      record {
+        made = old.steps;
+        left = left_of new.answer;
+        earlier = way.events;
+        last = shown;
+        within = within;
+        follows = run.0;
+        shown = run.1;
+        held = o1;
+        writes = w1;
+        whole = way.written;
+        part = subst (λ b. Written (Err f) (more_text b) o1 o2 w1 w2 F) way.opens wrote;
+      }
 
 -- the run was left
 pub is_left : {S : Type 0} → (out : S → Blocks) (p : Program) (names : List (List ℕ)) (m : Seen S) (begun : Bool) (i0 i1 o0 o1 : Option (List ℕ)) (w0 w1 : ℕ) → Shows out p names m begun i0 i1 o0 o1 w0 w1
-    → (steps : ℕ) (left : Left) (r0 r1 : ℕ) (R : Type 0) → left_of m.answer ≡ left → (m.answer ≡ answer.NoHeap → slice_get m.program.ops m.spot.at ≡ Some Alloc) → Within left m.steps steps → Reads left r0 r1 R
+    → (steps : ℕ) (left : Left) (r0 r1 : ℕ) (R : Type 0) → left_of m.answer ≡ left → (m.answer ≡ answer.NoHeap → slice_get m.program.instrs m.spot.at ≡ Some (Plain Alloc)) → Within left m.steps steps → Reads left r0 r1 R
     → Followed p names steps left begun i0 i1 o0 o1 r0 r1 w0 w1 R
 is_left out p names m begun i0 i1 o0 o1 w0 w1 way steps left r0 r1 R e makes within reads =
     subst (λ l. Within l m.steps steps → Reads l r0 r1 R → Followed p names steps l begun i0 i1 o0 o1 r0 r1 w0 w1 R) e

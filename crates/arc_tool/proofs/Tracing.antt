@@ -1,15 +1,15 @@
 -- What the text of a run says of the source.
-use Rattle.std.proofs.Common.{◌≡◌, ℕ, suc, ◌+◌, ◌≤◌, List, ◌++◌, Bool, false, Option, Some, Result, Ok, Err, sym, ap, subst, ◌∙◌, arith, ⊎_elim}
+use Rattle.std.proofs.Common.{◌≡◌, ℕ, suc, ◌+◌, List, ◌++◌, Bool, false, inl, inr, Option, Some, Result, Ok, Err, sym, ap, subst, ◌∙◌, arith, ⊎_elim}
 use Rattle.arc_spec.specs.declared.event.Event.{Event}
 use Rattle.arc_spec.specs.Correct as correct
 use Rattle.arc_spec.specs.Correct.{IsPrefix, Sight}
 use Rattle.arc_spec.proofs.Steadiness.{prefix_trans}
 use Rattle.arc_code.specs.declared.code.IoFault.{IoFault}
 use Rattle.arc_code.specs.declared.code.IoFault.TheVariants.{Read, Write}
-use Rattle.arc_code.specs.Counting.{AppendsPart}
 use Rattle.arc_code.specs.Running.{Program, seen}
 use Rattle.arc_code.specs.Written.{Written}
-use Rattle.arc_code.proofs.Parts.{part_wider, then_written}
+use Rattle.arc_code.proofs.Parts.{then_written}
+use Rattle.arc_machine.specs.Runs.{Leaves}
 use Rattle.arc_machine.specs.declared.stop.Stop.{Stop}
 use Rattle.arc_machine.specs.declared.stop.Stop.TheVariants as stop
 use Rattle.arc_tool.specs.declared.lines.Left.{Left}
@@ -17,20 +17,12 @@ use Rattle.arc_tool.specs.declared.lines.Left.TheVariants.{Stopped, Unread}
 use Rattle.arc_tool.specs.declared.refusal.Refusal.{Refusal}
 use Rattle.arc_tool.specs.declared.run.ToolFault.{ToolFault}
 use Rattle.arc_tool.specs.declared.run.ToolFault.TheVariants.{Refused, Memory, Io}
-use Rattle.arc_tool.specs.Accepted.{Compiles, CompilesNamed, meant}
-use Rattle.arc_tool.specs.Lines.{trace_text, events_text, end_text, open_after}
+use Rattle.arc_tool.specs.Accepted.{Compiles, CompilesNamed, class_names, meant}
+use Rattle.arc_tool.specs.Lines.{trace_text, events_text, end_text}
 use Rattle.arc_tool.specs.Ran.{Becomes, Untouched}
 use Rattle.arc_tool.specs.Refused.{IsRefusal}
-use Rattle.arc_tool.specs.Traced.{Within, Follows, Followed, Interrupted, Means, Traced, AnsweredTrace, Blames, EndsTrace, stop_seen}
+use Rattle.arc_tool.specs.Traced.{Follows, Followed, Interrupted, Means, Traced, BrokenOff, AnsweredTrace, Blames, EndsTrace, stop_seen}
 use Rattle.arc_tool.proofs.Lining.{whole_text}
-
--- at most so many steps were made, however the run was left
-most_made : (left : Left) (made steps : ℕ) → Within left made steps → made ≤ steps
-most_made (Stopped (stop.Ended n)) made steps h = h
-most_made (Stopped (stop.Fault f)) made steps h = h
-most_made (Stopped stop.StepsUsed) made steps h = omega arith
-most_made (Stopped stop.NoHeap) made steps h = omega arith
-most_made Unread made steps h = omega arith
 
 -- ---- the meaning
 
@@ -67,19 +59,26 @@ module _ (source : List ℕ) (p : Program) (names : List (List ℕ)) (compiled :
 
   -- ---- the writer failed in the middle of the events
 
-  cut_text : (o0 o1 : Option (List ℕ)) (events : List Event) (left : Left) → AppendsPart o0 o1 (events_text names false events) → AppendsPart o0 o1 (trace_text names events left)
-  cut_text o0 o1 events left part = subst (AppendsPart o0 o1) (sym (whole_text names events left)) (part_wider o0 o1 (events_text names false events) (end_text (open_after false events) left) part)
-
   module _ (o0 o1 : Option (List ℕ)) (w0 w1 : ℕ) (W : Type 0) where
+    abbrev Meaning : List (List ℕ) → Type 0
+    Meaning names =
+        (run : Interrupted p names steps Write i0 i1 o0 o1 w0 w1 W)
+        × ((rest : List ℕ) → Leaves i1 rest → Means run.left (run.earlier ++ run.last) (meant compiled.compiled.program (run.follows.taken ++ rest) (suc (suc run.made))))
+
+    broken_off : Meaning (class_names compiled.compiled.program.tree) → BrokenOff source steps i0 i1 o0 o1 w0 w1 W
+    broken_off m = record { code = p; compiled = compiled.compiled; run = m.0; means = m.1 }
+
     pub was_interrupted : (f : IoFault) → Interrupted p names steps f i0 i1 o0 o1 w0 w1 W → AnsweredTrace source steps (Err (Io f)) i0 i1 o0 o1 w0 w1 W
-    was_interrupted Read run = absurd (let no = run.written.0 in cc)
+    was_interrupted Read run = absurd (let no = run.part.0 in cc)
     was_interrupted Write run =
-        (run.made, run.left, trace_text names run.events run.left, run.within, traced run.made run.left run.events run.follows, cut_text o0 o1 run.events run.left run.written.1)
+        let means = λ (rest : List ℕ) (l : Leaves i1 rest).
+        means_so source p compiled.compiled (suc run.made) (run.follows.taken ++ rest) (run.earlier ++ run.last) run.left (run.follows.shown rest l) in
+        inl (broken_off (subst Meaning compiled.named (run, means)))
 
     -- a writer's failure is told as its own
     pub interrupted_blamed : (f : IoFault) (r0 r1 : ℕ) (R : Type 0) → Interrupted p names steps f i0 i1 o0 o1 w0 w1 W → Blames (Err (Io f)) r0 r1 w0 w1 R W
-    interrupted_blamed Read r0 r1 R run = absurd (let no = run.written.0 in cc)
-    interrupted_blamed Write r0 r1 R run = (run.written.2, run.written.3)
+    interrupted_blamed Read r0 r1 R run = absurd (let no = run.part.0 in cc)
+    interrupted_blamed Write r0 r1 R run = (run.part.2 ∙ ap (λ w. w + 1) run.whole.1, run.part.3)
 
   -- ---- the end of the text
 
@@ -104,7 +103,7 @@ module _ (source : List ℕ) (p : Program) (names : List (List ℕ)) (compiled :
     ended (Stopped t) (Ok s) run end = subst (λ x. AnsweredTrace source steps (Ok x) i0 i1 o0 o2 w0 w2 W) (sym end.0)
         (run.made, text (Stopped t) run, run.within, shows_text (Stopped t) run, (all_text (Stopped t) run (Ok tt) end.1).0)
     ended (Stopped t) (Err (Io Write)) run end =
-        (run.made, Stopped t, text (Stopped t) run, most_made (Stopped t) run.made steps run.within, shows_text (Stopped t) run, (all_text (Stopped t) run (Err Write) end).1)
+        inr (run.made, t, text (Stopped t) run, run.within, shows_text (Stopped t) run, (all_text (Stopped t) run (Err Write) end).1)
     ended (Stopped t) (Err (Io Read)) run end = absurd (let no = end.0 in cc)
     ended (Stopped t) (Err (Refused x)) run end = absurd end
     ended (Stopped t) (Err Memory) run end = absurd end

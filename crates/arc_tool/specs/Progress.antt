@@ -1,7 +1,8 @@
 -- Where a run of code is after some steps on an input.
 use Rattle.std.specs.Prelude.{◌≡◌, ℕ, List, [], ◌++◌, Some, slice_get}
 use Rattle.arc_spec.specs.Stepping.{Reached, Running, Ended, Faulted, Wedged, after_steps}
-use Rattle.arc_code.specs.declared.code.Op.TheVariants.{Alloc}
+use Rattle.arc_code.specs.declared.instr.Op.TheVariants.{Alloc}
+use Rattle.arc_code.specs.declared.instr.Instr.TheVariants.{Plain}
 use Rattle.arc_code.specs.Running.{Program, State, start, step}
 use Rattle.arc_machine.specs.Runs.{IsAsking}
 
@@ -21,7 +22,7 @@ Takes p made taken rest = rest_of (run_of p (taken ++ rest) made) ≡ rest
 
 -- it goes on at an instruction that makes an object
 abbrev pub MakesObject : Program → Reached State → Type 0
-MakesObject p (Running s i t) = slice_get p.ops s.at ≡ Some Alloc
+MakesObject p (Running s i t) = slice_get p.instrs s.at ≡ Some (Plain Alloc)
 MakesObject p (Ended n i t) = ⊥
 MakesObject p (Faulted f i t) = ⊥
 MakesObject p (Wedged i t) = ⊥

@@ -26,14 +26,14 @@ use Rattle.arc_family.specs.Fault as owning
 use Rattle.arc_family.specs.Rules as ownership
 use Rattle.arc_spec.specs.Resolved as resolved
 use Rattle.arc_lower.specs.Lowered.{lowered}
-use Rattle.arc_emit.specs.Emitted.{most_ops}
+use Rattle.arc_emit.specs.Emitted.{most_instrs}
 use Rattle.arc_tool.specs.declared.refusal.Refusal.{Refusal}
 use Rattle.arc_tool.specs.Accepted.{Accepted, program_meant}
 use Rattle.arc_tool.specs.Told.{Tells}
 
 -- the program becomes more actions than code may have instructions
 abbrev pub IsTooLarge : resolved.Program → Type 0
-IsTooLarge P = most_ops < length (lowered P)
+IsTooLarge P = most_instrs < length (lowered P)
 
 -- The refusal tells the fault of a stage, all stages before which have nothing to refuse. A stage to which memory is refused has a fault of its own for that, which says no more of the source.
 pub data IsRefusal (source : List ℕ) (r : Refusal) : Type 0 where

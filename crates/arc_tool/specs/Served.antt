@@ -42,8 +42,8 @@ Checks contents failed source (Err _) o0 o1 = ⊥
 
 -- `code` lists the code of a program
 abbrev pub Lists : {W : Type 0} → (contents : W → Option (List ℕ)) → (writer_failed : Type 0) → List ℕ → Result ℕ Trouble → (o0 o1 : Counted W) → Type 0
-Lists contents failed source (Ok s) o0 o1 = (code : Program) × (s ≡ 0) × Compiles source code × Prints contents failed (Ok tt) (listing code.ops) o0 o1
-Lists contents failed source (Err (Io f)) o0 o1 = (code : Program) × Compiles source code × Prints contents failed (Err f) (listing code.ops) o0 o1
+Lists contents failed source (Ok s) o0 o1 = (code : Program) × (s ≡ 0) × Compiles source code × Prints contents failed (Ok tt) (listing code.instrs) o0 o1
+Lists contents failed source (Err (Io f)) o0 o1 = (code : Program) × Compiles source code × Prints contents failed (Err f) (listing code.instrs) o0 o1
 Lists contents failed source (Err (Refused r)) o0 o1 = IsRefusal source r × (o1 ≡ o0)
 Lists contents failed source (Err Memory) o0 o1 = o1 ≡ o0
 Lists contents failed source (Err _) o0 o1 = ⊥

@@ -1,5 +1,5 @@
 -- What a call that compiles a source and shows its run in lines did.
-use Rattle.std.specs.Prelude.{◌≡◌, ℕ, suc, ◌+◌, ◌<◌, ◌≤◌, List, ◌++◌, codes, Bool, false, nat_eq, if◌then◌else◌, [], Option, Some, None, Result, Ok, Err, ⊤}
+use Rattle.std.specs.Prelude.{◌≡◌, ◌⊎◌, ℕ, suc, ◌+◌, ◌<◌, ◌≤◌, List, ◌++◌, codes, Bool, false, nat_eq, if◌then◌else◌, [], Option, Some, None, Result, Ok, Err, ⊤}
 use Rattle.std.specs.Io.KnownBytes.{Appends, Consumes}
 use Rattle.arc_spec.specs.declared.event.Event.{Event}
 use Rattle.arc_spec.specs.Stepping.{Reached}
@@ -73,14 +73,20 @@ pub record Followed (code : Program) (names : List (List ℕ)) (steps : ℕ) (le
   pub written : Written (Ok tt) (events_text names false events) out0 out1 writes0 writes1 ⊤
   pub reader : Reads left reads0 reads1 reader_failed
 
--- Such a run, in which the writer failed: it has some first bytes of the lines.
+-- Such a run, in which the writer failed within the lines of the last step's events: those of the steps before it were written whole, and some first bytes of its own.
+-- No further step was made.
 pub record Interrupted (code : Program) (names : List (List ℕ)) (steps : ℕ) (fault : IoFault) (in0 in1 out0 out1 : Option (List ℕ)) (writes0 writes1 : ℕ) (writer_failed : Type 0) : Type 0 where
   pub made : ℕ
   pub left : Left
-  pub events : List Event
-  pub within : made ≤ steps
-  pub follows : Follows code made left in0 in1 events
-  pub written : Written (Err fault) (events_text names false events) out0 out1 writes0 writes1 writer_failed
+  pub earlier : List Event
+  pub last : List Event
+  pub within : made < steps
+  pub follows : Follows code (suc made) left in0 in1 (earlier ++ last)
+  pub shown : (rest : List ℕ) → Leaves in1 rest → (seen code (follows.taken ++ rest) made).trace ≡ earlier
+  pub held : Option (List ℕ)
+  pub writes : ℕ
+  pub whole : Written (Ok tt) (events_text names false earlier) out0 held writes0 writes ⊤
+  pub part : Written (Err fault) (events_text names (open_after false earlier) last) held out1 writes writes1 writer_failed
 
 -- what a run showed is what the program means to show, with its stop; of a program that goes on these are its first events
 abbrev pub Means : Left → List Event → Sight → Type 0
@@ -99,6 +105,13 @@ pub record Traced (source : List ℕ) (made : ℕ) (left : Left) (in0 in1 : Opti
   pub means : (rest : List ℕ) → Leaves in1 rest → Means left events (meant compiled.program (follows.taken ++ rest) (suc made))
   pub lines : text ≡ trace_text (class_names compiled.program.tree) events left
 
+-- A run of the source's code, of at most so many steps, in which the writer failed within the lines of the last step's events, with what the program means.
+pub record BrokenOff (source : List ℕ) (steps : ℕ) (in0 in1 out0 out1 : Option (List ℕ)) (writes0 writes1 : ℕ) (writer_failed : Type 0) : Type 0 where
+  pub code : Program
+  pub compiled : Compiles source code
+  pub run : Interrupted code (class_names compiled.program.tree) steps Write in0 in1 out0 out1 writes0 writes1 writer_failed
+  pub means : (rest : List ℕ) → Leaves in1 rest → Means run.left (run.earlier ++ run.last) (meant compiled.program (run.follows.taken ++ rest) (suc (suc run.made)))
+
 -- a text was written, or where the writer failed some first bytes of it
 abbrev pub Tells : List ℕ → (out0 out1 : Option (List ℕ)) → (writes0 writes1 : ℕ) → (writer_failed : Type 0) → Type 0
 Tells text o0 o1 w0 w1 failed = (answer : Result (Unit {0}) IoFault) × Written answer text o0 o1 w0 w1 failed
@@ -110,14 +123,15 @@ EndsTrace (Stopped stop) begun (Err (Io f)) o0 o1 w0 w1 failed = Written (Err f)
 EndsTrace Unread begun (Err (Io Read)) o0 o1 w0 w1 failed = Tells (end_text begun Unread) o0 o1 w0 w1 failed
 EndsTrace _ begun _ o0 o1 w0 w1 failed = ⊥
 
--- what each answer says
+-- What each answer says. The writer failed within the lines of the last step's events; or after the last step, with the text of a run that had stopped, or had made all the steps that were allowed.
 abbrev pub AnsweredTrace : List ℕ → (steps : ℕ) → Result Stop ToolFault → (in0 in1 out0 out1 : Option (List ℕ)) → (writes0 writes1 : ℕ) → (writer_failed : Type 0) → Type 0
 AnsweredTrace source steps (Err (Refused r)) i0 i1 o0 o1 w0 w1 failed = IsRefusal source r × (Names (codes "Memory") r → ⊥)
 AnsweredTrace source steps (Err Memory) i0 i1 o0 o1 w0 w1 failed = Unit {0}
 AnsweredTrace source steps (Err (Io Read)) i0 i1 o0 o1 w0 w1 failed =
     (made : ℕ) × (text : List ℕ) × Within Unread made steps × Traced source made Unread i0 i1 text × Tells text o0 o1 w0 w1 failed
 AnsweredTrace source steps (Err (Io Write)) i0 i1 o0 o1 w0 w1 failed =
-    (made : ℕ) × (left : Left) × (text : List ℕ) × (made ≤ steps) × Traced source made left i0 i1 text × AppendsPart o0 o1 text
+    BrokenOff source steps i0 i1 o0 o1 w0 w1 failed
+    ⊎ ((made : ℕ) × (stop : Stop) × (text : List ℕ) × Within (Stopped stop) made steps × Traced source made (Stopped stop) i0 i1 text × AppendsPart o0 o1 text)
 AnsweredTrace source steps (Ok stop) i0 i1 o0 o1 w0 w1 failed =
     (made : ℕ) × (text : List ℕ) × Within (Stopped stop) made steps × Traced source made (Stopped stop) i0 i1 text × Appends o0 o1 text
 

@@ -1,5 +1,5 @@
 //! Why a source is refused.
-ghost use Rattle.std.specs.Prelude.{◌≡◌, ◌↔◌, IsTrue, codes};
+ghost use Rattle.std.specs.Prelude.{◌↔◌, IsTrue, codes};
 ghost use Rattle.arc_lex.specs.Faults as lexing;
 ghost use Rattle.arc_fault.specs.Parse as parse_fault;
 ghost use Rattle.arc_fault.specs.Class as class_fault;

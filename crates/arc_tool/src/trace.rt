@@ -1,5 +1,5 @@
 //! Compiles a source and shows what its program does, in lines.
-ghost use Rattle.std.specs.Prelude.{◌≡◌, ◌-◌, ◌^◌, ◌<◌, map, IfOk, IfErr, Ok, Err};
+ghost use Rattle.std.specs.Prelude.{◌≡◌, ◌≢◌, ◌-◌, ◌^◌, ◌<◌, map, IfOk, IfErr, OnErr, Ok, Err};
 ghost use Rattle.arc_code.specs.Attempts.{HasFailedToRead, HasFailedToWrite};
 ghost use Rattle.arc_code.specs.Counting.{failures_of, inner_of, left_in, held_by};
 ghost use Rattle.arc_code.specs.Running.{IsSound, Program};
@@ -143,6 +143,7 @@ fn show<S: Store + Drop, W: Output>(
         (held_by W.contents writer.old) (held_by W.contents writer.new)
         (failures_of writer.old) (failures_of writer.new) (Unit {0})) }
     ensures opens { IfOk result (λ more. more ≡ open_after begun (new_events machine.now before)) }
+    ensures made { OnErr result (machine.now.steps ≢ before) }
     ensures broken { IfErr result (λ fault. Written (Err fault) (events_text (map bytes_of_name classes.now) begun (new_events machine.now before))
         (held_by W.contents writer.old) (held_by W.contents writer.new)
         (failures_of writer.old) (failures_of writer.new)

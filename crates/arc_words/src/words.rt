@@ -19,7 +19,7 @@ const MOST_STEPS: u64 = 9_223_372_036_854_775_807;
 /// Reads the program's words, of which the first is its own name. All that isn't a command with its
 /// options is refused by `Usage`, and a wish for help is answered by `Help`.
 pub fn words(alloc: Global, words: &[String]) -> Result<Words, WordsFault>
-    ensures heap { IfOk result (λ w. w.heap ≡ 1048576) }
+    ensures heap { IfOk result (λ w. w.heap ≡ HEAP) }
     ensures steps { IfOk result (λ w. (1 ≤ w.steps) × (w.steps < 2 ^ 63)) }
     ensures holds { IfOk result (λ w. w.keep_holds ≡ false) }
 {
@@ -84,7 +84,7 @@ fn steps<'a>(alloc: Global) -> Arg<'a> {
 
 /// What accepted words say.
 fn chosen(alloc: Global, matches: &ArgMatches<'_>) -> Result<Words, WordsFault>
-    ensures heap { IfOk result (λ w. w.heap ≡ 1048576) }
+    ensures heap { IfOk result (λ w. w.heap ≡ HEAP) }
     ensures steps { IfOk result (λ w. (1 ≤ w.steps) × (w.steps < 2 ^ 63)) }
     ensures holds { IfOk result (λ w. w.keep_holds ≡ false) }
 {

@@ -71,6 +71,7 @@ fn traced(alloc: Global, source: &[u8], writer: Narrow) -> Result<Left, AllocErr
 }
 
 /// A writer that holds what it had room for of the text is told as the fault, once; one with room for it all isn't.
+/// Nothing is read after it failed.
 #[test]
 fn a_writer_that_fails(rt: HostRuntime) -> Result<(), Fail> {
     let alloc = rt.alloc();
@@ -85,6 +86,9 @@ fn a_writer_that_fails(rt: HostRuntime) -> Result<(), Fail> {
         assert!(rt; left.answer == broken && left.unwritten == 1);
         assert!(rt; left.taken.as_slice() == &LINES[..room]);
     }
+    let source = b"int main(void) { printf(\"a\"); getchar(); }";
+    let left = traced(alloc, source, with_room(alloc, 0))?;
+    assert!(rt; left.answer == broken && left.unread == 0);
     Ok(())
 }
 

@@ -6,7 +6,7 @@ use Rattle.arc_class.proofs.Firsts.{first_both}
 use Rattle.arc_check.specs.Fault.{told}
 use Rattle.arc_check.specs.Rules.{broken_test, broken_stmt}
 use Rattle.arc_check.specs.Scopes.{Scope, leave, behind}
-use Rattle.arc_check.specs.Views.{seen}
+use Rattle.arc_check.specs.private.Views.{seen}
 use Rattle.arc_check.proofs.Leaving.{behind_same, behind_all_same, leave_is}
 use Rattle.arc_check.proofs.Scoping.{keeps_turn, keeps_same}
 use Rattle.arc_check.proofs.Statements.{statements_turn, behind_turn, block_is, block_behind}

@@ -4,7 +4,7 @@ use Rattle.arc_class.specs.Broken.{first, earlier_of}
 use Rattle.arc_check.specs.Fault.{told}
 use Rattle.arc_check.specs.Rules.{broken_stmts}
 use Rattle.arc_check.specs.Scopes.{behind_all}
-use Rattle.arc_check.specs.Views.{seen}
+use Rattle.arc_check.specs.private.Views.{seen}
 use Rattle.arc_check.proofs.body.+statements.Given as goal
 
 -- what is told so far and what is told of the rest is told of all, and the outer variables are there still

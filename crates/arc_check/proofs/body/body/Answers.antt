@@ -2,7 +2,7 @@ use Rattle.std.proofs.Common.{◌≡◌, IfOk, Option, option_map, subst}
 use Rattle.arc_ast.specs.Tree.{parameter_trees}
 use Rattle.arc_class.specs.Broken.{Broken}
 use Rattle.arc_check.specs.Fault.{told}
-use Rattle.arc_check.specs.Views.{known_in, seen}
+use Rattle.arc_check.specs.private.Views.{known_in, seen}
 use Rattle.arc_check.proofs.Statements.{body_is}
 use Rattle.arc_check.proofs.body.body.Goals as goal
 

@@ -5,8 +5,8 @@ use Rattle.arc_class.specs.Broken.{first}
 use Rattle.arc_class.proofs.Firsts.{first_both}
 use Rattle.arc_ast.proofs.Trees.{length-parameter_trees}
 use Rattle.arc_check.specs.Fault.{told}
-use Rattle.arc_check.specs.Rules.{broken_body, is_void}
-use Rattle.arc_check.specs.Views.{known_in}
+use Rattle.arc_check.specs.Rules.{broken_body, is_void, most_parameters}
+use Rattle.arc_check.specs.private.Views.{known_in}
 use Rattle.arc_check.proofs.body.function.Goals as goal
 
 pub returns : goal.returns
@@ -15,8 +15,8 @@ returns c =
     let named = c.named_parameters-named.result.now in
     let all = named_parameters (parameters_tree f.parameters) in
     let known = known_in c.args.table.now in
-    let own : option_map told c.count_fault-own.result ≡ first (broken_if (nat_lt 16 (length all)) f.at 45) =
-    c.count_fault-own.ensures ∙ ap (λ n. first (broken_if (nat_lt 16 n) f.at 45)) (sym (length-parameter_trees named) ∙ ap length c.named_parameters-named.ensures) in
+    let own : option_map told c.count_fault-own.result ≡ first (broken_if (nat_lt most_parameters (length all)) f.at 45) =
+    c.count_fault-own.ensures ∙ ap (λ n. first (broken_if (nat_lt most_parameters n) f.at 45)) (sym (length-parameter_trees named) ∙ ap length c.named_parameters-named.ensures) in
     let body = option_map (λ b. stmt_trees b.items) f.body in
-    first_both (broken_if (nat_lt 16 (length all)) f.at 45) (broken_body (is_void f.result) known all body) (option_map told c.count_fault-own.result) (option_map told c.in_ok-inside.inside) (option_map told c.earlier.result) own
+    first_both (broken_if (nat_lt most_parameters (length all)) f.at 45) (broken_body (is_void f.result) known all body) (option_map told c.count_fault-own.result) (option_map told c.in_ok-inside.inside) (option_map told c.earlier.result) own
     (c.in_ok-inside.ensures ∙ ap (λ b. first (broken_body b known (parameter_trees named) body)) c.is_void-gives_nothing.ensures ∙ ap (λ ps. first (broken_body (is_void f.result) known ps body)) c.named_parameters-named.ensures) c.earlier.ensures

@@ -5,7 +5,7 @@ use Rattle.arc_class.proofs.Firsts.{first_both}
 use Rattle.arc_check.specs.Fault.{told}
 use Rattle.arc_check.specs.Rules.{broken_parameters, broken_stmts}
 use Rattle.arc_check.specs.Scopes.{with_parameters}
-use Rattle.arc_check.specs.Views.{seen}
+use Rattle.arc_check.specs.private.Views.{seen}
 use Rattle.arc_check.proofs.body.inside.Goals as goal
 
 pub returns : goal.returns

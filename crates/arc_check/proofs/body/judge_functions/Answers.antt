@@ -1,6 +1,6 @@
 use Rattle.std.proofs.Common.{option_map}
 use Rattle.arc_check.specs.Fault.{told}
-use Rattle.arc_check.specs.Views.{known_in}
+use Rattle.arc_check.specs.private.Views.{known_in}
 use Rattle.arc_check.proofs.Statements.{functions_turn}
 use Rattle.arc_check.proofs.body.judge_functions.Goals as goal
 

@@ -3,7 +3,7 @@ use Rattle.arc_ast.specs.Tree.{function_trees}
 use Rattle.arc_class.specs.Broken.{first, earlier_of}
 use Rattle.arc_check.specs.Fault.{told}
 use Rattle.arc_check.specs.Rules.{broken_functions}
-use Rattle.arc_check.specs.Views.{known_in}
+use Rattle.arc_check.specs.private.Views.{known_in}
 use Rattle.arc_check.proofs.body.judge_functions.Given as goal
 
 -- what is told so far and what is told of the rest is told of all

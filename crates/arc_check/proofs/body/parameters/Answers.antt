@@ -2,7 +2,7 @@ use Rattle.std.proofs.Common.{◌≡◌, ap, ◌∙◌, option_map}
 use Rattle.arc_ast.specs.Tree as tree
 use Rattle.arc_check.specs.Fault.{told}
 use Rattle.arc_check.specs.Scopes.{declare}
-use Rattle.arc_check.specs.Views.{seen}
+use Rattle.arc_check.specs.private.Views.{seen}
 use Rattle.arc_check.proofs.Scoping.{parameters_turn}
 use Rattle.arc_check.proofs.Walks.{told_turn}
 use Rattle.arc_check.proofs.body.parameters.Goals as goal

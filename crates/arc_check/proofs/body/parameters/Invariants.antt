@@ -4,7 +4,7 @@ use Rattle.arc_class.specs.Broken.{first, earlier_of}
 use Rattle.arc_check.specs.Fault.{told}
 use Rattle.arc_check.specs.Rules.{broken_parameters}
 use Rattle.arc_check.specs.Scopes.{with_parameters}
-use Rattle.arc_check.specs.Views.{seen}
+use Rattle.arc_check.specs.private.Views.{seen}
 use Rattle.arc_check.proofs.body.parameters.Given as goal
 
 -- what is told so far and what is told of the rest is told of all

@@ -4,7 +4,7 @@ use Rattle.arc_class.specs.Broken.{Broken}
 use Rattle.arc_class.proofs.Firsts.{first_both}
 use Rattle.arc_check.specs.Fault.{told}
 use Rattle.arc_check.specs.Rules.{broken_whole}
-use Rattle.arc_check.specs.Views.{seen}
+use Rattle.arc_check.specs.private.Views.{seen}
 use Rattle.arc_check.proofs.body.returned.Goals as goal
 
 abbrev mismatch : ℕ → Broken

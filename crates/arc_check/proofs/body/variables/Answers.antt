@@ -2,7 +2,7 @@ use Rattle.std.proofs.Common.{◌≡◌, ap, ◌∙◌, option_map}
 use Rattle.arc_ast.specs.Tree.{type_tree}
 use Rattle.arc_check.specs.Fault.{told}
 use Rattle.arc_check.specs.Scopes.{declare}
-use Rattle.arc_check.specs.Views.{seen}
+use Rattle.arc_check.specs.private.Views.{seen}
 use Rattle.arc_check.proofs.Scoping.{keeps_turn}
 use Rattle.arc_check.proofs.Walks.{variables_turn, with_turn}
 use Rattle.arc_check.proofs.body.variables.Goals as goal

@@ -2,7 +2,7 @@ use Rattle.std.proofs.Common.{◌≡◌, ◌<◌, length, drop, ap, ◌∙◌}
 use Rattle.arc_check.specs.Checked as checked
 use Rattle.arc_check.specs.declared.format.Begun.TheVariants.{Nothing}
 use Rattle.arc_check.specs.Formats.{parts, printed}
-use Rattle.arc_check.specs.Runs.{whole}
+use Rattle.arc_check.specs.private.Runs.{whole}
 use Rattle.arc_check.proofs.Readings.{goes_on, gives_on, parts_end}
 use Rattle.arc_check.proofs.Printing.{all_printed}
 use Rattle.arc_check.proofs.format.pieces.Goals as goal

@@ -4,9 +4,9 @@ use Rattle.arc_class.specs.Broken.{earlier_of}
 use Rattle.arc_class.specs.Table.{number_of_class}
 use Rattle.arc_check.specs.Fault.{told}
 use Rattle.arc_check.specs.Formats.{wanted}
-use Rattle.arc_check.specs.Judging.{Judges, counted}
+use Rattle.arc_check.specs.private.Judging.{Judges, counted}
 use Rattle.arc_check.specs.Rules.{at_if, kind_if}
-use Rattle.arc_check.specs.Views.{seen}
+use Rattle.arc_check.specs.private.Views.{seen}
 use Rattle.arc_check.proofs.Judgements.{judges_call, judges_send, judges_super, judges_negation, judges_plus, judges_cast, judges_arrow, judges_message, judges_super_message, judges_binary, judges_assign, judges_other, fit_turn, fault_turn, taken_turn}
 use Rattle.arc_check.proofs.judge.+judge.Goals as goal
 use Rattle.arc_check.proofs.judge.+judge.Goals.{judge_arguments-then-told, judge_arguments-else-told}

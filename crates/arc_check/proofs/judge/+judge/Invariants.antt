@@ -5,9 +5,9 @@ use Rattle.arc_ast.specs.Tree.{expr_trees}
 use Rattle.arc_class.specs.Broken.{first, earlier_of}
 use Rattle.arc_check.specs.Fault.{told}
 use Rattle.arc_check.specs.Formats.{fits, wanted}
-use Rattle.arc_check.specs.Judging.{counted}
+use Rattle.arc_check.specs.private.Judging.{counted}
 use Rattle.arc_check.specs.Rules.{kinds, all_taken, broken_arguments}
-use Rattle.arc_check.specs.Views.{seen}
+use Rattle.arc_check.specs.private.Views.{seen}
 use Rattle.arc_check.proofs.judge.+judge.Given as goal
 
 -- the deepest of what is still to be judged, and in front of it what calls what

@@ -3,7 +3,7 @@ use Rattle.arc_ast.specs.Tree.{expr_tree, type_tree}
 use Rattle.arc_class.specs.Broken.{first, earlier_of}
 use Rattle.arc_check.specs.Fault.{told}
 use Rattle.arc_check.specs.Rules.{no_such, broken_whole, type_kind}
-use Rattle.arc_check.specs.Views.{seen}
+use Rattle.arc_check.specs.private.Views.{seen}
 use Rattle.arc_check.proofs.Judgements.{with_rule}
 use Rattle.arc_check.proofs.judge.initial_fault.Goals as goal
 

@@ -2,7 +2,7 @@ use Rattle.std.proofs.Common.{◌≡◌, is_some, option_map, refl, sym, ap, ◌
 use Rattle.arc_class.specs.Table.{number_of_class}
 use Rattle.arc_check.specs.Fault.{told}
 use Rattle.arc_check.specs.Scopes.{own_class}
-use Rattle.arc_check.specs.Views.{seen}
+use Rattle.arc_check.specs.private.Views.{seen}
 use Rattle.arc_check.proofs.Judgements.{is_some-class, itself_object, itself_refused}
 use Rattle.arc_check.proofs.judge.judge_itself.Goals as goal
 

@@ -1,7 +1,7 @@
 use Rattle.std.proofs.Common.{refl, option_map}
 use Rattle.arc_ast.specs.Tree.{expr_tree}
 use Rattle.arc_check.specs.Fault.{told}
-use Rattle.arc_check.specs.Views.{seen}
+use Rattle.arc_check.specs.private.Views.{seen}
 use Rattle.arc_check.proofs.Judgements.{judges_whole}
 use Rattle.arc_check.proofs.judge.judge_whole.Goals as goal
 

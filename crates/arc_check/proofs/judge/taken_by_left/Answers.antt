@@ -1,8 +1,8 @@
 use Rattle.std.proofs.Common.{◌≡◌, refl, ap, ◌∙◌, if◌then◌else◌}
 use Rattle.arc_ast.specs.Tree.{expr_tree}
-use Rattle.arc_check.specs.Judging.{counted}
+use Rattle.arc_check.specs.private.Judging.{counted}
 use Rattle.arc_check.specs.Rules.{at_if, is_unread}
-use Rattle.arc_check.specs.Views.{seen}
+use Rattle.arc_check.specs.private.Views.{seen}
 use Rattle.arc_check.proofs.judge.taken_by_left.Goals as goal
 use Rattle.arc_check.proofs.judge.taken_by_left.Goals.{then-is_unread, else-is_unread}
 

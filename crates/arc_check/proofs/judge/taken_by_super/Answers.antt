@@ -1,8 +1,8 @@
 use Rattle.std.proofs.Common.{is_some, sym, ap, ◌∙◌}
-use Rattle.arc_check.specs.Judging.{counted}
+use Rattle.arc_check.specs.private.Judging.{counted}
 use Rattle.arc_check.specs.Rules.{at_if}
 use Rattle.arc_check.specs.Scopes.{own_class}
-use Rattle.arc_check.specs.Views.{seen}
+use Rattle.arc_check.specs.private.Views.{seen}
 use Rattle.arc_check.proofs.Judgements.{is_some-class}
 use Rattle.arc_check.proofs.judge.taken_by_super.Goals as goal
 

@@ -3,7 +3,7 @@ use Rattle.arc_ast.specs.Tree.{expr_tree}
 use Rattle.arc_class.specs.Broken.{earlier_of}
 use Rattle.arc_check.specs.Fault.{told}
 use Rattle.arc_check.specs.Rules.{no_value, broken_whole}
-use Rattle.arc_check.specs.Views.{seen}
+use Rattle.arc_check.specs.private.Views.{seen}
 use Rattle.arc_check.proofs.Judgements.{with_rule}
 use Rattle.arc_check.proofs.judge.test_fault.Goals as goal
 

@@ -3,7 +3,7 @@ use Rattle.arc_ast.specs.Tree.{implementation_trees}
 use Rattle.arc_class.specs.Broken.{first, earlier_of}
 use Rattle.arc_check.specs.Fault.{told}
 use Rattle.arc_check.specs.Rules.{broken_implementations}
-use Rattle.arc_check.specs.Views.{known_in}
+use Rattle.arc_check.specs.private.Views.{known_in}
 use Rattle.arc_check.proofs.method.judge_implementations.Given as goal
 
 -- what is told so far and what is told of the rest is told of all

@@ -4,7 +4,7 @@ use Rattle.arc_class.specs.Broken.{first, earlier_of}
 use Rattle.arc_class.specs.Table.{number_of_class}
 use Rattle.arc_check.specs.Fault.{told}
 use Rattle.arc_check.specs.Rules.{broken_methods}
-use Rattle.arc_check.specs.Views.{known_in}
+use Rattle.arc_check.specs.private.Views.{known_in}
 use Rattle.arc_check.proofs.method.methods.Given as goal
 
 -- what is told so far and what is told of the rest is told of all

@@ -5,7 +5,7 @@ use Rattle.arc_spec.specs.Resolved as spec
 use Rattle.arc_check.specs.Checked as checked
 use Rattle.arc_check.specs.Resolving.{nothing, number_in, resolved, resolved_stmt, resolved_stmts}
 use Rattle.arc_check.specs.Scopes.{Scope, leave, behind, behind_all}
-use Rattle.arc_check.specs.Views.{seen}
+use Rattle.arc_check.specs.private.Views.{seen}
 use Rattle.arc_check.proofs.Commands.{commands_turn, commands_end, behind_turn, block_command, block_scope, choose_is}
 use Rattle.arc_check.proofs.Leaving.{behind_same, behind_all_same, leave_is}
 use Rattle.arc_check.proofs.Scoping.{keeps_turn, keeps_same}

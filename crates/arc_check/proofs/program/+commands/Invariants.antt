@@ -1,10 +1,10 @@
 use Rattle.std.proofs.Common.{◌≡◌, ◌+◌, ◌*◌, max, drop, take, length}
 use Rattle.arc_ast.specs.declared.tree.Stmt.{size-Stmt}
 use Rattle.arc_ast.specs.Tree.{stmt_trees}
-use Rattle.arc_check.specs.Building.{ahead_of}
+use Rattle.arc_check.specs.private.Building.{ahead_of}
 use Rattle.arc_check.specs.Resolving.{resolved_stmts}
 use Rattle.arc_check.specs.Scopes.{behind_all}
-use Rattle.arc_check.specs.Views.{seen}
+use Rattle.arc_check.specs.private.Views.{seen}
 use Rattle.arc_check.proofs.program.+commands.Given as goal
 
 -- the deepest of what is still to be resolved, and in front of it what calls what

@@ -1,6 +1,6 @@
 use Rattle.std.proofs.Common.{option_map}
 use Rattle.arc_class.specs.Table.{number_of_class}
-use Rattle.arc_check.specs.Views.{known_in}
+use Rattle.arc_check.specs.private.Views.{known_in}
 use Rattle.arc_check.proofs.Appended.{implementation_turn, implementation_end}
 use Rattle.arc_check.proofs.program.add_implementations.Goals as goal
 

@@ -1,8 +1,8 @@
 use Rattle.std.proofs.Common.{◌≡◌, drop}
 use Rattle.arc_ast.specs.Tree.{implementation_trees}
-use Rattle.arc_check.specs.Building.{functions_ahead}
+use Rattle.arc_check.specs.private.Building.{functions_ahead}
 use Rattle.arc_check.specs.Resolving.{resolved_methods}
-use Rattle.arc_check.specs.Views.{known_in}
+use Rattle.arc_check.specs.private.Views.{known_in}
 use Rattle.arc_check.proofs.program.add_implementations.Given as goal
 
 -- the methods so far and those of the rest are all

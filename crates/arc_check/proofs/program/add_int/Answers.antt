@@ -2,7 +2,7 @@ use Rattle.std.proofs.Common.{pos, ap, ◌∙◌}
 use Rattle.arc_ast.specs.Tree.{expr_tree}
 use Rattle.arc_spec.specs.Resolved.{Number, and_command}
 use Rattle.arc_check.specs.Resolving.{put, as_int}
-use Rattle.arc_check.specs.Views.{seen}
+use Rattle.arc_check.specs.private.Views.{seen}
 use Rattle.arc_check.proofs.Commands.{one_more}
 use Rattle.arc_check.proofs.program.add_int.Goals as goal
 

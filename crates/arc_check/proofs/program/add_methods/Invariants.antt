@@ -2,9 +2,9 @@ use Rattle.std.proofs.Common.{◌≡◌, List, option_map, drop}
 use Rattle.arc_ast.specs.Tree.{method_trees}
 use Rattle.arc_class.specs.Table.{number_of_class}
 use Rattle.arc_spec.specs.Resolved as spec
-use Rattle.arc_check.specs.Building.{functions_ahead}
+use Rattle.arc_check.specs.private.Building.{functions_ahead}
 use Rattle.arc_check.specs.Resolving.{with_methods}
-use Rattle.arc_check.specs.Views.{known_in}
+use Rattle.arc_check.specs.private.Views.{known_in}
 use Rattle.arc_check.proofs.program.add_methods.Given as goal
 
 -- the methods so far and those of the rest are all

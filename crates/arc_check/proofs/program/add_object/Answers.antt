@@ -4,7 +4,7 @@ use Rattle.arc_spec.specs.Resolved.{Begin}
 use Rattle.arc_check.specs.Checked.{reference}
 use Rattle.arc_check.specs.declared.checked.Command as command
 use Rattle.arc_check.specs.Resolving.{object_in, resolved}
-use Rattle.arc_check.specs.Views.{seen}
+use Rattle.arc_check.specs.private.Views.{seen}
 use Rattle.arc_check.proofs.Commands.{one_more}
 use Rattle.arc_check.proofs.program.add_object.Goals as goal
 

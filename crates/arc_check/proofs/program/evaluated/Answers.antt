@@ -1,7 +1,7 @@
 use Rattle.std.proofs.Common.{sym, ap, ◌∙◌}
 use Rattle.arc_spec.specs.Resolved.{Evaluate}
 use Rattle.arc_check.specs.Checked as checked
-use Rattle.arc_check.specs.Building.{resolution}
+use Rattle.arc_check.specs.private.Building.{resolution}
 use Rattle.arc_check.specs.Resolving.{evaluated}
 use Rattle.arc_check.proofs.program.evaluated.Goals as goal
 

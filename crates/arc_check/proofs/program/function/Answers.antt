@@ -1,5 +1,5 @@
 use Rattle.arc_ast.specs.Tree.{parameter_trees, stmt_trees}
-use Rattle.arc_check.specs.Views.{seen}
+use Rattle.arc_check.specs.private.Views.{seen}
 use Rattle.arc_check.proofs.Commands.{function_is}
 use Rattle.arc_check.proofs.program.function.Goals as goal
 

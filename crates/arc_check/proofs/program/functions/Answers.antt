@@ -1,7 +1,7 @@
 use Rattle.std.proofs.Common.{ap}
 use Rattle.arc_ast.specs.Tree.{function_trees}
 use Rattle.arc_check.specs.Resolving.{resolved_functions}
-use Rattle.arc_check.specs.Views.{known_in, seen}
+use Rattle.arc_check.specs.private.Views.{known_in, seen}
 use Rattle.arc_check.proofs.Commands.{functions_turn, functions_pass, functions_end}
 use Rattle.arc_check.proofs.program.functions.Goals as goal
 use Rattle.arc_check.proofs.program.functions.Goals.{in-Some+in_ok-function+in_ok-push, in_default}

@@ -1,8 +1,8 @@
 use Rattle.std.proofs.Common.{◌≡◌, drop}
 use Rattle.arc_ast.specs.Tree.{function_trees}
-use Rattle.arc_check.specs.Building.{functions_ahead}
+use Rattle.arc_check.specs.private.Building.{functions_ahead}
 use Rattle.arc_check.specs.Resolving.{resolved_functions}
-use Rattle.arc_check.specs.Views.{known_in}
+use Rattle.arc_check.specs.private.Views.{known_in}
 use Rattle.arc_check.proofs.program.functions.Given as goal
 
 -- the functions so far and those of the rest are all

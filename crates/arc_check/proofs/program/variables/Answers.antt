@@ -1,6 +1,6 @@
 use Rattle.arc_ast.specs.Tree.{type_tree, variable_trees}
 use Rattle.arc_check.specs.Resolving.{resolved_variables}
-use Rattle.arc_check.specs.Views.{seen}
+use Rattle.arc_check.specs.private.Views.{seen}
 use Rattle.arc_check.proofs.Commands.{declared_turn, declared_end}
 use Rattle.arc_check.proofs.Scoping.{keeps_turn}
 use Rattle.arc_check.proofs.Walks.{with_turn}

@@ -1,9 +1,9 @@
 use Rattle.std.proofs.Common.{◌≡◌, drop, take, length}
 use Rattle.arc_ast.specs.Tree.{type_tree, variable_trees}
-use Rattle.arc_check.specs.Building.{ahead_of}
+use Rattle.arc_check.specs.private.Building.{ahead_of}
 use Rattle.arc_check.specs.Resolving.{resolved_variables}
 use Rattle.arc_check.specs.Scopes.{with_variables}
-use Rattle.arc_check.specs.Views.{seen}
+use Rattle.arc_check.specs.private.Views.{seen}
 use Rattle.arc_check.proofs.program.variables.Given as goal
 
 -- the commands so far and those of the rest are all, and the outer variables are there still

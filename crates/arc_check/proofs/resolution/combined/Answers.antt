@@ -1,7 +1,7 @@
 use Rattle.std.proofs.Common.{ap, ◌∙◌}
 use Rattle.std.proofs.lemmas.Result.{IfOk-weaker}
 use Rattle.arc_spec.specs.Resolved.{Combined}
-use Rattle.arc_check.specs.Building.{resolution}
+use Rattle.arc_check.specs.private.Building.{resolution}
 use Rattle.arc_check.specs.Checked as checked
 use Rattle.arc_check.specs.Kinds.{given_kind}
 use Rattle.arc_check.specs.Resolving.{Gives, converted}

@@ -1,5 +1,5 @@
 use Rattle.std.proofs.Common.{sym, ap}
-use Rattle.arc_check.specs.Building.{resolution}
+use Rattle.arc_check.specs.private.Building.{resolution}
 use Rattle.arc_check.specs.Resolving.{object_in}
 use Rattle.arc_check.proofs.resolution.object_in.Goals as goal
 

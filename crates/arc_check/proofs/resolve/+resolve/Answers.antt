@@ -4,13 +4,13 @@ use Rattle.arc_class.specs.Table.{number_of_class}
 use Rattle.arc_spec.specs.Resolved.{Invoked}
 use Rattle.arc_check.specs.declared.callee.Callee.TheVariants.{Printf, GetChar, Defined, Unknown}
 use Rattle.arc_check.specs.declared.resolution.Typed.{Typed}
-use Rattle.arc_check.specs.Building.{resolution}
+use Rattle.arc_check.specs.private.Building.{resolution}
 use Rattle.arc_check.specs.Checked as checked
 use Rattle.arc_ast.specs.Tree.{expr_tree, expr_trees}
 use Rattle.arc_check.specs.Resolving as resolving
 use Rattle.arc_check.specs.Resolving.{number, negated, binary, resolved, resolved_all}
 use Rattle.arc_check.specs.Scopes.{class_of, result_kind}
-use Rattle.arc_check.specs.Views.{seen}
+use Rattle.arc_check.specs.private.Views.{seen}
 use Rattle.arc_ast.proofs.Trees.{call_tree, send_tree, send_super_tree}
 use Rattle.arc_check.proofs.Trees.{print_value, invoked_value}
 use Rattle.arc_check.proofs.Buildings.{values_turn, values_end, printing_some, printing_none, resolves_call}

@@ -2,9 +2,9 @@ use Rattle.std.proofs.Common.{◌≡◌, ◌+◌, ◌*◌, max, drop}
 use denote.Param.Weighed.{most}
 use Rattle.arc_ast.specs.declared.tree.Expr.{size-Expr}
 use Rattle.arc_ast.specs.Tree.{expr_trees}
-use Rattle.arc_check.specs.Building.{in_front}
+use Rattle.arc_check.specs.private.Building.{in_front}
 use Rattle.arc_check.specs.Resolving.{resolved_all}
-use Rattle.arc_check.specs.Views.{seen}
+use Rattle.arc_check.specs.private.Views.{seen}
 use Rattle.arc_check.proofs.resolve.+resolve.Given as goal
 
 -- the deepest of what is still to be resolved, and in front of it what calls what

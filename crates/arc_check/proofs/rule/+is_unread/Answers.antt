@@ -1,7 +1,7 @@
 use Rattle.std.proofs.Common.{ap, ◌∙◌}
 use Rattle.arc_ast.specs.Tree.{expr_tree}
 use Rattle.arc_check.specs.Rules.{is_unread}
-use Rattle.arc_check.specs.Views.{seen}
+use Rattle.arc_check.specs.private.Views.{seen}
 use Rattle.arc_check.proofs.rule.+is_unread.Goals as goal
 
 pub returns-in-Paren : goal.returns-in-Paren

@@ -1,7 +1,7 @@
 use Rattle.std.proofs.Common.{◌≡◌, suc, ◌+◌, ◌≤◌, length, drop, ap, ◌∙◌, arith}
 use Rattle.arc_ast.specs.Tree.{field_trees}
 use Rattle.arc_class.specs.declared.table.FoundField.{FoundField}
-use Rattle.arc_class.specs.Classes.{or_then}
+use Rattle.arc_class.specs.Classes.{or_else}
 use Rattle.arc_class.specs.Fields.{numbered}
 use Rattle.arc_class.specs.Kept.{one_at}
 use Rattle.arc_class.specs.Table.{at_name, number_of_class}
@@ -23,10 +23,10 @@ loop-field-preserved c =
       kept = λ sought.
           let old = at_name c.loop-field.named sought in
           let rest = numbered owner (index + 1) (field_trees (drop (k + 1) xs)) sought in
-          kept_turn old (one_at x.name.items found sought) _ rest _ (c.in_ok-keep_first.ensures sought ∙ ap (λ n. or_then old (one_at n found sought)) c.deref.ensures.value)
-          (c.loop-field.invariant.kept sought ∙ ap (or_then old) (ap (λ us. numbered owner index (field_trees us) sought) (drop_turn xs k x c.loop-field-test.true c.field-item.is)
+          kept_turn old (one_at x.name.items found sought) _ rest _ (c.in_ok-keep_first.ensures sought ∙ ap (λ n. or_else old (one_at n found sought)) c.deref.ensures.value)
+          (c.loop-field.invariant.kept sought ∙ ap (or_else old) (ap (λ us. numbered owner index (field_trees us) sought) (drop_turn xs k x c.loop-field-test.true c.field-item.is)
           ∙ or_one x.name.items found (numbered owner (suc index) (field_trees (drop (k + 1) xs)) sought) sought
-          ∙ ap (λ n. or_then (one_at x.name.items found sought) (numbered owner n (field_trees (drop (k + 1) xs)) sought)) next));
+          ∙ ap (λ n. or_else (one_at x.name.items found sought) (numbered owner n (field_trees (drop (k + 1) xs)) sought)) next));
       counted = omega (arith, c.loop-field.invariant.counted);
     }
 

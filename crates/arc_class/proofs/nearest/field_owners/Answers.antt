@@ -1,4 +1,5 @@
-use Rattle.std.proofs.Common.{◌≡◌, ◌-◌, ◌+◌, ◌≤◌, ◌∙◌, Some, length, slice_get, refl, ap, arith}
+use Rattle.std.proofs.Common.{◌≡◌, ◌≤◌, ◌∙◌, Some, length, map, slice_get, refl, ap, arith}
+use Rattle.std.proofs.lemmas.List.{length-map}
 use Rattle.std.proofs.lemmas.Option.{slice_get_read}
 use Rattle.arc_class.specs.Lookups.{superclass_of_fields, own_field_in}
 use Rattle.arc_class.specs.Owners.{views, owner_by}
@@ -12,7 +13,7 @@ loop-known-init c =
     record {
       owners = c.new-owners.ensures.owners;
       counted = ap length c.new-owners.ensures.none;
-      follows = follows_none (superclass_of_fields all) (owner_by (λ class name. own_field_in (slice_get all class) name)) (views c.new-owners.result) c.new-owners.ensures.none;
+      follows = follows_none (map superclass_of_fields all) (owner_by (λ class name. own_field_in (slice_get all class) name)) (views c.new-owners.result) c.new-owners.ensures.none;
     }
 
 pub loop-known-preserved : goal.loop-known-preserved
@@ -33,5 +34,5 @@ loop-known-preserved c =
 pub returns-clause-tells : goal.returns-clause-tells
 returns-clause-tells c =
     let all = c.args.classes.now in
-    let few : length (views c.loop-known.owners) ≤ length all - 1 + 1 = omega (arith, c.loop-known.invariant.counted, c.loop-known.auto.known-index-end) in
-    tells_all (superclass_of_fields all) (owner_by (λ class name. own_field_in (slice_get all class) name)) (views c.loop-known.owners) (length all - 1) few c.loop-known.invariant.follows
+    let few : length (views c.loop-known.owners) ≤ length (map superclass_of_fields all) = omega (arith, length-map all superclass_of_fields, c.loop-known.invariant.counted, c.loop-known.auto.known-index-end) in
+    tells_all (map superclass_of_fields all) (owner_by (λ class name. own_field_in (slice_get all class) name)) (views c.loop-known.owners) few c.loop-known.invariant.follows

@@ -1,4 +1,4 @@
-use Rattle.std.proofs.Common.{◌≡◌, length, slice_get}
+use Rattle.std.proofs.Common.{◌≡◌, length, map, slice_get}
 use Rattle.arc_class.specs.Lookups.{superclass_of_fields, own_field_in}
 use Rattle.arc_class.specs.Owners.{IsOwners, views, owner_by}
 use Rattle.arc_class.proofs.Chains.{Follows}
@@ -9,5 +9,5 @@ abbrev pub invariant-loop-known : goal.invariant-loop-known
 invariant-loop-known l = record {
   owners : IsOwners l.owners;
   counted : length (views l.owners) ≡ l.known-index;
-  follows : Follows (superclass_of_fields l.classes) (owner_by (λ class name. own_field_in (slice_get l.classes class) name)) (views l.owners);
+  follows : Follows (map superclass_of_fields l.classes) (owner_by (λ class name. own_field_in (slice_get l.classes class) name)) (views l.owners);
 }

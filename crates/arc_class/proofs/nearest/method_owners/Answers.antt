@@ -1,6 +1,7 @@
-use Rattle.std.proofs.Common.{◌≡◌, ◌-◌, ◌+◌, ◌≤◌, Some, length, slice_get, refl, ap, arith}
+use Rattle.std.proofs.Common.{◌≡◌, ◌≤◌, Some, length, map, slice_get, refl, ap, arith}
+use Rattle.std.proofs.lemmas.List.{length-map}
 use Rattle.std.proofs.lemmas.Option.{slice_get_read}
-use Rattle.arc_class.specs.Lookups.{superclass_among, own_result_in}
+use Rattle.arc_class.specs.Lookups.{superclass_of_entry, own_result_in}
 use Rattle.arc_class.specs.Owners.{views, owner_by}
 use Rattle.arc_class.proofs.Chains.{tells_all}
 use Rattle.arc_class.proofs.Nearests.{follows_none, one_more_class, entry_turn}
@@ -12,7 +13,7 @@ loop-class-init c =
     record {
       owners = c.new-owners.ensures.owners;
       counted = ap length c.new-owners.ensures.none;
-      follows = follows_none (superclass_among all) (owner_by (λ class selector. own_result_in class (slice_get all class) c.args.sign selector)) (views c.new-owners.result) c.new-owners.ensures.none;
+      follows = follows_none (map superclass_of_entry all) (owner_by (λ class selector. own_result_in class (slice_get all class) c.args.sign selector)) (views c.new-owners.result) c.new-owners.ensures.none;
     }
 
 pub loop-class-preserved : goal.loop-class-preserved
@@ -32,5 +33,5 @@ loop-class-preserved c =
 pub returns-clause-tells : goal.returns-clause-tells
 returns-clause-tells c =
     let all = c.args.entries.now in
-    let few : length (views c.loop-class.owners) ≤ length all - 1 + 1 = omega (arith, c.loop-class.invariant.counted, c.loop-class.auto.class-end) in
-    tells_all (superclass_among all) (owner_by (λ class selector. own_result_in class (slice_get all class) c.args.sign selector)) (views c.loop-class.owners) (length all - 1) few c.loop-class.invariant.follows
+    let few : length (views c.loop-class.owners) ≤ length (map superclass_of_entry all) = omega (arith, length-map all superclass_of_entry, c.loop-class.invariant.counted, c.loop-class.auto.class-end) in
+    tells_all (map superclass_of_entry all) (owner_by (λ class selector. own_result_in class (slice_get all class) c.args.sign selector)) (views c.loop-class.owners) few c.loop-class.invariant.follows

@@ -1,7 +1,7 @@
 use Rattle.std.proofs.Common.{◌≡◌, ◌∷◌, ◌+◌, ◌≤◌, ℕ, length, List, [], ◌++◌, refl, sym, ap, subst, ◌∙◌, arith}
 use Rattle.std.proofs.lemmas.List.{append-nil}
 use Rattle.arc_lex.specs.Faults.{fault_of, IsLexFault}
-use Rattle.arc_lex.specs.Pieces.{Law, Blank, Whole, Broken}
+use Rattle.arc_lex.specs.private.Pieces.{Law, Blank, Whole, Broken}
 use Rattle.arc_lex.specs.Source.{Cuts, FaultAt, done, here, most_bytes}
 use Rattle.arc_lex.specs.Tokens.{tok, toks, sort_of}
 use Rattle.arc_lex.specs.declared.piece.Rule.{Rule}

@@ -1,6 +1,6 @@
 use Rattle.std.proofs.Common.{◌≡◌, ℕ, ◌<◌, List, length, sym, subst, Result, Ok, Err, IfOk}
 use Rattle.std.specs.declared.alloc.AllocError.{AllocError}
-use Rattle.arc_lex.specs.Pieces.{Law, Fits, piece, seen}
+use Rattle.arc_lex.specs.private.Pieces.{Law, Fits, piece, seen}
 use Rattle.arc_lex.specs.declared.piece.Piece.{Piece}
 use Rattle.arc_lex.proofs.Law.{piece_law}
 use Rattle.arc_lex.proofs.Walks.{law_fits}

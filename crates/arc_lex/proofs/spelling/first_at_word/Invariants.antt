@@ -1,5 +1,5 @@
 use Rattle.std.proofs.Common.{◌≡◌, drop}
-use Rattle.arc_lex.specs.Pieces.{first_front}
+use Rattle.arc_lex.specs.private.Pieces.{first_front}
 use Rattle.arc_lex.specs.Spellings.{at_bytes}
 use Rattle.arc_lex.proofs.spelling.first_at_word.Given as goal
 

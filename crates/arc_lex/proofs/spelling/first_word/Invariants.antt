@@ -1,5 +1,5 @@
 use Rattle.std.proofs.Common.{◌≡◌, drop}
-use Rattle.arc_lex.specs.Pieces.{first_equal}
+use Rattle.arc_lex.specs.private.Pieces.{first_equal}
 use Rattle.arc_lex.specs.Spellings.{word_bytes}
 use Rattle.arc_lex.proofs.spelling.first_word.Given as goal
 

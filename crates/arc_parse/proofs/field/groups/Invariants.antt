@@ -1,6 +1,6 @@
 use Rattle.std.proofs.Common.{◌≡◌, ◌≤◌, length}
 use Rattle.arc_lex.specs.Tokens.{toks}
-use Rattle.arc_parse.specs.Views.{with_row, field_tree}
+use Rattle.arc_parse.specs.private.Views.{with_row, field_tree}
 use Rattle.arc_parse.specs.Limits.{these}
 use Rattle.arc_parse.specs.UnitRules as rules
 use Rattle.arc_parse.proofs.field.groups.Given as goal

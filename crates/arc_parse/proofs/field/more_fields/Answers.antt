@@ -3,7 +3,7 @@ use Rattle.std.proofs.lemmas.Result.{err_from_is_err_and}
 use Rattle.arc_lex.specs.Tokens.{toks}
 use Rattle.arc_parse.specs.Limits.{these}
 use Rattle.arc_parse.specs.UnitRules as rules
-use Rattle.arc_parse.specs.Views.{with_row, field_tree}
+use Rattle.arc_parse.specs.private.Views.{with_row, field_tree}
 use Rattle.arc_parse.proofs.FieldRows.{field_more, fields_end, field_fails}
 use Rattle.arc_parse.proofs.field.more_fields.Goals as goal
 

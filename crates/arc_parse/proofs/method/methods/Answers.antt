@@ -4,7 +4,7 @@ use Rattle.arc_lex.specs.Tokens.{toks}
 use Rattle.arc_ast.specs.Tree.{method_tree}
 use Rattle.arc_parse.specs.Limits.{these}
 use Rattle.arc_parse.specs.UnitRules as rules
-use Rattle.arc_parse.specs.Views.{with_row}
+use Rattle.arc_parse.specs.private.Views.{with_row}
 use Rattle.arc_parse.proofs.ClassRows.{method_more, methods_end, method_fails}
 use Rattle.arc_parse.proofs.method.methods.Goals as goal
 

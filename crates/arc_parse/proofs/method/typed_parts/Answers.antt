@@ -3,7 +3,7 @@ use Rattle.std.proofs.lemmas.Result.{err_from_is_err_and}
 use Rattle.arc_lex.specs.Tokens.{toks}
 use Rattle.arc_parse.specs.Limits.{these}
 use Rattle.arc_parse.specs.UnitRules as rules
-use Rattle.arc_parse.specs.Views.{parts_then}
+use Rattle.arc_parse.specs.private.Views.{parts_then}
 use Rattle.arc_parse.proofs.ClassRows.{part_more, parts_end, part_fails}
 use Rattle.arc_parse.proofs.method.typed_parts.Goals as goal
 

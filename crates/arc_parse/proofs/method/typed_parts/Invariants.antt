@@ -1,6 +1,6 @@
 use Rattle.std.proofs.Common.{◌≡◌, ◌≤◌, length}
 use Rattle.arc_lex.specs.Tokens.{toks}
-use Rattle.arc_parse.specs.Views.{parts_then}
+use Rattle.arc_parse.specs.private.Views.{parts_then}
 use Rattle.arc_parse.specs.Limits.{these}
 use Rattle.arc_parse.specs.UnitRules as rules
 use Rattle.arc_parse.proofs.method.typed_parts.Given as goal

@@ -1,6 +1,6 @@
 use Rattle.std.proofs.Common.{◌≡◌, [], ◌∷◌, ◌++◌, sym, ap, ◌∙◌}
 use Rattle.arc_ast.specs.Tree.{unit_tree, function_tree, function_trees, interface_tree, interface_trees, implementation_tree, implementation_trees}
-use Rattle.arc_parse.specs.Views.{top_tree, and_top}
+use Rattle.arc_parse.specs.private.Views.{top_tree, and_top}
 use Rattle.arc_parse.proofs.ClassRows.{made, functions_push, interfaces_push, implementations_push}
 use Rattle.arc_parse.proofs.source.keep.Goals as goal
 

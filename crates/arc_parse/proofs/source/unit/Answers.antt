@@ -3,7 +3,7 @@ use Rattle.std.proofs.lemmas.Result.{err_from_is_err_and}
 use Rattle.arc_lex.specs.Tokens.{toks}
 use Rattle.arc_ast.specs.Tree.{unit_tree}
 use Rattle.arc_parse.specs.Limits.{these}
-use Rattle.arc_parse.specs.Views.{top_tree}
+use Rattle.arc_parse.specs.private.Views.{top_tree}
 use Rattle.arc_parse.specs.UnitRules as rules
 use Rattle.arc_parse.proofs.ClassRows.{tops_then, tops_start, nothing_yet, top_more, tops_end, top_fails}
 use Rattle.arc_parse.proofs.source.unit.Goals as goal

@@ -1,7 +1,7 @@
 use Rattle.std.proofs.Common.{◌≡◌, ◌≤◌, length}
 use Rattle.arc_lex.specs.Tokens.{toks}
 use Rattle.arc_ast.specs.Tree.{variable_tree}
-use Rattle.arc_parse.specs.Views.{with_row}
+use Rattle.arc_parse.specs.private.Views.{with_row}
 use Rattle.arc_parse.specs.Limits.{these}
 use Rattle.arc_parse.specs.UnitRules as rules
 use Rattle.arc_parse.proofs.variable.more_variables.Given as goal

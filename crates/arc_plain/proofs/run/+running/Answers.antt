@@ -1,18 +1,21 @@
-use Rattle.std.proofs.Common.{rules, arith, suc, length, take, vec_len, to_z, of_z, w64, ◌∷◌, ◌++◌, [], refl, ◌≡◌, ◌-◌, ◌<◌, ◌≤◌, Err, sym, subst, ap, ◌∙◌}
+use Rattle.std.proofs.Common.{rules, arith, suc, length, map, take, vec_len, to_z, of_z, w64, ◌∷◌, ◌++◌, [], refl, ◌≡◌, ◌-◌, ◌<◌, ◌≤◌, Err, sym, subst, ap, ◌∙◌}
 use Rattle.std.proofs.lemmas.Int.{to_z-of_z}
 use Rattle.std.proofs.lemmas.Bool.{ltb-true, ltb-false}
 use Rattle.std.proofs.lemmas.Result.{err_from_is_err_and}
 use Rattle.arc_check.specs.Checked as checked
+use Rattle.arc_spec.specs.Classes.{superclasses, ancestry}
 use Rattle.arc_spec.specs.Number.{is_zero}
+use Rattle.arc_spec.proofs.Ancestry.{all_classes}
 use Rattle.arc_check.specs.Checked.{program_of}
-use Rattle.arc_spec.specs.Meaning.{whole, all_evaluated, all_executed, executed, turns, called, function_at, all_dropped, variables_dropped, deallocs_run}
+use Rattle.arc_spec.specs.Meaning.{whole, all_evaluated, all_executed, executed, turns, called, function_at, all_dropped, variables_dropped, class_in, deallocs_run, dying, gone, level}
 use Rattle.arc_spec.specs.Resolved.{Function}
-use Rattle.arc_spec.specs.World.{Done}
-use Rattle.arc_plain.specs.Views.{world, Tells, deeper, flow_of, nothing_of, function_of, left_at}
+use Rattle.arc_spec.specs.Objects.{object_at}
+use Rattle.arc_spec.specs.World.{Done, then_do}
+use Rattle.arc_plain.specs.Views.{world, Tells, deeper, flow_of, nothing_of, object_of, function_of, left_at}
 use Rattle.arc_plain.proofs.Calls.{call_told, body_failed, drop_failed, nothing_called, function_there, function_absent, temporary_step, temporaries_fewer, no_temporary, variable_step, variable_failed, layer_done, layer_failed}
 use Rattle.arc_plain.proofs.Keeping.{level_steady}
 use Rattle.arc_check.proofs.Trees.{is_print, is_invoked, is_sent, is_sent_super, is_sent_to, is_sent_to_super, is_sequence}
-use Rattle.arc_plain.proofs.Turns.{value_told, message_told, command_told, values_step, turns_step, turn_failed, call_is}
+use Rattle.arc_plain.proofs.Turns.{value_told, message_told, command_told, values_step, turns_step, turn_failed, call_is, end_is, tells_through}
 use Rattle.arc_plain.proofs.Weights.{print_lighter, call_lighter, sent_lighter, super_lighter, sent_to_lighter, to_super_lighter, sequence_lighter, value_in, command_in, commands_weight, level_lighter, body_lighter}
 use Rattle.arc_plain.proofs.run.+running.Goals as goal
 
@@ -260,6 +263,33 @@ enter-returns t c =
     (call_told D (level_steady P context.bound context.levels) context.bound (function_of f) c.args.itself c.args.arguments.now w0 w1 c.in_ok-kept.ensures.world
     w2 w3 w4 (flow_of c.in_ok-flow.flow) number c.len-waiting.result old.items begun last body c.in_ok-drop_variables.ensures refl refl refl kept leaves (same ∙ c.number_of.ensures))
 
+pub end-returns-in_err-run_deallocs : goal.end-returns-in_err-run_deallocs
+end-returns-in_err-run_deallocs t c =
+    let context = c.args.context.now in
+    let P = program_of context.program.now in
+    let w = world c.args.progress.now in
+    let w1 = world c.begin_end.new.progress in
+    let class = c.class_of-class.result in
+    let o = c.args.object in
+    let n = context.levels - 1 in
+    let one : context.levels ≡ suc n = omega (arith, c.if-context-eq0.false) in
+    let known : class ≡ class_in (object_at w.objects o) = c.class_of-class.ensures ∙ ap (λ l. class_in (object_at (map object_of l) o)) c.deref.ensures.value in
+    let p = err_from_is_err_and c.from_residual-in_err-run_deallocs.result c.from_residual-in_err-run_deallocs.ensures.1 in
+    let whole = (deeper context).end_of o w in
+    let after = world c.run_deallocs.new.progress in
+    let meant : whole ≡ then_do (deallocs_run P (level P context.bound n) context.bound (ancestry (superclasses P.classes) class) o w1) (λ _ w2. gone o w2) =
+    end_is P context.bound context.levels n o w one
+    ∙ ap (λ x. then_do (deallocs_run P (level P context.bound n) context.bound (ancestry (superclasses P.classes) x) o (dying o (object_at w.objects o) w)) (λ _ w2. gone o w2)) (sym known)
+    ∙ ap (λ v. then_do (deallocs_run P (level P context.bound n) context.bound (ancestry (superclasses P.classes) class) o v) (λ _ w2. gone o w2)) (sym c.in_ok-begin_end.ensures) in
+    subst (λ r. Tells nothing_of r whole after) (sym (p.1 ∙ ap Err p.2))
+    (tells_through c.in_err-run_deallocs.field-0.0 nothing_of nothing_of after (λ _ w2. gone o w2) (deallocs_run P (level P context.bound n) context.bound (ancestry (superclasses P.classes) class) o w1) whole meant c.in_err-run_deallocs.ensures)
+
+pub run_deallocs-loop-passed-init : goal.run_deallocs-loop-passed-init
+run_deallocs-loop-passed-init t c =
+    let context = c.args.context.now in
+    let P = program_of context.program.now in
+    ap (λ classes. deallocs_run P (deeper context) context.bound classes c.args.object (world c.args.progress.now)) (all_classes context.program.now.classes.items c.args.class)
+
 pub run_deallocs-returns-in_default : goal.run_deallocs-returns-in_default
 run_deallocs-returns-in_default t c =
     let context = c.args.context.now in
@@ -275,7 +305,7 @@ run_deallocs-loop-passed-preserved t c =
     let layer = c.in-Some.layer in
     let w = world c.loop-passed.progress in
     let below : i < length all = omega (arith, c.loop-passed-test.true, c.len-passed-end.ensures, context.program.now.classes.ok.0) in
-    layer_done P D context.bound (deallocs_run P D context.bound (length P.classes) c.args.class c.args.object (world c.args.progress.now)) (length all) i c.args.object c.loop-passed.next layer.0 layer.1 w (world c.run_dealloc.new.progress)
+    layer_done P D context.bound (deallocs_run P D context.bound (ancestry (superclasses P.classes) c.args.class) c.args.object (world c.args.progress.now)) (length all) i c.args.object c.loop-passed.next layer.0 layer.1 w (world c.run_dealloc.new.progress)
     below c.loop-passed.invariant (λ n. c.in-Some.ensures D context.bound n c.args.object w) c.in_ok-run_dealloc.ensures
 
 pub run_deallocs-returns-in_err-run_dealloc : goal.run_deallocs-returns-in_err-run_dealloc
@@ -289,6 +319,6 @@ run_deallocs-returns-in_err-run_dealloc t c =
     let w = world c.loop-passed.progress in
     let below : i < length all = omega (arith, c.loop-passed-test.true, c.len-passed-end.ensures, context.program.now.classes.ok.0) in
     let p = err_from_is_err_and c.from_residual.result c.from_residual.ensures.1 in
-    layer_failed P D context.bound (deallocs_run P D context.bound (length P.classes) c.args.class c.args.object (world c.args.progress.now)) (length all) i c.args.object c.loop-passed.next layer.0 layer.1 w (world c.run_dealloc.new.progress)
+    layer_failed P D context.bound (deallocs_run P D context.bound (ancestry (superclasses P.classes) c.args.class) c.args.object (world c.args.progress.now)) (length all) i c.args.object c.loop-passed.next layer.0 layer.1 w (world c.run_dealloc.new.progress)
     nothing_of nothing_of c.in_err-run_dealloc.field-0.0 c.from_residual.result
     below c.loop-passed.invariant (λ n. c.in-Some.ensures D context.bound n c.args.object w) (p.1 ∙ ap Err p.2) c.in_err-run_dealloc.ensures

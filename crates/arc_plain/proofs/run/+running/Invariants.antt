@@ -1,6 +1,7 @@
 use Rattle.std.proofs.Common.{◌≡◌, ◌+◌, ◌-◌, suc, drop, length, vec_len}
 use Rattle.arc_check.specs.Checked as checked
 use Rattle.arc_check.specs.Checked.{program_of}
+use Rattle.arc_spec.specs.Classes.{superclasses, ancestry, ancestry_within}
 use Rattle.arc_spec.specs.Meaning.{all_evaluated, whole, executed, all_executed, turns, all_dropped, variables_dropped, deallocs_run}
 use Rattle.arc_plain.specs.Views.{world, deeper}
 use Rattle.arc_plain.proofs.Turns.{front}
@@ -120,5 +121,5 @@ invariant-drop_variables-loop-offset l = variables_dropped (deeper l.context) l.
 abbrev pub invariant-run_deallocs-loop-passed : goal.invariant-run_deallocs-loop-passed
 invariant-run_deallocs-loop-passed l =
     let program = program_of l.context.program.now in
-    deallocs_run program (deeper l.context) l.context.bound (length program.classes) l.fn.class l.object (world l.initial.progress)
-    ≡ deallocs_run program (deeper l.context) l.context.bound (length l.context.program.now.classes.items - l._passed) l.next l.object (world l.progress)
+    deallocs_run program (deeper l.context) l.context.bound (ancestry (superclasses program.classes) l.fn.class) l.object (world l.initial.progress)
+    ≡ deallocs_run program (deeper l.context) l.context.bound (ancestry_within (length l.context.program.now.classes.items - l._passed) (superclasses program.classes) l.next) l.object (world l.progress)

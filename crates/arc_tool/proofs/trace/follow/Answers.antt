@@ -21,10 +21,10 @@ returns-in_err-begun-clause-interrupted g c =
     let i = c.loop.invariant in
     let ran = c.run-answer.ensures.moves i.1 in
     let held = c.run-answer.ensures.within i.1 in
-    let most = one_step g.S.Store.out c.args.machine.now.program _ c.loop.machine c.run-answer.new.self _ _ _ _ _ _ _ _ i.3 i.1 ran held in
+    let more = rw c.steps_done-before.ensures at c.in_err-begun.ensures.made in
     let part = rw c.steps_done-before.ensures at c.in_err-begun.ensures.broken in
     rw (p.1, p.2)
-    (shows_part g.S.Store.out c.args.machine.now.program _ c.loop.machine c.run-answer.new.self _ _ _ _ _ _ _ _ i.3 i.1 ran held _ _ _ _ c.args.steps (omega (arith, most, i.0)) (λ no. (c.run-answer.ensures.lacks i.1 no).op) part)
+    (shows_part g.S.Store.out c.args.machine.now.program _ c.loop.machine c.run-answer.new.self _ _ _ _ _ _ _ _ i.3 i.1 ran held _ _ _ _ c.args.steps more (omega (arith, i.0)) (λ no. (c.run-answer.ensures.lacks i.1 no).op) part)
 
 pub returns-then-ne-clause-followed : goal.returns-then-ne-clause-followed
 returns-then-ne-clause-followed g c =

@@ -2,7 +2,7 @@ use Rattle.std.proofs.Common.{sym, ap, ◌∙◌, cond}
 use Rattle.std.proofs.lemmas.Result.{on_ok_weaker}
 use Rattle.arc_ast.specs.Tree.{type_tree}
 use Rattle.arc_check.specs.Scopes.{has_place, with_object, declare}
-use Rattle.arc_check.specs.Views.{seen}
+use Rattle.arc_check.specs.private.Views.{seen}
 use Rattle.arc_check.proofs.scope.Visible.declare.Goals as goal
 
 pub returns-in-Int-clause-scope : goal.returns-in-Int-clause-scope

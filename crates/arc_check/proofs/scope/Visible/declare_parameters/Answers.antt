@@ -1,7 +1,7 @@
 use Rattle.std.proofs.Common.{◌+◌, drop, sym, ap, ◌∙◌}
 use Rattle.arc_ast.specs.Tree.{Int, parameter_trees}
 use Rattle.arc_check.specs.Scopes.{declare, with_parameters}
-use Rattle.arc_check.specs.Views.{seen}
+use Rattle.arc_check.specs.private.Views.{seen}
 use Rattle.arc_check.proofs.Lists.{drop_turn, drop_end}
 use Rattle.arc_check.proofs.scope.Visible.declare_parameters.Goals as goal
 

@@ -1,5 +1,5 @@
 use Rattle.std.proofs.Common.{◌≡◌, drop, option_map}
-use Rattle.arc_check.specs.Views.{local_of, later, local_in}
+use Rattle.arc_check.specs.private.Views.{local_of, later, local_in}
 use Rattle.arc_check.proofs.scope.Visible.local.Given as goal
 
 -- the last so far, or the last of the rest

@@ -1,7 +1,7 @@
 use Rattle.std.proofs.Common.{◌≡◌, ◌<◌, ◌≤◌, ◌+◌, ◌-◌, ◌++◌, suc, length, map, get_or, subst, sym, ap, append-nil, ◌∙◌, arith}
 use Rattle.arc_ast.specs.Tree.{unit_tree, interface_tree}
 use Rattle.arc_class.specs.Classes.{class_number}
-use Rattle.arc_class.specs.Fields.{owned, fields, all_fields_from, fields_declared, inherited_below}
+use Rattle.arc_class.specs.Fields.{owned, fields, all_fields_from, fields_declared, inherited_by}
 use Rattle.arc_class.specs.Table.{class_number_in, list_of, list_among}
 use Rattle.arc_class.proofs.FieldLists.{lists_so_far, class_here}
 use Rattle.arc_class.proofs.Parts.{made_turn, pushed_length}
@@ -24,14 +24,14 @@ loop-interface-preserved c =
     let few : length all ≤ suc count = omega (arith, within, c.loop-interface.invariant.counted, interfaces_count xs) in
     let superclass : c.class_number-superclass.result ≡ class_number u.interfaces i.superclass =
     c.class_number-superclass.ensures ∙ ap (class_number_in source.names) c.deref.ensures.value ∙ class_number_kept source.names u.interfaces x.superclass.items (c.requires.class_places x.superclass.items) in
-    let inherited : list_of c.in_ok-inherited.inherited ≡ inherited_below (k + 1) u (class_number u.interfaces i.superclass) =
+    let inherited : list_of c.in_ok-inherited.inherited ≡ inherited_by u (k + 1) (class_number u.interfaces i.superclass) =
     c.in_ok-inherited.ensures ∙ ap (λ us. list_among us c.class_number-superclass.result) c.deref-in-loop-interface.ensures.value ∙ lists_so_far u all (all_fields_from u (k + 1) (count - k)) c.loop-interface.invariant.made few c.class_number-superclass.result
-    ∙ ap (λ s. inherited_below (length all) u s) superclass ∙ ap (λ n. inherited_below n u (class_number u.interfaces i.superclass)) c.loop-interface.invariant.counted in
+    ∙ ap (λ s. inherited_by u (length all) s) superclass ∙ ap (λ n. inherited_by u n (class_number u.interfaces i.superclass)) c.loop-interface.invariant.counted in
     let number : c.loop-interface.class + 1 ≡ k + 1 = ap (λ n. n + 1) c.loop-interface.invariant.numbered in
     let number_next : suc k ≡ k + 1 = omega arith in
     let one : list_of made ≡ fields u (k + 1) =
     c.in_ok-fields.ensures ∙ ap (λ n. list_of c.in_ok-inherited.inherited ++ map (owned n) (fields_declared u n i)) number ∙ ap (λ l. l ++ map (owned (k + 1)) (fields_declared u (k + 1) i)) inherited
-    ∙ ap (λ n. inherited_below n u (class_number u.interfaces i.superclass) ++ map (owned n) (fields_declared u n i)) (sym number_next) ∙ sym (class_here u k i (interface_there xs k x within same)) ∙ ap (fields u) number_next in
+    ∙ ap (λ n. inherited_by u n (class_number u.interfaces i.superclass) ++ map (owned n) (fields_declared u n i)) (sym number_next) ∙ sym (class_here u k i (interface_there xs k x within same)) ∙ ap (fields u) number_next in
     let more : count - k ≡ suc (count - (k + 1)) = omega (arith, within, interfaces_count xs) in
     let next : suc (k + 1) ≡ k + 1 + 1 = omega arith in
     record {

@@ -1,6 +1,6 @@
 use Rattle.std.proofs.Common.{ap, ◌∙◌}
 use Rattle.arc_ast.specs.Tree.{unit_tree, interface_tree, field_trees}
-use Rattle.arc_class.specs.Classes.{or_then}
+use Rattle.arc_class.specs.Classes.{or_else}
 use Rattle.arc_class.specs.Fields.{numbered}
 use Rattle.arc_class.specs.Table.{class_number_in}
 use Rattle.arc_class.proofs.FieldLists.{fields_made}
@@ -22,6 +22,6 @@ returns-clause-known c =
     fields_made u class first next c.in_ok-count.count (interface_tree x) xs ys c.class_number-superclass.result c.in_ok-places.places c.keep_fields-2.new.named
     (c.class_number-superclass.ensures ∙ ap (class_number_in source.names) c.deref.ensures.value ∙ class_number_kept source.names u.interfaces x.superclass.items (c.requires.class_places x.superclass.items))
     c.own_fields-own.ensures c.in_ok-places.ensures
-    (λ name. c.in_ok-count.ensures.kept name ∙ ap (λ o. or_then o (numbered class next ys name)) (c.in_ok-next.ensures.kept name
-    ∙ ap (λ o. or_then o (numbered class first xs name)) (kept_none c.new-named.result name c.new-named.ensures.empty)))
+    (λ name. c.in_ok-count.ensures.kept name ∙ ap (λ o. or_else o (numbered class next ys name)) (c.in_ok-next.ensures.kept name
+    ∙ ap (λ o. or_else o (numbered class first xs name)) (kept_none c.new-named.result name c.new-named.ensures.empty)))
     c.in_ok-next.ensures.counted c.in_ok-count.ensures.counted

@@ -1,4 +1,4 @@
-use Rattle.std.proofs.Common.{◌≡◌, ◌<◌, ◌++◌, [], length, get_or, take, option_map, subst, ap, ◌∙◌}
+use Rattle.std.proofs.Common.{◌≡◌, ◌<◌, [], length, get_or, take, option_map, subst, ap, ◌∙◌}
 use Rattle.arc_ast.specs.Tree.{unit_tree, implementation_tree, implementation_trees, method_trees}
 use Rattle.arc_class.specs.Bodies.{and_name}
 use Rattle.arc_class.specs.Broken.{first}

@@ -1,6 +1,6 @@
 use Rattle.std.proofs.Common.{ap}
 use Rattle.std.proofs.lemmas.Option.{slice_get_within}
-use Rattle.arc_code.specs.declared.code.Op.TheVariants as op
+use Rattle.arc_code.specs.declared.instr.Instr.TheVariants as instr
 use Rattle.arc_code.specs.Running.{program_of}
 use Rattle.arc_machine.specs.Places.{spot}
 use Rattle.arc_machine.proofs.Released.{last_both, emptied_ends, emptied_faults}
@@ -17,7 +17,7 @@ put-requires g c = slice_get_within _ c.args.depth c.named-named.result c.named-
 
 pub begin_end-requires-clause-object : goal.begin_end-requires-clause-object
 begin_end-requires-clause-object g c =
-    last_both g.S.Store.out (program_of c.args.code.now) (op.Empty c.args.depth) (spot c.args.self.now c.args.objects.now) c.requires.ready (spot c.empty_soon.new.self c.empty_soon.new.objects) c.in_default.ensures.went.1
+    last_both g.S.Store.out (program_of c.args.code.now) (instr.Empty c.args.depth) (spot c.args.self.now c.args.objects.now) c.requires.ready (spot c.empty_soon.new.self c.empty_soon.new.objects) c.in_default.ensures.went.1
     c.put.new.self.store (ap (λ m. m.store) c.put.ensures) c.args.depth c.named-named.result c.in_default.ensures.last c.named-named.ensures
 
 pub returns-clause-went : goal.returns-clause-went

@@ -1,6 +1,6 @@
 use Rattle.std.proofs.Common.{◌≡◌, refl, Some, slice_get}
 use Rattle.arc_spec.specs.Classes.{class_of}
-use Rattle.arc_code.specs.declared.code.Op.TheVariants as op
+use Rattle.arc_code.specs.declared.instr.Instr.TheVariants as instr
 use Rattle.arc_code.specs.Running.{program_of}
 use Rattle.arc_machine.specs.declared.waiting.Waiting.TheVariants.{End}
 use Rattle.arc_machine.specs.Places.{spot}
@@ -11,7 +11,7 @@ pub end_object-requires-clause-object : goal.end_object-requires-clause-object
 end_object-requires-clause-object g c =
     let e = c.in-Some-End in
     let frame : slice_get c.args.objects.now.frames 0 ≡ Some (End e.back e.receiver e.object e.next e.left) = cc in
-    ready_end g.S.Store.out (program_of c.args.code.now) op.EndStep (spot c.args.self.now c.args.objects.now) c.requires.ready e.back e.receiver e.object e.next e.left frame
+    ready_end g.S.Store.out (program_of c.args.code.now) instr.EndStep (spot c.args.self.now c.args.objects.now) c.requires.ready e.back e.receiver e.object e.next e.left frame
 
 pub returns-in-Some-clause-went : goal.returns-in-Some-clause-went
 returns-in-Some-clause-went g c =

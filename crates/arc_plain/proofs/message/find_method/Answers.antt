@@ -1,0 +1,11 @@
+use Rattle.std.proofs.Common.{◌∙◌, sym, ap}
+use Rattle.arc_check.specs.Checked.{program_of}
+use Rattle.arc_spec.specs.Classes.{classes_of, lookup}
+use Rattle.arc_plain.proofs.Turns.{level_classes}
+use Rattle.arc_plain.proofs.message.find_method.Goals as goal
+
+pub returns : goal.returns
+returns c =
+    let context = c.args.context.now in
+    c.look_up.ensures ∙ ap (λ l. lookup (classes_of l) c.args.from c.args.sign c.args.selector c.args.takes) c.deref.ensures.value
+    ∙ ap (λ l. lookup l c.args.from c.args.sign c.args.selector c.args.takes) (sym (level_classes (program_of context.program.now) context.bound context.levels))

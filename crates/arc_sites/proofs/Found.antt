@@ -1,0 +1,44 @@
+-- What is found at some sites is the first of all that is violated there.
+use Rattle.std.proofs.Common.{◌≡◌, ℕ, ◌+◌, ◌<◌, ◌≤◌, List, [], ◌∷◌, ◌++◌, length, get_or, drop, drop-cons, add-one, Option, Some, None, refl, sym, ap, ◌∙◌}
+use Rattle.std.proofs.lemmas.List.{drop_all}
+use Rattle.arc_sites.specs.declared.violation.Violation.{Violation}
+use Rattle.arc_sites.specs.Violations.{first, earlier_of}
+use Rattle.arc_sites.specs.Sites.{Around, Node, Site}
+use Rattle.arc_sites.specs.Finding.{violations_of, found_from}
+use Rattle.arc_sites.proofs.Firsts.{first-append, earlier_of-assoc, earlier_of-none}
+
+pub found-append : (rules : Around → Node → List Violation) (before : Option Violation) (xs ys : List Site) → found_from rules before (xs ++ ys) ≡ found_from rules (found_from rules before xs) ys
+found-append rules before [] ys = refl
+found-append rules before (x ∷ xs) ys = found-append rules (earlier_of before (first (rules x.around x.node))) xs ys
+
+-- some sites after others
+pub found_both : (rules : Around → Node → List Violation) (before mid now : Option Violation) (xs ys : List Site) → mid ≡ found_from rules before xs → now ≡ found_from rules mid ys → now ≡ found_from rules before (xs ++ ys)
+found_both rules before mid now xs ys m n = n ∙ ap (λ f. found_from rules f ys) m ∙ sym (found-append rules before xs ys)
+
+-- the fold finds the first of all violations at all sites
+pub found_is : (rules : Around → Node → List Violation) (before : Option Violation) (xs : List Site) → found_from rules before xs ≡ earlier_of before (first (violations_of rules xs))
+found_is rules before [] = sym (earlier_of-none before)
+found_is rules before (x ∷ xs) =
+    found_is rules (earlier_of before (first (rules x.around x.node))) xs
+    ∙ earlier_of-assoc before (first (rules x.around x.node)) (first (violations_of rules xs))
+    ∙ ap (earlier_of before) (sym (first-append (rules x.around x.node) (violations_of rules xs)))
+
+drop_turn : {A : Type 0} (xs : List A) (i : ℕ) (x : A) → i < length xs → x ≡ get_or xs i x → drop i xs ≡ x ∷ drop (i + 1) xs
+drop_turn xs i x l e = drop-cons xs i x l ∙ rw (sym e, add-one) refl
+
+-- The sites of a list are those of its first element and then the rest; one element more is visited.
+pub turn : {A : Type 0} (rules : Around → Node → List Violation) (all_of : List A → List Site) (one rest : List Site) (xs : List A) (i : ℕ) (x : A) (so_far now whole : Option Violation)
+    → all_of (x ∷ drop (i + 1) xs) ≡ one ++ rest → i < length xs → x ≡ get_or xs i x
+    → now ≡ found_from rules so_far one → whole ≡ found_from rules so_far (all_of (drop i xs)) → whole ≡ found_from rules now rest
+turn rules all_of one rest xs i x so_far now whole s l e n w =
+    w ∙ ap (found_from rules so_far) (ap all_of (drop_turn xs i x l e) ∙ s) ∙ found-append rules so_far one rest ∙ ap (λ f. found_from rules f rest) (sym n)
+
+-- some sites after others, and some after both
+pub found_three : (rules : Around → Node → List Violation) (before mid then now : Option Violation) (xs ys zs : List Site)
+    → mid ≡ found_from rules before xs → then ≡ found_from rules mid ys → now ≡ found_from rules then zs → now ≡ found_from rules before (xs ++ (ys ++ zs))
+found_three rules before mid then now xs ys zs m t n = found_both rules before mid now xs (ys ++ zs) m (found_both rules mid then now ys zs t n)
+
+-- at the end of a list the rest has no sites
+pub ended : {A : Type 0} (rules : Around → Node → List Violation) (all_of : List A → List Site) (xs : List A) (i : ℕ) (now whole : Option Violation)
+    → all_of [] ≡ [] → length xs ≤ i → whole ≡ found_from rules now (all_of (drop i xs)) → now ≡ whole
+ended rules all_of xs i now whole s l w = sym (w ∙ ap (λ us. found_from rules now (all_of us)) (drop_all i xs l) ∙ ap (found_from rules now) s)

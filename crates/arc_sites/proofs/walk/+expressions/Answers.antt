@@ -1,0 +1,74 @@
+use Rattle.std.proofs.Common.{◌+◌, ◌++◌, true, false, drop, refl, sym, ap, ◌∙◌}
+use Rattle.arc_ast.specs.Tree.{expr_tree, expr_trees}
+use Rattle.arc_sites.specs.Sites as sites
+use Rattle.arc_sites.specs.Sites.{ANumber, AnObject, AValue, Anything, Receiver, Argument, Like, left_need, right_need, value, arguments}
+use Rattle.arc_sites.specs.Finding.{enclosing_of, found_from}
+use Rattle.arc_ast.proofs.Trees.{call_tree, send_tree, send_super_tree}
+use Rattle.arc_sites.proofs.Found.{found_both, turn, ended}
+use Rattle.arc_sites.proofs.walk.+expressions.Goals as goal
+
+pub expression-returns : goal.expression-returns
+expression-returns g t c = λ scope need.
+    let m = enclosing_of c.args.enclosing in
+    let a = expr_tree c.args.expr.now in
+    found_both g.V.Visitor.violations _ _ _ (sites.inside m scope need a) (value m scope need a) (c.inside.ensures scope need) (c.visit.ensures scope need)
+
+pub inside-returns-in-Binary : goal.inside-returns-in-Binary
+inside-returns-in-Binary g t c = λ scope need.
+    let m = enclosing_of c.args.enclosing in
+    let a = expr_tree c.in-Binary.left.value in
+    let b = expr_tree c.in-Binary.right.value in
+    let left = left_need c.in-Binary.field-1 in
+    let right = right_need c.in-Binary.field-1 a in
+    rw c.in-Binary.is (found_both g.V.Visitor.violations _ _ _ (sites.sites m scope left a) (sites.sites m scope right b) (rw c.deref-in-Binary.ensures at c.expression-in-Binary.ensures scope left) (rw c.deref-in-Binary-2.ensures at c.expression-in-Binary-2.ensures scope right))
+
+pub inside-returns-in-Assign : goal.inside-returns-in-Assign
+inside-returns-in-Assign g t c = λ scope need.
+    let m = enclosing_of c.args.enclosing in
+    let a = expr_tree c.in-Assign.left.value in
+    let b = expr_tree c.in-Assign.right.value in
+    rw c.in-Assign.is (found_both g.V.Visitor.violations _ _ _ (sites.sites m scope Anything a) (sites.sites m scope (Like a) b) (rw c.deref-in-Assign.ensures at c.expression-in-Assign.ensures scope Anything) (rw c.deref-in-Assign-2.ensures at c.expression-in-Assign-2.ensures scope (Like a)))
+
+pub arguments-loop-argument-preserved : goal.arguments-loop-argument-preserved
+arguments-loop-argument-preserved g t c = λ scope one others.
+    let m = enclosing_of c.args.enclosing in
+    let before = c.loop-argument.invariant scope one others in
+    let a = c.argument-item.result in
+    let rest = drop (c.loop-argument.argument-index + 1) c.args.all.now in (
+      others,
+      turn g.V.Visitor.violations (λ xs. arguments m scope before.0 others (expr_trees xs)) (sites.sites m scope before.0 (expr_tree a)) (arguments m scope others others (expr_trees rest))
+          c.args.all.now c.loop-argument.argument-index a _ _ _ refl c.loop-argument-test.true c.argument-item.is (c.expression.ensures scope before.0) before.1,
+    )
+
+pub arguments-loop-argument-init : goal.arguments-loop-argument-init
+arguments-loop-argument-init g t c = λ scope one others. (one, refl)
+
+pub arguments-returns : goal.arguments-returns
+arguments-returns g t c = λ scope one others.
+    let last = c.loop-argument.invariant scope one others in
+    ended g.V.Visitor.violations (λ xs. arguments (enclosing_of c.args.enclosing) scope last.0 others (expr_trees xs)) c.args.all.now c.loop-argument.argument-index _ _ refl c.loop-argument-test.false last.1
+
+pub inside-returns-in-Call : goal.inside-returns-in-Call
+inside-returns-in-Call g t c = λ scope need.
+    let m = enclosing_of c.args.enclosing in
+    let one = Argument c.in-Call.field-1.items true in
+    let others = Argument c.in-Call.field-1.items false in
+    c.arguments.ensures scope one others
+    ∙ ap (found_from g.V.Visitor.violations (g.V.Visitor.found c.args.visitor.now)) (ap (λ us. arguments m scope one others (expr_trees us)) c.deref-in-Call.ensures.value
+    ∙ sym (ap (sites.inside m scope need) (ap expr_tree c.in-Call.is ∙ call_tree c.in-Call.field-0 c.in-Call.field-1 c.in-Call.all)))
+
+pub inside-returns-in-Send : goal.inside-returns-in-Send
+inside-returns-in-Send g t c = λ scope need.
+    let m = enclosing_of c.args.enclosing in
+    found_both g.V.Visitor.violations _ _ _ (sites.sites m scope Receiver (expr_tree c.in-Send.receiver.value)) (arguments m scope ANumber ANumber (expr_trees c.in-Send.all.items))
+    (rw c.deref-in-Send.ensures at c.expression-in-Send.ensures scope Receiver) (rw c.deref-in-Send-2.ensures.value at c.arguments-in-Send.ensures scope ANumber ANumber)
+    ∙ ap (found_from g.V.Visitor.violations (g.V.Visitor.found c.args.visitor.now)) (sym (ap (sites.inside m scope need) (ap expr_tree c.in-Send.is
+    ∙ send_tree c.in-Send.field-0 c.in-Send.field-1 c.in-Send.receiver c.in-Send.field-3 c.in-Send.all)))
+
+pub inside-returns-in-SendSuper : goal.inside-returns-in-SendSuper
+inside-returns-in-SendSuper g t c = λ scope need.
+    let m = enclosing_of c.args.enclosing in
+    c.arguments-in-SendSuper.ensures scope ANumber ANumber
+    ∙ ap (found_from g.V.Visitor.violations (g.V.Visitor.found c.args.visitor.now)) (ap (λ us. arguments m scope ANumber ANumber (expr_trees us)) c.deref-in-SendSuper.ensures.value
+    ∙ sym (ap (sites.inside m scope need) (ap expr_tree c.in-SendSuper.is
+    ∙ send_super_tree c.in-SendSuper.field-0 c.in-SendSuper.field-1 c.in-SendSuper.field-2 c.in-SendSuper.field-3 c.in-SendSuper.all)))

@@ -1,0 +1,50 @@
+-- What a walk through sites finds.
+use Rattle.std.specs.Prelude.{◌≡◌, ℕ, List, [], ◌∷◌, ◌++◌, Option, Some, None, option_map}
+use Rattle.arc_ast.specs.Tree.{expr_tree, variable_tree, stmt_tree, type_tree, function_tree, head_tree, ParameterTree}
+use Rattle.arc_ast.specs.declared.tree.Parameter as tree
+use Rattle.arc_sites.specs.declared.violation.Violation.{Violation}
+use Rattle.arc_sites.specs.declared.message.Message as code_message
+use Rattle.arc_sites.specs.declared.node.Enclosing as code_enclosing
+use Rattle.arc_sites.specs.declared.node.Enclosing.TheVariants as e
+use Rattle.arc_sites.specs.declared.node.Node as code_node
+use Rattle.arc_sites.specs.declared.node.Node.TheVariants as n
+use Rattle.arc_sites.specs.Violations.{first, earlier_of}
+use Rattle.arc_sites.specs.Sites.{Enclosing, InFunction, InMethod, InInterface, Around, Scope, Need, Node, Value, Statement, Variable, Parameter, Function, Declared, Defined, Site}
+use Rattle.arc_sites.specs.Messages.{Message}
+
+-- ---- what the code has of a node, without where it lies in memory
+
+abbrev pub enclosing_of : code_enclosing.Enclosing → Enclosing
+enclosing_of (e.Function f) = InFunction (function_tree f.now)
+enclosing_of (e.Method class head) = InMethod class.now.name.items (head_tree head.now)
+enclosing_of (e.Interface class) = InInterface class.now.name.items
+
+abbrev pub parameter_tree : tree.Parameter → ParameterTree
+parameter_tree p = record { at = p.at; name = p.name.items }
+
+abbrev pub node_of : code_node.Node → Node
+node_of (n.Value a) = Value (expr_tree a.now)
+node_of (n.Statement a) = Statement (stmt_tree a.now)
+node_of (n.Variable type v) = Variable (type_tree type.now) (variable_tree v.now)
+node_of (n.Parameter p) = Parameter (parameter_tree p.now)
+node_of (n.Function f) = Function (function_tree f.now)
+node_of (n.Declared h) = Declared (head_tree h.now)
+node_of (n.Defined h) = Defined (head_tree h.now)
+
+abbrev pub message_of : code_message.Message → Message
+message_of m = record { part = m.part; receiver = option_map (λ a. expr_tree a.now) m.receiver; selector = m.selector.now }
+
+abbrev pub around : Enclosing → Scope → Need → Around
+around m s need = record { enclosing = m; scope = s; need = need }
+
+-- ---- rules, each of which says what is violated at a site
+
+-- all that is violated at some sites
+abbrev pub violations_of : (Around → Node → List Violation) → List Site → List Violation
+violations_of rules [] = []
+violations_of rules (x ∷ others) = rules x.around x.node ++ violations_of rules others
+
+-- what is found first at some sites, where this was found before
+abbrev pub found_from : (Around → Node → List Violation) → Option Violation → List Site → Option Violation
+found_from rules before [] = before
+found_from rules before (x ∷ others) = found_from rules (earlier_of before (first (rules x.around x.node))) others

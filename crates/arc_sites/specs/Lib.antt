@@ -1,0 +1,4 @@
+pub mod Violations
+pub mod Sites
+pub mod Messages
+pub mod Finding

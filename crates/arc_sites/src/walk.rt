@@ -1,0 +1,246 @@
+//! A walk through all sites of a source.
+ghost use Rattle.std.specs.Prelude.{◌≡◌, List, Option, flat_map, option_map};
+ghost use Rattle.arc_ast.specs.Tree.{expr_tree, expr_trees, variable_trees, type_tree, stmt_tree, stmt_trees, parameter_trees, parameters_tree, function_tree, function_trees, head_trees, method_tree, method_trees, interface_tree, interface_trees, implementation_tree, implementation_trees, unit_tree};
+ghost use Rattle.arc_sites.specs.Violations.{first, earlier_of};
+ghost use Rattle.arc_sites.specs.Sites as sites;
+ghost use Rattle.arc_sites.specs.Sites.{Scope, Need};
+ghost use Rattle.arc_sites.specs.Finding.{enclosing_of, node_of, around, found_from};
+
+use crate::node::{Enclosing, Node};
+use arc_ast::tree::{
+    Expr, Function, Implementation, Interface, Method, MethodHead, Parameter, Parameters, Stmt,
+    TranslationUnit, TypeName, Variable,
+};
+
+/// What looks at each site of a source for violations of some rules.
+pub trait Visitor {
+    ghost use Rattle.arc_sites.specs.declared.violation.Violation.{Violation};
+    ghost use Rattle.arc_sites.specs.Sites as sites;
+
+    /// What the rules say of a site.
+    ghost violations: { sites.Around → sites.Node → List Violation };
+
+    /// The first violation that it has found.
+    ghost found: { Self → Option Violation };
+
+    /// Looks at a site. The rules ask nothing of scopes and needs.
+    fn visit(&mut self, enclosing: Enclosing, node: Node)
+        ensures { (scope : sites.Scope) (need : sites.Need) → found self.new ≡ earlier_of (found self.old) (first (violations (around (enclosing_of enclosing.entry) scope need) (node_of node.entry))) };
+}
+
+/// Visits an expression, and first what is inside it.
+#[cycle(expressions)]
+fn expression<V: Visitor>(visitor: &mut V, enclosing: Enclosing, expr: &Expr)
+    ensures { (scope : Scope) (need : Need) → V.found visitor.new ≡ found_from V.violations (V.found visitor.old) (sites.sites (enclosing_of enclosing.entry) scope need (expr_tree expr.now)) }
+{
+    inside(visitor, enclosing, expr);
+    visitor.visit(enclosing, Node::Value(expr));
+}
+
+/// Visits what is inside an expression.
+#[cycle(expressions)]
+fn inside<V: Visitor>(visitor: &mut V, enclosing: Enclosing, expr: &Expr)
+    ensures { (scope : Scope) (need : Need) → V.found visitor.new ≡ found_from V.violations (V.found visitor.old) (sites.inside (enclosing_of enclosing.entry) scope need (expr_tree expr.now)) }
+{
+    match expr {
+        Expr::Integer(_, _)
+        | Expr::Text(_, _)
+        | Expr::Nil(_)
+        | Expr::Itself(_)
+        | Expr::Name(_, _) => {}
+        Expr::Paren(_, operand) => expression(visitor, enclosing, operand),
+        Expr::Call(_, _, all) => arguments(visitor, enclosing, all),
+        Expr::Negate(_, operand) => expression(visitor, enclosing, operand),
+        Expr::Plus(_, operand) => expression(visitor, enclosing, operand),
+        Expr::Cast(_, _, operand) => expression(visitor, enclosing, operand),
+        Expr::Arrow(_, _, object, _) => expression(visitor, enclosing, object),
+        Expr::Binary(_, _, left, right) => {
+            expression(visitor, enclosing, left);
+            expression(visitor, enclosing, right);
+        }
+        Expr::Assign(_, _, left, right) => {
+            expression(visitor, enclosing, left);
+            expression(visitor, enclosing, right);
+        }
+        Expr::Send(_, _, receiver, _, all) => {
+            expression(visitor, enclosing, receiver);
+            arguments(visitor, enclosing, all);
+        }
+        Expr::SendSuper(_, _, _, _, all) => arguments(visitor, enclosing, all),
+    }
+}
+
+/// Visits arguments.
+#[cycle(expressions)]
+fn arguments<V: Visitor>(visitor: &mut V, enclosing: Enclosing, all: &[Expr])
+    ensures { (scope : Scope) (one others : Need) → V.found visitor.new ≡ found_from V.violations (V.found visitor.old) (sites.arguments (enclosing_of enclosing.entry) scope one others (expr_trees all.now)) }
+{
+    for argument in all {
+        expression(visitor, enclosing, argument);
+    }
+}
+
+/// Visits an expression, if there is one.
+fn maybe<V: Visitor>(visitor: &mut V, enclosing: Enclosing, expr: &Option<Expr>)
+    ensures { (scope : Scope) (need : Need) → V.found visitor.new ≡ found_from V.violations (V.found visitor.old) (sites.maybe_sites (enclosing_of enclosing.entry) scope need (option_map expr_tree expr.now)) }
+{
+    if let Some(expr) = expr {
+        expression(visitor, enclosing, expr);
+    }
+}
+
+/// Visits a declaration's variables.
+fn variables<V: Visitor>(
+    visitor: &mut V,
+    enclosing: Enclosing,
+    type_name: &TypeName,
+    all: &[Variable],
+)
+    ensures { (scope : Scope) → V.found visitor.new ≡ found_from V.violations (V.found visitor.old) (sites.variable_sites (enclosing_of enclosing.entry) (type_tree type_name.now) scope (variable_trees all.now)) }
+{
+    for variable in all {
+        visitor.visit(enclosing, Node::Variable(type_name, variable));
+        maybe(visitor, enclosing, &variable.initial);
+    }
+}
+
+/// Visits a statement, and then what is inside it.
+#[cycle(statements)]
+fn statement<V: Visitor>(visitor: &mut V, enclosing: Enclosing, stmt: &Stmt)
+    ensures { (scope : Scope) → V.found visitor.new ≡ found_from V.violations (V.found visitor.old) (sites.stmt_sites (enclosing_of enclosing.entry) scope (stmt_tree stmt.now)) }
+{
+    visitor.visit(enclosing, Node::Statement(stmt));
+    within(visitor, enclosing, stmt);
+}
+
+/// Visits what is inside a statement.
+#[cycle(statements)]
+fn within<V: Visitor>(visitor: &mut V, enclosing: Enclosing, stmt: &Stmt)
+    ensures { (scope : Scope) → V.found visitor.new ≡ found_from V.violations (V.found visitor.old) (sites.within (enclosing_of enclosing.entry) scope (stmt_tree stmt.now)) }
+{
+    match stmt {
+        Stmt::Block(_, all) => statements(visitor, enclosing, all),
+        Stmt::Empty(_) => {}
+        Stmt::Expr(expr) => expression(visitor, enclosing, expr),
+        Stmt::Return(_, expr) => maybe(visitor, enclosing, expr),
+        Stmt::Variables(_, type_name, all) => variables(visitor, enclosing, type_name, all),
+        Stmt::If(_, test, then) => {
+            expression(visitor, enclosing, test);
+            statement(visitor, enclosing, then);
+        }
+        Stmt::IfElse(_, test, then, other) => {
+            expression(visitor, enclosing, test);
+            statement(visitor, enclosing, then);
+            statement(visitor, enclosing, other);
+        }
+        Stmt::While(_, test, body) => {
+            expression(visitor, enclosing, test);
+            statement(visitor, enclosing, body);
+        }
+    }
+}
+
+/// Visits the statements of a block.
+#[cycle(statements)]
+fn statements<V: Visitor>(visitor: &mut V, enclosing: Enclosing, all: &[Stmt])
+    ensures { (scope : Scope) → V.found visitor.new ≡ found_from V.violations (V.found visitor.old) (sites.all_sites (enclosing_of enclosing.entry) scope (stmt_trees all.now)) }
+{
+    for stmt in all {
+        statement(visitor, enclosing, stmt);
+    }
+}
+
+/// Visits the parameters of a body.
+fn parameters<V: Visitor>(visitor: &mut V, enclosing: Enclosing, all: &[Parameter])
+    ensures { (scope : Scope) → V.found visitor.new ≡ found_from V.violations (V.found visitor.old) (sites.parameter_sites (enclosing_of enclosing.entry) scope (parameter_trees all.now)) }
+{
+    for parameter in all {
+        visitor.visit(enclosing, Node::Parameter(parameter));
+    }
+}
+
+/// The parameters that have names in a body.
+fn named_parameters(all: &Parameters) -> &[Parameter]
+    ensures { parameter_trees result.now ≡ sites.named_parameters (parameters_tree all.now) }
+{
+    match all {
+        Parameters::Ints(all) => all,
+        Parameters::CountAndTexts => &[],
+    }
+}
+
+/// Visits a function.
+fn function<V: Visitor>(visitor: &mut V, function: &Function)
+    ensures { V.found visitor.new ≡ found_from V.violations (V.found visitor.old) (sites.function_sites (function_tree function.now)) }
+{
+    let enclosing = Enclosing::Function(function);
+    visitor.visit(enclosing, Node::Function(function));
+    if let Some(body) = &function.body {
+        parameters(visitor, enclosing, named_parameters(&function.parameters));
+        statements(visitor, enclosing, body);
+    }
+}
+
+/// Visits some functions.
+fn functions<V: Visitor>(visitor: &mut V, all: &[Function])
+    ensures { V.found visitor.new ≡ found_from V.violations (V.found visitor.old) (flat_map sites.function_sites (function_trees all.now)) }
+{
+    for one in all {
+        function(visitor, one);
+    }
+}
+
+/// Visits the methods that an interface declares.
+fn heads<V: Visitor>(visitor: &mut V, interface: &Interface, all: &[MethodHead])
+    ensures { V.found visitor.new ≡ found_from V.violations (V.found visitor.old) (flat_map (sites.head_sites interface.now.name.items) (head_trees all.now)) }
+{
+    for head in all {
+        visitor.visit(Enclosing::Interface(interface), Node::Declared(head));
+    }
+}
+
+/// Visits some interfaces.
+fn interfaces<V: Visitor>(visitor: &mut V, all: &[Interface])
+    ensures { V.found visitor.new ≡ found_from V.violations (V.found visitor.old) (flat_map sites.interface_sites (interface_trees all.now)) }
+{
+    for interface in all {
+        heads(visitor, interface, &interface.methods);
+    }
+}
+
+/// Visits a method that an implementation defines.
+fn method<V: Visitor>(visitor: &mut V, implementation: &Implementation, method: &Method)
+    ensures { V.found visitor.new ≡ found_from V.violations (V.found visitor.old) (sites.method_sites implementation.now.name.items (method_tree method.now)) }
+{
+    let enclosing = Enclosing::Method(implementation, &method.head);
+    visitor.visit(enclosing, Node::Defined(&method.head));
+    parameters(visitor, enclosing, &method.head.parameters);
+    statements(visitor, enclosing, &method.body);
+}
+
+/// Visits the methods that an implementation defines.
+fn methods<V: Visitor>(visitor: &mut V, implementation: &Implementation, all: &[Method])
+    ensures { V.found visitor.new ≡ found_from V.violations (V.found visitor.old) (flat_map (sites.method_sites implementation.now.name.items) (method_trees all.now)) }
+{
+    for one in all {
+        method(visitor, implementation, one);
+    }
+}
+
+/// Visits some implementations.
+fn implementations<V: Visitor>(visitor: &mut V, all: &[Implementation])
+    ensures { V.found visitor.new ≡ found_from V.violations (V.found visitor.old) (flat_map sites.implementation_sites (implementation_trees all.now)) }
+{
+    for implementation in all {
+        methods(visitor, implementation, &implementation.methods);
+    }
+}
+
+/// Visits each site of a source.
+pub fn walk<V: Visitor>(visitor: &mut V, unit: &TranslationUnit)
+    ensures { V.found visitor.new ≡ found_from V.violations (V.found visitor.old) (sites.unit_sites (unit_tree unit.now)) }
+{
+    functions(visitor, &unit.functions);
+    interfaces(visitor, &unit.interfaces);
+    implementations(visitor, &unit.implementations);
+}
