@@ -50,7 +50,7 @@ module _ (P : Program) (base : Height) where
   ends_step a b x xs n m u v first next = ap (λ h. last_height P base h xs) first ∙ next
 
   -- an operation and those behind it
-  plain_step : (a b : ℕ) (o : Op) (xs : List Order) (n m u v : ℕ) → a - (operation_effect o).numbers_taken + (operation_effect o).numbers_given ≡ n → b - (operation_effect o).places_taken + (operation_effect o).places_given ≡ m → Ends n m xs u v → Ends a b (Plain o ∷ xs) u v
+  pub plain_step : (a b : ℕ) (o : Op) (xs : List Order) (n m u v : ℕ) → a - (operation_effect o).numbers_taken + (operation_effect o).numbers_given ≡ n → b - (operation_effect o).places_taken + (operation_effect o).places_given ≡ m → Ends n m xs u v → Ends a b (Plain o ∷ xs) u v
   plain_step a b o xs n m u v e f next = ends_step a b (Plain o) xs n m u v (heights_same _ _ n m e f) next
 
   pub plain_ends : (a b : ℕ) (o : Op) (n m : ℕ) → a - (operation_effect o).numbers_taken + (operation_effect o).numbers_given ≡ n → b - (operation_effect o).places_taken + (operation_effect o).places_given ≡ m → Ends a b (Plain o ∷ []) n m
@@ -242,7 +242,7 @@ module _ (P : Program) (base : Height) where
 
 module _ (P : Program) (slots names : ℕ) where
   -- between two statements there are the variables
-  abbrev between : Height
+  abbrev pub between : Height
   between = height slots names
 
   -- orders that leave what is between two statements

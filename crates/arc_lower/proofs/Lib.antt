@@ -28,9 +28,13 @@ mod Finding
 mod Calling
 mod Rising
 mod HeightsEnd
+mod Straight
+mod HeightsFollow
+mod HeightsFit
 mod Safety
 mod Staying
 mod Leaving
 mod Sounding
+mod Roomless
 mod Transferring
 mod Whole

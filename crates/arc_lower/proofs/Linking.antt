@@ -93,7 +93,7 @@ numbered_by : (R : resolved.Program) (f : ℕ) (b : Bool) → nat_lt f (length R
 numbered_by R f true e = in_list R.functions R.main R.classes f (ltb-true f (length R.functions) e)
 numbered_by R f false e = last_one R.functions ∙ ap Some (out_of_list R.functions R.main R.classes f (ltb-false f (length R.functions) e))
 
-numbered : (R : resolved.Program) (f : ℕ) → slice_get (all_functions R) (number_of R f) ≡ Some (function_at R f)
+pub numbered : (R : resolved.Program) (f : ℕ) → slice_get (all_functions R) (number_of R f) ≡ Some (function_at R f)
 numbered R f = numbered_by R f (nat_lt f (length R.functions)) refl
 
 get_index : (list : List ℕ) (n x : ℕ) → slice_get list n ≡ Some x → slice_index_or list n 0 ≡ x

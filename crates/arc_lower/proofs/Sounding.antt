@@ -11,8 +11,9 @@ use Rattle.arc_spec.specs.Stepping.{Goes, Faults, Along, on_top}
 use Rattle.arc_ir.specs.Acting.{Program, has_level, enters, answers, begins_end, runs_dealloc, ends_class, end_goes_on, leaves, IsSound}
 use Rattle.arc_code.specs.declared.instr.Op.TheVariants.{Forget}
 use Rattle.arc_code.specs.declared.instr.Instr.TheVariants.{Plain, Jump, Call, Return, EndStep}
+use Rattle.arc_code.specs.Effects.{passes}
 use Rattle.arc_lower.specs.Order.{orders}
-use Rattle.arc_lower.specs.Lowered.{number_of, slots_of, passes, pop_orders, keep_orders, zero_orders, all_empty_orders, leave_orders, body_orders, entry_of, entries_of, end_step_of, start_orders, all_functions, lowered, classes_linked, room_of}
+use Rattle.arc_lower.specs.Lowered.{number_of, slots_of, pop_orders, keep_orders, zero_orders, all_empty_orders, leave_orders, body_orders, entry_of, entries_of, end_step_of, start_orders, all_functions, lowered, classes_linked, room_of}
 use Rattle.arc_lower.proofs.CountsThere.{set_here}
 use Rattle.arc_lower.proofs.CountsSound.{SafeIfSane, sound_if_sane}
 use Rattle.arc_lower.proofs.Recounting.{at}

@@ -3,8 +3,9 @@ use Rattle.std.proofs.Common.{◌≡◌, ℕ, List, [], ◌∷◌, ◌++◌, len
 use Rattle.arc_spec.specs.declared.class.Method.{Method}
 use Rattle.arc_spec.specs.Classes.{Class}
 use Rattle.arc_spec.specs.Resolved.{Program}
+use Rattle.arc_code.specs.Effects.{passes}
 use Rattle.arc_lower.specs.Order.{Order}
-use Rattle.arc_lower.specs.Lowered.{passes, stub_orders, methods_orders, class_orders, classes_orders, linked_methods, linked_class, linked_classes}
+use Rattle.arc_lower.specs.Lowered.{stub_orders, methods_orders, class_orders, classes_orders, linked_methods, linked_class, linked_classes}
 
 abbrev running_at : Method → (place : ℕ) → Method
 running_at m place = record { sign = m.sign; selector = m.selector; takes = m.takes; runs = place }

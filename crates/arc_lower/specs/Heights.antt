@@ -1,5 +1,5 @@
 -- How many numbers and places of the running function there are at most before each action of a program, by the effects of those before it; and the greatest of them.
-use Rattle.std.specs.Prelude.{ℕ, suc, ◌+◌, ◌-◌, max, List, [], ◌∷◌, ◌++◌, length, Option, Some, None}
+use Rattle.std.specs.Prelude.{ℕ, suc, ◌+◌, ◌-◌, max, List, [], ◌∷◌, ◌++◌, length, get_or, Option, Some, None}
 use Rattle.arc_spec.specs.Resolved.{Function, Program}
 use Rattle.arc_spec.specs.declared.class.Method.{Method}
 use Rattle.arc_spec.specs.Classes.{Class}
@@ -78,3 +78,13 @@ lowered_heights P = (start_heights P ++ functions_heights P (length (start_order
 -- the greatest number of numbers, and of places, that a function has
 abbrev pub greatest_height : Program → Height
 greatest_height P = greatest (lowered_heights P) (height 0 0)
+
+-- the heights of a program as tables; there are none behind its actions
+abbrev pub height_at : Program → ℕ → Height
+height_at P pc = get_or (lowered_heights P) pc (height 0 0)
+
+abbrev pub numbers_at : Program → ℕ → ℕ
+numbers_at P pc = (height_at P pc).numbers
+
+abbrev pub places_at : Program → ℕ → ℕ
+places_at P pc = (height_at P pc).places

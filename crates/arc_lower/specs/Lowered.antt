@@ -3,8 +3,6 @@
 -- temporaries of the full-expression stand above them.
 use Rattle.std.specs.Prelude.{ℕ, zero, suc, pred, ◌+◌, ◌-◌, ◌*◌, ◌/◌, max, nat_lt, if◌then◌else◌, pos, List, [], ◌∷◌, ◌++◌, length, take, drop, slice_index_or, Option, Some, None}
 use Rattle.arc_ast.specs.declared.tree.Kind.TheVariants as k
-use Rattle.arc_ast.specs.declared.tree.Sign.{Sign}
-use Rattle.arc_ast.specs.declared.tree.Sign.TheVariants as signs
 use Rattle.arc_spec.specs.Resolved.{Piece, Bytes, Decimal, Character, Value, Number, ReadByte, Print, Negated, Combined, Converted, Local, Assigned, Invoked, Sent, SentSuper, SentTo, SentToSuper, Field, FieldAssigned, Reference, Itself, Variable, Stored, Made, Initialized, Values, no_values, and_value, Command, Sequence, Evaluate, EvaluateReference, Begin, Choose, Repeat, Commands, no_commands, and_command, Function, Program}
 use Rattle.arc_spec.specs.Resolved as resolved
 use Rattle.arc_spec.specs.declared.class.Method.{Method}
@@ -12,6 +10,7 @@ use Rattle.arc_spec.specs.Classes.{Class}
 use Rattle.arc_spec.specs.Meaning.{function_at, most_levels}
 use Rattle.arc_code.specs.declared.instr.Op.TheVariants.{Num, Bin, Un, Narrow, Pop, Get, Set, PrintNum, PrintByte, GetChar, Nil, HoldSelf, Hold, Forget, Alloc, GetField, SetField, Differ, IsObject}
 use Rattle.arc_code.specs.declared.instr.Instr.TheVariants.{Plain, PrintText, Jump, JumpZero, Call, Send, SendSuper, Return, StoreStrong, Drop, Empty, SendTo, SendToSuper, EndStep}
+use Rattle.arc_code.specs.Effects.{passes}
 use Rattle.arc_lower.specs.Order.{Order}
 
 abbrev pub value_count : Values → ℕ
@@ -297,11 +296,6 @@ end_step_of P = slots_of P P.main + 2
 
 abbrev pub entries_of : Program → List ℕ
 entries_of P = entries_from P (length (start_orders P)) (all_functions P)
-
--- how many numbers a message with so many arguments passes: one to a class passes the class, too
-abbrev pub passes : Sign → (takes : ℕ) → ℕ
-passes signs.Class takes = suc takes
-passes signs.Instance takes = takes
 
 -- A stub, to which a message goes, or the end of an object: it makes so many numbers the variables of a function, and goes on where that is entered.
 abbrev pub stub_orders : Program → (entries : List ℕ) → (values f : ℕ) → List Order

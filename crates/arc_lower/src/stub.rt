@@ -2,8 +2,9 @@
 ghost use Rattle.std.specs.Prelude.{◌≡◌, ◌++◌, length, slice_index_or, OnOk, IfOk};
 ghost use Rattle.arc_spec.specs.Classes.{class_of, classes_of};
 ghost use Rattle.arc_check.specs.Checked.{program_of};
+ghost use Rattle.arc_code.specs.Effects.{passes};
 ghost use Rattle.arc_lower.specs.Order.{orders};
-ghost use Rattle.arc_lower.specs.Lowered.{passes, stub_orders, methods_orders, dealloc_orders, class_orders, classes_orders, linked_methods, linked_dealloc, linked_class, linked_classes};
+ghost use Rattle.arc_lower.specs.Lowered.{stub_orders, methods_orders, dealloc_orders, class_orders, classes_orders, linked_methods, linked_dealloc, linked_class, linked_classes};
 
 use crate::call::{append_fit, number_of, slots_of};
 use crate::expression::append;
