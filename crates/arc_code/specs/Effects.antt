@@ -10,13 +10,7 @@ use Rattle.arc_code.specs.declared.instr.Op.TheVariants.{Num, Bin, Un, Narrow, P
 use Rattle.arc_code.specs.declared.instr.Instr.{Instr}
 use Rattle.arc_code.specs.declared.instr.Instr.TheVariants.{Plain, PrintText, Jump, JumpZero, Call, Send, SendSuper, SendTo, SendToSuper, Return, StoreStrong, Drop, Empty, EndStep}
 use Rattle.arc_code.specs.Instructions.{Program, State, start, step}
-
--- how many numbers are taken from the stack and then put on it, and how many of the last places are forgotten and then made
-pub record Effect : Type 0 where
-  pub numbers_taken : ℕ
-  pub numbers_given : ℕ
-  pub places_taken : ℕ
-  pub places_given : ℕ
+pub use Rattle.arc_code.specs.declared.effect.Effect.{Effect}
 
 -- what leaves the places as they are
 abbrev pub on_numbers : (taken given : ℕ) → Effect

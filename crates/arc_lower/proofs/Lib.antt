@@ -13,6 +13,7 @@ mod Weights
 mod Callees
 mod Patching
 mod Laying
+mod Appended
 mod Stubbing
 mod Leading
 mod Behaving

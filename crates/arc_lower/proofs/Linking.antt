@@ -10,10 +10,17 @@ use Rattle.arc_ir.specs.Acting as acting
 use Rattle.arc_ir.specs.Acting.{Program, has_level, enters, step}
 use Rattle.arc_code.specs.declared.instr.Instr.TheVariants.{Call, Return, EndStep}
 use Rattle.arc_lower.specs.Order.{Order, orders}
-use Rattle.arc_lower.specs.Lowered.{nothing, all_functions, number_of, slots_of, zero_orders, end_step_of, entry_of, function_orders, functions_orders, entries_from, longest_from, start_orders, running_orders, lowered, entries_of, classes_orders}
+use Rattle.arc_lower.specs.Lowered.{nothing, all_functions, number_of, slots_of, zero_orders, end_step_of, entry_of, function_orders, functions_orders, entries_from, start_orders, running_orders, lowered, entries_of, classes_orders}
 use Rattle.arc_lower.proofs.Rows.{zeros_length}
 use Rattle.arc_lower.proofs.Recounting.{at}
 use Rattle.arc_lower.proofs.Doing.{HasAt, has_front, has_back, has_all}
+
+-- how many actions the longest of these functions has, or this number, where that is more
+abbrev longest_from : resolved.Program → (place : ℕ) → List Function → (so_far : ℕ) → ℕ
+longest_from R place [] so_far = so_far
+longest_from R place (f ∷ others) so_far =
+    let size = length (function_orders R place f) in
+    longest_from R (place + size) others (max so_far size)
 
 -- how many actions the longest function has, or the start
 abbrev pub longest : resolved.Program → ℕ

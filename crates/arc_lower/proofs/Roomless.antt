@@ -1,6 +1,7 @@
 -- What a program does doesn't depend on its rooms. So where it is sound with ample ones, it is never stuck and its counts are right with any; and it is sound with those that its heights ask for.
-use Rattle.std.proofs.Common.{◌≡◌, ℕ, zero, suc, ◌≤◌, Option, Some, None, refl, subst, slice_get}
+use Rattle.std.proofs.Common.{◌≡◌, ℕ, zero, suc, ◌*◌, ◌≤◌, Option, Some, None, refl, subst, slice_get}
 use Rattle.arc_spec.specs.Resolved as resolved
+use Rattle.arc_spec.specs.Meaning.{most_levels}
 use Rattle.arc_spec.specs.Holding.{Counted}
 use Rattle.arc_spec.specs.Stepping.{Next, Goes, Asks, Ends, Faults, Stuck, Along, Safe, Sound}
 use Rattle.arc_code.specs.declared.instr.Instr.TheVariants.{Plain, PrintText, Jump, JumpZero, Call, Send, SendSuper, SendTo, SendToSuper, Return, StoreStrong, Drop, Empty, EndStep}
@@ -8,8 +9,9 @@ use Rattle.arc_code.specs.Effects.{room_for, NeverHasMore}
 use Rattle.arc_code.proofs.HeightsKept.{never_more, sound_with_room}
 use Rattle.arc_ir.specs.Acting.{Action, Program, State, start, linked, executes, step, Fits, IsSound}
 use Rattle.arc_lower.specs.Order.{orders}
-use Rattle.arc_lower.specs.Lowered.{lowered, entries_of, end_step_of, classes_linked, room_of}
+use Rattle.arc_lower.specs.Lowered.{lowered, entries_of, end_step_of, classes_linked}
 use Rattle.arc_lower.specs.Heights.{greatest_height, numbers_at, places_at}
+use Rattle.arc_lower.proofs.Linking.{longest}
 use Rattle.arc_lower.proofs.Sounding.{lowered_sound}
 use Rattle.arc_lower.proofs.HeightsFit.{heights_fit}
 
@@ -56,8 +58,9 @@ module _ (p : Program) (R : resolved.Program) (is : orders p.actions ≡ lowered
   -- never stuck, whatever the rooms are
   counts_sound : p.end_step ≡ end_step_of R → Sound (step p) (λ s. Counted s.held) start
   counts_sound end =
-      let ample = lowered_sound (roomed p (room_of R) (room_of R)) R is entries classes end refl refl in
-      record { safe = λ n. safe_anyway p (room_of R) (room_of R) n start (ample.safe n) }
+      let room = most_levels * longest R in
+      let ample = lowered_sound (roomed p room room) R is entries classes end refl refl in
+      record { safe = λ n. safe_anyway p room room n start (ample.safe n) }
 
   -- sound with these rooms
   pub room_suffices : p.end_step ≡ end_step_of R → room_for (greatest_height R).numbers ≤ p.room → room_for (greatest_height R).places ≤ p.places → IsSound p

@@ -4,13 +4,10 @@ use Rattle.arc_spec.specs.Resolved.{Function, Program}
 use Rattle.arc_spec.specs.declared.class.Method.{Method}
 use Rattle.arc_spec.specs.Classes.{Class}
 use Rattle.arc_code.specs.declared.instr.Instr.TheVariants.{Jump, Call, Return}
-use Rattle.arc_code.specs.Effects.{effect, passes}
+use Rattle.arc_code.specs.Effects.{Effect, effect, passes, room_for}
+pub use Rattle.arc_lower.specs.declared.height.Height.{Height}
 use Rattle.arc_lower.specs.Order.{Order}
 use Rattle.arc_lower.specs.Lowered.{all_functions, slots_of, start_orders, function_orders, stub_orders, entries_of}
-
-pub record Height : Type 0 where
-  pub numbers : ℕ
-  pub places : ℕ
 
 abbrev pub height : (numbers places : ℕ) → Height
 height numbers places = record { numbers = numbers; places = places }
@@ -23,12 +20,16 @@ abbrev pub numbers_taken : Program → Order → ℕ
 numbers_taken P (Call f) = slots_of P f
 numbers_taken P x = (effect x).numbers_taken
 
+-- the height once so many numbers are taken, and as many places as an effect takes, and what it gives is there
+abbrev pub after_effect : Height → (taken : ℕ) → Effect → Height
+after_effect h taken e = height (h.numbers - taken + e.numbers_given) (h.places - e.places_taken + e.places_given)
+
 -- The height before the next action. What stands behind a jump is reached from elsewhere, between two statements, and what stands behind a return is where the
 -- function is entered.
 abbrev pub next_height : Program → (base : Height) → Order → Height → Height
 next_height P base (Jump to) h = base
 next_height P base Return h = height base.numbers 0
-next_height P base x h = height (h.numbers - numbers_taken P x + (effect x).numbers_given) (h.places - (effect x).places_taken + (effect x).places_given)
+next_height P base x h = after_effect h (numbers_taken P x) (effect x)
 
 -- the heights before each of these actions, of which the first is at this one, in a function that has so many numbers and places between two statements
 abbrev pub heights : Program → (base : Height) → Height → List Order → List Height
@@ -67,9 +68,12 @@ abbrev pub dealloc_heights : Program → (entries : List ℕ) → Option ℕ →
 dealloc_heights P entries None = []
 dealloc_heights P entries (Some f) = stub_heights P entries 0 f
 
+abbrev pub class_heights : Program → (entries : List ℕ) → Class → List Height
+class_heights P entries c = dealloc_heights P entries c.dealloc ++ methods_heights P entries c.methods
+
 abbrev pub classes_heights : Program → (entries : List ℕ) → List Class → List Height
 classes_heights P entries [] = []
-classes_heights P entries (c ∷ others) = (dealloc_heights P entries c.dealloc ++ methods_heights P entries c.methods) ++ classes_heights P entries others
+classes_heights P entries (c ∷ others) = class_heights P entries c ++ classes_heights P entries others
 
 -- the heights of all actions of a program, in their order
 abbrev pub lowered_heights : Program → List Height
@@ -78,6 +82,13 @@ lowered_heights P = (start_heights P ++ functions_heights P (length (start_order
 -- the greatest number of numbers, and of places, that a function has
 abbrev pub greatest_height : Program → Height
 greatest_height P = greatest (lowered_heights P) (height 0 0)
+
+-- the room for all calls and ends of objects that may run within one another, each at the greatest height
+abbrev pub room_of : Program → ℕ
+room_of P = room_for (greatest_height P).numbers
+
+abbrev pub places_of : Program → ℕ
+places_of P = room_for (greatest_height P).places
 
 -- the heights of a program as tables; there are none behind its actions
 abbrev pub height_at : Program → ℕ → Height

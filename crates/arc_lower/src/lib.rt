@@ -4,6 +4,7 @@
 mod call;
 mod expression;
 mod frame;
+pub mod height;
 pub mod law;
 pub mod lower;
 mod place;
