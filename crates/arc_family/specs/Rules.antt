@@ -24,7 +24,7 @@ is_manual selector =
 -- a definition and a message; that a declaration is refused too is this project's own choice.
 abbrev pub rule_61 : Around → Node → Option ℕ
 rule_61 s (Declared h) = at_if (is_manual h.selector) h.at
-rule_61 s (Defined h) = at_if (is_manual h.selector) h.at
+rule_61 s (Defined m) = at_if (is_manual m.head.selector) m.head.at
 rule_61 s (Value a) = sends (λ m. is_manual m.selector) a
 rule_61 s _ = None
 

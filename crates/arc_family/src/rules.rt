@@ -82,7 +82,7 @@ fn manual_memory(node: Node) -> Option<OwnFault>
 {
     match node {
         Node::Declared(head) => manual(&head.selector, head.at),
-        Node::Defined(head) => manual(&head.selector, head.at),
+        Node::Defined(method) => manual(&method.head.selector, method.head.at),
         Node::Value(expr) => match sent_message(expr) {
             Some(message) => manual(message.selector, message.part),
             None => None,

@@ -1,6 +1,6 @@
 -- What a walk through sites finds.
 use Rattle.std.specs.Prelude.{◌≡◌, ℕ, List, [], ◌∷◌, ◌++◌, Option, Some, None, option_map}
-use Rattle.arc_ast.specs.Tree.{expr_tree, variable_tree, stmt_tree, type_tree, function_tree, head_tree, ParameterTree}
+use Rattle.arc_ast.specs.Tree.{expr_tree, variable_tree, stmt_tree, type_tree, function_tree, head_tree, method_tree, ParameterTree}
 use Rattle.arc_ast.specs.declared.tree.Parameter as tree
 use Rattle.arc_sites.specs.declared.violation.Violation.{Violation}
 use Rattle.arc_sites.specs.declared.message.Message as code_message
@@ -29,7 +29,7 @@ node_of (n.Variable type v) = Variable (type_tree type.now) (variable_tree v.now
 node_of (n.Parameter p) = Parameter (parameter_tree p.now)
 node_of (n.Function f) = Function (function_tree f.now)
 node_of (n.Declared h) = Declared (head_tree h.now)
-node_of (n.Defined h) = Defined (head_tree h.now)
+node_of (n.Defined m) = Defined (method_tree m.now)
 
 abbrev pub message_of : code_message.Message → Message
 message_of m = record { part = m.part; receiver = option_map (λ a. expr_tree a.now) m.receiver; selector = m.selector.now }

@@ -26,8 +26,8 @@ pub record Scope : Type 0 where
   pub in_loop : Bool
 
 -- What an expression is needed for: nothing more, a test or the left side of `!=`, a number, an object, what goes with another expression (the right side of `=`
--- and of `!=`), the first value of a variable of a type, what the function or the method returns, what a message is sent to, and the first argument or another one
--- of a function with a name. An expression in parentheses is needed for what they are needed for.
+-- and of `!=`), the first value of a variable of a type, what the function or the method returns, what a message is sent to, without parentheses or in them, and
+-- the first argument or another one of a function with a name.
 pub data Need : Type 0 where
   Anything : Need
   AValue : Need
@@ -36,7 +36,7 @@ pub data Need : Type 0 where
   Like : ExprTree → Need
   Initial : TypeTree → Need
   Result : Need
-  Receiver : Need
+  Receiver : (bare : Bool) → Need
   Argument : (function : List ℕ) → (is_first : Bool) → Need
 
 pub record Around : Type 0 where
@@ -52,7 +52,7 @@ pub data Node : Type 0 where
   Parameter : ParameterTree → Node
   Function : FunctionTree → Node
   Declared : HeadTree → Node
-  Defined : HeadTree → Node
+  Defined : MethodTree → Node
 
 pub record Site : Type 0 where
   pub around : Around
@@ -104,6 +104,13 @@ abbrev pub right_need : BinaryOperator → ExprTree → Need
 right_need o.NotEqual left = Like left
 right_need _ left = ANumber
 
+-- An expression in parentheses is needed for what they are needed for; but no class is named there (OPL, "Class Names in Source Code"), and no format begins there
+-- (this project's own choice).
+abbrev pub in_parentheses : Need → Need
+in_parentheses (Receiver bare) = Receiver false
+in_parentheses (Argument function is_first) = Argument function false
+in_parentheses need = need
+
 -- the sites inside an expression that is needed for something, each one after those inside it
 abbrev mutual
   pub inside : Enclosing → Scope → Need → ExprTree → List Site
@@ -112,7 +119,7 @@ abbrev mutual
   inside m s need (Nil at) = []
   inside m s need (Itself at) = []
   inside m s need (Name at name) = []
-  inside m s need (Paren at a) = inside m s need a ++ value m s need a
+  inside m s need (Paren at a) = inside m s (in_parentheses need) a ++ value m s (in_parentheses need) a
   inside m s need (Call at name all) = arguments m s (Argument name true) (Argument name false) all
   inside m s need (Negate at a) = inside m s ANumber a ++ value m s ANumber a
   inside m s need (Plus at a) = inside m s ANumber a ++ value m s ANumber a
@@ -122,7 +129,7 @@ abbrev mutual
   inside m s need (Arrow at name_at a name) = inside m s AnObject a ++ value m s AnObject a
   inside m s need (Assign at sign a b) = (inside m s Anything a ++ value m s Anything a) ++ (inside m s (Like a) b ++ value m s (Like a) b)
   inside m s need (Send at part receiver selector all) =
-      (inside m s Receiver receiver ++ value m s Receiver receiver) ++ arguments m s ANumber ANumber all
+      (inside m s (Receiver true) receiver ++ value m s (Receiver true) receiver) ++ arguments m s ANumber ANumber all
   inside m s need (SendSuper at part super_at selector all) = arguments m s ANumber ANumber all
 
   -- the sites of arguments, where the first one and the others are needed for these
@@ -190,7 +197,7 @@ abbrev pub head_sites : (class : List ℕ) → HeadTree → List Site
 head_sites class h = site (InInterface class) outermost (Declared h)
 
 abbrev pub method_sites : (class : List ℕ) → MethodTree → List Site
-method_sites class m = site (InMethod class m.head) outermost (Defined m.head) ++ body_sites (InMethod class m.head) m.head.parameters (Some m.body)
+method_sites class m = site (InMethod class m.head) outermost (Defined m) ++ body_sites (InMethod class m.head) m.head.parameters (Some m.body)
 
 abbrev pub interface_sites : InterfaceTree → List Site
 interface_sites i = flat_map (head_sites i.name) i.methods

@@ -1,6 +1,7 @@
 //! The nodes of a tree, and what has them.
 use arc_ast::tree::{
-    Expr, Function, Implementation, Interface, MethodHead, Parameter, Stmt, TypeName, Variable,
+    Expr, Function, Implementation, Interface, Method, MethodHead, Parameter, Stmt, TypeName,
+    Variable,
 };
 
 /// What has a node.
@@ -25,5 +26,5 @@ pub enum Node<'a> {
     /// A method that an interface declares.
     Declared(&'a MethodHead),
     /// A method that an implementation defines.
-    Defined(&'a MethodHead),
+    Defined(&'a Method),
 }

@@ -213,7 +213,7 @@ fn method<V: Visitor>(visitor: &mut V, implementation: &Implementation, method: 
     ensures { V.found visitor.new ≡ found_from V.violations (V.found visitor.old) (sites.method_sites implementation.now.name.items (method_tree method.now)) }
 {
     let enclosing = Enclosing::Method(implementation, &method.head);
-    visitor.visit(enclosing, Node::Defined(&method.head));
+    visitor.visit(enclosing, Node::Defined(method));
     parameters(visitor, enclosing, &method.head.parameters);
     statements(visitor, enclosing, &method.body);
 }

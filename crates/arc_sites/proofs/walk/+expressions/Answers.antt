@@ -60,8 +60,8 @@ inside-returns-in-Call g t c = λ scope need.
 pub inside-returns-in-Send : goal.inside-returns-in-Send
 inside-returns-in-Send g t c = λ scope need.
     let m = enclosing_of c.args.enclosing in
-    found_both g.V.Visitor.violations _ _ _ (sites.sites m scope Receiver (expr_tree c.in-Send.receiver.value)) (arguments m scope ANumber ANumber (expr_trees c.in-Send.all.items))
-    (rw c.deref-in-Send.ensures at c.expression-in-Send.ensures scope Receiver) (rw c.deref-in-Send-2.ensures.value at c.arguments-in-Send.ensures scope ANumber ANumber)
+    found_both g.V.Visitor.violations _ _ _ (sites.sites m scope (Receiver true) (expr_tree c.in-Send.receiver.value)) (arguments m scope ANumber ANumber (expr_trees c.in-Send.all.items))
+    (rw c.deref-in-Send.ensures at c.expression-in-Send.ensures scope (Receiver true)) (rw c.deref-in-Send-2.ensures.value at c.arguments-in-Send.ensures scope ANumber ANumber)
     ∙ ap (found_from g.V.Visitor.violations (g.V.Visitor.found c.args.visitor.now)) (sym (ap (sites.inside m scope need) (ap expr_tree c.in-Send.is
     ∙ send_tree c.in-Send.field-0 c.in-Send.field-1 c.in-Send.receiver c.in-Send.field-3 c.in-Send.all)))
 

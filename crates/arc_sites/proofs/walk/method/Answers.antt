@@ -1,4 +1,4 @@
-use Rattle.arc_ast.specs.Tree.{stmt_trees, parameter_trees, head_tree}
+use Rattle.arc_ast.specs.Tree.{stmt_trees, parameter_trees, head_tree, method_tree}
 use Rattle.arc_sites.specs.Sites.{Anything, InMethod, Defined, outermost, with_parameters, site, parameter_sites, all_sites}
 use Rattle.arc_sites.proofs.Found.{found_three}
 use Rattle.arc_sites.proofs.walk.method.Goals as goal
@@ -9,5 +9,5 @@ returns g c =
     let m = InMethod c.args.implementation.now.name.items (head_tree head) in
     let named = parameter_trees head.parameters.items in
     let inside = with_parameters named outermost in
-    found_three g.V.Visitor.violations _ _ _ _ (site m outermost (Defined (head_tree head))) (parameter_sites m outermost named) (all_sites m inside (stmt_trees c.args.method.now.body.items))
+    found_three g.V.Visitor.violations _ _ _ _ (site m outermost (Defined (method_tree c.args.method.now))) (parameter_sites m outermost named) (all_sites m inside (stmt_trees c.args.method.now.body.items))
     (c.visit.ensures outermost Anything) (rw c.deref.ensures.value at c.parameters.ensures outermost) (rw c.deref-2.ensures.value at c.statements.ensures inside)
