@@ -4,5 +4,9 @@ pub mod Kinds
 pub mod Formats
 pub mod Scopes
 pub mod Rules
+pub mod Names
+pub mod SiteKinds
+pub mod SiteRules
+pub mod Sources
 pub mod Resolving
 pub mod private

@@ -10,6 +10,7 @@ pub mod fault;
 mod field;
 mod format;
 mod judge;
+pub mod law;
 mod message;
 mod method;
 mod program;
