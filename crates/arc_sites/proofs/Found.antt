@@ -5,7 +5,7 @@ use Rattle.arc_sites.specs.declared.violation.Violation.{Violation}
 use Rattle.arc_sites.specs.Violations.{first, earlier_of}
 use Rattle.arc_sites.specs.Sites.{Around, Node, Site}
 use Rattle.arc_sites.specs.Finding.{violations_of, found_from}
-use Rattle.arc_sites.proofs.Firsts.{first-append, earlier_of-assoc, earlier_of-none}
+use Rattle.arc_sites.proofs.Firsts.{first-append, earlier_of-assoc, earlier_of-comm, earlier_of-none}
 
 pub found-append : (rules : Around → Node → List Violation) (before : Option Violation) (xs ys : List Site) → found_from rules before (xs ++ ys) ≡ found_from rules (found_from rules before xs) ys
 found-append rules before [] ys = refl
@@ -22,6 +22,15 @@ found_is rules before (x ∷ xs) =
     found_is rules (earlier_of before (first (rules x.around x.node))) xs
     ∙ earlier_of-assoc before (first (rules x.around x.node)) (first (violations_of rules xs))
     ∙ ap (earlier_of before) (sym (first-append (rules x.around x.node) (violations_of rules xs)))
+
+-- what is found before some sites may be found after them as well
+pub found_later : (rules : Around → Node → List Violation) (before x : Option Violation) (xs : List Site) → found_from rules (earlier_of before x) xs ≡ earlier_of (found_from rules before xs) x
+found_later rules before x xs =
+    found_is rules (earlier_of before x) xs
+    ∙ earlier_of-assoc before x (first (violations_of rules xs))
+    ∙ ap (earlier_of before) (earlier_of-comm x (first (violations_of rules xs)))
+    ∙ sym (earlier_of-assoc before (first (violations_of rules xs)) x)
+    ∙ ap (λ f. earlier_of f x) (sym (found_is rules before xs))
 
 drop_turn : {A : Type 0} (xs : List A) (i : ℕ) (x : A) → i < length xs → x ≡ get_or xs i x → drop i xs ≡ x ∷ drop (i + 1) xs
 drop_turn xs i x l e = drop-cons xs i x l ∙ rw (sym e, add-one) refl
