@@ -344,6 +344,12 @@ def device_cases(runner):
             runner.judge(f"a device that is full: {command}", problems, seconds, memory)
 
 
+def address_cases(runner):
+    """What the stacks of a long function ask for doesn't grow with its length."""
+    source, _ = filled(b"int main(void){int a;a=0;", b"a=a+1;", b"return 3;}")
+    runner.case("1 MiB of statements in 1 GiB of addresses", source, stop=Ended(3), addresses=1 << 30)
+
+
 def run(runner):
     blank_cases(runner)
     top_cases(runner)
@@ -355,3 +361,4 @@ def run(runner):
     name_cases(runner)
     steps_cases(runner)
     device_cases(runner)
+    address_cases(runner)

@@ -77,10 +77,12 @@ class Shown:
         return bytes(text + (b"\n" if is_open else b"") + stop.line)
 
 
-def limit_stack():
-    """At most the usual stack, in the program that is about to run."""
+def limit(addresses):
+    """At most the usual stack, and at most so many bytes of addresses, in the program that is about to run."""
     _, hard = resource.getrlimit(resource.RLIMIT_STACK)
     resource.setrlimit(resource.RLIMIT_STACK, (STACK_BYTES, hard))
+    if addresses is not None:
+        resource.setrlimit(resource.RLIMIT_AS, (addresses, addresses))
 
 
 class Runner:
@@ -94,14 +96,14 @@ class Runner:
     def is_asked_for(self, name):
         return not self.words or any(word in name for word in self.words)
 
-    def call(self, folder, words, given=b"", output=None):
+    def call(self, folder, words, given=b"", output=None, addresses=None):
         """The status, standard output, standard error, seconds of processor time and megabytes of a call."""
         paths = [os.path.join(folder, name) for name in ("in", "out", "err")]
         with open(paths[0], "wb") as file:
             file.write(given)
         with open(paths[0], "rb") as stdin, open(output or paths[1], "wb") as stdout, open(paths[2], "wb") as stderr:
             child = subprocess.Popen([self.program, *words], stdin=stdin, stdout=stdout, stderr=stderr,
-                                     preexec_fn=limit_stack)
+                                     preexec_fn=lambda: limit(addresses))
             _, status, used = os.wait4(child.pid, 0)
             child.returncode = os.waitstatus_to_exitcode(status)
         shown = b"" if output else open(paths[1], "rb").read()
@@ -118,7 +120,7 @@ class Runner:
             self.passed += 1
         self.times.append((seconds, name))
 
-    def case(self, name, source, shown=Shown(), stop=Ended(), given=b"", options=(), commands=("check", "code", "run", "trace")):
+    def case(self, name, source, shown=Shown(), stop=Ended(), given=b"", options=(), commands=("check", "code", "run", "trace"), addresses=None):
         """One source by each command. What a command wrote, told and ended with must be what is expected."""
         if not self.is_asked_for(name):
             return
@@ -132,7 +134,7 @@ class Runner:
             for command in commands:
                 told, wrote, status = self.expected(command, shown, stop)
                 words = [command, path, *(options if command in ("run", "trace") else ())]
-                got_status, got_out, got_err, seconds, memory = self.call(folder, words, given)
+                got_status, got_out, got_err, seconds, memory = self.call(folder, words, given, addresses=addresses)
                 slowest = max(slowest, seconds)
                 largest = max(largest, memory)
                 if got_status != status:

@@ -4,6 +4,8 @@
 pub mod code;
 pub mod counted;
 pub mod device;
+pub mod effect;
 pub mod fault;
 pub mod instr;
+pub mod law;
 pub mod lines;

@@ -14,7 +14,8 @@ use Rattle.arc_spec.specs.Stepping.{Goes, Faults, Reached, Running, follow}
 use Rattle.arc_spec.proofs.Deallocs.{dealloc_and_above, deallocs_from}
 use Rattle.arc_ir.specs.Acting.{Program, State, has_level, enters, answers, begins_end, ends_object, runs_dealloc, ends_class}
 use Rattle.arc_code.specs.declared.instr.Instr.TheVariants.{Call, Jump, EndStep}
-use Rattle.arc_lower.specs.Lowered.{number_of, slots_of, entry_of, entries_of, fit_orders, leave_orders, body_orders, passes}
+use Rattle.arc_code.specs.Effects.{passes}
+use Rattle.arc_lower.specs.Lowered.{number_of, slots_of, entry_of, entries_of, fit_orders, leave_orders, body_orders}
 use Rattle.arc_lower.proofs.CountsPlaces.{no_one, names_holders}
 use Rattle.arc_lower.proofs.CountsThere.{AllThere, changed_there, gone_there, set_here}
 use Rattle.arc_lower.proofs.Leading.{Leads, leads_same, leads_trans, leads_step, Runs, leads_runs, then_runs, better_runs}

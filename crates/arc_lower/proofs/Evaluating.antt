@@ -20,8 +20,9 @@ use Rattle.arc_ir.specs.Acting.{Program, State, onward, goes, keeps, answers, ta
 use Rattle.arc_ir.specs.Acting as acting
 use Rattle.arc_code.specs.declared.instr.Op.TheVariants.{Num, Bin, Un, Narrow, Get, Set, GetChar, Nil, HoldSelf, Hold, Alloc, GetField, SetField, Differ, IsObject}
 use Rattle.arc_code.specs.declared.instr.Instr.TheVariants.{Plain, Call, Send, SendSuper, SendTo, SendToSuper}
+use Rattle.arc_code.specs.Effects.{passes}
 use Rattle.arc_lower.specs.Order.{Order}
-use Rattle.arc_lower.specs.Lowered.{value_count, value_takes, reference_takes, values_take, print_orders, get_orders, set_orders, fit_orders, hold_orders, store_orders, number_of, slots_of, passes, call_orders, value_orders, reference_orders, all_value_orders}
+use Rattle.arc_lower.specs.Lowered.{value_count, value_takes, reference_takes, values_take, print_orders, get_orders, set_orders, fit_orders, hold_orders, store_orders, number_of, slots_of, call_orders, value_orders, reference_orders, all_value_orders}
 use Rattle.arc_lower.proofs.CountsThere.{IsThere, AllThere, placed_there, place_there, changed_there, made_there, object_goes, holds_goes}
 use Rattle.arc_lower.proofs.Leading.{Leads, leads_same, leads_step, Runs, leads_runs, then_runs, better_runs}
 use Rattle.arc_lower.proofs.Recounting.{fresh, recount, moves, at, held_of}

@@ -10,7 +10,8 @@ use Rattle.arc_spec.specs.Meaning.{field_count}
 use Rattle.arc_spec.specs.Holding.{count_of}
 use Rattle.arc_spec.specs.Resolved as resolved
 use Rattle.arc_ir.specs.Acting.{Program}
-use Rattle.arc_lower.specs.Lowered.{entries_of, passes, stub_orders, dealloc_orders, methods_orders, class_orders, classes_orders, linked_methods, linked_dealloc, linked_classes, running_orders, classes_linked}
+use Rattle.arc_code.specs.Effects.{passes}
+use Rattle.arc_lower.specs.Lowered.{entries_of, stub_orders, dealloc_orders, methods_orders, class_orders, classes_orders, linked_methods, linked_dealloc, linked_classes, running_orders, classes_linked}
 use Rattle.arc_lower.proofs.Doing.{HasAt, has_front, has_back}
 
 -- a function's stub for so many numbers stands at a place
@@ -43,7 +44,7 @@ sign_same signs.Instance signs.Instance e = refl
 sign_same signs.Class signs.Instance e = absurd (true≢false (sym e))
 sign_same signs.Instance signs.Class e = absurd (true≢false (sym e))
 
-passes_same : (sign : Sign) (selector takes : ℕ) (m : Method) → answers sign selector takes m ≡ true → passes m.sign m.takes ≡ passes sign takes
+pub passes_same : (sign : Sign) (selector takes : ℕ) (m : Method) → answers sign selector takes m ≡ true → passes m.sign m.takes ≡ passes sign takes
 passes_same sign selector takes m e =
     let parts = and_parts (same_sign m.sign sign) _ e in
     let count = eqb-true m.takes takes (and_parts (nat_eq m.selector selector) (nat_eq m.takes takes) parts.1).1 in

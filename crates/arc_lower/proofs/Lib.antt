@@ -13,6 +13,7 @@ mod Weights
 mod Callees
 mod Patching
 mod Laying
+mod Appended
 mod Stubbing
 mod Leading
 mod Behaving
@@ -27,9 +28,14 @@ mod Linking
 mod Finding
 mod Calling
 mod Rising
+mod HeightsEnd
+mod Straight
+mod HeightsFollow
+mod HeightsFit
 mod Safety
 mod Staying
 mod Leaving
 mod Sounding
+mod Roomless
 mod Transferring
 mod Whole

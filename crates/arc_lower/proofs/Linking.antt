@@ -10,10 +10,17 @@ use Rattle.arc_ir.specs.Acting as acting
 use Rattle.arc_ir.specs.Acting.{Program, has_level, enters, step}
 use Rattle.arc_code.specs.declared.instr.Instr.TheVariants.{Call, Return, EndStep}
 use Rattle.arc_lower.specs.Order.{Order, orders}
-use Rattle.arc_lower.specs.Lowered.{nothing, all_functions, number_of, slots_of, zero_orders, end_step_of, entry_of, function_orders, functions_orders, entries_from, longest_from, start_orders, running_orders, lowered, entries_of, classes_orders}
+use Rattle.arc_lower.specs.Lowered.{nothing, all_functions, number_of, slots_of, zero_orders, end_step_of, entry_of, function_orders, functions_orders, entries_from, start_orders, running_orders, lowered, entries_of, classes_orders}
 use Rattle.arc_lower.proofs.Rows.{zeros_length}
 use Rattle.arc_lower.proofs.Recounting.{at}
 use Rattle.arc_lower.proofs.Doing.{HasAt, has_front, has_back, has_all}
+
+-- how many actions the longest of these functions has, or this number, where that is more
+abbrev longest_from : resolved.Program → (place : ℕ) → List Function → (so_far : ℕ) → ℕ
+longest_from R place [] so_far = so_far
+longest_from R place (f ∷ others) so_far =
+    let size = length (function_orders R place f) in
+    longest_from R (place + size) others (max so_far size)
 
 -- how many actions the longest function has, or the start
 abbrev pub longest : resolved.Program → ℕ
@@ -80,7 +87,7 @@ in_list [] main cs f lt = absurd (omega (arith, lt))
 in_list (g ∷ fs) main cs zero lt = refl
 in_list (g ∷ fs) main cs (suc f) lt = in_list fs main cs f (omega (arith, lt))
 
-out_of_list : (fs : List Function) (main : ℕ) (cs : List Class) (f : ℕ) → length fs ≤ f → nothing ≡ function_at (record { functions = fs; main = main; classes = cs }) f
+pub out_of_list : (fs : List Function) (main : ℕ) (cs : List Class) (f : ℕ) → length fs ≤ f → nothing ≡ function_at (record { functions = fs; main = main; classes = cs }) f
 out_of_list [] main cs f le = refl
 out_of_list (g ∷ fs) main cs zero le = absurd (omega (arith, le))
 out_of_list (g ∷ fs) main cs (suc f) le = out_of_list fs main cs f (omega (arith, le))
@@ -93,7 +100,7 @@ numbered_by : (R : resolved.Program) (f : ℕ) (b : Bool) → nat_lt f (length R
 numbered_by R f true e = in_list R.functions R.main R.classes f (ltb-true f (length R.functions) e)
 numbered_by R f false e = last_one R.functions ∙ ap Some (out_of_list R.functions R.main R.classes f (ltb-false f (length R.functions) e))
 
-numbered : (R : resolved.Program) (f : ℕ) → slice_get (all_functions R) (number_of R f) ≡ Some (function_at R f)
+pub numbered : (R : resolved.Program) (f : ℕ) → slice_get (all_functions R) (number_of R f) ≡ Some (function_at R f)
 numbered R f = numbered_by R f (nat_lt f (length R.functions)) refl
 
 get_index : (list : List ℕ) (n x : ℕ) → slice_get list n ≡ Some x → slice_index_or list n 0 ≡ x

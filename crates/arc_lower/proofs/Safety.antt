@@ -17,8 +17,9 @@ use Rattle.arc_spec.specs.Stepping.{Next, Faults, Along, on_top, on_found}
 use Rattle.arc_ir.specs.Acting.{Program, State, keeps, or_fault, has_level, answers, taken, sends, sends_up, allocates, difference, begins_end, releases}
 use Rattle.arc_code.specs.declared.instr.Op.TheVariants.{Num, Bin, Un, Narrow, Pop, Get, Set, PrintNum, PrintByte, GetChar, Nil, HoldSelf, Hold, Alloc, GetField, SetField, Differ, IsObject}
 use Rattle.arc_code.specs.declared.instr.Instr.TheVariants.{Plain, PrintText, Jump, Call, Send, SendSuper, StoreStrong, Drop, Empty, SendTo, SendToSuper}
+use Rattle.arc_code.specs.Effects.{passes}
 use Rattle.arc_lower.specs.Order.{Order}
-use Rattle.arc_lower.specs.Lowered.{value_count, value_takes, reference_takes, values_take, part_orders, text_orders, format_orders, pop_orders, keep_orders, print_orders, get_orders, set_orders, zero_orders, fit_orders, drop_orders, store_orders, number_of, slots_of, passes, call_orders, value_orders, reference_orders, all_value_orders}
+use Rattle.arc_lower.specs.Lowered.{value_count, value_takes, reference_takes, values_take, part_orders, text_orders, format_orders, pop_orders, keep_orders, print_orders, get_orders, set_orders, zero_orders, fit_orders, drop_orders, store_orders, number_of, slots_of, call_orders, value_orders, reference_orders, all_value_orders}
 use Rattle.arc_lower.proofs.CountsThere.{IsThere, AllThere, place_there, object_goes, holds_goes}
 use Rattle.arc_lower.proofs.CountsKept.{Sane}
 use Rattle.arc_lower.proofs.CountsSound.{Rooms, SafeIfSane}

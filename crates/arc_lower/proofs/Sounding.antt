@@ -11,8 +11,9 @@ use Rattle.arc_spec.specs.Stepping.{Goes, Faults, Along, on_top}
 use Rattle.arc_ir.specs.Acting.{Program, has_level, enters, answers, begins_end, runs_dealloc, ends_class, end_goes_on, leaves, IsSound}
 use Rattle.arc_code.specs.declared.instr.Op.TheVariants.{Forget}
 use Rattle.arc_code.specs.declared.instr.Instr.TheVariants.{Plain, Jump, Call, Return, EndStep}
+use Rattle.arc_code.specs.Effects.{passes}
 use Rattle.arc_lower.specs.Order.{orders}
-use Rattle.arc_lower.specs.Lowered.{number_of, slots_of, passes, pop_orders, keep_orders, zero_orders, all_empty_orders, leave_orders, body_orders, entry_of, entries_of, end_step_of, start_orders, all_functions, lowered, classes_linked, room_of}
+use Rattle.arc_lower.specs.Lowered.{number_of, slots_of, pop_orders, keep_orders, zero_orders, all_empty_orders, leave_orders, body_orders, entry_of, entries_of, end_step_of, start_orders, all_functions, lowered, classes_linked}
 use Rattle.arc_lower.proofs.CountsThere.{set_here}
 use Rattle.arc_lower.proofs.CountsSound.{SafeIfSane, sound_if_sane}
 use Rattle.arc_lower.proofs.Recounting.{at}
@@ -276,7 +277,7 @@ module _ (p : Program) (R : resolved.Program) (begins : (f : ℕ) → Begins p R
         (main_safe most_levels alone refl R.main m (0 + length xs) (omega (arith, room)) (omega (arith, fits)) (omega (arith, places)) (back.0, tt) (λ m1 le1. over_safe (omega (arith, fits)) m1 (0 + length xs + 1) (back.1.0, tt)))) [] nothing_held [] refl refl (record { is = refl; itself = refl; dying = tt }))
 
 -- the actions of a lowered program are sound
-pub lowered_sound : (p : Program) (R : resolved.Program) → orders p.actions ≡ lowered R → p.entries ≡ entries_of R → p.classes ≡ classes_linked R → p.end_step ≡ end_step_of R → p.room ≡ room_of R → p.places ≡ room_of R → IsSound p
+pub lowered_sound : (p : Program) (R : resolved.Program) → orders p.actions ≡ lowered R → p.entries ≡ entries_of R → p.classes ≡ classes_linked R → p.end_step ≡ end_step_of R → p.room ≡ most_levels * longest R → p.places ≡ most_levels * longest R → IsSound p
 lowered_sound p R is entries classes end room places =
     let start = length (start_orders R) in
     sound p R (begins p R is entries) (linked p R classes (has_stubs p R is entries)) (has_end p R is entries end) room places (no_less R (all_functions R) start start) (has_start p R is entries)

@@ -1,5 +1,5 @@
 -- The actions of a checked program perform it.
-use Rattle.std.proofs.Common.{◌≡◌, ℕ, ◌+◌, ℤ, List, [], ◌∷◌, length, ap, ◌∙◌, arith}
+use Rattle.std.proofs.Common.{◌≡◌, ℕ, ◌+◌, ◌≤◌, ℤ, List, [], ◌∷◌, length, ap, ◌∙◌, arith}
 use Rattle.arc_ast.specs.declared.tree.Kind.TheVariants as k
 use Rattle.arc_spec.specs.Number.{converted}
 use Rattle.arc_spec.specs.Resolved as resolved
@@ -24,7 +24,7 @@ use Rattle.arc_lower.proofs.Standing.{Fine, Kept}
 use Rattle.arc_lower.proofs.Linking.{has_start, has_end, has_stubs, begins}
 use Rattle.arc_lower.proofs.Finding.{Linked, linked}
 use Rattle.arc_lower.proofs.Calling.{calls_run}
-use Rattle.arc_lower.proofs.Sounding.{lowered_sound}
+use Rattle.arc_lower.proofs.Roomless.{room_suffices}
 use Rattle.arc_lower.proofs.Transferring.{seen_moves}
 
 -- what is seen of a run that does what is meant
@@ -57,6 +57,9 @@ module _ (p : Program) (R : resolved.Program) (is : orders p.actions ≡ lowered
       none : 0 + most_levels ≡ most_levels
       none = omega arith
 
+at_most_same : {a b : ℕ} → b ≡ a → a ≤ b
+at_most_same e = omega (arith, e)
+
 -- the actions that a program becomes perform it
 pub performs : (p : Program) (R : resolved.Program) → IsLowered R p → Performs R p
 performs p R is =
@@ -65,5 +68,5 @@ performs p R is =
       behaves = behaves (λ input bound. meaning_seen (mean R input bound)) (seen p) calm
           (λ input bound. shows p (λ v w. Unit {0}) input bound (mean R input bound) (program_runs p R is.actions is.entries is.classes is.end_step input bound));
       steady = calm;
-      sound = lowered_sound p R is.actions is.entries is.classes is.end_step is.room is.places;
+      sound = room_suffices p R is.actions is.entries is.classes is.end_step (at_most_same is.room) (at_most_same is.places);
     }

@@ -1,3 +1,4 @@
 pub mod Order
 pub mod Lowered
+pub mod Heights
 pub mod Promise

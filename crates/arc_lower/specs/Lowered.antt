@@ -1,17 +1,16 @@
 -- Which actions a checked program becomes. A function's variables lie on the stack, the first one deepest, and its operands above them. An expression leaves one
 -- number more on the stack, and a statement leaves the stack as it was. Its variables that name objects are its first strong places, the first one last, and the
 -- temporaries of the full-expression stand above them.
-use Rattle.std.specs.Prelude.{ℕ, zero, suc, pred, ◌+◌, ◌-◌, ◌*◌, ◌/◌, max, nat_lt, if◌then◌else◌, pos, List, [], ◌∷◌, ◌++◌, length, take, drop, slice_index_or, Option, Some, None}
+use Rattle.std.specs.Prelude.{ℕ, zero, suc, pred, ◌+◌, ◌-◌, ◌/◌, nat_lt, if◌then◌else◌, pos, List, [], ◌∷◌, ◌++◌, length, take, drop, slice_index_or, Option, Some, None}
 use Rattle.arc_ast.specs.declared.tree.Kind.TheVariants as k
-use Rattle.arc_ast.specs.declared.tree.Sign.{Sign}
-use Rattle.arc_ast.specs.declared.tree.Sign.TheVariants as signs
 use Rattle.arc_spec.specs.Resolved.{Piece, Bytes, Decimal, Character, Value, Number, ReadByte, Print, Negated, Combined, Converted, Local, Assigned, Invoked, Sent, SentSuper, SentTo, SentToSuper, Field, FieldAssigned, Reference, Itself, Variable, Stored, Made, Initialized, Values, no_values, and_value, Command, Sequence, Evaluate, EvaluateReference, Begin, Choose, Repeat, Commands, no_commands, and_command, Function, Program}
 use Rattle.arc_spec.specs.Resolved as resolved
 use Rattle.arc_spec.specs.declared.class.Method.{Method}
 use Rattle.arc_spec.specs.Classes.{Class}
-use Rattle.arc_spec.specs.Meaning.{function_at, most_levels}
+use Rattle.arc_spec.specs.Meaning.{function_at}
 use Rattle.arc_code.specs.declared.instr.Op.TheVariants.{Num, Bin, Un, Narrow, Pop, Get, Set, PrintNum, PrintByte, GetChar, Nil, HoldSelf, Hold, Forget, Alloc, GetField, SetField, Differ, IsObject}
 use Rattle.arc_code.specs.declared.instr.Instr.TheVariants.{Plain, PrintText, Jump, JumpZero, Call, Send, SendSuper, Return, StoreStrong, Drop, Empty, SendTo, SendToSuper, EndStep}
+use Rattle.arc_code.specs.Effects.{passes}
 use Rattle.arc_lower.specs.Order.{Order}
 
 abbrev pub value_count : Values → ℕ
@@ -280,13 +279,6 @@ abbrev pub entries_from : Program → (place : ℕ) → List Function → List �
 entries_from P place [] = []
 entries_from P place (f ∷ others) = entry_of place f ∷ entries_from P (place + length (function_orders P place f)) others
 
--- how many actions the longest of them has, or this number, where that is more
-abbrev pub longest_from : Program → (place : ℕ) → List Function → (so_far : ℕ) → ℕ
-longest_from P place [] so_far = so_far
-longest_from P place (f ∷ others) so_far =
-    let size = length (function_orders P place f) in
-    longest_from P (place + size) others (max so_far size)
-
 -- where a program begins: main's variables, a call of main, and the end; and behind it where the ends of objects go on
 abbrev pub start_orders : Program → List Order
 start_orders P = zero_orders (slots_of P P.main) ++ (Call (number_of P P.main) ∷ [] ++ (Return ∷ [] ++ EndStep ∷ []))
@@ -297,11 +289,6 @@ end_step_of P = slots_of P P.main + 2
 
 abbrev pub entries_of : Program → List ℕ
 entries_of P = entries_from P (length (start_orders P)) (all_functions P)
-
--- how many numbers a message with so many arguments passes: one to a class passes the class, too
-abbrev pub passes : Sign → (takes : ℕ) → ℕ
-passes signs.Class takes = suc takes
-passes signs.Instance takes = takes
 
 -- A stub, to which a message goes, or the end of an object: it makes so many numbers the variables of a function, and goes on where that is entered.
 abbrev pub stub_orders : Program → (entries : List ℕ) → (values f : ℕ) → List Order
@@ -358,8 +345,3 @@ lowered P = running_orders P ++ classes_orders P (entries_of P) P.classes
 
 abbrev pub classes_linked : Program → List Class
 classes_linked P = linked_classes P (entries_of P) (length (running_orders P)) P.classes
-
--- An action puts at most one number on the stack, and makes at most one strong place, so a function adds no more of either than it has actions, with its variables
--- among them, which a stub may put there.
-abbrev pub room_of : Program → ℕ
-room_of P = most_levels * longest_from P (length (start_orders P)) (all_functions P) (length (start_orders P))

@@ -5,7 +5,8 @@ use Rattle.arc_spec.specs.Meaning.{mean}
 use Rattle.arc_spec.specs.Correct.{Behaves, Steady, meaning_seen}
 use Rattle.arc_ir.specs.Acting.{Program, seen, IsSound}
 use Rattle.arc_lower.specs.Order.{orders}
-use Rattle.arc_lower.specs.Lowered.{lowered, entries_of, end_step_of, room_of, classes_linked}
+use Rattle.arc_lower.specs.Lowered.{lowered, entries_of, end_step_of, classes_linked}
+use Rattle.arc_lower.specs.Heights.{room_of, places_of}
 
 -- The actions do what a program means, on each input; none of them is ever without what it needs, and the stack keeps to its room.
 pub record Performs (meant : resolved.Program) (acting : Program) : Type 0 where
@@ -19,5 +20,5 @@ pub record IsLowered (meant : resolved.Program) (acting : Program) : Type 0 wher
   pub entries : acting.entries ≡ entries_of meant
   pub end_step : acting.end_step ≡ end_step_of meant
   pub room : acting.room ≡ room_of meant
-  pub places : acting.places ≡ room_of meant
+  pub places : acting.places ≡ places_of meant
   pub classes : acting.classes ≡ classes_linked meant

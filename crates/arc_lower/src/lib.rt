@@ -4,6 +4,8 @@
 mod call;
 mod expression;
 mod frame;
+pub mod height;
+pub mod law;
 pub mod lower;
 mod place;
 mod print;

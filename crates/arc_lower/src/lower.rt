@@ -1,19 +1,21 @@
 //! From a program to its actions.
-ghost use Rattle.std.specs.Prelude.{◌≡◌, ◌+◌, ◌++◌, ◌*◌, [], ◌∷◌, length, IfOk, OnOk};
-ghost use Rattle.arc_spec.specs.Meaning.{most_levels};
+ghost use Rattle.std.specs.Prelude.{◌≡◌, ◌+◌, ◌++◌, [], ◌∷◌, length, IfOk, OnOk};
+ghost use Rattle.arc_code.specs.Effects.{room_for};
 ghost use Rattle.arc_ir.specs.Acting as acting;
 ghost use Rattle.arc_check.specs.Checked.{commands, program_of};
 ghost use Rattle.arc_lower.specs.Order.{orders};
-ghost use Rattle.arc_lower.specs.Lowered.{body_orders, entry_of, function_orders, functions_orders, entries_from, longest_from, start_orders, end_step_of, all_functions};
+ghost use Rattle.arc_lower.specs.Lowered.{body_orders, entry_of, function_orders, functions_orders, entries_from, start_orders, end_step_of, all_functions};
+ghost use Rattle.arc_lower.specs.Heights.{greatest, start_heights, function_heights, functions_heights};
 ghost use Rattle.arc_lower.specs.Promise.{Performs, IsLowered};
 
 use crate::call::{append_leave, number_of, slots_of};
 use crate::expression::append;
 use crate::frame::Body;
+use crate::height::{Height, greatest};
 use crate::place::append_nils;
 use crate::statement::append_commands;
 use crate::stub::append_classes;
-use crate::variable::append_zeros;
+use crate::variable::{append_zeros, one_more};
 use arc_check::checked::{Checked, Command};
 use arc_code::instr::{Instr, Op};
 use arc_family::owned::Owned;
@@ -30,63 +32,80 @@ pub fn lower(alloc: Global, program: &Owned) -> Result<Ir, NoMemory>
 {
     let mut actions = Vec::new(alloc);
     let mut entries = Vec::new(alloc);
-    let end_step = append_start(&mut actions, program.program)?;
-    let longest = append_functions(alloc, &mut actions, &mut entries, program.program)?;
-    let classes = append_classes(alloc, &mut actions, program.program, &entries)?;
-    let room = room_for(longest)?;
+    let mut most = Height {
+        numbers: 0,
+        places: 0,
+    };
+    let end_step = append_start(&mut actions, program.program, &mut most)?;
+    append_functions(alloc, &mut actions, &mut entries, program.program, &mut most)?;
+    let classes = append_classes(alloc, &mut actions, program.program, &entries, &mut most)?;
+    let room = room_for(most.numbers)?;
+    let places = room_for(most.places)?;
     Ok(Ir {
         actions,
         entries,
         end_step,
         room,
-        places: room,
+        places,
         classes,
     })
 }
 
-/// How many calls and ends of objects may run within one another.
-const MOST_LEVELS: usize = 2000;
+/// How many calls and ends of objects may run within one another, and the start of the program
+/// below them.
+const LEVELS: usize = 2001;
 
-/// The room of a stack for all calls and ends of objects that may run within one another, of which
-/// each adds at most so many numbers, or places.
-fn room_for(longest: usize) -> Result<usize, NoMemory>
-    ensures { IfOk result (λ room. room ≡ most_levels * longest) }
+/// The room of a stack for all that may run within one another, each with at most so many numbers,
+/// or places. NoMemory: no stack has so many.
+fn room_for(most: usize) -> Result<usize, NoMemory>
+    ensures { IfOk result (λ room. room ≡ room_for most) }
 {
-    match longest.checked_mul(MOST_LEVELS) {
+    match most.checked_mul(LEVELS) {
         Some(room) => Ok(room),
         None => Err(NoMemory),
     }
 }
 
-/// Appends the actions that call `main`, and the one at which the ends of objects go on. Gives the
-/// number of that one.
-fn append_start(actions: &mut Vec<Action>, program: &Checked) -> Result<usize, NoMemory>
+/// Appends the actions that call `main`, and the one at which the ends of objects go on, and raises
+/// the greatest height to theirs. Gives the number of that one.
+fn append_start(
+    actions: &mut Vec<Action>,
+    program: &Checked,
+    most: &mut Height,
+) -> Result<usize, NoMemory>
     ensures actions { OnOk result (orders actions.new.items ≡ orders actions.old.items ++ start_orders (program_of program.now)) }
     ensures end_step { IfOk result (λ place. place ≡ length (orders actions.old.items) + end_step_of (program_of program.now)) }
+    ensures most { OnOk result (most.new ≡ greatest (start_heights (program_of program.now)) most.old) }
 {
+    let begin = actions.len();
     append_zeros(actions, slots_of(program, program.main))?;
     append(actions, Instr::Call(number_of(program, program.main)))?;
     append(actions, Instr::Return)?;
     let end_step = actions.len();
     append(actions, Instr::EndStep)?;
+    let base = Height {
+        numbers: 0,
+        places: 0,
+    };
+    *most = greatest(program, base, base, &actions[begin..], *most)?;
     Ok(end_step)
 }
 
-/// Appends the actions of all functions, and where each one is entered. Gives the number of actions
-/// of the longest, or of the actions before them, where those are more.
+/// Appends the actions of all functions, and where each one is entered. Raises the greatest height
+/// to theirs.
 fn append_functions(
     alloc: Global,
     actions: &mut Vec<Action>,
     entries: &mut Vec<usize>,
     program: &Checked,
-) -> Result<usize, NoMemory>
+    most: &mut Height,
+) -> Result<(), NoMemory>
     ensures actions { OnOk result (orders actions.new.items ≡ orders actions.old.items ++ functions_orders (program_of program.now) (length (orders actions.old.items)) (all_functions (program_of program.now))) }
     ensures entries { OnOk result (entries.new.items ≡ entries.old.items ++ entries_from (program_of program.now) (length (orders actions.old.items)) (all_functions (program_of program.now))) }
-    ensures longest { IfOk result (λ longest. longest ≡ longest_from (program_of program.now) (length (orders actions.old.items)) (all_functions (program_of program.now)) (length (orders actions.old.items))) }
+    ensures most { OnOk result (most.new ≡ greatest (functions_heights (program_of program.now) (length (orders actions.old.items)) (all_functions (program_of program.now))) most.old) }
 {
-    let mut longest = actions.len();
     for function in &program.functions {
-        let size = append_function(
+        append_function(
             alloc,
             actions,
             entries,
@@ -94,14 +113,13 @@ fn append_functions(
             function.slots,
             function.names,
             &function.body,
+            most,
         )?;
-        longest = longest.max(size);
     }
-    let size = append_function(alloc, actions, entries, program, 0, 0, &[])?;
-    Ok(longest.max(size))
+    append_function(alloc, actions, entries, program, 0, 0, &[], most)
 }
 
-/// Appends the actions of a function, and where it is entered. Gives the number of the actions.
+/// Appends the actions of a function, and where it is entered. Raises the greatest height to theirs.
 fn append_function(
     alloc: Global,
     actions: &mut Vec<Action>,
@@ -110,10 +128,11 @@ fn append_function(
     slots: usize,
     names: usize,
     body: &[Command],
-) -> Result<usize, NoMemory>
+    most: &mut Height,
+) -> Result<(), NoMemory>
     ensures actions { OnOk result (orders actions.new.items ≡ orders actions.old.items ++ function_orders (program_of program.now) (length (orders actions.old.items)) (record { slots = slots; names = names; body = commands body.now })) }
     ensures entries { OnOk result (entries.new.items ≡ entries.old.items ++ entry_of (length (orders actions.old.items)) (record { slots = slots; names = names; body = commands body.now }) ∷ []) }
-    ensures size { IfOk result (λ size. size ≡ length (function_orders (program_of program.now) (length (orders actions.old.items)) (record { slots = slots; names = names; body = commands body.now }))) }
+    ensures most { OnOk result (most.new ≡ greatest (function_heights (program_of program.now) (length (orders actions.old.items)) (record { slots = slots; names = names; body = commands body.now })) most.old) }
 {
     let begin = actions.len();
     append_leave(actions, slots, names)?;
@@ -124,7 +143,16 @@ fn append_function(
         exit: begin,
     };
     append_body(alloc, actions, program, exit, body)?;
-    Ok(actions.len() - begin)
+    let base = Height {
+        numbers: slots,
+        places: names,
+    };
+    let left = Height {
+        numbers: one_more(slots)?,
+        places: names,
+    };
+    *most = greatest(program, base, left, &actions[begin..], *most)?;
+    Ok(())
 }
 
 /// Appends what a function does from its entry on.

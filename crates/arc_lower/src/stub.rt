@@ -2,11 +2,14 @@
 ghost use Rattle.std.specs.Prelude.{◌≡◌, ◌++◌, length, slice_index_or, OnOk, IfOk};
 ghost use Rattle.arc_spec.specs.Classes.{class_of, classes_of};
 ghost use Rattle.arc_check.specs.Checked.{program_of};
+ghost use Rattle.arc_code.specs.Effects.{passes};
 ghost use Rattle.arc_lower.specs.Order.{orders};
-ghost use Rattle.arc_lower.specs.Lowered.{passes, stub_orders, methods_orders, dealloc_orders, class_orders, classes_orders, linked_methods, linked_dealloc, linked_class, linked_classes};
+ghost use Rattle.arc_lower.specs.Heights.{greatest, stub_heights, methods_heights, dealloc_heights, class_heights, classes_heights};
+ghost use Rattle.arc_lower.specs.Lowered.{stub_orders, methods_orders, dealloc_orders, class_orders, classes_orders, linked_methods, linked_dealloc, linked_class, linked_classes};
 
 use crate::call::{append_fit, number_of, slots_of};
 use crate::expression::append;
+use crate::height::{Height, greatest};
 use crate::variable::one_more;
 use arc_ast::tree::Sign;
 use arc_check::checked::Checked;
@@ -38,31 +41,47 @@ fn numbers_passed(sign: Sign, takes: usize) -> Result<usize, NoMemory>
 }
 
 /// Appends the actions that make the `count` numbers on top the variables of a function, and go on
-/// where that is entered.
+/// where that is entered. Raises the greatest height to theirs.
 fn append_stub(
     actions: &mut Vec<Action>,
     program: &Checked,
     entries: &[usize],
     count: usize,
     function: usize,
+    most: &mut Height,
 ) -> Result<(), NoMemory>
-    ensures { OnOk result (orders actions.new.items ≡ orders actions.old.items ++ stub_orders (program_of program.now) entries.now count function) }
+    ensures actions { OnOk result (orders actions.new.items ≡ orders actions.old.items ++ stub_orders (program_of program.now) entries.now count function) }
+    ensures most { OnOk result (most.new ≡ greatest (stub_heights (program_of program.now) entries.now count function) most.old) }
 {
+    let begin = actions.len();
     append_fit(actions, count, slots_of(program, function))?;
     let entry = entry_of(entries, number_of(program, function));
-    append(actions, Instr::Jump(entry))
+    append(actions, Instr::Jump(entry))?;
+    let base = Height {
+        numbers: 0,
+        places: 0,
+    };
+    let first = Height {
+        numbers: count,
+        places: 0,
+    };
+    *most = greatest(program, base, first, &actions[begin..], *most)?;
+    Ok(())
 }
 
-/// Appends the stubs of methods. Gives the methods, each of which runs its stub.
+/// Appends the stubs of methods, and raises the greatest height to theirs. Gives the methods, each
+/// of which runs its stub.
 fn append_methods(
     alloc: Global,
     actions: &mut Vec<Action>,
     program: &Checked,
     entries: &[usize],
     methods: &[Method],
+    most: &mut Height,
 ) -> Result<Vec<Method>, NoMemory>
     ensures actions { OnOk result (orders actions.new.items ≡ orders actions.old.items ++ methods_orders (program_of program.now) entries.now methods.now) }
     ensures linked { IfOk result (λ linked. linked.items ≡ linked_methods (program_of program.now) entries.now (length (orders actions.old.items)) methods.now) }
+    ensures most { OnOk result (most.new ≡ greatest (methods_heights (program_of program.now) entries.now methods.now) most.old) }
 {
     let mut linked = Vec::new(alloc);
     for method in methods {
@@ -73,42 +92,47 @@ fn append_methods(
             runs: actions.len(),
         })?;
         let count = numbers_passed(method.sign, method.takes)?;
-        append_stub(actions, program, entries, count, method.runs)?;
+        append_stub(actions, program, entries, count, method.runs, most)?;
     }
     Ok(linked)
 }
 
-/// Appends the stub of a dealloc, where there is one. Gives its place.
+/// Appends the stub of a dealloc, where there is one, and raises the greatest height to its. Gives
+/// its place.
 fn append_dealloc(
     actions: &mut Vec<Action>,
     program: &Checked,
     entries: &[usize],
     dealloc: Option<usize>,
+    most: &mut Height,
 ) -> Result<Option<usize>, NoMemory>
     ensures actions { OnOk result (orders actions.new.items ≡ orders actions.old.items ++ dealloc_orders (program_of program.now) entries.now dealloc) }
     ensures linked { IfOk result (λ linked. linked ≡ linked_dealloc (length (orders actions.old.items)) dealloc) }
+    ensures most { OnOk result (most.new ≡ greatest (dealloc_heights (program_of program.now) entries.now dealloc) most.old) }
 {
     let Some(function) = dealloc else {
         return Ok(None);
     };
     let place = actions.len();
-    append_stub(actions, program, entries, 0, function)?;
+    append_stub(actions, program, entries, 0, function, most)?;
     Ok(Some(place))
 }
 
-/// Appends the stubs of a class. Gives the class, whose dealloc and methods run their stubs.
+/// Appends the stubs of a class, and raises the greatest height to theirs. Gives the class, whose dealloc and methods run their stubs.
 fn append_class(
     alloc: Global,
     actions: &mut Vec<Action>,
     program: &Checked,
     entries: &[usize],
     class: &Class,
+    most: &mut Height,
 ) -> Result<Class, NoMemory>
     ensures actions { OnOk result (orders actions.new.items ≡ orders actions.old.items ++ class_orders (program_of program.now) entries.now (class_of class.now)) }
     ensures linked { IfOk result (λ linked. class_of linked ≡ linked_class (program_of program.now) entries.now (length (orders actions.old.items)) (class_of class.now)) }
+    ensures most { OnOk result (most.new ≡ greatest (class_heights (program_of program.now) entries.now (class_of class.now)) most.old) }
 {
-    let dealloc = append_dealloc(actions, program, entries, class.dealloc)?;
-    let methods = append_methods(alloc, actions, program, entries, &class.methods)?;
+    let dealloc = append_dealloc(actions, program, entries, class.dealloc, most)?;
+    let methods = append_methods(alloc, actions, program, entries, &class.methods, most)?;
     Ok(Class {
         superclass: class.superclass,
         methods,
@@ -117,20 +141,22 @@ fn append_class(
     })
 }
 
-/// Appends the stubs of the program's classes. Gives the classes, whose methods and deallocs run
-/// their stubs.
+/// Appends the stubs of the program's classes, and raises the greatest height to theirs. Gives the
+/// classes, whose methods and deallocs run their stubs.
 pub(crate) fn append_classes(
     alloc: Global,
     actions: &mut Vec<Action>,
     program: &Checked,
     entries: &[usize],
+    most: &mut Height,
 ) -> Result<Vec<Class>, NoMemory>
     ensures actions { OnOk result (orders actions.new.items ≡ orders actions.old.items ++ classes_orders (program_of program.now) entries.now (program_of program.now).classes) }
     ensures linked { IfOk result (λ linked. classes_of linked.items ≡ linked_classes (program_of program.now) entries.now (length (orders actions.old.items)) (program_of program.now).classes) }
+    ensures most { OnOk result (most.new ≡ greatest (classes_heights (program_of program.now) entries.now (program_of program.now).classes) most.old) }
 {
     let mut linked = Vec::new(alloc);
     for class in &program.classes {
-        linked.push(append_class(alloc, actions, program, entries, class)?)?;
+        linked.push(append_class(alloc, actions, program, entries, class, most)?)?;
     }
     Ok(linked)
 }

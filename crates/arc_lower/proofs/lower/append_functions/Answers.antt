@@ -4,7 +4,8 @@ use Rattle.arc_spec.specs.Resolved.{Function}
 use Rattle.arc_check.specs.declared.checked.CheckedFunction.{CheckedFunction}
 use Rattle.arc_check.specs.Checked.{functions, commands, program_of}
 use Rattle.arc_lower.specs.Order.{order, orders}
-use Rattle.arc_lower.specs.Lowered.{nothing, entry_of, function_orders, functions_orders, entries_from, longest_from, all_functions}
+use Rattle.arc_lower.specs.Lowered.{nothing, entry_of, function_orders, functions_orders, entries_from, all_functions}
+use Rattle.arc_lower.specs.Heights.{greatest, function_heights, functions_heights}
 use Rattle.arc_lower.proofs.Laying.{Laid, laid_more}
 use Rattle.arc_lower.proofs.lower.append_functions.Goals as goal
 
@@ -22,14 +23,14 @@ loop-function-preserved c =
     let body = ap commands c.deref.ensures.value in
     let f : Function = record { slots = item.slots; names = item.names; body = commands item.body.items } in
     let split : drop i all ≡ item ∷ drop (i + 1) all = drop_more all i item c.loop-function-test.true ∙ ap (λ (x : CheckedFunction). x ∷ drop (i + 1) all) (sym c.function-item.is) in
-    let before : Laid P start c.args.entries.now.items c.len-longest.result whole o c.loop-function.entries.items c.loop-function.longest (f ∷ left) = subst (λ l. Laid P start c.args.entries.now.items c.len-longest.result whole o c.loop-function.entries.items c.loop-function.longest (functions l ++ nothing ∷ [])) split c.loop-function.invariant in
-    let laid = c.in_ok-size.ensures.actions ∙ ap (λ l. o ++ function_orders P (length o) (record { slots = item.slots; names = item.names; body = l })) body in
-    let entries = c.in_ok-size.ensures.entries ∙ ap (λ l. c.loop-function.entries.items ++ entry_of (length o) (record { slots = item.slots; names = item.names; body = l }) ∷ []) body in
-    let size = c.in_ok-size.ensures.size ∙ ap (λ l. length (function_orders P (length o) (record { slots = item.slots; names = item.names; body = l }))) body in
-    laid_more P start c.args.entries.now.items c.len-longest.result whole o c.loop-function.entries.items c.loop-function.longest f left (orders c.append_function.new.actions.items) c.append_function.new.entries.items c.in_ok-size.size c.max-longest.result before laid entries size c.max-longest.ensures
+    let before : Laid P start c.args.entries.now.items c.args.most.now whole o c.loop-function.entries.items c.loop-function.most (f ∷ left) = subst (λ l. Laid P start c.args.entries.now.items c.args.most.now whole o c.loop-function.entries.items c.loop-function.most (functions l ++ nothing ∷ [])) split c.loop-function.invariant in
+    let laid = c.in_ok-append_function.ensures.actions ∙ ap (λ l. o ++ function_orders P (length o) (record { slots = item.slots; names = item.names; body = l })) body in
+    let entries = c.in_ok-append_function.ensures.entries ∙ ap (λ l. c.loop-function.entries.items ++ entry_of (length o) (record { slots = item.slots; names = item.names; body = l }) ∷ []) body in
+    let most = c.in_ok-append_function.ensures.most ∙ ap (λ l. greatest (function_heights P (length o) (record { slots = item.slots; names = item.names; body = l })) c.loop-function.most) body in
+    laid_more P start c.args.entries.now.items c.args.most.now whole o c.loop-function.entries.items c.loop-function.most f left (orders c.append_function.new.actions.items) c.append_function.new.entries.items c.append_function.new.most before laid entries most
 
 -- behind the last function
-finished : (c : goal.After-max) → Laid (program_of c.args.program.now) (orders c.args.actions.now.items) c.args.entries.now.items c.len-longest.result (functions c.deref-function-items.result.now ++ nothing ∷ []) (orders c.append_function-2.new.actions.items) c.append_function-2.new.entries.items c.max.result []
+finished : (c : goal.After-append_function-2) → Laid (program_of c.args.program.now) (orders c.args.actions.now.items) c.args.entries.now.items c.args.most.now (functions c.deref-function-items.result.now ++ nothing ∷ []) (orders c.append_function-2.new.actions.items) c.append_function-2.new.entries.items c.append_function-2.new.most []
 finished c =
     let P = program_of c.args.program.now in
     let all = c.deref-function-items.result.now in
@@ -38,8 +39,8 @@ finished c =
     let start = orders c.args.actions.now.items in
     let whole = functions all ++ nothing ∷ [] in
     let none : drop c.loop-function.function-index all ≡ [] = drop_all c.loop-function.function-index all c.loop-function-test.false in
-    let before : Laid P start c.args.entries.now.items c.len-longest.result whole o c.loop-function.entries.items c.loop-function.longest (nothing ∷ []) = subst (λ l. Laid P start c.args.entries.now.items c.len-longest.result whole o c.loop-function.entries.items c.loop-function.longest (functions l ++ nothing ∷ [])) none c.loop-function.invariant in
-    laid_more P start c.args.entries.now.items c.len-longest.result whole o c.loop-function.entries.items c.loop-function.longest nothing [] (orders c.append_function-2.new.actions.items) c.append_function-2.new.entries.items c.in_ok-size-2.size c.max.result before c.in_ok-size-2.ensures.actions c.in_ok-size-2.ensures.entries c.in_ok-size-2.ensures.size c.max.ensures
+    let before : Laid P start c.args.entries.now.items c.args.most.now whole o c.loop-function.entries.items c.loop-function.most (nothing ∷ []) = subst (λ l. Laid P start c.args.entries.now.items c.args.most.now whole o c.loop-function.entries.items c.loop-function.most (functions l ++ nothing ∷ [])) none c.loop-function.invariant in
+    laid_more P start c.args.entries.now.items c.args.most.now whole o c.loop-function.entries.items c.loop-function.most nothing [] (orders c.append_function-2.new.actions.items) c.append_function-2.new.entries.items c.append_function-2.new.most before c.in_ok-append_function-2.ensures.actions c.in_ok-append_function-2.ensures.entries c.in_ok-append_function-2.ensures.most
 
 pub returns-clause-actions : goal.returns-clause-actions
 returns-clause-actions c =
@@ -53,9 +54,8 @@ returns-clause-entries c =
     let start = orders c.args.actions.now.items in
     sym (append-nil c.append_function-2.new.entries.items) ∙ (finished c).entries ∙ ap (λ l. c.args.entries.now.items ++ entries_from P (length start) (functions l ++ nothing ∷ [])) c.deref-function-items.ensures.value
 
-pub returns-clause-longest : goal.returns-clause-longest
-returns-clause-longest c =
+pub returns-clause-most : goal.returns-clause-most
+returns-clause-most c =
     let P = program_of c.args.program.now in
     let start = orders c.args.actions.now.items in
-    let size = c.len-longest.ensures ∙ c.args.actions.now.ok.0 ∙ sym (length-map c.args.actions.now.items order) in
-    (finished c).longest ∙ ap (λ l. longest_from P (length start) (functions l ++ nothing ∷ []) c.len-longest.result) c.deref-function-items.ensures.value ∙ ap (longest_from P (length start) (all_functions P)) size
+    (finished c).most ∙ ap (λ l. greatest (functions_heights P (length start) (functions l ++ nothing ∷ [])) c.args.most.now) c.deref-function-items.ensures.value

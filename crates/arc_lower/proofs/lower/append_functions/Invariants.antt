@@ -6,4 +6,4 @@ use Rattle.arc_lower.proofs.Laying.{Laid}
 use Rattle.arc_lower.proofs.lower.append_functions.Given as goal
 
 abbrev pub invariant-loop-function : goal.invariant-loop-function
-invariant-loop-function l = Laid (program_of l.program) (orders l.initial.actions.items) l.initial.entries.items l.initial.longest (functions l.function-items ++ nothing ∷ []) (orders l.actions.items) l.entries.items l.longest (functions (drop l.function-index l.function-items) ++ nothing ∷ [])
+invariant-loop-function l = Laid (program_of l.program) (orders l.initial.actions.items) l.initial.entries.items l.initial.most (functions l.function-items ++ nothing ∷ []) (orders l.actions.items) l.entries.items l.most (functions (drop l.function-index l.function-items) ++ nothing ∷ [])

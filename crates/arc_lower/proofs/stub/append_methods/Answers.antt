@@ -5,6 +5,7 @@ use Rattle.arc_ast.specs.declared.tree.Sign.TheVariants as signs
 use Rattle.arc_check.specs.Checked.{program_of}
 use Rattle.arc_lower.specs.Order.{order, orders}
 use Rattle.arc_lower.specs.Lowered.{stub_orders, linked_methods}
+use Rattle.arc_lower.specs.Heights.{greatest, stub_heights}
 use Rattle.arc_lower.proofs.Stubbing.{MethodsLaid, methods_more}
 use Rattle.arc_lower.proofs.stub.append_methods.Goals as goal
 
@@ -12,7 +13,7 @@ pub loop-method-init : goal.loop-method-init
 loop-method-init c =
     let all = c.args.methods.now in
     let e : [] ≡ c.new-linked.result.items = sym c.new-linked.ensures.items in
-    record { actions = refl; methods = ap (λ l. l ++ linked_methods (program_of c.args.program.now) c.args.entries.now (length (orders c.args.actions.now.items)) all) (sym e) }
+    record { actions = refl; most = refl; methods = ap (λ l. l ++ linked_methods (program_of c.args.program.now) c.args.entries.now (length (orders c.args.actions.now.items)) all) (sym e) }
 
 pub loop-method-preserved : goal.loop-method-preserved
 loop-method-preserved c =
@@ -25,19 +26,23 @@ loop-method-preserved c =
     let none : Method = record { sign = signs.Class; selector = 0; takes = 0; runs = 0 } in
     let m = get_or all i none in
     let left = drop (i + 1) all in
-    let before : MethodsLaid P entries start all (orders old.items) c.loop-method.linked.items (m ∷ left) = subst (MethodsLaid P entries start all (orders old.items) c.loop-method.linked.items) (drop_more all i none c.loop-method-test.true) c.loop-method.invariant in
-    let laid = c.in_ok-append_stub.ensures ∙ ap (λ n. orders old.items ++ stub_orders P entries n m.runs) c.in_ok-count.ensures in
-    methods_more P entries start all (orders old.items) c.loop-method.linked.items m left (orders c.append_stub.new.actions.items) c.push.new.self.items c.len.result before laid (c.len.ensures ∙ old.ok.0 ∙ sym (length-map old.items order)) c.in_ok-push.ensures.items
+    let before : MethodsLaid P entries start c.args.most.now all (orders old.items) c.loop-method.most c.loop-method.linked.items (m ∷ left) = subst (MethodsLaid P entries start c.args.most.now all (orders old.items) c.loop-method.most c.loop-method.linked.items) (drop_more all i none c.loop-method-test.true) c.loop-method.invariant in
+    let laid = c.in_ok-append_stub.ensures.actions ∙ ap (λ n. orders old.items ++ stub_orders P entries n m.runs) c.in_ok-count.ensures in
+    let most = c.in_ok-append_stub.ensures.most ∙ ap (λ n. greatest (stub_heights P entries n m.runs) c.loop-method.most) c.in_ok-count.ensures in
+    methods_more P entries start c.args.most.now all (orders old.items) c.loop-method.most c.loop-method.linked.items m left (orders c.append_stub.new.actions.items) c.append_stub.new.most c.push.new.self.items c.len.result before laid (c.len.ensures ∙ old.ok.0 ∙ sym (length-map old.items order)) c.in_ok-push.ensures.items most
 
 -- behind the last method
-finished : (c : goal.After-loop-method) → MethodsLaid (program_of c.args.program.now) c.args.entries.now (orders c.args.actions.now.items) c.args.methods.now (orders c.loop-method.actions.items) c.loop-method.linked.items []
+finished : (c : goal.After-loop-method) → MethodsLaid (program_of c.args.program.now) c.args.entries.now (orders c.args.actions.now.items) c.args.most.now c.args.methods.now (orders c.loop-method.actions.items) c.loop-method.most c.loop-method.linked.items []
 finished c =
     let all = c.args.methods.now in
     let P = program_of c.args.program.now in
-    subst (MethodsLaid P c.args.entries.now (orders c.args.actions.now.items) all (orders c.loop-method.actions.items) c.loop-method.linked.items) (drop_all c.loop-method.method-index all c.loop-method-test.false) c.loop-method.invariant
+    subst (MethodsLaid P c.args.entries.now (orders c.args.actions.now.items) c.args.most.now all (orders c.loop-method.actions.items) c.loop-method.most c.loop-method.linked.items) (drop_all c.loop-method.method-index all c.loop-method-test.false) c.loop-method.invariant
 
 pub returns-clause-actions : goal.returns-clause-actions
 returns-clause-actions c = sym (append-nil (orders c.loop-method.actions.items)) ∙ (finished c).actions
 
 pub returns-clause-linked : goal.returns-clause-linked
 returns-clause-linked c = sym (append-nil c.loop-method.linked.items) ∙ (finished c).methods
+
+pub returns-clause-most : goal.returns-clause-most
+returns-clause-most c = (finished c).most

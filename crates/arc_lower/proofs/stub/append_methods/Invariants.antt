@@ -5,4 +5,4 @@ use Rattle.arc_lower.proofs.Stubbing.{MethodsLaid}
 use Rattle.arc_lower.proofs.stub.append_methods.Given as goal
 
 abbrev pub invariant-loop-method : goal.invariant-loop-method
-invariant-loop-method l = MethodsLaid (program_of l.program) l.entries (orders l.initial.actions.items) l.methods (orders l.actions.items) l.linked.items (drop l.method-index l.methods)
+invariant-loop-method l = MethodsLaid (program_of l.program) l.entries (orders l.initial.actions.items) l.initial.most l.methods (orders l.actions.items) l.most l.linked.items (drop l.method-index l.methods)

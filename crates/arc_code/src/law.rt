@@ -1,0 +1,21 @@
+//! What follows from the table of effects. Nothing here is run.
+ghost use Rattle.std.specs.Prelude.{◌≤◌, ℕ, List};
+ghost use Rattle.arc_spec.specs.Classes.{Class};
+ghost use Rattle.arc_spec.specs.Stepping.{Sound};
+ghost use Rattle.arc_spec.specs.Holding.{Counted};
+ghost use Rattle.arc_code.specs.declared.instr.Op.{Op};
+ghost use Rattle.arc_code.specs.Instructions.{State, start, operates};
+ghost use Rattle.arc_code.specs.Running.{Program, linked, step, IsSound};
+ghost use Rattle.arc_code.specs.Effects.{operation_effect, Follows, After, HeightsFit, room_for, NeverHasMore};
+
+/// Each operation takes and gives as many numbers and places as the table of effects says.
+pub fn effects_are_followed()
+    ensures { (classes : List Class) (o : Op) (s : State) → After (Follows (operation_effect o) s) (operates classes o s) }
+{}
+
+/// Where tables of heights fit code, no run of it has more numbers or places than all levels together may have by
+/// the greatest heights; with that room it is sound, where it is never stuck and its counts are right.
+pub fn heights_bound_runs()
+    ensures room { (p : Program) (numbers places : ℕ → ℕ) (n m : ℕ) → HeightsFit (linked p) numbers places n m → NeverHasMore (linked p) (room_for n) (room_for m) }
+    ensures sound { (p : Program) (numbers places : ℕ → ℕ) (n m : ℕ) → HeightsFit (linked p) numbers places n m → room_for n ≤ p.room → room_for m ≤ p.places → Sound (step p) (λ s. Counted s.held) start → IsSound p }
+{}
