@@ -69,7 +69,7 @@ fn one_more(takes: usize) -> Option<usize>
 
 /// The effect of an instruction; of a call it is that of the number that the function gives. None:
 /// the instruction takes more numbers than can be counted.
-pub fn effect<J, F, T>(instr: &Instr<J, F, T>) -> Option<Effect>
+pub fn instr_effect<J, F, T>(instr: &Instr<J, F, T>) -> Option<Effect>
     ensures { IfSome result (λ found. found ≡ effect instr.now) }
 {
     match instr {

@@ -11,7 +11,8 @@ use Rattle.arc_code.specs.Effects.{operation_effect}
 use Rattle.arc_lower.specs.Order.{Order}
 use Rattle.arc_lower.specs.Lowered.{value_count, value_takes, reference_takes, values_take, conversion_orders, part_orders, piece_orders, left_behind, format_orders, pop_orders, keep_orders, print_orders, get_orders, set_orders, zero_orders, fit_orders, hold_orders, store_orders, drop_orders, number_of, slots_of, call_orders, value_orders, reference_orders, all_value_orders, whole_orders, whole_reference_orders, empty_orders, all_empty_orders, command_orders, all_command_orders}
 use Rattle.arc_lower.proofs.Linking.{out_of_list}
-use Rattle.arc_lower.specs.Heights.{Height, height, next_height, last_height}
+use Rattle.arc_lower.specs.declared.height.Height.{Height}
+use Rattle.arc_lower.specs.Heights.{height, next_height, last_height}
 
 slots_by : (P : Program) (f : ℕ) (b : Bool) → nat_lt f (length P.functions) ≡ b → slots_of P (if b then f else length P.functions) ≡ slots_of P f
 slots_by P f true e = refl
@@ -285,7 +286,7 @@ module _ (P : Program) (slots names : ℕ) where
         let xs = command_orders P slots names exit inside body in
         test_stays test (inside + length xs + 1) (xs ++ Jump place ∷ []) (jump_stays xs place)
 
-    all_commands_stay : (cs : Commands) (exit place : ℕ) → Stays (all_command_orders P slots names exit place cs)
+    pub all_commands_stay : (cs : Commands) (exit place : ℕ) → Stays (all_command_orders P slots names exit place cs)
     all_commands_stay no_commands exit place = refl
     all_commands_stay (and_command c others) exit place =
         let xs = command_orders P slots names exit place c in

@@ -13,7 +13,8 @@ use Rattle.arc_code.specs.Effects.{FitsAt, HeightsFit, passes}
 use Rattle.arc_ir.specs.Acting.{Action, Program, entry, linked}
 use Rattle.arc_lower.specs.Order.{Order, order, orders}
 use Rattle.arc_lower.specs.Lowered.{all_functions, number_of, slots_of, zero_orders, fit_orders, nil_orders, keep_orders, all_empty_orders, leave_orders, all_command_orders, body_orders, entry_of, function_orders, functions_orders, entries_from, start_orders, entries_of, stub_orders, methods_orders, dealloc_orders, class_orders, classes_orders, linked_methods, linked_classes, running_orders, lowered, classes_linked}
-use Rattle.arc_lower.specs.Heights.{Height, height, highest, next_height, last_height, heights, greatest, start_heights, function_heights, functions_heights, stub_heights, methods_heights, dealloc_heights, classes_heights, lowered_heights, greatest_height, height_at, numbers_at, places_at}
+use Rattle.arc_lower.specs.declared.height.Height.{Height}
+use Rattle.arc_lower.specs.Heights.{height, highest, next_height, last_height, heights, greatest, start_heights, function_heights, functions_heights, stub_heights, methods_heights, dealloc_heights, classes_heights, lowered_heights, greatest_height, height_at, numbers_at, places_at}
 use Rattle.arc_lower.proofs.Doing.{bare}
 use Rattle.arc_lower.proofs.Linking.{out_of_list, numbered, begins}
 use Rattle.arc_lower.proofs.Finding.{passes_same}
@@ -217,15 +218,16 @@ module _ (p : Program) (R : resolved.Program) (table : ℕ → Height) where
 
   found_begins : (ms : List Method) (place : ℕ) → HasHeights p R table place (methods_heights R (entries_of R) ms) → (sign : Sign) (selector takes to : ℕ) → found sign selector takes (linked_methods R (entries_of R) place ms) ≡ Some to → table to ≡ height (passes sign takes) 0
   found_begins [] place has sign selector takes to e = cc
-  found_begins (m ∷ others) place has sign selector takes to e = by (answers sign selector takes m) refl e
+  found_begins (m ∷ others) place has sign selector takes to e =
+      let xs = stub_orders R (entries_of R) (passes m.sign m.takes) m.runs in
+      by (found_begins others (place + length xs) (back_at place (stub_heights R (entries_of R) (passes m.sign m.takes) m.runs) (methods_heights R (entries_of R) others) xs (stub_length (passes m.sign m.takes) m.runs) has) sign selector takes to)
+      (answers sign selector takes m) refl e
     where
-      by : (t : Bool) → answers sign selector takes m ≡ t → (if t then Some place else found sign selector takes (linked_methods R (entries_of R) (place + length (stub_orders R (entries_of R) (passes m.sign m.takes) m.runs)) others)) ≡ Some to → table to ≡ height (passes sign takes) 0
-      by true is e =
+      by : (found sign selector takes (linked_methods R (entries_of R) (place + length (stub_orders R (entries_of R) (passes m.sign m.takes) m.runs)) others) ≡ Some to → table to ≡ height (passes sign takes) 0) → (t : Bool) → answers sign selector takes m ≡ t → (if t then Some place else found sign selector takes (linked_methods R (entries_of R) (place + length (stub_orders R (entries_of R) (passes m.sign m.takes) m.runs)) others)) ≡ Some to → table to ≡ height (passes sign takes) 0
+      by rest true is e =
           let begun = stub_begins (passes m.sign m.takes) m.runs place (heights_front p R table place (stub_heights R (entries_of R) (passes m.sign m.takes) m.runs) (methods_heights R (entries_of R) others) has) in
           ap table (sym (some_same place to e)) ∙ begun ∙ ap (λ n. height n 0) (passes_same sign selector takes m is)
-      by false is e =
-          let xs = stub_orders R (entries_of R) (passes m.sign m.takes) m.runs in
-          found_begins others (place + length xs) (back_at place (stub_heights R (entries_of R) (passes m.sign m.takes) m.runs) (methods_heights R (entries_of R) others) xs (stub_length (passes m.sign m.takes) m.runs) has) sign selector takes to e
+      by rest false is e = rest e
 
   own_begins : (cs : List Class) (place : ℕ) → HasHeights p R table place (classes_heights R (entries_of R) cs) → (i : ℕ) (sign : Sign) (selector takes to : ℕ) → found sign selector takes (own_methods (slice_get (linked_classes R (entries_of R) place cs) i)) ≡ Some to → table to ≡ height (passes sign takes) 0
   own_begins [] place has i sign selector takes to e = cc
@@ -243,11 +245,11 @@ module _ (p : Program) (R : resolved.Program) (table : ℕ → Height) where
 
 first_of : (Q : Type 0) (go : ℕ → Option ℕ) (to : ℕ) → ((c : ℕ) → go c ≡ Some to → Q) → (cs : List ℕ) → first_that_has go cs ≡ Some to → Q
 first_of Q go to one [] e = cc
-first_of Q go to one (c ∷ cs) e = by (go c) refl e
+first_of Q go to one (c ∷ cs) e = by (first_of Q go to one cs) (go c) refl e
   where
-    by : (o : Option ℕ) → go c ≡ o → or_else o (first_that_has go cs) ≡ Some to → Q
-    by None is e = first_of Q go to one cs e
-    by (Some a) is e = one c (is ∙ e)
+    by : (first_that_has go cs ≡ Some to → Q) → (o : Option ℕ) → go c ≡ o → or_else o (first_that_has go cs) ≡ Some to → Q
+    by rest None is e = rest e
+    by rest (Some a) is e = one c (is ∙ e)
 
 -- ---- the greatest
 

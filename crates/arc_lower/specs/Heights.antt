@@ -4,8 +4,9 @@ use Rattle.arc_spec.specs.Resolved.{Function, Program}
 use Rattle.arc_spec.specs.declared.class.Method.{Method}
 use Rattle.arc_spec.specs.Classes.{Class}
 use Rattle.arc_code.specs.declared.instr.Instr.TheVariants.{Jump, Call, Return}
-use Rattle.arc_code.specs.Effects.{Effect, effect, passes, room_for}
-pub use Rattle.arc_lower.specs.declared.height.Height.{Height}
+use Rattle.arc_code.specs.declared.effect.Effect.{Effect}
+use Rattle.arc_code.specs.Effects.{effect, passes, room_for}
+use Rattle.arc_lower.specs.declared.height.Height.{Height}
 use Rattle.arc_lower.specs.Order.{Order}
 use Rattle.arc_lower.specs.Lowered.{all_functions, slots_of, start_orders, function_orders, stub_orders, entries_of}
 

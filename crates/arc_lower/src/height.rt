@@ -7,7 +7,7 @@ ghost use Rattle.arc_lower.specs.Heights.{height, highest, after_effect, next_he
 use crate::call::slots_of;
 use crate::variable::add_operands;
 use arc_check::checked::Checked;
-use arc_code::effect::{Effect, effect};
+use arc_code::effect::{Effect, instr_effect};
 use arc_code::instr::Instr;
 use arc_ir::action::Action;
 use arc_spec::event::NoMemory;
@@ -52,7 +52,7 @@ fn next_height(
 ) -> Result<Height, NoMemory>
     ensures { IfOk result (λ next. next ≡ next_height (program_of program.now) base (order action.now) before) }
 {
-    let Some(effect) = effect(action) else {
+    let Some(effect) = instr_effect(action) else {
         return Err(NoMemory);
     };
     match action {

@@ -5,7 +5,8 @@ ghost use Rattle.arc_code.specs.Effects.{HeightsFit, NeverHasMore, room_for};
 ghost use Rattle.arc_ir.specs.Acting as acting;
 ghost use Rattle.arc_lower.specs.Order.{orders};
 ghost use Rattle.arc_lower.specs.Lowered.{whole_orders, whole_reference_orders, command_orders, lowered, entries_of, end_step_of, classes_linked};
-ghost use Rattle.arc_lower.specs.Heights.{Height, height, last_height, greatest_height, numbers_at, places_at};
+ghost use Rattle.arc_lower.specs.declared.height.Height.{Height};
+ghost use Rattle.arc_lower.specs.Heights.{height, last_height, greatest_height, numbers_at, places_at};
 
 /// A full-expression leaves one number more where it is an int, and all places as they were.
 pub fn full_expressions_end()

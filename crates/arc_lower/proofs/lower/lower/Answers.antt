@@ -5,7 +5,8 @@ use Rattle.arc_ir.specs.Acting.{Program}
 use Rattle.arc_lower.specs.Order.{orders}
 use Rattle.arc_lower.specs.Lowered.{all_functions, functions_orders, entries_from, start_orders, end_step_of, running_orders, entries_of, classes_orders, linked_classes}
 use Rattle.arc_code.specs.Effects.{room_for}
-use Rattle.arc_lower.specs.Heights.{Height, height, greatest, start_heights, functions_heights, classes_heights, greatest_height}
+use Rattle.arc_lower.specs.declared.height.Height.{Height}
+use Rattle.arc_lower.specs.Heights.{height, greatest, start_heights, functions_heights, classes_heights, greatest_height}
 use Rattle.arc_lower.specs.Promise.{IsLowered}
 use Rattle.arc_lower.proofs.Laying.{greatest_append}
 use Rattle.arc_lower.proofs.Whole.{performs}
