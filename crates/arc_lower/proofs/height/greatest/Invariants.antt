@@ -5,4 +5,4 @@ use Rattle.arc_lower.specs.Heights.{heights, greatest}
 use Rattle.arc_lower.proofs.height.greatest.Given as goal
 
 abbrev pub invariant-loop-action : goal.invariant-loop-action
-invariant-loop-action l = greatest (heights (program_of l.program) l.base l.height (orders (drop l.action-index l.actions))) l.most ≡ greatest (heights (program_of l.program) l.base l.first (orders l.actions)) l.so_far
+invariant-loop-action l = greatest (heights (program_of l.program) l.base l.height (orders (drop l.action-index l.actions))) l.most ≡ greatest (heights (program_of l.program) l.base l.fn.first (orders l.actions)) l.fn.so_far
