@@ -66,8 +66,22 @@ fn room_for(most: usize) -> Result<usize, NoMemory>
     }
 }
 
-/// Appends the actions that call `main`, and the one at which the ends of objects go on, and raises
-/// the greatest height to theirs. Gives the number of that one.
+/// Appends the actions that call `main`, and the one at which the ends of objects go on. Gives the
+/// number of that one.
+fn append_call_of_main(actions: &mut Vec<Action>, program: &Checked) -> Result<usize, NoMemory>
+    ensures actions { OnOk result (orders actions.new.items ≡ orders actions.old.items ++ start_orders (program_of program.now)) }
+    ensures end_step { IfOk result (λ place. place ≡ length (orders actions.old.items) + end_step_of (program_of program.now)) }
+{
+    append_zeros(actions, slots_of(program, program.main))?;
+    append(actions, Instr::Call(number_of(program, program.main)))?;
+    append(actions, Instr::Return)?;
+    let end_step = actions.len();
+    append(actions, Instr::EndStep)?;
+    Ok(end_step)
+}
+
+/// Appends where the program begins, and raises the greatest height to its. Gives the number of the
+/// action at which the ends of objects go on.
 fn append_start(
     actions: &mut Vec<Action>,
     program: &Checked,
@@ -78,11 +92,7 @@ fn append_start(
     ensures most { OnOk result (most.new ≡ greatest (start_heights (program_of program.now)) most.old) }
 {
     let begin = actions.len();
-    append_zeros(actions, slots_of(program, program.main))?;
-    append(actions, Instr::Call(number_of(program, program.main)))?;
-    append(actions, Instr::Return)?;
-    let end_step = actions.len();
-    append(actions, Instr::EndStep)?;
+    let end_step = append_call_of_main(actions, program)?;
     let base = Height {
         numbers: 0,
         places: 0,
@@ -135,14 +145,7 @@ fn append_function(
     ensures most { OnOk result (most.new ≡ greatest (function_heights (program_of program.now) (length (orders actions.old.items)) (record { slots = slots; names = names; body = commands body.now })) most.old) }
 {
     let begin = actions.len();
-    append_leave(actions, slots, names)?;
-    entries.push(actions.len())?;
-    let exit = Body {
-        slots,
-        names,
-        exit: begin,
-    };
-    append_body(alloc, actions, program, exit, body)?;
+    append_exit_and_body(alloc, actions, entries, program, slots, names, body)?;
     let base = Height {
         numbers: slots,
         places: names,
@@ -153,6 +156,29 @@ fn append_function(
     };
     *most = greatest(program, base, left, &actions[begin..], *most)?;
     Ok(())
+}
+
+/// Appends the actions that leave a function, and those from its entry on, and where that is.
+fn append_exit_and_body(
+    alloc: Global,
+    actions: &mut Vec<Action>,
+    entries: &mut Vec<usize>,
+    program: &Checked,
+    slots: usize,
+    names: usize,
+    body: &[Command],
+) -> Result<(), NoMemory>
+    ensures actions { OnOk result (orders actions.new.items ≡ orders actions.old.items ++ function_orders (program_of program.now) (length (orders actions.old.items)) (record { slots = slots; names = names; body = commands body.now })) }
+    ensures entries { OnOk result (entries.new.items ≡ entries.old.items ++ entry_of (length (orders actions.old.items)) (record { slots = slots; names = names; body = commands body.now }) ∷ []) }
+{
+    let exit = Body {
+        slots,
+        names,
+        exit: actions.len(),
+    };
+    append_leave(actions, slots, names)?;
+    entries.push(actions.len())?;
+    append_body(alloc, actions, program, exit, body)
 }
 
 /// Appends what a function does from its entry on.

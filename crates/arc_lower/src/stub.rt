@@ -41,7 +41,23 @@ fn numbers_passed(sign: Sign, takes: usize) -> Result<usize, NoMemory>
 }
 
 /// Appends the actions that make the `count` numbers on top the variables of a function, and go on
-/// where that is entered. Raises the greatest height to theirs.
+/// where that is entered.
+fn append_jump_to(
+    actions: &mut Vec<Action>,
+    program: &Checked,
+    entries: &[usize],
+    count: usize,
+    function: usize,
+) -> Result<(), NoMemory>
+    ensures { OnOk result (orders actions.new.items ≡ orders actions.old.items ++ stub_orders (program_of program.now) entries.now count function) }
+{
+    append_fit(actions, count, slots_of(program, function))?;
+    let entry = entry_of(entries, number_of(program, function));
+    append(actions, Instr::Jump(entry))
+}
+
+/// Appends the stub of a function that is passed `count` numbers, and raises the greatest height to
+/// its.
 fn append_stub(
     actions: &mut Vec<Action>,
     program: &Checked,
@@ -54,9 +70,7 @@ fn append_stub(
     ensures most { OnOk result (most.new ≡ greatest (stub_heights (program_of program.now) entries.now count function) most.old) }
 {
     let begin = actions.len();
-    append_fit(actions, count, slots_of(program, function))?;
-    let entry = entry_of(entries, number_of(program, function));
-    append(actions, Instr::Jump(entry))?;
+    append_jump_to(actions, program, entries, count, function)?;
     let base = Height {
         numbers: 0,
         places: 0,

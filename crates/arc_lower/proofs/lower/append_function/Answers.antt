@@ -1,0 +1,20 @@
+use Rattle.std.proofs.Common.{◌≡◌, suc, length, ap, ◌∙◌}
+use Rattle.arc_spec.specs.Resolved.{Function}
+use Rattle.arc_check.specs.Checked.{commands, program_of}
+use Rattle.arc_lower.specs.Order.{orders}
+use Rattle.arc_lower.specs.Lowered.{function_orders}
+use Rattle.arc_lower.specs.Heights.{height, heights, greatest}
+use Rattle.arc_lower.proofs.Appended.{slice_behind}
+use Rattle.arc_lower.proofs.lower.append_function.Goals as goal
+
+pub returns-clause-most : goal.returns-clause-most
+returns-clause-most c =
+    let P = program_of c.args.program.now in
+    let old = c.args.actions.now in
+    let f : Function = record { slots = c.args.slots; names = c.args.names; body = commands c.args.body.now } in
+    let xs = function_orders P (length (orders old.items)) f in
+    let base = height c.args.slots c.args.names in
+    c.in_ok-most.ensures
+    ∙ ap (λ n. greatest (heights P base (height n c.args.names) _) c.args.most.now) c.in_ok-one_more.ensures
+    ∙ ap (λ l. greatest (heights P base (height (suc c.args.slots) c.args.names) l) c.args.most.now)
+      (slice_behind old.items c.append_exit_and_body.new.actions.items c.deref.result.now c.len-begin.result xs (c.len-begin.ensures ∙ old.ok.0) c.deref.ensures.value c.in_ok-append_exit_and_body.ensures.actions)
