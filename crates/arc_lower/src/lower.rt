@@ -126,7 +126,8 @@ fn append_functions(
             most,
         )?;
     }
-    append_function(alloc, actions, entries, program, 0, 0, &[], most)
+    append_function(alloc, actions, entries, program, 0, 0, &[], most)?;
+    Ok(())
 }
 
 /// Appends the actions of a function, and where it is entered. Raises the greatest height to theirs.

@@ -1,4 +1,4 @@
-use Rattle.std.proofs.Common.{◌≡◌, suc, length, ap, ◌∙◌}
+use Rattle.std.proofs.Common.{◌≡◌, length, ap, ◌∙◌}
 use Rattle.arc_spec.specs.Resolved.{Function}
 use Rattle.arc_check.specs.Checked.{commands, program_of}
 use Rattle.arc_lower.specs.Order.{orders}
@@ -14,7 +14,8 @@ returns-clause-most c =
     let f : Function = record { slots = c.args.slots; names = c.args.names; body = commands c.args.body.now } in
     let xs = function_orders P (length (orders old.items)) f in
     let base = height c.args.slots c.args.names in
+    let to = c.in_ok-one_more.field-0 in
     c.in_ok-most.ensures
-    ∙ ap (λ n. greatest (heights P base (height n c.args.names) _) c.args.most.now) c.in_ok-one_more.ensures
-    ∙ ap (λ l. greatest (heights P base (height (suc c.args.slots) c.args.names) l) c.args.most.now)
+    ∙ ap (λ l. greatest (heights P base (height to c.args.names) l) c.args.most.now)
       (slice_behind old.items c.append_exit_and_body.new.actions.items c.deref.result.now c.len-begin.result xs (c.len-begin.ensures ∙ old.ok.0) c.deref.ensures.value c.in_ok-append_exit_and_body.ensures.actions)
+    ∙ ap (λ n. greatest (heights P base (height n c.args.names) xs) c.args.most.now) c.in_ok-one_more.ensures

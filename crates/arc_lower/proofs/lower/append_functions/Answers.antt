@@ -30,7 +30,7 @@ loop-function-preserved c =
     laid_more P start c.args.entries.now.items c.args.most.now whole o c.loop-function.entries.items c.loop-function.most f left (orders c.append_function.new.actions.items) c.append_function.new.entries.items c.append_function.new.most before laid entries most
 
 -- behind the last function
-finished : (c : goal.After-append_function-2) → Laid (program_of c.args.program.now) (orders c.args.actions.now.items) c.args.entries.now.items c.args.most.now (functions c.deref-function-items.result.now ++ nothing ∷ []) (orders c.append_function-2.new.actions.items) c.append_function-2.new.entries.items c.append_function-2.new.most []
+finished : (c : goal.In_ok-append_function-2) → Laid (program_of c.args.program.now) (orders c.args.actions.now.items) c.args.entries.now.items c.args.most.now (functions c.deref-function-items.result.now ++ nothing ∷ []) (orders c.append_function-2.new.actions.items) c.append_function-2.new.entries.items c.append_function-2.new.most []
 finished c =
     let P = program_of c.args.program.now in
     let all = c.deref-function-items.result.now in
