@@ -1,9 +1,9 @@
 -- The heights of a lowered program fit its actions.
-use Rattle.std.proofs.Common.{◌≡◌, ℕ, zero, suc, ◌+◌, ◌-◌, ◌≤◌, max, pos, Bool, true, false, if◌then◌else◌, nat_lt, List, [], ◌∷◌, ◌++◌, length, get_or, Option, Some, None, refl, sym, ap, ◌∙◌, subst, arith, append_assoc, length-append, slice_get, slice_index_or}
+use Rattle.std.proofs.Common.{◌≡◌, ℕ, zero, suc, ◌+◌, ◌≤◌, pos, Bool, true, false, if◌then◌else◌, nat_lt, List, [], ◌∷◌, ◌++◌, length, get_or, Option, Some, None, refl, sym, ap, ◌∙◌, subst, arith, append_assoc, length-append, slice_get, slice_index_or}
 use Rattle.std.proofs.lemmas.Bool.{ltb-false}
 use Rattle.arc_ast.specs.declared.tree.Sign.{Sign}
 use Rattle.arc_spec.specs.declared.class.Method.{Method}
-use Rattle.arc_spec.specs.Classes.{Class, answers, found, own_methods, or_else, first_that_has, superclasses, ancestry, lookup}
+use Rattle.arc_spec.specs.Classes.{Class, answers, found, own_methods, or_else, first_that_has, superclasses, ancestry}
 use Rattle.arc_spec.specs.Resolved.{Function, Commands}
 use Rattle.arc_spec.specs.Resolved as resolved
 use Rattle.arc_spec.specs.Meaning.{function_at}
@@ -12,7 +12,7 @@ use Rattle.arc_code.specs.declared.instr.Instr.TheVariants.{Plain, PrintText, Ju
 use Rattle.arc_code.specs.Effects.{FitsAt, HeightsFit, passes}
 use Rattle.arc_ir.specs.Acting.{Action, Program, entry, linked}
 use Rattle.arc_lower.specs.Order.{Order, order, orders}
-use Rattle.arc_lower.specs.Lowered.{all_functions, number_of, slots_of, zero_orders, fit_orders, nil_orders, keep_orders, all_empty_orders, leave_orders, all_command_orders, body_orders, entry_of, function_orders, functions_orders, entries_from, start_orders, entries_of, stub_orders, methods_orders, dealloc_orders, class_orders, classes_orders, linked_methods, linked_classes, running_orders, lowered, classes_linked}
+use Rattle.arc_lower.specs.Lowered.{all_functions, number_of, slots_of, zero_orders, fit_orders, nil_orders, keep_orders, all_empty_orders, all_command_orders, function_orders, functions_orders, entries_from, start_orders, entries_of, stub_orders, methods_orders, dealloc_orders, class_orders, classes_orders, linked_methods, linked_classes, running_orders, lowered, classes_linked}
 use Rattle.arc_lower.specs.declared.height.Height.{Height}
 use Rattle.arc_lower.specs.Heights.{height, highest, next_height, last_height, heights, greatest, start_heights, function_heights, functions_heights, stub_heights, methods_heights, dealloc_heights, classes_heights, lowered_heights, greatest_height, height_at, numbers_at, places_at}
 use Rattle.arc_lower.proofs.Doing.{bare}
@@ -390,7 +390,7 @@ module _ (p : Program) (R : resolved.Program) where
           action_fits x pc (subst (λ q. FitsAt (bare p) (numbers_at R) (places_at R) q (order x)) n (fit_at p.actions 0 pc x (subst (AllFit p R table 0) (sym is) program_fits) e));
       methods = λ from sign selector takes to e.
           let own : (c : ℕ) → found sign selector takes (own_methods (slice_get p.classes c)) ≡ Some to → table to ≡ height (passes sign takes) 0 = λ c f.
-              own_begins p R table R.classes (length (running_orders R)) (subst (λ n. HasHeights p R table n stubs) (none_more (length (running_orders R))) has_stubs) c sign selector takes to (subst (λ cs. found sign selector takes (own_methods (slice_get cs c)) ≡ Some to) classes f) in
+          own_begins p R table R.classes (length (running_orders R)) (subst (λ n. HasHeights p R table n stubs) (none_more (length (running_orders R))) has_stubs) c sign selector takes to (subst (λ cs. found sign selector takes (own_methods (slice_get cs c)) ≡ Some to) classes f) in
           let there = first_of (table to ≡ height (passes sign takes) 0) (λ c. found sign selector takes (own_methods (slice_get p.classes c))) to own (ancestry (superclasses p.classes) from) e in
           let n : (table to).numbers ≡ passes sign takes = ap (λ (h : Height). h.numbers) there in
           omega (arith, n);

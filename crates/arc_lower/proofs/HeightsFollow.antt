@@ -10,7 +10,7 @@ use Rattle.arc_ir.specs.Acting.{Program, entry}
 use Rattle.arc_lower.specs.Order.{Order}
 use Rattle.arc_lower.specs.Lowered.{reference_takes, store_orders, drop_orders, slots_of, reference_orders, whole_orders, all_empty_orders, command_orders, all_command_orders}
 use Rattle.arc_lower.specs.declared.height.Height.{Height}
-use Rattle.arc_lower.specs.Heights.{height, numbers_taken, next_height, heights, last_height}
+use Rattle.arc_lower.specs.Heights.{height, next_height, heights, last_height}
 use Rattle.arc_lower.proofs.Doing.{bare}
 use Rattle.arc_lower.proofs.Straight.{Straight, AllStraight, straight_then, whole_straight, whole_reference_straight, reference_straight, store_straight, drops_straight, all_empty_straight}
 use Rattle.arc_lower.proofs.HeightsEnd.{heights_same, whole_ends, between, command_stays, all_commands_stay}
@@ -148,10 +148,13 @@ module _ (p : Program) (R : resolved.Program) (table : ℕ → Height) where
         let n : (table pc).numbers ≡ h.numbers = ap (λ (a : Height). a.numbers) now in
         let m : (table pc).places ≡ h.places = ap (λ (a : Height). a.places) now in
         let n1 : (table (pc + 1)).numbers ≡ h.numbers - slots_of R f + 1 = ap (λ (a : Height). a.numbers) next in
-        let m1 : (table (pc + 1)).places ≡ h.places - 0 + 0 = ap (λ (a : Height). a.places) next in
-        (omega (arith, n1), omega (arith, m, m1), λ to found.
-            let most : slots_of R f ≤ (table to).numbers = subst (λ (q : ℕ). slots_of R f ≤ (table q).numbers) (some_same (entry p f) to found) (begun f) in
-            omega (arith, n, n1, most))
+        let m1 : (table (pc + 1)).places ≡ h.places - 0 + 0 = ap (λ (a : Height). a.places) next in (
+          omega (arith, n1),
+          omega (arith, m, m1),
+          λ to found.
+              let most : slots_of R f ≤ (table to).numbers = subst (λ (q : ℕ). slots_of R f ≤ (table q).numbers) (some_same (entry p f) to found) (begun f) in
+              omega (arith, n, n1, most),
+        )
 
     pub straight_fits : (base : Height) (pc : ℕ) (h : Height) (x : Order) → Straight x → table pc ≡ h → table (pc + 1) ≡ next_height R base x h → FitsAt (bare p) numbers places pc x
     straight_fits base pc h (Plain o) s now next = within pc h (operation_effect o) now next

@@ -37,7 +37,13 @@ pub fn lower(alloc: Global, program: &Owned) -> Result<Ir, NoMemory>
         places: 0,
     };
     let end_step = append_start(&mut actions, program.program, &mut most)?;
-    append_functions(alloc, &mut actions, &mut entries, program.program, &mut most)?;
+    append_functions(
+        alloc,
+        &mut actions,
+        &mut entries,
+        program.program,
+        &mut most,
+    )?;
     let classes = append_classes(alloc, &mut actions, program.program, &entries, &mut most)?;
     let room = room_for(most.numbers)?;
     let places = room_for(most.places)?;

@@ -1,4 +1,4 @@
-use Rattle.std.proofs.Common.{◌≡◌, length, ap, ◌∙◌}
+use Rattle.std.proofs.Common.{length, ap, ◌∙◌}
 use Rattle.arc_spec.specs.Resolved.{Function}
 use Rattle.arc_check.specs.Checked.{commands, program_of}
 use Rattle.arc_lower.specs.Order.{orders}
@@ -17,5 +17,5 @@ returns-clause-most c =
     let to = c.in_ok-one_more.field-0 in
     c.in_ok-most.ensures
     ∙ ap (λ l. greatest (heights P base (height to c.args.names) l) c.args.most.now)
-      (slice_behind old.items c.append_exit_and_body.new.actions.items c.deref.result.now c.len-begin.result xs (c.len-begin.ensures ∙ old.ok.0) c.deref.ensures.value c.in_ok-append_exit_and_body.ensures.actions)
+    (slice_behind old.items c.append_exit_and_body.new.actions.items c.deref.result.now c.len-begin.result xs (c.len-begin.ensures ∙ old.ok.0) c.deref.ensures.value c.in_ok-append_exit_and_body.ensures.actions)
     ∙ ap (λ n. greatest (heights P base (height n c.args.names) xs) c.args.most.now) c.in_ok-one_more.ensures

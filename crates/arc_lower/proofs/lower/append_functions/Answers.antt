@@ -1,10 +1,10 @@
 use Rattle.std.proofs.Common.{◌≡◌, ◌++◌, [], ◌∷◌, ◌+◌, length, drop, ap, sym, ◌∙◌, subst}
-use Rattle.std.proofs.lemmas.List.{drop_more, drop_all, length-map, append-nil}
+use Rattle.std.proofs.lemmas.List.{drop_more, drop_all, append-nil}
 use Rattle.arc_spec.specs.Resolved.{Function}
 use Rattle.arc_check.specs.declared.checked.CheckedFunction.{CheckedFunction}
 use Rattle.arc_check.specs.Checked.{functions, commands, program_of}
-use Rattle.arc_lower.specs.Order.{order, orders}
-use Rattle.arc_lower.specs.Lowered.{nothing, entry_of, function_orders, functions_orders, entries_from, all_functions}
+use Rattle.arc_lower.specs.Order.{orders}
+use Rattle.arc_lower.specs.Lowered.{nothing, entry_of, function_orders, functions_orders, entries_from}
 use Rattle.arc_lower.specs.Heights.{greatest, function_heights, functions_heights}
 use Rattle.arc_lower.proofs.Laying.{Laid, laid_more}
 use Rattle.arc_lower.proofs.lower.append_functions.Goals as goal

@@ -1,4 +1,4 @@
-use Rattle.std.proofs.Common.{◌≡◌, ap, ◌∙◌}
+use Rattle.std.proofs.Common.{ap, ◌∙◌}
 use Rattle.arc_check.specs.Checked.{program_of}
 use Rattle.arc_lower.specs.Lowered.{start_orders}
 use Rattle.arc_lower.specs.Heights.{height, heights, greatest}
@@ -10,4 +10,4 @@ returns-clause-most c =
     let P = program_of c.args.program.now in
     let old = c.args.actions.now in
     c.in_ok-most.ensures ∙ ap (λ l. greatest (heights P (height 0 0) (height 0 0) l) c.args.most.now)
-      (slice_behind old.items c.append_call_of_main.new.actions.items c.deref.result.now c.len-begin.result (start_orders P) (c.len-begin.ensures ∙ old.ok.0) c.deref.ensures.value c.in_ok-end_step.ensures.actions)
+    (slice_behind old.items c.append_call_of_main.new.actions.items c.deref.result.now c.len-begin.result (start_orders P) (c.len-begin.ensures ∙ old.ok.0) c.deref.ensures.value c.in_ok-end_step.ensures.actions)

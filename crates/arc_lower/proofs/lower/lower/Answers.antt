@@ -29,10 +29,10 @@ returns c =
     let stub_heights = classes_heights R (entries_of R) R.classes in
     let none : Height = height 0 0 in
     let most : c.append_classes.new.most ≡ greatest_height R =
-        c.in_ok-classes.ensures.most
-        ∙ ap (λ e. greatest (classes_heights R e R.classes) c.append_functions.new.most) given
-        ∙ ap (greatest stub_heights) (c.in_ok-append_functions.ensures.most ∙ ap (λ s. greatest (functions_heights R (length s) all) c.append_start.new.most) start ∙ ap (greatest function_heights) c.in_ok-end_step.ensures.most)
-        ∙ sym (greatest_append (first_heights ++ function_heights) stub_heights none ∙ ap (greatest stub_heights) (greatest_append first_heights function_heights none)) in
+    c.in_ok-classes.ensures.most
+    ∙ ap (λ e. greatest (classes_heights R e R.classes) c.append_functions.new.most) given
+    ∙ ap (greatest stub_heights) (c.in_ok-append_functions.ensures.most ∙ ap (λ s. greatest (functions_heights R (length s) all) c.append_start.new.most) start ∙ ap (greatest function_heights) c.in_ok-end_step.ensures.most)
+    ∙ sym (greatest_append (first_heights ++ function_heights) stub_heights none ∙ ap (greatest stub_heights) (greatest_append first_heights function_heights none)) in
     let room = c.in_ok-room.ensures ∙ ap (λ (h : Height). room_for h.numbers) most in
     let places = c.in_ok-places.ensures ∙ ap (λ (h : Height). room_for h.places) most in
     let made : Program = record { actions = c.append_classes.new.actions.items; entries = found; end_step = c.in_ok-end_step.end_step; room = c.in_ok-room.room; places = c.in_ok-places.places; classes = classes_of c.in_ok-classes.classes.items } in

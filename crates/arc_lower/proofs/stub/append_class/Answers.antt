@@ -1,4 +1,4 @@
-use Rattle.std.proofs.Common.{◌≡◌, sym, ap, ◌∙◌}
+use Rattle.std.proofs.Common.{sym, ap, ◌∙◌}
 use Rattle.arc_spec.specs.Classes.{class_of}
 use Rattle.arc_check.specs.Checked.{program_of}
 use Rattle.arc_lower.specs.Heights.{greatest, dealloc_heights, methods_heights}

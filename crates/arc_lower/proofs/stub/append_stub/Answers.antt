@@ -1,4 +1,4 @@
-use Rattle.std.proofs.Common.{◌≡◌, ap, ◌∙◌}
+use Rattle.std.proofs.Common.{ap, ◌∙◌}
 use Rattle.arc_check.specs.Checked.{program_of}
 use Rattle.arc_lower.specs.Lowered.{stub_orders}
 use Rattle.arc_lower.specs.Heights.{height, heights, greatest}
@@ -11,4 +11,4 @@ returns-clause-most c =
     let old = c.args.actions.now in
     let xs = stub_orders P c.args.entries.now c.args.count c.args.function in
     c.in_ok-most.ensures ∙ ap (λ l. greatest (heights P (height 0 0) (height c.args.count 0) l) c.args.most.now)
-      (slice_behind old.items c.append_jump_to.new.actions.items c.deref.result.now c.len-begin.result xs (c.len-begin.ensures ∙ old.ok.0) c.deref.ensures.value c.in_ok-append_jump_to.ensures)
+    (slice_behind old.items c.append_jump_to.new.actions.items c.deref.result.now c.len-begin.result xs (c.len-begin.ensures ∙ old.ok.0) c.deref.ensures.value c.in_ok-append_jump_to.ensures)
