@@ -150,13 +150,4 @@ module _ (p : Program) (g : Stage) (R : resolved.Program) (slots names below : �
       let leave = leave_orders slots names in
       let entry = exit + length leave in
       let body = body_from all exit entry in
-      let nils = nil_orders names in
-      let xs = all_command_orders R slots names exit (entry + length nils) all in
-      let end : List Order = Plain (Num (pos 0)) ∷ (Jump exit ∷ []) in
-      let emptied = all_empty_orders names 0 names in
-      let kept = keep_orders slots in
-      let s1 = length-append leave body in
-      let s2 = length-append emptied (Plain (Forget names) ∷ (kept ++ Return ∷ [])) in
-      let s3 = length-append kept (Return ∷ []) in
-      entered_safe all exit entry (has_back p exit leave body has) n (λ m le.
-      leave_safe m exit (has_front p exit leave body has) (λ m1 le1. home m1 (omega (arith, le, le1))))
+      entered_safe all exit entry (has_back p exit leave body has) n (λ m le. leave_safe m exit (has_front p exit leave body has) (λ m1 le1. home m1 (omega (arith, le, le1))))

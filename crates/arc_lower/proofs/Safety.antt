@@ -86,7 +86,7 @@ module _ (p : Program) (g : Stage) where
   }
 
   pub one_keeps : (x : Order) (height own after left : ℕ) → ((n pc : ℕ) (stack : List ℤ) (held : Held) (mine : List ℕ) → length stack ≡ height → length mine ≡ own → Owns g mine held → Sane held → Until p g n (pc + 1) after left → Along (SafeIfSane p n) (does p x (at g.frames pc stack held))) → Keeps (x ∷ []) height own after left
-  one_keeps x height own after left h = record { safe = λ n pc has behind stack held mine e f o. steps h n pc has behind stack held mine e f o; }
+  one_keeps x height own after left h = record { safe = λ n pc has behind stack held mine e f o. steps h n pc has behind stack held mine e f o }
     where
       steps : ((n pc : ℕ) (stack : List ℤ) (held : Held) (mine : List ℕ) → length stack ≡ height → length mine ≡ own → Owns g mine held → Sane held → Until p g n (pc + 1) after left → Along (SafeIfSane p n) (does p x (at g.frames pc stack held))) → (n pc : ℕ) → HasAt p pc (x ∷ []) → Until p g n (pc + 1) after left → SafeAt p g n pc height own
       steps h zero pc has behind stack held mine e f o = tt
@@ -345,7 +345,7 @@ module _ (p : Program) (g : Stage) where
     -- ---- calls and messages
 
     call_keeps : (f height own : ℕ) → Keeps (Call (number_of R f) ∷ []) (slots_of R f + height) own (suc height) own
-    call_keeps f height own = record { safe = λ n pc has behind. safe_calls.invokes f height own n pc has behind; }
+    call_keeps f height own = record { safe = λ n pc has behind. safe_calls.invokes f height own n pc has behind }
 
     invoked_keeps : (f values height own stack : ℕ) → height ≡ values + stack → Keeps (call_orders R f values) height own (suc stack) own
     invoked_keeps f values height own stack e = then_keeps (fit_orders values (slots_of R f)) (Call (number_of R f) ∷ []) height own (slots_of R f + stack) own (suc stack) own (fit_keeps values (slots_of R f) height own (slots_of R f + stack) stack e refl) (call_keeps f stack own)

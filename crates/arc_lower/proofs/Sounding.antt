@@ -1,5 +1,5 @@
 -- The actions of a program are never without what they need.
-use Rattle.std.proofs.Common.{◌≡◌, ℕ, zero, suc, ◌+◌, ◌-◌, ◌*◌, ◌<◌, ◌≤◌, ℤ, Bool, true, false, nat_eq, nat_lt, List, [], ◌∷◌, ◌++◌, length, Option, Some, None, slice_get, slice_index_or, if◌then◌else◌, refl, sym, ap, subst, arith, length-append}
+use Rattle.std.proofs.Common.{◌≡◌, ℕ, zero, suc, ◌+◌, ◌-◌, ◌<◌, ◌≤◌, ℤ, Bool, true, false, nat_eq, nat_lt, List, [], ◌∷◌, ◌++◌, length, Option, Some, None, slice_get, slice_index_or, if◌then◌else◌, refl, sym, ap, subst, arith}
 use Rattle.std.proofs.lemmas.Bool.{lt-ltb, le-ltb}
 use Rattle.arc_spec.specs.declared.event.Fault.TheVariants.{Resurrected}
 use Rattle.arc_spec.specs.Classes.{Class, lookup}
@@ -9,11 +9,10 @@ use Rattle.arc_spec.specs.Meaning.{function_at, most_levels}
 use Rattle.arc_spec.specs.Holding.{Held, Counted, nothing_held, Calling, Ending, with_self, with_things, gone_in}
 use Rattle.arc_spec.specs.Stepping.{Goes, Faults, Along, Sound, on_top}
 use Rattle.arc_ir.specs.Acting.{Program, has_level, enters, answers, begins_end, runs_dealloc, ends_class, end_goes_on, leaves, start, step}
-use Rattle.arc_code.specs.declared.instr.Op.TheVariants.{Forget}
-use Rattle.arc_code.specs.declared.instr.Instr.TheVariants.{Plain, Jump, Call, Return, EndStep}
+use Rattle.arc_code.specs.declared.instr.Instr.TheVariants.{Jump, Call, Return, EndStep}
 use Rattle.arc_code.specs.Effects.{passes}
 use Rattle.arc_lower.specs.Order.{orders}
-use Rattle.arc_lower.specs.Lowered.{number_of, slots_of, pop_orders, keep_orders, zero_orders, all_empty_orders, leave_orders, body_orders, entry_of, entries_of, end_step_of, start_orders, all_functions, lowered, classes_linked}
+use Rattle.arc_lower.specs.Lowered.{number_of, slots_of, pop_orders, zero_orders, entry_of, entries_of, end_step_of, start_orders, lowered, classes_linked}
 use Rattle.arc_lower.proofs.CountsThere.{set_here}
 use Rattle.arc_lower.proofs.CountsSound.{SafeIfSane, sound_if_sane}
 use Rattle.arc_lower.proofs.Recounting.{at}
