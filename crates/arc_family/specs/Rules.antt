@@ -1,4 +1,4 @@
--- The rules of ownership: what a program can't say, since the compiler counts references for it. Each is told of a site, by the place that breaks it.
+-- The rules of ownership: what a program can't say, since the compiler counts references for it. Each is a predicate on a site: the place at which the site breaks it, if it does.
 use Rattle.std.specs.Prelude.{ℕ, Bool, true, false, ◌||◌, ◌&&◌, List, ◌++◌, Option, Some, None, codes, if◌then◌else◌}
 use Rattle.std.specs.Str.{bytes_eq}
 use Rattle.arc_ast.specs.declared.tree.Sign.{Sign}

@@ -1,4 +1,4 @@
-//! A program as actions on places, between its tree and its code.
+//! A program as actions, between its tree and its code.
 #![tactic(auto)]
 
 pub mod action;

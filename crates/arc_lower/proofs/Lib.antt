@@ -27,7 +27,6 @@ mod Executing
 mod Linking
 mod Finding
 mod Calling
-mod Rising
 mod HeightsEnd
 mod Straight
 mod HeightsFollow
@@ -36,6 +35,6 @@ mod Safety
 mod Staying
 mod Leaving
 mod Sounding
-mod Roomless
+mod RoomSuffices
 mod Transferring
 mod Whole

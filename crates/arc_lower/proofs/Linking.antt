@@ -1,5 +1,5 @@
 -- Each function stands at its entry.
-use Rattle.std.proofs.Common.{◌≡◌, ℕ, ℤ, zero, suc, ◌+◌, ◌<◌, ◌≤◌, Bool, true, false, max, nat_lt, if◌then◌else◌, List, [], ◌∷◌, ◌++◌, length, Some, refl, ap, ◌∙◌, subst, arith, slice_get, slice_index_or, get_or}
+use Rattle.std.proofs.Common.{◌≡◌, ℕ, ℤ, zero, suc, ◌+◌, ◌<◌, ◌≤◌, Bool, true, false, nat_lt, if◌then◌else◌, List, [], ◌∷◌, ◌++◌, length, Some, refl, ap, ◌∙◌, subst, arith, slice_get, slice_index_or, get_or}
 use Rattle.std.proofs.lemmas.Bool.{ltb-true, ltb-false}
 use Rattle.arc_spec.specs.Classes.{Class}
 use Rattle.arc_spec.specs.Resolved.{Function}
@@ -15,24 +15,12 @@ use Rattle.arc_lower.proofs.Rows.{zeros_length}
 use Rattle.arc_lower.proofs.Recounting.{at}
 use Rattle.arc_lower.proofs.Doing.{HasAt, has_front, has_back, has_all}
 
--- how many actions the longest of these functions has, or this number, where that is more
-abbrev longest_from : resolved.Program → (place : ℕ) → List Function → (so_far : ℕ) → ℕ
-longest_from R place [] so_far = so_far
-longest_from R place (f ∷ others) so_far =
-    let size = length (function_orders R place f) in
-    longest_from R (place + size) others (max so_far size)
-
--- how many actions the longest function has, or the start
-abbrev pub longest : resolved.Program → ℕ
-longest R = longest_from R (length (start_orders R)) (all_functions R) (length (start_orders R))
-
 -- where a function begins, and where it is entered
 pub record Begins (p : Program) (R : resolved.Program) (n : ℕ) (f : Function) : Type 0 where
   pub place : ℕ
   pub entry : acting.entry p n ≡ entry_of place f
   pub first : slice_index_or (entries_of R) n 0 ≡ entry_of place f
   pub code : HasAt p place (function_orders R place f)
-  pub small : length (function_orders R place f) ≤ longest R
 
 -- the step of a call
 pub call_enters : (p : Program) (R : resolved.Program) (f : ℕ) (b : Begins p R (number_of R f) (function_at R f)) (pc : ℕ) (frames : List Frame) (stack : List ℤ) (held : Held) (more : Bool) → HasAt p pc (Call (number_of R f) ∷ []) → nat_lt (length frames) most_levels ≡ more → step p (at frames pc stack held) ≡ enters (at frames pc stack held) (entry_of b.place (function_at R f)) 0 more
@@ -40,47 +28,26 @@ call_enters p R f b pc frames stack held more has e =
     let s = at frames pc stack held in
     has.0 frames stack held ∙ ap (λ to. enters s to 0 (has_level s)) b.entry ∙ ap (enters s (entry_of b.place (function_at R f)) 0) e
 
-record Found (p : Program) (R : resolved.Program) (entries : List ℕ) (most n : ℕ) (f : Function) : Type 0 where
+record Found (p : Program) (R : resolved.Program) (entries : List ℕ) (n : ℕ) (f : Function) : Type 0 where
   place : ℕ
   entry : slice_get entries n ≡ Some (entry_of place f)
   code : HasAt p place (function_orders R place f)
-  small : length (function_orders R place f) ≤ most
 
-le_trans : (a b c : ℕ) → a ≤ b → b ≤ c → a ≤ c
-le_trans a b c h k = omega (arith, h, k)
-
-max_left : (a b : ℕ) → a ≤ max a b
-max_left a b = omega arith
-
-max_right : (a b : ℕ) → b ≤ max a b
-max_right a b = omega arith
-
-pub no_less : (R : resolved.Program) (fs : List Function) (place so_far : ℕ) → so_far ≤ longest_from R place fs so_far
-no_less R [] place so_far = omega arith
-no_less R (g ∷ fs) place so_far =
-    let size = length (function_orders R place g) in
-    let h = no_less R fs (place + size) (max so_far size) in
-    omega (arith, h, max_left so_far size)
-
-find : (p : Program) (R : resolved.Program) (fs : List Function) (place so_far n : ℕ) (f : Function) → slice_get fs n ≡ Some f → HasAt p place (functions_orders R place fs) → Found p R (entries_from R place fs) (longest_from R place fs so_far) n f
-find p R [] place so_far n f e has = cc
-find p R (g ∷ fs) place so_far zero f e has =
+find : (p : Program) (R : resolved.Program) (fs : List Function) (place n : ℕ) (f : Function) → slice_get fs n ≡ Some f → HasAt p place (functions_orders R place fs) → Found p R (entries_from R place fs) n f
+find p R [] place n f e has = cc
+find p R (g ∷ fs) place zero f e has =
     let same : g ≡ f = cc in
     let xs = function_orders R place g in
-    let size = length xs in
-    let most = longest_from R (place + size) fs (max so_far size) in
-    let le : size ≤ most = le_trans size (max so_far size) most (max_right so_far size) (no_less R fs (place + size) (max so_far size)) in
-    let code = has_front p place xs (functions_orders R (place + size) fs) has in
+    let code = has_front p place xs (functions_orders R (place + length xs) fs) has in
     record {
       place = place;
       entry = ap (λ (h : Function). Some (entry_of place h)) same;
       code = subst (λ (h : Function). HasAt p place (function_orders R place h)) same code;
-      small = subst (λ (h : Function). length (function_orders R place h) ≤ most) same le;
     }
-find p R (g ∷ fs) place so_far (suc n) f e has =
+find p R (g ∷ fs) place (suc n) f e has =
     let xs = function_orders R place g in
-    let there = find p R fs (place + length xs) (max so_far (length xs)) n f e (has_back p place xs (functions_orders R (place + length xs) fs) has) in
-    record { place = there.place; entry = there.entry; code = there.code; small = there.small }
+    let there = find p R fs (place + length xs) n f e (has_back p place xs (functions_orders R (place + length xs) fs) has) in
+    record { place = there.place; entry = there.entry; code = there.code }
 
 in_list : (fs : List Function) (main : ℕ) (cs : List Class) (f : ℕ) → f < length fs → slice_get (fs ++ nothing ∷ []) f ≡ Some (function_at (record { functions = fs; main = main; classes = cs }) f)
 in_list [] main cs f lt = absurd (omega (arith, lt))
@@ -143,11 +110,10 @@ module _ (p : Program) (R : resolved.Program) (is : orders p.actions ≡ lowered
       let all = functions_orders R (length start) (all_functions R) in
       let zero_is : 0 + length start ≡ length start = omega arith in
       let has = subst (λ n. HasAt p n all) zero_is (has_back p 0 start all has_running) in
-      let there = find p R (all_functions R) (length start) (length start) (number_of R f) (function_at R f) (numbered R f) has in
+      let there = find p R (all_functions R) (length start) (number_of R f) (function_at R f) (numbered R f) has in
       record {
         place = there.place;
         entry = found_entry p.entries (number_of R f) (length p.actions) (entry_of there.place (function_at R f)) (ap (λ l. slice_get l (number_of R f)) entries ∙ there.entry);
         first = get_index (entries_of R) (number_of R f) (entry_of there.place (function_at R f)) there.entry;
         code = there.code;
-        small = there.small;
       }

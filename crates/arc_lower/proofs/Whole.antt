@@ -24,7 +24,7 @@ use Rattle.arc_lower.proofs.Standing.{Fine, Kept}
 use Rattle.arc_lower.proofs.Linking.{has_start, has_end, has_stubs, begins}
 use Rattle.arc_lower.proofs.Finding.{Linked, linked}
 use Rattle.arc_lower.proofs.Calling.{calls_run}
-use Rattle.arc_lower.proofs.Roomless.{room_suffices}
+use Rattle.arc_lower.proofs.RoomSuffices.{room_suffices}
 use Rattle.arc_lower.proofs.Transferring.{seen_moves}
 
 -- what is seen of a run that does what is meant

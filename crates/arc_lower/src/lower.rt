@@ -121,19 +121,28 @@ fn append_functions(
     ensures most { OnOk result (most.new ≡ greatest (functions_heights (program_of program.now) (length (orders actions.old.items)) (all_functions (program_of program.now))) most.old) }
 {
     for function in &program.functions {
-        append_function(
-            alloc,
-            actions,
-            entries,
-            program,
-            function.slots,
-            function.names,
-            &function.body,
-            most,
-        )?;
+        let function = Definition {
+            slots: function.slots,
+            names: function.names,
+            body: &function.body,
+        };
+        append_function(alloc, actions, entries, program, function, most)?;
     }
-    append_function(alloc, actions, entries, program, 0, 0, &[], most)?;
+    let nothing = Definition {
+        slots: 0,
+        names: 0,
+        body: &[],
+    };
+    append_function(alloc, actions, entries, program, nothing, most)?;
     Ok(())
+}
+
+/// A function: how many variables of ints and of objects it has, and what it does.
+#[derive(Clone, Copy)]
+struct Definition<'p> {
+    slots: usize,
+    names: usize,
+    body: &'p [Command],
 }
 
 /// Appends the actions of a function, and where it is entered. Raises the greatest height to theirs.
@@ -142,24 +151,22 @@ fn append_function(
     actions: &mut Vec<Action>,
     entries: &mut Vec<usize>,
     program: &Checked,
-    slots: usize,
-    names: usize,
-    body: &[Command],
+    function: Definition<'_>,
     most: &mut Height,
 ) -> Result<(), NoMemory>
-    ensures actions { OnOk result (orders actions.new.items ≡ orders actions.old.items ++ function_orders (program_of program.now) (length (orders actions.old.items)) (record { slots = slots; names = names; body = commands body.now })) }
-    ensures entries { OnOk result (entries.new.items ≡ entries.old.items ++ entry_of (length (orders actions.old.items)) (record { slots = slots; names = names; body = commands body.now }) ∷ []) }
-    ensures most { OnOk result (most.new ≡ greatest (function_heights (program_of program.now) (length (orders actions.old.items)) (record { slots = slots; names = names; body = commands body.now })) most.old) }
+    ensures actions { OnOk result (orders actions.new.items ≡ orders actions.old.items ++ function_orders (program_of program.now) (length (orders actions.old.items)) (record { slots = function.entry.slots; names = function.entry.names; body = commands function.entry.body.now })) }
+    ensures entries { OnOk result (entries.new.items ≡ entries.old.items ++ entry_of (length (orders actions.old.items)) (record { slots = function.entry.slots; names = function.entry.names; body = commands function.entry.body.now }) ∷ []) }
+    ensures most { OnOk result (most.new ≡ greatest (function_heights (program_of program.now) (length (orders actions.old.items)) (record { slots = function.entry.slots; names = function.entry.names; body = commands function.entry.body.now })) most.old) }
 {
     let begin = actions.len();
-    append_exit_and_body(alloc, actions, entries, program, slots, names, body)?;
+    append_exit_and_body(alloc, actions, entries, program, function)?;
     let base = Height {
-        numbers: slots,
-        places: names,
+        numbers: function.slots,
+        places: function.names,
     };
     let left = Height {
-        numbers: one_more(slots)?,
-        places: names,
+        numbers: one_more(function.slots)?,
+        places: function.names,
     };
     *most = greatest(program, base, left, &actions[begin..], *most)?;
     Ok(())
@@ -171,21 +178,19 @@ fn append_exit_and_body(
     actions: &mut Vec<Action>,
     entries: &mut Vec<usize>,
     program: &Checked,
-    slots: usize,
-    names: usize,
-    body: &[Command],
+    function: Definition<'_>,
 ) -> Result<(), NoMemory>
-    ensures actions { OnOk result (orders actions.new.items ≡ orders actions.old.items ++ function_orders (program_of program.now) (length (orders actions.old.items)) (record { slots = slots; names = names; body = commands body.now })) }
-    ensures entries { OnOk result (entries.new.items ≡ entries.old.items ++ entry_of (length (orders actions.old.items)) (record { slots = slots; names = names; body = commands body.now }) ∷ []) }
+    ensures actions { OnOk result (orders actions.new.items ≡ orders actions.old.items ++ function_orders (program_of program.now) (length (orders actions.old.items)) (record { slots = function.entry.slots; names = function.entry.names; body = commands function.entry.body.now })) }
+    ensures entries { OnOk result (entries.new.items ≡ entries.old.items ++ entry_of (length (orders actions.old.items)) (record { slots = function.entry.slots; names = function.entry.names; body = commands function.entry.body.now }) ∷ []) }
 {
-    let exit = Body {
-        slots,
-        names,
+    let body = Body {
+        slots: function.slots,
+        names: function.names,
         exit: actions.len(),
     };
-    append_leave(actions, slots, names)?;
+    append_leave(actions, function.slots, function.names)?;
     entries.push(actions.len())?;
-    append_body(alloc, actions, program, exit, body)
+    append_body(alloc, actions, program, body, function.body)
 }
 
 /// Appends what a function does from its entry on.

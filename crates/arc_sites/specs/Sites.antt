@@ -23,7 +23,7 @@ pub record Bound : Type 0 where
 pub record Scope : Type 0 where
   pub own : List Bound
   pub outer : List Bound
-  pub in_loop : Bool
+  pub in_loop : Bool  -- in the body of a `while`; its test is an expression, in which nothing asks this
 
 -- What an expression is needed for: nothing more, a test or the left side of `!=`, a number, an object, what goes with another expression (the right side of `=`
 -- and of `!=`), the first value of a variable of a type, what the function or the method returns, what a message is sent to, and the first argument or another one

@@ -34,7 +34,7 @@ pub enum Fault {
     /// A field of an object whose class doesn't have it.
     #[error("a field of an object of another class")]
     FieldClass,
-    /// More than 2,000 calls of functions and methods and deallocs of objects were running.
+    /// More than 2,000 calls of functions and methods and ends of objects were running.
     #[error("too many calls within one another")]
     Depth,
     /// An object was held again when its dealloc was done.

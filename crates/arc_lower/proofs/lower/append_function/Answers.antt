@@ -11,11 +11,11 @@ pub returns-clause-most : goal.returns-clause-most
 returns-clause-most c =
     let P = program_of c.args.program.now in
     let old = c.args.actions.now in
-    let f : Function = record { slots = c.args.slots; names = c.args.names; body = commands c.args.body.now } in
+    let f : Function = record { slots = c.args.function.slots; names = c.args.function.names; body = commands c.args.function.body.now } in
     let xs = function_orders P (length (orders old.items)) f in
-    let base = height c.args.slots c.args.names in
+    let base = height c.args.function.slots c.args.function.names in
     let to = c.in_ok-one_more.field-0 in
     c.in_ok-most.ensures
-    ∙ ap (λ l. greatest (heights P base (height to c.args.names) l) c.args.most.now)
+    ∙ ap (λ l. greatest (heights P base (height to c.args.function.names) l) c.args.most.now)
     (slice_behind old.items c.append_exit_and_body.new.actions.items c.deref.result.now c.len-begin.result xs (c.len-begin.ensures ∙ old.ok.0) c.deref.ensures.value c.in_ok-append_exit_and_body.ensures.actions)
-    ∙ ap (λ n. greatest (heights P base (height n c.args.names) xs) c.args.most.now) c.in_ok-one_more.ensures
+    ∙ ap (λ n. greatest (heights P base (height n c.args.function.names) xs) c.args.most.now) c.in_ok-one_more.ensures
