@@ -10,11 +10,9 @@ use Rattle.arc_parse.specs.Limits.{these}
 use Rattle.arc_fault.specs.declared.parse.ParseFault.{ParseFault}
 use Rattle.arc_fault.specs.Parse as parse_fault
 use Rattle.arc_parse.specs.Refusal as parsing
-use Rattle.arc_class.specs.declared.table.ClassTable.{ClassTable}
 use Rattle.arc_fault.specs.declared.class.ClassFault.{ClassFault}
 use Rattle.arc_fault.specs.Class as class_fault
 use Rattle.arc_class.specs.ClassRules.{broken}
-use Rattle.arc_class.specs.Table.{IsTableOf}
 use Rattle.arc_class.specs.Fault as building
 use Rattle.arc_fault.specs.declared.check.CheckFault.{CheckFault}
 use Rattle.arc_fault.specs.Check as check_fault
@@ -42,11 +40,11 @@ pub data IsRefusal (source : List ℕ) (r : Refusal) : Type 0 where
       → Tells (parse_fault.fault_number f) (parse_fault.fault_name f) (parse_fault.fault_at f) r → IsRefusal source r
   in_building : (f : ClassFault) (tokens : List Tok) (tree : UnitTree) → Tokens source tokens → SpellsUnit these tree tokens → building.Refuses (broken tree) f
       → Tells (class_fault.fault_number f) (class_fault.fault_name f) (class_fault.fault_at f) r → IsRefusal source r
-  in_checking : (f : CheckFault) (tokens : List Tok) (tree : UnitTree) (table : ClassTable) → Tokens source tokens → SpellsUnit these tree tokens
-      → broken tree ≡ [] → IsTableOf tree table → checking.Refuses (broken_unit tree) f
+  in_checking : (f : CheckFault) (tokens : List Tok) (tree : UnitTree) → Tokens source tokens → SpellsUnit these tree tokens
+      → broken tree ≡ [] → checking.Refuses (broken_unit tree) f
       → Tells (check_fault.fault_number f) (check_fault.fault_name f) (check_fault.fault_at f) r → IsRefusal source r
-  in_owning : (f : OwnFault) (tokens : List Tok) (tree : UnitTree) (table : ClassTable) → Tokens source tokens → SpellsUnit these tree tokens
-      → broken tree ≡ [] → IsTableOf tree table → broken_unit tree ≡ [] → owning.Refuses (ownership.broken tree) f
+  in_owning : (f : OwnFault) (tokens : List Tok) (tree : UnitTree) → Tokens source tokens → SpellsUnit these tree tokens
+      → broken tree ≡ [] → broken_unit tree ≡ [] → owning.Refuses (ownership.broken tree) f
       → Tells (own_fault.fault_number f) (own_fault.fault_name f) (own_fault.fault_at f) r → IsRefusal source r
   too_large : (program : Accepted source) → IsTooLarge (program_meant program) → Tells 71 (codes "TooLarge") 0 r → IsRefusal source r
   no_memory : (program : Accepted source) → Tells 72 (codes "Memory") 0 r → IsRefusal source r
