@@ -1,3 +1,0 @@
--- The vocabulary of private functions: no contract of a public call speaks of it.
-pub mod Knot
-pub mod Views
