@@ -9,16 +9,18 @@ use Rattle.arc_form.specs.Operators.{fold}
 use Rattle.arc_form.specs.Reader.{Read, Reader, bind, ret}
 use Rattle.arc_form.proofs.Local.{Local}
 use Rattle.arc_form.proofs.FormLocal.{solid, form_front}
-use Rattle.arc_form.proofs.Static.{nullable}
+use Rattle.arc_form.proofs.Static.{nullable, of_many}
 use Rattle.arc_grammar.specs.Grammar.{TopTree, OfNames, OfFunction, OfInterface, OfImplementation, functions_of, interfaces_of, implementations_of, these, reads, body, begins_top, unit}
 use Rattle.arc_grammar.specs.Grammar as grammar
-use Rattle.arc_grammar.proofs.Fits.{facts, sure}
+use Rattle.arc_grammar.proofs.Fits.{facts, sure, sure_unit}
 use Rattle.arc_top.specs.Joining.{joining}
 use Rattle.arc_parse.specs.private.Views.{and_top}
 
 pub top_front : (j : ℕ) → Local ⊥ 1 j (reads grammar.top) (reads grammar.top)
-unfolding grammar.top grammar.further grammar.more grammar.continued grammar.literal grammar.field_name grammar.arrows grammar.next_argument grammar.more_arguments grammar.some_arguments grammar.no_arguments grammar.given grammar.arguments grammar.named grammar.argument_part grammar.next_part grammar.more_parts grammar.parts grammar.sent grammar.to_super grammar.to_object grammar.message grammar.inside grammar.cast_to_id grammar.cast grammar.product grammar.starred grammar.parenthesized grammar.primary grammar.postfix grammar.negated grammar.plus grammar.prefixed grammar.operations grammar.assigned grammar.operation grammar.expression grammar.full grammar.initial grammar.variable grammar.next_variable grammar.more_variables grammar.declaration grammar.reference grammar.next_reference grammar.more_references grammar.objects grammar.simple grammar.empty grammar.value grammar.returned grammar.test grammar.otherwise grammar.if_else grammar.while_do grammar.by_name grammar.item grammar.items grammar.block grammar.worded grammar.statement grammar.result_kind grammar.parameter grammar.next_parameter grammar.more_parameters grammar.void_parameters grammar.some_parameters grammar.parameters grammar.texts_name grammar.perhaps_const grammar.texts grammar.further_parameters grammar.second grammar.some_of_main grammar.parameters_of_main grammar.signature_of_main grammar.other_signature grammar.signature grammar.braces grammar.function_body grammar.function grammar.typed grammar.next_typed grammar.typed_parts grammar.selector grammar.sign grammar.method_head grammar.next_head grammar.method_heads grammar.perhaps_semicolon grammar.method grammar.methods grammar.next_name grammar.more_names grammar.group grammar.groups grammar.fields grammar.interface grammar.implementation grammar.class_names
-top_front j = solid (nullable facts grammar.top) refl (form_front facts body sure these grammar.top refl j)
+unfolding unit grammar.tops
+top_front j =
+    let p = of_many facts begins_top grammar.top sure_unit in
+    solid (nullable facts grammar.top) p.head.some (form_front facts body sure these grammar.top p.each j)
 
 -- a unit, and after it all that is read
 abbrev pub tops_on : UnitTree → Reader UnitTree
