@@ -1,0 +1,3 @@
+pub mod Trees
+pub mod Rests
+pub mod Typed

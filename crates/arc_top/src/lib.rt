@@ -1,0 +1,6 @@
+//! Reads functions and methods.
+#![tactic(auto)]
+
+pub mod function;
+pub mod method;
+mod parameter;
