@@ -6,4 +6,5 @@ mod field;
 mod function;
 mod method;
 mod name;
+mod parameter;
 pub mod top;
