@@ -11,17 +11,11 @@ use Rattle.arc_form.specs.Kinds.{mark, word, at, name}
 use Rattle.arc_form.specs.Form.{map}
 use Rattle.arc_form.specs.Operators.{fold}
 use Rattle.arc_form.specs.Reader.{Read, Reader, bind, ◌>>=◌, ret, sees, if_sees, take_one, from, named}
-use Rattle.arc_form.proofs.Static.{nullable, decided}
 use Rattle.arc_form.proofs.Local.{Local}
-use Rattle.arc_form.proofs.FormLocal.{solid, form_front}
-use Rattle.arc_grammar.specs.Grammar.{Part, FieldGroup, OfWord, OfInts, these, reads, body, next_name, more_names, group, groups, fields, fields_of, named_fields, visibility_of, begins_visibility, class_names}
-use Rattle.arc_grammar.proofs.Fits.{facts, sure}
+use Rattle.arc_grammar.specs.Grammar.{FieldGroup, OfWord, OfInts, reads, next_name, more_names, group, groups, fields, fields_of, named_fields, visibility_of, begins_visibility, class_names}
+use Rattle.arc_top.proofs.Rests.{front}
 use Rattle.arc_top.specs.Joining.{joining}
 use Rattle.arc_top.specs.Fields.{begins_group, field_tree, add_field, add_group, ints_on, group_on, names_skipped}
-
--- a part that is some token at least takes one
-front : {A : Type 0} (part : Part A) → decided facts part ≡ true → nullable facts part ≡ false → (j : ℕ) → Local ⊥ 1 j (reads part) (reads part)
-front part d n j = solid (nullable facts part) n (form_front facts body sure these part d j)
 
 pub name_front : (j : ℕ) → Local ⊥ 1 j (reads next_name) (reads next_name)
 unfolding next_name

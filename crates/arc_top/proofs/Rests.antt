@@ -17,7 +17,7 @@ use Rattle.arc_grammar.proofs.Fits.{facts, sure}
 use Rattle.arc_top.specs.Signatures.{reads_after, parameters_if_main, enclosed}
 
 -- a part that is some token at least takes one
-front : {A : Type 0} (part : Part A) → decided facts part ≡ true → nullable facts part ≡ false → (j : ℕ) → Local ⊥ 1 j (reads part) (reads part)
+pub front : {A : Type 0} (part : Part A) → decided facts part ≡ true → nullable facts part ≡ false → (j : ℕ) → Local ⊥ 1 j (reads part) (reads part)
 front part d n j = solid (nullable facts part) n (form_front facts body sure these part d j)
 
 pub parameter_front : (j : ℕ) → Local ⊥ 1 j (reads next_parameter) (reads next_parameter)
