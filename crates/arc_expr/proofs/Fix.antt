@@ -1,0 +1,108 @@
+-- What the rules read, as the code asks for it.
+use Rattle.std.proofs.Common.{◌≡◌, ◌≤◌, ◌-◌, ℕ, zero, suc, List, [], ◌∷◌, ◌++◌, true, false, cond, Ok, Err, refl, sym, ap, ◌∙◌, arith}
+use Rattle.arc_lex.specs.Tokens.{Tok}
+use Rattle.arc_lex.specs.declared.token.Mark.TheVariants as m
+use Rattle.arc_ast.specs.declared.tree.BinaryOperator.TheVariants as operators
+use Rattle.arc_ast.specs.Tree.{ExprTree, Binary, Arrow, begins}
+use Rattle.arc_form.specs.Form.{unlimited}
+use Rattle.arc_form.specs.Kinds.{mark, name}
+use Rattle.arc_form.specs.Reader.{Read, Reader, bind, ◌>>=◌, ret, sees, if_sees, take_one, from, named}
+use Rattle.arc_form.specs.Operators.{marks_at, operator_of}
+use Rattle.arc_form.specs.Views.{all}
+use Rattle.arc_form.proofs.Operators.{joined_is, pair_then, in_turn, second_then, after_left}
+use Rattle.arc_form.proofs.Static.{nullable, decided}
+use Rattle.arc_form.proofs.Local.{Local, weaker, then, local_token, local_ret}
+use Rattle.arc_form.proofs.FormLocal.{solid, read_is, form_front, fronts}
+use Rattle.arc_grammar.specs.Grammar.{Part, Sent, rules, reads_free, reads_on, body, expr, unary, binary, table, join, further, more, continued, operations, expression, prefixed, field_name, with_field, arrows, next_argument, more_arguments, add, argument_part, next_part, more_parts, add_part}
+use Rattle.arc_grammar.proofs.Fits.{facts, sure}
+
+-- a part that is some token at least takes one
+front : {A : Type 0} (part : Part A) → decided facts part ≡ true → nullable facts part ≡ false → (j : ℕ) → Local ⊥ 1 j (reads_free part) (reads_free part)
+front part d n j = solid (nullable facts part) n (form_front facts body sure unlimited part d j)
+
+further_front : (l j : ℕ) → Local ⊥ 1 j (reads_free (further l)) (reads_free (further l))
+unfolding further
+further_front l j = weaker 1 (omega arith) (then (local_token (marks_at l table) (operator_of operators.Add table)) (λ o. then (fronts facts body sure j unlimited (binary (l - 1))) (λ right. local_ret (o, right))))
+
+pub read_expr : (ts : List Tok) → rules unlimited expr ts ≡ reads_free expression ts
+unfolding body
+read_expr ts = read_is facts body sure unlimited expr ts
+
+pub read_unary : (ts : List Tok) → rules unlimited unary ts ≡ reads_free prefixed ts
+unfolding body
+read_unary ts = read_is facts body sure unlimited unary ts
+
+pub read_binary_zero : (ts : List Tok) → rules unlimited (binary 0) ts ≡ reads_free prefixed ts
+unfolding body operations
+read_binary_zero ts = read_is facts body sure unlimited (binary 0) ts
+
+operations_one : (ts : List Tok) → reads_free (operations 1) ts ≡ (reads_free prefixed >>= (λ left. reads_on (more 1) left)) ts
+unfolding operations
+operations_one ts = after_left (reads_free prefixed ts) (reads_free (more 1))
+
+operations_two : (ts : List Tok) → reads_free (operations 2) ts ≡ (reads_free (operations 1) >>= (λ left. reads_on (more 2) left)) ts
+unfolding operations
+operations_two ts = after_left (reads_free (operations 1) ts) (reads_free (more 2))
+
+pub read_binary : (l : ℕ) (ts : List Tok) → 1 ≤ l → l ≤ 2 → rules unlimited (binary l) ts ≡ (rules unlimited (binary (l - 1)) >>= (λ left. reads_on (more l) left)) ts
+unfolding body
+read_binary zero ts p q = absurd (omega arith)
+read_binary (suc zero) ts p q = read_is facts body sure unlimited (binary 1) ts ∙ operations_one ts ∙ ap (λ x. bind x (λ left. reads_on (more 1) left)) (sym (read_binary_zero ts))
+read_binary (suc (suc zero)) ts p q = read_is facts body sure unlimited (binary 2) ts ∙ operations_two ts ∙ ap (λ x. bind x (λ left. reads_on (more 2) left)) (sym (read_is facts body sure unlimited (binary 1) ts))
+read_binary (suc (suc (suc l))) ts p q = absurd (omega arith)
+
+-- the operators of a level after a left operand, one by one
+pub read_more : (l : ℕ) (left : ExprTree) (ts : List Tok)
+    → reads_on (more l) left ts ≡ if_sees (marks_at l table) (take_one (marks_at l table) (operator_of operators.Add table) >>= (λ o. rules unlimited (binary (l - 1)) >>= (λ right. reads_on (more l) (Binary (begins left) o left right)))) (ret left) ts
+unfolding more further
+read_more l left ts =
+    let K = marks_at l table in
+    joined_is K (reads_free (further l)) join (further_front l) left ts ∙ ap (λ y. cond (sees K ts) y (ret left ts)) (pairs l left ts)
+  where
+    pairs : (l : ℕ) (left : ExprTree) (ts : List Tok) → bind (reads_free (further l) ts) (λ a. reads_on (more l) (join left a)) ≡ (take_one (marks_at l table) (operator_of operators.Add table) >>= (λ o. rules unlimited (binary (l - 1)) >>= (λ right. reads_on (more l) (Binary (begins left) o left right)))) ts
+    pairs l left ts = pair_then (take_one (marks_at l table) (operator_of operators.Add table) ts) (rules unlimited (binary (l - 1))) (λ a. reads_on (more l) (join left a))
+
+-- and those of all levels, level by level
+pub read_continued : (left : ExprTree) (ts : List Tok) → reads_on continued left ts ≡ ((reads_on (more 1) left >>= (λ products. reads_on (more 2) products)) >>= (λ sums. reads_on (more 3) sums)) ts
+unfolding continued
+read_continued left ts = in_turn ExprTree (reads_free (more 1)) (reads_free (more 2)) (reads_free (more 3)) left ts
+
+-- the fields after an object, one by one
+field_front : (j : ℕ) → Local ⊥ 1 j (reads_free field_name) (reads_free field_name)
+unfolding field_name
+field_front j = front field_name refl refl j
+
+pub read_arrows : (object : ExprTree) (ts : List Tok)
+    → reads_on arrows object ts ≡ if_sees (mark m.Arrow) (take_one (mark m.Arrow) from >>= (λ arrow. take_one name named >>= (λ n. reads_on arrows (Arrow (begins object) n.0 object n.1)))) (ret object) ts
+unfolding arrows field_name
+read_arrows object ts = joined_is (mark m.Arrow) (reads_free field_name) with_field field_front object ts ∙ ap (λ y. cond (sees (mark m.Arrow) ts) y (ret object ts)) (pairs object ts)
+  where
+    pairs : (object : ExprTree) (ts : List Tok) → bind (reads_free field_name ts) (λ n. reads_on arrows (with_field object n)) ≡ (take_one (mark m.Arrow) from >>= (λ arrow. take_one name named >>= (λ n. reads_on arrows (with_field object n)))) ts
+    pairs object ts = second_then (take_one (mark m.Arrow) from ts) (take_one name named) (λ n. reads_on arrows (with_field object n))
+
+-- further arguments, one by one
+argument_front : (j : ℕ) → Local ⊥ 1 j (reads_free next_argument) (reads_free next_argument)
+unfolding next_argument
+argument_front j = front next_argument refl refl j
+
+pub read_more_arguments : (before : List ExprTree) (ts : List Tok)
+    → reads_on more_arguments before ts ≡ if_sees (mark m.Comma) (take_one (mark m.Comma) from >>= (λ comma. rules unlimited expr >>= (λ a. reads_on more_arguments (add before a)))) (ret before) ts
+unfolding more_arguments next_argument
+read_more_arguments before ts = joined_is (mark m.Comma) (reads_free next_argument) add argument_front before ts ∙ ap (λ y. cond (sees (mark m.Comma) ts) y (ret before ts)) (pairs before ts)
+  where
+    pairs : (before : List ExprTree) (ts : List Tok) → bind (reads_free next_argument ts) (λ a. reads_on more_arguments (add before a)) ≡ (take_one (mark m.Comma) from >>= (λ comma. rules unlimited expr >>= (λ a. reads_on more_arguments (add before a)))) ts
+    pairs before ts = second_then (take_one (mark m.Comma) from ts) (rules unlimited expr) (λ a. reads_on more_arguments (add before a))
+
+-- further parts of a selector, one by one
+part_front : (j : ℕ) → Local ⊥ 1 j (reads_free next_part) (reads_free next_part)
+unfolding next_part argument_part
+part_front j = front next_part refl refl j
+
+pub read_more_parts : (before : Sent) (ts : List Tok)
+    → reads_on more_parts before ts ≡ if_sees name (reads_free next_part >>= (λ p. reads_on more_parts (add_part before p))) (ret before) ts
+unfolding more_parts
+read_more_parts before ts = joined_is name (reads_free next_part) add_part part_front before ts
+
+pub all_push : {A T : Type 0} (tree : A → T) (made : List A) (a : A) → all tree (made ++ a ∷ []) ≡ add (all tree made) (tree a)
+all_push tree [] a = refl
+all_push tree (b ∷ made) a = ap (λ v. tree b ∷ v) (all_push tree made a)

@@ -1,0 +1,4 @@
+pub mod Table
+pub mod Fix
+pub mod Trees
+pub mod Bound

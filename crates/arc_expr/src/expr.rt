@@ -1,0 +1,486 @@
+//! Reads expressions, in which no limit holds.
+ghost use Rattle.std.specs.Prelude.{◌≡◌, ◌<◌, ◌≤◌, length, IfOk};
+ghost use Rattle.arc_lex.specs.Tokens.{toks};
+ghost use Rattle.arc_ast.specs.Tree.{expr_tree, begins, Binary, Name};
+ghost use Rattle.arc_ast.specs.declared.tree.BinaryOperator.TheVariants.{Multiply};
+ghost use Rattle.arc_form.specs.Form.{unlimited};
+ghost use Rattle.arc_form.specs.Reader.{Gives};
+ghost use Rattle.arc_form.specs.Views.{all};
+ghost use Rattle.arc_grammar.specs.Grammar.{reads_free, reads_on, rules};
+ghost use Rattle.arc_grammar.specs.Grammar as grammar;
+
+use crate::literal::literal;
+use crate::operator::{operator, sees_operator};
+use arc_ast::tree::{BinaryOperator, Expr, TypeName};
+use arc_form::fail::Read;
+use arc_form::step::{expect, keyword, name, sees_mark, sees_name, sees_reference, sees_word};
+use arc_lex::token::{Mark, Token, Word};
+use std::alloc::{AllocError, Global};
+
+/// The place of the first byte.
+fn place_of(expr: &Expr) -> usize
+    ensures { result ≡ begins (expr_tree expr.now) }
+{
+    match expr {
+        Expr::Integer(at, _)
+        | Expr::Text(at, _)
+        | Expr::Paren(at, _)
+        | Expr::Call(at, _, _)
+        | Expr::Nil(at)
+        | Expr::Itself(at)
+        | Expr::Name(at, _)
+        | Expr::Negate(at, _)
+        | Expr::Plus(at, _)
+        | Expr::Cast(at, _, _)
+        | Expr::Binary(at, _, _, _)
+        | Expr::Arrow(at, _, _, _)
+        | Expr::Assign(at, _, _, _)
+        | Expr::Send(at, _, _, _, _)
+        | Expr::SendSuper(at, _, _, _, _) => *at,
+    }
+}
+
+/// An expression.
+#[cycle(exprs)]
+#[tactic(auto, using(crate::proofs::Fix::read_expr), unfolding(arc_grammar::specs::Grammar::expression))]
+pub fn expr<'a>(alloc: Global, tokens: &'a [Token]) -> Read<'a, Expr>
+    ensures gives { Gives (λ x. (expr_tree x.0, toks x.1.now)) result (rules unlimited grammar.expr (toks tokens.now)) }
+    ensures shorter { IfOk result (λ x. length x.1.now < length tokens.now) }
+{
+    let (left, rest) = prefixed(alloc, tokens)?;
+    operation(alloc, left, rest)
+}
+
+/// An expression of this unary expression and what comes after it.
+#[cycle(exprs)]
+#[tactic(auto, unfolding(arc_grammar::specs::Grammar::operation))]
+fn operation<'a>(alloc: Global, left: Expr, tokens: &'a [Token]) -> Read<'a, Expr>
+    ensures gives { Gives (λ x. (expr_tree x.0, toks x.1.now)) result (reads_on grammar.operation (expr_tree left) (toks tokens.now)) }
+    ensures shorter { IfOk result (λ x. length x.1.now ≤ length tokens.now) }
+{
+    if sees_mark(Mark::Assign, tokens) {
+        assigned(alloc, left, tokens)
+    } else {
+        continued(alloc, left, tokens)
+    }
+}
+
+/// An assignment to what is before its `=`.
+#[cycle(exprs)]
+#[tactic(auto, unfolding(arc_grammar::specs::Grammar::assigned))]
+fn assigned<'a>(alloc: Global, left: Expr, tokens: &'a [Token]) -> Read<'a, Expr>
+    ensures gives { Gives (λ x. (expr_tree x.0, toks x.1.now)) result (reads_on grammar.assigned (expr_tree left) (toks tokens.now)) }
+    ensures shorter { IfOk result (λ x. length x.1.now ≤ length tokens.now) }
+{
+    let at = place_of(&left);
+    let left = Box::new(alloc, left)?;
+    let (sign, rest) = expect(Mark::Assign, tokens)?;
+    let (right, rest) = expr(alloc, rest)?;
+    Ok((Expr::Assign(at, sign, left, Box::new(alloc, right)?), rest))
+}
+
+/// The operators of all levels after this unary expression, with their right operands.
+#[cycle(exprs)]
+#[tactic(auto, using(crate::proofs::Fix::read_continued))]
+fn continued<'a>(alloc: Global, left: Expr, tokens: &'a [Token]) -> Read<'a, Expr>
+    ensures gives { Gives (λ x. (expr_tree x.0, toks x.1.now)) result (reads_on grammar.continued (expr_tree left) (toks tokens.now)) }
+    ensures shorter { IfOk result (λ x. length x.1.now ≤ length tokens.now) }
+{
+    let (left, rest) = more(alloc, 1, left, tokens)?;
+    let (left, rest) = more(alloc, 2, left, rest)?;
+    more(alloc, 3, left, rest)
+}
+
+/// The operators of a level after this left operand, with their right operands.
+#[cycle(exprs)]
+#[tactic(auto, using(crate::proofs::Fix::read_more))]
+fn more<'a>(alloc: Global, level: usize, left: Expr, tokens: &'a [Token]) -> Read<'a, Expr>
+    requires { 1 ≤ level × level ≤ 3 }
+    ensures gives { Gives (λ x. (expr_tree x.0, toks x.1.now)) result (reads_on (grammar.more level) (expr_tree left) (toks tokens.now)) }
+    ensures shorter { IfOk result (λ x. length x.1.now ≤ length tokens.now) }
+{
+    if !sees_operator(level, tokens) {
+        return Ok((left, tokens));
+    }
+    let at = place_of(&left);
+    let left = Box::new(alloc, left)?;
+    let (operator, rest) = operator(level, tokens)?;
+    let (right, rest) = binary(alloc, level - 1, rest)?;
+    let right = Box::new(alloc, right)?;
+    more(alloc, level, Expr::Binary(at, operator, left, right), rest)
+}
+
+/// An expression whose operators are of this level or tighter.
+#[cycle(exprs)]
+#[tactic(auto, using(crate::proofs::Fix::read_binary_zero, crate::proofs::Fix::read_binary))]
+fn binary<'a>(alloc: Global, level: usize, tokens: &'a [Token]) -> Read<'a, Expr>
+    requires { level ≤ 2 }
+    ensures gives { Gives (λ x. (expr_tree x.0, toks x.1.now)) result (rules unlimited (grammar.binary level) (toks tokens.now)) }
+    ensures shorter { IfOk result (λ x. length x.1.now < length tokens.now) }
+{
+    if level == 0 {
+        return prefixed(alloc, tokens);
+    }
+    let (left, rest) = binary(alloc, level - 1, tokens)?;
+    more(alloc, level, left, rest)
+}
+
+/// A unary expression.
+#[cycle(exprs)]
+#[tactic(auto, unfolding(arc_grammar::specs::Grammar::prefixed))]
+fn prefixed<'a>(alloc: Global, tokens: &'a [Token]) -> Read<'a, Expr>
+    ensures gives { Gives (λ x. (expr_tree x.0, toks x.1.now)) result (reads_free grammar.prefixed (toks tokens.now)) }
+    ensures shorter { IfOk result (λ x. length x.1.now < length tokens.now) }
+{
+    if sees_mark(Mark::Minus, tokens) {
+        negated(alloc, tokens)
+    } else if sees_mark(Mark::Plus, tokens) {
+        plus(alloc, tokens)
+    } else if sees_mark(Mark::OpenParen, tokens) {
+        parenthesized(alloc, tokens)
+    } else {
+        postfix(alloc, tokens)
+    }
+}
+
+/// Unary `-` and a unary expression.
+#[cycle(exprs)]
+#[tactic(auto, using(crate::proofs::Fix::read_unary), unfolding(arc_grammar::specs::Grammar::negated))]
+fn negated<'a>(alloc: Global, tokens: &'a [Token]) -> Read<'a, Expr>
+    ensures gives { Gives (λ x. (expr_tree x.0, toks x.1.now)) result (reads_free grammar.negated (toks tokens.now)) }
+    ensures shorter { IfOk result (λ x. length x.1.now < length tokens.now) }
+{
+    let (at, rest) = expect(Mark::Minus, tokens)?;
+    let (operand, rest) = prefixed(alloc, rest)?;
+    Ok((Expr::Negate(at, Box::new(alloc, operand)?), rest))
+}
+
+/// Unary `+` and a unary expression.
+#[cycle(exprs)]
+#[tactic(auto, using(crate::proofs::Fix::read_unary), unfolding(arc_grammar::specs::Grammar::plus))]
+fn plus<'a>(alloc: Global, tokens: &'a [Token]) -> Read<'a, Expr>
+    ensures gives { Gives (λ x. (expr_tree x.0, toks x.1.now)) result (reads_free grammar.plus (toks tokens.now)) }
+    ensures shorter { IfOk result (λ x. length x.1.now < length tokens.now) }
+{
+    let (at, rest) = expect(Mark::Plus, tokens)?;
+    let (operand, rest) = prefixed(alloc, rest)?;
+    Ok((Expr::Plus(at, Box::new(alloc, operand)?), rest))
+}
+
+/// An expression in parentheses with fields after it, or a cast.
+#[cycle(exprs)]
+#[tactic(auto, unfolding(arc_grammar::specs::Grammar::parenthesized))]
+fn parenthesized<'a>(alloc: Global, tokens: &'a [Token]) -> Read<'a, Expr>
+    ensures gives { Gives (λ x. (expr_tree x.0, toks x.1.now)) result (reads_free grammar.parenthesized (toks tokens.now)) }
+    ensures shorter { IfOk result (λ x. length x.1.now < length tokens.now) }
+{
+    let (at, rest) = expect(Mark::OpenParen, tokens)?;
+    if sees_word(Word::Id, rest) {
+        cast_to_id(alloc, at, rest)
+    } else if sees_reference(rest) {
+        starred(alloc, at, rest)
+    } else {
+        inside(alloc, at, rest)
+    }
+}
+
+/// What is after the `(` of an expression in parentheses, which is at this place.
+#[cycle(exprs)]
+#[tactic(auto, unfolding(arc_grammar::specs::Grammar::inside))]
+fn inside<'a>(alloc: Global, at: usize, tokens: &'a [Token]) -> Read<'a, Expr>
+    ensures gives { Gives (λ x. (expr_tree x.0, toks x.1.now)) result (reads_on grammar.inside at (toks tokens.now)) }
+    ensures shorter { IfOk result (λ x. length x.1.now < length tokens.now) }
+{
+    let (inside, rest) = expr(alloc, tokens)?;
+    let inside = Box::new(alloc, inside)?;
+    let (_, rest) = expect(Mark::CloseParen, rest)?;
+    arrows(alloc, Expr::Paren(at, inside), rest)
+}
+
+/// What is after the `(` of a cast to `id`, which is at this place.
+#[cycle(exprs)]
+#[tactic(auto, using(crate::proofs::Fix::read_unary), unfolding(arc_grammar::specs::Grammar::cast_to_id))]
+fn cast_to_id<'a>(alloc: Global, at: usize, tokens: &'a [Token]) -> Read<'a, Expr>
+    ensures gives { Gives (λ x. (expr_tree x.0, toks x.1.now)) result (reads_on grammar.cast_to_id at (toks tokens.now)) }
+    ensures shorter { IfOk result (λ x. length x.1.now < length tokens.now) }
+{
+    let (_, rest) = keyword(Word::Id, tokens)?;
+    let (_, rest) = expect(Mark::CloseParen, rest)?;
+    let (operand, rest) = prefixed(alloc, rest)?;
+    Ok((
+        Expr::Cast(at, TypeName::Id, Box::new(alloc, operand)?),
+        rest,
+    ))
+}
+
+/// What is after the `(` at this place, where a name and `*` come: a cast, or a product in parentheses.
+#[cycle(exprs)]
+#[tactic(auto, unfolding(arc_grammar::specs::Grammar::starred))]
+fn starred<'a>(alloc: Global, at: usize, tokens: &'a [Token]) -> Read<'a, Expr>
+    ensures gives { Gives (λ x. (expr_tree x.0, toks x.1.now)) result (reads_on grammar.starred at (toks tokens.now)) }
+    ensures shorter { IfOk result (λ x. length x.1.now < length tokens.now) }
+{
+    let ((name_at, called), rest) = name(tokens)?;
+    let (_, rest) = expect(Mark::Star, rest)?;
+    if sees_mark(Mark::CloseParen, rest) {
+        cast(alloc, at, name_at, called, rest)
+    } else {
+        product(alloc, at, name_at, called, rest)
+    }
+}
+
+/// What is after `(`, which is at this place, this name and `*` in a cast.
+#[cycle(exprs)]
+#[tactic(auto, using(crate::proofs::Fix::read_unary), unfolding(arc_grammar::specs::Grammar::cast))]
+fn cast<'a>(
+    alloc: Global,
+    at: usize,
+    name_at: usize,
+    called: &[u8],
+    tokens: &'a [Token],
+) -> Read<'a, Expr>
+    ensures gives { Gives (λ x. (expr_tree x.0, toks x.1.now)) result (reads_on grammar.cast (at, name_at, called.now) (toks tokens.now)) }
+    ensures shorter { IfOk result (λ x. length x.1.now < length tokens.now) }
+{
+    let (_, rest) = expect(Mark::CloseParen, tokens)?;
+    let (operand, rest) = prefixed(alloc, rest)?;
+    let kind = TypeName::Object(name_at, Vec::from_slice(alloc, called)?);
+    Ok((Expr::Cast(at, kind, Box::new(alloc, operand)?), rest))
+}
+
+/// What is after `(`, which is at this place, this name and `*` in a product in parentheses.
+#[cycle(exprs)]
+#[tactic(auto, using(crate::proofs::Fix::read_unary), unfolding(arc_grammar::specs::Grammar::product))]
+fn product<'a>(
+    alloc: Global,
+    at: usize,
+    name_at: usize,
+    called: &[u8],
+    tokens: &'a [Token],
+) -> Read<'a, Expr>
+    ensures gives { Gives (λ x. (expr_tree x.0, toks x.1.now)) result (reads_on grammar.product (at, name_at, called.now) (toks tokens.now)) }
+    ensures shorter { IfOk result (λ x. length x.1.now < length tokens.now) }
+{
+    let (right, rest) = prefixed(alloc, tokens)?;
+    let first = times(alloc, name_at, called, right)?;
+    let (inside, rest) = continued(alloc, first, rest)?;
+    let inside = Box::new(alloc, inside)?;
+    let (_, rest) = expect(Mark::CloseParen, rest)?;
+    arrows(alloc, Expr::Paren(at, inside), rest)
+}
+
+/// The product of a variable of this name and an operand.
+fn times(alloc: Global, at: usize, called: &[u8], right: Expr) -> Result<Expr, AllocError>
+    ensures { IfOk result (λ product. expr_tree product ≡ Binary at Multiply (Name at called.now) (expr_tree right)) }
+{
+    let left = Expr::Name(at, Vec::from_slice(alloc, called)?);
+    let left = Box::new(alloc, left)?;
+    let right = Box::new(alloc, right)?;
+    Ok(Expr::Binary(at, BinaryOperator::Multiply, left, right))
+}
+
+/// A primary expression, a call or a message, and fields after it.
+#[cycle(exprs)]
+#[tactic(auto, unfolding(arc_grammar::specs::Grammar::postfix))]
+fn postfix<'a>(alloc: Global, tokens: &'a [Token]) -> Read<'a, Expr>
+    ensures gives { Gives (λ x. (expr_tree x.0, toks x.1.now)) result (reads_free grammar.postfix (toks tokens.now)) }
+    ensures shorter { IfOk result (λ x. length x.1.now < length tokens.now) }
+{
+    let (object, rest) = primary(alloc, tokens)?;
+    arrows(alloc, object, rest)
+}
+
+/// The fields after an object, each of them after `->`.
+#[tactic(auto, using(crate::proofs::Fix::read_arrows))]
+fn arrows<'a>(alloc: Global, object: Expr, tokens: &'a [Token]) -> Read<'a, Expr>
+    ensures gives { Gives (λ x. (expr_tree x.0, toks x.1.now)) result (reads_on grammar.arrows (expr_tree object) (toks tokens.now)) }
+    ensures shorter { IfOk result (λ x. length x.1.now ≤ length tokens.now) }
+{
+    if !sees_mark(Mark::Arrow, tokens) {
+        return Ok((object, tokens));
+    }
+    let at = place_of(&object);
+    let object = Box::new(alloc, object)?;
+    let (_, rest) = expect(Mark::Arrow, tokens)?;
+    let ((name_at, called), rest) = name(rest)?;
+    let called = Vec::from_slice(alloc, called)?;
+    arrows(alloc, Expr::Arrow(at, name_at, object, called), rest)
+}
+
+/// A name, a call, a message or a literal.
+#[cycle(exprs)]
+#[tactic(auto, unfolding(arc_grammar::specs::Grammar::primary))]
+fn primary<'a>(alloc: Global, tokens: &'a [Token]) -> Read<'a, Expr>
+    ensures gives { Gives (λ x. (expr_tree x.0, toks x.1.now)) result (reads_free grammar.primary (toks tokens.now)) }
+    ensures shorter { IfOk result (λ x. length x.1.now < length tokens.now) }
+{
+    if sees_name(tokens) {
+        named(alloc, tokens)
+    } else if sees_mark(Mark::OpenSquare, tokens) {
+        message(alloc, tokens)
+    } else {
+        literal(alloc, tokens)
+    }
+}
+
+/// A variable's name, or a call.
+#[cycle(exprs)]
+#[tactic(auto, unfolding(arc_grammar::specs::Grammar::named))]
+fn named<'a>(alloc: Global, tokens: &'a [Token]) -> Read<'a, Expr>
+    ensures gives { Gives (λ x. (expr_tree x.0, toks x.1.now)) result (reads_free grammar.named (toks tokens.now)) }
+    ensures shorter { IfOk result (λ x. length x.1.now < length tokens.now) }
+{
+    let ((at, called), rest) = name(tokens)?;
+    if sees_mark(Mark::OpenParen, rest) {
+        return call(alloc, at, called, rest);
+    }
+    Ok((Expr::Name(at, Vec::from_slice(alloc, called)?), rest))
+}
+
+/// The arguments of a call of this name, which is at this place.
+#[cycle(exprs)]
+#[tactic(auto, unfolding(arc_grammar::specs::Grammar::arguments))]
+fn call<'a>(alloc: Global, at: usize, called: &[u8], tokens: &'a [Token]) -> Read<'a, Expr>
+    ensures gives { Gives (λ x. (expr_tree x.0, toks x.1.now)) result (reads_on grammar.arguments (at, called.now) (toks tokens.now)) }
+    ensures shorter { IfOk result (λ x. length x.1.now < length tokens.now) }
+{
+    let (_, rest) = expect(Mark::OpenParen, tokens)?;
+    let (all, rest) = given(alloc, rest)?;
+    Ok((Expr::Call(at, Vec::from_slice(alloc, called)?, all), rest))
+}
+
+/// The arguments of a call, of which there may be none, and `)`.
+#[cycle(exprs)]
+#[tactic(auto, unfolding(arc_grammar::specs::Grammar::given, arc_grammar::specs::Grammar::no_arguments, arc_grammar::specs::Grammar::some_arguments))]
+fn given<'a>(alloc: Global, tokens: &'a [Token]) -> Read<'a, Vec<Expr>>
+    ensures gives { Gives (λ x. (all expr_tree x.0.items, toks x.1.now)) result (reads_free grammar.given (toks tokens.now)) }
+    ensures shorter { IfOk result (λ x. length x.1.now < length tokens.now) }
+{
+    let mut all = Vec::new(alloc);
+    if sees_mark(Mark::CloseParen, tokens) {
+        let (_, rest) = expect(Mark::CloseParen, tokens)?;
+        return Ok((all, rest));
+    }
+    let (one, rest) = expr(alloc, tokens)?;
+    all.push(one)?;
+    let (all, rest) = more_arguments(alloc, all, rest)?;
+    let (_, rest) = expect(Mark::CloseParen, rest)?;
+    Ok((all, rest))
+}
+
+/// These arguments and the further ones, each after a comma.
+#[cycle(exprs)]
+#[tactic(auto, using(crate::proofs::Fix::read_more_arguments, crate::proofs::Fix::all_push))]
+fn more_arguments<'a>(alloc: Global, before: Vec<Expr>, tokens: &'a [Token]) -> Read<'a, Vec<Expr>>
+    ensures gives { Gives (λ x. (all expr_tree x.0.items, toks x.1.now)) result (reads_on grammar.more_arguments (all expr_tree before.items) (toks tokens.now)) }
+    ensures shorter { IfOk result (λ x. length x.1.now ≤ length tokens.now) }
+{
+    if !sees_mark(Mark::Comma, tokens) {
+        return Ok((before, tokens));
+    }
+    let mut all = before;
+    let (_, rest) = expect(Mark::Comma, tokens)?;
+    let (next, rest) = expr(alloc, rest)?;
+    all.push(next)?;
+    more_arguments(alloc, all, rest)
+}
+
+/// A message.
+#[cycle(exprs)]
+#[tactic(auto, unfolding(arc_grammar::specs::Grammar::message))]
+fn message<'a>(alloc: Global, tokens: &'a [Token]) -> Read<'a, Expr>
+    ensures gives { Gives (λ x. (expr_tree x.0, toks x.1.now)) result (reads_free grammar.message (toks tokens.now)) }
+    ensures shorter { IfOk result (λ x. length x.1.now < length tokens.now) }
+{
+    let (at, rest) = expect(Mark::OpenSquare, tokens)?;
+    if sees_word(Word::Super, rest) {
+        to_super(alloc, at, rest)
+    } else {
+        to_object(alloc, at, rest)
+    }
+}
+
+/// What is after the `[` of a message, which is at this place, where `super` comes.
+#[cycle(exprs)]
+#[tactic(auto, unfolding(arc_grammar::specs::Grammar::to_super))]
+fn to_super<'a>(alloc: Global, at: usize, tokens: &'a [Token]) -> Read<'a, Expr>
+    ensures gives { Gives (λ x. (expr_tree x.0, toks x.1.now)) result (reads_on grammar.to_super at (toks tokens.now)) }
+    ensures shorter { IfOk result (λ x. length x.1.now < length tokens.now) }
+{
+    let (super_at, rest) = keyword(Word::Super, tokens)?;
+    let ((part, selector, all), rest) = sent(alloc, rest)?;
+    let (_, rest) = expect(Mark::CloseSquare, rest)?;
+    Ok((Expr::SendSuper(at, part, super_at, selector, all), rest))
+}
+
+/// What is after the `[` of a message, which is at this place, where an expression comes.
+#[cycle(exprs)]
+#[tactic(auto, unfolding(arc_grammar::specs::Grammar::to_object))]
+fn to_object<'a>(alloc: Global, at: usize, tokens: &'a [Token]) -> Read<'a, Expr>
+    ensures gives { Gives (λ x. (expr_tree x.0, toks x.1.now)) result (reads_on grammar.to_object at (toks tokens.now)) }
+    ensures shorter { IfOk result (λ x. length x.1.now < length tokens.now) }
+{
+    let (object, rest) = expr(alloc, tokens)?;
+    let object = Box::new(alloc, object)?;
+    let ((part, selector, all), rest) = sent(alloc, rest)?;
+    let (_, rest) = expect(Mark::CloseSquare, rest)?;
+    Ok((Expr::Send(at, part, object, selector, all), rest))
+}
+
+/// The place of a selector's first part, the selector, and the arguments.
+#[cycle(exprs)]
+#[tactic(auto, unfolding(arc_grammar::specs::Grammar::sent))]
+fn sent<'a>(alloc: Global, tokens: &'a [Token]) -> Read<'a, (usize, Vec<u8>, Vec<Expr>)>
+    ensures gives { Gives (λ x. ((x.0.0, (x.0.1.items, all expr_tree x.0.2.items)), toks x.1.now)) result (reads_free grammar.sent (toks tokens.now)) }
+    ensures shorter { IfOk result (λ x. length x.1.now < length tokens.now) }
+{
+    let ((at, called), rest) = name(tokens)?;
+    let selector = Vec::from_slice(alloc, called)?;
+    if !sees_mark(Mark::Colon, rest) {
+        return Ok(((at, selector, Vec::new(alloc)), rest));
+    }
+    let ((selector, all), rest) = parts(alloc, selector, rest)?;
+    Ok(((at, selector, all), rest))
+}
+
+/// What is after the name of a selector's first part: its argument, and further parts.
+#[cycle(exprs)]
+#[tactic(auto, unfolding(arc_grammar::specs::Grammar::parts, arc_grammar::specs::Grammar::argument_part))]
+fn parts<'a>(alloc: Global, first: Vec<u8>, tokens: &'a [Token]) -> Read<'a, (Vec<u8>, Vec<Expr>)>
+    ensures gives { Gives (λ x. ((x.0.0.items, all expr_tree x.0.1.items), toks x.1.now)) result (reads_on grammar.parts first.items (toks tokens.now)) }
+    ensures shorter { IfOk result (λ x. length x.1.now < length tokens.now) }
+{
+    let mut selector = first;
+    let mut all = Vec::new(alloc);
+    let (_, rest) = expect(Mark::Colon, tokens)?;
+    selector.push(b':')?;
+    let (one, rest) = expr(alloc, rest)?;
+    all.push(one)?;
+    more_parts(alloc, selector, all, rest)
+}
+
+/// This selector and these arguments, and further parts with theirs.
+#[cycle(exprs)]
+#[tactic(auto, using(crate::proofs::Fix::read_more_parts, crate::proofs::Fix::all_push), unfolding(arc_grammar::specs::Grammar::next_part, arc_grammar::specs::Grammar::argument_part))]
+fn more_parts<'a>(
+    alloc: Global,
+    before: Vec<u8>,
+    given: Vec<Expr>,
+    tokens: &'a [Token],
+) -> Read<'a, (Vec<u8>, Vec<Expr>)>
+    ensures gives { Gives (λ x. ((x.0.0.items, all expr_tree x.0.1.items), toks x.1.now)) result (reads_on grammar.more_parts (before.items, all expr_tree given.items) (toks tokens.now)) }
+    ensures shorter { IfOk result (λ x. length x.1.now ≤ length tokens.now) }
+{
+    if !sees_name(tokens) {
+        return Ok(((before, given), tokens));
+    }
+    let mut selector = before;
+    let mut all = given;
+    let ((_, called), rest) = name(tokens)?;
+    selector.extend_from_slice(called)?;
+    let (_, rest) = expect(Mark::Colon, rest)?;
+    selector.push(b':')?;
+    let (one, rest) = expr(alloc, rest)?;
+    all.push(one)?;
+    more_parts(alloc, selector, all, rest)
+}

@@ -1,0 +1,7 @@
+//! Reads expressions.
+#![tactic(auto)]
+
+mod expr;
+pub mod full;
+mod literal;
+mod operator;

@@ -1,0 +1,210 @@
+-- Operators between operands: what a token of a level is, and loops that join from the left.
+use Rattle.std.proofs.Common.{◌≡◌, ℕ, List, [], ◌∷◌, drop, Ok, Err, Bool, true, false, cond, ◌&&◌, ◌||◌, Option, Some, None, nat_eq, if◌then◌else◌, refl, sym, ap, ◌∙◌}
+use Rattle.std.proofs.lemmas.Bool.{eqb-true}
+use Rattle.arc_lex.specs.declared.token.Mark.{Mark}
+use Rattle.arc_lex.specs.Tokens.{Tok, Sort, Name, Integer, Text, Key, At, Sign, number_of_mark, same_mark}
+use Rattle.arc_form.specs.Kinds.{Kinds, ◌∪◌, mark, has, kind, is}
+use Rattle.arc_form.specs.Reader.{Read, Reader, Fault, misfit, bind, ◌>>=◌, ret, sees, if_sees, taken, take_one, loop}
+use Rattle.arc_form.specs.Operators.{Row, entry, entry_of, marks_at, operator_of, fold}
+use Rattle.arc_form.proofs.Sets.{both}
+use Rattle.arc_form.proofs.Local.{Local}
+use Rattle.arc_form.proofs.FormBegins.{loop_end}
+use Rattle.arc_form.proofs.FormComplete.{loop_more}
+
+abbrev pub is_at : {O : Type 0} → ℕ → Option (ℕ × O) → Bool
+is_at l None = false
+is_at l (Some e) = nat_eq e.0 l
+
+abbrev pub is_none : {O : Type 0} → Option (ℕ × O) → Bool
+is_none None = true
+is_none (Some e) = false
+
+-- whether no mark stands in two rows
+abbrev pub distinct : {O : Type 0} → List (Row O) → Bool
+distinct [] = true
+distinct (r ∷ rows) = is_none (entry rows r.mark) && distinct rows
+
+-- a token of this entry, if it is of the level
+abbrev pub taken_entry : {O : Type 0} → ℕ → Option (ℕ × O) → Reader O
+taken_entry l None ts = Err (misfit, ts)
+taken_entry l (Some e) ts = if nat_eq e.0 l then Ok (e.1, drop 1 ts) else Err (misfit, ts)
+
+module _ {O : Type 0} where
+  entry_alike : (rows : List (Row O)) (m n : Mark) → number_of_mark m ≡ number_of_mark n → entry rows m ≡ entry rows n
+  entry_alike [] m n e = refl
+  entry_alike (r ∷ rows) m n e = rw (e, entry_alike rows m n e) refl
+
+  none_at : (l : ℕ) (e : Option (ℕ × O)) → is_none e ≡ true → is_at l e ≡ false
+  none_at l None q = refl
+  none_at l (Some e) q = cc
+
+  mark_has : (rows : List (Row O)) → distinct rows ≡ true → (l : ℕ) (m : Mark) → has (marks_at l rows) (kind (Sign m)) ≡ is_at l (entry rows m)
+  mark_has [] d l m = refl
+  mark_has (r ∷ rows) d l m =
+      let p = both (is_none (entry rows r.mark)) (distinct rows) d in
+      go (same_mark m r.mark) refl (nat_eq r.level l) refl p.0 (mark_has rows p.1 l m)
+    where
+      here : (b c : Bool) → same_mark m r.mark ≡ b → nat_eq r.level l ≡ c → has (marks_at l (r ∷ rows)) (kind (Sign m)) ≡ cond c (b || has (marks_at l rows) (kind (Sign m))) (has (marks_at l rows) (kind (Sign m)))
+      here b true e f = ap (λ c. has (cond c (mark r.mark ∪ marks_at l rows) (marks_at l rows)) (kind (Sign m))) f ∙ ap (λ b. b || has (marks_at l rows) (kind (Sign m))) e
+      here b false e f = ap (λ c. has (cond c (mark r.mark ∪ marks_at l rows) (marks_at l rows)) (kind (Sign m))) f
+
+      found : (b : Bool) → same_mark m r.mark ≡ b → is_at l (entry (r ∷ rows) m) ≡ is_at l (cond b (Some (r.level, r.operator)) (entry rows m))
+      found b e = ap (λ b. is_at l (cond b (Some (r.level, r.operator)) (entry rows m))) e
+
+      go : (b : Bool) → same_mark m r.mark ≡ b → (c : Bool) → nat_eq r.level l ≡ c → is_none (entry rows r.mark) ≡ true → has (marks_at l rows) (kind (Sign m)) ≡ is_at l (entry rows m)
+          → has (marks_at l (r ∷ rows)) (kind (Sign m)) ≡ is_at l (entry (r ∷ rows) m)
+      go true e true f n h = here true true e f ∙ sym (found true e ∙ f)
+      go true e false f n h = here true false e f ∙ h ∙ ap (is_at l) (entry_alike rows m r.mark (eqb-true (number_of_mark m) (number_of_mark r.mark) e)) ∙ none_at l (entry rows r.mark) n ∙ sym (found true e ∙ f)
+      go false e true f n h = here false true e f ∙ h ∙ sym (found false e)
+      go false e false f n h = here false false e f ∙ h ∙ sym (found false e)
+
+  other_has : (rows : List (Row O)) (l i j : ℕ) → nat_eq i 5 ≡ false → has (marks_at l rows) (i, j) ≡ false
+  other_has [] l i j e = refl
+  other_has (r ∷ rows) l i j e = go (nat_eq r.level l) refl (other_has rows l i j e)
+    where
+      go : (c : Bool) → nat_eq r.level l ≡ c → has (marks_at l rows) (i, j) ≡ false → has (marks_at l (r ∷ rows)) (i, j) ≡ false
+      go true f h = rw (f, e) h
+      go false f h = rw f h
+
+  -- whether a token is of a level
+  is_operator : (rows : List (Row O)) → distinct rows ≡ true → (l : ℕ) (s : Sort) → has (marks_at l rows) (kind s) ≡ is_at l (entry_of rows s)
+  is_operator rows d l (Sign m) = mark_has rows d l m
+  is_operator rows d l (Name b) = other_has rows l 0 _ refl
+  is_operator rows d l (Integer v) = other_has rows l 1 _ refl
+  is_operator rows d l (Text b) = other_has rows l 2 _ refl
+  is_operator rows d l (Key w) = other_has rows l 3 _ refl
+  is_operator rows d l (At w) = other_has rows l 4 _ refl
+
+  -- the operator that it is
+  operator_is : (rows : List (Row O)) (other : O) (t : Tok) (e : ℕ × O) → entry_of rows t.sort ≡ Some e → operator_of other rows t ≡ e.1
+  operator_is rows other t e q = go t.sort refl q
+    where
+      row : (rows : List (Row O)) (m : Mark) → t.sort ≡ Sign m → entry rows m ≡ Some e → operator_of other rows t ≡ e.1
+      row [] m s q = cc
+      row (r ∷ rows) m s q = pick (same_mark m r.mark) refl (row rows m s)
+        where
+          pick : (b : Bool) → same_mark m r.mark ≡ b → (entry rows m ≡ Some e → operator_of other rows t ≡ e.1) → operator_of other (r ∷ rows) t ≡ e.1
+          pick true c h =
+              let first : Some (r.level, r.operator) ≡ Some e = sym (ap (λ b. cond b (Some (r.level, r.operator)) (entry rows m)) c) ∙ q in
+              let is_e : (r.level, r.operator) ≡ e = cc in
+              ap (λ b. cond b r.operator (operator_of other rows t)) (ap (λ z. has (mark r.mark) (kind z)) s ∙ c) ∙ ap (λ (x : ℕ × O). x.1) is_e
+          pick false c h =
+              ap (λ b. cond b r.operator (operator_of other rows t)) (ap (λ z. has (mark r.mark) (kind z)) s ∙ c)
+              ∙ h (sym (ap (λ b. cond b (Some (r.level, r.operator)) (entry rows m)) c) ∙ q)
+
+      go : (s : Sort) → t.sort ≡ s → entry_of rows s ≡ Some e → operator_of other rows t ≡ e.1
+      go (Sign m) s q = row rows m s q
+      go (Name b) s q = cc
+      go (Integer v) s q = cc
+      go (Text b) s q = cc
+      go (Key w) s q = cc
+      go (At w) s q = cc
+
+  pub sees_operator : (rows : List (Row O)) → distinct rows ≡ true → (l : ℕ) (t : Tok) (ts : List Tok) → sees (marks_at l rows) (t ∷ ts) ≡ is_at l (entry_of rows t.sort)
+  sees_operator rows d l t ts = is_operator rows d l t.sort
+
+  pub takes_operator : (rows : List (Row O)) → distinct rows ≡ true → (other : O) (l : ℕ) (t : Tok) (ts : List Tok)
+      → take_one (marks_at l rows) (operator_of other rows) (t ∷ ts) ≡ taken_entry l (entry_of rows t.sort) (t ∷ ts)
+  takes_operator rows d other l t ts = go (entry_of rows t.sort) refl (is_operator rows d l t.sort)
+    where
+      at : (e : ℕ × O) → entry_of rows t.sort ≡ Some e → (b : Bool) → nat_eq e.0 l ≡ b → is (marks_at l rows) t ≡ nat_eq e.0 l → taken (is (marks_at l rows) t) (operator_of other rows) t ts ≡ taken_entry l (Some e) (t ∷ ts)
+      at e q true f h =
+          ap (λ b. taken b (operator_of other rows) t ts) (h ∙ f) ∙ ap (λ o. Ok (o, ts)) (operator_is rows other t e q) ∙ sym (ap (λ b. cond b (Ok (e.1, ts)) (Err (misfit, t ∷ ts))) f)
+      at e q false f h = ap (λ b. taken b (operator_of other rows) t ts) (h ∙ f) ∙ sym (ap (λ b. cond b (Ok (e.1, ts)) (Err (misfit, t ∷ ts))) f)
+
+      go : (e : Option (ℕ × O)) → entry_of rows t.sort ≡ e → is (marks_at l rows) t ≡ is_at l (entry_of rows t.sort) → take_one (marks_at l rows) (operator_of other rows) (t ∷ ts) ≡ taken_entry l (entry_of rows t.sort) (t ∷ ts)
+      go None q h = ap (λ b. taken b (operator_of other rows) t ts) (h ∙ ap (is_at l) q) ∙ ap (λ x. taken_entry l x (t ∷ ts)) (sym q)
+      go (Some e) q h = at e q (nat_eq e.0 l) refl (h ∙ ap (is_at l) q) ∙ ap (λ x. taken_entry l x (t ∷ ts)) (sym q)
+
+-- ---- three changes of a value, one after the other
+
+module _ (A : Type 0) where
+  abbrev Change : Type 0
+  Change = A → A
+
+  abbrev Two : Type 0
+  Two = Change × Change
+
+  abbrev Three : Type 0
+  Three = Change × Two
+
+  abbrev all_three : Read Three → A → Read A
+  all_three x a = bind {A = Change} (bind x (λ r. ret (λ left. r.1.1 (r.1.0 (r.0 left))))) (λ make. ret (make a))
+
+  abbrev two : Read Change → Reader Change → Read Two
+  two y h = bind y (λ s. h >>= (λ t. ret (s, t)))
+
+  abbrev three : Read Change → Reader Two → Read Three
+  three x k = bind x (λ p. k >>= (λ q. ret (p, q)))
+
+  abbrev change : Reader Change → A → Reader A
+  change f a = f >>= (λ make. ret (make a))
+
+  pub in_turn : (f g h : Reader Change) (a : A) (ts : List Tok) → all_three (three (f ts) (λ us. two (g us) h)) a ≡ ((change f a >>= (λ b. change g b)) >>= (λ c. change h c)) ts
+  in_turn f g h a ts = first (f ts)
+    where
+      first : (x : Read Change) → all_three (three x (λ us. two (g us) h)) a ≡ bind (bind (bind x (λ make. ret (make a))) (λ b. change g b)) (λ c. change h c)
+      first (Err x) = refl
+      first (Ok x) = second (g x.1)
+        where
+          second : (y : Read Change) → all_three (bind (two y h) (λ q. ret (x.0, q))) a ≡ bind (bind y (λ make. ret (make (x.0 a)))) (λ c. change h c)
+          second (Err y) = refl
+          second (Ok y) = third (h y.1)
+            where
+              third : (z : Read Change) → all_three (bind {A = Two} (bind z (λ t. ret (y.0, t))) (λ q. ret (x.0, q))) a ≡ bind z (λ make. ret (make (y.0 (x.0 a))))
+              third (Ok z) = refl
+              third (Err z) = refl
+
+-- ---- loops that join from the left
+
+-- two readers, whose values are taken together and given on
+pub pair_then : {A B C : Type 0} (x : Read A) (g : Reader B) (k : A × B → Reader C) → bind (bind x (λ a. g >>= (λ b. ret (a, b)))) k ≡ bind x (λ a. g >>= (λ b. k (a, b)))
+pair_then {A} {B} {C} (Ok x) g k = go (g x.1)
+  where
+    go : (y : Read B) → bind (bind y (λ b. ret (x.0, b))) k ≡ bind y (λ b. k (x.0, b))
+    go (Ok y) = refl
+    go (Err y) = refl
+pair_then (Err x) g k = refl
+
+-- and of which the second is given on
+pub second_then : {A B C : Type 0} (x : Read A) (g : Reader B) (k : B → Reader C) → bind (bind {A = A × B} (bind x (λ a. g >>= (λ b. ret (a, b)))) (λ p. ret p.1)) k ≡ bind x (λ a. g >>= k)
+second_then {A} {B} {C} (Ok x) g k = go (g x.1)
+  where
+    go : (y : Read B) → bind (bind {A = A × B} (bind y (λ b. ret (x.0, b))) (λ p. ret p.1)) k ≡ bind y k
+    go (Ok y) = refl
+    go (Err y) = refl
+second_then (Err x) g k = refl
+
+-- a first part and one that makes a value of it
+pub after_left : {A B : Type 0} (x : Read A) (h : Reader (A → B)) → bind {A = A × (A → B)} (bind x (λ a. h >>= (λ make. ret (a, make)))) (λ p. ret (p.1 p.0)) ≡ bind x (λ a. h >>= (λ make. ret (make a)))
+after_left {A} {B} (Ok x) h = go (h x.1)
+  where
+    go : (y : Read (A → B)) → bind {A = A × (A → B)} (bind y (λ make. ret (x.0, make))) (λ p. ret (p.1 p.0)) ≡ bind y (λ make. ret (make x.0))
+    go (Ok y) = refl
+    go (Err y) = refl
+after_left (Err x) h = refl
+
+module _ {A B : Type 0} (K : Kinds) (f : Reader A) (join : B → A → B) (front : (j : ℕ) → Local ⊥ 1 j f f) where
+  abbrev joined_to : B → Read (List A) → Read B
+  joined_to b x = bind {A = B → B} (bind x (λ all. ret (λ left. fold join left all))) (λ make. ret (make b))
+
+  -- what a loop reads, joined to what there is
+  abbrev pub joined : B → Reader B
+  joined b = λ us. joined_to b (loop K f us)
+
+  stops : (us : List Tok) (e : Fault × List Tok) → sees K us ≡ true → f us ≡ Err e → loop K f us ≡ Err e
+  unfolding loop
+  stops us e s q = rw (s, q) refl
+
+  -- one more is joined, or there is none
+  pub joined_is : (b : B) (us : List Tok) → joined b us ≡ if_sees K (f >>= (λ a. joined (join b a))) (ret b) us
+  joined_is b us = go (sees K us) refl (f us) refl
+    where
+      after : (a : A) (x : Read (List A)) → joined_to b (bind x (λ others. ret (a ∷ others))) ≡ joined_to (join b a) x
+      after a (Ok x) = refl
+      after a (Err x) = refl
+
+      go : (c : Bool) → sees K us ≡ c → (x : Read A) → f us ≡ x → joined b us ≡ cond (sees K us) ((f >>= (λ a. joined (join b a))) us) (ret b us)
+      go false s x q = ap (joined_to b) (loop_end f K us s) ∙ sym (ap (λ c. cond c ((f >>= (λ a. joined (join b a))) us) (ret b us)) s)
+      go true s (Ok x) q = ap (joined_to b) (loop_more K us x.1 x.0 front s q) ∙ after x.0 (loop K f x.1) ∙ sym (ap (λ y. bind y (λ a. joined (join b a))) q) ∙ sym (ap (λ c. cond c ((f >>= (λ a. joined (join b a))) us) (ret b us)) s)
+      go true s (Err e) q = ap (joined_to b) (stops us e s q) ∙ sym (ap (λ y. bind y (λ a. joined (join b a))) q) ∙ sym (ap (λ c. cond c ((f >>= (λ a. joined (join b a))) us) (ret b us)) s)

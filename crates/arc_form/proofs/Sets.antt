@@ -1,0 +1,149 @@
+-- Tests on sets of kinds, which compute.
+use Rattle.std.proofs.Common.{◌≡◌, List, [], ◌∷◌, ◌++◌, Bool, true, false, not, ◌&&◌, ◌||◌, nat_eq, refl, sym, ap, subst, ◌∙◌, ap₂}
+use Rattle.std.proofs.lemmas.Bool.{eqb-true}
+use Rattle.arc_lex.specs.Tokens.{Tok}
+use Rattle.arc_form.specs.Kinds.{Kind, Kinds, number_of_name, none, one, ◌∪◌, same, has, kind, is, name}
+use Rattle.arc_form.specs.Reader.{first, sees, sees_second, sees_two}
+
+-- ---- conjunctions
+
+pub both : (a b : Bool) → (a && b) ≡ true → (a ≡ true) × (b ≡ true)
+both true true e = (refl, refl)
+both true false e = cc
+both false b e = cc
+
+pub and_of : (a b : Bool) → a ≡ true → b ≡ true → (a && b) ≡ true
+and_of true b p q = q
+and_of false b p q = cc
+
+pub neither : (a b : Bool) → (a || b) ≡ false → (a ≡ false) × (b ≡ false)
+neither false false e = (refl, refl)
+neither false true e = cc
+neither true b e = cc
+
+pub no_both : (a : Bool) → a ≡ true → a ≡ false → ⊥
+no_both a e n = cc
+
+pub not_true : (b : Bool) → not b ≡ true → b ≡ false
+not_true true e = cc
+not_true false e = refl
+
+-- ---- sets of kinds
+
+-- whether all of the first are among the second
+abbrev pub among : Kinds → Kinds → Bool
+among none B = true
+among (one a) B = has B a
+among (A ∪ C) B = among A B && among C B
+
+-- whether none of the first is among the second
+abbrev pub apart : Kinds → Kinds → Bool
+apart none B = true
+apart (one a) B = not (has B a)
+apart (A ∪ C) B = apart A B && apart C B
+
+same_is : (a b : Kind) → same a b ≡ true → a ≡ b
+same_is (i, j) (k, l) e =
+    let p = both (nat_eq i k) (nat_eq j l) e in
+    ap₂ (λ x y. (x, y)) (eqb-true i k p.0) (eqb-true j l p.1)
+
+among_has : (A B : Kinds) (k : Kind) → among A B ≡ true → has A k ≡ true → has B k ≡ true
+among_has none B k e h = cc
+among_has (one a) B k e h = subst (λ x. has B x ≡ true) (sym (same_is k a h)) e
+among_has (A ∪ C) B k e h =
+    let p = both (among A B) (among C B) e in
+    go (has A k) refl (among_has A B k p.0) (among_has C B k p.1)
+  where
+    go : (b : Bool) → has A k ≡ b → (has A k ≡ true → has B k ≡ true) → (has C k ≡ true → has B k ≡ true) → has B k ≡ true
+    go true q a c = a q
+    go false q a c = c (ap (λ b. b || has C k) (sym q) ∙ h)
+
+apart_has : (A B : Kinds) (k : Kind) → apart A B ≡ true → has A k ≡ true → has B k ≡ false
+apart_has none B k e h = cc
+apart_has (one a) B k e h = subst (λ x. has B x ≡ false) (sym (same_is k a h)) (not_true (has B a) e)
+apart_has (A ∪ C) B k e h =
+    let p = both (apart A B) (apart C B) e in
+    go (has A k) refl (apart_has A B k p.0) (apart_has C B k p.1)
+  where
+    go : (b : Bool) → has A k ≡ b → (has A k ≡ true → has B k ≡ false) → (has C k ≡ true → has B k ≡ false) → has B k ≡ false
+    go true q a c = a q
+    go false q a c = c (ap (λ b. b || has C k) (sym q) ∙ h)
+
+pub name_has : (b : Bool) → has name (0, number_of_name b) ≡ true
+name_has true = refl
+name_has false = refl
+
+-- ---- the first token
+
+pub sees_among : (A B : Kinds) (ts : List Tok) → among A B ≡ true → sees A ts ≡ true → sees B ts ≡ true
+sees_among A B [] e h = cc
+sees_among A B (t ∷ ts) e h = among_has A B (kind t.sort) e h
+
+pub sees_apart : (A B : Kinds) (ts : List Tok) → apart A B ≡ true → sees A ts ≡ true → sees B ts ≡ false
+sees_apart A B [] e h = cc
+sees_apart A B (t ∷ ts) e h = apart_has A B (kind t.sort) e h
+
+-- what is none of these is none of fewer
+pub sees_none : (A B : Kinds) (ts : List Tok) → among A B ≡ true → sees B ts ≡ false → sees A ts ≡ false
+sees_none A B ts e h = go (sees A ts) refl
+  where
+    go : (b : Bool) → sees A ts ≡ b → sees A ts ≡ false
+    go true q = absurd (no_both (sees B ts) (sees_among A B ts e q) h)
+    go false q = q
+
+-- what is one of these is none of others
+pub sees_other : (A B : Kinds) (ts : List Tok) → apart A B ≡ true → sees B ts ≡ true → sees A ts ≡ false
+sees_other A B ts p e = go (sees A ts) refl
+  where
+    go : (b : Bool) → sees A ts ≡ b → sees A ts ≡ false
+    go true q = absurd (no_both (sees B ts) e (sees_apart A B ts p q))
+    go false q = q
+
+pub sees_or : (A B : Kinds) (ts : List Tok) → sees (A ∪ B) ts ≡ (sees A ts || sees B ts)
+sees_or A B [] = refl
+sees_or A B (t ∷ ts) = refl
+
+or_true : (b : Bool) → (b || true) ≡ true
+or_true true = refl
+or_true false = refl
+
+pub sees_left : (A B : Kinds) (ts : List Tok) → sees A ts ≡ true → sees (A ∪ B) ts ≡ true
+sees_left A B ts h = sees_or A B ts ∙ ap (λ b. b || sees B ts) h
+
+pub sees_right : (A B : Kinds) (ts : List Tok) → sees B ts ≡ true → sees (A ∪ B) ts ≡ true
+sees_right A B ts h = sees_or A B ts ∙ ap (λ b. sees A ts || b) h ∙ or_true (sees A ts)
+
+pub sees_neither : (A B : Kinds) (ts : List Tok) → sees (A ∪ B) ts ≡ false → (sees A ts ≡ false) × (sees B ts ≡ false)
+sees_neither A B ts h = neither (sees A ts) (sees B ts) (sym (sees_or A B ts) ∙ h)
+
+pub sees_nothing : (ts : List Tok) → sees none ts ≡ false
+sees_nothing [] = refl
+sees_nothing (t ∷ ts) = refl
+
+-- a test of the first token alone
+pub sees_alike : (T : Kinds) (a b : List Tok) → first a ≡ first b → sees T a ≡ sees T b
+sees_alike T [] [] e = refl
+sees_alike T [] (u ∷ us) e = cc
+sees_alike T (t ∷ ts) [] e = cc
+sees_alike T (t ∷ ts) (u ∷ us) e = let same : t ≡ u = cc in ap (is T) same
+
+pub sees_more : (T : Kinds) (xs rest : List Tok) → sees T xs ≡ true → sees T (xs ++ rest) ≡ true
+sees_more T [] rest e = cc
+sees_more T (t ∷ xs) rest e = e
+
+pub second_more : (U : Kinds) (xs rest : List Tok) → sees_second U xs ≡ true → sees_second U (xs ++ rest) ≡ true
+second_more U [] rest e = cc
+second_more U (t ∷ xs) rest e = sees_more U xs rest e
+
+-- a test of the first two tokens, of lists that share the first one at least where it passes
+pub two_alike : (T U : Kinds) (b more rest : List Tok) → first more ≡ first rest → (sees T (b ++ rest) ≡ true → (t : Tok) × (c : List Tok) × (b ≡ t ∷ c)) → sees_two T U (b ++ more) ≡ sees_two T U (b ++ rest)
+two_alike T U [] more rest e k = go (sees T rest) refl
+  where
+    none_there : (b : Bool) → b ≡ false → (b && sees_second U more) ≡ false
+    none_there b q = ap (λ b. b && sees_second U more) q
+
+    go : (b : Bool) → sees T rest ≡ b → sees_two T U more ≡ sees_two T U rest
+    go true q = let p = k q in let no : [] ≡ p.0 ∷ p.1 = p.2 in cc
+    go false q = none_there (sees T more) (sees_alike T more rest e ∙ q) ∙ sym (ap (λ b. b && sees_second U rest) q)
+two_alike T U (t ∷ []) more rest e k = ap (λ b. is T t && b) (sees_alike U more rest e)
+two_alike T U (t ∷ u ∷ b) more rest e k = refl

@@ -1,0 +1,6 @@
+//! Grammars as data: what their rules may be made of, how they are read, and what holds of all of them.
+#![tactic(auto)]
+
+pub mod fail;
+pub mod slice;
+pub mod step;

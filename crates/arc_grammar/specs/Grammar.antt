@@ -1,0 +1,595 @@
+-- The grammar, a line for each of its rules, with the tree that each gives.
+use Rattle.std.specs.Prelude.{ℕ, zero, suc, ◌-◌, List, [], ◌∷◌, ◌++◌, Option, Some, None}
+use Rattle.arc_lex.specs.declared.token.Mark.{Mark}
+use Rattle.arc_lex.specs.declared.token.Mark.TheVariants as m
+use Rattle.arc_lex.specs.declared.token.Word.{Word}
+use Rattle.arc_lex.specs.declared.token.Word.TheVariants as w
+use Rattle.arc_lex.specs.declared.token.AtWord.{AtWord}
+use Rattle.arc_lex.specs.declared.token.AtWord.TheVariants as words
+use Rattle.arc_lex.specs.Tokens.{Tok, Sort}
+use Rattle.arc_lex.specs.Tokens as tokens
+use Rattle.arc_ast.specs.declared.tree.Kind.{Kind}
+use Rattle.arc_ast.specs.declared.tree.Kind.TheVariants as results
+use Rattle.arc_ast.specs.declared.tree.Sign.{Sign}
+use Rattle.arc_ast.specs.declared.tree.Sign.TheVariants as signs
+use Rattle.arc_ast.specs.declared.tree.Visibility.{Visibility}
+use Rattle.arc_ast.specs.declared.tree.Visibility.TheVariants as seen
+use Rattle.arc_ast.specs.declared.tree.BinaryOperator.{BinaryOperator}
+use Rattle.arc_ast.specs.declared.tree.BinaryOperator.TheVariants as operators
+use Rattle.arc_ast.specs.Tree.{TypeTree, ExprTree, ExprTrees, VariableTree, StmtTree, StmtTrees, ParameterTree, ParametersTree, FunctionTree, HeadTree, MethodTree, FieldTree, InterfaceTree, ImplementationTree, UnitTree, Int, Id, Object, Integer, Text, Paren, Call, Nil, Itself, Name, Negate, Plus, Cast, Binary, Arrow, Assign, Send, SendSuper, no_exprs, and_expr, Block, Empty, Simple, Return, Variables, If, IfElse, While, no_stmts, and_stmt, Ints, CountAndTexts, begins}
+use Rattle.arc_form.specs.Kinds.{Kinds, ◌∪◌, mark, word, at, name, main, other_name, integer, text}
+use Rattle.arc_form.specs.Reader.{Reader, ◌>>=◌, ret, from}
+use Rattle.arc_form.specs.Reader as readers
+use Rattle.arc_form.specs.Operators.{Row, marks_at, operator_of, fold}
+use Rattle.arc_form.specs.Form.{Limits, unlimited, Form, Rules, Bodies, token, give, call, map, ◌⨾◌, choose, many, or_none, nest, bounded, two_ahead, run, read}
+
+-- What is recursive: an expression, a unary one, one whose operators are of a level or tighter, and a statement that is nested
+-- so deep.
+pub data Rule : Type 0 where
+  expr : Rule
+  unary : Rule
+  binary : ℕ → Rule
+  stmt : ℕ → Rule
+
+abbrev pub Node : Rule → Type 0
+Node expr = ExprTree
+Node unary = ExprTree
+Node (binary l) = ExprTree
+Node (stmt d) = StmtTree
+
+abbrev pub Part : Type 0 → Type 1
+Part A = Form Rule Node A
+
+-- ---- tokens
+
+abbrev pub the : Mark → Part ℕ
+the sign = token (mark sign) from
+
+abbrev pub key : Word → Part ℕ
+key w = token (word w) from
+
+abbrev pub at_key : AtWord → Part ℕ
+at_key w = token (at w) from
+
+-- a name and its place
+abbrev pub called : Part (ℕ × List ℕ)
+called = token name readers.named
+
+-- ---- operators between two operands (C99, sections 6.5.5, 6.5.6 and 6.5.9), the tightest first
+
+abbrev pub table : List (Row BinaryOperator)
+table =
+    record { mark = m.Star; level = 1; operator = operators.Multiply } ∷
+    record { mark = m.Slash; level = 1; operator = operators.Divide } ∷
+    record { mark = m.Plus; level = 2; operator = operators.Add } ∷
+    record { mark = m.Minus; level = 2; operator = operators.Subtract } ∷
+    record { mark = m.NotEqual; level = 3; operator = operators.NotEqual } ∷ []
+
+-- an operator of a level
+abbrev pub between : ℕ → Part BinaryOperator
+between l = token (marks_at l table) (operator_of operators.Add table)
+
+abbrev pub join : ExprTree → BinaryOperator × ExprTree → ExprTree
+join left (o, right) = Binary (begins left) o left right
+
+-- an operator of a level and its right operand
+unfoldable pub further : ℕ → Part (BinaryOperator × ExprTree)
+further l = between l ⨾ call (binary (l - 1))
+
+-- the operators of a level after a left operand, with their right operands; they group from the left
+unfoldable pub more : ℕ → Part (ExprTree → ExprTree)
+more l = map (λ all left. fold join left all) (many (marks_at l table) (further l))
+
+-- the operators of all levels after a unary expression
+unfoldable pub continued : Part (ExprTree → ExprTree)
+continued = map (λ (products, (sums, tests)) left. tests (sums (products left))) (more 1 ⨾ more 2 ⨾ more 3)
+
+-- ---- expressions (C99, section 6.5)
+
+abbrev pub literal_of : ℕ → Sort → ExprTree
+literal_of at (tokens.Integer value) = Integer at value
+literal_of at (tokens.Text bytes) = Text at bytes
+literal_of at (tokens.Key w.SelfWord) = Itself at
+literal_of at _ = Nil at
+
+abbrev pub begins_literal : Kinds
+begins_literal = integer ∪ text ∪ word w.Nil ∪ word w.SelfWord
+
+-- an integer, a text, `nil` or `self` (6.5.1)
+unfoldable pub literal : Part ExprTree
+literal = token begins_literal (λ t. literal_of t.from t.sort)
+
+-- a field after an object (6.5.2.3)
+unfoldable pub field_name : Part (ℕ × List ℕ)
+field_name = map (λ (arrow, n). n) (the m.Arrow ⨾ called)
+
+abbrev pub with_field : ExprTree → ℕ × List ℕ → ExprTree
+with_field object n = Arrow (begins object) n.0 object n.1
+
+unfoldable pub arrows : Part (ExprTree → ExprTree)
+arrows = map (λ all object. fold with_field object all) (many (mark m.Arrow) field_name)
+
+-- a list as the trees hold it
+abbrev pub exprs : List ExprTree → ExprTrees
+exprs [] = no_exprs
+exprs (a ∷ others) = and_expr a (exprs others)
+
+unfoldable pub next_argument : Part ExprTree
+next_argument = map (λ (comma, a). a) (the m.Comma ⨾ call expr)
+
+-- one more at the end
+abbrev pub add : {A : Type 0} → List A → A → List A
+add all a = all ++ a ∷ []
+
+-- further arguments, each after a comma
+unfoldable pub more_arguments : Part (List ExprTree → List ExprTree)
+more_arguments = map (λ others all. fold add all others) (many (mark m.Comma) next_argument)
+
+-- arguments, one or more, and `)`
+unfoldable pub some_arguments : Part (List ExprTree)
+some_arguments = map (λ (a, (make, end)). make (a ∷ [])) (call expr ⨾ more_arguments ⨾ the m.CloseParen)
+
+unfoldable pub no_arguments : Part (List ExprTree)
+no_arguments = map (λ end. []) (the m.CloseParen)
+
+unfoldable pub given : Part (List ExprTree)
+given = choose (mark m.CloseParen) no_arguments some_arguments
+
+-- a call's arguments (6.5.2.2)
+unfoldable pub arguments : Part (ℕ × List ℕ → ExprTree)
+arguments = map (λ (start, all) n. Call n.0 n.1 (exprs all)) (the m.OpenParen ⨾ given)
+
+-- a variable's name, or a call
+unfoldable pub named : Part ExprTree
+named = map (λ (n, make). make n) (called ⨾ choose (mark m.OpenParen) arguments (give (λ n. Name n.0 n.1)))
+
+-- ---- messages (OPL, "Objects, Classes, and Messaging")
+
+-- the bytes of a selector's part and of its colon, before further parts
+abbrev pub and_part : List ℕ → List ℕ → List ℕ
+and_part called further = called ++ 58 ∷ further
+
+-- the bytes of the parts of a selector
+abbrev pub selector_of : {A : Type 0} → List (List ℕ × A) → List ℕ
+selector_of [] = []
+selector_of (p ∷ others) = and_part p.0 (selector_of others)
+
+abbrev pub seconds : {A : Type 0} → List (List ℕ × A) → List A
+seconds [] = []
+seconds (p ∷ others) = p.1 ∷ seconds others
+
+-- the bytes of a selector, and the arguments
+abbrev pub Sent : Type 0
+Sent = List ℕ × List ExprTree
+
+-- one more part, with its colon and its argument
+abbrev pub add_part : Sent → List ℕ × ExprTree → Sent
+add_part s p = ((s.0 ++ p.0) ++ 58 ∷ [], add s.1 p.1)
+
+-- a colon and an argument
+unfoldable pub argument_part : Part ExprTree
+argument_part = map (λ (colon, a). a) (the m.Colon ⨾ call expr)
+
+unfoldable pub next_part : Part (List ℕ × ExprTree)
+next_part = map (λ (n, a). (n.1, a)) (called ⨾ argument_part)
+
+unfoldable pub more_parts : Part (Sent → Sent)
+more_parts = map (λ others s. fold add_part s others) (many name next_part)
+
+-- what is after the name of the first part
+unfoldable pub parts : Part (List ℕ → Sent)
+parts = map (λ (a, make) first. make (first ++ 58 ∷ [], a ∷ [])) (argument_part ⨾ more_parts)
+
+-- a selector with its arguments, and the place of its first part
+unfoldable pub sent : Part (ℕ × Sent)
+sent = map (λ (n, make). (n.0, make n.1)) (called ⨾ choose (mark m.Colon) parts (give (λ first. (first, []))))
+
+unfoldable pub to_super : Part (ℕ → ExprTree)
+to_super = map (λ (super_at, (s, end)) at. SendSuper at s.0 super_at s.1.0 (exprs s.1.1)) (key w.Super ⨾ sent ⨾ the m.CloseSquare)
+
+unfoldable pub to_object : Part (ℕ → ExprTree)
+to_object = map (λ (object, (s, end)) at. Send at s.0 object s.1.0 (exprs s.1.1)) (call expr ⨾ sent ⨾ the m.CloseSquare)
+
+unfoldable pub message : Part ExprTree
+message = map (λ (at, make). make at) (the m.OpenSquare ⨾ choose (word w.Super) to_super to_object)
+
+-- ---- parentheses and casts (C99, sections 6.5.1 and 6.5.4; OPL, "Object Identifiers" and "Static Typing")
+
+-- what is after the `(` of an expression in parentheses
+unfoldable pub inside : Part (ℕ → ExprTree)
+inside = map (λ (a, (end, make)) at. make (Paren at a)) (call expr ⨾ the m.CloseParen ⨾ arrows)
+
+-- what is after the `(` of a cast to `id`
+unfoldable pub cast_to_id : Part (ℕ → ExprTree)
+cast_to_id = map (λ (id, (end, a)) at. Cast at Id a) (key w.Id ⨾ the m.CloseParen ⨾ call unary)
+
+-- what is after `( name *` in a cast
+unfoldable pub cast : Part (ℕ × ℕ × List ℕ → ExprTree)
+cast = map (λ (end, a) (at, name_at, called). Cast at (Object name_at called) a) (the m.CloseParen ⨾ call unary)
+
+-- what is after `( name *` in a product in parentheses
+unfoldable pub product : Part (ℕ × ℕ × List ℕ → ExprTree)
+product = map (λ (right, (make, (end, fields))) (at, name_at, called). fields (Paren at (make (Binary name_at operators.Multiply (Name name_at called) right)))) (call unary ⨾ continued ⨾ the m.CloseParen ⨾ arrows)
+
+-- what is after the `(` where a name and `*` come
+unfoldable pub starred : Part (ℕ → ExprTree)
+starred = map (λ (n, (star, make)) at. make (at, n.0, n.1)) (called ⨾ the m.Star ⨾ choose (mark m.CloseParen) cast product)
+
+unfoldable pub parenthesized : Part ExprTree
+parenthesized = map (λ (at, make). make at) (the m.OpenParen ⨾ choose (word w.Id) cast_to_id (two_ahead name (mark m.Star) starred inside))
+
+-- ---- unary expressions (C99, section 6.5.3)
+
+unfoldable pub primary : Part ExprTree
+primary = choose name named (choose (mark m.OpenSquare) message literal)
+
+unfoldable pub postfix : Part ExprTree
+postfix = map (λ (a, make). make a) (primary ⨾ arrows)
+
+unfoldable pub negated : Part ExprTree
+negated = map (λ (at, a). Negate at a) (the m.Minus ⨾ call unary)
+
+unfoldable pub plus : Part ExprTree
+plus = map (λ (at, a). Plus at a) (the m.Plus ⨾ call unary)
+
+unfoldable pub prefixed : Part ExprTree
+prefixed = choose (mark m.Minus) negated (choose (mark m.Plus) plus (choose (mark m.OpenParen) parenthesized postfix))
+
+-- the operators that bind as loosely as this level, or tighter
+unfoldable pub operations : ℕ → Part ExprTree
+operations zero = prefixed
+operations (suc l) = map (λ (left, make). make left) (operations l ⨾ more (suc l))
+
+-- an assignment (6.5.16), of which the left side is a unary expression
+unfoldable pub assigned : Part (ExprTree → ExprTree)
+assigned = map (λ (sign, right) left. Assign (begins left) sign left right) (the m.Assign ⨾ call expr)
+
+-- what comes after a unary expression
+unfoldable pub operation : Part (ExprTree → ExprTree)
+operation = choose (mark m.Assign) assigned continued
+
+unfoldable pub expression : Part ExprTree
+expression = map (λ (left, make). make left) (prefixed ⨾ operation)
+
+abbrev pub begins_expr : Kinds
+begins_expr = name ∪ begins_literal ∪ mark m.OpenParen ∪ mark m.OpenSquare ∪ mark m.Minus ∪ mark m.Plus
+
+-- a full-expression (6.8, paragraph 4), within the limit
+unfoldable pub full : Part ExprTree
+full = bounded expression
+
+-- ---- declarations (C99, section 6.7)
+
+-- what a variable begins with (6.7.8)
+unfoldable pub initial : Part (Option ExprTree)
+initial = choose (mark m.Assign) (map (λ (sign, e). Some e) (the m.Assign ⨾ full)) (give None)
+
+unfoldable pub variable : Part VariableTree
+variable = map (λ (n, e). record { at = n.0; name = n.1; initial = e }) (called ⨾ initial)
+
+unfoldable pub next_variable : Part VariableTree
+next_variable = map (λ (comma, v). v) (the m.Comma ⨾ variable)
+
+unfoldable pub more_variables : Part (List VariableTree)
+more_variables = many (mark m.Comma) next_variable
+
+-- a word, variables and `;`
+unfoldable pub declaration : Word → TypeTree → Part StmtTree
+declaration w type = map (λ (at, (v, (others, end))). Variables at type (v ∷ others)) (key w ⨾ variable ⨾ more_variables ⨾ the m.Semicolon)
+
+-- `*` and a variable (6.7.5.1)
+unfoldable pub reference : Part VariableTree
+reference = map (λ (star, v). v) (the m.Star ⨾ variable)
+
+unfoldable pub next_reference : Part VariableTree
+next_reference = map (λ (comma, v). v) (the m.Comma ⨾ reference)
+
+unfoldable pub more_references : Part (List VariableTree)
+more_references = many (mark m.Comma) next_reference
+
+-- a class's name, variables with a `*` each, and `;`
+unfoldable pub objects : Part StmtTree
+objects = map (λ (n, (v, (others, end))). Variables n.0 (Object n.0 n.1) (v ∷ others)) (called ⨾ reference ⨾ more_references ⨾ the m.Semicolon)
+
+-- ---- statements (C99, section 6.8)
+
+abbrev pub begins_stmt : Kinds
+begins_stmt = mark m.OpenBrace ∪ mark m.Semicolon ∪ word w.Return ∪ word w.If ∪ word w.While ∪ begins_expr
+
+-- a list as the trees hold it
+abbrev pub stmts : List StmtTree → StmtTrees
+stmts [] = no_stmts
+stmts (a ∷ others) = and_stmt a (stmts others)
+
+unfoldable pub simple : Part StmtTree
+simple = map (λ (e, end). Simple e) (full ⨾ the m.Semicolon)
+
+unfoldable pub empty : Part StmtTree
+empty = map Empty (the m.Semicolon)
+
+unfoldable pub value : Part (Option ExprTree)
+value = choose (mark m.Semicolon) (map (λ end. None) (the m.Semicolon)) (map (λ (e, end). Some e) (full ⨾ the m.Semicolon))
+
+unfoldable pub returned : Part StmtTree
+returned = map (λ (at, e). Return at e) (key w.Return ⨾ value)
+
+unfoldable pub test : Part ExprTree
+test = map (λ (start, (c, end)). c) (the m.OpenParen ⨾ full ⨾ the m.CloseParen)
+
+abbrev pub conditional : ℕ → ExprTree → StmtTree → Option StmtTree → StmtTree
+conditional at c a None = If at c a
+conditional at c a (Some b) = IfElse at c a b
+
+-- an `else` belongs to the nearest `if` that it may belong to (6.8.4.1)
+unfoldable pub otherwise : ℕ → Part (Option StmtTree)
+otherwise d = or_none (word w.Else) (map (λ (other, b). Some b) (key w.Else ⨾ call (stmt (suc d)))) None
+
+unfoldable pub if_else : ℕ → Part StmtTree
+if_else d = map (λ (at, (c, (a, b))). conditional at c a b) (key w.If ⨾ test ⨾ call (stmt (suc d)) ⨾ otherwise d)
+
+unfoldable pub while_do : ℕ → Part StmtTree
+while_do d = map (λ (at, (c, a)). While at c a) (key w.While ⨾ test ⨾ call (stmt (suc d)))
+
+-- a name and `*` declare at the start of an item, and are no expression (this project's own choice, since a name may be a class's)
+unfoldable pub by_name : ℕ → Part StmtTree
+by_name d = two_ahead name (mark m.Star) objects (call (stmt d))
+
+unfoldable pub item : ℕ → Part StmtTree
+item d = choose (word w.Int) (declaration w.Int Int) (choose (word w.Id) (declaration w.Id Id) (by_name d))
+
+abbrev pub begins_item : Kinds
+begins_item = word w.Int ∪ word w.Id ∪ begins_stmt
+
+unfoldable pub items : ℕ → Part (List StmtTree)
+items d = many begins_item (item d)
+
+unfoldable pub block : ℕ → Part StmtTree
+block d = map (λ (at, (all, end)). Block at (stmts all)) (the m.OpenBrace ⨾ items (suc d) ⨾ the m.CloseBrace)
+
+unfoldable pub worded : ℕ → Part StmtTree
+worded d = choose (word w.Return) returned (choose (word w.If) (if_else d) (choose (word w.While) (while_do d) simple))
+
+unfoldable pub statement : ℕ → Part StmtTree
+statement d = choose (mark m.OpenBrace) (block d) (choose (mark m.Semicolon) empty (worded d))
+
+-- ---- functions (C99, section 6.9.1; those of `main`, 5.1.2.2.1)
+
+-- `int` or `void`
+unfoldable pub result_kind : Part Kind
+result_kind = choose (word w.Void) (map (λ void. results.Void) (key w.Void)) (map (λ int. results.Int) (key w.Int))
+
+unfoldable pub parameter : Part ParameterTree
+parameter = map (λ (int, n). record { at = n.0; name = n.1 }) (key w.Int ⨾ called)
+
+unfoldable pub next_parameter : Part ParameterTree
+next_parameter = map (λ (comma, p). p) (the m.Comma ⨾ parameter)
+
+unfoldable pub more_parameters : Part (List ParameterTree)
+more_parameters = many (mark m.Comma) next_parameter
+
+unfoldable pub void_parameters : Part ParametersTree
+void_parameters = map (λ void. Ints []) (key w.Void)
+
+unfoldable pub some_parameters : Part ParametersTree
+some_parameters = map (λ (p, others). Ints (p ∷ others)) (parameter ⨾ more_parameters)
+
+unfoldable pub parameters : Part ParametersTree
+parameters = choose (word w.Void) void_parameters (choose (word w.Int) some_parameters (give (Ints [])))
+
+-- `name[]` or `*name`
+unfoldable pub texts_name : Part (Unit {0})
+texts_name = choose (mark m.Star) (map (λ _. tt) (the m.Star ⨾ called)) (map (λ _. tt) (called ⨾ the m.OpenSquare ⨾ the m.CloseSquare))
+
+unfoldable pub perhaps_const : Part (Unit {0})
+perhaps_const = choose (word w.Const) (map (λ _. tt) (key w.Const)) (give tt)
+
+-- the texts of `main` as an array or a pointer, constant or not, after the count
+unfoldable pub texts : Part (ParameterTree → ParametersTree)
+texts = map (λ _ count. CountAndTexts) (perhaps_const ⨾ key w.Char ⨾ the m.Star ⨾ texts_name)
+
+unfoldable pub further_parameters : Part (ParameterTree → ParametersTree)
+further_parameters = map (λ (q, others) p. Ints (p ∷ q ∷ others)) (parameter ⨾ more_parameters)
+
+-- what is after the first parameter of `main` and a comma
+unfoldable pub second : Part (ParameterTree → ParametersTree)
+second = map (λ (comma, make). make) (the m.Comma ⨾ choose (word w.Const ∪ word w.Char) texts further_parameters)
+
+unfoldable pub some_of_main : Part ParametersTree
+some_of_main = map (λ (p, make). make p) (parameter ⨾ choose (mark m.Comma) second (give (λ p. Ints (p ∷ []))))
+
+unfoldable pub parameters_of_main : Part ParametersTree
+parameters_of_main = choose (word w.Void) void_parameters (choose (word w.Int) some_of_main (give (Ints [])))
+
+abbrev pub Signature : Type 0
+Signature = (ℕ × List ℕ) × ParametersTree
+
+unfoldable pub signature_of_main : Part Signature
+signature_of_main = map (λ (n, (start, (ps, end))). (n, ps)) (token main readers.named ⨾ the m.OpenParen ⨾ parameters_of_main ⨾ the m.CloseParen)
+
+unfoldable pub other_signature : Part Signature
+other_signature = map (λ (n, (start, (ps, end))). (n, ps)) (token other_name readers.named ⨾ the m.OpenParen ⨾ parameters ⨾ the m.CloseParen)
+
+unfoldable pub signature : Part Signature
+signature = choose main signature_of_main other_signature
+
+-- the block of a function or a method, whose statements are at depth 2
+unfoldable pub braces : Part StmtTrees
+braces = map (λ (start, (all, end)). stmts all) (the m.OpenBrace ⨾ items 2 ⨾ the m.CloseBrace)
+
+unfoldable pub function_body : Part (Option StmtTrees)
+function_body = choose (mark m.Semicolon) (map (λ end. None) (the m.Semicolon)) (map Some braces)
+
+unfoldable pub function : Part FunctionTree
+function = map (λ (kind, (s, b)). record { at = s.0.0; name = s.0.1; result = kind; parameters = s.1; body = b }) (result_kind ⨾ signature ⨾ function_body)
+
+-- ---- methods (OPL, "Defining a Class")
+
+-- a colon, `int` in parentheses and the parameter's name
+unfoldable pub typed : Part ParameterTree
+typed = map (λ (colon, (start, (int, (end, n)))). record { at = n.0; name = n.1 }) (the m.Colon ⨾ the m.OpenParen ⨾ key w.Int ⨾ the m.CloseParen ⨾ called)
+
+unfoldable pub next_typed : Part (List ℕ × ParameterTree)
+next_typed = map (λ (n, p). (n.1, p)) (called ⨾ typed)
+
+abbrev pub Typed : Type 0
+Typed = List ℕ × List ParameterTree
+
+unfoldable pub typed_parts : Part (List ℕ → Typed)
+typed_parts = map (λ (p, others) first. (and_part first (selector_of others), p ∷ seconds others)) (typed ⨾ many name next_typed)
+
+unfoldable pub selector : Part Typed
+selector = map (λ (n, make). make n.1) (called ⨾ choose (mark m.Colon) typed_parts (give (λ first. (first, []))))
+
+-- `+` or `-`, with its place
+unfoldable pub sign : Part (ℕ × Sign)
+sign = choose (mark m.Plus) (map (λ at. (at, signs.Class)) (the m.Plus)) (map (λ at. (at, signs.Instance)) (the m.Minus))
+
+unfoldable pub method_head : Part HeadTree
+method_head = map (λ (s, (start, (kind, (end, all)))). record { at = s.0; sign = s.1; selector = all.0; result = kind; parameters = all.1 })
+    (sign ⨾ the m.OpenParen ⨾ result_kind ⨾ the m.CloseParen ⨾ selector)
+
+abbrev pub begins_method : Kinds
+begins_method = mark m.Plus ∪ mark m.Minus
+
+unfoldable pub next_head : Part HeadTree
+next_head = map (λ (h, end). h) (method_head ⨾ the m.Semicolon)
+
+unfoldable pub method_heads : Part (List HeadTree)
+method_heads = many begins_method next_head
+
+-- `;` may stand before the block
+unfoldable pub perhaps_semicolon : Part (Unit {0})
+perhaps_semicolon = choose (mark m.Semicolon) (map (λ _. tt) (the m.Semicolon)) (give tt)
+
+unfoldable pub method : Part MethodTree
+method = map (λ (h, (_, all)). record { head = h; body = all }) (method_head ⨾ perhaps_semicolon ⨾ braces)
+
+unfoldable pub methods : Part (List MethodTree)
+methods = many begins_method method
+
+-- ---- fields (OPL, "Instance Variables")
+
+-- what stands among the fields of a class: a word on those after it, or some names of fields, each with its place
+pub data FieldGroup : Type 0 where
+  OfWord : Visibility → FieldGroup
+  OfInts : List (ℕ × List ℕ) → FieldGroup
+
+-- fields of these names that are visible so, and then others
+abbrev pub named_fields : Visibility → List (ℕ × List ℕ) → List FieldTree → List FieldTree
+named_fields v [] others = others
+named_fields v (n ∷ names) others = record { at = n.0; name = n.1; visibility = v } ∷ named_fields v names others
+
+-- the fields of these groups, of which those before a word are visible so
+abbrev pub fields_of : Visibility → List FieldGroup → List FieldTree
+fields_of v [] = []
+fields_of v (OfWord other ∷ groups) = fields_of other groups
+fields_of v (OfInts names ∷ groups) = named_fields v names (fields_of v groups)
+
+abbrev pub visibility_of : Sort → Visibility
+visibility_of (tokens.At words.Private) = seen.Private
+visibility_of (tokens.At words.Public) = seen.Public
+visibility_of _ = seen.Protected
+
+abbrev pub begins_visibility : Kinds
+begins_visibility = at words.Private ∪ at words.Protected ∪ at words.Public
+
+unfoldable pub next_name : Part (ℕ × List ℕ)
+next_name = map (λ (comma, n). n) (the m.Comma ⨾ called)
+
+unfoldable pub more_names : Part (List (ℕ × List ℕ))
+more_names = many (mark m.Comma) next_name
+
+unfoldable pub group : Part FieldGroup
+group = choose (word w.Int) (map (λ (int, (n, (others, end))). OfInts (n ∷ others)) (key w.Int ⨾ called ⨾ more_names ⨾ the m.Semicolon))
+    (map OfWord (token begins_visibility (λ t. visibility_of t.sort)))
+
+unfoldable pub groups : Part (List FieldGroup)
+groups = many (word w.Int ∪ begins_visibility) group
+
+-- no fields, or braces with them; those before any word are visible so
+unfoldable pub fields : Visibility → Part (List FieldTree)
+fields v = choose (mark m.OpenBrace) (map (λ (start, (all, end)). fields_of v all) (the m.OpenBrace ⨾ groups ⨾ the m.CloseBrace)) (give [])
+
+-- ---- classes (OPL, "Defining a Class")
+
+-- the class's name, its superclass's, its fields, which are protected where no word says otherwise, and its methods
+unfoldable pub interface : Part InterfaceTree
+interface = map (λ (at, (n, (colon, (s, (f, (heads, end)))))). record { at = n.0; name = n.1; superclass_at = s.0; superclass = s.1; fields = f; methods = heads })
+    (at_key words.Interface ⨾ called ⨾ the m.Colon ⨾ called ⨾ fields seen.Protected ⨾ method_heads ⨾ at_key words.End)
+
+-- the class's name, its further fields, which are private where no word says otherwise, and its methods
+unfoldable pub implementation : Part ImplementationTree
+implementation = map (λ (at, (n, (f, (all, end)))). record { at = n.0; name = n.1; fields = f; methods = all })
+    (at_key words.Implementation ⨾ called ⨾ fields seen.Private ⨾ methods ⨾ at_key words.End)
+
+-- `@class` and names of classes
+unfoldable pub class_names : Part (Unit {0})
+class_names = map (λ _. tt) (at_key words.Class ⨾ called ⨾ more_names ⨾ the m.Semicolon)
+
+-- ---- translation units (C99, section 6.9)
+
+-- what stands outside of all else
+pub data TopTree : Type 0 where
+  OfNames : TopTree
+  OfFunction : FunctionTree → TopTree
+  OfInterface : InterfaceTree → TopTree
+  OfImplementation : ImplementationTree → TopTree
+
+unfoldable pub top : Part TopTree
+top = choose (at words.Class) (map (λ _. OfNames) class_names) (choose (at words.Interface) (map OfInterface interface)
+    (choose (at words.Implementation) (map OfImplementation implementation) (map OfFunction function)))
+
+abbrev pub begins_top : Kinds
+begins_top = at words.Class ∪ at words.Interface ∪ at words.Implementation ∪ word w.Void ∪ word w.Int
+
+unfoldable pub tops : Part (List TopTree)
+tops = many begins_top top
+
+-- the functions among these, in their order
+abbrev pub functions_of : List TopTree → List FunctionTree
+functions_of [] = []
+functions_of (OfFunction f ∷ others) = f ∷ functions_of others
+functions_of (_ ∷ others) = functions_of others
+
+abbrev pub interfaces_of : List TopTree → List InterfaceTree
+interfaces_of [] = []
+interfaces_of (OfInterface i ∷ others) = i ∷ interfaces_of others
+interfaces_of (_ ∷ others) = interfaces_of others
+
+abbrev pub implementations_of : List TopTree → List ImplementationTree
+implementations_of [] = []
+implementations_of (OfImplementation i ∷ others) = i ∷ implementations_of others
+implementations_of (_ ∷ others) = implementations_of others
+
+unfoldable pub unit : Part UnitTree
+unit = map (λ all. record { functions = functions_of all; interfaces = interfaces_of all; implementations = implementations_of all }) tops
+
+-- ---- the rules
+
+unfoldable pub body : Bodies Rule Node
+body expr = expression
+body unary = prefixed
+body (binary zero) = operations 0
+body (binary (suc zero)) = operations 1
+body (binary (suc (suc l))) = operations 2
+body (stmt d) = nest d begins_stmt (statement d)
+
+-- This compiler's own limits (C99, section 5.2.4.1, asks for 127 levels of blocks and 63 of parentheses): a statement of a
+-- function's body nests 200 deep, where the body itself counts as 1, and a full-expression has 1,000 tokens.
+abbrev pub these : Limits
+these = record { depth = Some 200; tokens = Some 1000 }
+
+abbrev pub rules : Limits → Rules Rule Node
+rules = read body
+
+-- what reads a part within the limits
+abbrev pub reads : {A : Type 0} → Part A → Reader A
+reads part = run rules these part
+
+-- what reads a part of an expression, where no limit holds
+abbrev pub reads_free : {A : Type 0} → Part A → Reader A
+reads_free part = run rules unlimited part
+
+-- what reads a rest that makes a value of one that is there
+abbrev pub reads_on : {A B : Type 0} → Part (A → B) → A → Reader B
+reads_on part a = reads_free part >>= (λ make. ret (make a))

@@ -1,0 +1,2 @@
+//! The grammar: which tokens spell which tree.
+#![tactic(auto)]

@@ -1,0 +1,52 @@
+-- An expression of so many tokens at most, read of the tokens up to the limit and one more.
+use Rattle.std.proofs.Common.{◌≡◌, ℕ, ◌<◌, ◌≤◌, ◌-◌, List, length, take, drop, Ok, Err, Some, refl, sym, subst, ◌∙◌}
+use Rattle.arc_lex.specs.declared.token.Token.{Token}
+use Rattle.arc_lex.specs.Tokens.{Tok, toks}
+use Rattle.arc_form.specs.Form.{unlimited}
+use Rattle.arc_form.specs.Reader.{Read, Reader, Fault, misfit, too_deep, up_to}
+use Rattle.arc_form.proofs.FormTell.{never_deep}
+use Rattle.arc_form.proofs.Front.{AlwaysLocal, form_always}
+use Rattle.arc_form.proofs.Front as front
+use Rattle.arc_mini.specs.Tree.{ExprTree}
+use Rattle.arc_mini.specs.Grammar.{reads, reads_free, rules, full, expression, expr, body}
+use Rattle.arc_mini.proofs.Fits.{facts, sure, sure_expression, sure_full}
+use Rattle.arc_mini.proofs.Fix.{read_expr}
+
+whole : Reader ExprTree
+whole = reads_free expression
+
+whole_local : AlwaysLocal {S = unlimited ≡ unlimited} refl 1000 whole
+unfolding whole
+whole_local = form_always facts body sure 1000 expression sure_full
+
+full_is : (ts : List Tok) → reads full ts ≡ up_to (Some 1000) whole ts
+unfolding full whole
+full_is ts = refl
+
+whole_is : (ts : List Tok) (x : Read ExprTree) → rules unlimited expr ts ≡ x → whole ts ≡ x
+unfolding whole
+whole_is ts x e = sym (read_expr ts) ∙ e
+
+-- nothing is too deep in it
+plain_fault : (ts r : List Tok) (y : Fault) → rules unlimited expr ts ≡ Err (y, r) → rules unlimited expr ts ≡ Err (misfit, r)
+unfolding expression whole
+plain_fault ts r y e = subst (λ z. rules unlimited expr ts ≡ Err (z, r)) (never_deep body facts sure ExprTree expression sure_expression ts r y (whole_is ts _ e)) e
+
+module _ (tokens ahead rest r : List Token) (first : ahead ≡ take 1001 tokens) where
+  pub rest_short : (y : Fault) → rules unlimited expr (toks ahead) ≡ Err (y, toks rest) → length rest ≤ length ahead
+  rest_short y e = front.rest_short refl 1000 whole whole_local tokens ahead rest r first y (whole_is (toks ahead) _ e)
+
+  pub then_over : (t : ExprTree) → rules unlimited expr (toks ahead) ≡ Ok (t, toks rest) → 1000 < length ahead - length rest → r ≡ drop 1000 tokens → reads full (toks tokens) ≡ Err (too_deep, toks r)
+  then_over t e p d = full_is (toks tokens) ∙ front.then_over refl 1000 whole whole_local tokens ahead rest r first t (whole_is (toks ahead) _ e) p d
+
+  pub then_fits : (t : ExprTree) → rules unlimited expr (toks ahead) ≡ Ok (t, toks rest) → length ahead - length rest ≤ 1000 → r ≡ drop (length ahead - length rest) tokens → reads full (toks tokens) ≡ Ok (t, toks r)
+  then_fits t e p d = full_is (toks tokens) ∙ front.then_fits refl 1000 whole whole_local tokens ahead rest r first t (whole_is (toks ahead) _ e) p d
+
+  pub fails_over : (y : Fault) → rules unlimited expr (toks ahead) ≡ Err (y, toks rest) → 1000 < length ahead → 1000 ≤ length ahead - length rest → r ≡ drop 1000 tokens → reads full (toks tokens) ≡ Err (too_deep, toks r)
+  fails_over y e q p d = full_is (toks tokens) ∙ front.fails_over refl 1000 whole whole_local tokens ahead rest r first y (whole_is (toks ahead) _ e) q p d
+
+  pub fails_short : (y : Fault) → rules unlimited expr (toks ahead) ≡ Err (y, toks rest) → length ahead ≤ 1000 → r ≡ drop (length ahead - length rest) tokens → reads full (toks tokens) ≡ Err (misfit, toks r)
+  fails_short y e p d = full_is (toks tokens) ∙ front.fails_short refl 1000 whole whole_local tokens ahead rest r first misfit (whole_is (toks ahead) _ (plain_fault (toks ahead) (toks rest) y e)) p d
+
+  pub fails_early : (y : Fault) → rules unlimited expr (toks ahead) ≡ Err (y, toks rest) → length ahead - length rest < 1000 → r ≡ drop (length ahead - length rest) tokens → reads full (toks tokens) ≡ Err (misfit, toks r)
+  fails_early y e p d = full_is (toks tokens) ∙ front.fails_early refl 1000 whole whole_local tokens ahead rest r first misfit (whole_is (toks ahead) _ (plain_fault (toks ahead) (toks rest) y e)) p d

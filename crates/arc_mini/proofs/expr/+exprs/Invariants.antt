@@ -1,0 +1,41 @@
+use Rattle.std.proofs.Common.{◌+◌, ◌*◌, length}
+use Rattle.arc_mini.proofs.expr.+exprs.Given as goal
+
+abbrev pub decreases-expr : goal.decreases-expr
+decreases-expr l = 16 * length l.tokens.now + 7
+
+abbrev pub decreases-operation : goal.decreases-operation
+decreases-operation l = 16 * length l.tokens.now + 9
+
+abbrev pub decreases-assigned : goal.decreases-assigned
+decreases-assigned l = 16 * length l.tokens.now + 1
+
+abbrev pub decreases-continued : goal.decreases-continued
+decreases-continued l = 16 * length l.tokens.now + 8
+
+abbrev pub decreases-more : goal.decreases-more
+decreases-more l = 16 * length l.tokens.now + 4 + l.level
+
+abbrev pub decreases-binary : goal.decreases-binary
+decreases-binary l = 16 * length l.tokens.now + 4 + l.level
+
+abbrev pub decreases-prefixed : goal.decreases-prefixed
+decreases-prefixed l = 16 * length l.tokens.now + 3
+
+abbrev pub decreases-primary : goal.decreases-primary
+decreases-primary l = 16 * length l.tokens.now + 2
+
+abbrev pub decreases-parenthesized : goal.decreases-parenthesized
+decreases-parenthesized l = 16 * length l.tokens.now + 1
+
+abbrev pub decreases-inside : goal.decreases-inside
+decreases-inside l = 16 * length l.tokens.now + 8
+
+abbrev pub decreases-starred : goal.decreases-starred
+decreases-starred l = 16 * length l.tokens.now + 1
+
+abbrev pub decreases-cast : goal.decreases-cast
+decreases-cast l = 16 * length l.tokens.now + 1
+
+abbrev pub decreases-product : goal.decreases-product
+decreases-product l = 16 * length l.tokens.now + 4

@@ -1,0 +1,15 @@
+use Rattle.std.proofs.Common.{arith}
+use Rattle.arc_mini.proofs.Bound.{then_over, then_fits}
+use Rattle.arc_mini.proofs.full.full.Goals as goal
+
+pub after-requires : goal.after-requires
+after-requires c = omega (arith, c.front-ahead.ensures.fits, c.if-taken-gt-MOST.true)
+
+pub returns-then-taken-gt-MOST-clause-gives : goal.returns-then-taken-gt-MOST-clause-gives
+returns-then-taken-gt-MOST-clause-gives c = then_over _ _ c.in-Ok.rest.now _ c.front-ahead.ensures.first _ c.in-Ok.ensures.gives c.if-taken-gt-MOST.true c.after.ensures
+
+pub after-requires-in-Ok : goal.after-requires-in-Ok
+after-requires-in-Ok c = omega (arith, c.front-ahead.ensures.fits)
+
+pub returns-else-taken-gt-MOST-clause-gives : goal.returns-else-taken-gt-MOST-clause-gives
+returns-else-taken-gt-MOST-clause-gives c = then_fits _ _ c.in-Ok.rest.now _ c.front-ahead.ensures.first _ c.in-Ok.ensures.gives (omega (arith, c.if-taken-gt-MOST.false)) c.after-in-Ok.ensures

@@ -1,0 +1,47 @@
+use Rattle.std.proofs.Common.{◌≡◌, ◌+◌, ◌*◌, ◌≤◌, length}
+use Rattle.arc_lex.specs.Tokens.{toks}
+use Rattle.arc_form.specs.Views.{with_row}
+use Rattle.arc_mini.specs.Tree.{stmt_tree}
+use Rattle.arc_mini.specs.Grammar.{reads}
+use Rattle.arc_mini.specs.Grammar as grammar
+use Rattle.arc_mini.proofs.stmt.+stmts.Given as goal
+
+abbrev pub decreases-stmt : goal.decreases-stmt
+decreases-stmt l = 16 * length l.tokens.now + 6
+
+abbrev pub decreases-statement : goal.decreases-statement
+decreases-statement l = 16 * length l.tokens.now + 5
+
+abbrev pub decreases-worded : goal.decreases-worded
+decreases-worded l = 16 * length l.tokens.now + 4
+
+abbrev pub decreases-conditional : goal.decreases-conditional
+decreases-conditional l = 16 * length l.tokens.now + 3
+
+abbrev pub decreases-otherwise : goal.decreases-otherwise
+decreases-otherwise l = 16 * length l.tokens.now + 9
+
+abbrev pub decreases-repeated : goal.decreases-repeated
+decreases-repeated l = 16 * length l.tokens.now + 3
+
+abbrev pub decreases-branch : goal.decreases-branch
+decreases-branch l = 16 * length l.tokens.now + 7
+
+abbrev pub decreases-block : goal.decreases-block
+decreases-block l = 16 * length l.tokens.now + 3
+
+abbrev pub decreases-items : goal.decreases-items
+decreases-items l = 16 * length l.tokens.now + 9
+
+abbrev pub decreases-item : goal.decreases-item
+decreases-item l = 16 * length l.tokens.now + 8
+
+-- the items so far and those to come are all
+abbrev pub invariant-items-items : goal.invariant-items-items
+invariant-items-items l = record {
+  rest : length l.rest ≤ length l.tokens;
+  all : reads (grammar.items l.fn.depth) (toks l.tokens) ≡ with_row stmt_tree l.all.items (reads (grammar.items l.fn.depth) (toks l.rest));
+}
+
+abbrev pub decreases-items-items : goal.decreases-items-items
+decreases-items-items l = length l.rest

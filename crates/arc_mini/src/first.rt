@@ -1,0 +1,40 @@
+//! Tests of the first tokens.
+ghost use Rattle.std.specs.Prelude.{◌≡◌};
+ghost use Rattle.arc_lex.specs.Tokens.{toks};
+ghost use Rattle.arc_form.specs.Reader.{sees};
+ghost use Rattle.arc_mini.specs.Grammar as grammar;
+
+use arc_form::step::{sees_integer, sees_mark, sees_name, sees_word};
+use arc_lex::token::{Mark, Token, Word};
+
+/// Whether an expression can begin with the first token.
+#[tactic(auto, using(arc_form::proofs::Sets::sees_or))]
+fn begins_expr(tokens: &[Token]) -> bool
+    ensures { result ≡ sees grammar.begins_expr (toks tokens.now) }
+{
+    sees_name(tokens)
+        || sees_integer(tokens)
+        || sees_mark(Mark::OpenParen, tokens)
+        || sees_mark(Mark::Minus, tokens)
+}
+
+/// Whether a statement can begin with the first token.
+#[tactic(auto, using(arc_form::proofs::Sets::sees_or))]
+pub fn begins_stmt(tokens: &[Token]) -> bool
+    ensures { result ≡ sees grammar.begins_stmt (toks tokens.now) }
+{
+    sees_mark(Mark::OpenBrace, tokens)
+        || sees_mark(Mark::Semicolon, tokens)
+        || sees_word(Word::Return, tokens)
+        || sees_word(Word::If, tokens)
+        || sees_word(Word::While, tokens)
+        || begins_expr(tokens)
+}
+
+/// Whether a declaration or a statement can begin with the first token.
+#[tactic(auto, using(arc_form::proofs::Sets::sees_or))]
+pub fn begins_item(tokens: &[Token]) -> bool
+    ensures { result ≡ sees grammar.begins_item (toks tokens.now) }
+{
+    sees_word(Word::Int, tokens) || begins_stmt(tokens)
+}

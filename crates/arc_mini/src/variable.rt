@@ -1,0 +1,107 @@
+//! Reads declarations.
+ghost use Rattle.std.specs.Prelude.{◌≡◌, ◌<◌, ◌≤◌, length, option_map, IfOk};
+ghost use Rattle.arc_lex.specs.Tokens.{toks};
+ghost use Rattle.arc_form.specs.Reader.{Gives};
+ghost use Rattle.arc_form.specs.Views.{all, with_row};
+ghost use Rattle.arc_mini.specs.Tree.{expr_tree, variable_tree, stmt_tree};
+ghost use Rattle.arc_mini.specs.Grammar.{reads};
+ghost use Rattle.arc_mini.specs.Grammar as grammar;
+
+use crate::full::full;
+use crate::tree::{Expr, Stmt, Variable};
+use arc_form::fail::Read;
+use arc_form::step::{expect, keyword, name, sees_mark};
+use arc_lex::token::{Mark, Token, Word};
+use std::alloc::Global;
+
+/// Perhaps `=` and what a variable begins with.
+#[tactic(auto, unfolding(crate::specs::Grammar::initial))]
+fn initial<'a>(alloc: Global, tokens: &'a [Token]) -> Read<'a, Option<Expr>>
+    ensures gives { Gives (λ x. (option_map expr_tree x.0, toks x.1.now)) result (reads grammar.initial (toks tokens.now)) }
+    ensures shorter { IfOk result (λ x. length x.1.now ≤ length tokens.now) }
+{
+    if !sees_mark(Mark::Assign, tokens) {
+        return Ok((None, tokens));
+    }
+    let (_, rest) = expect(Mark::Assign, tokens)?;
+    let (value, rest) = full(alloc, rest)?;
+    Ok((Some(value), rest))
+}
+
+/// A variable's name, and perhaps `=` and what it begins with.
+#[tactic(auto, unfolding(crate::specs::Grammar::variable))]
+fn variable<'a>(alloc: Global, tokens: &'a [Token]) -> Read<'a, Variable>
+    ensures gives { Gives (λ x. (variable_tree x.0, toks x.1.now)) result (reads grammar.variable (toks tokens.now)) }
+    ensures shorter { IfOk result (λ x. length x.1.now < length tokens.now) }
+{
+    let ((at, called), rest) = name(tokens)?;
+    let (initial, rest) = initial(alloc, rest)?;
+    Ok((
+        Variable {
+            at,
+            name: Vec::from_slice(alloc, called)?,
+            initial,
+        },
+        rest,
+    ))
+}
+
+/// A comma and a variable.
+#[tactic(auto, unfolding(crate::specs::Grammar::next_variable))]
+fn next_variable<'a>(alloc: Global, tokens: &'a [Token]) -> Read<'a, Variable>
+    ensures gives { Gives (λ x. (variable_tree x.0, toks x.1.now)) result (reads grammar.next_variable (toks tokens.now)) }
+    ensures shorter { IfOk result (λ x. length x.1.now < length tokens.now) }
+{
+    let (_, rest) = expect(Mark::Comma, tokens)?;
+    variable(alloc, rest)
+}
+
+/// These variables and the further ones, each after a comma.
+fn more_variables<'a>(
+    alloc: Global,
+    before: Vec<Variable>,
+    tokens: &'a [Token],
+) -> Read<'a, Vec<Variable>>
+    ensures gives { Gives (λ x. (all variable_tree x.0.items, toks x.1.now)) result (with_row variable_tree before.items (reads grammar.more_variables (toks tokens.now))) }
+    ensures shorter { IfOk result (λ x. length x.1.now ≤ length tokens.now) }
+{
+    let mut all = before;
+    let mut rest = tokens;
+    'variables: while sees_mark(Mark::Comma, rest) {
+        let (next, after) = next_variable(alloc, rest)?;
+        all.push(next)?;
+        rest = after;
+    }
+    Ok((all, rest))
+}
+
+/// `int`, one variable or more and `;`
+#[tactic(auto, unfolding(crate::specs::Grammar::variables))]
+pub fn variables<'a>(alloc: Global, tokens: &'a [Token]) -> Read<'a, Stmt>
+    ensures gives { Gives (λ x. (stmt_tree x.0, toks x.1.now)) result (reads grammar.variables (toks tokens.now)) }
+    ensures shorter { IfOk result (λ x. length x.1.now < length tokens.now) }
+{
+    let (at, rest) = keyword(Word::Int, tokens)?;
+    let (first, rest) = variable(alloc, rest)?;
+    let mut all = Vec::new(alloc);
+    all.push(first)?;
+    let (all, rest) = more_variables(alloc, all, rest)?;
+    let (_, rest) = expect(Mark::Semicolon, rest)?;
+    Ok((Stmt::Variables(at, all), rest))
+}
+
+/// The name of a class, `*`, a variable and `;`
+#[tactic(auto, unfolding(crate::specs::Grammar::object))]
+pub fn object<'a>(alloc: Global, tokens: &'a [Token]) -> Read<'a, Stmt>
+    ensures gives { Gives (λ x. (stmt_tree x.0, toks x.1.now)) result (reads grammar.object (toks tokens.now)) }
+    ensures shorter { IfOk result (λ x. length x.1.now < length tokens.now) }
+{
+    let ((at, called), rest) = name(tokens)?;
+    let (_, rest) = expect(Mark::Star, rest)?;
+    let (variable, rest) = variable(alloc, rest)?;
+    let (_, rest) = expect(Mark::Semicolon, rest)?;
+    Ok((
+        Stmt::Object(at, Vec::from_slice(alloc, called)?, variable),
+        rest,
+    ))
+}

@@ -1,0 +1,6 @@
+//! Reads statements and declarations.
+#![tactic(auto)]
+
+mod first;
+pub mod stmt;
+mod variable;

@@ -1,0 +1,247 @@
+//! Reads statements.
+ghost use Rattle.std.specs.Prelude.{◌≡◌, ◌<◌, ◌≤◌, length, option_map, IfOk};
+ghost use Rattle.arc_lex.specs.Tokens.{toks};
+ghost use Rattle.arc_form.specs.Reader.{Gives};
+ghost use Rattle.arc_form.specs.Views.{all};
+ghost use Rattle.arc_ast.specs.Tree.{expr_tree, stmt_tree};
+ghost use Rattle.arc_grammar.specs.Grammar.{reads, rules, these};
+ghost use Rattle.arc_grammar.specs.Grammar as grammar;
+
+use crate::first::{begins_item, begins_stmt};
+use crate::variable::{declaration, objects};
+use arc_ast::tree::{Expr, Stmt, TypeName};
+use arc_expr::full::full;
+use arc_form::fail::{Fail, Read};
+use arc_form::step::{expect, keyword, sees_mark, sees_reference, sees_word};
+use arc_lex::token::{Mark, Token, Word};
+use std::alloc::Global;
+
+/// The deepest that a statement nests.
+const DEEPEST: usize = 200;
+
+/// A statement that is nested so deep.
+#[cycle(stmts)]
+#[tactic(auto, using(crate::proofs::Fix::read_stmt), unfolding(arc_form::specs::Reader::nested))]
+fn stmt<'a>(alloc: Global, depth: usize, tokens: &'a [Token]) -> Read<'a, Stmt>
+    ensures gives { Gives (λ x. (stmt_tree x.0, toks x.1.now)) result (rules these (grammar.stmt depth) (toks tokens.now)) }
+    ensures shorter { IfOk result (λ x. length x.1.now < length tokens.now) }
+{
+    if depth <= DEEPEST {
+        statement(alloc, depth, tokens)
+    } else if begins_stmt(tokens) {
+        Err(Fail::TooDeep(tokens))
+    } else {
+        Err(Fail::Unexpected(tokens))
+    }
+}
+
+#[cycle(stmts)]
+#[tactic(auto, unfolding(arc_grammar::specs::Grammar::statement))]
+fn statement<'a>(alloc: Global, depth: usize, tokens: &'a [Token]) -> Read<'a, Stmt>
+    requires { depth ≤ 200 }
+    ensures gives { Gives (λ x. (stmt_tree x.0, toks x.1.now)) result (reads (grammar.statement depth) (toks tokens.now)) }
+    ensures shorter { IfOk result (λ x. length x.1.now < length tokens.now) }
+{
+    if sees_mark(Mark::OpenBrace, tokens) {
+        block(alloc, depth, tokens)
+    } else if sees_mark(Mark::Semicolon, tokens) {
+        empty(tokens)
+    } else {
+        worded(alloc, depth, tokens)
+    }
+}
+
+/// A statement that begins with a word, or an expression.
+#[cycle(stmts)]
+#[tactic(auto, unfolding(arc_grammar::specs::Grammar::worded))]
+fn worded<'a>(alloc: Global, depth: usize, tokens: &'a [Token]) -> Read<'a, Stmt>
+    requires { depth ≤ 200 }
+    ensures gives { Gives (λ x. (stmt_tree x.0, toks x.1.now)) result (reads (grammar.worded depth) (toks tokens.now)) }
+    ensures shorter { IfOk result (λ x. length x.1.now < length tokens.now) }
+{
+    if sees_word(Word::Return, tokens) {
+        returned(alloc, tokens)
+    } else if sees_word(Word::If, tokens) {
+        conditional(alloc, depth, tokens)
+    } else if sees_word(Word::While, tokens) {
+        repeated(alloc, depth, tokens)
+    } else {
+        simple(alloc, tokens)
+    }
+}
+
+/// `if`, a test, a branch, and perhaps `else` and another
+#[cycle(stmts)]
+#[tactic(auto, unfolding(arc_grammar::specs::Grammar::if_else))]
+fn conditional<'a>(alloc: Global, depth: usize, tokens: &'a [Token]) -> Read<'a, Stmt>
+    requires { depth ≤ 200 }
+    ensures gives { Gives (λ x. (stmt_tree x.0, toks x.1.now)) result (reads (grammar.if_else depth) (toks tokens.now)) }
+    ensures shorter { IfOk result (λ x. length x.1.now < length tokens.now) }
+{
+    let (at, rest) = keyword(Word::If, tokens)?;
+    let (condition, rest) = test(alloc, rest)?;
+    let (first, rest) = branch(alloc, depth + 1, rest)?;
+    let (second, rest) = otherwise(alloc, depth, rest)?;
+    Ok((chosen(at, condition, first, second), rest))
+}
+
+/// An `if` with this test and these branches.
+fn chosen(at: usize, condition: Box<Expr>, first: Box<Stmt>, second: Option<Box<Stmt>>) -> Stmt
+    ensures { stmt_tree result ≡ grammar.conditional at (expr_tree condition.value) (stmt_tree first.value) (option_map (λ b. stmt_tree b.value) second) }
+{
+    let condition = Box::into_inner(condition);
+    match second {
+        None => Stmt::If(at, condition, first),
+        Some(second) => Stmt::IfElse(at, condition, first, second),
+    }
+}
+
+/// Perhaps `else` and a branch.
+#[cycle(stmts)]
+#[tactic(auto, unfolding(arc_grammar::specs::Grammar::otherwise))]
+fn otherwise<'a>(alloc: Global, depth: usize, tokens: &'a [Token]) -> Read<'a, Option<Box<Stmt>>>
+    requires { depth ≤ 200 }
+    ensures gives { Gives (λ x. (option_map (λ b. stmt_tree b.value) x.0, toks x.1.now)) result (reads (grammar.otherwise depth) (toks tokens.now)) }
+    ensures shorter { IfOk result (λ x. length x.1.now ≤ length tokens.now) }
+{
+    if !sees_word(Word::Else, tokens) {
+        return Ok((None, tokens));
+    }
+    let (_, rest) = keyword(Word::Else, tokens)?;
+    let (second, rest) = branch(alloc, depth + 1, rest)?;
+    Ok((Some(second), rest))
+}
+
+/// `while`, a test and a body
+#[cycle(stmts)]
+#[tactic(auto, unfolding(arc_grammar::specs::Grammar::while_do))]
+fn repeated<'a>(alloc: Global, depth: usize, tokens: &'a [Token]) -> Read<'a, Stmt>
+    requires { depth ≤ 200 }
+    ensures gives { Gives (λ x. (stmt_tree x.0, toks x.1.now)) result (reads (grammar.while_do depth) (toks tokens.now)) }
+    ensures shorter { IfOk result (λ x. length x.1.now < length tokens.now) }
+{
+    let (at, rest) = keyword(Word::While, tokens)?;
+    let (condition, rest) = test(alloc, rest)?;
+    let (body, rest) = branch(alloc, depth + 1, rest)?;
+    Ok((Stmt::While(at, Box::into_inner(condition), body), rest))
+}
+
+/// A statement in a box.
+#[cycle(stmts)]
+fn branch<'a>(alloc: Global, depth: usize, tokens: &'a [Token]) -> Read<'a, Box<Stmt>>
+    ensures gives { Gives (λ x. (stmt_tree x.0.value, toks x.1.now)) result (rules these (grammar.stmt depth) (toks tokens.now)) }
+    ensures shorter { IfOk result (λ x. length x.1.now < length tokens.now) }
+{
+    let (read, rest) = stmt(alloc, depth, tokens)?;
+    Ok((Box::new(alloc, read)?, rest))
+}
+
+/// A test in parentheses, boxed, so that a branch that is refused after it drops no more than a box.
+#[tactic(auto, unfolding(arc_grammar::specs::Grammar::test))]
+fn test<'a>(alloc: Global, tokens: &'a [Token]) -> Read<'a, Box<Expr>>
+    ensures gives { Gives (λ x. (expr_tree x.0.value, toks x.1.now)) result (reads grammar.test (toks tokens.now)) }
+    ensures shorter { IfOk result (λ x. length x.1.now < length tokens.now) }
+{
+    let (_, rest) = expect(Mark::OpenParen, tokens)?;
+    let (condition, rest) = full(alloc, rest)?;
+    let condition = Box::new(alloc, condition)?;
+    let (_, rest) = expect(Mark::CloseParen, rest)?;
+    Ok((condition, rest))
+}
+
+/// Items in braces.
+#[cycle(stmts)]
+#[tactic(auto, unfolding(arc_grammar::specs::Grammar::block))]
+pub fn block<'a>(alloc: Global, depth: usize, tokens: &'a [Token]) -> Read<'a, Stmt>
+    requires { depth ≤ 200 }
+    ensures gives { Gives (λ x. (stmt_tree x.0, toks x.1.now)) result (reads (grammar.block depth) (toks tokens.now)) }
+    ensures shorter { IfOk result (λ x. length x.1.now < length tokens.now) }
+{
+    let (at, rest) = expect(Mark::OpenBrace, tokens)?;
+    let (all, rest) = items(alloc, depth + 1, rest)?;
+    let (_, rest) = expect(Mark::CloseBrace, rest)?;
+    Ok((Stmt::Block(at, all), rest))
+}
+
+/// The items of a block, each a declaration or a statement.
+#[cycle(stmts)]
+pub fn items<'a>(alloc: Global, depth: usize, tokens: &'a [Token]) -> Read<'a, Vec<Stmt>>
+    requires { depth ≤ 201 }
+    ensures gives { Gives (λ x. (all stmt_tree x.0.items, toks x.1.now)) result (reads (grammar.items depth) (toks tokens.now)) }
+    ensures shorter { IfOk result (λ x. length x.1.now ≤ length tokens.now) }
+{
+    let mut all = Vec::new(alloc);
+    let mut rest = tokens;
+    'items: while begins_item(rest) {
+        let (item, after) = item(alloc, depth, rest)?;
+        all.push(item)?;
+        rest = after;
+    }
+    Ok((all, rest))
+}
+
+/// A declaration or a statement.
+#[cycle(stmts)]
+#[tactic(auto, unfolding(arc_grammar::specs::Grammar::item, arc_grammar::specs::Grammar::by_name))]
+fn item<'a>(alloc: Global, depth: usize, tokens: &'a [Token]) -> Read<'a, Stmt>
+    requires { depth ≤ 201 }
+    ensures gives { Gives (λ x. (stmt_tree x.0, toks x.1.now)) result (reads (grammar.item depth) (toks tokens.now)) }
+    ensures shorter { IfOk result (λ x. length x.1.now < length tokens.now) }
+{
+    if sees_word(Word::Int, tokens) {
+        declaration(alloc, Word::Int, TypeName::Int, tokens)
+    } else if sees_word(Word::Id, tokens) {
+        declaration(alloc, Word::Id, TypeName::Id, tokens)
+    } else if sees_reference(tokens) {
+        objects(alloc, tokens)
+    } else {
+        stmt(alloc, depth, tokens)
+    }
+}
+
+/// `;` alone
+#[tactic(auto, unfolding(arc_grammar::specs::Grammar::empty))]
+fn empty<'a>(tokens: &'a [Token]) -> Read<'a, Stmt>
+    ensures gives { Gives (λ x. (stmt_tree x.0, toks x.1.now)) result (reads grammar.empty (toks tokens.now)) }
+    ensures shorter { IfOk result (λ x. length x.1.now < length tokens.now) }
+{
+    let (at, rest) = expect(Mark::Semicolon, tokens)?;
+    Ok((Stmt::Empty(at), rest))
+}
+
+/// An expression and `;`.
+#[tactic(auto, unfolding(arc_grammar::specs::Grammar::simple))]
+fn simple<'a>(alloc: Global, tokens: &'a [Token]) -> Read<'a, Stmt>
+    ensures gives { Gives (λ x. (stmt_tree x.0, toks x.1.now)) result (reads grammar.simple (toks tokens.now)) }
+    ensures shorter { IfOk result (λ x. length x.1.now < length tokens.now) }
+{
+    let (value, rest) = full(alloc, tokens)?;
+    let (_, rest) = expect(Mark::Semicolon, rest)?;
+    Ok((Stmt::Expr(value), rest))
+}
+
+/// `return` with a value or without
+#[tactic(auto, unfolding(arc_grammar::specs::Grammar::returned))]
+fn returned<'a>(alloc: Global, tokens: &'a [Token]) -> Read<'a, Stmt>
+    ensures gives { Gives (λ x. (stmt_tree x.0, toks x.1.now)) result (reads grammar.returned (toks tokens.now)) }
+    ensures shorter { IfOk result (λ x. length x.1.now < length tokens.now) }
+{
+    let (at, rest) = keyword(Word::Return, tokens)?;
+    let (value, rest) = value(alloc, rest)?;
+    Ok((Stmt::Return(at, value), rest))
+}
+
+/// What `return` gives, if it gives something, and `;`.
+#[tactic(auto, unfolding(arc_grammar::specs::Grammar::value))]
+fn value<'a>(alloc: Global, tokens: &'a [Token]) -> Read<'a, Option<Expr>>
+    ensures gives { Gives (λ x. (option_map expr_tree x.0, toks x.1.now)) result (reads grammar.value (toks tokens.now)) }
+    ensures shorter { IfOk result (λ x. length x.1.now < length tokens.now) }
+{
+    if sees_mark(Mark::Semicolon, tokens) {
+        let (_, rest) = expect(Mark::Semicolon, tokens)?;
+        return Ok((None, rest));
+    }
+    let (value, rest) = full(alloc, tokens)?;
+    let (_, rest) = expect(Mark::Semicolon, rest)?;
+    Ok((Some(value), rest))
+}

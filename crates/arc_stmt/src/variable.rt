@@ -1,0 +1,151 @@
+//! Reads declarations.
+ghost use Rattle.std.specs.Prelude.{◌≡◌, ◌<◌, ◌≤◌, length, option_map, IfOk};
+ghost use Rattle.arc_lex.specs.Tokens.{toks};
+ghost use Rattle.arc_form.specs.Reader.{Gives};
+ghost use Rattle.arc_form.specs.Views.{all, with_row};
+ghost use Rattle.arc_ast.specs.Tree.{expr_tree, type_tree, variable_tree, stmt_tree};
+ghost use Rattle.arc_grammar.specs.Grammar.{reads};
+ghost use Rattle.arc_grammar.specs.Grammar as grammar;
+
+use arc_ast::tree::{Expr, Stmt, TypeName, Variable};
+use arc_expr::full::full;
+use arc_form::fail::Read;
+use arc_form::step::{expect, keyword, name, sees_mark};
+use arc_lex::token::{Mark, Token, Word};
+use std::alloc::Global;
+
+/// Perhaps `=` and what a variable begins with.
+#[tactic(auto, unfolding(arc_grammar::specs::Grammar::initial))]
+fn initial<'a>(alloc: Global, tokens: &'a [Token]) -> Read<'a, Option<Expr>>
+    ensures gives { Gives (λ x. (option_map expr_tree x.0, toks x.1.now)) result (reads grammar.initial (toks tokens.now)) }
+    ensures shorter { IfOk result (λ x. length x.1.now ≤ length tokens.now) }
+{
+    if !sees_mark(Mark::Assign, tokens) {
+        return Ok((None, tokens));
+    }
+    let (_, rest) = expect(Mark::Assign, tokens)?;
+    let (value, rest) = full(alloc, rest)?;
+    Ok((Some(value), rest))
+}
+
+/// A variable's name, and perhaps `=` and what it begins with.
+#[tactic(auto, unfolding(arc_grammar::specs::Grammar::variable))]
+fn variable<'a>(alloc: Global, tokens: &'a [Token]) -> Read<'a, Variable>
+    ensures gives { Gives (λ x. (variable_tree x.0, toks x.1.now)) result (reads grammar.variable (toks tokens.now)) }
+    ensures shorter { IfOk result (λ x. length x.1.now < length tokens.now) }
+{
+    let ((at, called), rest) = name(tokens)?;
+    let (initial, rest) = initial(alloc, rest)?;
+    Ok((
+        Variable {
+            at,
+            name: Vec::from_slice(alloc, called)?,
+            initial,
+        },
+        rest,
+    ))
+}
+
+/// A comma and a variable.
+#[tactic(auto, unfolding(arc_grammar::specs::Grammar::next_variable))]
+fn next_variable<'a>(alloc: Global, tokens: &'a [Token]) -> Read<'a, Variable>
+    ensures gives { Gives (λ x. (variable_tree x.0, toks x.1.now)) result (reads grammar.next_variable (toks tokens.now)) }
+    ensures shorter { IfOk result (λ x. length x.1.now < length tokens.now) }
+{
+    let (_, rest) = expect(Mark::Comma, tokens)?;
+    variable(alloc, rest)
+}
+
+/// These variables and the further ones, each after a comma.
+fn more_variables<'a>(
+    alloc: Global,
+    before: Vec<Variable>,
+    tokens: &'a [Token],
+) -> Read<'a, Vec<Variable>>
+    ensures gives { Gives (λ x. (all variable_tree x.0.items, toks x.1.now)) result (with_row variable_tree before.items (reads grammar.more_variables (toks tokens.now))) }
+    ensures shorter { IfOk result (λ x. length x.1.now ≤ length tokens.now) }
+{
+    let mut all = before;
+    let mut rest = tokens;
+    'variables: while sees_mark(Mark::Comma, rest) {
+        let (next, after) = next_variable(alloc, rest)?;
+        all.push(next)?;
+        rest = after;
+    }
+    Ok((all, rest))
+}
+
+/// `*` and a variable.
+#[tactic(auto, unfolding(arc_grammar::specs::Grammar::reference))]
+fn reference<'a>(alloc: Global, tokens: &'a [Token]) -> Read<'a, Variable>
+    ensures gives { Gives (λ x. (variable_tree x.0, toks x.1.now)) result (reads grammar.reference (toks tokens.now)) }
+    ensures shorter { IfOk result (λ x. length x.1.now < length tokens.now) }
+{
+    let (_, rest) = expect(Mark::Star, tokens)?;
+    variable(alloc, rest)
+}
+
+/// A comma, `*` and a variable.
+#[tactic(auto, unfolding(arc_grammar::specs::Grammar::next_reference))]
+fn next_reference<'a>(alloc: Global, tokens: &'a [Token]) -> Read<'a, Variable>
+    ensures gives { Gives (λ x. (variable_tree x.0, toks x.1.now)) result (reads grammar.next_reference (toks tokens.now)) }
+    ensures shorter { IfOk result (λ x. length x.1.now < length tokens.now) }
+{
+    let (_, rest) = expect(Mark::Comma, tokens)?;
+    reference(alloc, rest)
+}
+
+/// These variables and the further ones, each after a comma and with a `*`.
+fn more_references<'a>(
+    alloc: Global,
+    before: Vec<Variable>,
+    tokens: &'a [Token],
+) -> Read<'a, Vec<Variable>>
+    ensures gives { Gives (λ x. (all variable_tree x.0.items, toks x.1.now)) result (with_row variable_tree before.items (reads grammar.more_references (toks tokens.now))) }
+    ensures shorter { IfOk result (λ x. length x.1.now ≤ length tokens.now) }
+{
+    let mut all = before;
+    let mut rest = tokens;
+    'references: while sees_mark(Mark::Comma, rest) {
+        let (next, after) = next_reference(alloc, rest)?;
+        all.push(next)?;
+        rest = after;
+    }
+    Ok((all, rest))
+}
+
+/// This word, one variable or more and `;`: a declaration of this type.
+#[tactic(auto, using(crate::proofs::Trees::variables_is), unfolding(arc_grammar::specs::Grammar::declaration))]
+pub fn declaration<'a>(
+    alloc: Global,
+    word: Word,
+    kind: TypeName,
+    tokens: &'a [Token],
+) -> Read<'a, Stmt>
+    ensures gives { Gives (λ x. (stmt_tree x.0, toks x.1.now)) result (reads (grammar.declaration word (type_tree kind)) (toks tokens.now)) }
+    ensures shorter { IfOk result (λ x. length x.1.now < length tokens.now) }
+{
+    let (at, rest) = keyword(word, tokens)?;
+    let (first, rest) = variable(alloc, rest)?;
+    let mut all = Vec::new(alloc);
+    all.push(first)?;
+    let (all, rest) = more_variables(alloc, all, rest)?;
+    let (_, rest) = expect(Mark::Semicolon, rest)?;
+    Ok((Stmt::Variables(at, kind, all), rest))
+}
+
+/// The name of a class, one variable or more, with a `*` each, and `;`.
+#[tactic(auto, using(crate::proofs::Trees::variables_is), unfolding(arc_grammar::specs::Grammar::objects))]
+pub fn objects<'a>(alloc: Global, tokens: &'a [Token]) -> Read<'a, Stmt>
+    ensures gives { Gives (λ x. (stmt_tree x.0, toks x.1.now)) result (reads grammar.objects (toks tokens.now)) }
+    ensures shorter { IfOk result (λ x. length x.1.now < length tokens.now) }
+{
+    let ((at, called), rest) = name(tokens)?;
+    let class = Vec::from_slice(alloc, called)?;
+    let (first, rest) = reference(alloc, rest)?;
+    let mut all = Vec::new(alloc);
+    all.push(first)?;
+    let (all, rest) = more_references(alloc, all, rest)?;
+    let (_, rest) = expect(Mark::Semicolon, rest)?;
+    Ok((Stmt::Variables(at, TypeName::Object(at, class), all), rest))
+}
