@@ -4,8 +4,8 @@ use Rattle.std.specs.Global.{Global}
 use Rattle.arc_lex.specs.Tokens.{Tok}
 use Rattle.arc_lex.specs.Source.{Tokens}
 use Rattle.arc_ast.specs.Tree.{InterfaceTree, UnitTree}
-use Rattle.arc_parse.specs.Grammar.{SpellsUnit}
-use Rattle.arc_parse.specs.Limits.{these}
+use Rattle.arc_grammar.specs.Grammar.{these}
+use Rattle.arc_parse.specs.Refusal.{SpellsUnit}
 use Rattle.arc_class.specs.declared.table.ClassTable.{ClassTable}
 use Rattle.arc_class.specs.ClassRules.{broken}
 use Rattle.arc_class.specs.Table.{IsTableOf}

@@ -5,10 +5,10 @@ use Rattle.arc_lex.specs.Source.{Tokens}
 use Rattle.arc_lex.specs.declared.fault.LexFault.{LexFault}
 use Rattle.arc_lex.specs.Faults as lexing
 use Rattle.arc_ast.specs.Tree.{UnitTree}
-use Rattle.arc_parse.specs.Grammar.{SpellsUnit}
-use Rattle.arc_parse.specs.Limits.{these}
+use Rattle.arc_grammar.specs.Grammar.{these}
 use Rattle.arc_fault.specs.declared.parse.ParseFault.{ParseFault}
 use Rattle.arc_fault.specs.Parse as parse_fault
+use Rattle.arc_parse.specs.Refusal.{SpellsUnit}
 use Rattle.arc_parse.specs.Refusal as parsing
 use Rattle.arc_class.specs.declared.table.ClassTable.{ClassTable}
 use Rattle.arc_fault.specs.declared.class.ClassFault.{ClassFault}
