@@ -4,12 +4,12 @@ use Rattle.std.proofs.lemmas.Bool.{ltb-true, ltb-false, lt-ltb}
 use Rattle.arc_lex.specs.Tokens.{Tok}
 use Rattle.arc_form.specs.Kinds.{Kinds, ◌∪◌}
 use Rattle.arc_form.specs.Reader.{Read, Reader, too_deep, bind, ◌>>=◌, ret, first, sees, sees_second, loop, is_above, nested, goes_over, up_to}
-use Rattle.arc_form.specs.Form.{Limits, unlimited, Form, Bodies, token, give, call, map, ◌⨾◌, choose, many, or_none, nest, bounded, two_ahead, run, read}
+use Rattle.arc_form.specs.Form.{Limits, unlimited, Form, Bodies, token, give, call, map, ◌⨾◌, choose, many, or_none, nest, bounded, two_ahead, avoid, run, read}
 use Rattle.arc_form.specs.Meaning.{Spelling, SpellsAll, SpellsBy, Spells}
 use Rattle.arc_form.specs.Places.{OneTooMany, PassesBy, PassesWithin, Passes}
 use Rattle.arc_form.specs.Whole.{end, read_whole}
 use Rattle.arc_form.proofs.Sets.{apart, sees_among, sees_apart, sees_other, sees_left, sees_right, sees_more}
-use Rattle.arc_form.proofs.Static.{Facts, if_so, nullable, begins, goes_on, decided, second, fits, of_then, of_choose, of_many, of_headed, of_bounded, of_two_ahead, of_heads, of_fits}
+use Rattle.arc_form.proofs.Static.{Facts, if_so, nullable, begins, goes_on, decided, second, fits, of_then, of_choose, of_many, of_headed, of_bounded, of_two_ahead, of_avoid, of_heads, of_fits}
 use Rattle.arc_form.proofs.Local.{Local, rest_of}
 use Rattle.arc_form.proofs.FormLocal.{read_is, fronts}
 use Rattle.arc_form.proofs.FormSound.{form_sound}
@@ -98,6 +98,7 @@ module _ {N : Type 0} {Node : N → Type 0} (facts : N → Facts) (body : Bodies
         let p = of_two_ahead facts T U f g d in
         sees_among T (begins facts g) (before ++ r) p.taken (sees_among (begins facts f) T (before ++ r) p.head.within (place_starts A f p.left before r x))
     place_starts A (two_ahead T U f g) d before r (inr (x, e)) = place_starts A g (of_two_ahead facts T U f g d).right before r x
+    place_starts A (avoid T U f) d before r (x, e) = place_starts A f (of_avoid facts T U f d).each before r x
 
     -- the second token of what has two heads
     place_second : (U : Kinds) (A : Type 0) (f : Form N Node A) → decided facts f ≡ true → second facts U f ≡ true → (before r : List Tok) → PassesBy body (PassesWithin body h) limits f before r → sees_second U (before ++ r) ≡ true
@@ -116,6 +117,7 @@ module _ {N : Type 0} {Node : N → Type 0} (facts : N → Facts) (body : Bodies
     place_second U A (nest m V f) d e before r x = cc
     place_second U A (bounded f) d e before r x = cc
     place_second U A (two_ahead V W f g) d e before r x = cc
+    place_second U A (avoid V W f) d e before r x = cc
     place_second U A (_ ⨾ g) d e before r x = cc
 
   within_place_starts : (h : ℕ) (limits : Limits) → Positive limits → (n : N) (before r : List Tok) → PassesWithin body h limits n before r → sees (facts n).begins (before ++ r) ≡ true
@@ -248,6 +250,7 @@ module _ {N : Type 0} {Node : N → Type 0} (facts : N → Facts) (body : Bodies
         let next = place_second h limits positive (within_place_starts h limits positive) U A f p.left p.second before r x in
         rw (head, next) (answers A f p.left before r x)
     answers A (two_ahead T U f g) d before r (inr (x, e)) = rw e (answers A g (of_two_ahead facts T U f g d).right before r x)
+    answers A (avoid T U f) d before r (x, e) = rw e (answers A f (of_avoid facts T U f d).each before r x)
 
   within_answers : (h : ℕ) (limits : Limits) → Positive limits → (n : N) (before r : List Tok) → PassesWithin body h limits n before r → read body limits n (before ++ r) ≡ Err (too_deep, r)
   unfolding PassesWithin

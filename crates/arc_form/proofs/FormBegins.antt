@@ -2,10 +2,10 @@
 use Rattle.std.proofs.Common.{◌≡◌, ℕ, zero, suc, ◌<◌, ◌≤◌, ◌+◌, List, [], ◌∷◌, length, Ok, Err, Bool, true, false, cond, not, ◌&&◌, ◌||◌, refl, sym, ap, subst, ◌∙◌, arith}
 use Rattle.arc_lex.specs.Tokens.{Tok}
 use Rattle.arc_form.specs.Kinds.{Kinds, none, ◌∪◌, is}
-use Rattle.arc_form.specs.Reader.{Read, Reader, misfit, bind, ◌>>=◌, ret, sees, sees_second, sees_two, taken, turns, loop, nested, up_to}
-use Rattle.arc_form.specs.Form.{Limits, unlimited, Form, Rules, Bodies, token, give, call, map, ◌⨾◌, choose, many, or_none, nest, bounded, two_ahead, run, deep, read}
+use Rattle.arc_form.specs.Reader.{Read, Reader, misfit, bind, ◌>>=◌, ret, second_unexpected, sees, sees_second, sees_two, taken, turns, loop, nested, up_to}
+use Rattle.arc_form.specs.Form.{Limits, unlimited, Form, Rules, Bodies, token, give, call, map, ◌⨾◌, choose, many, or_none, nest, bounded, two_ahead, avoid, run, deep, read}
 use Rattle.arc_form.proofs.Sets.{both, sees_among, sees_none, sees_neither, sees_or}
-use Rattle.arc_form.proofs.Static.{Facts, if_so, nullable, begins, guarded, decided, second, fits, of_then, of_choose, of_many, of_headed, of_bounded, of_two_ahead, of_heads, of_fits}
+use Rattle.arc_form.proofs.Static.{Facts, if_so, nullable, begins, guarded, decided, second, fits, of_then, of_choose, of_many, of_headed, of_bounded, of_two_ahead, of_avoid, of_heads, of_fits}
 use Rattle.arc_form.proofs.Local.{rest_of}
 use Rattle.arc_form.proofs.FormLocal.{read_is, form_left}
 
@@ -57,7 +57,7 @@ two_fails T U ts e = ap (λ b. b && sees_second U ts) e
 pub two_first : (T U : Kinds) (ts : List Tok) → sees_two T U ts ≡ true → sees T ts ≡ true
 two_first T U ts e = (both (sees T ts) (sees_second U ts) e).0
 
-so_seen : (b : Bool) (T : Kinds) (ts : List Tok) → sees (if_so b T) ts ≡ true → (b ≡ true) × (sees T ts ≡ true)
+pub so_seen : (b : Bool) (T : Kinds) (ts : List Tok) → sees (if_so b T) ts ≡ true → (b ≡ true) × (sees T ts ≡ true)
 so_seen true T ts e = (refl, e)
 so_seen false T [] e = cc
 so_seen false T (t ∷ ts) e = cc
@@ -118,6 +118,10 @@ module _ {N : Type 0} {Node : N → Type 0} (facts : N → Facts) where
       let p = of_two_ahead facts T U f g d in
       ap (λ b. cond b (run of unlimited f ts) (run of unlimited g ts)) (two_fails T U ts (sees_none T (begins facts g) ts p.taken n))
       ∙ idle_some (nullable facts g) (run of unlimited g ts) ts p.some (idle of r A g p.right ts n)
+  idle of r A (avoid T U f) d ts n =
+      let p = of_avoid facts T U f d in
+      ap (λ b. cond b (second_unexpected ts) (run of unlimited f ts)) (two_fails T U ts (sees_none T (begins facts f) ts p.taken n))
+      ∙ idle_some (nullable facts f) (run of unlimited f ts) ts p.some (idle of r A f p.each ts n)
 
   module _ (body : Bodies N Node) (sure : (n : N) → fits facts body n ≡ true) where
     pub deep_refuses : (h : ℕ) → Refuses (deep body h unlimited)
@@ -211,6 +215,12 @@ module _ {N : Type 0} {Node : N → Type 0} (facts : N → Facts) where
             → (c : Bool) → sees_two T U ts ≡ c → (sees_two T U ts ≡ true → sees (begins facts f) ts ≡ true) → length (rest_of (cond c (plain f ts) (plain g ts))) < length ts
         go of_f of_g true q i = of_f (left_true b (guarded facts f) (guarded facts g) e) (i q)
         go of_f of_g false q i = of_g (right_true b (guarded facts f) (guarded facts g) e) n
+    takes b k A (avoid T U f) d e ts n = go ts (sees_two T U ts) n (takes b k A f (of_avoid facts T U f d).each e ts n)
+      where
+        go : (us : List Tok) (c : Bool) → sees (begins facts f) us ≡ true → length (rest_of (plain f us)) < length us → length (rest_of (cond c (second_unexpected us) (plain f us))) < length us
+        go us false n p = p
+        go [] true n p = cc
+        go (t ∷ us) true n p = omega arith
 
     pub read_takes : (n : N) (ts : List Tok) → sees (facts n).begins ts ≡ true → length (rest_of (read body unlimited n ts)) < length ts
     read_takes n ts e =
@@ -245,4 +255,5 @@ module _ {N : Type 0} {Node : N → Type 0} (facts : N → Facts) where
     takes_two T U A (nest m V f) d s ts e n = cc
     takes_two T U A (bounded f) d s ts e n = cc
     takes_two T U A (two_ahead V W f g) d s ts e n = cc
+    takes_two T U A (avoid V W f) d s ts e n = cc
     takes_two T U A (_ ⨾ g) d s ts e n = cc

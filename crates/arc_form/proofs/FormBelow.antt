@@ -4,9 +4,9 @@ use Rattle.std.proofs.lemmas.Bool.{ltb-true}
 use Rattle.arc_lex.specs.Tokens.{Tok}
 use Rattle.arc_form.specs.Kinds.{Kinds}
 use Rattle.arc_form.specs.Reader.{Read, Reader, misfit, too_deep, bind, ◌>>=◌, ret, unexpected, too_deep_here, sees, sees_two, if_sees, turns, loop, is_above, nested, goes_over, up_to}
-use Rattle.arc_form.specs.Form.{Limits, unlimited, Form, Rules, Bodies, token, give, call, map, ◌⨾◌, choose, many, or_none, nest, bounded, two_ahead, run, deep, read}
+use Rattle.arc_form.specs.Form.{Limits, unlimited, Form, Rules, Bodies, token, give, call, map, ◌⨾◌, choose, many, or_none, nest, bounded, two_ahead, avoid, run, deep, read}
 use Rattle.arc_form.proofs.Sets.{both, sees_none}
-use Rattle.arc_form.proofs.Static.{Facts, nullable, begins, decided, fits, of_then, of_choose, of_many, of_headed, of_bounded, of_two_ahead, of_fits}
+use Rattle.arc_form.proofs.Static.{Facts, nullable, begins, decided, fits, of_then, of_choose, of_many, of_headed, of_bounded, of_two_ahead, of_avoid, of_fits}
 use Rattle.arc_form.proofs.Local.{rest_of, local_unexpected}
 use Rattle.arc_form.proofs.FormLocal.{Fronts, inner, solid, fronts}
 use Rattle.arc_form.proofs.FormBegins.{Refuses, idle, idle_some, deep_refuses, read_refuses}
@@ -149,6 +149,7 @@ module _ {N : Type 0} {Node : N → Type 0} (facts : N → Facts) where
       (back_form of front unlimited f p.each) (below of front r limits b A f p.each)
   below of front r limits b A (bounded f) d = below_up_to limits.tokens (back_form of front unlimited f (of_bounded facts f d).each)
   below of front r limits b A (two_ahead T U f g) d = let p = of_two_ahead facts T U f g d in below_test (sees_two T U) (below of front r limits b A f p.left) (below of front r limits b A g p.right)
+  below of front r limits b A (avoid T U f) d = below_test (sees_two T U) below_same (below of front r limits b A f (of_avoid facts T U f d).each)
 
   module _ (body : Bodies N Node) (sure : (n : N) → fits facts body n ≡ true) where
     deep_front : (h : ℕ) → Fronts facts (deep body h)

@@ -4,14 +4,14 @@ use Rattle.std.proofs.lemmas.Bool.{le-ltb}
 use Rattle.arc_lex.specs.Tokens.{Tok}
 use Rattle.arc_form.specs.Kinds.{Kinds, ◌∪◌}
 use Rattle.arc_form.specs.Reader.{Read, Reader, bind, ret, sees, sees_second, sees_two, turns, loop, nested, up_to}
-use Rattle.arc_form.specs.Form.{Limits, unlimited, Form, Rules, Bodies, token, give, call, map, ◌⨾◌, choose, many, or_none, nest, bounded, two_ahead, run, read}
+use Rattle.arc_form.specs.Form.{Limits, unlimited, Form, Rules, Bodies, token, give, call, map, ◌⨾◌, choose, many, or_none, nest, bounded, two_ahead, avoid, run, read}
 use Rattle.arc_form.specs.Meaning.{AtMost, Spelling, SpellsAll, SpellsBy, Within, Spells}
 use Rattle.arc_form.proofs.Sets.{apart, sees_among, sees_apart, sees_none, sees_other, sees_neither, sees_more, second_more}
-use Rattle.arc_form.proofs.Static.{Facts, if_so, nullable, begins, goes_on, decided, fits, of_then, of_choose, of_many, of_headed, of_bounded, of_two_ahead, of_fits}
+use Rattle.arc_form.proofs.Static.{Facts, if_so, nullable, begins, goes_on, decided, fits, of_then, of_choose, of_many, of_headed, of_bounded, of_two_ahead, of_avoid, of_fits}
 use Rattle.arc_form.proofs.Local.{StopsAt, Local, turns_same}
 use Rattle.arc_form.proofs.FormLocal.{Fronts, solid, inner, read_is, fronts}
 use Rattle.arc_form.proofs.FormBegins.{loop_end}
-use Rattle.arc_form.proofs.FormStarts.{Starts, AllStart, starts, start_all, some_starts, second_starts, within_starts}
+use Rattle.arc_form.proofs.FormStarts.{Starts, AllStart, starts, start_all, some_starts, longs, second_starts, two_own, within_starts}
 
 -- what comes after tokens that begin so, or none, goes on with nothing
 after : (b : Bool) (A T : Kinds) (xs rest : List Tok) → Starts b T xs → apart A T ≡ true → sees (if_so b A) rest ≡ false → sees A (xs ++ rest) ≡ false
@@ -119,6 +119,9 @@ module _ {N : Type 0} {Node : N → Type 0} (facts : N → Facts) where
         let p = of_two_ahead facts T U f g d in
         let m = sees_neither (goes_on facts f) (goes_on facts g) rest n in
         rw q (reads limits g p.right a rest xs x m.1)
+    reads limits (avoid T U f) d a rest xs (x, q) n =
+        let p = of_avoid facts T U f d in
+        rw (two_own T U xs rest (longs facts L s limits f p.each p.further a rest xs x) q) (reads limits f p.each a rest xs x n)
 
   module _ (body : Bodies N Node) (sure : (n : N) → fits facts body n ≡ true) where
     pub within_reads : (h : ℕ) → AllRead (read body) (Within body h)

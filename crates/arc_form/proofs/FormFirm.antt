@@ -2,15 +2,15 @@
 use Rattle.std.proofs.Common.{◌≡◌, ◌⊎◌, inl, inr, ℕ, zero, suc, ◌<◌, ◌≤◌, ◌+◌, List, [], ◌∷◌, ◌++◌, length, append_assoc, Ok, Bool, true, false, cond, ◌&&◌, refl, sym, ap, subst, ◌∙◌, arith}
 use Rattle.arc_lex.specs.Tokens.{Tok}
 use Rattle.arc_form.specs.Kinds.{Kinds, is}
-use Rattle.arc_form.specs.Reader.{Read, Reader, bind, ◌>>=◌, ret, sees, sees_two, loop, nested, up_to}
-use Rattle.arc_form.specs.Form.{Limits, unlimited, Form, Bodies, token, give, call, map, ◌⨾◌, choose, many, or_none, nest, bounded, two_ahead, run, read}
+use Rattle.arc_form.specs.Reader.{Read, Reader, bind, ◌>>=◌, ret, second_unexpected, sees, sees_two, loop, nested, up_to}
+use Rattle.arc_form.specs.Form.{Limits, unlimited, Form, Bodies, token, give, call, map, ◌⨾◌, choose, many, or_none, nest, bounded, two_ahead, avoid, run, read}
 use Rattle.arc_form.specs.Meaning.{Spelling, SpellsAll, SpellsBy, Within, Spells}
 use Rattle.arc_form.proofs.Sets.{apart, sees_among, sees_apart, sees_other, sees_more}
-use Rattle.arc_form.proofs.Static.{Facts, Many, nullable, begins, goes_on, decided, fits, of_then, of_choose, of_many, of_headed, of_bounded, of_two_ahead, of_fits}
+use Rattle.arc_form.proofs.Static.{Facts, Many, nullable, begins, goes_on, decided, fits, of_then, of_choose, of_many, of_headed, of_bounded, of_two_ahead, of_avoid, of_fits}
 use Rattle.arc_form.proofs.Local.{rest_of}
 use Rattle.arc_form.proofs.FormLocal.{read_is, fronts, form_left}
 use Rattle.arc_form.proofs.FormBegins.{loop_end, loop_first, bind_left, ret_left, form_takes, takes_two}
-use Rattle.arc_form.proofs.FormStarts.{Starts, AllStart, AllFair, starts, start_all, some_starts, second_starts, fair, within_starts, within_fair, spells_starts, spells_fair}
+use Rattle.arc_form.proofs.FormStarts.{Starts, AllStart, AllFair, starts, start_all, some_starts, longs, second_starts, two_own, fair, within_starts, within_fair, spells_starts, spells_fair}
 use Rattle.arc_form.proofs.FormComplete.{loop_more, reads, each_front, two_seen, within_reads}
 
 -- an answer is this value with these tokens left, or fewer are left
@@ -162,6 +162,9 @@ module _ {N : Type 0} {Node : N → Type 0} (facts : N → Facts) (body : Bodies
         go [] q seen k m = cc
         go (t ∷ []) q seen k m = one_left t (is T t) (sees U r) refl refl (k t) m
         go (t ∷ u ∷ us) q seen k m = subst (λ b. Firm (cond b (plain f (t ∷ u ∷ (us ++ r))) (plain g (t ∷ u ∷ (us ++ r)))) a r) (sym q) m
+    firm A (avoid T U f) d a xs r (x, q) =
+        let p = of_avoid facts T U f d in
+        subst (λ b. Firm (cond b (second_unexpected (xs ++ r)) (plain f (xs ++ r))) a r) (sym (two_own T U xs r (longs facts L s unlimited f p.each p.further a [] xs x) q)) (firm A f p.each a xs r x)
 
   within_firm : (h : ℕ) (n : N) (a : Node n) (xs r : List Tok) → Within body h unlimited n a [] xs → Firm (read body unlimited n (xs ++ r)) a r
   unfolding Within

@@ -3,10 +3,10 @@ use Rattle.std.proofs.Common.{◌≡◌, ℕ, zero, suc, ◌<◌, ◌≤◌, ◌
 use Rattle.arc_lex.specs.Tokens.{Tok}
 use Rattle.arc_form.specs.Kinds.{Kinds}
 use Rattle.arc_form.specs.Reader.{Reader}
-use Rattle.arc_form.specs.Form.{Limits, unlimited, Form, Rules, Bodies, token, give, call, map, ◌⨾◌, choose, many, or_none, nest, bounded, two_ahead, run, deep, read}
+use Rattle.arc_form.specs.Form.{Limits, unlimited, Form, Rules, Bodies, token, give, call, map, ◌⨾◌, choose, many, or_none, nest, bounded, two_ahead, avoid, run, deep, read}
 use Rattle.arc_form.proofs.Sets.{among, both, sees_among}
-use Rattle.arc_form.proofs.Static.{Facts, nullable, begins, guarded, decided, fits, of_then, of_choose, of_many, of_headed, of_bounded, of_two_ahead, of_fits}
-use Rattle.arc_form.proofs.Local.{StopsAt, Local, Takes, rest_of, left_of, then, after, weaker, local_ret, local_token, local_if, local_two, local_nested, local_up_to, local_loop, local_as}
+use Rattle.arc_form.proofs.Static.{Facts, nullable, begins, guarded, decided, fits, of_then, of_choose, of_many, of_headed, of_bounded, of_two_ahead, of_avoid, of_fits}
+use Rattle.arc_form.proofs.Local.{StopsAt, Local, Takes, takes_second, rest_of, left_of, then, after, weaker, local_ret, local_second, local_token, local_if, local_two, local_nested, local_up_to, local_loop, local_as}
 
 -- the fewest tokens of what may be no token or not
 abbrev pub need : Bool → ℕ
@@ -85,6 +85,9 @@ module _ {N : Type 0} {Node : N → Type 0} (facts : N → Facts) where
       let p = of_two_ahead facts T U f f' d in
       local_two T U (λ so. takes_here h limits _ f T p.head.all p.left (plain limits so)) (λ so. takes_here h limits _ f' T p.taken p.right (plain limits so))
       (solid (nullable facts f) p.head.some (inner S k g h plain fronts rec limits f p.left)) (solid (nullable facts f') p.some (inner S k g h plain fronts rec limits f' p.right))
+  inner S k g h plain fronts rec limits {A} (avoid T U f) d =
+      let p = of_avoid facts T U f d in
+      local_two T U (λ so. takes_second A T) (λ so. takes_here h limits _ f T p.taken p.each (plain limits so)) local_second (solid (nullable facts f) p.some (inner S k g h plain fronts rec limits f p.each))
 
   -- and one that reads a rule only after a token is local of k
   pub outer : (S : Deciding) (k : ℕ) (g h : Limits → Rules N Node) → Plain S h → ((limits : Limits) → S limits → Fronts h) → Alike S k g h
@@ -126,6 +129,9 @@ module _ {N : Type 0} {Node : N → Type 0} (facts : N → Facts) where
       let s = both (guarded facts f) (guarded facts f') e in
       local_two T U (λ so. takes_here h limits _ f T p.head.all p.left (plain limits so)) (λ so. takes_here h limits _ f' T p.taken p.right (plain limits so))
       (solid (nullable facts f) p.head.some (outer S k g h plain fronts rec limits f p.left s.0)) (solid (nullable facts f') p.some (outer S k g h plain fronts rec limits f' p.right s.1))
+  outer S k g h plain fronts rec limits {A} (avoid T U f) d e =
+      let p = of_avoid facts T U f d in
+      local_two T U (λ so. takes_second A T) (λ so. takes_here h limits _ f T p.taken p.each (plain limits so)) local_second (solid (nullable facts f) p.some (outer S k g h plain fronts rec limits f p.each e))
 
   module _ (body : Bodies N Node) (sure : (n : N) → fits facts body n ≡ true) where
     step : (S : Deciding) (k : ℕ) (g h : Limits → Rules N Node) → Plain S h → ((limits : Limits) → S limits → Fronts h) → Alike S k g h → Alike S (suc k) (λ limits n. run g limits (body n)) (λ limits n. run h limits (body n))

@@ -4,8 +4,9 @@ use Rattle.std.proofs.lemmas.Bool.{ltb-false}
 use Rattle.arc_lex.specs.Tokens.{Tok}
 use Rattle.arc_form.specs.Kinds.{Kinds, is}
 use Rattle.arc_form.specs.Reader.{Read, Reader, too_deep, bind, ◌>>=◌, ret, unexpected, too_deep_here, sees, sees_two, if_sees, taken, take_one, turns, loop, is_above, nested, goes_over, up_to}
-use Rattle.arc_form.specs.Form.{Limits, unlimited, Form, Rules, Bodies, token, give, call, map, ◌⨾◌, choose, many, or_none, nest, bounded, two_ahead, run, deep, read}
+use Rattle.arc_form.specs.Form.{Limits, unlimited, Form, Rules, Bodies, token, give, call, map, ◌⨾◌, choose, many, or_none, nest, bounded, two_ahead, avoid, run, deep, read}
 use Rattle.arc_form.specs.Meaning.{AtMost, Spelling, SpellsAll, SpellsBy, Within, Spells}
+use Rattle.arc_form.proofs.Sets.{two_less}
 
 -- f takes tokens that spell, in L, what it gives
 pub record Sound {A : Type 0} (f : Reader A) (L : Spelling A) : Type 0 where
@@ -122,6 +123,7 @@ module _ {N : Type 0} {Node : N → Type 0} where
   sound of L s limits (nest d T f) = sound_nested limits.depth d T (sound of L s limits f)
   sound of L s limits (bounded f) = sound_up_to limits.tokens (sound of L s unlimited f)
   sound of L s limits (two_ahead T U f g) = sound_test (sees_two T U) (sound_as (sound of L s limits f) (λ a r xs x. inl x)) (sound_as (sound of L s limits g) (λ a r xs x e. inr (x, e)))
+  sound of L s limits (avoid T U f) = sound_test (sees_two T U) (record { each = λ ts a r e. cc }) (sound_as (sound of L s limits f) (λ a r xs x e. (x, two_less T U xs r e)))
 
   module _ (body : Bodies N Node) where
     deep_sound : (h : ℕ) (limits : Limits) (n : N) → Sound (deep body h limits n) (Within body h limits n)

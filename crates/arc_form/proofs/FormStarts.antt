@@ -3,10 +3,10 @@ use Rattle.std.proofs.Common.{◌≡◌, ◌⊎◌, inl, inr, ℕ, zero, suc, Li
 use Rattle.arc_lex.specs.Tokens.{Tok}
 use Rattle.arc_form.specs.Kinds.{Kinds, ◌∪◌, is}
 use Rattle.arc_form.specs.Reader.{first, sees, sees_second, sees_two}
-use Rattle.arc_form.specs.Form.{Limits, unlimited, Form, Bodies, token, give, call, map, ◌⨾◌, choose, many, or_none, nest, bounded, two_ahead}
+use Rattle.arc_form.specs.Form.{Limits, unlimited, Form, Bodies, token, give, call, map, ◌⨾◌, choose, many, or_none, nest, bounded, two_ahead, avoid}
 use Rattle.arc_form.specs.Meaning.{Spelling, SpellsAll, SpellsBy, Within, Spells}
 use Rattle.arc_form.proofs.Sets.{both, no_both, not_true, sees_among, sees_none, sees_left, sees_right, sees_neither, sees_alike, sees_more}
-use Rattle.arc_form.proofs.Static.{Facts, if_so, nullable, begins, bars, long, decided, second, fits, of_then, of_choose, of_many, of_headed, of_bounded, of_two_ahead, of_heads, of_fits}
+use Rattle.arc_form.proofs.Static.{Facts, if_so, nullable, begins, bars, long, decided, second, fits, of_then, of_choose, of_many, of_headed, of_bounded, of_two_ahead, of_avoid, of_heads, of_fits}
 
 -- There are no tokens, where there may be none, or they begin so.
 abbrev pub Starts : Bool → Kinds → List Tok → Type 0
@@ -70,7 +70,7 @@ two_fair T U (t ∷ []) r r' z (inl f) e = and_no (is T t) (sees U r') f
     and_no true b e = e
     and_no false b e = refl
 
-abbrev Long : List Tok → Type 0
+abbrev pub Long : List Tok → Type 0
 Long xs = (t u : Tok) × (zs : List Tok) × (xs ≡ t ∷ u ∷ zs)
 
 long_both : (T U : Kinds) (xs ys : List Tok) → sees T xs ≡ true → sees U ys ≡ true → Long (xs ++ ys)
@@ -82,6 +82,10 @@ long_both T U (t ∷ v ∷ xs) (u ∷ ys) s q = (t, v, xs ++ u ∷ ys, refl)
 -- of two tokens at least the test hangs on no token after them
 two_long : (T U : Kinds) (xs r r' : List Tok) → Long xs → sees_two T U (xs ++ r) ≡ false → sees_two T U (xs ++ r') ≡ false
 two_long T U xs r r' (t, u, zs, c) e = ap (λ v. sees_two T U (v ++ r')) c ∙ sym (ap (λ v. sees_two T U (v ++ r)) c) ∙ e
+
+-- nor on any after them
+pub two_own : (T U : Kinds) (xs r : List Tok) → Long xs → sees_two T U xs ≡ false → sees_two T U (xs ++ r) ≡ false
+two_own T U xs r (t, u, zs, c) e = ap (λ v. sees_two T U (v ++ r)) c ∙ sym (ap (sees_two T U) c) ∙ e
 
 two_kept : (l : Bool) (T U : Kinds) (xs r r' : List Tok) → (l ≡ true → Long xs) → (xs ≡ [] → ⊥) → Fair (if_so (not l) U) r r' → sees_two T U (xs ++ r) ≡ false → sees_two T U (xs ++ r') ≡ false
 two_kept true T U xs r r' k z f e = two_long T U xs r r' (k refl) e
@@ -135,13 +139,16 @@ module _ {N : Type 0} {Node : N → Type 0} (facts : N → Facts) where
   starts L s limits (two_ahead T U f g) d a rest xs (inr (x, n)) =
       let p = of_two_ahead facts T U f g d in
       inr (starts_some (nullable facts g) (begins facts g) xs p.some (starts L s limits g p.right a rest xs x))
+  starts L s limits (avoid T U f) d a rest xs (x, n) =
+      let p = of_avoid facts T U f d in
+      inr (starts_some (nullable facts f) (begins facts f) xs p.some (starts L s limits f p.each a rest xs x))
 
   module _ (L : Limits → (n : N) → Spelling (Node n)) (s : AllStart L) where
     pub some_starts : (limits : Limits) {A : Type 0} (f : Form N Node A) → decided facts f ≡ true → nullable facts f ≡ false → (a : A) (rest xs : List Tok) → SpellsBy L limits f a rest xs → sees (begins facts f) xs ≡ true
     some_starts limits f d n a rest xs x = starts_some (nullable facts f) (begins facts f) xs n (starts L s limits f d a rest xs x)
 
     -- what is long is two tokens at least
-    longs : (limits : Limits) {A : Type 0} (f : Form N Node A) → decided facts f ≡ true → long facts f ≡ true → (a : A) (rest xs : List Tok) → SpellsBy L limits f a rest xs → Long xs
+    pub longs : (limits : Limits) {A : Type 0} (f : Form N Node A) → decided facts f ≡ true → long facts f ≡ true → (a : A) (rest xs : List Tok) → SpellsBy L limits f a rest xs → Long xs
     longs limits (token T g) d e a rest xs x = cc
     longs limits (give b) d e a rest xs x = cc
     longs limits (call n) d e a rest xs x = cc
@@ -158,6 +165,7 @@ module _ {N : Type 0} {Node : N → Type 0} (facts : N → Facts) where
     longs limits (bounded f) d e a rest xs (p, x) = longs unlimited f (of_bounded facts f d).each e a rest xs x
     longs limits (two_ahead T U f g) d e a rest xs (inl x) = longs limits f (of_two_ahead facts T U f g d).left (both (long facts f) (long facts g) e).0 a rest xs x
     longs limits (two_ahead T U f g) d e a rest xs (inr (x, n)) = longs limits g (of_two_ahead facts T U f g d).right (both (long facts f) (long facts g) e).1 a rest xs x
+    longs limits (avoid T U f) d e a rest xs (x, n) = longs limits f (of_avoid facts T U f d).each e a rest xs x
 
     -- the second token of what has two heads
     pub second_starts : (U : Kinds) (limits : Limits) (A : Type 0) (f : Form N Node A) → decided facts f ≡ true → second facts U f ≡ true → (a : A) (rest xs : List Tok) → SpellsBy L limits f a rest xs → sees_second U xs ≡ true
@@ -175,6 +183,7 @@ module _ {N : Type 0} {Node : N → Type 0} (facts : N → Facts) where
     second_starts U limits A (nest m V f) d e a rest xs x = cc
     second_starts U limits A (bounded f) d e a rest xs x = cc
     second_starts U limits A (two_ahead V W f g) d e a rest xs x = cc
+    second_starts U limits A (avoid V W f) d e a rest xs x = cc
     second_starts U limits A (_ ⨾ g) d e a rest xs x = cc
 
     -- rules' tokens spell the same before others
@@ -213,6 +222,7 @@ module _ {N : Type 0} {Node : N → Type 0} (facts : N → Facts) where
           two_kept (long facts g) T U xs r r' (λ l. longs limits g p.right l a r xs x) (seen_some (begins facts g) xs (some_starts limits g p.right p.some a r xs x))
               (fair_less second (second ∪ others) r r' (none_left second others) q) n,
         )
+    fair c limits (avoid T U f) d a r r' xs (x, n) q = (fair c limits f (of_avoid facts T U f d).each a r r' xs x q, n)
 
   module _ (body : Bodies N Node) (sure : (n : N) → fits facts body n ≡ true) where
     pub within_starts : (h : ℕ) → AllStart (Within body h)

@@ -2,17 +2,18 @@
 use Rattle.std.proofs.Common.{◌≡◌, inl, inr, ℕ, zero, suc, ◌<◌, ◌≤◌, ◌+◌, List, [], ◌∷◌, ◌++◌, length, append_assoc, Ok, Err, Bool, true, false, cond, not, ◌&&◌, ◌||◌, refl, sym, ap, subst, ◌∙◌, arith}
 use Rattle.arc_lex.specs.Tokens.{Tok}
 use Rattle.arc_form.specs.Kinds.{Kinds, none, ◌∪◌, is}
-use Rattle.arc_form.specs.Reader.{Read, Reader, Fault, bind, ◌>>=◌, ret, first, sees, sees_two, taken, take_one, turns, loop, nested, up_to}
-use Rattle.arc_form.specs.Form.{Limits, unlimited, Form, Bodies, token, give, call, map, ◌⨾◌, choose, many, or_none, nest, bounded, two_ahead, run, read}
+use Rattle.arc_form.specs.Reader.{Read, Reader, Fault, bind, ◌>>=◌, ret, second_unexpected, first, sees, sees_two, taken, take_one, turns, loop, nested, up_to}
+use Rattle.arc_form.specs.Form.{Limits, unlimited, Form, Bodies, token, give, call, map, ◌⨾◌, choose, many, or_none, nest, bounded, two_ahead, avoid, run, read}
 use Rattle.arc_form.specs.Meaning.{Spelling, SpellsAll, SpellsBy, Within, Spells}
-use Rattle.arc_form.proofs.Sets.{apart, both, no_both, sees_among, sees_none, sees_other, sees_neither, sees_more}
+use Rattle.arc_form.proofs.Sets.{among, apart, both, no_both, not_true, sees_among, sees_none, sees_other, sees_neither, sees_more}
 use Rattle.arc_form.proofs.Samples.{sample}
-use Rattle.arc_form.proofs.Static.{Facts, if_so, nullable, begins, bars, long, guarded, simple, second, decided, fits, of_then, of_choose, of_many, of_headed, of_bounded, of_two_ahead, of_fits}
+use Rattle.arc_form.proofs.Static.{Facts, if_so, nullable, begins, bars, long, guarded, simple, second, alone, parts, decided, fits, of_then, of_choose, of_many, of_headed, of_bounded, of_two_ahead, of_avoid, of_fits}
 use Rattle.arc_form.proofs.Local.{rest_of}
 use Rattle.arc_form.proofs.FormLocal.{form_front, form_left, read_is, solid}
 use Rattle.arc_form.proofs.FormSound.{Sound, form_sound}
 use Rattle.arc_form.proofs.FormBegins.{Idle, form_idle, form_takes}
 use Rattle.arc_form.proofs.FormStarts.{Starts, Fair, none_left, none_right, starts, start_all, some_starts, spells_starts, form_fair}
+use Rattle.arc_form.proofs.FormAlone.{one_alone}
 use Rattle.arc_form.proofs.FormComplete.{stops_fewer}
 
 -- ---- one height for all parts
@@ -38,6 +39,7 @@ module _ {N : Type 0} {Node : N → Type 0} where
   mono L M k limits (bounded f) a r xs (p, x) = (p, mono L M k unlimited f a r xs x)
   mono L M k limits (two_ahead T U f g) a r xs (inl x) = inl (mono L M k limits f a r xs x)
   mono L M k limits (two_ahead T U f g) a r xs (inr (x, e)) = inr (mono L M k limits g a r xs x, e)
+  mono L M k limits (avoid T U f) a r xs (x, e) = (mono L M k limits f a r xs x, e)
 
   module _ (body : Bodies N Node) where
     within_le : (h m : ℕ) → h ≤ m → (limits : Limits) (n : N) (a : Node n) (r xs : List Tok) → Within body h limits n a r xs → Within body m limits n a r xs
@@ -75,6 +77,7 @@ module _ {N : Type 0} {Node : N → Type 0} where
     collect limits (bounded f) a r xs (p, x) = let y = collect unlimited f a r xs x in (y.0, (p, y.1))
     collect limits (two_ahead T U f g) a r xs (inl x) = let y = collect limits f a r xs x in (y.0, inl y.1)
     collect limits (two_ahead T U f g) a r xs (inr (x, e)) = let y = collect limits g a r xs x in (y.0, inr (y.1, e))
+    collect limits (avoid T U f) a r xs (x, e) = let y = collect limits f a r xs x in (y.0, (y.1, e))
 
     -- what the right side of a rule spells, the rule does
     pub spells_body : (limits : Limits) (n : N) (a : Node n) (r xs : List Tok) → SpellsBy (Spells body) limits (body n) a r xs → Spells body limits n a r xs
@@ -231,8 +234,10 @@ module _ {N : Type 0} {Node : N → Type 0} (facts : N → Facts) (body : Bodies
   abbrev Has : {A : Type 0} → Form N Node A → Spelling A
   Has f = SpellsBy (Spells body) unlimited f
 
-  abbrev RulesHave : Type 0
-  RulesHave = (n : N) → Example (Spells body unlimited n) false (facts n).bars
+  -- rules have something, and so has what may not begin with two tokens
+  record Have : Type 1 where
+    rule : (n : N) → Example (Spells body unlimited n) false (facts n).bars
+    avoided : (T U : Kinds) (A : Type 0) (f : Form N Node A) → decided facts (avoid T U f) ≡ true → Example (Has (avoid T U f)) false (bars facts f)
 
   begin_so : {A : Type 0} (f : Form N Node A) → decided facts f ≡ true → (a : A) (r xs : List Tok) → Has f a r xs → Starts (nullable facts f) (begins facts f) xs
   begin_so f d a r xs x = starts facts (Spells body) (spells_starts facts body sure) unlimited f d a r xs x
@@ -243,11 +248,11 @@ module _ {N : Type 0} {Node : N → Type 0} (facts : N → Facts) (body : Bodies
   fair_so : {A : Type 0} (f : Form N Node A) → decided facts f ≡ true → (a : A) (r r' xs : List Tok) → Has f a r xs → Fair (bars facts f) r r' → Has f a r' xs
   fair_so f d a r r' xs x q = form_fair facts body sure unlimited f d a r r' xs x q
 
-  -- an example of a form, of rules' examples or of no rule
-  example : (b : Bool) → (b ≡ true → RulesHave) → (A : Type 0) (f : Form N Node A) → decided facts f ≡ true → (b || simple facts f) ≡ true → Example (Has f) (nullable facts f) (bars facts f)
+  -- an example of a form, of those examples or without them
+  example : (b : Bool) → (b ≡ true → Have) → (A : Type 0) (f : Form N Node A) → decided facts f ≡ true → (b || simple facts f) ≡ true → Example (Has f) (nullable facts f) (bars facts f)
   example b k A (token T g) d e = (g (sample T), sample T ∷ [], λ x. cc, λ r q. (sample T, refl, d, refl))
   example b k A (give a) d e = (a, [], λ x. refl, λ r q. (refl, refl))
-  example true k A (call n) d e = k refl n
+  example true k A (call n) d e = (k refl).rule n
   example false k A (call n) d e = cc
   example b k A (map {A = B} h f) d e = let x = example b k B f d e in (h x.0, x.1, x.2, λ r q. (x.0, refl, x.3 r q))
   example b k A (◌⨾◌ {A = B} {B = C} f g) d e =
@@ -287,8 +292,63 @@ module _ {N : Type 0} {Node : N → Type 0} (facts : N → Facts) (body : Bodies
       let x = example b k A f (of_two_ahead facts T U f g d).left e in
       let others = bars facts f ∪ bars facts g in
       (x.0, x.1, λ z. cc, λ r q. inl (x.3 r (none_left (bars facts f) (bars facts g) r (none_right (if_so (not (long facts g)) U) others r q))))
+  example true k A (avoid T U f) d e = (k refl).avoided T U A f d
+  example false k A (avoid T U f) d e = cc
 
-  rule_example : RulesHave
+  -- the token goes on to something, and not by a token of U
+  abbrev GoesOn : Kinds → {A : Type 0} → Form N Node A → Tok → Type 0
+  GoesOn U {A} f t = (a : A) × (others : List Tok) × (sees U others ≡ false) × ((r : List Tok) → sees (bars facts f) r ≡ false → Has f a r (t ∷ others))
+
+  other_second : (T U : Kinds) (A : Type 0) (f : Form N Node A) → decided facts f ≡ true → parts facts T U f ≡ true → (t : Tok) → is T t ≡ true → GoesOn U f t
+  other_second T U A (map {A = B} h f) d e t i = let x = other_second T U B f d e t i in (h x.0, x.1, x.2, λ r q. (x.0, refl, x.3 r q))
+  other_second T U A (◌⨾◌ {A = B} {B = C} f g) d e t i =
+      let p = of_then facts f g d in
+      let l = both (among T (alone facts f)) (simple facts g && (not (nullable facts g) && apart U (begins facts g))) e in
+      let m = both (simple facts g) (not (nullable facts g) && apart U (begins facts g)) l.1 in
+      let o = both (not (nullable facts g)) (apart U (begins facts g)) m.1 in
+      let some = not_true (nullable facts g) o.0 in
+      let x = one_alone facts (Spells body) B f t (sees_among T (alone facts f) (t ∷ []) l.0 i) in
+      let y = example false (λ z. cc) C g p.right m.0 in
+      let begin = begin_some g p.right some y.0 [] y.1 (y.3 [] refl) in (
+        (x.0, y.0),
+        y.1,
+        sees_other U (begins facts g) y.1 o.1 begin,
+        λ r q.
+            let n = none_left (bars facts g) (if_so (nullable facts g) (bars facts f)) r q in
+            (t ∷ [], y.1, refl, x.1 (y.1 ++ r) (sees_other (bars facts f) (begins facts g) (y.1 ++ r) (or_so (nullable facts g) some p.barred) (sees_more (begins facts g) y.1 r begin)), y.3 r n),
+      )
+    where
+      or_so : (n : Bool) → n ≡ false → (n || apart (bars facts f) (begins facts g)) ≡ true → apart (bars facts f) (begins facts g) ≡ true
+      or_so true z h = cc
+      or_so false z h = h
+  other_second T U A (token V v) d e t i = cc
+  other_second T U A (give b) d e t i = cc
+  other_second T U A (call m) d e t i = cc
+  other_second T U A (choose V f g) d e t i = cc
+  other_second T U A (many V f) d e t i = cc
+  other_second T U A (or_none V f b) d e t i = cc
+  other_second T U A (nest m V f) d e t i = cc
+  other_second T U A (bounded f) d e t i = cc
+  other_second T U A (two_ahead V W f g) d e t i = cc
+  other_second T U A (avoid V W f) d e t i = cc
+
+  -- the same, where the two tokens may not come
+  goes_on_so : (T U : Kinds) (A : Type 0) (f : Form N Node A) → decided facts (avoid T U f) ≡ true → (t : Tok) → is T t ≡ true → (a : A) × (others : List Tok) × ((r : List Tok) → sees (bars facts f) r ≡ false → Has (avoid T U f) a r (t ∷ others))
+  goes_on_so T U A f d t i =
+      let p = of_avoid facts T U f d in
+      let x = other_second T U A f p.each p.others t i in
+      (x.0, x.1, λ r q. (x.3 r q, and_no (is T t) (sees U x.1) x.2))
+    where
+      and_no : (a b : Bool) → b ≡ false → (a && b) ≡ false
+      and_no true b e = e
+      and_no false b e = refl
+
+  avoided_example : (T U : Kinds) (A : Type 0) (f : Form N Node A) → decided facts (avoid T U f) ≡ true → Example (Has (avoid T U f)) false (bars facts f)
+  avoided_example T U A f d =
+      let x = goes_on_so T U A f d (sample T) (of_avoid facts T U f d).example in
+      (x.0, sample T ∷ x.1, λ z. cc, x.2)
+
+  rule_example : (n : N) → Example (Spells body unlimited n) false (facts n).bars
   rule_example n =
       let p = of_fits facts body n (sure n) in
       let x = example false (λ z. cc) (Node n) (body n) p.sure p.example in
@@ -296,7 +356,7 @@ module _ {N : Type 0} {Node : N → Type 0} (facts : N → Facts) (body : Bodies
 
   -- every form has something
   pub some_example : (A : Type 0) (f : Form N Node A) → decided facts f ≡ true → Example (Has f) (nullable facts f) (bars facts f)
-  some_example A f d = example true (λ z. rule_example) A f d refl
+  some_example A f d = example true (λ z. record { rule = rule_example; avoided = avoided_example }) A f d refl
 
   -- something begins with each first token of what has two heads
   with_head : (U : Kinds) (A : Type 0) (f : Form N Node A) → decided facts f ≡ true → second facts U f ≡ true → (t : Tok) → is (begins facts f) t ≡ true
@@ -319,6 +379,7 @@ module _ {N : Type 0} {Node : N → Type 0} (facts : N → Facts) (body : Bodies
   with_head U A (nest m V f) d e t i = cc
   with_head U A (bounded f) d e t i = cc
   with_head U A (two_ahead V W f g) d e t i = cc
+  with_head U A (avoid V W f) d e t i = cc
   with_head U A (_ ⨾ g) d e t i = cc
 
   err_moves : {A : Type 0} (x : Read A) (y : Fault) (r : List Tok) → x ≡ Err (y, r) → length (rest_of x) ≡ length r
@@ -375,6 +436,26 @@ module _ {N : Type 0} {Node : N → Type 0} (facts : N → Facts) (body : Bodies
       go r (t ∷ []) others a c k = one r others a t c k (is T t) refl
       go r (t ∷ u ∷ before) others a c k = (t ∷ u ∷ before, others, a, c, λ r' q. inr (k r' (of_second r' q), sym (ap (sees_two T U) c) ∙ fails))
 
+  -- where the second of two tokens is refused
+  second_refused : (T U : Kinds) (A : Type 0) (f : Form N Node A) → decided facts (avoid T U f) ≡ true → (ts : List Tok) → sees_two T U ts ≡ true → Stuck second_unexpected (Has (avoid T U f)) (bars facts f) ts
+  second_refused T U A f d [] seen = cc
+  second_refused T U A f d (t ∷ ts) seen =
+      let x = goes_on_so T U A f d t (both (is T t) (sees U ts) seen).0 in
+      record { each = λ y r e. (t ∷ [], x.1, x.0, ap (λ (z : Read A). t ∷ rest_of z) e, x.2) }
+
+  -- where another token is refused
+  avoid_stuck : (T U : Kinds) (A : Type 0) (f : Form N Node A) → decided facts (avoid T U f) ≡ true → (ts : List Tok) → sees_two T U ts ≡ false → Stuck (plain f) (Has f) (bars facts f) ts → Stuck (plain f) (Has (avoid T U f)) (bars facts f) ts
+  avoid_stuck T U A f d ts fails s = record { each = λ y r e. let c = s.each y r e in go r c.0 c.1 c.2 c.3 c.4 }
+    where
+      one : (r others : List Tok) (a : A) (t : Tok) → ts ≡ t ∷ r → ((r' : List Tok) → sees (bars facts f) r' ≡ false → Has f a r' (t ∷ others)) → (b : Bool) → is T t ≡ b → Completes (Has (avoid T U f)) (bars facts f) ts r
+      one r others a t c k true i = let x = goes_on_so T U A f d t i in (t ∷ [], x.1, x.0, c, x.2)
+      one r others a t c k false i = (t ∷ [], others, a, c, λ r' q. (k r' q, ap (λ b. b && sees U others) i))
+
+      go : (r before others : List Tok) (a : A) → ts ≡ before ++ r → ((r' : List Tok) → sees (bars facts f) r' ≡ false → Has f a r' (before ++ others)) → Completes (Has (avoid T U f)) (bars facts f) ts r
+      go r [] others a c k = let x = avoided_example T U A f d in ([], x.1, x.0, c, x.3)
+      go r (t ∷ []) others a c k = one r others a t c k (is T t) refl
+      go r (t ∷ u ∷ before) others a c k = (t ∷ u ∷ before, others, a, c, λ r' q. (k r' q, sym (ap (sees_two T U) c) ∙ fails))
+
   module _ (k : ℕ) (rec : (n : N) (ts : List Tok) → length ts < k → Stuck (read body unlimited n) (Spells body unlimited n) (facts n).bars ts) where
     left_ok : {A : Type 0} (f : Form N Node A) → decided facts f ≡ true → (a : A) (us s : List Tok) → plain f us ≡ Ok (a, s) → length s ≤ length us
     left_ok f d a us s e = omega (arith, form_left facts body sure unlimited f d us, ap (λ x. length (rest_of x)) e)
@@ -421,6 +502,7 @@ module _ {N : Type 0} {Node : N → Type 0} (facts : N → Facts) (body : Bodies
         let others = bars facts f ∪ bars facts g in
         if_stuck (sees_two T U) (λ q. stuck_as (stuck b A f o.left (or_here b (guarded facts f) (guarded facts g) e) ts p) (λ us n. none_left (bars facts f) (bars facts g) us (none_right (if_so (not (long facts g)) U) others us n)) (λ a r xs x. inl x))
         (λ q. second_stuck T U A f g d ts q (stuck b A g o.right (or_there b (guarded facts f) (guarded facts g) e) ts p))
+    stuck b A (avoid T U f) d e ts p = if_stuck (sees_two T U) (λ q. second_refused T U A f d ts q) (λ q. avoid_stuck T U A f d ts q (stuck b A f (of_avoid facts T U f d).each e ts p))
 
   read_stuck : (k : ℕ) (n : N) (ts : List Tok) → length ts < k → Stuck (read body unlimited n) (Spells body unlimited n) (facts n).bars ts
   read_stuck zero n ts p = absurd (omega arith)

@@ -3,11 +3,11 @@ use Rattle.std.proofs.Common.{◌≡◌, ◌⊎◌, inl, inr, ℕ, zero, suc, �
 use Rattle.std.proofs.lemmas.Bool.{ltb-true, ltb-false}
 use Rattle.arc_lex.specs.Tokens.{Tok}
 use Rattle.arc_form.specs.Kinds.{Kinds, is}
-use Rattle.arc_form.specs.Reader.{Read, Reader, Fault, misfit, too_deep, bind, ◌>>=◌, ret, unexpected, too_deep_here, sees, sees_two, if_sees, taken, take_one, turns, loop, is_above, nested, goes_over, up_to}
-use Rattle.arc_form.specs.Form.{Limits, unlimited, Form, Bodies, token, give, call, map, ◌⨾◌, choose, many, or_none, nest, bounded, two_ahead, run, read}
+use Rattle.arc_form.specs.Reader.{Read, Reader, Fault, misfit, too_deep, bind, ◌>>=◌, ret, unexpected, too_deep_here, second_unexpected, sees, sees_two, if_sees, taken, take_one, turns, loop, is_above, nested, goes_over, up_to}
+use Rattle.arc_form.specs.Form.{Limits, unlimited, Form, Bodies, token, give, call, map, ◌⨾◌, choose, many, or_none, nest, bounded, two_ahead, avoid, run, read}
 use Rattle.arc_form.specs.Meaning.{AtMost, Spelling, SpellsAll, SpellsBy, Spells}
 use Rattle.arc_form.specs.Places.{Place, Begun, OneTooMany, PassesBy, PassesWithin, Passes}
-use Rattle.arc_form.proofs.Static.{Facts, nullable, guarded, decided, fits, of_then, of_choose, of_many, of_headed, of_bounded, of_two_ahead, of_fits}
+use Rattle.arc_form.proofs.Static.{Facts, nullable, guarded, decided, fits, of_then, of_choose, of_many, of_headed, of_bounded, of_two_ahead, of_avoid, of_fits}
 use Rattle.arc_form.proofs.Local.{rest_of, fault_of}
 use Rattle.arc_form.proofs.FormLocal.{form_front, form_left, read_is, solid}
 use Rattle.arc_form.proofs.FormSound.{Sound, form_sound, at_most}
@@ -46,6 +46,9 @@ tells_token {A} T g P ts = record { each = λ r e. absurd (go ts r e) }
 
 tells_ret : {A : Type 0} {P : Place} {ts : List Tok} (a : A) → Tells (ret a) P ts
 tells_ret a = record { each = λ r e. cc }
+
+tells_second : {A : Type 0} {P : Place} {ts : List Tok} → Tells {A = A} second_unexpected P ts
+tells_second {A} = record { each = λ r e. absurd (not_deep (ap (λ (z : Read A). fault_of z) e)) }
 
 -- in the first of two parts, or in the second one
 abbrev FirstOrSecond : {A : Type 0} → Place → Spelling A → Place → Place
@@ -158,6 +161,7 @@ module _ {N : Type 0} {Node : N → Type 0} (body : Bodies N Node) where
   nowhere P k (bounded f) before r x = x
   nowhere P k (two_ahead T U f g) before r (inl x) = nowhere P k f before r x
   nowhere P k (two_ahead T U f g) before r (inr (x, e)) = nowhere P k g before r x
+  nowhere P k (avoid T U f) before r (x, e) = nowhere P k f before r x
 
   nowhere_within : (h : ℕ) (n : N) (before r : List Tok) → PassesWithin body h unlimited n before r → ⊥
   unfolding PassesWithin
@@ -287,6 +291,10 @@ module _ {N : Type 0} {Node : N → Type 0} (body : Bodies N Node) where
         where
           not_both : sees_two T U ts ≡ false → Tells (run (read body) limits g) (PassesBy body (PassesWithin body h) limits g) ts → Tells (run (read body) limits g) (PassesBy body (PassesWithin body h) limits (two_ahead T U f g)) ts
           not_both q t = record { each = λ r e. let x = t.each r e in (x.0, x.1, inr (x.2, ap (sees_two T U) (sym x.1) ∙ q)) }
+      tells b limits A (avoid T U f) d e ts p = tells_if (sees_two T U) (λ q. tells_second) (λ q. not_both q (tells b limits A f (of_avoid facts T U f d).each e ts p))
+        where
+          not_both : sees_two T U ts ≡ false → Tells (run (read body) limits f) (PassesBy body (PassesWithin body h) limits f) ts → Tells (run (read body) limits f) (PassesBy body (PassesWithin body h) limits (avoid T U f)) ts
+          not_both q t = record { each = λ r e. let x = t.each r e in (x.0, x.1, (x.2, ap (sees_two T U) (sym x.1) ∙ q)) }
 
     read_tells : (k : ℕ) (limits : Limits) (n : N) (ts : List Tok) → length ts < k → Tells (read body limits n) (PassesWithin body k limits n) ts
     unfolding PassesWithin

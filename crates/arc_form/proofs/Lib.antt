@@ -6,6 +6,7 @@ pub mod FormLocal
 pub mod FormSound
 pub mod FormBegins
 pub mod FormStarts
+pub mod FormAlone
 pub mod FormComplete
 pub mod Rows
 pub mod Operators

@@ -3,7 +3,7 @@ use Rattle.std.proofs.Common.{◌≡◌, ℕ, zero, suc, ◌<◌, ◌≤◌, ◌
 use Rattle.std.proofs.lemmas.List.{append_cancel_right}
 use Rattle.arc_lex.specs.Tokens.{Tok}
 use Rattle.arc_form.specs.Kinds.{Kinds, is}
-use Rattle.arc_form.specs.Reader.{Read, Reader, Fault, misfit, too_deep, bind, ◌>>=◌, ret, unexpected, too_deep_here, first, sees, sees_two, if_sees, if_sees_two, take_one, taken, turns, loop, is_above, nested, goes_over, cut, up_to}
+use Rattle.arc_form.specs.Reader.{Read, Reader, Fault, misfit, too_deep, bind, ◌>>=◌, ret, unexpected, too_deep_here, second_unexpected, first, sees, sees_two, if_sees, if_sees_two, take_one, taken, turns, loop, is_above, nested, goes_over, cut, up_to}
 use Rattle.arc_form.proofs.Sets.{sees_alike, two_alike}
 
 -- the tokens that a reader leaves
@@ -93,6 +93,17 @@ local_unexpected = record { each = λ ts few. record { before = []; cut = refl; 
 local_too_deep : {A : Type 0} {S : Type 0} {d k : ℕ} → Local {A = A} S d k too_deep_here too_deep_here
 local_too_deep = record { each = λ ts few. record { before = []; cut = refl; moves = tt; agrees = refl; same = λ so more e. refl } }
 
+pub local_second : {A : Type 0} {S : Type 0} {d k : ℕ} → Local {A = A} S d k second_unexpected second_unexpected
+local_second {A = A} {S = S} {d = d} = record { each = λ ts few. go ts }
+  where
+    none : (more : List Tok) → first more ≡ None → second_unexpected {A = A} more ≡ Err (misfit, more)
+    none [] e = refl
+    none (t ∷ more) e = cc
+
+    go : (ts : List Tok) → StopsAt {A = A} S d (second_unexpected ts) second_unexpected ts
+    go [] = record { before = []; cut = refl; moves = tt; agrees = refl; same = λ so. none }
+    go (t ∷ ts) = record { before = t ∷ []; cut = refl; moves = tt; agrees = refl; same = λ so more e. refl }
+
 pub local_token : {A : Type 0} {S : Type 0} {k : ℕ} (T : Kinds) (g : Tok → A) → Local S 1 k (take_one T g) (take_one T g)
 local_token {A} {S = S} T g = record { each = λ ts few. go ts }
   where
@@ -148,6 +159,10 @@ local_if {A = A} {S = S} {d = d} {f = f} {f' = f'} {g = g} {g' = g'} T l m = rec
 -- a reader takes a token, where one of these is ahead
 abbrev pub Takes : {A : Type 0} → Kinds → Reader A → Type 0
 Takes T f = (ts : List Tok) → sees T ts ≡ true → length (rest_of (f ts)) < length ts
+
+pub takes_second : (A : Type 0) (T : Kinds) → Takes {A = A} T second_unexpected
+takes_second A T [] e = cc
+takes_second A T (t ∷ ts) e = omega arith
 
 -- a choice by the first two tokens, of readers that take the first
 pub local_two : {A : Type 0} {S : Type 0} {d k : ℕ} {f f' g g' : Reader A} (T U : Kinds) → (S → Takes T f') → (S → Takes T g') → Local S d k f f' → Local S d k g g' → Local S d k (if_sees_two T U f g) (if_sees_two T U f' g')

@@ -1,7 +1,7 @@
 -- What is read off a form without any tokens, and the test that each rule of a grammar must pass.
 use Rattle.std.proofs.Common.{◌≡◌, Bool, true, false, not, ◌&&◌, ◌||◌}
 use Rattle.arc_form.specs.Kinds.{Kinds, none, ◌∪◌, is}
-use Rattle.arc_form.specs.Form.{Form, Bodies, token, give, call, map, ◌⨾◌, choose, many, or_none, nest, bounded, two_ahead}
+use Rattle.arc_form.specs.Form.{Form, Bodies, token, give, call, map, ◌⨾◌, choose, many, or_none, nest, bounded, two_ahead, avoid}
 use Rattle.arc_form.proofs.Sets.{among, apart, both, not_true}
 use Rattle.arc_form.proofs.Samples.{sample}
 
@@ -29,6 +29,7 @@ module _ {N : Type 0} {Node : N → Type 0} (facts : N → Facts) where
   nullable (nest d T f) = false
   nullable (bounded f) = false
   nullable (two_ahead T U f g) = false
+  nullable (avoid T U f) = false
 
   abbrev pub begins : {A : Type 0} → Form N Node A → Kinds
   begins (token T g) = T
@@ -42,6 +43,7 @@ module _ {N : Type 0} {Node : N → Type 0} (facts : N → Facts) where
   begins (nest d T f) = begins f
   begins (bounded f) = begins f
   begins (two_ahead T U f g) = begins g
+  begins (avoid T U f) = begins f
 
   abbrev pub goes_on : {A : Type 0} → Form N Node A → Kinds
   goes_on (token T g) = none
@@ -55,6 +57,7 @@ module _ {N : Type 0} {Node : N → Type 0} (facts : N → Facts) where
   goes_on (nest d T f) = goes_on f
   goes_on (bounded f) = goes_on f
   goes_on (two_ahead T U f g) = goes_on f ∪ goes_on g
+  goes_on (avoid T U f) = goes_on f
 
   -- whether it is two tokens at least
   abbrev pub long : {A : Type 0} → Form N Node A → Bool
@@ -69,6 +72,7 @@ module _ {N : Type 0} {Node : N → Type 0} (facts : N → Facts) where
   long (nest d T f) = long f
   long (bounded f) = long f
   long (two_ahead T U f g) = long f && long g
+  long (avoid T U f) = long f
 
   abbrev pub bars : {A : Type 0} → Form N Node A → Kinds
   bars (token T g) = none
@@ -82,6 +86,7 @@ module _ {N : Type 0} {Node : N → Type 0} (facts : N → Facts) where
   bars (nest d T f) = bars f
   bars (bounded f) = bars f
   bars (two_ahead T U f g) = if_so (not (long g)) U ∪ (bars f ∪ bars g)
+  bars (avoid T U f) = bars f
 
   -- whether a token is taken before any rule is read
   abbrev pub guarded : {A : Type 0} → Form N Node A → Bool
@@ -96,6 +101,7 @@ module _ {N : Type 0} {Node : N → Type 0} (facts : N → Facts) where
   guarded (nest d T f) = guarded f
   guarded (bounded f) = guarded f
   guarded (two_ahead T U f g) = guarded f && guarded g
+  guarded (avoid T U f) = guarded f
 
   -- whether it is some token at least, the first one of exactly these kinds
   abbrev pub heads : Kinds → {A : Type 0} → Form N Node A → Bool
@@ -114,12 +120,28 @@ module _ {N : Type 0} {Node : N → Type 0} (facts : N → Facts) where
   simple (nest d T f) = simple f
   simple (bounded f) = simple f
   simple (two_ahead T U f g) = simple f
+  simple (avoid T U f) = false
 
   -- whether the second token is exactly of these kinds, and the first is a token of the form itself
   abbrev pub second : Kinds → {A : Type 0} → Form N Node A → Bool
   second U (map h f) = second U f
   second U (token T g ⨾ f) = heads U f
   second U _ = false
+
+  -- kinds of tokens each of which is the form by itself, where nothing that it bars comes after it
+  abbrev pub alone : {A : Type 0} → Form N Node A → Kinds
+  alone (token T g) = T
+  alone (map h f) = alone f
+  alone (f ⨾ g) = if_so (nullable g) (alone f)
+  alone (choose T f g) = alone f ∪ alone g
+  alone (bounded f) = alone f
+  alone _ = none
+
+  -- whether something goes on with each token of the first kinds, and not by one of the second
+  abbrev pub parts : Kinds → Kinds → {A : Type 0} → Form N Node A → Bool
+  parts T U (map h f) = parts T U f
+  parts T U (f ⨾ g) = among T (alone f) && (simple g && (not (nullable g) && apart U (begins g)))
+  parts T U _ = false
 
   -- whether the tokens ahead decide each choice, and each token has an example
   abbrev pub decided : {A : Type 0} → Form N Node A → Bool
@@ -134,6 +156,7 @@ module _ {N : Type 0} {Node : N → Type 0} (facts : N → Facts) where
   decided (nest d T f) = decided f && heads T f
   decided (bounded f) = decided f && not (nullable f)
   decided (two_ahead T U f g) = (decided f && decided g) && ((heads T f && second U f) && (not (nullable g) && among T (begins g)))
+  decided (avoid T U f) = (decided f && is T (sample T)) && ((not (nullable f) && among T (begins f)) && (long f && parts T U f))
 
   -- the test of a rule
   abbrev pub fits : Bodies N Node → N → Bool
@@ -222,6 +245,23 @@ module _ {N : Type 0} {Node : N → Type 0} (facts : N → Facts) where
       let s = both (heads T f) (second U f) r.0 in
       let n = both (not (nullable g)) (among T (begins g)) r.1 in
       record { left = q.0; right = q.1; head = of_heads T f s.0; second = s.1; some = not_true (nullable g) n.0; taken = n.1 }
+
+  pub record Avoid (T U : Kinds) {A : Type 0} (f : Form N Node A) : Type 1 where
+    pub each : decided f ≡ true
+    pub example : is T (sample T) ≡ true
+    pub some : nullable f ≡ false
+    pub taken : among T (begins f) ≡ true
+    pub further : long f ≡ true
+    pub others : parts T U f ≡ true
+
+  pub of_avoid : (T U : Kinds) {A : Type 0} (f : Form N Node A) → decided (avoid T U f) ≡ true → Avoid T U f
+  of_avoid T U f e =
+      let p = both (decided f && is T (sample T)) ((not (nullable f) && among T (begins f)) && (long f && parts T U f)) e in
+      let q = both (decided f) (is T (sample T)) p.0 in
+      let r = both (not (nullable f) && among T (begins f)) (long f && parts T U f) p.1 in
+      let s = both (not (nullable f)) (among T (begins f)) r.0 in
+      let t = both (long f) (parts T U f) r.1 in
+      record { each = q.0; example = q.1; some = not_true (nullable f) s.0; taken = s.1; further = t.0; others = t.1 }
 
   pub record Fits (body : Bodies N Node) (n : N) : Type 1 where
     pub guard : guarded (body n) ≡ true

@@ -2,7 +2,7 @@
 use Rattle.std.specs.Prelude.{ℕ, zero, suc, List, length, Option, None}
 use Rattle.arc_lex.specs.Tokens.{Tok}
 use Rattle.arc_form.specs.Kinds.{Kinds}
-use Rattle.arc_form.specs.Reader.{Reader, ◌>>=◌, ret, unexpected, if_sees, if_sees_two, take_one, loop, nested, up_to}
+use Rattle.arc_form.specs.Reader.{Reader, ◌>>=◌, ret, unexpected, second_unexpected, if_sees, if_sees_two, take_one, loop, nested, up_to}
 
 -- How deep something nests, and how many tokens a bounded part has, at most. None is no limit.
 pub record Limits : Type 0 where
@@ -37,6 +37,8 @@ pub data Form (N : Type 0) (Node : N → Type 0) : Type 0 → Type 1 where
   bounded : {A : Type 0} → Form N Node A → Form N Node A
   -- the first, where a token of the first kinds is ahead and after it one of the second kinds; otherwise the second
   two_ahead : {A : Type 0} → Kinds → Kinds → Form N Node A → Form N Node A → Form N Node A
+  -- this, which does not begin with a token of the first kinds and after it one of the second kinds
+  avoid : {A : Type 0} → Kinds → Kinds → Form N Node A → Form N Node A
 
 -- readers of all rules
 abbrev pub Rules : (N : Type 0) → (N → Type 0) → Type 0
@@ -54,6 +56,7 @@ run of limits (or_none T f a) = if_sees T (run of limits f) (ret a)
 run of limits (nest d T f) = nested limits.depth d T (run of limits f)
 run of limits (bounded f) = up_to limits.tokens (run of unlimited f)
 run of limits (two_ahead T U f g) = if_sees_two T U (run of limits f) (run of limits g)
+run of limits (avoid T U f) = if_sees_two T U second_unexpected (run of limits f)
 
 -- the right sides of all rules
 abbrev pub Bodies : (N : Type 0) → (N → Type 0) → Type 1

@@ -3,7 +3,7 @@ use Rattle.std.specs.Prelude.{◌≡◌, ◌⊎◌, ◌≤◌, ℕ, zero, suc, L
 use Rattle.arc_lex.specs.Tokens.{Tok}
 use Rattle.arc_form.specs.Kinds.{is}
 use Rattle.arc_form.specs.Reader.{sees, sees_two}
-use Rattle.arc_form.specs.Form.{Limits, unlimited, Form, Bodies, token, give, call, map, ◌⨾◌, choose, many, or_none, nest, bounded, two_ahead}
+use Rattle.arc_form.specs.Form.{Limits, unlimited, Form, Bodies, token, give, call, map, ◌⨾◌, choose, many, or_none, nest, bounded, two_ahead, avoid}
 
 abbrev pub AtMost : Option ℕ → ℕ → Type 0
 AtMost None n = Unit {0}
@@ -30,6 +30,7 @@ SpellsBy of limits (or_none T f b) a rest xs = SpellsBy of limits f a rest xs �
 SpellsBy of limits (nest d T f) a rest xs = AtMost limits.depth d × SpellsBy of limits f a rest xs
 SpellsBy of limits (bounded f) a rest xs = AtMost limits.tokens (length xs) × SpellsBy of unlimited f a rest xs
 SpellsBy of limits (two_ahead T U f g) a rest xs = SpellsBy of limits f a rest xs ⊎ (SpellsBy of limits g a rest xs × (sees_two T U (xs ++ rest) ≡ false))
+SpellsBy of limits (avoid T U f) a rest xs = SpellsBy of limits f a rest xs × (sees_two T U xs ≡ false)
 
 -- what a rule spells by a derivation that is at most so high
 unfoldable pub Within : {N : Type 0} {Node : N → Type 0} → Bodies N Node → ℕ → Limits → (n : N) → Spelling (Node n)

@@ -2,7 +2,7 @@
 use Rattle.std.specs.Prelude.{◌≡◌, ◌⊎◌, ℕ, zero, suc, List, [], ◌∷◌, ◌++◌, length, Option, Some, None, true, false}
 use Rattle.arc_lex.specs.Tokens.{Tok}
 use Rattle.arc_form.specs.Reader.{sees, sees_two, is_above}
-use Rattle.arc_form.specs.Form.{Limits, unlimited, Form, Bodies, token, give, call, map, ◌⨾◌, choose, many, or_none, nest, bounded, two_ahead}
+use Rattle.arc_form.specs.Form.{Limits, unlimited, Form, Bodies, token, give, call, map, ◌⨾◌, choose, many, or_none, nest, bounded, two_ahead, avoid}
 use Rattle.arc_form.specs.Meaning.{AtMost, SpellsAll, SpellsBy, Spells}
 
 -- tokens, and those that come after them: the first of the second ones is meant
@@ -38,6 +38,7 @@ PassesBy body of limits (nest d T f) before rest = (AtMost limits.depth d × Pas
 PassesBy body of limits (bounded f) before rest = OneTooMany body limits.tokens f before rest
 PassesBy body of limits (two_ahead T U f g) before rest = PassesBy body of limits f before rest
     ⊎ (PassesBy body of limits g before rest × (sees_two T U (before ++ rest) ≡ false))
+PassesBy body of limits (avoid T U f) before rest = PassesBy body of limits f before rest × (sees_two T U (before ++ rest) ≡ false)
 
 -- where a rule passes a limit, by a derivation that is at most so high
 unfoldable pub PassesWithin : {N : Type 0} {Node : N → Type 0} → Bodies N Node → ℕ → Limits → N → Place

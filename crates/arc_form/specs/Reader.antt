@@ -66,6 +66,10 @@ sees_second U (t ∷ ts) = sees U ts
 abbrev pub sees_two : Kinds → Kinds → List Tok → Bool
 sees_two T U ts = sees T ts && sees_second U ts
 
+-- refuses the second token
+abbrev pub second_unexpected : {A : Type 0} → Reader A
+second_unexpected = λ ts. Err (misfit, drop 1 ts)
+
 -- a choice by the first token
 abbrev pub if_sees : {A : Type 0} → Kinds → Reader A → Reader A → Reader A
 if_sees T f g = λ ts. if sees T ts then f ts else g ts

@@ -1,5 +1,6 @@
 //! Parts of a list of tokens.
 ghost use Rattle.std.specs.Prelude.{◌≡◌, ◌≤◌, length, take, drop};
+ghost use Rattle.arc_lex.specs.Tokens.{toks};
 
 use arc_lex::token::Token;
 
@@ -21,4 +22,14 @@ pub fn after(tokens: &[Token], taken: usize) -> &[Token]
     ensures { result.now ≡ drop taken tokens.now }
 {
     tokens.split_at(taken).1
+}
+
+/// The tokens after the first one.
+pub fn after_first(tokens: &[Token]) -> &[Token]
+    ensures { toks result.now ≡ drop 1 (toks tokens.now) }
+{
+    match tokens.split_first() {
+        Some((_, rest)) => rest,
+        None => tokens,
+    }
 }

@@ -21,7 +21,7 @@ use Rattle.arc_form.specs.Kinds.{Kinds, ◌∪◌, mark, word, at, name, main, o
 use Rattle.arc_form.specs.Reader.{Reader, ◌>>=◌, ret, from}
 use Rattle.arc_form.specs.Reader as readers
 use Rattle.arc_form.specs.Operators.{Row, marks_at, operator_of, fold}
-use Rattle.arc_form.specs.Form.{Limits, unlimited, Form, Rules, Bodies, token, give, call, map, ◌⨾◌, choose, many, or_none, nest, bounded, two_ahead, run, read}
+use Rattle.arc_form.specs.Form.{Limits, unlimited, Form, Rules, Bodies, token, give, call, map, ◌⨾◌, choose, many, or_none, nest, bounded, two_ahead, avoid, run, read}
 
 -- What is recursive: an expression, a unary one, one whose operators are of a level or tighter, and a statement that is nested
 -- so deep.
@@ -301,8 +301,9 @@ abbrev pub stmts : List StmtTree → StmtTrees
 stmts [] = no_stmts
 stmts (a ∷ others) = and_stmt a (stmts others)
 
+-- an expression and `;` (6.8.3), which does not begin with a name and `*`, since these declare (this project's own choice, since a name may be a class's)
 unfoldable pub simple : Part StmtTree
-simple = map (λ (e, end). Simple e) (full ⨾ the m.Semicolon)
+simple = avoid name (mark m.Star) (map (λ (e, end). Simple e) (full ⨾ the m.Semicolon))
 
 unfoldable pub empty : Part StmtTree
 empty = map Empty (the m.Semicolon)
@@ -330,7 +331,7 @@ if_else d = map (λ (at, (c, (a, b))). conditional at c a b) (key w.If ⨾ test 
 unfoldable pub while_do : ℕ → Part StmtTree
 while_do d = map (λ (at, (c, a)). While at c a) (key w.While ⨾ test ⨾ call (stmt (suc d)))
 
--- a name and `*` declare at the start of an item, and are no expression (this project's own choice, since a name may be a class's)
+-- a declaration, where a name and `*` are ahead, or a statement
 unfoldable pub by_name : ℕ → Part StmtTree
 by_name d = two_ahead name (mark m.Star) objects (call (stmt d))
 

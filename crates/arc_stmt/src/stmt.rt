@@ -12,6 +12,7 @@ use crate::variable::{declaration, objects};
 use arc_ast::tree::{Expr, Stmt, TypeName};
 use arc_expr::full::full;
 use arc_form::fail::{Fail, Read};
+use arc_form::slice::after_first;
 use arc_form::step::{expect, keyword, sees_mark, sees_reference, sees_word};
 use arc_lex::token::{Mark, Token, Word};
 use std::alloc::Global;
@@ -209,12 +210,15 @@ fn empty<'a>(tokens: &'a [Token]) -> Read<'a, Stmt>
     Ok((Stmt::Empty(at), rest))
 }
 
-/// An expression and `;`.
+/// An expression and `;`. What begins with a name and `*` is refused at the `*`: it would be a declaration.
 #[tactic(auto, unfolding(arc_grammar::specs::Grammar::simple))]
 fn simple<'a>(alloc: Global, tokens: &'a [Token]) -> Read<'a, Stmt>
     ensures gives { Gives (λ x. (stmt_tree x.0, toks x.1.now)) result (reads grammar.simple (toks tokens.now)) }
     ensures shorter { IfOk result (λ x. length x.1.now < length tokens.now) }
 {
+    if sees_reference(tokens) {
+        return Err(Fail::Unexpected(after_first(tokens)));
+    }
     let (value, rest) = full(alloc, tokens)?;
     let (_, rest) = expect(Mark::Semicolon, rest)?;
     Ok((Stmt::Expr(value), rest))

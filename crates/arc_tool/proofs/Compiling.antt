@@ -47,7 +47,7 @@ module _ (source : List ℕ) (unit : TranslationUnit) (program : Checked)
     (spelled : Spelled source (unit_tree unit)) (declared : broken (unit_tree unit) ≡ [])
     (checked : broken_unit (unit_tree unit) ≡ []) (source_is : unit_tree program.unit.now ≡ unit_tree unit) (ruled : ownership.broken (unit_tree program.unit.now) ≡ []) where
   abbrev pub accepted : Accepted source
-  accepted = record { tokens = spelled.tokens; tree = unit_tree unit; cut = spelled.cut; spelled = spelled.spelled; declared = declared; checked = checked; owned = subst (λ u. ownership.broken u ≡ []) source_is ruled }
+  accepted = record { tree = unit_tree unit; spelled = spelled; declared = declared; checked = checked; owned = subst (λ u. ownership.broken u ≡ []) source_is ruled }
 
   module _ (owned : Checked) (actions : acting.Program) (means : program_of program ≡ resolved_unit (unit_tree unit)) (same : owned ≡ program)
       (performs : Performs (program_of owned) actions) (exact : IsLowered (program_of owned) actions) where

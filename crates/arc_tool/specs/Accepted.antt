@@ -4,8 +4,8 @@ use Rattle.std.specs.Global.{Global}
 use Rattle.arc_lex.specs.Tokens.{Tok}
 use Rattle.arc_lex.specs.Source.{Tokens}
 use Rattle.arc_ast.specs.Tree.{InterfaceTree, UnitTree}
-use Rattle.arc_parse.specs.Grammar.{SpellsUnit}
-use Rattle.arc_parse.specs.Limits.{these}
+use Rattle.arc_grammar.specs.Grammar.{these}
+use Rattle.arc_parse.specs.Refusal.{SpellsUnit}
 use Rattle.arc_class.specs.ClassRules.{broken}
 use Rattle.arc_check.specs.Rules.{broken_unit}
 use Rattle.arc_check.specs.Resolving.{resolved_unit}
@@ -21,12 +21,10 @@ pub record Spelled (source : List ℕ) (tree : UnitTree) : Type 0 where
   pub cut : Tokens source tokens
   pub spelled : SpellsUnit these tree tokens
 
--- The source has these tokens, which spell this tree within the limits, and the tree breaks no rule.
+-- The source spells this tree, which breaks no rule.
 pub record Accepted (source : List ℕ) : Type 0 where
-  pub tokens : List Tok
   pub tree : UnitTree
-  pub cut : Tokens source tokens
-  pub spelled : SpellsUnit these tree tokens
+  pub spelled : Spelled source tree
   pub declared : broken tree ≡ []
   pub checked : broken_unit tree ≡ []
   pub owned : ownership.broken tree ≡ []

@@ -12,18 +12,18 @@ use Rattle.arc_tool.proofs.compile.translate.Goals as goal
 pub returns-in_err-table-clause-refused : goal.returns-in_err-table-clause-refused
 returns-in_err-table-clause-refused c =
     let p = err_from_is_err_and c.from_residual.result c.from_residual.ensures.1 in
-    rw p.1 (λ source s. in_building c.in_err-table.field-0.0 s.tokens (unit_tree c.args.unit.now) s.cut s.spelled c.in_err-table.ensures.refused p.2)
+    rw p.1 (λ source s. in_building c.in_err-table.field-0.0 (unit_tree c.args.unit.now) s c.in_err-table.ensures.refused p.2)
 
 pub returns-in_err-program-clause-refused : goal.returns-in_err-program-clause-refused
 returns-in_err-program-clause-refused c =
     let p = err_from_is_err_and c.from_residual-in_err-program.result c.from_residual-in_err-program.ensures.1 in
-    rw p.1 (λ source s. in_checking c.in_err-program.field-0.0 s.tokens (unit_tree c.args.unit.now) s.cut s.spelled
+    rw p.1 (λ source s. in_checking c.in_err-program.field-0.0 (unit_tree c.args.unit.now) s
     c.in_ok-table.ensures.unbroken c.in_err-program.ensures.refused p.2)
 
 pub returns-in_err-owned-clause-refused : goal.returns-in_err-owned-clause-refused
 returns-in_err-owned-clause-refused c =
     let p = err_from_is_err_and c.from_residual-in_err-owned.result c.from_residual-in_err-owned.ensures.1 in
-    rw p.1 (λ source s. in_owning c.in_err-owned.field-0.0 s.tokens (unit_tree c.args.unit.now) s.cut s.spelled
+    rw p.1 (λ source s. in_owning c.in_err-owned.field-0.0 (unit_tree c.args.unit.now) s
     c.in_ok-table.ensures.unbroken c.in_ok-program.ensures.unbroken
     (subst (λ u. Refuses (broken u) c.in_err-owned.field-0.0) (ap unit_tree c.in_ok-program.ensures.source) c.in_err-owned.ensures.refused) p.2)
 
