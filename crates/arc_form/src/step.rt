@@ -1,7 +1,8 @@
 //! The steps that every reader is made of. These alone look into a token.
 ghost use Rattle.std.specs.Prelude.{◌≡◌, ◌<◌, length, IfOk};
-ghost use Rattle.arc_lex.specs.Tokens.{toks, same_mark, same_word};
-ghost use Rattle.arc_form.specs.Kinds.{same_at};
+ghost use Rattle.std.specs.Str.{bytes_eq};
+ghost use Rattle.arc_lex.specs.Spellings.{mark_bytes, word_bytes, at_bytes};
+ghost use Rattle.arc_lex.specs.Tokens.{toks};
 ghost use Rattle.arc_form.specs.Kinds as kinds;
 ghost use Rattle.arc_lex.specs.declared.token.Mark.TheVariants as m;
 ghost use Rattle.arc_form.specs.Reader.{Gives, sees, sees_two, take_one, from, named, number};
@@ -10,19 +11,19 @@ use crate::fail::{Fail, Read};
 use arc_lex::token::{AtWord, Mark, Token, TokenKind, Word};
 
 fn same_mark(found: Mark, mark: Mark) -> bool
-    ensures { result ≡ same_mark found mark }
+    ensures { result ≡ bytes_eq (mark_bytes found) (mark_bytes mark) }
 {
     found == mark
 }
 
 fn same_word(found: Word, word: Word) -> bool
-    ensures { result ≡ same_word found word }
+    ensures { result ≡ bytes_eq (word_bytes found) (word_bytes word) }
 {
     found == word
 }
 
 fn same_at(found: AtWord, word: AtWord) -> bool
-    ensures { result ≡ same_at found word }
+    ensures { result ≡ bytes_eq (at_bytes found) (at_bytes word) }
 {
     found == word
 }
