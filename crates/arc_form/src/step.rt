@@ -5,7 +5,7 @@ ghost use Rattle.arc_lex.specs.Spellings.{mark_bytes, word_bytes, at_bytes};
 ghost use Rattle.arc_lex.specs.Tokens.{toks};
 ghost use Rattle.arc_form.specs.Kinds as kinds;
 ghost use Rattle.arc_lex.specs.declared.token.Mark.TheVariants as m;
-ghost use Rattle.arc_form.specs.Reader.{Gives, sees, sees_two, take_one, from, named, number};
+ghost use Rattle.arc_form.specs.Reader.{Gives, sees, sees_two, take_one, from, named};
 
 use crate::fail::{Fail, Read};
 use arc_lex::token::{AtWord, Mark, Token, TokenKind, Word};
@@ -183,27 +183,6 @@ pub fn name<'a>(tokens: &'a [Token]) -> Read<'a, (usize, &'a [u8])>
                 rest,
             ),
         ) => Ok(((span.from, bytes.as_slice()), rest)),
-        _ => Err(Fail::Unexpected(tokens)),
-    }
-}
-
-/// The place and the value of the first token, which is an integer.
-///
-/// `Unexpected` comes with all of the tokens where it is not.
-pub fn integer(tokens: &[Token]) -> Read<'_, (usize, i64)>
-    ensures gives { Gives (λ x. ((x.0.0, x.0.1), toks x.1.now)) result (take_one kinds.integer number (toks tokens.now)) }
-    ensures shorter { IfOk result (λ x. length x.1.now < length tokens.now) }
-{
-    match tokens.split_first() {
-        Some(
-            (
-                Token {
-                    kind: TokenKind::Integer(value),
-                    span,
-                },
-                rest,
-            ),
-        ) => Ok(((span.from, *value), rest)),
         _ => Err(Fail::Unexpected(tokens)),
     }
 }
