@@ -1,57 +1,55 @@
 -- What is read of all tokens is what they spell, and what is refused is spelled by nothing.
-use Rattle.std.proofs.Common.{◌≡◌, suc, List, ◌++◌, length, append-nil, Ok, Err, refl, sym, ap, subst, ◌∙◌, arith}
-use Rattle.std.proofs.lemmas.List.{append_cancel_right}
+use Rattle.std.proofs.Common.{◌≡◌, List, ◌++◌, Ok, Err, refl, sym, ap, ◌∙◌, arith}
 use Rattle.arc_lex.specs.Tokens.{Tok}
+use Rattle.arc_form.specs.Form.{unlimited}
+use Rattle.arc_form.specs.Reader.{Fault, misfit, too_deep}
+use Rattle.arc_form.specs.Whole.{read_whole}
+use Rattle.arc_form.proofs.FormWhole.{whole_within, whole_spelled, whole_alone, whole_accepted, whole_misfit, whole_too_deep}
+use Rattle.arc_form.proofs.FormAnswers.{Positive, whole_passes}
+use Rattle.arc_form.specs.Places.{Passes}
+use Rattle.arc_form.specs.Reader.{Read}
+use Rattle.arc_form.proofs.Local.{rest_of, fault_of}
 use Rattle.arc_ast.specs.Tree.{UnitTree}
-use Rattle.arc_parse.specs.Reader.{Read, Fault, misfit, bind, ret, first}
-use Rattle.arc_parse.specs.Limits.{Limits, unlimited}
-use Rattle.arc_parse.specs.Grammar.{TopTree, SpellsTops, SpellsUnit, unit_of}
-use Rattle.arc_parse.specs.UnitRules.{tops, read, unit}
-use Rattle.arc_parse.specs.Refusal.{FitsNone, place_of}
-use Rattle.arc_parse.proofs.Local.{StopsAt, rest_of, fault_of}
-use Rattle.arc_parse.proofs.Sound.{ok_is}
-use Rattle.arc_parse.proofs.UnitLocal.{unit_local}
-use Rattle.arc_parse.proofs.UnitSound.{read_sound}
-use Rattle.arc_parse.proofs.UnitComplete.{complete_unit}
-use Rattle.arc_parse.proofs.UnitViable.{unit_begins}
+use Rattle.arc_grammar.specs.Grammar.{body, unit, these}
+use Rattle.arc_parse.specs.Refusal.{SpellsUnit, FitsNoneAt, TooDeepAt, place_of}
+use Rattle.arc_grammar.proofs.Fits.{facts, sure, sure_unit}
+
+positive : Positive these
+positive n e = let most : 1000 ≡ n = cc in omega (arith, most)
+
+not_deep : misfit ≡ too_deep → ⊥
+not_deep e = cc
 
 ok_not_err : {x : UnitTree × List Tok} {e : Fault × List Tok} {y : Read UnitTree} → y ≡ Ok x → y ≡ Err e → ⊥
 ok_not_err p q = cc
 
-pub unit_sound : (limits : Limits) (ts : List Tok) (u : UnitTree) (r : List Tok) → unit limits ts ≡ Ok (u, r) → SpellsUnit limits u ts
-unit_sound limits ts u r e = go (read limits tops ts) refl e
-  where
-    go : (x : Read (List TopTree)) → read limits tops ts ≡ x → bind x (λ all. ret (unit_of all)) ≡ Ok (u, r) → SpellsUnit limits u ts
-    go (Ok x) q h =
-        let p = (read_sound limits tops).each ts x.0 x.1 q in
-        (x.0, sym (ok_is h).0, subst (SpellsTops limits x.0) (sym (p.1 ∙ ap (λ v. p.0 ++ v) p.2.1 ∙ append-nil p.0)) p.2.0)
-    go (Err x) q h = cc
+module _ (ts : List Tok) where
+  pub within : (u : UnitTree) (r : List Tok) → read_whole body these unit ts ≡ Ok (u, r) → SpellsUnit these u ts
+  within u r e = whole_within facts body sure UnitTree unit sure_unit these ts u r e
 
--- no list spells two units
-pub unit_alone : (limits : Limits) (ts : List Tok) (u other : UnitTree) (r : List Tok) → unit limits ts ≡ Ok (u, r) → SpellsUnit limits other ts → other ≡ u
-unit_alone limits ts u other r e h = (ok_is (sym (complete_unit limits other ts h) ∙ e)).0
+  pub spelled : (u : UnitTree) (r : List Tok) → read_whole body these unit ts ≡ Ok (u, r) → SpellsUnit unlimited u ts
+  spelled u r e = whole_spelled facts body sure UnitTree unit sure_unit these ts u r e
 
--- what a unit spells within the limits is not refused
-pub unit_accepted : (limits : Limits) (ts : List Tok) (u : UnitTree) (e : Fault × List Tok) → unit limits ts ≡ Err e → SpellsUnit limits u ts → ⊥
-unit_accepted limits ts u e r h = ok_not_err (complete_unit limits u ts h) r
+  pub alone : (u : UnitTree) (r : List Tok) → read_whole body these unit ts ≡ Ok (u, r) → (other : UnitTree) → SpellsUnit unlimited other ts → other ≡ u
+  alone u r e other x = whole_alone facts body sure UnitTree unit sure_unit these ts u other r e x
 
-pub unit_refuses : (ts rest : List Tok) → unit unlimited ts ≡ Err (misfit, rest) → FitsNone ts (place_of ts rest)
-unit_refuses ts rest whole = go (unit unlimited ts) whole ((unit_local (suc (length ts))).each ts (omega arith))
-  where
-    go : (x : Read UnitTree) → x ≡ Err (misfit, rest) → StopsAt (Unit {0}) 0 x (unit unlimited) ts → FitsNone ts (place_of ts rest)
-    go (Ok x) e s = cc
-    go (Err r) e s =
-        let same : r.1 ≡ rest = ap rest_of e in
-        let why : r.0 ≡ misfit = ap fault_of e in
-        let cut : ts ≡ s.before ++ rest = s.cut ∙ ap (λ u. s.before ++ u) same in
-        let begun = unit_begins ts misfit rest whole in
-        let as_begun : begun.0 ≡ s.before = append_cancel_right begun.0 s.before rest (sym begun.3 ∙ cut) in (
-          s.before,
-          rest,
-          cut,
-          refl,
-          (begun.1, begun.2, subst (λ v. SpellsUnit unlimited begun.2 (v ++ begun.1)) as_begun begun.4),
-          λ others u f h.
-              let no : unit unlimited (s.before ++ others) ≡ Err (misfit, others) = s.same tt others (f ∙ ap first (sym same)) ∙ ap (λ y. Err (y, others)) why in
-              ok_not_err (complete_unit unlimited u (s.before ++ others) h) no,
-        )
+  pub accepted : (y : Fault × List Tok) → read_whole body these unit ts ≡ Err y → (u : UnitTree) → SpellsUnit these u ts → ⊥
+  accepted y e u x = whole_accepted facts body sure UnitTree unit sure_unit these ts u y e x
+
+  pub refused : (rest : List Tok) → read_whole body these unit ts ≡ Err (misfit, rest) → FitsNoneAt ts (place_of ts rest)
+  refused rest e = let p = whole_misfit facts body sure UnitTree unit sure_unit these ts rest e in (p.0, rest, p.1, refl, p.2)
+
+  pub too_deep_at : (rest : List Tok) → read_whole body these unit ts ≡ Err (too_deep, rest) → TooDeepAt ts (place_of ts rest)
+  too_deep_at rest e = let p = whole_too_deep facts body sure UnitTree unit sure_unit these ts rest e in (p.0, rest, p.1, refl, p.2, p.3)
+
+  passes : (before rest : List Tok) → ts ≡ before ++ rest → Passes body these unit before rest → read_whole body these unit ts ≡ Err (too_deep, rest)
+  passes before rest c x = ap (read_whole body these unit) c ∙ whole_passes facts body sure these positive UnitTree unit sure_unit before rest x
+
+  pub kept : (u : UnitTree) (r : List Tok) → read_whole body these unit ts ≡ Ok (u, r) → (before rest : List Tok) → ts ≡ before ++ rest → Passes body these unit before rest → ⊥
+  kept u r e before rest c x = ok_not_err e (passes before rest c x)
+
+  pub not_misfit : (rest : List Tok) → read_whole body these unit ts ≡ Err (misfit, rest) → (before r : List Tok) → ts ≡ before ++ r → Passes body these unit before r → ⊥
+  not_misfit rest e before r c x = not_deep (ap (λ (z : Read UnitTree). fault_of z) (sym e ∙ passes before r c x))
+
+  pub same_place : (rest : List Tok) → read_whole body these unit ts ≡ Err (too_deep, rest) → (before r : List Tok) → ts ≡ before ++ r → Passes body these unit before r → rest ≡ r
+  same_place rest e before r c x = ap (λ (z : Read UnitTree). rest_of z) (sym e ∙ passes before r c x)

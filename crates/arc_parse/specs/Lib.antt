@@ -1,9 +1,2 @@
-pub mod Language
-pub mod Reader
-pub mod Limits
-pub mod Grammar
-pub mod ExprRules
-pub mod UnitRules
-pub mod TooDeep
 pub mod Refusal
 pub mod private

@@ -2,19 +2,19 @@
 ghost use Rattle.std.specs.Prelude.{◌≡◌, IfOk, IfErr, Err};
 ghost use Rattle.arc_lex.specs.Tokens.{toks};
 ghost use Rattle.arc_ast.specs.Tree.{UnitTree, unit_tree};
-ghost use Rattle.arc_parse.specs.Grammar.{SpellsUnit};
-ghost use Rattle.arc_parse.specs.Limits.{unlimited, these};
-ghost use Rattle.arc_parse.specs.Refusal.{IsRefused, place_of, end_of};
+ghost use Rattle.arc_form.specs.Form.{unlimited};
+ghost use Rattle.arc_grammar.specs.Grammar.{these};
+ghost use Rattle.arc_parse.specs.Refusal.{SpellsUnit, IsRefused, PassesNowhere, TellsLimit, place_of, end_of};
 ghost use Rattle.arc_fault.specs.declared.parse.ParseFault.TheVariants.{Memory};
 
-use crate::fail::Fail;
 use crate::source::unit;
 use arc_ast::tree::TranslationUnit;
 use arc_fault::parse::ParseFault;
+use arc_form::fail::Fail;
 use arc_lex::token::Token;
 use std::alloc::Global;
 
-/// The byte behind the last token, or 0.
+/// The byte after the last token, or 0.
 fn end_of(all: &[Token]) -> usize
     ensures { result ≡ end_of (toks all.now) }
 {
@@ -25,7 +25,7 @@ fn end_of(all: &[Token]) -> usize
     end
 }
 
-/// The first byte of the rest, or behind the end of all tokens where there is no rest.
+/// The first byte of the rest, or after the end of all tokens where there is no rest.
 fn place_of(all: &[Token], rest: &[Token]) -> usize
     ensures { result ≡ place_of (toks all.now) (toks rest.now) }
 {
@@ -37,15 +37,17 @@ fn place_of(all: &[Token], rest: &[Token]) -> usize
 
 /// The tree that the tokens spell.
 ///
-/// `Unexpected` comes at the first byte of a token with which no unit can go on behind the tokens before it, or behind the
-/// last token where a unit is not whole; `TooDeep` at a statement that is nested more than 200 deep, or at the token behind
+/// `Unexpected` comes at the first byte of a token with which no unit can go on after the tokens before it, or after the
+/// last token where a unit is not whole; `TooDeep` at a statement that is nested more than 200 deep, or at the token after
 /// the first 1,000 of an expression; `Memory` where the tree does not fit.
 pub fn parse(alloc: Global, tokens: &[Token]) -> Result<TranslationUnit, ParseFault>
     ensures spelled { IfOk result (λ u. SpellsUnit unlimited (unit_tree u) (toks tokens.now)) }
     ensures within { IfOk result (λ u. SpellsUnit these (unit_tree u) (toks tokens.now)) }
     ensures alone { IfOk result (λ u. (other : UnitTree) → SpellsUnit unlimited other (toks tokens.now) → other ≡ unit_tree u) }
+    ensures kept { IfOk result (λ u. PassesNowhere (toks tokens.now)) }
     ensures refused { IfErr result (λ f. IsRefused (toks tokens.now) f) }
     ensures accepted { IfErr result (λ f. (u : UnitTree) → SpellsUnit these u (toks tokens.now) → f ≡ Memory) }
+    ensures told { IfErr result (λ f. TellsLimit (toks tokens.now) f) }
 {
     match unit(alloc, tokens) {
         Ok((unit, _rest)) => Ok(unit),

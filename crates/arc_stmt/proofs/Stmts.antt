@@ -14,7 +14,7 @@ use Rattle.arc_ast.specs.Tree as tree
 use Rattle.arc_ast.proofs.Trees as trees
 use Rattle.arc_grammar.specs.Grammar.{stmts, reads, rules, these, stmt, test, otherwise, if_else, conditional, items, block}
 
-stmts_all : (l : List Stmt) → stmts (all stmt_tree l) ≡ stmt_trees l
+pub stmts_all : (l : List Stmt) → stmts (all stmt_tree l) ≡ stmt_trees l
 stmts_all [] = refl
 stmts_all (a ∷ l) = ap (and_stmt (stmt_tree a)) (stmts_all l)
 

@@ -166,7 +166,7 @@ pub fn block<'a>(alloc: Global, depth: usize, tokens: &'a [Token]) -> Read<'a, S
 
 /// The items of a block, each a declaration or a statement.
 #[cycle(stmts)]
-fn items<'a>(alloc: Global, depth: usize, tokens: &'a [Token]) -> Read<'a, Vec<Stmt>>
+pub fn items<'a>(alloc: Global, depth: usize, tokens: &'a [Token]) -> Read<'a, Vec<Stmt>>
     requires { depth ≤ 201 }
     ensures gives { Gives (λ x. (all stmt_tree x.0.items, toks x.1.now)) result (reads (grammar.items depth) (toks tokens.now)) }
     ensures shorter { IfOk result (λ x. length x.1.now ≤ length tokens.now) }

@@ -1,7 +1,8 @@
 use Rattle.std.proofs.Common.{◌≡◌, [], ◌∷◌, ◌++◌, sym, ap, ◌∙◌}
 use Rattle.arc_ast.specs.Tree.{unit_tree, function_tree, function_trees, interface_tree, interface_trees, implementation_tree, implementation_trees}
-use Rattle.arc_parse.specs.private.Views.{top_tree, and_top}
-use Rattle.arc_parse.proofs.ClassRows.{made, functions_push, interfaces_push, implementations_push}
+use Rattle.arc_parse.specs.private.Views.{and_top}
+use Rattle.arc_top.specs.Tops.{top_tree}
+use Rattle.arc_parse.proofs.Tops.{made, functions_push, interfaces_push, implementations_push}
 use Rattle.arc_parse.proofs.source.keep.Goals as goal
 
 pub returns-in_ok-push-in-Function : goal.returns-in_ok-push-in-Function

@@ -1,0 +1,63 @@
+-- What a unit has: the loop that reads it, and the lists of each kind.
+use Rattle.std.proofs.Common.{◌≡◌, ℕ, List, [], ◌∷◌, ◌++◌, append_assoc, append-nil, Ok, Err, refl, sym, ap, ◌∙◌}
+use Rattle.arc_lex.specs.Tokens.{Tok}
+use Rattle.arc_ast.specs.declared.tree.Function.{Function}
+use Rattle.arc_ast.specs.declared.tree.Interface.{Interface}
+use Rattle.arc_ast.specs.declared.tree.Implementation.{Implementation}
+use Rattle.arc_ast.specs.Tree.{FunctionTree, InterfaceTree, ImplementationTree, UnitTree, function_tree, function_trees, interface_tree, interface_trees, implementation_tree, implementation_trees}
+use Rattle.arc_form.specs.Operators.{fold}
+use Rattle.arc_form.specs.Reader.{Read, Reader, bind, ret}
+use Rattle.arc_form.proofs.Local.{Local}
+use Rattle.arc_form.proofs.FormLocal.{solid, form_front}
+use Rattle.arc_form.proofs.Static.{nullable, of_many}
+use Rattle.arc_grammar.specs.Grammar.{TopTree, OfNames, OfFunction, OfInterface, OfImplementation, functions_of, interfaces_of, implementations_of, these, reads, body, begins_top, unit}
+use Rattle.arc_grammar.specs.Grammar as grammar
+use Rattle.arc_grammar.proofs.Fits.{facts, sure, sure_unit}
+use Rattle.arc_top.specs.Joining.{joining}
+use Rattle.arc_parse.specs.private.Views.{and_top}
+
+pub top_front : (j : ℕ) → Local ⊥ 1 j (reads grammar.top) (reads grammar.top)
+unfolding unit grammar.tops
+top_front j =
+    let p = of_many facts begins_top grammar.top sure_unit in
+    solid (nullable facts grammar.top) p.head.some (form_front facts body sure these grammar.top p.each j)
+
+-- a unit, and after it all that is read
+abbrev pub tops_on : UnitTree → Reader UnitTree
+tops_on = joining begins_top (reads grammar.top) and_top
+
+-- a unit of these
+abbrev pub made : List FunctionTree → List InterfaceTree → List ImplementationTree → UnitTree
+made f i j = record { functions = f; interfaces = i; implementations = j }
+
+tops_fold : (u : UnitTree) (all : List TopTree) → fold and_top u all ≡ made (u.functions ++ functions_of all) (u.interfaces ++ interfaces_of all) (u.implementations ++ implementations_of all)
+tops_fold u [] = sym (ap (λ v. made v (u.interfaces ++ []) (u.implementations ++ [])) (append-nil u.functions) ∙ ap (λ v. made u.functions v (u.implementations ++ [])) (append-nil u.interfaces)
+    ∙ ap (λ v. made u.functions u.interfaces v) (append-nil u.implementations))
+tops_fold u (OfNames ∷ others) = tops_fold u others
+tops_fold u (OfFunction f ∷ others) = tops_fold (and_top u (OfFunction f)) others ∙ ap (λ v. made v (u.interfaces ++ interfaces_of others) (u.implementations ++ implementations_of others)) (append_assoc u.functions (f ∷ []) (functions_of others))
+tops_fold u (OfInterface i ∷ others) = tops_fold (and_top u (OfInterface i)) others ∙ ap (λ v. made (u.functions ++ functions_of others) v (u.implementations ++ implementations_of others)) (append_assoc u.interfaces (i ∷ []) (interfaces_of others))
+tops_fold u (OfImplementation i ∷ others) = tops_fold (and_top u (OfImplementation i)) others ∙ ap (λ v. made (u.functions ++ functions_of others) (u.interfaces ++ interfaces_of others) v) (append_assoc u.implementations (i ∷ []) (implementations_of others))
+
+pub tops_start : (ts : List Tok) → reads unit ts ≡ tops_on (made [] [] []) ts
+unfolding unit grammar.tops
+tops_start ts = go (reads grammar.tops ts)
+  where
+    go : (x : Read (List TopTree)) → bind x (λ all. ret (made (functions_of all) (interfaces_of all) (implementations_of all))) ≡ bind x (λ all. ret (fold and_top (made [] [] []) all))
+    go (Ok x) = ap (λ v. Ok (v, x.1)) (sym (tops_fold (made [] [] []) x.0))
+    go (Err x) = refl
+
+-- a unit of nothing
+pub nothing_yet : (fs : List Function) (is : List Interface) (js : List Implementation) → fs ≡ [] → is ≡ [] → js ≡ [] → made (function_trees fs) (interface_trees is) (implementation_trees js) ≡ made [] [] []
+nothing_yet fs is js p q r = rw (p, q, r) refl
+
+pub functions_push : (all : List Function) (a : Function) → function_trees (all ++ a ∷ []) ≡ function_trees all ++ function_tree a ∷ []
+functions_push [] a = refl
+functions_push (b ∷ all) a = ap (λ v. function_tree b ∷ v) (functions_push all a)
+
+pub interfaces_push : (all : List Interface) (a : Interface) → interface_trees (all ++ a ∷ []) ≡ interface_trees all ++ interface_tree a ∷ []
+interfaces_push [] a = refl
+interfaces_push (b ∷ all) a = ap (λ v. interface_tree b ∷ v) (interfaces_push all a)
+
+pub implementations_push : (all : List Implementation) (a : Implementation) → implementation_trees (all ++ a ∷ []) ≡ implementation_trees all ++ implementation_tree a ∷ []
+implementations_push [] a = refl
+implementations_push (b ∷ all) a = ap (λ v. implementation_tree b ∷ v) (implementations_push all a)

@@ -1,0 +1,14 @@
+use Rattle.std.proofs.Common.{◌≡◌, length}
+use Rattle.arc_lex.specs.Tokens.{toks}
+use Rattle.arc_ast.specs.Tree.{unit_tree}
+use Rattle.arc_grammar.specs.Grammar.{reads}
+use Rattle.arc_grammar.specs.Grammar as grammar
+use Rattle.arc_parse.proofs.Tops.{tops_on}
+use Rattle.arc_parse.proofs.source.tops.Given as goal
+
+-- what there is so far and what is to come are all
+abbrev pub invariant-tops : goal.invariant-tops
+invariant-tops l = reads grammar.unit (toks l.tokens) ≡ tops_on (unit_tree l.all) (toks l.rest)
+
+abbrev pub decreases-tops : goal.decreases-tops
+decreases-tops l = length l.rest

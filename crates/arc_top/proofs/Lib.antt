@@ -1,0 +1,5 @@
+pub mod Trees
+pub mod Rests
+pub mod Typed
+pub mod Joining
+pub mod Fields

@@ -1,0 +1,48 @@
+-- What functions promise that add fields to those of a class, and that skip names.
+use Rattle.std.specs.Prelude.{ℕ, List, [], ◌∷◌, ◌++◌}
+use Rattle.arc_lex.specs.declared.token.Mark.TheVariants as m
+use Rattle.arc_lex.specs.declared.token.Word.TheVariants as w
+use Rattle.arc_ast.specs.declared.tree.Visibility.{Visibility}
+use Rattle.arc_ast.specs.declared.tree.Field.{Field}
+use Rattle.arc_ast.specs.Tree.{FieldTree}
+use Rattle.arc_form.specs.Kinds.{Kinds, ◌∪◌, mark, word, name}
+use Rattle.arc_form.specs.Operators.{fold}
+use Rattle.arc_form.specs.Reader.{Reader, ◌>>=◌, ret, take_one, from, named}
+use Rattle.arc_grammar.specs.Grammar.{FieldGroup, OfWord, OfInts, reads, next_name, group, begins_visibility}
+use Rattle.arc_top.specs.Joining.{joining}
+
+-- what a group of fields begins with
+abbrev pub begins_group : Kinds
+begins_group = word w.Int ∪ begins_visibility
+
+-- a field without where it lies in memory
+abbrev pub field_tree : Field → FieldTree
+field_tree f = record { at = f.at; name = f.name.items; visibility = f.visibility }
+
+-- fields, and after them one of this name that is visible so
+abbrev pub add_field : Visibility → List FieldTree → ℕ × List ℕ → List FieldTree
+add_field v made n = made ++ record { at = n.0; name = n.1; visibility = v } ∷ []
+
+-- how fields are visible after a group, and the fields up to its end
+abbrev pub add_group : Visibility × List FieldTree → FieldGroup → Visibility × List FieldTree
+add_group s (OfWord v) = (v, s.1)
+add_group s (OfInts names) = (s.0, fold (add_field s.0) s.1 names)
+
+-- these fields and further ones of one `int`
+abbrev pub names_on : Visibility → List FieldTree → Reader (List FieldTree)
+names_on v = joining (mark m.Comma) (reads next_name) (add_field v)
+
+-- these fields, and those of `int`, one name or more and `;`
+abbrev pub ints_on : Visibility → List FieldTree → Reader (List FieldTree)
+ints_on v made = take_one (word w.Int) from >>= (λ int. take_one name named >>= (λ n. names_on v (add_field v made n) >>= (λ all. take_one (mark m.Semicolon) from >>= (λ end. ret all))))
+
+-- these fields and those of a group
+abbrev pub group_on : Visibility × List FieldTree → Reader (Visibility × List FieldTree)
+group_on s = reads group >>= (λ g. ret (add_group s g))
+
+abbrev pub skip : Unit {0} → ℕ × List ℕ → Unit {0}
+skip u n = tt
+
+-- names that aren't kept, each after a comma
+abbrev pub names_skipped : Reader (Unit {0})
+names_skipped = joining (mark m.Comma) (reads next_name) skip tt

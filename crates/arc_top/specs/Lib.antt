@@ -1,0 +1,4 @@
+pub mod Signatures
+pub mod Joining
+pub mod Fields
+pub mod Tops

@@ -1,0 +1,34 @@
+-- What functions promise that read a part of a function's or a method's signature.
+use Rattle.std.specs.Prelude.{ℕ, List, ◌++◌, Bool, true, false, bytes_eq}
+use Rattle.arc_lex.specs.declared.token.Mark.TheVariants as m
+use Rattle.arc_ast.specs.declared.tree.Parameter.{Parameter}
+use Rattle.arc_ast.specs.Tree.{ParameterTree, ParametersTree}
+use Rattle.arc_form.specs.Kinds.{main_bytes, name}
+use Rattle.arc_form.specs.Form.{map, ◌⨾◌, many}
+use Rattle.arc_form.specs.Reader.{Reader, ◌>>=◌, ret}
+use Rattle.arc_grammar.specs.Grammar.{Part, Typed, the, reads, parameters, parameters_of_main, next_typed, selector_of, seconds}
+
+-- a parameter without where it lies in memory
+abbrev pub parameter_tree : Parameter → ParameterTree
+parameter_tree p = record { at = p.at; name = p.name.items }
+
+-- what reads a rest that makes a value of one that is there
+abbrev pub reads_after : {A B : Type 0} → Part (A → B) → A → Reader B
+reads_after part a = reads part >>= (λ make. ret (make a))
+
+-- what `main` takes, or another function (C99, section 5.1.2.2.1)
+abbrev pub parameters_if_main : Bool → Part ParametersTree
+parameters_if_main true = parameters_of_main
+parameters_if_main false = parameters
+
+-- what a function of this name takes
+abbrev pub parameters_to : List ℕ → Part ParametersTree
+parameters_to called = parameters_if_main (bytes_eq called main_bytes)
+
+-- the same in parentheses
+unfoldable pub enclosed : List ℕ → Part ParametersTree
+enclosed called = map (λ (start, (ps, end)). ps) (the m.OpenParen ⨾ parameters_to called ⨾ the m.CloseParen)
+
+-- further parts of a selector with their parameters, after those that are there
+unfoldable pub more_typed : Part (Typed → Typed)
+more_typed = map (λ others s. (s.0 ++ selector_of others, s.1 ++ seconds others)) (many name next_typed)

@@ -1,0 +1,103 @@
+//! Reads classes.
+ghost use Rattle.std.specs.Prelude.{◌<◌, ◌≤◌, length, IfOk};
+ghost use Rattle.arc_lex.specs.Tokens.{toks};
+ghost use Rattle.arc_ast.specs.Tree.{interface_tree, implementation_tree};
+ghost use Rattle.arc_form.specs.Kinds as kinds;
+ghost use Rattle.arc_form.specs.Reader.{Gives, take_one, from};
+ghost use Rattle.arc_grammar.specs.Grammar.{reads};
+ghost use Rattle.arc_grammar.specs.Grammar as grammar;
+ghost use Rattle.arc_top.specs.Fields.{names_skipped};
+
+use crate::field::fields;
+use crate::method::{method_heads, methods};
+use crate::name::next_name;
+use arc_ast::tree::{Implementation, Interface, Visibility};
+use arc_form::fail::{Fail, Read};
+use arc_form::step::{expect, name, sees_at, sees_mark};
+use arc_lex::token::{AtWord, Mark, Token};
+use std::alloc::Global;
+
+/// The place of the first token, which is this word with `@` before it.
+fn at_word(word: AtWord, tokens: &[Token]) -> Read<'_, usize>
+    ensures gives { Gives (λ x. (x.0, toks x.1.now)) result (take_one (kinds.at word) from (toks tokens.now)) }
+    ensures shorter { IfOk result (λ x. length x.1.now < length tokens.now) }
+{
+    match tokens.split_first() {
+        Some((token, rest)) if sees_at(word, tokens) => Ok((token.span.from, rest)),
+        _ => Err(Fail::Unexpected(tokens)),
+    }
+}
+
+/// `@interface`, the class's name, its superclass's, the fields, the methods and `@end`
+#[tactic(auto, unfolding(arc_grammar::specs::Grammar::interface))]
+pub fn interface<'a>(alloc: Global, tokens: &'a [Token]) -> Read<'a, Interface>
+    ensures gives { Gives (λ x. (interface_tree x.0, toks x.1.now)) result (reads grammar.interface (toks tokens.now)) }
+    ensures shorter { IfOk result (λ x. length x.1.now < length tokens.now) }
+{
+    let (_, rest) = at_word(AtWord::Interface, tokens)?;
+    let ((at, called), rest) = name(rest)?;
+    let (_, rest) = expect(Mark::Colon, rest)?;
+    let ((superclass_at, superclass), rest) = name(rest)?;
+    let (fields, rest) = fields(alloc, Visibility::Protected, rest)?;
+    let (methods, rest) = method_heads(alloc, rest)?;
+    let (_, rest) = at_word(AtWord::End, rest)?;
+    Ok((
+        Interface {
+            at,
+            name: Vec::from_slice(alloc, called)?,
+            superclass_at,
+            superclass: Vec::from_slice(alloc, superclass)?,
+            fields,
+            methods,
+        },
+        rest,
+    ))
+}
+
+/// `@implementation`, the class's name, further fields, the methods and `@end`
+#[tactic(auto, unfolding(arc_grammar::specs::Grammar::implementation))]
+pub fn implementation<'a>(alloc: Global, tokens: &'a [Token]) -> Read<'a, Implementation>
+    ensures gives { Gives (λ x. (implementation_tree x.0, toks x.1.now)) result (reads grammar.implementation (toks tokens.now)) }
+    ensures shorter { IfOk result (λ x. length x.1.now < length tokens.now) }
+{
+    let (_, rest) = at_word(AtWord::Implementation, tokens)?;
+    let ((at, called), rest) = name(rest)?;
+    let (fields, rest) = fields(alloc, Visibility::Private, rest)?;
+    let (methods, rest) = methods(alloc, rest)?;
+    let (_, rest) = at_word(AtWord::End, rest)?;
+    Ok((
+        Implementation {
+            at,
+            name: Vec::from_slice(alloc, called)?,
+            fields,
+            methods,
+        },
+        rest,
+    ))
+}
+
+/// `@class`, names of classes and `;`
+#[tactic(auto, using(crate::proofs::Fields::read_class_names))]
+pub fn class_names(tokens: &[Token]) -> Read<'_, ()>
+    ensures gives { Gives (λ x. (x.0, toks x.1.now)) result (reads grammar.class_names (toks tokens.now)) }
+    ensures shorter { IfOk result (λ x. length x.1.now < length tokens.now) }
+{
+    let (_, rest) = at_word(AtWord::Class, tokens)?;
+    let (_, rest) = name(rest)?;
+    let (_, rest) = more_names(rest)?;
+    let (_, rest) = expect(Mark::Semicolon, rest)?;
+    Ok(((), rest))
+}
+
+/// Further names, each after a comma.
+fn more_names(tokens: &[Token]) -> Read<'_, ()>
+    ensures gives { Gives (λ x. (x.0, toks x.1.now)) result (names_skipped (toks tokens.now)) }
+    ensures shorter { IfOk result (λ x. length x.1.now ≤ length tokens.now) }
+{
+    let mut rest = tokens;
+    'names: while sees_mark(Mark::Comma, rest) {
+        let (_, after) = next_name(rest)?;
+        rest = after;
+    }
+    Ok(((), rest))
+}

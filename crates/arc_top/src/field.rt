@@ -1,0 +1,171 @@
+//! Reads the fields of classes.
+ghost use Rattle.std.specs.Prelude.{◌≡◌, ◌<◌, ◌≤◌, length, IfOk};
+ghost use Rattle.arc_lex.specs.Tokens.{toks};
+ghost use Rattle.arc_ast.specs.Tree.{field_trees};
+ghost use Rattle.arc_form.specs.Form.{map};
+ghost use Rattle.arc_form.specs.Reader.{Gives, sees, take_one};
+ghost use Rattle.arc_grammar.specs.Grammar.{reads};
+ghost use Rattle.arc_grammar.specs.Grammar as grammar;
+ghost use Rattle.arc_top.specs.Fields.{begins_group, field_tree, names_on, ints_on, group_on};
+
+use crate::name::next_name;
+use arc_ast::tree::{Field, Visibility};
+use arc_form::fail::{Fail, Read};
+use arc_form::step::{expect, keyword, name, sees_at, sees_mark, sees_word};
+use arc_lex::token::{AtWord, Mark, Token, TokenKind, Word};
+use std::alloc::{AllocError, Global};
+
+/// The fields in braces, if there are any; those before any word are visible so.
+#[tactic(auto, using(crate::proofs::Fields::read_fields))]
+pub fn fields<'a>(alloc: Global, first: Visibility, tokens: &'a [Token]) -> Read<'a, Vec<Field>>
+    ensures gives { Gives (λ x. (field_trees x.0.items, toks x.1.now)) result (reads (grammar.fields first) (toks tokens.now)) }
+    ensures shorter { IfOk result (λ x. length x.1.now ≤ length tokens.now) }
+{
+    if !sees_mark(Mark::OpenBrace, tokens) {
+        return Ok((Vec::new(alloc), tokens));
+    }
+    let (_, rest) = expect(Mark::OpenBrace, tokens)?;
+    let (all, rest) = groups(alloc, first, rest)?;
+    let (_, rest) = expect(Mark::CloseBrace, rest)?;
+    Ok((all, rest))
+}
+
+/// Fields and words on those after them, as many as there are; the fields before any word are visible so.
+fn groups<'a>(alloc: Global, first: Visibility, tokens: &'a [Token]) -> Read<'a, Vec<Field>>
+    ensures gives { Gives (λ x. (field_trees x.0.items, toks x.1.now)) result (reads (map (grammar.fields_of first) grammar.groups) (toks tokens.now)) }
+    ensures shorter { IfOk result (λ x. length x.1.now ≤ length tokens.now) }
+{
+    let mut all = Vec::new(alloc);
+    let mut visibility = first;
+    let mut rest = tokens;
+    'groups: while begins_group(rest) {
+        let ((next, more), after) = group(alloc, visibility, all, rest)?;
+        all = more;
+        visibility = next;
+        rest = after;
+    }
+    Ok((all, rest))
+}
+
+/// Whether fields, or a word on those after it, can begin with the first token.
+#[tactic(auto, using(arc_form::proofs::Sets::sees_or))]
+fn begins_group(tokens: &[Token]) -> bool
+    ensures { result ≡ sees begins_group (toks tokens.now) }
+{
+    sees_word(Word::Int, tokens)
+        || (sees_at(AtWord::Private, tokens)
+            || sees_at(AtWord::Protected, tokens)
+            || sees_at(AtWord::Public, tokens))
+}
+
+/// These fields and those of `int`, which are visible so, or a word: how those after it are visible, and the fields.
+#[tactic(auto, using(crate::proofs::Fields::read_group))]
+fn group<'a>(
+    alloc: Global,
+    now: Visibility,
+    before: Vec<Field>,
+    tokens: &'a [Token],
+) -> Read<'a, (Visibility, Vec<Field>)>
+    ensures gives { Gives (λ x. ((x.0.0, field_trees x.0.1.items), toks x.1.now)) result (group_on (now, field_trees before.items) (toks tokens.now)) }
+    ensures shorter { IfOk result (λ x. length x.1.now < length tokens.now) }
+{
+    if sees_word(Word::Int, tokens) {
+        let (all, rest) = ints(alloc, now, before, tokens)?;
+        return Ok(((now, all), rest));
+    }
+    let (next, rest) = visibility(tokens)?;
+    Ok(((next, before), rest))
+}
+
+/// How the fields after the first token are visible, which is a word that says so.
+fn visibility(tokens: &[Token]) -> Read<'_, Visibility>
+    ensures gives { Gives (λ x. (x.0, toks x.1.now)) result (take_one grammar.begins_visibility (λ t. grammar.visibility_of t.sort) (toks tokens.now)) }
+    ensures shorter { IfOk result (λ x. length x.1.now < length tokens.now) }
+{
+    match tokens.split_first() {
+        Some(
+            (
+                Token {
+                    kind: TokenKind::At(AtWord::Private),
+                    ..
+                },
+                rest,
+            ),
+        ) => Ok((Visibility::Private, rest)),
+        Some(
+            (
+                Token {
+                    kind: TokenKind::At(AtWord::Protected),
+                    ..
+                },
+                rest,
+            ),
+        ) => Ok((Visibility::Protected, rest)),
+        Some(
+            (
+                Token {
+                    kind: TokenKind::At(AtWord::Public),
+                    ..
+                },
+                rest,
+            ),
+        ) => Ok((Visibility::Public, rest)),
+        _ => Err(Fail::Unexpected(tokens)),
+    }
+}
+
+/// These fields and those of `int`, one name or more and `;`.
+#[tactic(auto, using(crate::proofs::Fields::fields_push))]
+fn ints<'a>(
+    alloc: Global,
+    visibility: Visibility,
+    before: Vec<Field>,
+    tokens: &'a [Token],
+) -> Read<'a, Vec<Field>>
+    ensures gives { Gives (λ x. (field_trees x.0.items, toks x.1.now)) result (ints_on visibility (field_trees before.items) (toks tokens.now)) }
+    ensures shorter { IfOk result (λ x. length x.1.now < length tokens.now) }
+{
+    let (_, rest) = keyword(Word::Int, tokens)?;
+    let ((at, called), rest) = name(rest)?;
+    let mut all = before;
+    all.push(field(alloc, visibility, at, called)?)?;
+    let (all, rest) = more_fields(alloc, visibility, all, rest)?;
+    let (_, rest) = expect(Mark::Semicolon, rest)?;
+    Ok((all, rest))
+}
+
+/// These fields and the further ones, each of which is after a comma.
+fn more_fields<'a>(
+    alloc: Global,
+    visibility: Visibility,
+    before: Vec<Field>,
+    tokens: &'a [Token],
+) -> Read<'a, Vec<Field>>
+    ensures gives { Gives (λ x. (field_trees x.0.items, toks x.1.now)) result (names_on visibility (field_trees before.items) (toks tokens.now)) }
+    ensures shorter { IfOk result (λ x. length x.1.now ≤ length tokens.now) }
+{
+    let mut all = before;
+    let mut rest = tokens;
+    'fields: while sees_mark(Mark::Comma, rest) {
+        let ((at, called), after) = next_name(rest)?;
+        all.push(field(alloc, visibility, at, called)?)?;
+        rest = after;
+    }
+    Ok((all, rest))
+}
+
+/// A field of this name, which is at this place.
+fn field(
+    alloc: Global,
+    visibility: Visibility,
+    at: usize,
+    called: &[u8],
+) -> Result<Field, AllocError>
+    ensures { IfOk result (λ f. field_tree f ≡ record { at = at; name = called.now; visibility = visibility }) }
+{
+    Ok(Field {
+        at,
+        name: Vec::from_slice(alloc, called)?,
+        visibility,
+    })
+}

@@ -1,0 +1,124 @@
+//! Reads functions.
+ghost use Rattle.std.specs.Prelude.{◌≡◌, ◌<◌, ◌≤◌, length, IfOk, bytes_eq, option_map};
+ghost use Rattle.arc_lex.specs.Tokens.{toks};
+ghost use Rattle.arc_ast.specs.Tree.{stmt_trees, parameters_tree, function_tree};
+ghost use Rattle.arc_form.specs.Kinds.{main_bytes};
+ghost use Rattle.arc_form.specs.Reader.{Gives};
+ghost use Rattle.arc_grammar.specs.Grammar.{reads};
+ghost use Rattle.arc_grammar.specs.Grammar as grammar;
+ghost use Rattle.arc_top.specs.Signatures as signatures;
+
+use crate::parameter::{parameters, parameters_of_main};
+use arc_ast::tree::{Function, Kind, Parameters, Stmt};
+use arc_form::fail::Read;
+use arc_form::step::{expect, keyword, name, sees_mark, sees_word};
+use arc_lex::token::{Mark, Token, Word};
+use arc_stmt::stmt::items;
+use std::alloc::Global;
+
+/// A declaration or a definition of a function.
+#[tactic(auto, unfolding(arc_grammar::specs::Grammar::function))]
+pub fn function<'a>(alloc: Global, tokens: &'a [Token]) -> Read<'a, Function>
+    ensures gives { Gives (λ x. (function_tree x.0, toks x.1.now)) result (reads grammar.function (toks tokens.now)) }
+    ensures shorter { IfOk result (λ x. length x.1.now < length tokens.now) }
+{
+    let (result, rest) = result_kind(tokens)?;
+    let (((at, called), parameters), rest) = signature(alloc, rest)?;
+    let name = Vec::from_slice(alloc, called)?;
+    let (body, rest) = function_body(alloc, rest)?;
+    Ok((
+        Function {
+            at,
+            name,
+            result,
+            parameters,
+            body,
+        },
+        rest,
+    ))
+}
+
+/// `int` or `void`
+#[tactic(auto, unfolding(arc_grammar::specs::Grammar::result_kind))]
+pub fn result_kind(tokens: &[Token]) -> Read<'_, Kind>
+    ensures gives { Gives (λ x. (x.0, toks x.1.now)) result (reads grammar.result_kind (toks tokens.now)) }
+    ensures shorter { IfOk result (λ x. length x.1.now < length tokens.now) }
+{
+    if sees_word(Word::Void, tokens) {
+        let (_, rest) = keyword(Word::Void, tokens)?;
+        return Ok((Kind::Void, rest));
+    }
+    let (_, rest) = keyword(Word::Int, tokens)?;
+    Ok((Kind::Int, rest))
+}
+
+/// A function's name with its place, and what the function takes.
+type Signature<'a> = ((usize, &'a [u8]), Parameters);
+
+/// A function's name, and in parentheses what the function takes.
+#[tactic(auto, using(crate::proofs::Rests::read_signature))]
+fn signature<'a>(alloc: Global, tokens: &'a [Token]) -> Read<'a, Signature<'a>>
+    ensures gives { Gives (λ x. (((x.0.0.0, x.0.0.1.now), parameters_tree x.0.1), toks x.1.now)) result (reads grammar.signature (toks tokens.now)) }
+    ensures shorter { IfOk result (λ x. length x.1.now < length tokens.now) }
+{
+    let ((at, called), rest) = name(tokens)?;
+    let (parameters, rest) = enclosed(alloc, called, rest)?;
+    Ok((((at, called), parameters), rest))
+}
+
+/// In parentheses what a function of this name takes.
+#[tactic(auto, unfolding(crate::specs::Signatures::enclosed))]
+fn enclosed<'a>(alloc: Global, called: &[u8], tokens: &'a [Token]) -> Read<'a, Parameters>
+    ensures gives { Gives (λ x. (parameters_tree x.0, toks x.1.now)) result (reads (signatures.enclosed called.now) (toks tokens.now)) }
+    ensures shorter { IfOk result (λ x. length x.1.now < length tokens.now) }
+{
+    let (_, rest) = expect(Mark::OpenParen, tokens)?;
+    let (parameters, rest) = parameters_to(alloc, called, rest)?;
+    let (_, rest) = expect(Mark::CloseParen, rest)?;
+    Ok((parameters, rest))
+}
+
+/// What a function of this name takes.
+fn parameters_to<'a>(alloc: Global, called: &[u8], tokens: &'a [Token]) -> Read<'a, Parameters>
+    ensures gives { Gives (λ x. (parameters_tree x.0, toks x.1.now)) result (reads (signatures.parameters_to called.now) (toks tokens.now)) }
+    ensures shorter { IfOk result (λ x. length x.1.now ≤ length tokens.now) }
+{
+    if is_main(called) {
+        parameters_of_main(alloc, tokens)
+    } else {
+        parameters(alloc, tokens)
+    }
+}
+
+/// Whether this is the name of the function at which a program starts.
+fn is_main(name: &[u8]) -> bool
+    ensures { result ≡ bytes_eq name.now main_bytes }
+{
+    name == b"main".as_slice()
+}
+
+/// `;`, or a block
+#[tactic(auto, unfolding(arc_grammar::specs::Grammar::function_body))]
+fn function_body<'a>(alloc: Global, tokens: &'a [Token]) -> Read<'a, Option<Vec<Stmt>>>
+    ensures gives { Gives (λ x. (option_map (λ b. stmt_trees b.items) x.0, toks x.1.now)) result (reads grammar.function_body (toks tokens.now)) }
+    ensures shorter { IfOk result (λ x. length x.1.now < length tokens.now) }
+{
+    if sees_mark(Mark::Semicolon, tokens) {
+        let (_, rest) = expect(Mark::Semicolon, tokens)?;
+        return Ok((None, rest));
+    }
+    let (all, rest) = braces(alloc, tokens)?;
+    Ok((Some(all), rest))
+}
+
+/// The block of a function or a method.
+#[tactic(auto, using(arc_stmt::proofs::Stmts::stmts_all), unfolding(arc_grammar::specs::Grammar::braces))]
+pub fn braces<'a>(alloc: Global, tokens: &'a [Token]) -> Read<'a, Vec<Stmt>>
+    ensures gives { Gives (λ x. (stmt_trees x.0.items, toks x.1.now)) result (reads grammar.braces (toks tokens.now)) }
+    ensures shorter { IfOk result (λ x. length x.1.now < length tokens.now) }
+{
+    let (_, rest) = expect(Mark::OpenBrace, tokens)?;
+    let (all, rest) = items(alloc, 2, rest)?;
+    let (_, rest) = expect(Mark::CloseBrace, rest)?;
+    Ok((all, rest))
+}
