@@ -10,13 +10,13 @@ ghost use Rattle.arc_check.specs.Rules.{broken_initial, broken_variables, broken
 ghost use Rattle.arc_check.specs.Scopes.{is_full, leave, behind, behind_all, with_variables, with_parameters};
 ghost use Rattle.arc_check.specs.private.Views.{known_in, seen};
 
-use crate::fault::earlier;
 use crate::judge::{initial_fault, judge_whole, number_fault, test_fault};
 use crate::rule::place;
 use crate::scope::Visible;
 use arc_ast::tree::{Expr, Function, Kind, Parameter, Parameters, Stmt, TypeName, Variable};
 use arc_class::table::ClassTable;
 use arc_fault::check::CheckFault;
+use arc_sites::violation::earlier;
 use std::alloc::{AllocError, Global};
 
 /// The first rule that is broken in what a variable of the type begins with.

@@ -12,12 +12,12 @@ ghost use Rattle.arc_check.specs.Rules.{broken_unit};
 use crate::body::judge_functions;
 use crate::checked::{Checked, CheckedFunction};
 use crate::classes::copied;
-use crate::fault::earlier;
 use crate::method::{judge_implementations, judge_interfaces};
 use crate::program::{add_implementations, functions};
 use arc_ast::tree::TranslationUnit;
 use arc_class::table::ClassTable;
 use arc_fault::check::CheckFault;
+use arc_sites::violation::earlier;
 use std::alloc::{AllocError, Global};
 
 /// The first rule that is broken in the source. The table is one of the unit.

@@ -1,20 +1,2 @@
-//! Why a source is refused, and which of two broken rules is told.
-ghost use Rattle.std.specs.Prelude.{◌≡◌, option_map};
-ghost use Rattle.arc_class.specs.Broken.{earlier_of};
-ghost use Rattle.arc_check.specs.Fault.{told};
-
+//! Why a source is refused.
 pub use arc_fault::check::CheckFault;
-
-/// The fault that is told of two.
-pub(crate) fn earlier(a: Option<CheckFault>, b: Option<CheckFault>) -> Option<CheckFault>
-    ensures { option_map told result ≡ earlier_of (option_map told a) (option_map told b) }
-{
-    match (a, b) {
-        (None, b) => b,
-        (a, None) => a,
-        (Some(a), Some(b)) => {
-            let is_before = b.at() < a.at() || b.at() == a.at() && b.number() < a.number();
-            if is_before { Some(b) } else { Some(a) }
-        }
-    }
-}

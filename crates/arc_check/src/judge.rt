@@ -16,7 +16,6 @@ ghost use Rattle.arc_check.specs.declared.scope.Visible.{Visible};
 ghost use Rattle.arc_check.specs.private.Views.{known_in, seen};
 
 use crate::callee::{Callee, callee_of, result_kind};
-use crate::fault::earlier;
 use crate::field::{field_fault, field_kind, own_field};
 use crate::format::{next_conversion, take_conversion};
 use crate::message::{
@@ -31,6 +30,7 @@ use crate::taken::Taken;
 use arc_ast::tree::{BinaryOperator, Expr, Kind, TypeName};
 use arc_class::table::{ClassId, ClassTable, FoundField};
 use arc_fault::check::CheckFault;
+use arc_sites::violation::earlier;
 
 /// What is told of an expression: its kind, where it has one, its static class, the first rule that is broken in it, and how many objects the full-expression has
 /// taken behind it.

@@ -8,11 +8,11 @@ ghost use Rattle.arc_check.specs.Rules.{broken_head, broken_heads, broken_interf
 ghost use Rattle.arc_check.specs.private.Views.{known_in};
 
 use crate::body::{count_fault, inside, is_void};
-use crate::fault::earlier;
 use crate::scope::Visible;
 use arc_ast::tree::{Implementation, Interface, Method, MethodHead};
 use arc_class::table::{ClassId, ClassTable};
 use arc_fault::check::CheckFault;
+use arc_sites::violation::earlier;
 use std::alloc::{AllocError, Global};
 
 /// The rule that a method breaks as it is declared.

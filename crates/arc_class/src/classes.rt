@@ -12,7 +12,7 @@ ghost use Rattle.arc_class.specs.Kept.{Knows, place_before};
 ghost use Rattle.arc_class.specs.Owners.{TellsFields};
 ghost use Rattle.arc_class.specs.Walk.{holds};
 
-use crate::fault::{earlier, fault_if};
+use crate::fault::fault_if;
 use crate::fields::{ClassFields, count_among, field_places, fields_fault};
 use crate::kept::Source;
 use crate::look::is_library;
@@ -21,6 +21,7 @@ use crate::table::{Place, at_name, class_number, is_root};
 use crate::walk::{Scope, stands};
 use arc_ast::tree::{Function, Implementation, Interface};
 use arc_fault::class::ClassFault;
+use arc_sites::violation::earlier;
 use std::alloc::{AllocError, Global};
 
 /// How many fields the objects of a class may have.

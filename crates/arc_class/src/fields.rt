@@ -14,7 +14,7 @@ ghost use Rattle.arc_class.specs.Kept.{Knows};
 ghost use Rattle.arc_class.specs.Lookups.{at_name, own_field_in, own_place_in, field_among, place_among, field_tree, list_of, list_among, number_of_class};
 ghost use Rattle.arc_class.specs.Owners.{TellsFields};
 
-use crate::fault::{earlier, fault_if};
+use crate::fault::fault_if;
 use crate::heads::keep_first;
 use crate::kept::Source;
 use crate::owners::Owners;
@@ -22,6 +22,7 @@ use crate::table::{ClassId, Field, FoundField, at_name, class_number};
 use arc_ast::tree;
 use arc_ast::tree::{Interface, Kind};
 use arc_fault::class::ClassFault;
+use arc_sites::violation::earlier;
 use std::alloc::{AllocError, Global};
 use std::collections::BTreeMap;
 

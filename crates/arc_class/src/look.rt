@@ -7,10 +7,10 @@ ghost use Rattle.arc_class.specs.Functions as rules;
 ghost use Rattle.arc_class.specs.Look.{Sums, IsMore, joined, fault_with, main_with};
 ghost use Rattle.arc_class.specs.Names as names;
 
-use crate::fault::earlier;
 use crate::table::{Declared, Known, Signature, at_name};
 use arc_ast::tree::{Function, Kind, Parameter, Parameters};
 use arc_fault::class::ClassFault;
+use arc_sites::violation::earlier;
 use std::alloc::{AllocError, Global};
 
 /// What is known of some functions.

@@ -9,7 +9,7 @@ ghost use Rattle.arc_class.specs.Classes.{first_head};
 ghost use Rattle.arc_class.specs.Fault.{told};
 ghost use Rattle.arc_class.specs.Kept.{head_in, Knows};
 
-use crate::fault::{earlier, fault_if};
+use crate::fault::fault_if;
 use crate::heads::Heads;
 use crate::kept::Source;
 use crate::look::same_kind;
@@ -17,6 +17,7 @@ use crate::root::built_in_result;
 use crate::walk::inside;
 use arc_ast::tree::{Kind, Method, MethodHead, Sign};
 use arc_fault::class::ClassFault;
+use arc_sites::violation::earlier;
 use std::alloc::{AllocError, Global};
 
 /// Whether a class method with the selector would change how classes are loaded or objects are made.

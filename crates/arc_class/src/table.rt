@@ -17,7 +17,6 @@ ghost use Rattle.arc_class.specs.Owners.{TellsMethods, TellsFields};
 ghost use Rattle.std.proofs.Props.{props};
 
 use crate::building::{Parts, Selectors};
-use crate::fault::earlier;
 use crate::fields::{ClassFields, field_of};
 use crate::heads::Heads;
 use crate::kept::Source;
@@ -28,6 +27,7 @@ use crate::root::{BuiltIn, built_in_result, counting_result};
 use crate::walk::walk;
 use arc_ast::tree::{Kind, Qual, Sign, TranslationUnit, Visibility};
 use arc_fault::class::ClassFault;
+use arc_sites::violation::earlier;
 use arc_spec::class::{Class, descends_from, look_up};
 use arc_spec::event::NoMemory;
 use std::alloc::Global;

@@ -8,11 +8,12 @@ ghost use Rattle.arc_class.specs.Fault.{told};
 ghost use Rattle.arc_class.specs.Functions.{broken_functions};
 ghost use Rattle.arc_class.specs.Walk.{missing_in, holds};
 
-use crate::fault::{earlier, fault_if};
+use crate::fault::fault_if;
 use crate::kept::Source;
 use crate::table::{at_name, class_number};
 use arc_ast::tree::{Expr, Function, Parameter, Parameters, Stmt, TypeName, Variable};
 use arc_fault::class::ClassFault;
+use arc_sites::violation::earlier;
 use std::alloc::{AllocError, Global};
 use std::collections::BTreeMap;
 

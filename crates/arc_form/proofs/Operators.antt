@@ -1,12 +1,12 @@
 -- Operators between operands: what a token of a level is, and loops that join from the left.
 use Rattle.std.proofs.Common.{◌≡◌, ℕ, List, [], ◌∷◌, drop, Ok, Err, Bool, true, false, cond, ◌&&◌, ◌||◌, Option, Some, None, nat_eq, if◌then◌else◌, refl, sym, ap, ◌∙◌}
-use Rattle.std.proofs.lemmas.Bool.{eqb-true}
 use Rattle.arc_lex.specs.declared.token.Mark.{Mark}
-use Rattle.arc_lex.specs.Tokens.{Tok, Sort, Name, Integer, Text, Key, At, Sign, number_of_mark, same_mark}
-use Rattle.arc_form.specs.Kinds.{Kinds, ◌∪◌, mark, has, kind, is}
+use Rattle.arc_lex.specs.Tokens.{Tok, Sort, Name, Integer, Text, Key, At, Sign}
+use Rattle.arc_lex.specs.Spellings.{mark_bytes}
+use Rattle.arc_form.specs.Kinds.{Kind, Kinds, ◌∪◌, mark, has, kind, is}
 use Rattle.arc_form.specs.Reader.{Read, Reader, Fault, misfit, bind, ◌>>=◌, ret, sees, if_sees, taken, take_one, loop}
 use Rattle.arc_form.specs.Operators.{Row, entry, entry_of, marks_at, operator_of, fold}
-use Rattle.arc_form.proofs.Sets.{both}
+use Rattle.arc_form.proofs.Sets.{both, same_is}
 use Rattle.arc_form.proofs.Local.{Local}
 use Rattle.arc_form.proofs.FormBegins.{loop_end}
 use Rattle.arc_form.proofs.FormComplete.{loop_more}
@@ -29,8 +29,11 @@ abbrev pub taken_entry : {O : Type 0} → ℕ → Option (ℕ × O) → Reader O
 taken_entry l None ts = Err (misfit, ts)
 taken_entry l (Some e) ts = if nat_eq e.0 l then Ok (e.1, drop 1 ts) else Err (misfit, ts)
 
+abbrev second : Kind → List ℕ
+second k = k.1
+
 module _ {O : Type 0} where
-  entry_alike : (rows : List (Row O)) (m n : Mark) → number_of_mark m ≡ number_of_mark n → entry rows m ≡ entry rows n
+  entry_alike : (rows : List (Row O)) (m n : Mark) → mark_bytes m ≡ mark_bytes n → entry rows m ≡ entry rows n
   entry_alike [] m n e = refl
   entry_alike (r ∷ rows) m n e = rw (e, entry_alike rows m n e) refl
 
@@ -42,23 +45,23 @@ module _ {O : Type 0} where
   mark_has [] d l m = refl
   mark_has (r ∷ rows) d l m =
       let p = both (is_none (entry rows r.mark)) (distinct rows) d in
-      go (same_mark m r.mark) refl (nat_eq r.level l) refl p.0 (mark_has rows p.1 l m)
+      go (has (mark r.mark) (kind (Sign m))) refl (nat_eq r.level l) refl p.0 (mark_has rows p.1 l m)
     where
-      here : (b c : Bool) → same_mark m r.mark ≡ b → nat_eq r.level l ≡ c → has (marks_at l (r ∷ rows)) (kind (Sign m)) ≡ cond c (b || has (marks_at l rows) (kind (Sign m))) (has (marks_at l rows) (kind (Sign m)))
+      here : (b c : Bool) → has (mark r.mark) (kind (Sign m)) ≡ b → nat_eq r.level l ≡ c → has (marks_at l (r ∷ rows)) (kind (Sign m)) ≡ cond c (b || has (marks_at l rows) (kind (Sign m))) (has (marks_at l rows) (kind (Sign m)))
       here b true e f = ap (λ c. has (cond c (mark r.mark ∪ marks_at l rows) (marks_at l rows)) (kind (Sign m))) f ∙ ap (λ b. b || has (marks_at l rows) (kind (Sign m))) e
       here b false e f = ap (λ c. has (cond c (mark r.mark ∪ marks_at l rows) (marks_at l rows)) (kind (Sign m))) f
 
-      found : (b : Bool) → same_mark m r.mark ≡ b → is_at l (entry (r ∷ rows) m) ≡ is_at l (cond b (Some (r.level, r.operator)) (entry rows m))
+      found : (b : Bool) → has (mark r.mark) (kind (Sign m)) ≡ b → is_at l (entry (r ∷ rows) m) ≡ is_at l (cond b (Some (r.level, r.operator)) (entry rows m))
       found b e = ap (λ b. is_at l (cond b (Some (r.level, r.operator)) (entry rows m))) e
 
-      go : (b : Bool) → same_mark m r.mark ≡ b → (c : Bool) → nat_eq r.level l ≡ c → is_none (entry rows r.mark) ≡ true → has (marks_at l rows) (kind (Sign m)) ≡ is_at l (entry rows m)
+      go : (b : Bool) → has (mark r.mark) (kind (Sign m)) ≡ b → (c : Bool) → nat_eq r.level l ≡ c → is_none (entry rows r.mark) ≡ true → has (marks_at l rows) (kind (Sign m)) ≡ is_at l (entry rows m)
           → has (marks_at l (r ∷ rows)) (kind (Sign m)) ≡ is_at l (entry (r ∷ rows) m)
       go true e true f n h = here true true e f ∙ sym (found true e ∙ f)
-      go true e false f n h = here true false e f ∙ h ∙ ap (is_at l) (entry_alike rows m r.mark (eqb-true (number_of_mark m) (number_of_mark r.mark) e)) ∙ none_at l (entry rows r.mark) n ∙ sym (found true e ∙ f)
+      go true e false f n h = here true false e f ∙ h ∙ ap (is_at l) (entry_alike rows m r.mark (ap second (same_is (kind (Sign m)) (kind (Sign r.mark)) e))) ∙ none_at l (entry rows r.mark) n ∙ sym (found true e ∙ f)
       go false e true f n h = here false true e f ∙ h ∙ sym (found false e)
       go false e false f n h = here false false e f ∙ h ∙ sym (found false e)
 
-  other_has : (rows : List (Row O)) (l i j : ℕ) → nat_eq i 5 ≡ false → has (marks_at l rows) (i, j) ≡ false
+  other_has : (rows : List (Row O)) (l i : ℕ) (j : List ℕ) → nat_eq i 5 ≡ false → has (marks_at l rows) (i, j) ≡ false
   other_has [] l i j e = refl
   other_has (r ∷ rows) l i j e = go (nat_eq r.level l) refl (other_has rows l i j e)
     where
@@ -81,9 +84,9 @@ module _ {O : Type 0} where
     where
       row : (rows : List (Row O)) (m : Mark) → t.sort ≡ Sign m → entry rows m ≡ Some e → operator_of other rows t ≡ e.1
       row [] m s q = cc
-      row (r ∷ rows) m s q = pick (same_mark m r.mark) refl (row rows m s)
+      row (r ∷ rows) m s q = pick (has (mark r.mark) (kind (Sign m))) refl (row rows m s)
         where
-          pick : (b : Bool) → same_mark m r.mark ≡ b → (entry rows m ≡ Some e → operator_of other rows t ≡ e.1) → operator_of other (r ∷ rows) t ≡ e.1
+          pick : (b : Bool) → has (mark r.mark) (kind (Sign m)) ≡ b → (entry rows m ≡ Some e → operator_of other rows t ≡ e.1) → operator_of other (r ∷ rows) t ≡ e.1
           pick true c h =
               let first : Some (r.level, r.operator) ≡ Some e = sym (ap (λ b. cond b (Some (r.level, r.operator)) (entry rows m)) c) ∙ q in
               let is_e : (r.level, r.operator) ≡ e = cc in

@@ -34,7 +34,7 @@ found k [] = Name []
 found k (s ∷ others) = if same (kind s) k then s else found k others
 
 abbrev pick : Kinds → Kind
-pick none = (0, 0)
+pick none = (0, [])
 pick (one k) = k
 pick (A ∪ B) = pick A
 

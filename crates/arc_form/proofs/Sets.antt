@@ -1,8 +1,10 @@
 -- Tests on sets of kinds, which compute.
 use Rattle.std.proofs.Common.{◌≡◌, List, [], ◌∷◌, ◌++◌, Bool, true, false, not, ◌&&◌, ◌||◌, nat_eq, refl, sym, ap, subst, ◌∙◌, ap₂}
 use Rattle.std.proofs.lemmas.Bool.{eqb-true}
+use Rattle.std.proofs.lemmas.Slice.Eq.{bytes_eq-Decides}
+use Rattle.std.specs.Str.{bytes_eq}
 use Rattle.arc_lex.specs.Tokens.{Tok}
-use Rattle.arc_form.specs.Kinds.{Kind, Kinds, number_of_name, none, one, ◌∪◌, same, has, kind, is, name}
+use Rattle.arc_form.specs.Kinds.{Kind, Kinds, main_or_none, none, one, ◌∪◌, same, has, kind, is, name}
 use Rattle.arc_form.specs.Reader.{first, sees, sees_second, sees_two}
 
 -- ---- conjunctions
@@ -42,10 +44,10 @@ apart none B = true
 apart (one a) B = not (has B a)
 apart (A ∪ C) B = apart A B && apart C B
 
-same_is : (a b : Kind) → same a b ≡ true → a ≡ b
+pub same_is : (a b : Kind) → same a b ≡ true → a ≡ b
 same_is (i, j) (k, l) e =
-    let p = both (nat_eq i k) (nat_eq j l) e in
-    ap₂ (λ x y. (x, y)) (eqb-true i k p.0) (eqb-true j l p.1)
+    let p = both (nat_eq i k) (bytes_eq j l) e in
+    ap₂ (λ x y. (x, y)) (eqb-true i k p.0) ((bytes_eq-Decides j l).0 p.1)
 
 among_has : (A B : Kinds) (k : Kind) → among A B ≡ true → has A k ≡ true → has B k ≡ true
 among_has none B k e h = cc
@@ -69,7 +71,7 @@ apart_has (A ∪ C) B k e h =
     go true q a c = a q
     go false q a c = c (ap (λ b. b || has C k) (sym q) ∙ h)
 
-pub name_has : (b : Bool) → has name (0, number_of_name b) ≡ true
+pub name_has : (b : Bool) → has name (0, main_or_none b) ≡ true
 name_has true = refl
 name_has false = refl
 

@@ -1,8 +1,8 @@
 -- Tables of operators between two operands.
 use Rattle.std.specs.Prelude.{ℕ, List, [], ◌∷◌, Option, Some, None, nat_eq, if◌then◌else◌}
 use Rattle.arc_lex.specs.declared.token.Mark.{Mark}
-use Rattle.arc_lex.specs.Tokens.{Tok, Sort, Sign, same_mark}
-use Rattle.arc_form.specs.Kinds.{Kinds, none, ◌∪◌, mark, is}
+use Rattle.arc_lex.specs.Tokens.{Tok, Sort, Sign}
+use Rattle.arc_form.specs.Kinds.{Kinds, none, ◌∪◌, mark, kind, has, is}
 
 -- A mark, its level, which is the higher the looser it binds, and the operator that it is.
 pub record Row (O : Type 0) : Type 0 where
@@ -13,7 +13,7 @@ pub record Row (O : Type 0) : Type 0 where
 -- the level and the operator of a mark
 abbrev pub entry : {O : Type 0} → List (Row O) → Mark → Option (ℕ × O)
 entry [] m = None
-entry (r ∷ rows) m = if same_mark m r.mark then Some (r.level, r.operator) else entry rows m
+entry (r ∷ rows) m = if has (mark r.mark) (kind (Sign m)) then Some (r.level, r.operator) else entry rows m
 
 -- and of a token
 abbrev pub entry_of : {O : Type 0} → List (Row O) → Sort → Option (ℕ × O)

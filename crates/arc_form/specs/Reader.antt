@@ -1,6 +1,6 @@
 -- Readers of tokens: each goes from left to right and stops at the first token that it refuses.
-use Rattle.std.specs.Prelude.{◌≡◌, ◌+◌, ℕ, ℤ, pos, zero, suc, List, [], ◌∷◌, length, drop, Result, Ok, Err, Bool, true, false, ◌&&◌, Option, Some, None, nat_lt, if◌then◌else◌}
-use Rattle.arc_lex.specs.Tokens.{Tok, Sort, Name, Integer, toks}
+use Rattle.std.specs.Prelude.{◌≡◌, ◌+◌, ℕ, zero, suc, List, [], ◌∷◌, length, drop, Result, Ok, Err, Bool, true, false, ◌&&◌, Option, Some, None, nat_lt, if◌then◌else◌}
+use Rattle.arc_lex.specs.Tokens.{Tok, Sort, Name, toks}
 use Rattle.arc_form.specs.Kinds.{Kinds, is}
 use Rattle.arc_form.specs.declared.fail.Fail.{Fail}
 use Rattle.arc_form.specs.declared.fail.Fail.TheVariants.{Memory, Unexpected, TooDeep}
@@ -129,11 +129,3 @@ bytes_of _ = []
 -- a name's place and bytes
 abbrev pub named : Tok → ℕ × List ℕ
 named t = (t.from, bytes_of t.sort)
-
-abbrev pub value_of : Sort → ℤ
-value_of (Integer value) = value
-value_of _ = pos 0
-
--- an integer's place and value
-abbrev pub number : Tok → ℕ × ℤ
-number t = (t.from, value_of t.sort)

@@ -1,28 +1,29 @@
 //! The steps that every reader is made of. These alone look into a token.
 ghost use Rattle.std.specs.Prelude.{◌≡◌, ◌<◌, length, IfOk};
-ghost use Rattle.arc_lex.specs.Tokens.{toks, same_mark, same_word};
-ghost use Rattle.arc_form.specs.Kinds.{same_at};
+ghost use Rattle.std.specs.Str.{bytes_eq};
+ghost use Rattle.arc_lex.specs.Spellings.{mark_bytes, word_bytes, at_bytes};
+ghost use Rattle.arc_lex.specs.Tokens.{toks};
 ghost use Rattle.arc_form.specs.Kinds as kinds;
 ghost use Rattle.arc_lex.specs.declared.token.Mark.TheVariants as m;
-ghost use Rattle.arc_form.specs.Reader.{Gives, sees, sees_two, take_one, from, named, number};
+ghost use Rattle.arc_form.specs.Reader.{Gives, sees, sees_two, take_one, from, named};
 
 use crate::fail::{Fail, Read};
 use arc_lex::token::{AtWord, Mark, Token, TokenKind, Word};
 
 fn same_mark(found: Mark, mark: Mark) -> bool
-    ensures { result ≡ same_mark found mark }
+    ensures { result ≡ bytes_eq (mark_bytes found) (mark_bytes mark) }
 {
     found == mark
 }
 
 fn same_word(found: Word, word: Word) -> bool
-    ensures { result ≡ same_word found word }
+    ensures { result ≡ bytes_eq (word_bytes found) (word_bytes word) }
 {
     found == word
 }
 
 fn same_at(found: AtWord, word: AtWord) -> bool
-    ensures { result ≡ same_at found word }
+    ensures { result ≡ bytes_eq (at_bytes found) (at_bytes word) }
 {
     found == word
 }
@@ -182,27 +183,6 @@ pub fn name<'a>(tokens: &'a [Token]) -> Read<'a, (usize, &'a [u8])>
                 rest,
             ),
         ) => Ok(((span.from, bytes.as_slice()), rest)),
-        _ => Err(Fail::Unexpected(tokens)),
-    }
-}
-
-/// The place and the value of the first token, which is an integer.
-///
-/// `Unexpected` comes with all of the tokens where it is not.
-pub fn integer(tokens: &[Token]) -> Read<'_, (usize, i64)>
-    ensures gives { Gives (λ x. ((x.0.0, x.0.1), toks x.1.now)) result (take_one kinds.integer number (toks tokens.now)) }
-    ensures shorter { IfOk result (λ x. length x.1.now < length tokens.now) }
-{
-    match tokens.split_first() {
-        Some(
-            (
-                Token {
-                    kind: TokenKind::Integer(value),
-                    span,
-                },
-                rest,
-            ),
-        ) => Ok(((span.from, *value), rest)),
         _ => Err(Fail::Unexpected(tokens)),
     }
 }

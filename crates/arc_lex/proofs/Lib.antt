@@ -1,3 +1,4 @@
+pub mod Alike
 pub mod Faultless
 pub mod Firsts
 pub mod Law

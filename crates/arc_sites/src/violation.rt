@@ -1,9 +1,13 @@
 //! Violations of rules, of which the first is reported.
 ghost use Rattle.std.specs.Prelude.{◌≡◌, option_map};
+ghost use Rattle.arc_fault.specs.Check as check;
+ghost use Rattle.arc_fault.specs.Class as class;
 ghost use Rattle.arc_fault.specs.Own as own;
 ghost use Rattle.arc_sites.specs.Violations as violations;
 ghost use Rattle.arc_sites.specs.Violations.{earlier_of};
 
+use arc_fault::check::CheckFault;
+use arc_fault::class::ClassFault;
 use arc_fault::own::OwnFault;
 
 /// A rule, by its number, and the place where it is broken: a byte of the source, counted from 0.
@@ -23,6 +27,28 @@ pub trait Report: Copy {
     /// The violation that the fault reports.
     fn reported(&self) -> Violation
         ensures { result ≡ violation self.now };
+}
+
+impl Report for ClassFault {
+    ghost violation = { λ fault. record { at = class.fault_at fault; number = class.fault_number fault } };
+
+    fn reported(&self) -> Violation {
+        Violation {
+            at: self.at(),
+            number: self.number(),
+        }
+    }
+}
+
+impl Report for CheckFault {
+    ghost violation = { λ fault. record { at = check.fault_at fault; number = check.fault_number fault } };
+
+    fn reported(&self) -> Violation {
+        Violation {
+            at: self.at(),
+            number: self.number(),
+        }
+    }
 }
 
 impl Report for OwnFault {

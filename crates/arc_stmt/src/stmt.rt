@@ -153,7 +153,7 @@ fn test<'a>(alloc: Global, tokens: &'a [Token]) -> Read<'a, Box<Expr>>
 /// Items in braces.
 #[cycle(stmts)]
 #[tactic(auto, unfolding(arc_grammar::specs::Grammar::block))]
-pub fn block<'a>(alloc: Global, depth: usize, tokens: &'a [Token]) -> Read<'a, Stmt>
+fn block<'a>(alloc: Global, depth: usize, tokens: &'a [Token]) -> Read<'a, Stmt>
     requires { depth ≤ 200 }
     ensures gives { Gives (λ x. (stmt_tree x.0, toks x.1.now)) result (reads (grammar.block depth) (toks tokens.now)) }
     ensures shorter { IfOk result (λ x. length x.1.now < length tokens.now) }

@@ -6,9 +6,7 @@ use Rattle.arc_lex.specs.Tokens.{toks}
 use Rattle.arc_lex.specs.Source.{Tokens}
 use Rattle.arc_ast.specs.declared.tree.TranslationUnit.{TranslationUnit}
 use Rattle.arc_ast.specs.Tree.{unit_tree}
-use Rattle.arc_class.specs.declared.table.ClassTable.{ClassTable}
 use Rattle.arc_class.specs.ClassRules.{broken}
-use Rattle.arc_class.specs.Table.{IsTableOf}
 use Rattle.arc_check.specs.declared.checked.Checked.{Checked}
 use Rattle.arc_check.specs.Checked.{program_of}
 use Rattle.arc_check.specs.Rules.{broken_unit}
@@ -45,11 +43,11 @@ too_many P actions is large =
 
 -- ---- the stages
 
-module _ (source : List ℕ) (unit : TranslationUnit) (table : ClassTable) (program : Checked)
-    (spelled : Spelled source (unit_tree unit)) (declared : broken (unit_tree unit) ≡ []) (is_table : IsTableOf (unit_tree unit) table)
+module _ (source : List ℕ) (unit : TranslationUnit) (program : Checked)
+    (spelled : Spelled source (unit_tree unit)) (declared : broken (unit_tree unit) ≡ [])
     (checked : broken_unit (unit_tree unit) ≡ []) (source_is : unit_tree program.unit.now ≡ unit_tree unit) (ruled : ownership.broken (unit_tree program.unit.now) ≡ []) where
   abbrev pub accepted : Accepted source
-  accepted = record { tokens = spelled.tokens; tree = unit_tree unit; table = table; cut = spelled.cut; spelled = spelled.spelled; declared = declared; is_table = is_table; checked = checked; owned = subst (λ u. ownership.broken u ≡ []) source_is ruled }
+  accepted = record { tree = unit_tree unit; spelled = spelled; declared = declared; checked = checked; owned = subst (λ u. ownership.broken u ≡ []) source_is ruled }
 
   module _ (owned : Checked) (actions : acting.Program) (means : program_of program ≡ resolved_unit (unit_tree unit)) (same : owned ≡ program)
       (performs : Performs (program_of owned) actions) (exact : IsLowered (program_of owned) actions) where

@@ -6,9 +6,7 @@ use Rattle.arc_lex.specs.Source.{Tokens}
 use Rattle.arc_ast.specs.Tree.{InterfaceTree, UnitTree}
 use Rattle.arc_grammar.specs.Grammar.{these}
 use Rattle.arc_parse.specs.Refusal.{SpellsUnit}
-use Rattle.arc_class.specs.declared.table.ClassTable.{ClassTable}
 use Rattle.arc_class.specs.ClassRules.{broken}
-use Rattle.arc_class.specs.Table.{IsTableOf}
 use Rattle.arc_check.specs.Rules.{broken_unit}
 use Rattle.arc_check.specs.Resolving.{resolved_unit}
 use Rattle.arc_family.specs.Rules as ownership
@@ -23,15 +21,11 @@ pub record Spelled (source : List ℕ) (tree : UnitTree) : Type 0 where
   pub cut : Tokens source tokens
   pub spelled : SpellsUnit these tree tokens
 
--- The source has these tokens, which spell this tree within the limits; the tree breaks no rule, and there is a table of it, which names its main.
+-- The source spells this tree, which breaks no rule.
 pub record Accepted (source : List ℕ) : Type 0 where
-  pub tokens : List Tok
   pub tree : UnitTree
-  pub table : ClassTable
-  pub cut : Tokens source tokens
-  pub spelled : SpellsUnit these tree tokens
+  pub spelled : Spelled source tree
   pub declared : broken tree ≡ []
-  pub is_table : IsTableOf tree table
   pub checked : broken_unit tree ≡ []
   pub owned : ownership.broken tree ≡ []
 

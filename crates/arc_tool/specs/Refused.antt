@@ -5,16 +5,12 @@ use Rattle.arc_lex.specs.Source.{Tokens}
 use Rattle.arc_lex.specs.declared.fault.LexFault.{LexFault}
 use Rattle.arc_lex.specs.Faults as lexing
 use Rattle.arc_ast.specs.Tree.{UnitTree}
-use Rattle.arc_grammar.specs.Grammar.{these}
 use Rattle.arc_fault.specs.declared.parse.ParseFault.{ParseFault}
 use Rattle.arc_fault.specs.Parse as parse_fault
-use Rattle.arc_parse.specs.Refusal.{SpellsUnit}
 use Rattle.arc_parse.specs.Refusal as parsing
-use Rattle.arc_class.specs.declared.table.ClassTable.{ClassTable}
 use Rattle.arc_fault.specs.declared.class.ClassFault.{ClassFault}
 use Rattle.arc_fault.specs.Class as class_fault
 use Rattle.arc_class.specs.ClassRules.{broken}
-use Rattle.arc_class.specs.Table.{IsTableOf}
 use Rattle.arc_class.specs.Fault as building
 use Rattle.arc_fault.specs.declared.check.CheckFault.{CheckFault}
 use Rattle.arc_fault.specs.Check as check_fault
@@ -28,7 +24,7 @@ use Rattle.arc_spec.specs.Resolved as resolved
 use Rattle.arc_lower.specs.Lowered.{lowered}
 use Rattle.arc_emit.specs.Emitted.{most_instrs}
 use Rattle.arc_tool.specs.declared.refusal.Refusal.{Refusal}
-use Rattle.arc_tool.specs.Accepted.{Accepted, program_meant}
+use Rattle.arc_tool.specs.Accepted.{Spelled, Accepted, program_meant}
 use Rattle.arc_tool.specs.Told.{Tells}
 
 -- the program becomes more actions than code may have instructions
@@ -40,13 +36,11 @@ pub data IsRefusal (source : List ℕ) (r : Refusal) : Type 0 where
   in_lexing : (f : LexFault) → lexing.IsLexFault source f → Tells (lexing.fault_number f) (lexing.fault_name f) (lexing.fault_at f) r → IsRefusal source r
   in_parsing : (f : ParseFault) (tokens : List Tok) → Tokens source tokens → parsing.IsRefused tokens f
       → Tells (parse_fault.fault_number f) (parse_fault.fault_name f) (parse_fault.fault_at f) r → IsRefusal source r
-  in_building : (f : ClassFault) (tokens : List Tok) (tree : UnitTree) → Tokens source tokens → SpellsUnit these tree tokens → building.Refuses (broken tree) f
+  in_building : (f : ClassFault) (tree : UnitTree) → Spelled source tree → building.Refuses (broken tree) f
       → Tells (class_fault.fault_number f) (class_fault.fault_name f) (class_fault.fault_at f) r → IsRefusal source r
-  in_checking : (f : CheckFault) (tokens : List Tok) (tree : UnitTree) (table : ClassTable) → Tokens source tokens → SpellsUnit these tree tokens
-      → broken tree ≡ [] → IsTableOf tree table → checking.Refuses (broken_unit tree) f
+  in_checking : (f : CheckFault) (tree : UnitTree) → Spelled source tree → broken tree ≡ [] → checking.Refuses (broken_unit tree) f
       → Tells (check_fault.fault_number f) (check_fault.fault_name f) (check_fault.fault_at f) r → IsRefusal source r
-  in_owning : (f : OwnFault) (tokens : List Tok) (tree : UnitTree) (table : ClassTable) → Tokens source tokens → SpellsUnit these tree tokens
-      → broken tree ≡ [] → IsTableOf tree table → broken_unit tree ≡ [] → owning.Refuses (ownership.broken tree) f
+  in_owning : (f : OwnFault) (tree : UnitTree) → Spelled source tree → broken tree ≡ [] → broken_unit tree ≡ [] → owning.Refuses (ownership.broken tree) f
       → Tells (own_fault.fault_number f) (own_fault.fault_name f) (own_fault.fault_at f) r → IsRefusal source r
   too_large : (program : Accepted source) → IsTooLarge (program_meant program) → Tells 71 (codes "TooLarge") 0 r → IsRefusal source r
   no_memory : (program : Accepted source) → Tells 72 (codes "Memory") 0 r → IsRefusal source r

@@ -29,6 +29,6 @@ parameters_to called = parameters_if_main (bytes_eq called main_bytes)
 unfoldable pub enclosed : List ℕ → Part ParametersTree
 enclosed called = map (λ (start, (ps, end)). ps) (the m.OpenParen ⨾ parameters_to called ⨾ the m.CloseParen)
 
--- further parts of a selector with their parameters, after those that are there
+-- further parts of a selector with their parameters, after those that are there (OPL, "Defining a Class")
 unfoldable pub more_typed : Part (Typed → Typed)
 more_typed = map (λ others s. (s.0 ++ selector_of others, s.1 ++ seconds others)) (many name next_typed)

@@ -1,3 +1,0 @@
-pub mod Tree
-pub mod Grammar
-pub mod Refusal
