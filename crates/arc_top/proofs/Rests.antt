@@ -4,7 +4,7 @@ use Rattle.arc_lex.specs.declared.token.Mark.TheVariants as m
 use Rattle.arc_lex.specs.declared.token.Word.TheVariants as w
 use Rattle.arc_lex.specs.Tokens.{Tok, Sort, Name, Integer, Text, Key, At, Sign}
 use Rattle.arc_ast.specs.Tree.{ParameterTree, ParametersTree}
-use Rattle.arc_form.specs.Kinds.{main_bytes, number_of_name, kind, ◌∪◌, mark, word, name}
+use Rattle.arc_form.specs.Kinds.{main_bytes, main_or_none, kind, ◌∪◌, mark, word, name}
 use Rattle.arc_form.specs.Form.{◌⨾◌}
 use Rattle.arc_form.specs.Reader.{Read, bind, ◌>>=◌, ret, sees, take_one, from, bytes_of, named}
 use Rattle.arc_form.proofs.Sets.{name_has}
@@ -59,7 +59,7 @@ read_signature (t ∷ ts) = go t.sort refl
     after n (Ok x) = refl
     after n (Err x) = refl
 
-    signed : (called : List ℕ) (is_main : Bool) → kind t.sort ≡ (0, number_of_name is_main) → bytes_of t.sort ≡ called
+    signed : (called : List ℕ) (is_main : Bool) → kind t.sort ≡ (0, main_or_none is_main) → bytes_of t.sort ≡ called
         → reads signature (t ∷ ts) ≡ bind {A = ParametersTree} (bind (reads (between (parameters_if_main is_main)) ts) (λ y. ret y.1.0)) (λ ps. ret ((t.from, called), ps))
     signed called true k b = rw (k, b) (after (t.from, called) (reads (between parameters_of_main) ts))
     signed called false k b = rw (k, b) (after (t.from, called) (reads (between parameters) ts))
