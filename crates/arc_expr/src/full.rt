@@ -11,11 +11,9 @@ use crate::expr::expr;
 use arc_ast::tree::Expr;
 use arc_form::fail::{Fail, Read};
 use arc_form::slice::{after, front};
+use arc_grammar::limits::MOST_TOKENS;
 use arc_lex::token::Token;
 use std::alloc::Global;
-
-/// The most tokens of a full-expression.
-const MOST: usize = 1000;
 
 /// Why there is no full-expression within the limit, where none was read of the tokens up to the limit and one more, and this rest
 /// was left.
@@ -25,13 +23,13 @@ fn refused<'a>(tokens: &'a [Token], ahead: &'a [Token], rest: &'a [Token]) -> Fa
     ensures { Fails result (reads grammar.full (toks tokens.now)) }
 {
     let taken = ahead.len() - rest.len();
-    if ahead.len() <= MOST {
+    if ahead.len() <= MOST_TOKENS {
         return Fail::Unexpected(after(tokens, taken));
     }
-    if taken < MOST {
+    if taken < MOST_TOKENS {
         return Fail::Unexpected(after(tokens, taken));
     }
-    Fail::TooDeep(after(tokens, MOST))
+    Fail::TooDeep(after(tokens, MOST_TOKENS))
 }
 
 /// A full-expression. Only the tokens up to the limit and one more are looked at.
@@ -39,12 +37,12 @@ pub fn full<'a>(alloc: Global, tokens: &'a [Token]) -> Read<'a, Expr>
     ensures gives { Gives (λ x. (expr_tree x.0, toks x.1.now)) result (reads grammar.full (toks tokens.now)) }
     ensures shorter { IfOk result (λ x. length x.1.now < length tokens.now) }
 {
-    let ahead = front(tokens, MOST + 1);
+    let ahead = front(tokens, MOST_TOKENS + 1);
     match expr(alloc, ahead) {
         Ok((tree, rest)) => {
             let taken = ahead.len() - rest.len();
-            if taken > MOST {
-                return Err(Fail::TooDeep(after(tokens, MOST)));
+            if taken > MOST_TOKENS {
+                return Err(Fail::TooDeep(after(tokens, MOST_TOKENS)));
             }
             Ok((tree, after(tokens, taken)))
         }

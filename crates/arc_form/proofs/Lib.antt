@@ -17,3 +17,4 @@ pub mod FormTell
 pub mod Front
 pub mod FormWhole
 pub mod FormAnswers
+pub mod Joining

@@ -6,3 +6,4 @@ pub mod Operators
 pub mod Places
 pub mod Whole
 pub mod Views
+pub mod Joining

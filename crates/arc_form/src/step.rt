@@ -165,6 +165,27 @@ pub fn keyword(word: Word, tokens: &[Token]) -> Read<'_, usize>
     }
 }
 
+/// The place of the first token, which is this word with `@` before it.
+///
+/// `Unexpected` comes with all of the tokens where it is not.
+pub fn directive(word: AtWord, tokens: &[Token]) -> Read<'_, usize>
+    ensures gives { Gives (λ x. (x.0, toks x.1.now)) result (take_one (kinds.at word) from (toks tokens.now)) }
+    ensures shorter { IfOk result (λ x. length x.1.now < length tokens.now) }
+{
+    match tokens.split_first() {
+        Some(
+            (
+                Token {
+                    kind: TokenKind::At(found),
+                    span,
+                },
+                rest,
+            ),
+        ) if same_at(*found, word) => Ok((span.from, rest)),
+        _ => Err(Fail::Unexpected(tokens)),
+    }
+}
+
 /// The place and the bytes of the first token, which is a name.
 ///
 /// `Unexpected` comes with all of the tokens where it is not.

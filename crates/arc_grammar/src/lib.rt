@@ -1,2 +1,4 @@
 //! The grammar: which tokens spell which tree.
 #![tactic(auto)]
+
+pub mod limits;

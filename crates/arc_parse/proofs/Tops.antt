@@ -13,7 +13,7 @@ use Rattle.arc_form.proofs.Static.{nullable, of_many}
 use Rattle.arc_grammar.specs.Grammar.{TopTree, OfNames, OfFunction, OfInterface, OfImplementation, functions_of, interfaces_of, implementations_of, these, reads, body, begins_top, unit}
 use Rattle.arc_grammar.specs.Grammar as grammar
 use Rattle.arc_grammar.proofs.Fits.{facts, sure, sure_unit}
-use Rattle.arc_top.specs.Joining.{joining}
+use Rattle.arc_form.specs.Joining.{joining}
 use Rattle.arc_parse.specs.private.Views.{and_top}
 
 pub top_front : (j : ℕ) → Local ⊥ 1 j (reads grammar.top) (reads grammar.top)

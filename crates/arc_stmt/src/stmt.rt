@@ -6,6 +6,7 @@ ghost use Rattle.arc_form.specs.Views.{all};
 ghost use Rattle.arc_ast.specs.Tree.{expr_tree, stmt_tree};
 ghost use Rattle.arc_grammar.specs.Grammar.{reads, rules, these};
 ghost use Rattle.arc_grammar.specs.Grammar as grammar;
+ghost use Rattle.arc_grammar.specs.declared.limits.TheConstants.{DEEPEST};
 
 use crate::first::{begins_item, begins_stmt};
 use crate::variable::{declaration, objects};
@@ -14,11 +15,9 @@ use arc_expr::full::full;
 use arc_form::fail::{Fail, Read};
 use arc_form::slice::after_first;
 use arc_form::step::{expect, keyword, sees_mark, sees_reference, sees_word};
+use arc_grammar::limits::DEEPEST;
 use arc_lex::token::{Mark, Token, Word};
 use std::alloc::Global;
-
-/// The deepest that a statement nests.
-const DEEPEST: usize = 200;
 
 /// A statement that is nested so deep.
 #[cycle(stmts)]
@@ -39,7 +38,7 @@ fn stmt<'a>(alloc: Global, depth: usize, tokens: &'a [Token]) -> Read<'a, Stmt>
 #[cycle(stmts)]
 #[tactic(auto, unfolding(arc_grammar::specs::Grammar::statement))]
 fn statement<'a>(alloc: Global, depth: usize, tokens: &'a [Token]) -> Read<'a, Stmt>
-    requires { depth ≤ 200 }
+    requires { depth ≤ DEEPEST }
     ensures gives { Gives (λ x. (stmt_tree x.0, toks x.1.now)) result (reads (grammar.statement depth) (toks tokens.now)) }
     ensures shorter { IfOk result (λ x. length x.1.now < length tokens.now) }
 {
@@ -56,7 +55,7 @@ fn statement<'a>(alloc: Global, depth: usize, tokens: &'a [Token]) -> Read<'a, S
 #[cycle(stmts)]
 #[tactic(auto, unfolding(arc_grammar::specs::Grammar::worded))]
 fn worded<'a>(alloc: Global, depth: usize, tokens: &'a [Token]) -> Read<'a, Stmt>
-    requires { depth ≤ 200 }
+    requires { depth ≤ DEEPEST }
     ensures gives { Gives (λ x. (stmt_tree x.0, toks x.1.now)) result (reads (grammar.worded depth) (toks tokens.now)) }
     ensures shorter { IfOk result (λ x. length x.1.now < length tokens.now) }
 {
@@ -75,7 +74,7 @@ fn worded<'a>(alloc: Global, depth: usize, tokens: &'a [Token]) -> Read<'a, Stmt
 #[cycle(stmts)]
 #[tactic(auto, unfolding(arc_grammar::specs::Grammar::if_else))]
 fn conditional<'a>(alloc: Global, depth: usize, tokens: &'a [Token]) -> Read<'a, Stmt>
-    requires { depth ≤ 200 }
+    requires { depth ≤ DEEPEST }
     ensures gives { Gives (λ x. (stmt_tree x.0, toks x.1.now)) result (reads (grammar.if_else depth) (toks tokens.now)) }
     ensures shorter { IfOk result (λ x. length x.1.now < length tokens.now) }
 {
@@ -101,7 +100,7 @@ fn chosen(at: usize, condition: Box<Expr>, first: Box<Stmt>, second: Option<Box<
 #[cycle(stmts)]
 #[tactic(auto, unfolding(arc_grammar::specs::Grammar::otherwise))]
 fn otherwise<'a>(alloc: Global, depth: usize, tokens: &'a [Token]) -> Read<'a, Option<Box<Stmt>>>
-    requires { depth ≤ 200 }
+    requires { depth ≤ DEEPEST }
     ensures gives { Gives (λ x. (option_map (λ b. stmt_tree b.value) x.0, toks x.1.now)) result (reads (grammar.otherwise depth) (toks tokens.now)) }
     ensures shorter { IfOk result (λ x. length x.1.now ≤ length tokens.now) }
 {
@@ -117,7 +116,7 @@ fn otherwise<'a>(alloc: Global, depth: usize, tokens: &'a [Token]) -> Read<'a, O
 #[cycle(stmts)]
 #[tactic(auto, unfolding(arc_grammar::specs::Grammar::while_do))]
 fn repeated<'a>(alloc: Global, depth: usize, tokens: &'a [Token]) -> Read<'a, Stmt>
-    requires { depth ≤ 200 }
+    requires { depth ≤ DEEPEST }
     ensures gives { Gives (λ x. (stmt_tree x.0, toks x.1.now)) result (reads (grammar.while_do depth) (toks tokens.now)) }
     ensures shorter { IfOk result (λ x. length x.1.now < length tokens.now) }
 {
@@ -154,7 +153,7 @@ fn test<'a>(alloc: Global, tokens: &'a [Token]) -> Read<'a, Box<Expr>>
 #[cycle(stmts)]
 #[tactic(auto, unfolding(arc_grammar::specs::Grammar::block))]
 fn block<'a>(alloc: Global, depth: usize, tokens: &'a [Token]) -> Read<'a, Stmt>
-    requires { depth ≤ 200 }
+    requires { depth ≤ DEEPEST }
     ensures gives { Gives (λ x. (stmt_tree x.0, toks x.1.now)) result (reads (grammar.block depth) (toks tokens.now)) }
     ensures shorter { IfOk result (λ x. length x.1.now < length tokens.now) }
 {

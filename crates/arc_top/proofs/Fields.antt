@@ -14,7 +14,7 @@ use Rattle.arc_form.specs.Reader.{Read, Reader, bind, ◌>>=◌, ret, sees, if_s
 use Rattle.arc_form.proofs.Local.{Local}
 use Rattle.arc_grammar.specs.Grammar.{FieldGroup, OfWord, OfInts, reads, next_name, more_names, group, groups, fields, fields_of, named_fields, visibility_of, begins_visibility, class_names}
 use Rattle.arc_top.proofs.Rests.{front}
-use Rattle.arc_top.specs.Joining.{joining}
+use Rattle.arc_form.specs.Joining.{joining}
 use Rattle.arc_top.specs.Fields.{begins_group, field_tree, add_field, add_group, ints_on, group_on, names_skipped}
 
 pub name_front : (j : ℕ) → Local ⊥ 1 j (reads next_name) (reads next_name)

@@ -9,7 +9,7 @@ use Rattle.arc_form.specs.Kinds.{Kinds, ◌∪◌, mark, word, name}
 use Rattle.arc_form.specs.Operators.{fold}
 use Rattle.arc_form.specs.Reader.{Reader, ◌>>=◌, ret, take_one, from, named}
 use Rattle.arc_grammar.specs.Grammar.{FieldGroup, OfWord, OfInts, reads, next_name, group, begins_visibility}
-use Rattle.arc_top.specs.Joining.{joining}
+use Rattle.arc_form.specs.Joining.{joining}
 
 -- what a group of fields begins with
 abbrev pub begins_group : Kinds

@@ -1,4 +1,3 @@
 pub mod Signatures
-pub mod Joining
 pub mod Fields
 pub mod Tops

@@ -2,8 +2,7 @@
 ghost use Rattle.std.specs.Prelude.{◌<◌, ◌≤◌, length, IfOk};
 ghost use Rattle.arc_lex.specs.Tokens.{toks};
 ghost use Rattle.arc_ast.specs.Tree.{interface_tree, implementation_tree};
-ghost use Rattle.arc_form.specs.Kinds as kinds;
-ghost use Rattle.arc_form.specs.Reader.{Gives, take_one, from};
+ghost use Rattle.arc_form.specs.Reader.{Gives};
 ghost use Rattle.arc_grammar.specs.Grammar.{reads};
 ghost use Rattle.arc_grammar.specs.Grammar as grammar;
 ghost use Rattle.arc_top.specs.Fields.{names_skipped};
@@ -12,21 +11,10 @@ use crate::field::fields;
 use crate::method::{method_heads, methods};
 use crate::name::next_name;
 use arc_ast::tree::{Implementation, Interface, Visibility};
-use arc_form::fail::{Fail, Read};
-use arc_form::step::{expect, name, sees_at, sees_mark};
+use arc_form::fail::Read;
+use arc_form::step::{directive, expect, name, sees_mark};
 use arc_lex::token::{AtWord, Mark, Token};
 use std::alloc::Global;
-
-/// The place of the first token, which is this word with `@` before it.
-fn at_word(word: AtWord, tokens: &[Token]) -> Read<'_, usize>
-    ensures gives { Gives (λ x. (x.0, toks x.1.now)) result (take_one (kinds.at word) from (toks tokens.now)) }
-    ensures shorter { IfOk result (λ x. length x.1.now < length tokens.now) }
-{
-    match tokens.split_first() {
-        Some((token, rest)) if sees_at(word, tokens) => Ok((token.span.from, rest)),
-        _ => Err(Fail::Unexpected(tokens)),
-    }
-}
 
 /// `@interface`, the class's name, its superclass's, the fields, the methods and `@end`
 #[tactic(auto, unfolding(arc_grammar::specs::Grammar::interface))]
@@ -34,13 +22,13 @@ pub fn interface<'a>(alloc: Global, tokens: &'a [Token]) -> Read<'a, Interface>
     ensures gives { Gives (λ x. (interface_tree x.0, toks x.1.now)) result (reads grammar.interface (toks tokens.now)) }
     ensures shorter { IfOk result (λ x. length x.1.now < length tokens.now) }
 {
-    let (_, rest) = at_word(AtWord::Interface, tokens)?;
+    let (_, rest) = directive(AtWord::Interface, tokens)?;
     let ((at, called), rest) = name(rest)?;
     let (_, rest) = expect(Mark::Colon, rest)?;
     let ((superclass_at, superclass), rest) = name(rest)?;
     let (fields, rest) = fields(alloc, Visibility::Protected, rest)?;
     let (methods, rest) = method_heads(alloc, rest)?;
-    let (_, rest) = at_word(AtWord::End, rest)?;
+    let (_, rest) = directive(AtWord::End, rest)?;
     Ok((
         Interface {
             at,
@@ -60,11 +48,11 @@ pub fn implementation<'a>(alloc: Global, tokens: &'a [Token]) -> Read<'a, Implem
     ensures gives { Gives (λ x. (implementation_tree x.0, toks x.1.now)) result (reads grammar.implementation (toks tokens.now)) }
     ensures shorter { IfOk result (λ x. length x.1.now < length tokens.now) }
 {
-    let (_, rest) = at_word(AtWord::Implementation, tokens)?;
+    let (_, rest) = directive(AtWord::Implementation, tokens)?;
     let ((at, called), rest) = name(rest)?;
     let (fields, rest) = fields(alloc, Visibility::Private, rest)?;
     let (methods, rest) = methods(alloc, rest)?;
-    let (_, rest) = at_word(AtWord::End, rest)?;
+    let (_, rest) = directive(AtWord::End, rest)?;
     Ok((
         Implementation {
             at,
@@ -82,7 +70,7 @@ pub fn class_names(tokens: &[Token]) -> Read<'_, ()>
     ensures gives { Gives (λ x. (x.0, toks x.1.now)) result (reads grammar.class_names (toks tokens.now)) }
     ensures shorter { IfOk result (λ x. length x.1.now < length tokens.now) }
 {
-    let (_, rest) = at_word(AtWord::Class, tokens)?;
+    let (_, rest) = directive(AtWord::Class, tokens)?;
     let (_, rest) = name(rest)?;
     let (_, rest) = more_names(rest)?;
     let (_, rest) = expect(Mark::Semicolon, rest)?;

@@ -3,13 +3,13 @@ use Rattle.arc_expr.proofs.Bound.{then_over, then_fits}
 use Rattle.arc_expr.proofs.full.full.Goals as goal
 
 pub after-requires : goal.after-requires
-after-requires c = omega (arith, c.front-ahead.ensures.fits, c.if-taken-gt-MOST.true)
+after-requires c = omega (arith, c.front-ahead.ensures.fits, c.if-taken-gt-MOST_TOKENS.true)
 
-pub returns-then-taken-gt-MOST-clause-gives : goal.returns-then-taken-gt-MOST-clause-gives
-returns-then-taken-gt-MOST-clause-gives c = then_over _ _ c.in-Ok.rest.now _ c.front-ahead.ensures.first _ c.in-Ok.ensures.gives c.if-taken-gt-MOST.true c.after.ensures
+pub returns-then-taken-gt-MOST_TOKENS-clause-gives : goal.returns-then-taken-gt-MOST_TOKENS-clause-gives
+returns-then-taken-gt-MOST_TOKENS-clause-gives c = then_over _ _ c.in-Ok.rest.now _ c.front-ahead.ensures.first _ c.in-Ok.ensures.gives c.if-taken-gt-MOST_TOKENS.true c.after.ensures
 
 pub after-requires-in-Ok : goal.after-requires-in-Ok
 after-requires-in-Ok c = omega (arith, c.front-ahead.ensures.fits)
 
-pub returns-else-taken-gt-MOST-clause-gives : goal.returns-else-taken-gt-MOST-clause-gives
-returns-else-taken-gt-MOST-clause-gives c = then_fits _ _ c.in-Ok.rest.now _ c.front-ahead.ensures.first _ c.in-Ok.ensures.gives (omega (arith, c.if-taken-gt-MOST.false)) c.after-in-Ok.ensures
+pub returns-else-taken-gt-MOST_TOKENS-clause-gives : goal.returns-else-taken-gt-MOST_TOKENS-clause-gives
+returns-else-taken-gt-MOST_TOKENS-clause-gives c = then_fits _ _ c.in-Ok.rest.now _ c.front-ahead.ensures.first _ c.in-Ok.ensures.gives (omega (arith, c.if-taken-gt-MOST_TOKENS.false)) c.after-in-Ok.ensures

@@ -6,7 +6,7 @@ use Rattle.arc_form.specs.Reader.{bind, ret}
 use Rattle.arc_grammar.specs.Grammar.{reads, begins_top}
 use Rattle.arc_grammar.specs.Grammar as grammar
 use Rattle.arc_top.specs.Tops.{top_tree}
-use Rattle.arc_top.proofs.Joining.{fails_is, fails_then, join_more, join_end, join_fails}
+use Rattle.arc_form.proofs.Joining.{fails_is, fails_then, join_more, join_end, join_fails}
 use Rattle.arc_parse.specs.private.Views.{and_top}
 use Rattle.arc_parse.proofs.Tops.{top_front, tops_on, tops_start, nothing_yet}
 use Rattle.arc_parse.proofs.source.tops.Goals as goal

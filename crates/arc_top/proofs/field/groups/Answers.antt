@@ -7,7 +7,7 @@ use Rattle.arc_form.specs.Reader.{bind, ret}
 use Rattle.arc_grammar.specs.Grammar.{reads}
 use Rattle.arc_grammar.specs.Grammar as grammar
 use Rattle.arc_top.specs.Fields.{begins_group, add_group}
-use Rattle.arc_top.proofs.Joining.{fails_is, fails_then, join_more, join_end, join_fails}
+use Rattle.arc_form.proofs.Joining.{fails_is, fails_then, join_more, join_end, join_fails}
 use Rattle.arc_top.proofs.Fields.{group_front, groups_on, groups_start}
 use Rattle.arc_top.proofs.field.groups.Goals as goal
 

@@ -8,7 +8,7 @@ use Rattle.arc_form.specs.Reader.{bind, ret}
 use Rattle.arc_grammar.specs.Grammar.{reads}
 use Rattle.arc_grammar.specs.Grammar as grammar
 use Rattle.arc_top.specs.Fields.{add_field, names_on}
-use Rattle.arc_top.proofs.Joining.{fails_is, fails_then, join_more, join_end, join_fails}
+use Rattle.arc_form.proofs.Joining.{fails_is, fails_then, join_more, join_end, join_fails}
 use Rattle.arc_top.proofs.Fields.{name_front, fields_push}
 use Rattle.arc_top.proofs.field.more_fields.Goals as goal
 

@@ -9,7 +9,7 @@ use Rattle.arc_form.specs.Reader.{Read, Reader, Fails, bind, ret, sees, loop}
 use Rattle.arc_form.proofs.Local.{Local}
 use Rattle.arc_form.proofs.FormBegins.{loop_end}
 use Rattle.arc_form.proofs.FormComplete.{loop_more}
-use Rattle.arc_top.specs.Joining.{joining}
+use Rattle.arc_form.specs.Joining.{joining}
 
 -- what is the same fails the same
 pub fails_is : {A : Type 0} (e : Fail) (x y : Read A) → x ≡ y → Fails e y → Fails e x
