@@ -315,8 +315,9 @@ value = choose (mark m.Semicolon) (map (λ end. None) (the m.Semicolon)) (map (�
 unfoldable pub returned : Part StmtTree
 returned = map (λ (at, e). Return at e) (key w.Return ⨾ value)
 
-unfoldable pub test : Part ExprTree
-test = map (λ (start, (c, end)). c) (the m.OpenParen ⨾ full ⨾ the m.CloseParen)
+-- a controlling expression in parentheses (6.8.4 and 6.8.5)
+unfoldable pub controlling : Part ExprTree
+controlling = map (λ (start, (c, end)). c) (the m.OpenParen ⨾ full ⨾ the m.CloseParen)
 
 abbrev pub conditional : ℕ → ExprTree → StmtTree → Option StmtTree → StmtTree
 conditional at c a None = If at c a
@@ -327,10 +328,10 @@ unfoldable pub otherwise : ℕ → Part (Option StmtTree)
 otherwise d = or_none (word w.Else) (map (λ (other, b). Some b) (key w.Else ⨾ call (stmt (suc d)))) None
 
 unfoldable pub if_else : ℕ → Part StmtTree
-if_else d = map (λ (at, (c, (a, b))). conditional at c a b) (key w.If ⨾ test ⨾ call (stmt (suc d)) ⨾ otherwise d)
+if_else d = map (λ (at, (c, (a, b))). conditional at c a b) (key w.If ⨾ controlling ⨾ call (stmt (suc d)) ⨾ otherwise d)
 
 unfoldable pub while_do : ℕ → Part StmtTree
-while_do d = map (λ (at, (c, a)). While at c a) (key w.While ⨾ test ⨾ call (stmt (suc d)))
+while_do d = map (λ (at, (c, a)). While at c a) (key w.While ⨾ controlling ⨾ call (stmt (suc d)))
 
 -- a declaration, where a name and `*` are ahead, or a statement
 unfoldable pub by_name : ℕ → Part StmtTree

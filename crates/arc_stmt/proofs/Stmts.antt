@@ -12,7 +12,7 @@ use Rattle.arc_ast.specs.declared.tree.Stmt.{Stmt, Block}
 use Rattle.arc_ast.specs.Tree.{ExprTree, StmtTree, stmt_tree, stmt_trees, and_stmt}
 use Rattle.arc_ast.specs.Tree as tree
 use Rattle.arc_ast.proofs.Trees as trees
-use Rattle.arc_grammar.specs.Grammar.{stmts, reads, rules, these, stmt, test, otherwise, if_else, conditional, items, block}
+use Rattle.arc_grammar.specs.Grammar.{stmts, reads, rules, these, stmt, controlling, otherwise, if_else, conditional, items, block}
 
 pub stmts_all : (l : List Stmt) → stmts (all stmt_tree l) ≡ stmt_trees l
 stmts_all [] = refl
@@ -27,17 +27,17 @@ pub block_reads : (d k at end : ℕ) (all : List StmtTree) (ts us vs ws : List T
 unfolding block
 block_reads d k at end all ts us vs ws n p q r = rw (p, sym n, q, r) refl
 
-pub if_reads : (d k at : ℕ) (c : ExprTree) (a : StmtTree) (b : Option StmtTree) (ts us vs ws zs : List Tok) → k ≡ suc d → take_one (word w.If) from ts ≡ Ok (at, us) → reads test us ≡ Ok (c, vs) → rules these (stmt k) vs ≡ Ok (a, ws)
+pub if_reads : (d k at : ℕ) (c : ExprTree) (a : StmtTree) (b : Option StmtTree) (ts us vs ws zs : List Tok) → k ≡ suc d → take_one (word w.If) from ts ≡ Ok (at, us) → reads controlling us ≡ Ok (c, vs) → rules these (stmt k) vs ≡ Ok (a, ws)
     → reads (otherwise d) ws ≡ Ok (b, zs) → reads (if_else d) ts ≡ Ok (conditional at c a b, zs)
 unfolding if_else
 if_reads d k at c a b ts us vs ws zs n p q r s = rw (p, q, sym n, r, s) refl
 
-if_stops : (d k at : ℕ) (c : ExprTree) (a : StmtTree) (ts us vs ws : List Tok) (e : Fault × List Tok) → k ≡ suc d → take_one (word w.If) from ts ≡ Ok (at, us) → reads test us ≡ Ok (c, vs) → rules these (stmt k) vs ≡ Ok (a, ws)
+if_stops : (d k at : ℕ) (c : ExprTree) (a : StmtTree) (ts us vs ws : List Tok) (e : Fault × List Tok) → k ≡ suc d → take_one (word w.If) from ts ≡ Ok (at, us) → reads controlling us ≡ Ok (c, vs) → rules these (stmt k) vs ≡ Ok (a, ws)
     → reads (otherwise d) ws ≡ Err e → reads (if_else d) ts ≡ Err e
 unfolding if_else
 if_stops d k at c a ts us vs ws e n p q r s = rw (p, q, sym n, r, s) refl
 
-pub if_fails : (e : Fail) (d k at : ℕ) (c : ExprTree) (a : StmtTree) (ts us vs ws : List Tok) → k ≡ suc d → take_one (word w.If) from ts ≡ Ok (at, us) → reads test us ≡ Ok (c, vs) → rules these (stmt k) vs ≡ Ok (a, ws)
+pub if_fails : (e : Fail) (d k at : ℕ) (c : ExprTree) (a : StmtTree) (ts us vs ws : List Tok) → k ≡ suc d → take_one (word w.If) from ts ≡ Ok (at, us) → reads controlling us ≡ Ok (c, vs) → rules these (stmt k) vs ≡ Ok (a, ws)
     → Fails e (reads (otherwise d) ws) → Fails e (reads (if_else d) ts)
 if_fails Memory d k at c a ts us vs ws n p q r s = tt
 if_fails (Unexpected x) d k at c a ts us vs ws n p q r s = if_stops d k at c a ts us vs ws (misfit, toks x.now) n p q r s

@@ -70,7 +70,7 @@ fn worded<'a>(alloc: Global, depth: usize, tokens: &'a [Token]) -> Read<'a, Stmt
     }
 }
 
-/// `if`, a test, a branch, and perhaps `else` and another
+/// `if`, a controlling expression, a branch, and perhaps `else` and another
 #[cycle(stmts)]
 #[tactic(auto, unfolding(arc_grammar::specs::Grammar::if_else))]
 fn conditional<'a>(alloc: Global, depth: usize, tokens: &'a [Token]) -> Read<'a, Stmt>
@@ -79,7 +79,7 @@ fn conditional<'a>(alloc: Global, depth: usize, tokens: &'a [Token]) -> Read<'a,
     ensures shorter { IfOk result (λ x. length x.1.now < length tokens.now) }
 {
     let (at, rest) = keyword(Word::If, tokens)?;
-    let (condition, rest) = test(alloc, rest)?;
+    let (condition, rest) = controlling(alloc, rest)?;
     let (first, rest) = branch(alloc, depth + 1, rest)?;
     let (second, rest) = otherwise(alloc, depth, rest)?;
     Ok((chosen(at, condition, first, second), rest))
@@ -112,7 +112,7 @@ fn otherwise<'a>(alloc: Global, depth: usize, tokens: &'a [Token]) -> Read<'a, O
     Ok((Some(second), rest))
 }
 
-/// `while`, a test and a body
+/// `while`, a controlling expression and a body
 #[cycle(stmts)]
 #[tactic(auto, unfolding(arc_grammar::specs::Grammar::while_do))]
 fn repeated<'a>(alloc: Global, depth: usize, tokens: &'a [Token]) -> Read<'a, Stmt>
@@ -121,7 +121,7 @@ fn repeated<'a>(alloc: Global, depth: usize, tokens: &'a [Token]) -> Read<'a, St
     ensures shorter { IfOk result (λ x. length x.1.now < length tokens.now) }
 {
     let (at, rest) = keyword(Word::While, tokens)?;
-    let (condition, rest) = test(alloc, rest)?;
+    let (condition, rest) = controlling(alloc, rest)?;
     let (body, rest) = branch(alloc, depth + 1, rest)?;
     Ok((Stmt::While(at, Box::into_inner(condition), body), rest))
 }
@@ -136,10 +136,10 @@ fn branch<'a>(alloc: Global, depth: usize, tokens: &'a [Token]) -> Read<'a, Box<
     Ok((Box::new(alloc, read)?, rest))
 }
 
-/// A test in parentheses, boxed, so that a branch that is refused after it drops no more than a box.
-#[tactic(auto, unfolding(arc_grammar::specs::Grammar::test))]
-fn test<'a>(alloc: Global, tokens: &'a [Token]) -> Read<'a, Box<Expr>>
-    ensures gives { Gives (λ x. (expr_tree x.0.value, toks x.1.now)) result (reads grammar.test (toks tokens.now)) }
+/// A controlling expression in parentheses, boxed, so that a branch that is refused after it drops no more than a box.
+#[tactic(auto, unfolding(arc_grammar::specs::Grammar::controlling))]
+fn controlling<'a>(alloc: Global, tokens: &'a [Token]) -> Read<'a, Box<Expr>>
+    ensures gives { Gives (λ x. (expr_tree x.0.value, toks x.1.now)) result (reads grammar.controlling (toks tokens.now)) }
     ensures shorter { IfOk result (λ x. length x.1.now < length tokens.now) }
 {
     let (_, rest) = expect(Mark::OpenParen, tokens)?;
