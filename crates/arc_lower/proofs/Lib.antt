@@ -27,9 +27,10 @@ mod Executing
 mod Linking
 mod Finding
 mod Calling
+mod Typing
 mod HeightsEnd
-mod Straight
-mod HeightsFollow
+mod Stepping
+mod Programs
 mod HeightsFit
 mod Safety
 mod Staying
