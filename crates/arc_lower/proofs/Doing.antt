@@ -17,7 +17,7 @@ bare p = relinked (linked p) [] (λ at to. to) (λ f. Some (entry p f)) (λ byte
 abbrev pub does : Program → Order → State → Next State
 does p x = instructions.executes (bare p) (Some x)
 
-acts_does : (p : Program) (x : Action) (s : State) → executes p (Some x) s ≡ does p (order x) s
+pub acts_does : (p : Program) (x : Action) (s : State) → executes p (Some x) s ≡ does p (order x) s
 acts_does p x s = sym (renamed_same (linked p) [] (λ at to. to) (λ f. Some (entry p f)) (λ bytes. Some bytes) (λ to. to) (λ f. f) (λ part. part.bytes.items) s x (λ to. refl) (λ f is. refl) (λ part is. refl))
 
 -- the actions of these orders stand among the actions at this place

@@ -1,6 +1,6 @@
 -- The heights of a lowered program fit its actions.
 use Rattle.std.proofs.Common.{◌≡◌, ℕ, zero, suc, ◌+◌, ◌-◌, ◌≤◌, Bool, true, false, if◌then◌else◌, nat_lt, List, [], ◌∷◌, length, get_or, Option, Some, None, refl, sym, ap, ◌∙◌, subst, arith, slice_get}
-use Rattle.std.proofs.lemmas.Bool.{ltb-false}
+use Rattle.std.proofs.lemmas.Bool.{ltb-true, ltb-false}
 use Rattle.arc_spec.specs.Classes.{lookup}
 use Rattle.arc_spec.specs.Resolved.{Function}
 use Rattle.arc_spec.specs.Resolved as resolved
@@ -76,7 +76,7 @@ module _ (p : Program) (R : resolved.Program) where
     order_fits pc h (Plain o) now s = within pc (pc + 1) h _ (operation_effect o) now s.1.0.height (omega arith) (omega arith)
     order_fits pc h (PrintText t) now s = within pc (pc + 1) h _ (order_effect (PrintText t)) now s.1.0.height (omega arith) (omega arith)
     order_fits pc h (Jump to) now s = within pc to h h (order_effect (Jump to)) now s.0.height (omega arith) (omega arith)
-    order_fits pc h (JumpZero to) now s = (within pc (pc + 1) h _ (order_effect (JumpZero to)) now s.1.0.0.height (omega arith) (omega arith), within pc to h _ (order_effect (JumpZero to)) now s.1.1.0.height (omega arith) (omega arith))
+    order_fits pc h (JumpZero to) now s = (within pc (pc + 1) h _ (order_effect (JumpZero to)) now s.1.0.height (omega arith) (omega arith), within pc to h _ (order_effect (JumpZero to)) now s.2.0.height (omega arith) (omega arith))
     order_fits pc h (Call f) now s =
         let n = numbers_there pc h now in
         let m = places_there pc h now in
@@ -95,7 +95,7 @@ module _ (p : Program) (R : resolved.Program) where
     order_fits pc h Return now s = let n = numbers_there pc h now in let m = places_there pc h now in (omega (arith, n, s.0), omega (arith, m, s.1))
     order_fits pc h (StoreStrong depth) now s = within pc (pc + 1) h _ (order_effect (StoreStrong depth)) now s.1.0.height (omega arith) (omega arith)
     order_fits pc h Drop now s = within pc (pc + 1) h _ (order_effect Drop) now s.1.0.height (omega arith) (omega arith)
-    order_fits pc h (Empty i) now s = within pc (pc + 1) h _ (order_effect (Empty i)) now s.1.0.height (omega arith) (omega arith)
+    order_fits pc h (Empty i) now s = within pc (pc + 1) h _ (order_effect (Empty i)) now s.1.height (omega arith) (omega arith)
     order_fits pc h EndStep now s = let n = numbers_there pc h now in let m = places_there pc h now in (omega (arith, n, s.0), omega (arith, m, s.1))
 
   -- an action fits where its order does
@@ -121,12 +121,22 @@ module _ (p : Program) (R : resolved.Program) where
   order_at (y ∷ xs) (suc pc) x e = order_at xs pc x e
 
   module _ (is : orders p.actions ≡ lowered R) (entries : p.entries ≡ entries_of R) where
+    number_by : (f : ℕ) (b : Bool) → nat_lt f (length R.functions) ≡ b → f ≤ length R.functions → (if b then f else length R.functions) ≡ f
+    number_by f true e le = refl
+    number_by f false e le = let past = ltb-false f (length R.functions) e in omega (arith, le, past)
+
+    -- a function is entered with its variables
+    pub entry_goes : (f : ℕ) → f ≤ length R.functions → Goes R (all R) (table R) (entry p f) (height (slots_of R f) 0)
+    entry_goes f le =
+        let there : Entered R (entries_of R) (number_of R f) (slots_of R f) = entered_at R f in
+        let same : number_of R f ≡ f = number_by f (nat_lt f (length R.functions)) refl le in
+        let found : get_or p.entries f (length p.actions) ≡ there.at = get_there p.entries f there.at (length p.actions) (ap (λ l. slice_get l f) entries ∙ ap (slice_get (entries_of R)) (sym same) ∙ there.is) in
+        subst (λ n. Goes R (all R) (table R) n (height (slots_of R f) 0)) (sym found) there.goes
+
     begun_by : (f : ℕ) (b : Bool) → nat_lt f (length R.functions) ≡ b → slots_of R f ≤ numbers (entry p f)
     begun_by f true e =
-        let there : Entered R (entries_of R) (number_of R f) (slots_of R f) = entered_at R f in
-        let same : number_of R f ≡ f = ap (λ t. if t then f else length R.functions) e in
-        let found : get_or p.entries f (length p.actions) ≡ there.at = get_there p.entries f there.at (length p.actions) (ap (λ l. slice_get l f) entries ∙ ap (slice_get (entries_of R)) (sym same) ∙ there.is) in
-        let n = ap numbers found ∙ numbers_there there.at (height (slots_of R f) 0) there.goes.0.height in
+        let lt = ltb-true f (length R.functions) e in
+        let n = numbers_there (entry p f) (height (slots_of R f) 0) (entry_goes f (omega (arith, lt))).0.height in
         omega (arith, n)
     begun_by f false e =
         let none : 0 ≡ slots_of R f = ap (λ (g : Function). g.slots) (out_of_list R.functions R.main R.classes f (ltb-false f (length R.functions) e)) in
@@ -136,7 +146,7 @@ module _ (p : Program) (R : resolved.Program) where
     heights_fit classes = record {
       at = λ pc x e.
           let s = steps_at R pc (order x) (subst (λ l. slice_get l pc ≡ Some (order x)) is (order_at p.actions pc x e)) in
-          action_fits x pc (order_fits (λ f. begun_by f (nat_lt f (length R.functions)) refl) pc s.0 (order x) s.1.0 s.1.1);
+          action_fits x pc (order_fits (λ f. begun_by f (nat_lt f (length R.functions)) refl) pc s.0 (order x) s.1 s.2);
       methods = λ from sign selector takes to e.
           let there = methods_go R from sign selector takes to (subst (λ cs. lookup cs from sign selector takes ≡ Some to) classes e) in
           let n = numbers_there to (height (passes sign takes) 0) there.0.height in

@@ -33,9 +33,6 @@ mod Stepping
 mod Programs
 mod HeightsFit
 mod Safety
-mod Staying
-mod Leaving
-mod Sounding
 mod RoomSuffices
 mod Transferring
 mod Whole

@@ -11,7 +11,7 @@ use Rattle.arc_code.specs.declared.instr.Op.TheVariants.{Num, Forget}
 use Rattle.arc_code.specs.declared.instr.Instr.TheVariants.{Plain, Jump, Call, Return, Empty, EndStep}
 use Rattle.arc_code.specs.Effects.{passes}
 use Rattle.arc_lower.specs.Order.{Order}
-use Rattle.arc_lower.specs.Lowered.{all_functions, number_of, slots_of, zero_orders, fit_orders, nil_orders, keep_orders, all_empty_orders, all_command_orders, function_orders, functions_orders, entries_from, start_orders, end_step_of, entries_of, stub_orders, methods_orders, dealloc_orders, class_orders, classes_orders, linked_methods, linked_dealloc, linked_classes, running_orders, lowered, classes_linked}
+use Rattle.arc_lower.specs.Lowered.{all_functions, number_of, slots_of, zero_orders, fit_orders, nil_orders, keep_orders, all_empty_orders, all_command_orders, function_orders, functions_orders, entries_from, start_orders, end_step_of, entry_of, entries_of, stub_orders, methods_orders, dealloc_orders, class_orders, classes_orders, linked_methods, linked_dealloc, linked_classes, running_orders, lowered, classes_linked}
 use Rattle.arc_lower.specs.declared.height.Height.{Height}
 use Rattle.arc_lower.specs.Heights.{height, next_height, last_height, heights, start_heights, function_heights, functions_heights, stub_heights, methods_heights, dealloc_heights, class_heights, classes_heights, lowered_heights}
 use Rattle.arc_lower.proofs.Rows.{zeros_length}
@@ -42,10 +42,10 @@ module _ (R : resolved.Program) where
   Both pc hs xs = HasPart table pc hs × HasPart all pc xs × (length hs ≡ length xs)
 
   both_front : (pc : ℕ) (a b : List Height) (xs ys : List Order) → length a ≡ length xs → Both pc (a ++ b) (xs ++ ys) → Both pc a xs
-  both_front pc a b xs ys e f = (part_front table pc a b f.0, (part_front all pc xs ys f.1.0, e))
+  both_front pc a b xs ys e f = (part_front table pc a b f.0, part_front all pc xs ys f.1, e)
 
   both_back : (pc : ℕ) (a b : List Height) (xs ys : List Order) → length a ≡ length xs → Both pc (a ++ b) (xs ++ ys) → Both (pc + length xs) b ys
-  both_back pc a b xs ys e f = (subst (λ n. HasPart table (pc + n) b) e (part_back table pc a b f.0), (part_back all pc xs ys f.1.0, omega (arith, e, f.1.1, length-append a b, length-append xs ys)))
+  both_back pc a b xs ys e f = (subst (λ n. HasPart table (pc + n) b) e (part_back table pc a b f.0), part_back all pc xs ys f.1, omega (arith, e, f.2, length-append a b, length-append xs ys))
 
   abbrev Goes_to : ℕ → Height → Type 0
   Goes_to = Goes R all table
@@ -100,32 +100,33 @@ module _ (R : resolved.Program) where
     abbrev Emptying : ℕ → ℕ → Type 0
     Emptying n pc = Step_all pc (emptied n) × Stands R all table pc leaving × ((k : ℕ) → Clears R all table k pc → k ≡ n)
 
-    same_place : (i j : ℕ) (e : Empty i ≡ Empty j) → i ≡ j
-    same_place i j e = cc
+    same_place : (i j : ℕ) (x y : Order) → x ≡ Empty i → y ≡ Empty j → x ≡ y → i ≡ j
+    same_place i j x y e f same = cc
 
-    other_order : (i count : ℕ) → Empty i ≡ Plain (Forget count) → ⊥
-    other_order i count e = cc
+    other_order : (i count : ℕ) (x y : Order) → x ≡ Empty i → y ≡ Plain (Forget count) → x ≡ y → ⊥
+    other_order i count x y e f same = cc
 
     emptying : (n pc : ℕ) (ys : List Order) → n ≤ names → Rows pc leaving (emptied n ++ Plain (Forget names) ∷ ys) → Emptying n pc
-    emptying zero pc ys le f = (tt, (record { height = f.0; order = Plain (Forget names); is = f.1.0; no_end = λ same. subst NoEnd same tt }, only))
+    emptying zero pc ys le f = (tt, record { height = f.0; order = Plain (Forget names); is = f.1; no_end = λ same. subst NoEnd same tt }, only f.1)
       where
-        only : (k : ℕ) → Clears R all table k pc → k ≡ 0
-        only zero c = refl
-        only (suc j) c = absurd (other_order j names (some_same (Empty j) (Plain (Forget names)) (sym c.0 ∙ f.1.0)))
-    emptying (suc n) pc ys le f = by (nat_lt (0 + n) names) refl f
+        only : slice_get all pc ≡ Some (Plain (Forget names)) → (k : ℕ) → Clears R all table k pc → k ≡ 0
+        only is zero c = refl
+        only is (suc j) c = absurd (other_order j names (Empty j) (Plain (Forget names)) refl refl (some_same {A = Order} (Empty j) (Plain (Forget names)) (sym c.0 ∙ is)))
+    emptying (suc n) pc ys le f = by (nat_lt (0 + n) names) refl (λ rest. emptying n (pc + 1) ys (omega (arith, le)) rest) f
       where
-        by : (b : Bool) → nat_lt (0 + n) names ≡ b → Rows pc leaving (((if b then Empty (0 + n) ∷ [] else []) ++ emptied n) ++ Plain (Forget names) ∷ ys) → Step_all pc ((if b then Empty (0 + n) ∷ [] else []) ++ emptied n) × Stands R all table pc leaving × ((k : ℕ) → Clears R all table k pc → k ≡ suc n)
-        by false e f = let ge = ltb-false (0 + n) names e in absurd (omega (arith, le, ge))
-        by true e f =
+        only : slice_get all pc ≡ Some (Empty (0 + n)) → (k : ℕ) → Clears R all table k pc → k ≡ suc n
+        only is zero c = absurd (other_order (0 + n) c.0 (Empty (0 + n)) (Plain (Forget c.0)) refl refl (some_same {A = Order} (Empty (0 + n)) (Plain (Forget c.0)) (sym is ∙ c.1)))
+        only is (suc j) c = let i = same_place j (0 + n) (Empty j) (Empty (0 + n)) refl refl (some_same {A = Order} (Empty j) (Empty (0 + n)) (sym c.0 ∙ is)) in omega (arith, i)
+
+        by : (b : Bool) → nat_lt (0 + n) names ≡ b → (Rows (pc + 1) leaving (emptied n ++ Plain (Forget names) ∷ ys) → Emptying n (pc + 1)) → Rows pc leaving (((if b then Empty (0 + n) ∷ [] else []) ++ emptied n) ++ Plain (Forget names) ∷ ys) → Step_all pc ((if b then Empty (0 + n) ∷ [] else []) ++ emptied n) × Stands R all table pc leaving × ((k : ℕ) → Clears R all table k pc → k ≡ suc n)
+        by false e others f = let ge = ltb-false (0 + n) names e in absurd (omega (arith, le, ge))
+        by true e others f =
             let same : left R all table leaving (Empty (0 + n)) ≡ leaving = heights_same _ _ (suc slots) names (omega arith) (omega arith) in
-            let rest = emptying n (pc + 1) ys (omega (arith, le)) (subst (λ h. Rows (pc + 1) h (emptied n ++ Plain (Forget names) ∷ ys)) same f.1.1) in (
-              ((leaving, (f.0, (omega (arith, le), (subst (Stands R all table (pc + 1)) (sym same) rest.1.0, λ k c. let is = rest.1.1 k c in inl (omega (arith, is)))))), rest.0),
-              (record { height = f.0; order = Empty (0 + n); is = f.1.0; no_end = λ same. subst NoEnd same tt }, only f.1.0),
+            let rest = others (subst (λ h. Rows (pc + 1) h (emptied n ++ Plain (Forget names) ∷ ys)) same f.2) in (
+              ((leaving, f.0, (omega (arith, le), subst (Stands R all table (pc + 1)) (sym same) rest.1, λ k c. let is = rest.2 k c in inl (omega (arith, is)))), rest.0),
+              record { height = f.0; order = Empty (0 + n); is = f.1; no_end = λ same. subst NoEnd same tt },
+              only f.1,
             )
-          where
-            only : slice_get all pc ≡ Some (Empty (0 + n)) → (k : ℕ) → Clears R all table k pc → k ≡ suc n
-            only is zero c = absurd (other_order (0 + n) c.0 (some_same (Empty (0 + n)) (Plain (Forget c.0)) (sym is ∙ c.1)))
-            only is (suc j) c = let i = same_place j (0 + n) (some_same (Empty j) (Empty (0 + n)) (sym c.0 ∙ is)) in omega (arith, i)
 
     module _ (has : Rows place leaving (leave ++ body)) where
       leave_row : Rows place leaving leave
@@ -135,7 +136,7 @@ module _ (R : resolved.Program) where
       exit = emptying names place (keep_orders slots ++ Return ∷ []) (omega arith) leave_row
 
       exit_goes : Goes_to place leaving
-      exit_goes = (exit.1.0, λ k c. let e = exit.1.1 k c in omega (arith, e))
+      exit_goes = (exit.1, λ k c. let e = exit.2 k c in omega (arith, e))
 
       body_row : Rows entered (height slots 0) body
       body_row = subst (λ h. Rows entered h body) leave_ends (row_back R all table base place leaving leave body has)
@@ -150,7 +151,7 @@ module _ (R : resolved.Program) where
       last = subst (λ h. Rows (start + length statements) h end) (all_commands_stay R slots names cs place start) (row_back R all table base start base statements end rows)
 
       statements_follow : Follows R all table base start base statements
-      statements_follow = row_front R all table base start base statements end (subst (Goes_to (start + length statements)) (sym (all_commands_stay R slots names cs place start)) (opens_goes R all table (start + length statements) base (Plain (Num (pos 0))) tt last.0 last.1.0)) rows
+      statements_follow = row_front R all table base start base statements end (subst (Goes_to (start + length statements)) (sym (all_commands_stay R slots names cs place start)) (opens_goes R all table (start + length statements) base (Plain (Num (pos 0))) tt last.0 last.1)) rows
 
       nils_follow : Follows R all table base entered (height slots 0) nils
       nils_follow = row_front R all table base entered (height slots 0) nils (statements ++ end) (subst (Goes_to start) (sym (types_last R 0 0 base slots 0 nils slots names nils_typed)) (goes_here R all table base start base statements (all_ordinary R all table slots names place cs start) statements_follow)) body_row
@@ -165,13 +166,13 @@ module _ (R : resolved.Program) where
           let emptied_same = types_emptied in
           let behind = subst (λ h. Rows q h (forgotten ++ Return ∷ [])) emptied_same (row_back R all table base place leaving (emptied names) (forgotten ++ Return ∷ []) leave_row) in
           let low : left R all table leaving (Plain (Forget names)) ≡ height (suc (slots + 0)) 0 = heights_same _ _ (suc (slots + 0)) 0 (omega arith) (omega arith) in
-          let kept = subst (λ h. Rows (q + 1) h (keep ++ Return ∷ [])) low behind.1.1 in
+          let kept = subst (λ h. Rows (q + 1) h (keep ++ Return ∷ [])) low behind.2 in
           let typed = keep_types R 0 0 slots 0 0 in
           let one = subst (λ h. Rows (q + 1 + length keep) h (Return ∷ [])) (types_last R 0 0 base (suc (slots + 0)) 0 keep 1 0 typed) (row_back R all table base (q + 1) (height (suc (slots + 0)) 0) keep (Return ∷ []) kept) in
-          let keeps = row_front R all table base (q + 1) (height (suc (slots + 0)) 0) keep (Return ∷ []) (subst (Goes_to (q + 1 + length keep)) (sym (types_last R 0 0 base (suc (slots + 0)) 0 keep 1 0 typed)) (opens_goes R all table (q + 1 + length keep) (height 1 0) Return tt one.0 one.1.0)) kept in
+          let keeps = row_front R all table base (q + 1) (height (suc (slots + 0)) 0) keep (Return ∷ []) (subst (Goes_to (q + 1 + length keep)) (sym (types_last R 0 0 base (suc (slots + 0)) 0 keep 1 0 typed)) (opens_goes R all table (q + 1 + length keep) (height 1 0) Return tt one.0 one.1)) kept in
           let next = goes_here R all table base (q + 1) (height (suc (slots + 0)) 0) keep (types_ordinary R 0 0 _ _ keep 1 0 typed) keeps in
           step_then R all table place (emptied names) (forgotten ++ Return ∷ []) exit.0
-          ((leaving, (behind.0, (refl, subst (Goes_to (q + 1)) (sym low) next))), step_then R all table (q + 1) keep (Return ∷ []) (typed_steps R all table base (q + 1) (suc (slots + 0)) 0 keep 1 0 typed keeps) ((height 1 0, (one.0, (refl, refl))), tt))
+          ((leaving, behind.0, (refl, subst (Goes_to (q + 1)) (sym low) next)), step_then R all table (q + 1) keep (Return ∷ []) (typed_steps R all table base (q + 1) (suc (slots + 0)) 0 keep 1 0 typed keeps) ((height 1 0, one.0, (refl, refl)), tt))
         where
           types_emptied : last_height R base leaving (emptied names) ≡ leaving
           types_emptied = emptied_ends names
@@ -191,12 +192,12 @@ module _ (R : resolved.Program) where
           step_then R all table place leave body leave_steps
           (step_then R all table entered nils (statements ++ end) (typed_steps R all table base entered slots 0 nils slots names nils_typed nils_follow)
           (step_then R all table start statements end (all_commands_step R all table slots names place exit_goes cs start statements_follow)
-          ((base, (last.0, (tt, opens_goes R all table (q + 1) _ (Jump place) tt last.1.1.0 last.1.1.1.0))), ((leaving, (last.1.1.0 ∙ ap Some up, exit_goes)), tt))))
+          ((base, last.0, (tt, opens_goes R all table (q + 1) _ (Jump place) tt last.2.0 last.2.1)), ((leaving, last.2.0 ∙ ap Some up, exit_goes), tt))))
 
   -- ---- all functions
 
   abbrev row : (base h : Height) (pc : ℕ) (xs : List Order) → Both pc (heights R base h xs) xs → Row R all table base pc h xs
-  row base h pc xs f = row_of R all table base pc h xs f.0 f.1.0
+  row base h pc xs f = row_of R all table base pc h xs f.0 f.1
 
   function_length : (place : ℕ) (g : Function) → length (function_heights R place g) ≡ length (function_orders R place g)
   function_length place g = heights_length R _ _ (function_orders R place g)
@@ -212,7 +213,7 @@ module _ (R : resolved.Program) where
       let same : g ≡ f = cc in
       let xs = function_orders R place g in
       let here = both_front place (function_heights R place g) (functions_heights R (place + length xs) fs) xs _ (function_length place g) has in
-      record { at = _; is = refl; goes = subst (λ (h : Function). Goes_to _ (height h.slots 0)) same (entry_goes place g.slots g.names g.body (row (height g.slots g.names) (height (suc g.slots) g.names) place xs here)) }
+      record { at = entry_of place g; is = refl; goes = subst (λ (h : Function). Goes_to (entry_of place g) (height h.slots 0)) same (entry_goes place g.slots g.names g.body (row (height g.slots g.names) (height (suc g.slots) g.names) place xs here)) }
   functions_begin (g ∷ fs) place (suc n) f has e =
       let xs = function_orders R place g in
       let there = functions_begin fs (place + length xs) n f (both_back place (function_heights R place g) (functions_heights R (place + length xs) fs) xs _ (function_length place g) has) e in
@@ -247,7 +248,7 @@ module _ (R : resolved.Program) where
   fit_typed values slots =
       let v : values + 0 ≡ values = omega arith in
       let s : slots + 0 ≡ slots = omega arith in
-      subst (λ n. Types R 0 0 n 0 (fit_orders values slots) slots 0) v (subst (Types R 0 0 (values + 0) 0 (fit_orders values slots)) s (fit_types R 0 0 values slots 0 0))
+      subst (λ n. Types R 0 0 n 0 (fit_orders values slots) slots 0) v (subst (λ m. Types R 0 0 (values + 0) 0 (fit_orders values slots) m 0) s (fit_types R 0 0 values slots 0 0))
 
   module _ (values f place : ℕ) (has : Both place (stub_heights R (entries_of R) values f) (stub values f)) where
     abbrev fit : List Order
@@ -263,13 +264,13 @@ module _ (R : resolved.Program) where
     stub_last = subst (λ h. Row R all table zeroed (place + length fit) h (Jump to ∷ [])) (types_last R 0 0 zeroed values 0 fit (slots_of R f) 0 (fit_typed values (slots_of R f))) (row_back R all table zeroed place (height values 0) fit (Jump to ∷ []) stub_row)
 
     stub_follows : Follows R all table zeroed place (height values 0) fit
-    stub_follows = row_front R all table zeroed place (height values 0) fit (Jump to ∷ []) (subst (Goes_to (place + length fit)) (sym (types_last R 0 0 zeroed values 0 fit (slots_of R f) 0 (fit_typed values (slots_of R f)))) (opens_goes R all table (place + length fit) (height (slots_of R f) 0) (Jump to) tt stub_last.0 stub_last.1.0)) stub_row
+    stub_follows = row_front R all table zeroed place (height values 0) fit (Jump to ∷ []) (subst (Goes_to (place + length fit)) (sym (types_last R 0 0 zeroed values 0 fit (slots_of R f) 0 (fit_typed values (slots_of R f)))) (opens_goes R all table (place + length fit) (height (slots_of R f) 0) (Jump to) tt stub_last.0 stub_last.1)) stub_row
 
     pub stub_goes : Goes_to place (height values 0)
     stub_goes = goes_here R all table zeroed place (height values 0) fit (types_ordinary R 0 0 values 0 fit (slots_of R f) 0 (fit_typed values (slots_of R f))) stub_follows
 
     stub_steps : Goes_to to (height (slots_of R f) 0) → Step_all place (stub values f)
-    stub_steps goes = step_then R all table place fit (Jump to ∷ []) (typed_steps R all table zeroed place values 0 fit (slots_of R f) 0 (fit_typed values (slots_of R f)) stub_follows) ((height (slots_of R f) 0, (stub_last.0, goes)), tt)
+    stub_steps goes = step_then R all table place fit (Jump to ∷ []) (typed_steps R all table zeroed place values 0 fit (slots_of R f) 0 (fit_typed values (slots_of R f)) stub_follows) ((height (slots_of R f) 0, stub_last.0, goes), tt)
 
   methods_length : (ms : List Method) → length (methods_heights R (entries_of R) ms) ≡ length (methods_orders R (entries_of R) ms)
   methods_length [] = refl
@@ -393,7 +394,7 @@ module _ (R : resolved.Program) where
   classes_length (c ∷ others) = omega (arith, length-append (class_heights R (entries_of R) c) (classes_heights R (entries_of R) others), length-append (class_orders R (entries_of R) c) (classes_orders R (entries_of R) others), class_length c, classes_length others)
 
   has_all : Both 0 table all
-  has_all = (has_whole table, (has_whole all, omega (arith, length-append (first ++ functions) (classes_heights R (entries_of R) R.classes), length-append (running_orders R) (classes_orders R (entries_of R) R.classes), running_length, classes_length R.classes)))
+  has_all = (has_whole table, has_whole all, omega (arith, length-append (first ++ functions) (classes_heights R (entries_of R) R.classes), length-append (running_orders R) (classes_orders R (entries_of R) R.classes), running_length, classes_length R.classes))
 
   has_running : Both 0 (first ++ functions) (running_orders R)
   has_running = both_front 0 (first ++ functions) (classes_heights R (entries_of R) R.classes) (running_orders R) (classes_orders R (entries_of R) R.classes) running_length has_all
@@ -446,7 +447,7 @@ module _ (R : resolved.Program) where
   call_row = subst (λ h. Row R all table zeroed (0 + length zeros) h call) (types_last R 0 0 zeroed 0 0 zeros (slots_of R R.main) 0 zeros_typed) (row_back R all table zeroed 0 zeroed zeros call start_row)
 
   zeros_follow : Follows R all table zeroed 0 zeroed zeros
-  zeros_follow = row_front R all table zeroed 0 zeroed zeros call (subst (Goes_to (0 + length zeros)) (sym (types_last R 0 0 zeroed 0 0 zeros (slots_of R R.main) 0 zeros_typed)) (opens_goes R all table (0 + length zeros) (height (slots_of R R.main) 0) (Call (number_of R R.main)) tt call_row.0 call_row.1.0)) start_row
+  zeros_follow = row_front R all table zeroed 0 zeroed zeros call (subst (Goes_to (0 + length zeros)) (sym (types_last R 0 0 zeroed 0 0 zeros (slots_of R R.main) 0 zeros_typed)) (opens_goes R all table (0 + length zeros) (height (slots_of R R.main) 0) (Call (number_of R R.main)) tt call_row.0 call_row.1)) start_row
 
   pub start_goes : Goes_to 0 zeroed
   start_goes = goes_here R all table zeroed 0 zeroed zeros (types_ordinary R 0 0 0 0 zeros (slots_of R R.main) 0 zeros_typed) zeros_follow
@@ -455,18 +456,18 @@ module _ (R : resolved.Program) where
   pub end_is : slice_get all (end_step_of R) ≡ Some EndStep
   end_is =
       let e : 0 + length zeros + 1 + 1 ≡ end_step_of R = omega (arith, zeros_length (slots_of R R.main)) in
-      subst (λ n. slice_get all n ≡ Some EndStep) e call_row.1.1.1.1.1.0
+      subst (λ n. slice_get all n ≡ Some EndStep) e call_row.2.2.1
 
   start_steps : Step_all 0 (start_orders R)
   start_steps =
       let q = 0 + length zeros in
       let s = slots_of R R.main in
-      let rest = call_row.1.1 in
+      let rest = call_row.2 in
       let called : next_height R zeroed (Call (number_of R R.main)) (height s 0) ≡ height 1 0 = heights_same _ _ 1 0 (omega (arith, slots_same R R.main)) (omega arith) in
       let one = rest.0 ∙ ap Some called in
       step_then R all table 0 zeros call (typed_steps R all table zeroed 0 0 0 zeros s 0 zeros_typed zeros_follow)
-      ((height s 0, (call_row.0, ((omega (arith, slots_same R R.main), number_there R R.main), opens_goes R all table (q + 1) _ Return tt rest.0 rest.1.0))),
-      ((height 1 0, (one, (refl, refl))), ((height 0 0, (rest.1.1.0, (refl, refl))), tt)))
+      ((height s 0, call_row.0, ((omega (arith, slots_same R R.main), number_there R R.main), opens_goes R all table (q + 1) _ Return tt rest.0 rest.1)),
+      ((height 1 0, one, (refl, refl)), ((height 0 0, rest.2.0, (refl, refl)), tt)))
 
   program_steps : Step_all 0 (lowered R)
   program_steps =

@@ -156,7 +156,7 @@ module _ (R : resolved.Program) (all : List Order) (table : List Height) where
   -- an order has what it needs, where a run may go on with the next one
   pub order_steps : (x : Order) (pc a b : ℕ) → Needs R x a b → Goes (pc + 1) (left (height a b) x) → Steps (height a b) pc x
   order_steps (Plain o) pc a b needs goes = (needs.0, goes)
-  order_steps (Empty i) pc a b needs goes = (needs, (goes.0, λ k c. let le = goes.1 k c in inr (omega (arith, le))))
+  order_steps (Empty i) pc a b needs goes = (needs, goes.0, λ k c. let le = goes.1 k c in inr (omega (arith, le)))
   order_steps (Jump to) pc a b needs goes = absurd needs
   order_steps (JumpZero to) pc a b needs goes = absurd needs
   order_steps Return pc a b needs goes = absurd needs
@@ -178,7 +178,7 @@ module _ (R : resolved.Program) (all : List Order) (table : List Height) where
 
     pub row_of : (pc : ℕ) (h : Height) (xs : List Order) → HasPart table pc (heights R base h xs) → HasPart all pc xs → Row pc h xs
     row_of pc h [] hs os = tt
-    row_of pc h (x ∷ xs) hs os = (hs.0, (os.0, row_of (pc + 1) (next_height R base x h) xs hs.1 os.1))
+    row_of pc h (x ∷ xs) hs os = (hs.0, os.0, row_of (pc + 1) (next_height R base x h) xs hs.1 os.1)
 
     -- and behind them a run may go on
     abbrev pub Follows : ℕ → Height → List Order → Type 0
@@ -187,47 +187,47 @@ module _ (R : resolved.Program) (all : List Order) (table : List Height) where
 
     pub row_prefix : (pc : ℕ) (h : Height) (xs ys : List Order) → Row pc h (xs ++ ys) → Row pc h xs
     row_prefix pc h [] ys f = tt
-    row_prefix pc h (x ∷ xs) ys f = (f.0, (f.1.0, row_prefix (pc + 1) (next_height R base x h) xs ys f.1.1))
+    row_prefix pc h (x ∷ xs) ys f = (f.0, f.1, row_prefix (pc + 1) (next_height R base x h) xs ys f.2)
 
     pub row_front : (pc : ℕ) (h : Height) (xs ys : List Order) → Goes (pc + length xs) (last_height R base h xs) → Row pc h (xs ++ ys) → Follows pc h xs
     row_front pc h [] ys g f = let e : pc + 0 ≡ pc = omega arith in subst (λ n. Goes n h) e g
     row_front pc h (x ∷ xs) ys g f =
         let e : pc + length (x ∷ xs) ≡ pc + 1 + length xs = omega arith in
-        (f.0, (f.1.0, row_front (pc + 1) (next_height R base x h) xs ys (subst (λ n. Goes n (last_height R base (next_height R base x h) xs)) e g) f.1.1))
+        (f.0, f.1, row_front (pc + 1) (next_height R base x h) xs ys (subst (λ n. Goes n (last_height R base (next_height R base x h) xs)) e g) f.2)
 
     pub row_back : (pc : ℕ) (h : Height) (xs ys : List Order) → Row pc h (xs ++ ys) → Row (pc + length xs) (last_height R base h xs) ys
     row_back pc h [] ys f = let e : pc ≡ pc + 0 = omega arith in subst (λ n. Row n h ys) e f
     row_back pc h (x ∷ xs) ys f =
         let e : pc + 1 + length xs ≡ pc + length (x ∷ xs) = omega arith in
-        subst (λ n. Row n (last_height R base (next_height R base x h) xs) ys) e (row_back (pc + 1) (next_height R base x h) xs ys f.1.1)
+        subst (λ n. Row n (last_height R base (next_height R base x h) xs) ys) e (row_back (pc + 1) (next_height R base x h) xs ys f.2)
 
     pub goes_here : (pc : ℕ) (h : Height) (xs : List Order) → AllOrdinary xs → Follows pc h xs → Goes pc h
     goes_here pc h [] o f = f
-    goes_here pc h (x ∷ xs) o f = (record { height = f.0; order = x; is = f.1.0; no_end = λ same. subst Ordinary same o.0 }, none)
+    goes_here pc h (x ∷ xs) o f = (record { height = f.0; order = x; is = f.1; no_end = λ same. subst Ordinary same o.0 }, none (goes_here (pc + 1) (next_height R base x h) xs o.1 f.2).1)
       where
-        none : (k : ℕ) → Clears k pc → h.places ≤ k
-        none zero c = absurd (subst Ordinary (some_same x (Plain (Forget c.0)) (sym f.1.0 ∙ c.1)) o.0)
-        none (suc k) c =
-            let same : x ≡ Empty k = some_same x (Empty k) (sym f.1.0 ∙ c.0) in
+        none : ((k : ℕ) → Clears k (pc + 1) → (next_height R base x h).places ≤ k) → (k : ℕ) → Clears k pc → h.places ≤ k
+        none next zero c = absurd (subst Ordinary (some_same x (Plain (Forget c.0)) (sym f.1 ∙ c.1)) o.0)
+        none next (suc k) c =
+            let same : x ≡ Empty k = some_same x (Empty k) (sym f.1 ∙ c.0) in
             let places : (next_height R base x h).places ≡ h.places - 0 + 0 = ap (λ y. (next_height R base y h).places) same in
-            let le = (goes_here (pc + 1) (next_height R base x h) xs o.1 f.1.1).1 k c.1 in
+            let le = next k c.1 in
             omega (arith, places, le)
 
     pub ends_with : (pc : ℕ) (h : Height) (xs : List Order) → Follows pc h xs → Goes (pc + length xs) (last_height R base h xs)
     ends_with pc h [] f = let e : pc ≡ pc + 0 = omega arith in subst (λ n. Goes n h) e f
     ends_with pc h (x ∷ xs) f =
         let e : pc + 1 + length xs ≡ pc + length (x ∷ xs) = omega arith in
-        subst (λ n. Goes n (last_height R base (next_height R base x h) xs)) e (ends_with (pc + 1) (next_height R base x h) xs f.1.1)
+        subst (λ n. Goes n (last_height R base (next_height R base x h) xs)) e (ends_with (pc + 1) (next_height R base x h) xs f.2)
 
     pub front : (pc : ℕ) (h : Height) (xs ys : List Order) → AllOrdinary ys → Follows pc h (xs ++ ys) → Follows pc h xs
     front pc h [] ys o f = goes_here pc h ys o f
-    front pc h (x ∷ xs) ys o f = (f.0, (f.1.0, front (pc + 1) (next_height R base x h) xs ys o f.1.1))
+    front pc h (x ∷ xs) ys o f = (f.0, f.1, front (pc + 1) (next_height R base x h) xs ys o f.2)
 
     pub back : (pc : ℕ) (h : Height) (xs ys : List Order) → Follows pc h (xs ++ ys) → Follows (pc + length xs) (last_height R base h xs) ys
     back pc h [] ys f = let e : pc ≡ pc + 0 = omega arith in subst (λ n. Follows n h ys) e f
     back pc h (x ∷ xs) ys f =
         let e : pc + 1 + length xs ≡ pc + length (x ∷ xs) = omega arith in
-        subst (λ n. Follows n (last_height R base (next_height R base x h) xs) ys) e (back (pc + 1) (next_height R base x h) xs ys f.1.1)
+        subst (λ n. Follows n (last_height R base (next_height R base x h) xs) ys) e (back (pc + 1) (next_height R base x h) xs ys f.2)
 
     -- orders that go on with the next one each
     pub typed_steps : (pc a b : ℕ) (xs : List Order) (n m : ℕ) → Types R 0 0 a b xs n m → Follows pc (height a b) xs → AllStep pc xs
@@ -236,9 +236,9 @@ module _ (R : resolved.Program) (all : List Order) (table : List Height) where
         let ea : a + 0 ≡ a = omega arith in
         let eb : b + 0 ≡ b = omega arith in
         let needs : Needs R x a b = subst (λ i. Needs R x i b) ea (subst (λ j. Needs R x (a + 0) j) eb t.0) in
-        let rest : Follows (pc + 1) (left (height a b) x) xs = subst (λ h. Follows (pc + 1) h xs) (next_same R 0 0 base x a b a b needs) f.1.1 in
+        let rest : Follows (pc + 1) (left (height a b) x) xs = subst (λ h. Follows (pc + 1) h xs) (next_same R 0 0 base x a b a b needs) f.2 in
         let goes = goes_here (pc + 1) (left (height a b) x) xs (types_ordinary R 0 0 _ _ xs n m t.1) rest in
-        ((height a b, (f.0, order_steps x pc a b needs goes)), typed_steps (pc + 1) (numbers_left R x a) (places_left R x b) xs n m t.1 rest)
+        ((height a b, f.0, order_steps x pc a b needs goes), typed_steps (pc + 1) (numbers_left R x a) (places_left R x b) xs n m t.1 rest)
 
     pub typed_end : (pc a b : ℕ) (xs : List Order) (n m : ℕ) → Types R 0 0 a b xs n m → Follows pc (height a b) xs → Goes (pc + length xs) (height n m)
     typed_end pc a b xs n m t f = subst (Goes (pc + length xs)) (types_last R 0 0 base a b xs n m t) (ends_with pc (height a b) xs f)
@@ -292,7 +292,7 @@ module _ (R : resolved.Program) (all : List Order) (table : List Height) where
       test_then : (place : ℕ) (test : Value) (to : ℕ) (rest : List Order) → Follows here place here (whole_orders R slots names test ++ JumpZero to ∷ rest) → Follows here (place + length (whole_orders R slots names test) + 1) here rest
       test_then place test to rest f =
           let low : next_height R here (JumpZero to) (height (suc slots) names) ≡ here = heights_same _ _ slots names (omega arith) (omega arith) in
-          subst (λ h. Follows here (place + length (whole_orders R slots names test) + 1) h rest) low (typed_back here place slots names (whole_orders R slots names test) (JumpZero to ∷ rest) (suc slots) names (test_types test) f).1.1
+          subst (λ h. Follows here (place + length (whole_orders R slots names test) + 1) h rest) low (typed_back here place slots names (whole_orders R slots names test) (JumpZero to ∷ rest) (suc slots) names (test_types test) f).2
 
       test_steps : (place : ℕ) (test : Value) (to : ℕ) (rest : List Order) → AllOrdinary rest → Follows here place here (whole_orders R slots names test ++ JumpZero to ∷ rest) → Goes to here → AllStep (place + length (whole_orders R slots names test) + 1) rest → AllStep place (whole_orders R slots names test ++ JumpZero to ∷ rest)
       test_steps place test to rest o f there others =
@@ -301,7 +301,7 @@ module _ (R : resolved.Program) (all : List Order) (table : List Height) where
           let next = goes_here here (place + length xs + 1) here rest o (test_then place test to rest f) in
           let low : here ≡ height (suc slots - 1) names = heights_same slots names (suc slots - 1) names (omega arith) refl in
           step_then place xs (JumpZero to ∷ rest) (typed_steps here place slots names xs (suc slots) names (test_types test) (front here place here xs (JumpZero to ∷ rest) (tt, o) f))
-          ((height (suc slots) names, (behind.0, (omega arith, (subst (Goes (place + length xs + 1)) low next, subst (Goes to) low there)))), others)
+          ((height (suc slots) names, behind.0, (omega arith, subst (Goes (place + length xs + 1)) low next, subst (Goes to) low there)), others)
 
       mutual
         command_steps : (c : Command) (place : ℕ) → Follows here place here (command_orders R slots names exit place c) → AllStep place (command_orders R slots names exit place c)
@@ -316,11 +316,11 @@ module _ (R : resolved.Program) (all : List Order) (table : List Height) where
         command_steps (resolved.Return None) place f =
             let up : next_height R here (Plain (Num (pos 0))) here ≡ height (suc slots) names = heights_same _ _ (suc slots) names (omega arith) (omega arith) in
             let zero_types = one R 0 0 slots names (Num (pos 0)) (suc slots) names (tt, tt) (omega arith) (omega arith) in
-            step_then place (Plain (Num (pos 0)) ∷ []) (Jump exit ∷ []) (typed_steps here place slots names (Plain (Num (pos 0)) ∷ []) (suc slots) names zero_types (front here place here (Plain (Num (pos 0)) ∷ []) (Jump exit ∷ []) (tt, tt) f)) ((height (suc slots) names, (f.1.1.0 ∙ ap Some up, leaves)), tt)
+            step_then place (Plain (Num (pos 0)) ∷ []) (Jump exit ∷ []) (typed_steps here place slots names (Plain (Num (pos 0)) ∷ []) (suc slots) names zero_types (front here place here (Plain (Num (pos 0)) ∷ []) (Jump exit ∷ []) (tt, tt) f)) ((height (suc slots) names, f.2.0 ∙ ap Some up, leaves), tt)
         command_steps (resolved.Return (Some a)) place f =
             let xs = whole_orders R slots names a in
             let behind = typed_back here place slots names xs (Jump exit ∷ []) (suc slots) names (test_types a) f in
-            step_then place xs (Jump exit ∷ []) (typed_steps here place slots names xs (suc slots) names (test_types a) (front here place here xs (Jump exit ∷ []) (tt, tt) f)) ((height (suc slots) names, (behind.0, leaves)), tt)
+            step_then place xs (Jump exit ∷ []) (typed_steps here place slots names xs (suc slots) names (test_types a) (front here place here xs (Jump exit ∷ []) (tt, tt) f)) ((height (suc slots) names, behind.0, leaves), tt)
         command_steps (Choose test a b) place f =
             let one = place + length (whole_orders R slots names test) + 1 in
             let xs = command_orders R slots names exit one a in
@@ -331,9 +331,9 @@ module _ (R : resolved.Program) (all : List Order) (table : List Height) where
             let o : AllOrdinary (Jump end ∷ ys) = (tt, command_ordinary b two) in
             let inside = test_then place test two rest f in
             let behind = subst (λ h. Follows here (one + length xs) h (Jump end ∷ ys)) (command_stays R slots names a exit one) (back here one here xs (Jump end ∷ ys) inside) in
-            let last = subst (Goes end) (command_stays R slots names b exit two) (ends_with here two here ys behind.1.1) in
-            test_steps place test two rest (ordinary_then xs _ (command_ordinary a one) o) f (goes_here here two here ys (command_ordinary b two) behind.1.1)
-            (step_then one xs (Jump end ∷ ys) (command_steps a one (front here one here xs (Jump end ∷ ys) o inside)) ((here, (behind.0, last)), command_steps b two behind.1.1))
+            let last = subst (Goes end) (command_stays R slots names b exit two) (ends_with here two here ys behind.2) in
+            test_steps place test two rest (ordinary_then xs _ (command_ordinary a one) o) f (goes_here here two here ys (command_ordinary b two) behind.2)
+            (step_then one xs (Jump end ∷ ys) (command_steps a one (front here one here xs (Jump end ∷ ys) o inside)) ((here, behind.0, last), command_steps b two behind.2))
         command_steps (Repeat test body) place f =
             let one = place + length (whole_orders R slots names test) + 1 in
             let xs = command_orders R slots names exit one body in
@@ -342,7 +342,7 @@ module _ (R : resolved.Program) (all : List Order) (table : List Height) where
             let inside = test_then place test end rest f in
             let behind = subst (λ h. Follows here (one + length xs) h (Jump place ∷ [])) (command_stays R slots names body exit one) (back here one here xs (Jump place ∷ []) inside) in
             let first = goes_here here place here _ (command_ordinary (Repeat test body) place) f in
-            test_steps place test end rest (ordinary_then xs _ (command_ordinary body one) (tt, tt)) f behind.1.1 (step_then one xs (Jump place ∷ []) (command_steps body one (front here one here xs (Jump place ∷ []) (tt, tt) inside)) ((here, (behind.0, first)), tt))
+            test_steps place test end rest (ordinary_then xs _ (command_ordinary body one) (tt, tt)) f behind.2 (step_then one xs (Jump place ∷ []) (command_steps body one (front here one here xs (Jump place ∷ []) (tt, tt) inside)) ((here, behind.0, first), tt))
 
         pub all_commands_step : (cs : Commands) (place : ℕ) → Follows here place here (all_command_orders R slots names exit place cs) → AllStep place (all_command_orders R slots names exit place cs)
         all_commands_step no_commands place f = tt

@@ -316,7 +316,7 @@ module _ (P : Program) (r s : ℕ) where
 
   -- ---- heights
 
-  next_same : (base : Height) (x : Order) (a b u v : ℕ) → Needs P x u v → next_height P base x (height a b) ≡ height (numbers_behind x a) (places_behind x b)
+  pub next_same : (base : Height) (x : Order) (a b u v : ℕ) → Needs P x u v → next_height P base x (height a b) ≡ height (numbers_behind x a) (places_behind x b)
   next_same base (Jump to) a b u v needs = absurd needs
   next_same base Return a b u v needs = absurd needs
   next_same base (Plain o) a b u v needs = refl
