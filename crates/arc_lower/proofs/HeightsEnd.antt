@@ -1,8 +1,8 @@
 -- Where the heights of orders end: a full-expression leaves one number more, and a statement as many as before it.
-use Rattle.std.proofs.Common.{◌≡◌, ℕ, suc, ◌+◌, List, [], ◌∷◌, ◌++◌, length, Some, None, refl, ap, ◌∙◌, arith, pos}
+use Rattle.std.proofs.Common.{◌≡◌, ℕ, suc, ◌+◌, List, [], ◌∷◌, ◌++◌, length, Some, None, refl, ap, ◌∙◌, arith}
 use Rattle.arc_spec.specs.Resolved.{Value, Reference, Command, Sequence, Evaluate, EvaluateReference, Begin, Choose, Repeat, Commands, no_commands, and_command, Program}
 use Rattle.arc_spec.specs.Resolved as resolved
-use Rattle.arc_code.specs.declared.instr.Op.TheVariants.{Num, Pop}
+use Rattle.arc_code.specs.declared.instr.Op.TheVariants.{Pop}
 use Rattle.arc_code.specs.declared.instr.Instr.TheVariants.{Plain, Jump, JumpZero}
 use Rattle.arc_lower.specs.Order.{Order}
 use Rattle.arc_lower.specs.Lowered.{all_empty_orders, whole_orders, whole_reference_orders, begin_orders, command_orders, all_command_orders}

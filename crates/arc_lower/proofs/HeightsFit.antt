@@ -1,5 +1,5 @@
 -- The heights of a lowered program fit its actions.
-use Rattle.std.proofs.Common.{◌≡◌, ℕ, zero, suc, ◌+◌, ◌-◌, ◌≤◌, Bool, true, false, if◌then◌else◌, nat_lt, List, [], ◌∷◌, length, get_or, Option, Some, None, refl, sym, ap, ◌∙◌, subst, arith, slice_get}
+use Rattle.std.proofs.Common.{◌≡◌, ℕ, zero, suc, ◌+◌, ◌≤◌, Bool, true, false, if◌then◌else◌, nat_lt, List, [], ◌∷◌, length, get_or, Some, refl, sym, ap, ◌∙◌, subst, arith, slice_get}
 use Rattle.std.proofs.lemmas.Bool.{ltb-true, ltb-false}
 use Rattle.arc_spec.specs.Classes.{lookup}
 use Rattle.arc_spec.specs.Resolved.{Function}
@@ -11,7 +11,7 @@ use Rattle.arc_ir.specs.Acting.{Action, Program, entry, linked}
 use Rattle.arc_lower.specs.Order.{Order, order, orders}
 use Rattle.arc_lower.specs.Lowered.{number_of, slots_of, entries_of, lowered, classes_linked}
 use Rattle.arc_lower.specs.declared.height.Height.{Height}
-use Rattle.arc_lower.specs.Heights.{height, highest, greatest, lowered_heights, greatest_height, height_at, numbers_at, places_at}
+use Rattle.arc_lower.specs.Heights.{height, highest, greatest, lowered_heights, greatest_height, numbers_at, places_at}
 use Rattle.arc_lower.proofs.Doing.{bare}
 use Rattle.arc_lower.proofs.Linking.{out_of_list}
 use Rattle.arc_lower.proofs.Stepping.{some_same, get_there, Goes, Steps}
@@ -101,19 +101,7 @@ module _ (p : Program) (R : resolved.Program) where
   -- an action fits where its order does
   action_fits : (x : Action) (pc : ℕ) → FitsAt (bare p) (numbers_at R) (places_at R) pc (order x) → FitsAt (linked p) (numbers_at R) (places_at R) pc x
   action_fits (Plain o) pc h = h
-  action_fits (PrintText t) pc h = h
-  action_fits (Jump j) pc h = h
-  action_fits (JumpZero j) pc h = h
-  action_fits (Call f) pc h = h
-  action_fits (Send selector takes) pc h = h
-  action_fits (SendSuper from selector takes) pc h = h
-  action_fits (SendTo depth selector takes) pc h = h
-  action_fits (SendToSuper from selector takes) pc h = h
-  action_fits Return pc h = h
-  action_fits (StoreStrong depth) pc h = h
-  action_fits Drop pc h = h
-  action_fits (Empty depth) pc h = h
-  action_fits EndStep pc h = h
+  action_fits _ pc h = h
 
   order_at : (xs : List Action) (pc : ℕ) (x : Action) → slice_get xs pc ≡ Some x → slice_get (orders xs) pc ≡ Some (order x)
   order_at [] pc x e = cc

@@ -1,5 +1,5 @@
 -- Each order of a lowered program has what it needs, with the heights before it.
-use Rattle.std.proofs.Common.{◌≡◌, inl, ℕ, zero, suc, ◌+◌, ◌-◌, ◌≤◌, pos, Bool, true, false, if◌then◌else◌, nat_lt, List, [], ◌∷◌, ◌++◌, length, Option, Some, None, refl, sym, ap, ◌∙◌, subst, arith, length-append, slice_get, slice_index_or}
+use Rattle.std.proofs.Common.{◌≡◌, inl, ℕ, zero, suc, ◌+◌, ◌≤◌, pos, Bool, true, false, if◌then◌else◌, nat_lt, List, [], ◌∷◌, ◌++◌, length, Option, Some, None, refl, sym, ap, ◌∙◌, subst, arith, length-append, slice_get, slice_index_or}
 use Rattle.std.proofs.lemmas.Bool.{ltb-false}
 use Rattle.arc_ast.specs.declared.tree.Sign.{Sign}
 use Rattle.arc_spec.specs.declared.class.Method.{Method}
@@ -465,9 +465,10 @@ module _ (R : resolved.Program) where
       let rest = call_row.2 in
       let called : next_height R zeroed (Call (number_of R R.main)) (height s 0) ≡ height 1 0 = heights_same _ _ 1 0 (omega (arith, slots_same R R.main)) (omega arith) in
       let one = rest.0 ∙ ap Some called in
-      step_then R all table 0 zeros call (typed_steps R all table zeroed 0 0 0 zeros s 0 zeros_typed zeros_follow)
-      ((height s 0, call_row.0, ((omega (arith, slots_same R R.main), number_there R R.main), opens_goes R all table (q + 1) _ Return tt rest.0 rest.1)),
-      ((height 1 0, one, (refl, refl)), ((height 0 0, rest.2.0, (refl, refl)), tt)))
+      step_then R all table 0 zeros call (typed_steps R all table zeroed 0 0 0 zeros s 0 zeros_typed zeros_follow) (
+        (height s 0, call_row.0, ((omega (arith, slots_same R R.main), number_there R R.main), opens_goes R all table (q + 1) _ Return tt rest.0 rest.1)),
+        ((height 1 0, one, (refl, refl)), ((height 0 0, rest.2.0, (refl, refl)), tt)),
+      )
 
   program_steps : Step_all 0 (lowered R)
   program_steps =

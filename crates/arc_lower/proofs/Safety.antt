@@ -9,11 +9,11 @@ use Rattle.arc_spec.specs.Classes.{Class, class_at, lookup, descends}
 use Rattle.arc_spec.specs.declared.event.Fault.TheVariants.{FieldClass, Resurrected}
 use Rattle.arc_spec.specs.Meaning.{chosen}
 use Rattle.arc_spec.specs.Number.{converted, negated, combined, counted, low_byte, byte_or_end, is_zero}
-use Rattle.arc_spec.specs.Objects.{Object, Dying, Gone, object_at, with_object, with_fields, in_phase, is_live, new_object}
+use Rattle.arc_spec.specs.Objects.{Object, Dying, Gone, object_at, with_object, with_fields, in_phase, is_live}
 use Rattle.arc_spec.specs.Resolved as resolved
-use Rattle.arc_spec.specs.Holding.{Held, Frame, Calling, Ending, Counted, nothing_held, with_places, with_self, with_things, lowered, raised, placed, gone_in, holds, on_place, on_field, forgets, makes, with_field}
+use Rattle.arc_spec.specs.Holding.{Held, Frame, Calling, Ending, Counted, with_places, with_self, with_things, lowered, raised, placed, gone_in, holds, on_place, on_field, forgets, makes, with_field}
 use Rattle.arc_spec.specs.Stepping.{Next, Goes, Asks, Ends, Faults, Stuck, Along, Sound, on_top, on_found}
-use Rattle.arc_ir.specs.Acting.{Action, Program, State, start, step, entry, keeps, goes, moved, or_fault, has_level, enters, answers, taken, sends, sends_up, allocates, difference, operates, begins_end, releases, ends_object, runs_dealloc, ends_class, end_goes_on, leaves, executes}
+use Rattle.arc_ir.specs.Acting.{Action, Program, State, start, step, entry, keeps, goes, or_fault, has_level, enters, answers, taken, sends, sends_up, allocates, difference, operates, begins_end, releases, runs_dealloc, ends_class, end_goes_on, leaves, executes}
 use Rattle.arc_code.specs.declared.instr.Op.{Op}
 use Rattle.arc_code.specs.declared.instr.Op.TheVariants.{Num, Bin, Un, Narrow, Pop, Get, Set, PrintNum, PrintByte, GetChar, Nil, HoldSelf, Hold, Forget, Alloc, GetField, SetField, Differ, IsObject}
 use Rattle.arc_code.specs.declared.instr.Instr.TheVariants.{Plain, PrintText, Jump, JumpZero, Call, Send, SendSuper, SendTo, SendToSuper, Return, StoreStrong, Drop, Empty, EndStep}
@@ -229,13 +229,15 @@ module _ (p : Program) (R : resolved.Program) where
     -- what is entered has so many numbers, which lie on the stack
     enters_lead : (b : Bool) (to self1 passed pc : ℕ) (stack : List ℤ) (held : Held) → Goes_to to (height passed 0) → passed ≤ length stack → Alive frames held.places self1 → held.self ≡ self → AllDying held.objects (ending frames) → Back pc (length stack - passed + 1) held.places → Leads (enters (at frames pc stack held) to self1 b)
     enters_lead false to self1 passed pc stack held g le living same dying home = tt
-    enters_lead true to self1 passed pc stack held g le living same dying home =
-        (inl (record {
-          below = length stack - passed;
-          waiting = held.places;
-          resumes = record { high = height passed 0; stands = g.0; own = []; count = omega (arith, le); is = refl; size = refl; nil = λ k c. nil_from_end [] k (omega arith); alive = living };
-          waits = (below, waiting, subst (λ x. Resumes (pc + 1) x frames (length stack - passed + 1) held.places below waiting) (sym same) home, waits);
-        }), dying)
+    enters_lead true to self1 passed pc stack held g le living same dying home = (
+      inl (record {
+        below = length stack - passed;
+        waiting = held.places;
+        resumes = record { high = height passed 0; stands = g.0; own = []; count = omega (arith, le); is = refl; size = refl; nil = λ k c. nil_from_end [] k (omega arith); alive = living };
+        waits = (below, waiting, subst (λ x. Resumes (pc + 1) x frames (length stack - passed + 1) held.places below waiting) (sym same) home, waits);
+      }),
+      dying,
+    )
 
     answers_lead : (found : Option ℕ) (self1 passed pc : ℕ) (stack : List ℤ) (held : Held) → ((to : ℕ) → found ≡ Some to → Goes_to to (height passed 0)) → passed ≤ length stack → Alive frames held.places self1 → held.self ≡ self → AllDying held.objects (ending frames) → Back pc (length stack - passed + 1) held.places → Leads (answers (at frames pc stack held) self1 found)
     answers_lead None self1 passed pc stack held begins le living same dying home = tt
@@ -409,13 +411,15 @@ module _ (p : Program) (R : resolved.Program) where
       dealloc_leads : (d : Option ℕ) (next : Option ℕ) (left : ℕ) → ((to : ℕ) → d ≡ Some to → Goes_to to (height 0 0)) → Leads (runs_dealloc d here (Ending back self o next left ∷ others))
       dealloc_leads None next left goes = (inr (record { at_end = refl; is_ending = tt; alive = alive next left; waits = waits next left }), dying next left)
       dealloc_leads (Some to) next left goes =
-          let g = goes to refl in
-          (inl (record {
-            below = length stack;
-            waiting = held.places;
-            resumes = record { high = height 0 0; stands = g.0; own = []; count = omega arith; is = refl; size = refl; nil = λ k c. nil_from_end [] k (omega arith); alive = alive next left };
-            waits = waits next left;
-          }), dying next left)
+          let g = goes to refl in (
+            inl (record {
+              below = length stack;
+              waiting = held.places;
+              resumes = record { high = height 0 0; stands = g.0; own = []; count = omega arith; is = refl; size = refl; nil = λ k c. nil_from_end [] k (omega arith); alive = alive next left };
+              waits = waits next left;
+            }),
+            dying next left,
+          )
 
       class_leads : (i : ℕ) (c : Option Class) (left : ℕ) → slice_get p.classes i ≡ c → Leads (ends_class p here back self o c left others)
       class_leads i None left e = ends_lead (nat_eq (held.counts o) 0) back self o None left others (waits None left) (dying None left)

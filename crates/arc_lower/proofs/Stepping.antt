@@ -1,19 +1,15 @@
 -- Where orders stand with their heights, each has what it needs, and goes on where the heights are those that it leaves.
-use Rattle.std.proofs.Common.{◌≡◌, ◌⊎◌, inr, ℕ, zero, suc, ◌+◌, ◌-◌, ◌<◌, ◌≤◌, pos, List, [], ◌∷◌, ◌++◌, length, get_or, Option, Some, None, slice_get, refl, sym, ap, ◌∙◌, subst, arith, append_assoc, length-append}
+use Rattle.std.proofs.Common.{◌≡◌, ◌⊎◌, inr, ℕ, zero, suc, ◌+◌, ◌-◌, ◌<◌, ◌≤◌, pos, List, [], ◌∷◌, ◌++◌, length, get_or, Some, None, slice_get, refl, sym, ap, ◌∙◌, subst, arith, append_assoc, length-append}
 use Rattle.arc_spec.specs.Resolved.{Value, Command, Sequence, Evaluate, EvaluateReference, Begin, Choose, Repeat, Commands, no_commands, and_command}
 use Rattle.arc_spec.specs.Resolved as resolved
 use Rattle.arc_code.specs.declared.instr.Op.TheVariants.{Num, Pop, Forget}
 use Rattle.arc_code.specs.declared.instr.Instr.TheVariants.{Plain, PrintText, Jump, JumpZero, Call, Send, SendSuper, SendTo, SendToSuper, Return, StoreStrong, Drop, Empty, EndStep}
-use Rattle.arc_code.specs.declared.effect.Effect.{Effect}
-use Rattle.arc_code.specs.Effects.{effect, FitsBetween, FitsAt}
-use Rattle.arc_ir.specs.Acting.{Program, entry}
 use Rattle.arc_lower.specs.Order.{Order}
-use Rattle.arc_lower.specs.Lowered.{slots_of, whole_orders, whole_reference_orders, begin_orders, all_empty_orders, command_orders, all_command_orders}
+use Rattle.arc_lower.specs.Lowered.{whole_orders, all_empty_orders, command_orders, all_command_orders}
 use Rattle.arc_lower.specs.declared.height.Height.{Height}
 use Rattle.arc_lower.specs.Heights.{height, next_height, heights, last_height}
-use Rattle.arc_lower.proofs.Doing.{bare}
 use Rattle.arc_lower.proofs.Typing.{heights_same, Reaches, Keeps, Needs, numbers_left, places_left, Types, types_then, types_last, next_same, one, all_empty_type, whole_types, whole_reference_types, begin_types}
-use Rattle.arc_lower.proofs.HeightsEnd.{whole_ends, between, command_stays, all_commands_stay}
+use Rattle.arc_lower.proofs.HeightsEnd.{between, command_stays, all_commands_stay}
 
 pub some_same : {A : Type 0} (a b : A) → Some a ≡ Some b → a ≡ b
 some_same a b e = cc
@@ -78,19 +74,8 @@ Opens _ = Unit {0}
 
 needs_ordinary : (P : resolved.Program) (x : Order) (a b : ℕ) → Needs P x a b → Ordinary x
 needs_ordinary P (Plain o) a b needs = needs.1
-needs_ordinary P (PrintText t) a b needs = tt
-needs_ordinary P (Jump to) a b needs = tt
-needs_ordinary P (JumpZero to) a b needs = tt
-needs_ordinary P (Call f) a b needs = tt
-needs_ordinary P (Send selector takes) a b needs = tt
-needs_ordinary P (SendSuper from selector takes) a b needs = tt
-needs_ordinary P (SendTo depth selector takes) a b needs = tt
-needs_ordinary P (SendToSuper from selector takes) a b needs = tt
-needs_ordinary P Return a b needs = tt
-needs_ordinary P (StoreStrong depth) a b needs = tt
-needs_ordinary P Drop a b needs = tt
-needs_ordinary P (Empty i) a b needs = tt
 needs_ordinary P EndStep a b needs = needs
+needs_ordinary P _ a b needs = tt
 
 pub types_ordinary : (P : resolved.Program) (r s a b : ℕ) (xs : List Order) (n m : ℕ) → Types P r s a b xs n m → AllOrdinary xs
 types_ordinary P r s a b [] n m t = tt
@@ -124,14 +109,7 @@ module _ (R : resolved.Program) (all : List Order) (table : List Height) where
   Steps h pc Return = (h.numbers ≡ 1) × (h.places ≡ 0)
   Steps h pc EndStep = (h.numbers ≡ 0) × (h.places ≡ 0)
   Steps h pc (Empty i) = (i < h.places) × Stands (pc + 1) (left h (Empty i)) × ((k : ℕ) → Clears k (pc + 1) → (k ≡ i) ⊎ (h.places ≤ k))
-  Steps h pc (PrintText t) = Needs R (PrintText t) h.numbers h.places × Goes (pc + 1) (left h (PrintText t))
-  Steps h pc (Call f) = Needs R (Call f) h.numbers h.places × Goes (pc + 1) (left h (Call f))
-  Steps h pc (Send selector takes) = Needs R (Send selector takes) h.numbers h.places × Goes (pc + 1) (left h (Send selector takes))
-  Steps h pc (SendSuper from selector takes) = Needs R (SendSuper from selector takes) h.numbers h.places × Goes (pc + 1) (left h (SendSuper from selector takes))
-  Steps h pc (SendTo depth selector takes) = Needs R (SendTo depth selector takes) h.numbers h.places × Goes (pc + 1) (left h (SendTo depth selector takes))
-  Steps h pc (SendToSuper from selector takes) = Needs R (SendToSuper from selector takes) h.numbers h.places × Goes (pc + 1) (left h (SendToSuper from selector takes))
-  Steps h pc (StoreStrong depth) = Needs R (StoreStrong depth) h.numbers h.places × Goes (pc + 1) (left h (StoreStrong depth))
-  Steps h pc Drop = Needs R Drop h.numbers h.places × Goes (pc + 1) (left h Drop)
+  Steps h pc x = Needs R x h.numbers h.places × Goes (pc + 1) (left h x)
 
   abbrev pub StepsAt : ℕ → Order → Type 0
   StepsAt pc x = (h : Height) × (slice_get table pc ≡ Some h) × Steps h pc x
@@ -161,14 +139,7 @@ module _ (R : resolved.Program) (all : List Order) (table : List Height) where
   order_steps (JumpZero to) pc a b needs goes = absurd needs
   order_steps Return pc a b needs goes = absurd needs
   order_steps EndStep pc a b needs goes = absurd needs
-  order_steps (PrintText t) pc a b needs goes = (needs, goes)
-  order_steps (Call f) pc a b needs goes = (needs, goes)
-  order_steps (Send selector takes) pc a b needs goes = (needs, goes)
-  order_steps (SendSuper from selector takes) pc a b needs goes = (needs, goes)
-  order_steps (SendTo depth selector takes) pc a b needs goes = (needs, goes)
-  order_steps (SendToSuper from selector takes) pc a b needs goes = (needs, goes)
-  order_steps (StoreStrong depth) pc a b needs goes = (needs, goes)
-  order_steps Drop pc a b needs goes = (needs, goes)
+  order_steps _ pc a b needs goes = (needs, goes)
 
   module _ (base : Height) where
     -- orders with their heights

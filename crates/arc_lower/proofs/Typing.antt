@@ -8,7 +8,7 @@ use Rattle.arc_spec.specs.Resolved as resolved
 use Rattle.arc_code.specs.declared.instr.Op.{Op}
 use Rattle.arc_code.specs.declared.instr.Op.TheVariants.{Num, Bin, Un, Narrow, Pop, Get, Set, PrintNum, PrintByte, GetChar, Nil, HoldSelf, Hold, Forget, Alloc, GetField, SetField, Differ, IsObject}
 use Rattle.arc_code.specs.declared.instr.Instr.TheVariants.{Plain, PrintText, Jump, JumpZero, Return, Empty, Call, Send, SendSuper, SendTo, SendToSuper, StoreStrong, Drop, EndStep}
-use Rattle.arc_code.specs.Effects.{effect, operation_effect, passes}
+use Rattle.arc_code.specs.Effects.{effect, passes}
 use Rattle.arc_lower.specs.Order.{Order}
 use Rattle.arc_lower.specs.Lowered.{value_count, value_takes, reference_takes, values_take, conversion_orders, part_orders, piece_orders, left_behind, format_orders, pop_orders, keep_orders, print_orders, get_orders, set_orders, zero_orders, fit_orders, nil_orders, hold_orders, store_orders, drop_orders, empty_orders, all_empty_orders, number_of, slots_of, call_orders, value_orders, reference_orders, all_value_orders, whole_orders, whole_reference_orders, begin_orders}
 use Rattle.arc_lower.proofs.Linking.{out_of_list}
@@ -77,10 +77,7 @@ module _ (P : Program) where
   Needs (StoreStrong depth) a b = suc depth < b
   Needs Drop a b = 1 ≤ b
   Needs (Empty i) a b = i < b
-  Needs (Jump to) a b = ⊥
-  Needs (JumpZero to) a b = ⊥
-  Needs Return a b = ⊥
-  Needs EndStep a b = ⊥
+  Needs _ a b = ⊥
 
   abbrev pub numbers_left : Order → ℕ → ℕ
   numbers_left x a = a - numbers_taken P x + (effect x).numbers_given
@@ -319,18 +316,7 @@ module _ (P : Program) (r s : ℕ) where
   pub next_same : (base : Height) (x : Order) (a b u v : ℕ) → Needs P x u v → next_height P base x (height a b) ≡ height (numbers_behind x a) (places_behind x b)
   next_same base (Jump to) a b u v needs = absurd needs
   next_same base Return a b u v needs = absurd needs
-  next_same base (Plain o) a b u v needs = refl
-  next_same base (PrintText t) a b u v needs = refl
-  next_same base (JumpZero to) a b u v needs = refl
-  next_same base (Call f) a b u v needs = refl
-  next_same base (Send selector takes) a b u v needs = refl
-  next_same base (SendSuper from selector takes) a b u v needs = refl
-  next_same base (SendTo depth selector takes) a b u v needs = refl
-  next_same base (SendToSuper from selector takes) a b u v needs = refl
-  next_same base (StoreStrong depth) a b u v needs = refl
-  next_same base Drop a b u v needs = refl
-  next_same base (Empty i) a b u v needs = refl
-  next_same base EndStep a b u v needs = refl
+  next_same base _ a b u v needs = refl
 
   pub types_last : (base : Height) (a b : ℕ) (xs : List Order) (n m : ℕ) → Types a b xs n m → last_height P base (height a b) xs ≡ height n m
   types_last base a b [] n m t = heights_same a b n m t.0 t.1
