@@ -7,7 +7,7 @@ use Rattle.arc_spec.specs.Resolved as resolved
 use Rattle.arc_code.specs.declared.instr.Instr.TheVariants.{Plain, PrintText, Jump, JumpZero, Call, Send, SendSuper, SendTo, SendToSuper, Return, StoreStrong, Drop, Empty, EndStep}
 use Rattle.arc_code.specs.declared.effect.Effect.{Effect}
 use Rattle.arc_code.specs.Effects.{effect, operation_effect, FitsBetween, FitsAt, HeightsFit, passes}
-use Rattle.arc_ir.specs.Acting.{Action, Program, entry, linked}
+use Rattle.arc_ir.specs.Acting.{Action, Program, lands, entry, linked}
 use Rattle.arc_lower.specs.Order.{Order, order, orders}
 use Rattle.arc_lower.specs.Lowered.{number_of, slots_of, entries_of, lowered, classes_linked}
 use Rattle.arc_lower.specs.declared.height.Height.{Height}
@@ -75,8 +75,8 @@ module _ (p : Program) (R : resolved.Program) where
     order_fits : (pc : ℕ) (h : Height) (x : Order) → slice_get (table R) pc ≡ Some h → Steps R (all R) (table R) h pc x → FitsAt (bare p) numbers places pc x
     order_fits pc h (Plain o) now s = within pc (pc + 1) h _ (operation_effect o) now s.1.0.height (omega arith) (omega arith)
     order_fits pc h (PrintText t) now s = within pc (pc + 1) h _ (order_effect (PrintText t)) now s.1.0.height (omega arith) (omega arith)
-    order_fits pc h (Jump to) now s = within pc to h h (order_effect (Jump to)) now s.0.height (omega arith) (omega arith)
-    order_fits pc h (JumpZero to) now s = (within pc (pc + 1) h _ (order_effect (JumpZero to)) now s.1.0.height (omega arith) (omega arith), within pc to h _ (order_effect (JumpZero to)) now s.2.0.height (omega arith) (omega arith))
+    order_fits pc h (Jump to) now s = within pc (lands pc to) h h (order_effect (Jump to)) now s.0.height (omega arith) (omega arith)
+    order_fits pc h (JumpZero to) now s = (within pc (pc + 1) h _ (order_effect (JumpZero to)) now s.1.0.height (omega arith) (omega arith), within pc (lands pc to) h _ (order_effect (JumpZero to)) now s.2.0.height (omega arith) (omega arith))
     order_fits pc h (Call f) now s =
         let n = numbers_there pc h now in
         let m = places_there pc h now in

@@ -10,16 +10,17 @@ use Rattle.arc_spec.specs.Meaning.{function_at}
 use Rattle.arc_code.specs.declared.instr.Op.TheVariants.{Num, Forget}
 use Rattle.arc_code.specs.declared.instr.Instr.TheVariants.{Plain, Jump, Call, Return, Empty, EndStep}
 use Rattle.arc_code.specs.Effects.{passes}
+use Rattle.arc_ir.specs.declared.action.Target.TheVariants.{At}
 use Rattle.arc_lower.specs.Order.{Order}
-use Rattle.arc_lower.specs.Lowered.{all_functions, number_of, slots_of, zero_orders, fit_orders, nil_orders, keep_orders, all_empty_orders, all_command_orders, function_orders, functions_orders, entries_from, start_orders, end_step_of, entry_of, entries_of, stub_orders, methods_orders, dealloc_orders, class_orders, classes_orders, linked_methods, linked_dealloc, linked_classes, running_orders, lowered, classes_linked}
+use Rattle.arc_lower.specs.Lowered.{all_functions, number_of, slots_of, zero_orders, fit_orders, nil_orders, keep_orders, all_empty_orders, commands_block, flat, function_orders, functions_orders, entries_from, start_orders, end_step_of, entry_of, entries_of, stub_orders, methods_orders, dealloc_orders, class_orders, classes_orders, linked_methods, linked_dealloc, linked_classes, running_orders, lowered, classes_linked}
 use Rattle.arc_lower.specs.declared.height.Height.{Height}
 use Rattle.arc_lower.specs.Heights.{height, next_height, last_height, heights, start_heights, function_heights, functions_heights, stub_heights, methods_heights, dealloc_heights, class_heights, classes_heights, lowered_heights}
 use Rattle.arc_lower.proofs.Rows.{zeros_length}
 use Rattle.arc_lower.proofs.Linking.{numbered}
 use Rattle.arc_lower.proofs.Finding.{passes_same}
-use Rattle.arc_lower.proofs.Typing.{heights_same, slots_same, number_there, Types, types_same, types_last, keep_types, zeros_type, fit_types, nils_type}
-use Rattle.arc_lower.proofs.HeightsEnd.{last_append, all_commands_stay}
-use Rattle.arc_lower.proofs.Stepping.{some_same, HasPart, part_front, part_back, has_whole, types_ordinary, Clears, Stands, Goes, left, StepsAt, AllStep, step_then, opens_goes, Row, row_of, row_prefix, row_front, row_back, Follows, goes_here, typed_steps, all_ordinary, all_commands_step}
+use Rattle.arc_lower.proofs.Typing.{heights_same, slots_same, number_there, Types, types_same, types_last, keep_types, zeros_type, fit_types, nils_type, commands_type}
+use Rattle.arc_lower.proofs.HeightsEnd.{last_append, block_ends}
+use Rattle.arc_lower.proofs.Stepping.{some_same, HasPart, part_front, part_back, has_whole, types_ordinary, Clears, Stands, Goes, left, StepsAt, AllStep, step_then, opens_goes, Row, row_of, row_prefix, row_front, row_back, Follows, goes_here, typed_steps, block_ordinary, block_steps}
 
 heights_length : (R : resolved.Program) (base h : Height) (xs : List Order) → length (heights R base h xs) ≡ length xs
 heights_length R base h [] = refl
@@ -82,16 +83,19 @@ module _ (R : resolved.Program) where
     start = entered + length nils
 
     abbrev statements : List Order
-    statements = all_command_orders R slots names place start cs
+    statements = flat place (commands_block R slots names cs)
 
     abbrev end : List Order
-    end = Plain (Num (pos 0)) ∷ Jump place ∷ []
+    end = Plain (Num (pos 0)) ∷ Jump (At place) ∷ []
 
     abbrev body : List Order
     body = nils ++ (statements ++ end)
 
     abbrev Rows : ℕ → Height → List Order → Type 0
     Rows = Row R all table base
+
+    statements_end : last_height R base base statements ≡ base
+    statements_end = block_ends R slots names place (commands_block R slots names cs) slots names slots names (commands_type R slots names cs)
 
     leave_ends : last_height R base leaving leave ≡ height slots 0
     leave_ends = last_append R base leaving (emptied names) (forgotten ++ Return ∷ []) ∙ last_append R base (last_height R base leaving (emptied names)) forgotten (Return ∷ [])
@@ -148,13 +152,13 @@ module _ (R : resolved.Program) where
       rows = subst (λ h. Rows start h (statements ++ end)) (types_last R 0 0 base slots 0 nils slots names nils_typed) (row_back R all table base entered (height slots 0) nils (statements ++ end) body_row)
 
       last : Rows (start + length statements) base end
-      last = subst (λ h. Rows (start + length statements) h end) (all_commands_stay R slots names cs place start) (row_back R all table base start base statements end rows)
+      last = subst (λ h. Rows (start + length statements) h end) statements_end (row_back R all table base start base statements end rows)
 
       statements_follow : Follows R all table base start base statements
-      statements_follow = row_front R all table base start base statements end (subst (Goes_to (start + length statements)) (sym (all_commands_stay R slots names cs place start)) (opens_goes R all table (start + length statements) base (Plain (Num (pos 0))) tt last.0 last.1)) rows
+      statements_follow = row_front R all table base start base statements end (subst (Goes_to (start + length statements)) (sym statements_end) (opens_goes R all table (start + length statements) base (Plain (Num (pos 0))) tt last.0 last.1)) rows
 
       nils_follow : Follows R all table base entered (height slots 0) nils
-      nils_follow = row_front R all table base entered (height slots 0) nils (statements ++ end) (subst (Goes_to start) (sym (types_last R 0 0 base slots 0 nils slots names nils_typed)) (goes_here R all table base start base statements (all_ordinary R all table slots names place cs start) statements_follow)) body_row
+      nils_follow = row_front R all table base entered (height slots 0) nils (statements ++ end) (subst (Goes_to start) (sym (types_last R 0 0 base slots 0 nils slots names nils_typed)) (goes_here R all table base start base statements (block_ordinary R all table slots names place (commands_block R slots names cs) slots names slots names (commands_type R slots names cs)) statements_follow)) body_row
 
       pub entry_goes : Goes_to entered (height slots 0)
       entry_goes = goes_here R all table base entered (height slots 0) nils (types_ordinary R 0 0 slots 0 nils slots names nils_typed) nils_follow
@@ -191,8 +195,8 @@ module _ (R : resolved.Program) where
           let q = start + length statements in
           step_then R all table place leave body leave_steps
           (step_then R all table entered nils (statements ++ end) (typed_steps R all table base entered slots 0 nils slots names nils_typed nils_follow)
-          (step_then R all table start statements end (all_commands_step R all table slots names place exit_goes cs start statements_follow)
-          ((base, last.0, (tt, opens_goes R all table (q + 1) _ (Jump place) tt last.2.0 last.2.1)), ((leaving, last.2.0 ∙ ap Some up, exit_goes), tt))))
+          (step_then R all table start statements end (block_steps R all table slots names place exit_goes (commands_block R slots names cs) slots names slots names start (commands_type R slots names cs) statements_follow)
+          ((base, last.0, (tt, opens_goes R all table (q + 1) _ (Jump (At place)) tt last.2.0 last.2.1)), ((leaving, last.2.0 ∙ ap Some up, exit_goes), tt))))
 
   -- ---- all functions
 
@@ -260,17 +264,17 @@ module _ (R : resolved.Program) where
     stub_row : Row R all table zeroed place (height values 0) (stub values f)
     stub_row = row zeroed (height values 0) place (stub values f) has
 
-    stub_last : Row R all table zeroed (place + length fit) (height (slots_of R f) 0) (Jump to ∷ [])
-    stub_last = subst (λ h. Row R all table zeroed (place + length fit) h (Jump to ∷ [])) (types_last R 0 0 zeroed values 0 fit (slots_of R f) 0 (fit_typed values (slots_of R f))) (row_back R all table zeroed place (height values 0) fit (Jump to ∷ []) stub_row)
+    stub_last : Row R all table zeroed (place + length fit) (height (slots_of R f) 0) (Jump (At to) ∷ [])
+    stub_last = subst (λ h. Row R all table zeroed (place + length fit) h (Jump (At to) ∷ [])) (types_last R 0 0 zeroed values 0 fit (slots_of R f) 0 (fit_typed values (slots_of R f))) (row_back R all table zeroed place (height values 0) fit (Jump (At to) ∷ []) stub_row)
 
     stub_follows : Follows R all table zeroed place (height values 0) fit
-    stub_follows = row_front R all table zeroed place (height values 0) fit (Jump to ∷ []) (subst (Goes_to (place + length fit)) (sym (types_last R 0 0 zeroed values 0 fit (slots_of R f) 0 (fit_typed values (slots_of R f)))) (opens_goes R all table (place + length fit) (height (slots_of R f) 0) (Jump to) tt stub_last.0 stub_last.1)) stub_row
+    stub_follows = row_front R all table zeroed place (height values 0) fit (Jump (At to) ∷ []) (subst (Goes_to (place + length fit)) (sym (types_last R 0 0 zeroed values 0 fit (slots_of R f) 0 (fit_typed values (slots_of R f)))) (opens_goes R all table (place + length fit) (height (slots_of R f) 0) (Jump (At to)) tt stub_last.0 stub_last.1)) stub_row
 
     pub stub_goes : Goes_to place (height values 0)
     stub_goes = goes_here R all table zeroed place (height values 0) fit (types_ordinary R 0 0 values 0 fit (slots_of R f) 0 (fit_typed values (slots_of R f))) stub_follows
 
     stub_steps : Goes_to to (height (slots_of R f) 0) → Step_all place (stub values f)
-    stub_steps goes = step_then R all table place fit (Jump to ∷ []) (typed_steps R all table zeroed place values 0 fit (slots_of R f) 0 (fit_typed values (slots_of R f)) stub_follows) ((height (slots_of R f) 0, stub_last.0, goes), tt)
+    stub_steps goes = step_then R all table place fit (Jump (At to) ∷ []) (typed_steps R all table zeroed place values 0 fit (slots_of R f) 0 (fit_typed values (slots_of R f)) stub_follows) ((height (slots_of R f) 0, stub_last.0, goes), tt)
 
   methods_length : (ms : List Method) → length (methods_heights R (entries_of R) ms) ≡ length (methods_orders R (entries_of R) ms)
   methods_length [] = refl

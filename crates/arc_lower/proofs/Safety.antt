@@ -13,7 +13,7 @@ use Rattle.arc_spec.specs.Objects.{Object, Dying, Gone, object_at, with_object, 
 use Rattle.arc_spec.specs.Resolved as resolved
 use Rattle.arc_spec.specs.Holding.{Held, Frame, Calling, Ending, Counted, with_places, with_self, with_things, lowered, raised, placed, gone_in, holds, on_place, on_field, forgets, makes, with_field}
 use Rattle.arc_spec.specs.Stepping.{Next, Goes, Asks, Ends, Faults, Stuck, Along, Sound, on_top, on_found}
-use Rattle.arc_ir.specs.Acting.{Action, Program, State, start, step, entry, keeps, goes, or_fault, has_level, enters, answers, taken, sends, sends_up, allocates, difference, operates, begins_end, releases, runs_dealloc, ends_class, end_goes_on, leaves, executes}
+use Rattle.arc_ir.specs.Acting.{Action, Program, State, lands, start, step, entry, keeps, goes, or_fault, has_level, enters, answers, taken, sends, sends_up, allocates, difference, operates, begins_end, releases, runs_dealloc, ends_class, end_goes_on, leaves, executes}
 use Rattle.arc_code.specs.declared.instr.Op.{Op}
 use Rattle.arc_code.specs.declared.instr.Op.TheVariants.{Num, Bin, Un, Narrow, Pop, Get, Set, PrintNum, PrintByte, GetChar, Nil, HoldSelf, Hold, Forget, Alloc, GetField, SetField, Differ, IsObject}
 use Rattle.arc_code.specs.declared.instr.Instr.TheVariants.{Plain, PrintText, Jump, JumpZero, Call, Send, SendSuper, SendTo, SendToSuper, Return, StoreStrong, Drop, Empty, EndStep}
@@ -339,8 +339,8 @@ module _ (p : Program) (R : resolved.Program) where
       order_leads : (x : Order) → slice_get (all R) pc ≡ Some x → (x ≡ EndStep → ⊥) → ((k : ℕ) → Clears R (all R) (table R) k pc → NilFrom k own) → Steps R (all R) (table R) h pc x → Leads (does p x s)
       order_leads (Plain x) is no_end nil st = operation_leads x is nil st.0 st.1
       order_leads (PrintText bytes) is no_end nil st = top_leads stack _ (omega (arith, count, st.0)) (λ c rest e. go_on (pc + 1) _ st.1 (counted c bytes ∷ rest) held own (omega (arith, count, st.0, e)) (omega (arith, size)) o)
-      order_leads (Jump to) is no_end nil st = go_on to h st stack held own count size o
-      order_leads (JumpZero to) is no_end nil st = top_leads stack _ (omega (arith, count, st.0)) (λ v rest e. chosen_leads (is_zero v) _ _ (go_on (pc + 1) _ st.1 rest held own (omega (arith, count, st.0, e)) size o) (go_on to _ st.2 rest held own (omega (arith, count, st.0, e)) size o))
+      order_leads (Jump to) is no_end nil st = go_on (lands pc to) h st stack held own count size o
+      order_leads (JumpZero to) is no_end nil st = top_leads stack _ (omega (arith, count, st.0)) (λ v rest e. chosen_leads (is_zero v) _ _ (go_on (pc + 1) _ st.1 rest held own (omega (arith, count, st.0, e)) size o) (go_on (lands pc to) _ st.2 rest held own (omega (arith, count, st.0, e)) size o))
       order_leads (Call f) is no_end nil st = enters_lead (has_level s) (entry p f) 0 (slots_of R f) pc stack held (calls f st.0.1) (omega (arith, count, st.0.0)) (nil_alive frames held.places) o.itself o.dying (back pc _ st.1 (length stack - slots_of R f + 1) held.places own (omega (arith, count, st.0.0)) (omega (arith, size)) o.is)
       order_leads (Send selector takes) is no_end nil st = found_leads stack takes _ (omega (arith, count, st.0)) (λ class _. class_told (class_at class) selector takes st.0 st.1)
       order_leads (SendSuper from selector takes) is no_end nil st = class_told (Some from) selector takes st.0 st.1

@@ -1,15 +1,16 @@
 -- Where orders stand with their heights, each has what it needs, and goes on where the heights are those that it leaves.
 use Rattle.std.proofs.Common.{◌≡◌, ◌⊎◌, inr, ℕ, zero, suc, ◌+◌, ◌-◌, ◌<◌, ◌≤◌, pos, List, [], ◌∷◌, ◌++◌, length, get_or, Some, None, slice_get, refl, sym, ap, ◌∙◌, subst, arith, append_assoc, length-append}
-use Rattle.arc_spec.specs.Resolved.{Value, Command, Sequence, Evaluate, EvaluateReference, Begin, Choose, Repeat, Commands, no_commands, and_command}
 use Rattle.arc_spec.specs.Resolved as resolved
 use Rattle.arc_code.specs.declared.instr.Op.TheVariants.{Num, Pop, Forget}
 use Rattle.arc_code.specs.declared.instr.Instr.TheVariants.{Plain, PrintText, Jump, JumpZero, Call, Send, SendSuper, SendTo, SendToSuper, Return, StoreStrong, Drop, Empty, EndStep}
+use Rattle.arc_ir.specs.declared.action.Target.TheVariants.{Skip, Back}
+use Rattle.arc_ir.specs.Acting.{lands}
 use Rattle.arc_lower.specs.Order.{Order}
-use Rattle.arc_lower.specs.Lowered.{whole_orders, all_empty_orders, command_orders, all_command_orders}
+use Rattle.arc_lower.specs.Lowered.{Block, Straight, Then, Fork, Loop, Leave, flat}
 use Rattle.arc_lower.specs.declared.height.Height.{Height}
 use Rattle.arc_lower.specs.Heights.{height, next_height, heights, last_height}
-use Rattle.arc_lower.proofs.Typing.{heights_same, Reaches, Keeps, Needs, numbers_left, places_left, Types, types_then, types_last, next_same, one, all_empty_type, whole_types, whole_reference_types, begin_types}
-use Rattle.arc_lower.proofs.HeightsEnd.{between, command_stays, all_commands_stay}
+use Rattle.arc_lower.proofs.Typing.{heights_same, Reaches, Keeps, Needs, numbers_left, places_left, Types, types_last, next_same, BlockTypes}
+use Rattle.arc_lower.proofs.HeightsEnd.{between, block_ends}
 
 pub some_same : {A : Type 0} (a b : A) → Some a ≡ Some b → a ≡ b
 some_same a b e = cc
@@ -104,8 +105,8 @@ module _ (R : resolved.Program) (all : List Order) (table : List Height) where
   -- with this height an order has what it needs, and goes on with what it leaves
   abbrev pub Steps : Height → ℕ → Order → Type 0
   Steps h pc (Plain o) = Reaches o h.numbers h.places × Goes (pc + 1) (left h (Plain o))
-  Steps h pc (Jump to) = Goes to h
-  Steps h pc (JumpZero to) = (1 ≤ h.numbers) × Goes (pc + 1) (height (h.numbers - 1) h.places) × Goes to (height (h.numbers - 1) h.places)
+  Steps h pc (Jump to) = Goes (lands pc to) h
+  Steps h pc (JumpZero to) = (1 ≤ h.numbers) × Goes (pc + 1) (height (h.numbers - 1) h.places) × Goes (lands pc to) (height (h.numbers - 1) h.places)
   Steps h pc Return = (h.numbers ≡ 1) × (h.places ≡ 0)
   Steps h pc EndStep = (h.numbers ≡ 0) × (h.places ≡ 0)
   Steps h pc (Empty i) = (i < h.places) × Stands (pc + 1) (left h (Empty i)) × ((k : ℕ) → Clears k (pc + 1) → (k ≡ i) ⊎ (h.places ≤ k))
@@ -218,107 +219,65 @@ module _ (R : resolved.Program) (all : List Order) (table : List Height) where
     pub typed_back : (pc a b : ℕ) (xs ys : List Order) (n m : ℕ) → Types R 0 0 a b xs n m → Follows pc (height a b) (xs ++ ys) → Follows (pc + length xs) (height n m) ys
     typed_back pc a b xs ys n m t f = subst (λ h. Follows (pc + length xs) h ys) (types_last R 0 0 base a b xs n m t) (back pc (height a b) xs ys f)
 
-  -- ---- statements, in a function that is left from a place
+  -- ---- blocks, in a function that is left from a place
 
   module _ (slots names exit : ℕ) where
-    abbrev pub here : Height
-    here = between R slots names
+    abbrev base : Height
+    base = between R slots names exit
 
-    test_types : (test : Value) → Types R 0 0 slots names (whole_orders R slots names test) (suc slots) names
-    test_types test = whole_types R 0 0 slots names test slots names (omega arith) (omega arith)
-
-    evaluated_types : (a : Value) → Types R 0 0 slots names (whole_orders R slots names a ++ Plain Pop ∷ []) slots names
-    evaluated_types a = types_then R 0 0 slots names (whole_orders R slots names a) (suc slots) names (Plain Pop ∷ []) slots names (test_types a) (one R 0 0 (suc slots) names Pop slots names (omega arith, tt) (omega arith) (omega arith))
-
-    empties_type : (first count : ℕ) → Types R 0 0 slots names (all_empty_orders names first count) slots names
-    empties_type first count = all_empty_type R 0 0 names first count slots names (omega arith)
-
-    ordinary : (xs : List Order) (n m : ℕ) → Types R 0 0 slots names xs n m → AllOrdinary xs
-    ordinary xs n m t = types_ordinary R 0 0 slots names xs n m t
-
-    mutual
-      command_ordinary : (c : Command) (place : ℕ) → AllOrdinary (command_orders R slots names exit place c)
-      command_ordinary (Sequence first count cs) place = ordinary_then (all_command_orders R slots names exit place cs) _ (all_ordinary cs place) (ordinary _ slots names (empties_type first count))
-      command_ordinary (Evaluate a) place = ordinary _ slots names (evaluated_types a)
-      command_ordinary (EvaluateReference a) place = ordinary _ slots names (whole_reference_types R 0 0 slots names a slots names (omega arith) (omega arith))
-      command_ordinary (Begin i a) place = ordinary _ slots names (begin_types R 0 0 slots names i a slots names (omega arith) (omega arith))
-      command_ordinary (resolved.Return None) place = (tt, (tt, tt))
-      command_ordinary (resolved.Return (Some a)) place = ordinary_then (whole_orders R slots names a) _ (ordinary _ (suc slots) names (test_types a)) (tt, tt)
-      command_ordinary (Choose test a b) place =
-          let one = place + length (whole_orders R slots names test) + 1 in
-          let xs = command_orders R slots names exit one a in
-          ordinary_then (whole_orders R slots names test) _ (ordinary _ (suc slots) names (test_types test)) (tt, ordinary_then xs _ (command_ordinary a one) (tt, command_ordinary b (one + length xs + 1)))
-      command_ordinary (Repeat test body) place =
-          let one = place + length (whole_orders R slots names test) + 1 in
-          ordinary_then (whole_orders R slots names test) _ (ordinary _ (suc slots) names (test_types test)) (tt, ordinary_then (command_orders R slots names exit one body) _ (command_ordinary body one) (tt, tt))
-
-      pub all_ordinary : (cs : Commands) (place : ℕ) → AllOrdinary (all_command_orders R slots names exit place cs)
-      all_ordinary no_commands place = tt
-      all_ordinary (and_command c others) place =
-          let xs = command_orders R slots names exit place c in
-          ordinary_then xs _ (command_ordinary c place) (all_ordinary others (place + length xs))
+    pub block_ordinary : (x : Block) (a b n m : ℕ) → BlockTypes R slots names a b x n m → AllOrdinary (flat exit x)
+    block_ordinary (Straight xs) a b n m t = types_ordinary R 0 0 a b xs n m t
+    block_ordinary (Then x y) a b n m t = ordinary_then (flat exit x) (flat exit y) (block_ordinary x a b t.0 t.1 t.2) (block_ordinary y t.0 t.1 n m t.3)
+    block_ordinary (Fork x y) a b n m t = (tt, ordinary_then (flat exit x) _ (block_ordinary x slots names n m t.2) (tt, block_ordinary y slots names n m t.3))
+    block_ordinary (Loop test x) a b n m t = ordinary_then (flat exit test) _ (block_ordinary test a b (suc slots) names t.0) (tt, ordinary_then (flat exit x) _ (block_ordinary x slots names a b t.1) (tt, tt))
+    block_ordinary Leave a b n m t = (tt, tt)
 
     module _ (leaves : Goes exit (height (suc slots) names)) where
-      -- behind the jump that takes a test
-      test_then : (place : ℕ) (test : Value) (to : ℕ) (rest : List Order) → Follows here place here (whole_orders R slots names test ++ JumpZero to ∷ rest) → Follows here (place + length (whole_orders R slots names test) + 1) here rest
-      test_then place test to rest f =
-          let low : next_height R here (JumpZero to) (height (suc slots) names) ≡ here = heights_same _ _ slots names (omega arith) (omega arith) in
-          subst (λ h. Follows here (place + length (whole_orders R slots names test) + 1) h rest) low (typed_back here place slots names (whole_orders R slots names test) (JumpZero to ∷ rest) (suc slots) names (test_types test) f).2
+      -- what is behind a block
+      behind : (x : Block) (a b n m pc : ℕ) (ys : List Order) → BlockTypes R slots names a b x n m → Follows base pc (height a b) (flat exit x ++ ys) → Follows base (pc + length (flat exit x)) (height n m) ys
+      behind x a b n m pc ys t f = subst (λ h. Follows base (pc + length (flat exit x)) h ys) (block_ends R slots names exit x a b n m t) (back base pc (height a b) (flat exit x) ys f)
 
-      test_steps : (place : ℕ) (test : Value) (to : ℕ) (rest : List Order) → AllOrdinary rest → Follows here place here (whole_orders R slots names test ++ JumpZero to ∷ rest) → Goes to here → AllStep (place + length (whole_orders R slots names test) + 1) rest → AllStep place (whole_orders R slots names test ++ JumpZero to ∷ rest)
-      test_steps place test to rest o f there others =
-          let xs = whole_orders R slots names test in
-          let behind = typed_back here place slots names xs (JumpZero to ∷ rest) (suc slots) names (test_types test) f in
-          let next = goes_here here (place + length xs + 1) here rest o (test_then place test to rest f) in
-          let low : here ≡ height (suc slots - 1) names = heights_same slots names (suc slots - 1) names (omega arith) refl in
-          step_then place xs (JumpZero to ∷ rest) (typed_steps here place slots names xs (suc slots) names (test_types test) (front here place here xs (JumpZero to ∷ rest) (tt, o) f))
-          ((height (suc slots) names, behind.0, (omega arith, subst (Goes (place + length xs + 1)) low next, subst (Goes to) low there)), others)
-
-      mutual
-        command_steps : (c : Command) (place : ℕ) → Follows here place here (command_orders R slots names exit place c) → AllStep place (command_orders R slots names exit place c)
-        command_steps (Sequence first count cs) place f =
-            let xs = all_command_orders R slots names exit place cs in
-            let ys = all_empty_orders names first count in
-            let behind = subst (λ h. Follows here (place + length xs) h ys) (all_commands_stay R slots names cs exit place) (back here place here xs ys f) in
-            step_then place xs ys (all_commands_step cs place (front here place here xs ys (ordinary _ slots names (empties_type first count)) f)) (typed_steps here (place + length xs) slots names ys slots names (empties_type first count) behind)
-        command_steps (Evaluate a) place f = typed_steps here place slots names _ slots names (evaluated_types a) f
-        command_steps (EvaluateReference a) place f = typed_steps here place slots names _ slots names (whole_reference_types R 0 0 slots names a slots names (omega arith) (omega arith)) f
-        command_steps (Begin i a) place f = typed_steps here place slots names _ slots names (begin_types R 0 0 slots names i a slots names (omega arith) (omega arith)) f
-        command_steps (resolved.Return None) place f =
-            let up : next_height R here (Plain (Num (pos 0))) here ≡ height (suc slots) names = heights_same _ _ (suc slots) names (omega arith) (omega arith) in
-            let zero_types = one R 0 0 slots names (Num (pos 0)) (suc slots) names (tt, tt) (omega arith) (omega arith) in
-            step_then place (Plain (Num (pos 0)) ∷ []) (Jump exit ∷ []) (typed_steps here place slots names (Plain (Num (pos 0)) ∷ []) (suc slots) names zero_types (front here place here (Plain (Num (pos 0)) ∷ []) (Jump exit ∷ []) (tt, tt) f)) ((height (suc slots) names, f.2.0 ∙ ap Some up, leaves), tt)
-        command_steps (resolved.Return (Some a)) place f =
-            let xs = whole_orders R slots names a in
-            let behind = typed_back here place slots names xs (Jump exit ∷ []) (suc slots) names (test_types a) f in
-            step_then place xs (Jump exit ∷ []) (typed_steps here place slots names xs (suc slots) names (test_types a) (front here place here xs (Jump exit ∷ []) (tt, tt) f)) ((height (suc slots) names, behind.0, leaves), tt)
-        command_steps (Choose test a b) place f =
-            let one = place + length (whole_orders R slots names test) + 1 in
-            let xs = command_orders R slots names exit one a in
-            let two = one + length xs + 1 in
-            let ys = command_orders R slots names exit two b in
-            let end = two + length ys in
-            let rest : List Order = xs ++ Jump end ∷ ys in
-            let o : AllOrdinary (Jump end ∷ ys) = (tt, command_ordinary b two) in
-            let inside = test_then place test two rest f in
-            let behind = subst (λ h. Follows here (one + length xs) h (Jump end ∷ ys)) (command_stays R slots names a exit one) (back here one here xs (Jump end ∷ ys) inside) in
-            let last = subst (Goes end) (command_stays R slots names b exit two) (ends_with here two here ys behind.2) in
-            test_steps place test two rest (ordinary_then xs _ (command_ordinary a one) o) f (goes_here here two here ys (command_ordinary b two) behind.2)
-            (step_then one xs (Jump end ∷ ys) (command_steps a one (front here one here xs (Jump end ∷ ys) o inside)) ((here, behind.0, last), command_steps b two behind.2))
-        command_steps (Repeat test body) place f =
-            let one = place + length (whole_orders R slots names test) + 1 in
-            let xs = command_orders R slots names exit one body in
-            let end = one + length xs + 1 in
-            let rest : List Order = xs ++ Jump place ∷ [] in
-            let inside = test_then place test end rest f in
-            let behind = subst (λ h. Follows here (one + length xs) h (Jump place ∷ [])) (command_stays R slots names body exit one) (back here one here xs (Jump place ∷ []) inside) in
-            let first = goes_here here place here _ (command_ordinary (Repeat test body) place) f in
-            test_steps place test end rest (ordinary_then xs _ (command_ordinary body one) (tt, tt)) f behind.2 (step_then one xs (Jump place ∷ []) (command_steps body one (front here one here xs (Jump place ∷ []) (tt, tt) inside)) ((here, behind.0, first), tt))
-
-        pub all_commands_step : (cs : Commands) (place : ℕ) → Follows here place here (all_command_orders R slots names exit place cs) → AllStep place (all_command_orders R slots names exit place cs)
-        all_commands_step no_commands place f = tt
-        all_commands_step (and_command c others) place f =
-            let xs = command_orders R slots names exit place c in
-            let ys = all_command_orders R slots names exit (place + length xs) others in
-            let behind = subst (λ h. Follows here (place + length xs) h ys) (command_stays R slots names c exit place) (back here place here xs ys f) in
-            step_then place xs ys (command_steps c place (front here place here xs ys (all_ordinary others (place + length xs)) f)) (all_commands_step others (place + length xs) behind)
+      pub block_steps : (x : Block) (a b n m pc : ℕ) → BlockTypes R slots names a b x n m → Follows base pc (height a b) (flat exit x) → AllStep pc (flat exit x)
+      block_steps (Straight xs) a b n m pc t f = typed_steps base pc a b xs n m t f
+      block_steps (Then x y) a b n m pc t f =
+          let xs = flat exit x in
+          let ys = flat exit y in
+          step_then pc xs ys (block_steps x a b t.0 t.1 pc t.2 (front base pc (height a b) xs ys (block_ordinary y t.0 t.1 n m t.3) f)) (block_steps y t.0 t.1 n m (pc + length xs) t.3 (behind x a b t.0 t.1 pc ys t.2 f))
+      block_steps (Fork x y) a b n m pc t f =
+          let xs = flat exit x in
+          let ys = flat exit y in
+          let one = pc + 1 in
+          let two = one + length xs + 1 in
+          let rest : List Order = Jump (Skip (length ys)) ∷ ys in
+          let low : next_height R base (JumpZero (Skip (suc (length xs)))) (height a b) ≡ base = heights_same _ _ slots names (omega (arith, t.0)) (omega (arith, t.1)) in
+          let less : base ≡ height (a - 1) b = heights_same slots names (a - 1) b (omega (arith, t.0)) (sym t.1) in
+          let there : two ≡ lands pc (Skip (suc (length xs))) = omega arith in
+          let o : AllOrdinary rest = (tt, block_ordinary y slots names n m t.3) in
+          let inside = subst (λ h. Follows base one h (xs ++ rest)) low f.2 in
+          let after = behind x slots names n m one rest t.2 inside in
+          let first = goes_here base one base (xs ++ rest) (ordinary_then xs rest (block_ordinary x slots names n m t.2) o) inside in
+          let second = goes_here base two base ys (block_ordinary y slots names n m t.3) after.2 in
+          let last = subst (Goes (two + length ys)) (block_ends R slots names exit y slots names n m t.3) (ends_with base two base ys after.2) in
+          ((height a b, f.0, (omega (arith, t.0), subst (Goes one) less first, subst (λ q. Goes q (height (a - 1) b)) there (subst (Goes two) less second))),
+          step_then one xs rest (block_steps x slots names n m one t.2 (front base one base xs rest o inside)) ((height n m, after.0, last), block_steps y slots names n m two t.3 after.2))
+      block_steps (Loop test x) a b n m pc t f =
+          let ts = flat exit test in
+          let xs = flat exit x in
+          let q = pc + length ts in
+          let one = q + 1 in
+          let end = one + length xs + 1 in
+          let again : List Order = Jump (Back (suc (length ts + length xs))) ∷ [] in
+          let out : Order = JumpZero (Skip (suc (length xs))) in
+          let low : next_height R base out (height (suc slots) names) ≡ base = heights_same _ _ slots names (omega arith) (omega arith) in
+          let less : base ≡ height (suc slots - 1) names = heights_same slots names (suc slots - 1) names (omega arith) refl in
+          let there : end ≡ lands q (Skip (suc (length xs))) = omega arith in
+          let begin : pc ≡ lands (one + length xs) (Back (suc (length ts + length xs))) = omega arith in
+          let o : AllOrdinary (xs ++ again) = ordinary_then xs again (block_ordinary x slots names a b t.1) (tt, tt) in
+          let tested = behind test a b (suc slots) names pc (out ∷ (xs ++ again)) t.0 f in
+          let inside = subst (λ h. Follows base one h (xs ++ again)) low tested.2 in
+          let after = behind x slots names a b one again t.1 inside in
+          let first = goes_here base pc (height a b) (ts ++ (out ∷ (xs ++ again))) (block_ordinary (Loop test x) a b n m t) f in
+          step_then pc ts (out ∷ (xs ++ again)) (block_steps test a b (suc slots) names pc t.0 (front base pc (height a b) ts (out ∷ (xs ++ again)) (tt, o) f))
+          ((height (suc slots) names, tested.0, (omega arith, subst (Goes one) less (goes_here base one base (xs ++ again) o inside), subst (λ q. Goes q (height (suc slots - 1) names)) there (subst (Goes end) less after.2))),
+          step_then one xs again (block_steps x slots names a b one t.1 (front base one base xs again (tt, tt) inside)) ((height a b, after.0, subst (λ q. Goes q (height a b)) begin first), tt))
+      block_steps Leave a b n m pc t f = ((height a b, f.0, subst (Goes exit) (heights_same (suc slots) names a b (sym t.0) (sym t.1)) leaves), tt)

@@ -1,16 +1,16 @@
 -- Orders that go on with the next one each: how many numbers and places of their function there are behind them, where each of them has as many as it needs.
-use Rattle.std.proofs.Common.{◌≡◌, ℕ, zero, suc, pred, ◌+◌, ◌-◌, ◌/◌, ◌<◌, ◌≤◌, Bool, true, false, if◌then◌else◌, nat_lt, List, [], ◌∷◌, ◌++◌, length, take, drop, refl, sym, ap, ◌∙◌, subst, arith, pos}
+use Rattle.std.proofs.Common.{◌≡◌, ℕ, zero, suc, pred, ◌+◌, ◌-◌, ◌/◌, ◌<◌, ◌≤◌, Bool, true, false, if◌then◌else◌, nat_lt, List, [], ◌∷◌, ◌++◌, length, take, drop, Some, None, refl, sym, ap, ◌∙◌, subst, arith, pos}
 use Rattle.std.proofs.lemmas.Bool.{ltb-true, ltb-false}
 use Rattle.arc_ast.specs.declared.tree.Kind.TheVariants as k
 use Rattle.arc_ast.specs.declared.tree.Sign.TheVariants as signs
-use Rattle.arc_spec.specs.Resolved.{Piece, Bytes, Decimal, Character, Value, Number, ReadByte, Print, Negated, Combined, Converted, Local, Assigned, Invoked, Sent, SentSuper, SentTo, SentToSuper, Field, FieldAssigned, Reference, Itself, Variable, Stored, Made, Initialized, Values, no_values, and_value, Function, Program}
+use Rattle.arc_spec.specs.Resolved.{Piece, Bytes, Decimal, Character, Value, Number, ReadByte, Print, Negated, Combined, Converted, Local, Assigned, Invoked, Sent, SentSuper, SentTo, SentToSuper, Field, FieldAssigned, Reference, Itself, Variable, Stored, Made, Initialized, Values, no_values, and_value, Command, Sequence, Evaluate, EvaluateReference, Begin, Choose, Repeat, Commands, no_commands, and_command, Function, Program}
 use Rattle.arc_spec.specs.Resolved as resolved
 use Rattle.arc_code.specs.declared.instr.Op.{Op}
 use Rattle.arc_code.specs.declared.instr.Op.TheVariants.{Num, Bin, Un, Narrow, Pop, Get, Set, PrintNum, PrintByte, GetChar, Nil, HoldSelf, Hold, Forget, Alloc, GetField, SetField, Differ, IsObject}
 use Rattle.arc_code.specs.declared.instr.Instr.TheVariants.{Plain, PrintText, Jump, JumpZero, Return, Empty, Call, Send, SendSuper, SendTo, SendToSuper, StoreStrong, Drop, EndStep}
 use Rattle.arc_code.specs.Effects.{effect, passes}
 use Rattle.arc_lower.specs.Order.{Order}
-use Rattle.arc_lower.specs.Lowered.{value_count, value_takes, reference_takes, values_take, conversion_orders, part_orders, piece_orders, left_behind, format_orders, pop_orders, keep_orders, print_orders, get_orders, set_orders, zero_orders, fit_orders, nil_orders, hold_orders, store_orders, drop_orders, empty_orders, all_empty_orders, number_of, slots_of, call_orders, value_orders, reference_orders, all_value_orders, whole_orders, whole_reference_orders, begin_orders}
+use Rattle.arc_lower.specs.Lowered.{value_count, value_takes, reference_takes, values_take, conversion_orders, part_orders, piece_orders, left_behind, format_orders, pop_orders, keep_orders, print_orders, get_orders, set_orders, zero_orders, fit_orders, nil_orders, hold_orders, store_orders, drop_orders, empty_orders, all_empty_orders, number_of, slots_of, call_orders, value_orders, reference_orders, all_value_orders, whole_orders, whole_reference_orders, begin_orders, Block, Straight, Then, Fork, Loop, Leave, command_block, commands_block}
 use Rattle.arc_lower.proofs.Linking.{out_of_list}
 use Rattle.arc_lower.specs.declared.height.Height.{Height}
 use Rattle.arc_lower.specs.Heights.{height, numbers_taken, next_height, last_height}
@@ -321,3 +321,35 @@ module _ (P : Program) (r s : ℕ) where
   pub types_last : (base : Height) (a b : ℕ) (xs : List Order) (n m : ℕ) → Types a b xs n m → last_height P base (height a b) xs ≡ height n m
   types_last base a b [] n m t = heights_same a b n m t.0 t.1
   types_last base a b (x ∷ xs) n m t = ap (λ h. last_height P base h xs) (next_same base x a b (a + r) (b + s) t.0) ∙ types_last base (numbers_behind x a) (places_behind x b) xs n m t.1
+
+-- ---- statements
+
+module _ (P : Program) (slots names : ℕ) where
+  -- the same of a block, in a function with so many numbers and places between two statements: a choice and a loop stand there
+  abbrev pub BlockTypes : (a b : ℕ) → Block → (n m : ℕ) → Type 0
+  BlockTypes a b (Straight xs) n m = Types P 0 0 a b xs n m
+  BlockTypes a b (Then x y) n m = (i : ℕ) × (j : ℕ) × BlockTypes a b x i j × BlockTypes i j y n m
+  BlockTypes a b (Fork x y) n m = (a ≡ suc slots) × (b ≡ names) × BlockTypes slots names x n m × BlockTypes slots names y n m
+  BlockTypes a b (Loop test x) n m = BlockTypes a b test (suc slots) names × BlockTypes slots names x a b × (n ≡ slots) × (m ≡ names)
+  BlockTypes a b Leave n m = (a ≡ suc slots) × (b ≡ names) × (n ≡ slots) × (m ≡ names)
+
+  test_types : (e : Value) → Types P 0 0 slots names (whole_orders P slots names e) (suc slots) names
+  test_types e = whole_types P 0 0 slots names e slots names (omega arith) (omega arith)
+
+  pub zero_types : Types P 0 0 slots names (Plain (Num (pos 0)) ∷ []) (suc slots) names
+  zero_types = one P 0 0 slots names (Num (pos 0)) (suc slots) names (tt, tt) (omega arith) (omega arith)
+
+  mutual
+    pub command_types : (c : Command) → BlockTypes slots names (command_block P slots names c) slots names
+    command_types (Sequence first count all) = (slots, names, commands_type all, all_empty_type P 0 0 names first count slots names (omega arith))
+    command_types (Evaluate a) = types_then P 0 0 slots names (whole_orders P slots names a) (suc slots) names (Plain Pop ∷ []) slots names (test_types a) (one P 0 0 (suc slots) names Pop slots names (omega arith, tt) (omega arith) (omega arith))
+    command_types (EvaluateReference a) = whole_reference_types P 0 0 slots names a slots names (omega arith) (omega arith)
+    command_types (Begin i a) = begin_types P 0 0 slots names i a slots names (omega arith) (omega arith)
+    command_types (resolved.Return None) = (suc slots, names, zero_types, (refl, refl, refl, refl))
+    command_types (resolved.Return (Some a)) = (suc slots, names, test_types a, (refl, refl, refl, refl))
+    command_types (Choose test a b) = (suc slots, names, test_types test, (refl, refl, command_types a, command_types b))
+    command_types (Repeat test body) = (test_types test, command_types body, refl, refl)
+
+    pub commands_type : (cs : Commands) → BlockTypes slots names (commands_block P slots names cs) slots names
+    commands_type no_commands = (refl, refl)
+    commands_type (and_command c others) = (slots, names, command_types c, commands_type others)
