@@ -14,6 +14,7 @@ use Rattle.arc_spec.specs.Stepping.{Goes, Faults, Reached, Running, follow}
 use Rattle.arc_spec.proofs.Deallocs.{dealloc_and_above, deallocs_from}
 use Rattle.arc_ir.specs.Acting.{Program, State, has_level, enters, answers, begins_end, ends_object, runs_dealloc, ends_class}
 use Rattle.arc_code.specs.declared.instr.Instr.TheVariants.{Call, Jump, EndStep}
+use Rattle.arc_ir.specs.declared.action.Target.TheVariants.{At}
 use Rattle.arc_code.specs.Effects.{passes}
 use Rattle.arc_lower.specs.Lowered.{number_of, slots_of, entry_of, entries_of, fit_orders, leave_orders, flat, body_block}
 use Rattle.arc_lower.proofs.CountsPlaces.{no_one, names_holders}

@@ -141,10 +141,14 @@ module _ (p : Program) (frames : List Frame) (bound : ℕ) (R : resolved.Program
       subst (λ s. Runs (moves p) Good bound (running frames q2 s w2) (passed (q2 + length zs)) (all_dropped D w2)) same (drops_runs n w w2 q2 g framed2 took2 has2)) q has1) pc has
 
   -- a jump leads there
+  abbrev moved : Target → List ℤ → World → ℕ → Reached State
+  moved t stack w pc = follow (Goes (at frames (lands pc t) stack (held_of w)) []) w.input w.trace
+
+  abbrev jump_step : (t : Target) (stack : List ℤ) (w : World) (pc : ℕ) → HasAt p pc (Jump t ∷ []) → Leads (moves p) (running frames pc stack w) (moved t stack w pc)
+  jump_step t stack w pc has = leads_step (moves p) (at frames pc stack (held_of w)) w.input w.trace (Goes (at frames (lands pc t) stack (held_of w)) []) (ap recount (has.0 frames stack (held_of w)))
+
   jump_leads : (t : Target) (stack : List ℤ) (w : World) (pc : ℕ) → HasAt p pc (Jump t ∷ []) → Leads (moves p) (running frames pc stack w) (running frames (lands pc t) stack w)
-  jump_leads t stack w pc has =
-      let moved = Goes (at frames (lands pc t) stack (held_of w)) [] in
-      leads_trans (moves p) (running frames pc stack w) (follow moved w.input w.trace) (running frames (lands pc t) stack w) (leads_step (moves p) (at frames pc stack (held_of w)) w.input w.trace moved (ap recount (has.0 frames stack (held_of w)))) (quiet p frames bound (lands pc t) stack w)
+  jump_leads t stack w pc has = leads_trans (moves p) (running frames pc stack w) (moved t stack w pc) (running frames (lands pc t) stack w) (jump_step t stack w pc has) (quiet p frames bound (lands pc t) stack w)
 
   zero_leads : (w : World) (pc : ℕ) → HasAt p pc (Plain (Num (pos 0)) ∷ []) → Leads (moves p) (running frames pc (vars w) w) (running frames (pc + 1) (pos 0 ∷ vars w) w)
   zero_leads w pc has = one_passes p frames bound (Plain (Num (pos 0))) (vars w) w (pos 0 ∷ vars w) w (λ q. quiet p frames bound (q + 1) (pos 0 ∷ vars w) w) pc has
@@ -188,11 +192,13 @@ module _ (p : Program) (frames : List Frame) (bound : ℕ) (R : resolved.Program
     -- behind a turn, by how it is left
     turned : (n : ℕ) (flow : Flow) (w2 : World) → Calm w2 → HasAt p (inside + length xs) again → ((w3 : World) → Calm w3 → Runs (moves p) Good n (running frames place (vars w3) w3) (flows behind) (turns n (whole D test) body w3)) → Runs (moves p) Good (suc n) (flows (inside + length xs) flow w2) (flows behind) (if_normal flow (turns n (whole D test) body) w2)
     turned n Normal w2 g2 h3 go_on =
-        let s = running frames (inside + length xs) (vars w2) w2 in
-        let home = running frames (lands (inside + length xs) (Back (suc (length tests + length xs)))) (vars w2) w2 in
-        let jump = jump_leads (Back (suc (length tests + length xs))) (vars w2) w2 (inside + length xs) h3 in
-        let one : jump.steps ≡ 1 = refl in
-        later_runs (moves p) Good n s home (flows behind) (turns n (whole D test) body w2) jump (omega (arith, one)) (subst (λ q. Runs (moves p) Good n (running frames q (vars w2) w2) (flows behind) (turns n (whole D test) body w2)) (sym back_home) (go_on w2 g2))
+        let q = inside + length xs in
+        let t = Back (suc (length tests + length xs)) in
+        let rest = turns n (whole D test) body w2 in
+        let one : (jump_step t (vars w2) w2 q h3).steps ≡ 1 = refl in
+        later_runs (moves p) Good n (running frames q (vars w2) w2) (moved t (vars w2) w2 q) (flows behind) rest (jump_step t (vars w2) w2 q h3) (omega (arith, one))
+        (leads_runs (moves p) Good n (moved t (vars w2) w2 q) (running frames (lands q t) (vars w2) w2) (flows behind) rest (quiet p frames bound (lands q t) (vars w2) w2)
+        (subst (λ r. Runs (moves p) Good n (running frames r (vars w2) w2) (flows behind) rest) (sym back_home) (go_on w2 g2)))
     turned n (Returned v) w2 g2 h3 go_on = (g2, leads_same (moves p) _ _ refl)
 
     loop_runs : (n : ℕ) → n ≤ bound → HasAt p place tests → HasAt p (place + length tests) (JumpZero (Skip (suc (length xs))) ∷ []) → HasAt p (inside + length xs) again → (w : World) → Calm w → Runs (moves p) Good n (running frames place (vars w) w) (flows behind) (turns n (whole D test) body w)

@@ -2,9 +2,6 @@ mod CountsPlaces
 mod CountsHeld
 mod CountsThere
 mod CountsKept
-mod CountsSteps
-mod CountsActing
-mod CountsSound
 mod Recounting
 mod Standing
 mod Releasing

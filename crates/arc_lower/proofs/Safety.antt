@@ -1,4 +1,4 @@
--- No action lacks the numbers and the places that it takes, whatever is read: what runs and what waits have as many as the heights of a program say.
+-- No action lacks the numbers and the places that it takes, whatever is read, and the counts are right: what runs and what waits have as many as the heights of a program say.
 use Rattle.std.proofs.Common.{◌≡◌, ◌⊎◌, inl, inr, ℕ, zero, suc, ◌+◌, ◌-◌, ◌<◌, ◌≤◌, ℤ, pos, Bool, true, false, ◌&&◌, nat_eq, if◌then◌else◌, List, [], ◌∷◌, ◌++◌, length, Option, Some, None, ⊎_elim, refl, sym, ap, ◌∙◌, subst, arith, length-append, slice_get, slice_set, slice_index_or}
 use Rattle.std.proofs.lemmas.Bool.{and_parts}
 use Rattle.std.proofs.lemmas.List.{length-set}
@@ -11,8 +11,8 @@ use Rattle.arc_spec.specs.Meaning.{chosen}
 use Rattle.arc_spec.specs.Number.{converted, negated, combined, counted, low_byte, byte_or_end, is_zero}
 use Rattle.arc_spec.specs.Objects.{Object, Dying, Gone, object_at, with_object, with_fields, in_phase, is_live}
 use Rattle.arc_spec.specs.Resolved as resolved
-use Rattle.arc_spec.specs.Holding.{Held, Frame, Calling, Ending, Counted, with_places, with_self, with_things, lowered, raised, placed, gone_in, holds, on_place, on_field, forgets, makes, with_field}
-use Rattle.arc_spec.specs.Stepping.{Next, Goes, Asks, Ends, Faults, Stuck, Along, Sound, on_top, on_found}
+use Rattle.arc_spec.specs.Holding.{Held, Frame, Calling, Ending, Counted, is_there, with_places, with_self, with_things, lowered, raised, placed, gone_in, holds, on_place, on_field, forgets, makes, with_field}
+use Rattle.arc_spec.specs.Stepping.{Next, Goes, Asks, Ends, Faults, Stuck, Along, Safe, Sound, on_top, on_found}
 use Rattle.arc_ir.specs.Acting.{Action, Program, State, lands, start, step, entry, keeps, goes, or_fault, has_level, enters, answers, taken, sends, sends_up, allocates, difference, operates, begins_end, releases, runs_dealloc, ends_class, end_goes_on, leaves, executes}
 use Rattle.arc_code.specs.declared.instr.Op.{Op}
 use Rattle.arc_code.specs.declared.instr.Op.TheVariants.{Num, Bin, Un, Narrow, Pop, Get, Set, PrintNum, PrintByte, GetChar, Nil, HoldSelf, Hold, Forget, Alloc, GetField, SetField, Differ, IsObject}
@@ -23,8 +23,7 @@ use Rattle.arc_lower.specs.Lowered.{slots_of, entries_of, end_step_of, lowered a
 use Rattle.arc_lower.specs.declared.height.Height.{Height}
 use Rattle.arc_lower.specs.Heights.{height}
 use Rattle.arc_lower.proofs.CountsThere.{IsThere, AllThere, place_there, object_goes, holds_goes, set_here}
-use Rattle.arc_lower.proofs.CountsKept.{Sane}
-use Rattle.arc_lower.proofs.CountsSound.{SafeIfSane, sound_if_sane}
+use Rattle.arc_lower.proofs.CountsKept.{Sane, nothing_sane, sane_self, sane_place, sane_store, sane_forget, sane_nil, sane_last, sane_other, sane_make, sane_field, sane_gone}
 use Rattle.arc_lower.proofs.Recounting.{at}
 use Rattle.arc_lower.proofs.Doing.{does, acts_does}
 use Rattle.arc_lower.proofs.Standing.{ending, AllDying, IsDying, Alive, nil_alive, ending_alive, last_there, set_front, made_dying, changed_dying, IsApart, live_apart, apart_dying}
@@ -66,6 +65,16 @@ none_before : {waiting : List ℕ} (own : List ℕ) → length own ≡ 0 → own
 none_before [] none = refl
 none_before (r ∷ own) none = absurd (omega (arith, none))
 
+forgotten_sane : (own waiting : List ℕ) (held : Held) → AllNil own → Sane (with_places held (own ++ waiting)) → Sane (with_places held waiting)
+forgotten_sane [] waiting held nil sane = sane
+forgotten_sane (r ∷ own) waiting held nil sane = forgotten_sane own waiting held nil.1 (sane_forget held (own ++ waiting) (subst (λ q. Sane (with_places held (q ∷ own ++ waiting))) nil.0 sane))
+
+pub no_nil : {objects : List Object} → IsDying objects 0 → ⊥
+no_nil d = none d.1
+  where
+    none : None ≡ Some d.0 → ⊥
+    none e = cc
+
 along_map : {S : Type 0} (P Q : S → Type 0) → ((s : S) → P s → Q s) → (next : Next S) → Along P next → Along Q next
 along_map P Q f (Goes s events) p = f s p
 along_map P Q f (Asks go) p = λ answer. f (go answer) (p answer)
@@ -79,16 +88,13 @@ executes_at p (y ∷ xs) zero x s e = acts_does p y s ∙ ap (λ z. does p z s) 
 executes_at p (y ∷ xs) (suc pc) x s e = executes_at p xs pc x s e
 
 module _ (p : Program) (R : resolved.Program) where
-  abbrev Standing_at : ℕ → Height → Type 0
-  Standing_at = Stands R (all R) (table R)
-
   abbrev Goes_to : ℕ → Height → Type 0
   Goes_to = stepping.Goes R (all R) (table R)
 
   -- ---- what runs, and what waits
 
   -- with so many numbers and these places a function goes on at a place, above those that wait
-  record Resumes (back self : ℕ) (others : List Frame) (numbers : ℕ) (places : List ℕ) (below : ℕ) (waiting : List ℕ) : Type 0 where
+  pub record Resumes (back self : ℕ) (others : List Frame) (numbers : ℕ) (places : List ℕ) (below : ℕ) (waiting : List ℕ) : Type 0 where
     high : Height
     stands : Stands R (all R) (table R) back high
     own : List ℕ
@@ -99,30 +105,30 @@ module _ (p : Program) (R : resolved.Program) where
     alive : Alive others waiting self
 
   -- so many numbers and these places wait; a call gives a number, which isn't there yet
-  abbrev Waits : List Frame → ℕ → List ℕ → Type 0
+  abbrev pub Waits : List Frame → ℕ → List ℕ → Type 0
   Waits [] n places = Unit {0}
   Waits (Calling back self ∷ others) n places = (below : ℕ) × (waiting : List ℕ) × Resumes back self others (n + 1) places below waiting × Waits others below waiting
   Waits (Ending back self o next left ∷ others) n places = (below : ℕ) × (waiting : List ℕ) × Resumes back self others n places below waiting × Waits others below waiting × IsApart o (ending others)
 
-  record InFunction (s : State) : Type 0 where
+  pub record InFunction (s : State) : Type 0 where
     below : ℕ
     waiting : List ℕ
     resumes : Resumes s.at s.held.self s.frames (length s.stack) s.held.places below waiting
     waits : Waits s.frames below waiting
 
-  abbrev IsEnding : List Frame → Type 0
+  abbrev pub IsEnding : List Frame → Type 0
   IsEnding (Ending back self o next left ∷ others) = Unit {0}
   IsEnding _ = ⊥
 
   -- where the end of an object goes on
-  record InEnd (s : State) : Type 0 where
+  pub record InEnd (s : State) : Type 0 where
     at_end : s.at ≡ p.end_step
     is_ending : IsEnding s.frames
     alive : Alive s.frames s.held.places s.held.self
     waits : Waits s.frames (length s.stack) s.held.places
 
-  abbrev Good : State → Type 0
-  Good s = (InFunction s ⊎ InEnd s) × AllDying s.held.objects (ending s.frames)
+  abbrev pub Good : State → Type 0
+  Good s = (InFunction s ⊎ InEnd s) × AllDying s.held.objects (ending s.frames) × Sane s.held
 
   abbrev Leads : Next State → Type 0
   Leads = Along Good
@@ -151,12 +157,12 @@ module _ (p : Program) (R : resolved.Program) where
   if_leads true x y h i = h
   if_leads false x y h i = i
 
-  field_leads : (class r : ℕ) (held : Held) (go : Object → Next State) → IsThere held.objects r → ((j : ℕ) (o : Object) → r ≡ suc j → object_at held.objects (suc j) ≡ Some o → Leads (go o)) → Leads (on_field p.classes class r held go)
+  field_leads : (class r : ℕ) (held : Held) (go : Object → Next State) → IsThere held.objects r → ((j : ℕ) (o : Object) → r ≡ suc j → object_at held.objects (suc j) ≡ Some o → is_there o.phase ≡ true → Leads (go o)) → Leads (on_field p.classes class r held go)
   field_leads class zero held go there h = tt
   field_leads class (suc j) held go there h =
       let o = there.0 in
       subst Leads (sym (object_goes (object_at held.objects (suc j)) o (λ x. if descends p.classes (Some x.class) class then go x else Faults FieldClass) there.1 there.2))
-      (if_leads (descends p.classes (Some o.class) class) (go o) (Faults FieldClass) (h j o refl there.1) tt)
+      (if_leads (descends p.classes (Some o.class) class) (go o) (Faults FieldClass) (h j o refl there.1 there.2) tt)
 
   forgets_leads : (own waiting : List ℕ) (count : ℕ) (go : List ℕ → Next State) → count ≡ length own → AllNil own → Leads (go waiting) → Leads (forgets count (own ++ waiting) go)
   forgets_leads [] waiting zero go e nil h = h
@@ -168,13 +174,13 @@ module _ (p : Program) (R : resolved.Program) where
   same_frame back self others n m places places1 below waiting e f h = subst (λ l. Resumes back self others m l below waiting) f (subst (λ k. Resumes back self others k places below waiting) e h)
 
   -- a function is left
-  leaves_lead : (frames : List Frame) (below : ℕ) (waiting : List ℕ) (pc : ℕ) (v : ℤ) (stack rest : List ℤ) (held : Held) → Waits frames below waiting → Alive frames waiting held.self → length stack ≡ suc (length rest) → below ≡ length rest → waiting ≡ held.places → AllDying held.objects (ending frames) → Leads (leaves p (at frames pc stack held) frames v rest)
-  leaves_lead [] below waiting pc v stack rest held waits alive size e f dying = tt
-  leaves_lead (Calling back self ∷ others) below waiting pc v stack rest held waits alive size e f dying =
-      (inl (record { below = waits.0; waiting = waits.1; resumes = same_frame back self others (below + 1) (length stack) waiting held.places waits.0 waits.1 (omega (arith, size, e)) f waits.2; waits = waits.3 }), dying)
-  leaves_lead (Ending back self o next left ∷ others) below waiting pc v stack rest held waits alive size e f dying =
+  leaves_lead : (frames : List Frame) (below : ℕ) (waiting : List ℕ) (pc : ℕ) (v : ℤ) (stack rest : List ℤ) (held : Held) → Waits frames below waiting → Alive frames waiting held.self → length stack ≡ suc (length rest) → below ≡ length rest → waiting ≡ held.places → AllDying held.objects (ending frames) → Sane held → Leads (leaves p (at frames pc stack held) frames v rest)
+  leaves_lead [] below waiting pc v stack rest held waits alive size e f dying sane = tt
+  leaves_lead (Calling back self ∷ others) below waiting pc v stack rest held waits alive size e f dying sane =
+      (inl (record { below = waits.0; waiting = waits.1; resumes = same_frame back self others (below + 1) (length stack) waiting held.places waits.0 waits.1 (omega (arith, size, e)) f waits.2; waits = waits.3 }), dying, sane_self held self sane)
+  leaves_lead (Ending back self o next left ∷ others) below waiting pc v stack rest held waits alive size e f dying sane =
       let frames = Ending back self o next left ∷ others in
-      (inr (record { at_end = refl; is_ending = tt; alive = subst (λ l. Alive frames l held.self) f alive; waits = subst (λ l. Waits frames (length rest) l) f (subst (λ n. Waits frames n waiting) e waits) }), dying)
+      (inr (record { at_end = refl; is_ending = tt; alive = subst (λ l. Alive frames l held.self) f alive; waits = subst (λ l. Waits frames (length rest) l) f (subst (λ n. Waits frames n waiting) e waits) }), dying, sane)
 
   -- ---- one step of a function
 
@@ -184,13 +190,14 @@ module _ (p : Program) (R : resolved.Program) where
       is : held.places ≡ own ++ waiting
       itself : held.self ≡ self
       dying : AllDying held.objects (ending frames)
+      sane : Sane held
 
     go_on : (to : ℕ) (h : Height) → Goes_to to h → (stack : List ℤ) (held : Held) (own : List ℕ) → length stack ≡ h.numbers + below → length own ≡ h.places → Owns own held → Good (at frames to stack held)
     go_on to h g stack held own count size o =
-        (inl (record { below = below; waiting = waiting; resumes = record { high = h; stands = g.0; own = own; count = count; is = o.is; size = size; nil = λ k c. let le = g.1 k c in nil_from_end own k (omega (arith, size, le)); alive = subst (Alive frames waiting) (sym o.itself) alive }; waits = waits }), o.dying)
+        (inl (record { below = below; waiting = waiting; resumes = record { high = h; stands = g.0; own = own; count = count; is = o.is; size = size; nil = λ k c. let le = g.1 k c in nil_from_end own k (omega (arith, size, le)); alive = subst (Alive frames waiting) (sym o.itself) alive }; waits = waits }), o.dying, o.sane)
 
-    owns_more : (r : ℕ) (own : List ℕ) (held : Held) → Owns own held → Owns (r ∷ own) (placed r held)
-    owns_more r own held o = record { is = ap (λ l. r ∷ l) o.is; itself = o.itself; dying = o.dying }
+    owns_more : (r : ℕ) (own : List ℕ) (held : Held) → IsThere held.objects r → Owns own held → Owns (r ∷ own) (placed r held)
+    owns_more r own held there o = record { is = ap (λ l. r ∷ l) o.is; itself = o.itself; dying = o.dying; sane = sane_place held r there o.sane }
 
     -- a function to which the run comes back
     abbrev Back : ℕ → ℕ → List ℕ → Type 0
@@ -201,35 +208,38 @@ module _ (p : Program) (R : resolved.Program) where
 
     -- ---- what begins the end of an object, or calls
 
-    begins_leads : (b : Bool) (k pc : ℕ) (ob : Object) (stack : List ℤ) (before held : Held) (counts : ℕ → ℕ) → before.self ≡ self → object_at held.objects (suc k) ≡ Some ob → is_live (Some ob) ≡ true → AllDying held.objects (ending frames) → Back pc (length stack) held.places → Leads (begins_end p (at frames pc stack before) (suc k) ob.class (record { places = held.places; self = held.self; objects = with_object held.objects (suc k) (in_phase Dying ob); counts = counts }) b)
-    begins_leads false k pc ob stack before held counts same found live dying home = tt
-    begins_leads true k pc ob stack before held counts same found live dying home =
+    begins_leads : (b : Bool) (k pc : ℕ) (ob : Object) (stack : List ℤ) (before held : Held) → before.self ≡ self → object_at held.objects (suc k) ≡ Some ob → is_live (Some ob) ≡ true → AllDying held.objects (ending frames) → Sane (with_places held (suc k ∷ held.places)) → Back pc (length stack) held.places → Leads (begins_end p (at frames pc stack before) (suc k) ob.class (with_things (lowered (suc k) held) (with_object held.objects (suc k) (in_phase Dying ob))) b)
+    begins_leads false k pc ob stack before held same found live dying sane home = tt
+    begins_leads true k pc ob stack before held same found live dying sane home =
         let objects = with_object held.objects (suc k) (in_phase Dying ob) in
         let begun : IsDying objects (suc k) = (in_phase Dying ob, set_here held.objects k (in_phase Dying ob) ob found, refl) in
         let still : AllDying objects (ending frames) = changed_dying held.objects k (in_phase Dying ob) (ending frames) (λ _. refl) dying in
-        let apart = live_apart held.objects k ob (ending frames) found live dying in
-        (inr (record { at_end = refl; is_ending = tt; alive = ending_alive frames (pc + 1) before.self (suc k) (Some ob.class) (length p.classes) held.places; waits = (below, waiting, subst (λ x. Resumes (pc + 1) x frames (length stack) held.places below waiting) (sym same) home, waits, apart) }), (begun, still))
+        let apart = live_apart held.objects k ob (ending frames) found live dying in (
+          inr (record { at_end = refl; is_ending = tt; alive = ending_alive frames (pc + 1) before.self (suc k) (Some ob.class) (length p.classes) held.places; waits = (below, waiting, subst (λ x. Resumes (pc + 1) x frames (length stack) held.places below waiting) (sym same) home, waits, apart) }),
+          (begun, still),
+          sane_self (with_things (lowered (suc k) held) objects) (suc k) (sane_last held k ob found sane),
+        )
 
     -- a place that named this is dropped
-    stays : (r pc : ℕ) (stack : List ℤ) (before held : Held) → held.self ≡ self → AllDying held.objects (ending frames) → Back pc (length stack) held.places → Leads (keeps (at frames pc stack before) stack (lowered r held))
-    stays r pc stack before held same dying home = (inl (record { below = below; waiting = waiting; resumes = subst (λ x. Resumes (pc + 1) x frames (length stack) held.places below waiting) (sym same) home; waits = waits }), dying)
+    stays : (r pc : ℕ) (stack : List ℤ) (before held : Held) → held.self ≡ self → AllDying held.objects (ending frames) → Sane (lowered r held) → Back pc (length stack) held.places → Leads (keeps (at frames pc stack before) stack (lowered r held))
+    stays r pc stack before held same dying sane home = (inl (record { below = below; waiting = waiting; resumes = subst (λ x. Resumes (pc + 1) x frames (length stack) held.places below waiting) (sym same) home; waits = waits }), dying, sane)
 
-    releases_by : (b : Bool) (k pc : ℕ) (ob : Object) (stack : List ℤ) (before held : Held) → (is_live (Some ob) && nat_eq (held.counts (suc k)) 1) ≡ b → before.self ≡ self → held.self ≡ self → object_at held.objects (suc k) ≡ Some ob → AllDying held.objects (ending frames) → Back pc (length stack) held.places
+    releases_by : (b : Bool) (k pc : ℕ) (ob : Object) (stack : List ℤ) (before held : Held) → (is_live (Some ob) && nat_eq (held.counts (suc k)) 1) ≡ b → before.self ≡ self → held.self ≡ self → object_at held.objects (suc k) ≡ Some ob → AllDying held.objects (ending frames) → Sane (with_places held (suc k ∷ held.places)) → Back pc (length stack) held.places
         → Leads (if b then begins_end p (at frames pc stack before) (suc k) ob.class (with_things (lowered (suc k) held) (with_object held.objects (suc k) (in_phase Dying ob))) (has_level (at frames pc stack before)) else keeps (at frames pc stack before) stack (lowered (suc k) held))
-    releases_by true k pc ob stack before held t same alike found dying home = begins_leads (has_level (at frames pc stack before)) k pc ob stack before held (lowered (suc k) held).counts same found (and_parts (is_live (Some ob)) (nat_eq (held.counts (suc k)) 1) t).0 dying home
-    releases_by false k pc ob stack before held t same alike found dying home = stays (suc k) pc stack before held alike dying home
+    releases_by true k pc ob stack before held t same alike found dying sane home = begins_leads (has_level (at frames pc stack before)) k pc ob stack before held same found (and_parts (is_live (Some ob)) (nat_eq (held.counts (suc k)) 1) t).0 dying sane home
+    releases_by false k pc ob stack before held t same alike found dying sane home = stays (suc k) pc stack before held alike dying (sane_other held k ob found t sane) home
 
-    releases_lead : (r pc : ℕ) (stack : List ℤ) (before held : Held) → before.self ≡ self → held.self ≡ self → IsThere held.objects r → AllDying held.objects (ending frames) → Back pc (length stack) held.places → Leads (releases p (at frames pc stack before) r held)
-    releases_lead zero pc stack before held same alike there dying home = stays 0 pc stack before held alike dying home
-    releases_lead (suc k) pc stack before held same alike there dying home =
+    releases_lead : (r pc : ℕ) (stack : List ℤ) (before held : Held) → before.self ≡ self → held.self ≡ self → IsThere held.objects r → AllDying held.objects (ending frames) → Sane (with_places held (r ∷ held.places)) → Back pc (length stack) held.places → Leads (releases p (at frames pc stack before) r held)
+    releases_lead zero pc stack before held same alike there dying sane home = stays 0 pc stack before held alike dying (sane_nil held sane) home
+    releases_lead (suc k) pc stack before held same alike there dying sane home =
         let ob = there.0 in
         let go : Object → Next State = λ x. if is_live (Some x) && nat_eq (held.counts (suc k)) 1 then begins_end p (at frames pc stack before) (suc k) x.class (with_things (lowered (suc k) held) (with_object held.objects (suc k) (in_phase Dying x))) (has_level (at frames pc stack before)) else keeps (at frames pc stack before) stack (lowered (suc k) held) in
-        subst Leads (sym (object_goes (object_at held.objects (suc k)) ob go there.1 there.2)) (releases_by (is_live (Some ob) && nat_eq (held.counts (suc k)) 1) k pc ob stack before held refl same alike there.1 dying home)
+        subst Leads (sym (object_goes (object_at held.objects (suc k)) ob go there.1 there.2)) (releases_by (is_live (Some ob) && nat_eq (held.counts (suc k)) 1) k pc ob stack before held refl same alike there.1 dying sane home)
 
     -- what is entered has so many numbers, which lie on the stack
-    enters_lead : (b : Bool) (to self1 passed pc : ℕ) (stack : List ℤ) (held : Held) → Goes_to to (height passed 0) → passed ≤ length stack → Alive frames held.places self1 → held.self ≡ self → AllDying held.objects (ending frames) → Back pc (length stack - passed + 1) held.places → Leads (enters (at frames pc stack held) to self1 b)
-    enters_lead false to self1 passed pc stack held g le living same dying home = tt
-    enters_lead true to self1 passed pc stack held g le living same dying home = (
+    enters_lead : (b : Bool) (to self1 passed pc : ℕ) (stack : List ℤ) (held : Held) → Goes_to to (height passed 0) → passed ≤ length stack → Alive frames held.places self1 → held.self ≡ self → AllDying held.objects (ending frames) → Sane held → Back pc (length stack - passed + 1) held.places → Leads (enters (at frames pc stack held) to self1 b)
+    enters_lead false to self1 passed pc stack held g le living same dying sane home = tt
+    enters_lead true to self1 passed pc stack held g le living same dying sane home = (
       inl (record {
         below = length stack - passed;
         waiting = held.places;
@@ -237,15 +247,16 @@ module _ (p : Program) (R : resolved.Program) where
         waits = (below, waiting, subst (λ x. Resumes (pc + 1) x frames (length stack - passed + 1) held.places below waiting) (sym same) home, waits);
       }),
       dying,
+      sane_self held self1 sane,
     )
 
-    answers_lead : (found : Option ℕ) (self1 passed pc : ℕ) (stack : List ℤ) (held : Held) → ((to : ℕ) → found ≡ Some to → Goes_to to (height passed 0)) → passed ≤ length stack → Alive frames held.places self1 → held.self ≡ self → AllDying held.objects (ending frames) → Back pc (length stack - passed + 1) held.places → Leads (answers (at frames pc stack held) self1 found)
-    answers_lead None self1 passed pc stack held begins le living same dying home = tt
-    answers_lead (Some to) self1 passed pc stack held begins le living same dying home = enters_lead (has_level (at frames pc stack held)) to self1 passed pc stack held (begins to refl) le living same dying home
+    answers_lead : (found : Option ℕ) (self1 passed pc : ℕ) (stack : List ℤ) (held : Held) → ((to : ℕ) → found ≡ Some to → Goes_to to (height passed 0)) → passed ≤ length stack → Alive frames held.places self1 → held.self ≡ self → AllDying held.objects (ending frames) → Sane held → Back pc (length stack - passed + 1) held.places → Leads (answers (at frames pc stack held) self1 found)
+    answers_lead None self1 passed pc stack held begins le living same dying sane home = tt
+    answers_lead (Some to) self1 passed pc stack held begins le living same dying sane home = enters_lead (has_level (at frames pc stack held)) to self1 passed pc stack held (begins to refl) le living same dying sane home
 
     -- ---- one order
 
-    module _ (classes : p.classes ≡ classes_linked R) (calls : (f : ℕ) → f ≤ length R.functions → Goes_to (entry p f) (height (slots_of R f) 0)) (pc : ℕ) (h : Height) (stack : List ℤ) (held : Held) (own : List ℕ) (count : length stack ≡ h.numbers + below) (size : length own ≡ h.places) (o : Owns own held) (sane : Sane held) where
+    module _ (classes : p.classes ≡ classes_linked R) (calls : (f : ℕ) → f ≤ length R.functions → Goes_to (entry p f) (height (slots_of R f) 0)) (pc : ℕ) (h : Height) (stack : List ℤ) (held : Held) (own : List ℕ) (count : length stack ≡ h.numbers + below) (size : length own ≡ h.places) (o : Owns own held) where
       abbrev s : State
       s = at frames pc stack held
 
@@ -259,10 +270,10 @@ module _ (p : Program) (R : resolved.Program) where
       self_alive objects there dying = subst (IsThere objects) (sym o.itself) (alive objects (last_there objects own waiting (subst (AllThere objects) o.is there)) dying)
 
       self_there : IsThere held.objects held.self
-      self_there = self_alive held.objects sane.there o.dying
+      self_there = self_alive held.objects o.sane.there o.dying
 
       place_is : (depth r : ℕ) → slice_get held.places depth ≡ Some r → IsThere held.objects r
-      place_is depth r found = place_there held.objects depth r held.places found sane.there
+      place_is depth r found = place_there held.objects depth r held.places found o.sane.there
 
       -- the last place, and the others
       top_place : (r : ℕ) (rest : List ℕ) → own ≡ r ∷ rest → held.places ≡ r ∷ (rest ++ waiting)
@@ -279,7 +290,7 @@ module _ (p : Program) (R : resolved.Program) where
       made_leads None rest some g e = tt
       made_leads (Some c) rest some g e =
           let r = suc (length held.objects) in
-          next Alloc g rest (makes p.classes c held) (r ∷ own) (omega (arith, some, count, e)) (omega (arith, size)) (record { is = ap (λ l. r ∷ l) o.is; itself = o.itself; dying = made_dying held.objects _ (ending frames) o.dying })
+          next Alloc g rest (makes p.classes c held) (r ∷ own) (omega (arith, some, count, e)) (omega (arith, size)) (record { is = ap (λ l. r ∷ l) o.is; itself = o.itself; dying = made_dying held.objects _ (ending frames) o.dying; sane = sane_make p.classes held c o.sane })
 
       field_dies : (j : ℕ) (ob : Object) (fields : List ℤ) (r : ℕ) → r ≡ suc j → object_at held.objects (suc j) ≡ Some ob → AllDying (with_object held.objects r (with_fields ob fields)) (ending frames)
       field_dies j ob fields r same found = subst (λ q. AllDying (with_object held.objects q (with_fields ob fields)) (ending frames)) (sym same) (changed_dying held.objects j (with_fields ob fields) (ending frames) (λ x. dies x.0 (sym x.1 ∙ found) x.2) o.dying)
@@ -298,17 +309,17 @@ module _ (p : Program) (R : resolved.Program) where
       operation_leads PrintNum is nil needs g = top_leads stack _ (omega (arith, count, needs)) (λ v rest e. top_leads rest _ (omega (arith, count, needs, e)) (λ c others e2. next PrintNum g (counted c (signed_decimal v) ∷ others) held own (omega (arith, count, needs, e, e2)) (omega (arith, size)) o))
       operation_leads PrintByte is nil needs g = top_leads stack _ (omega (arith, count, needs)) (λ v rest e. top_leads rest _ (omega (arith, count, needs, e)) (λ c others e2. next PrintByte g (counted c (low_byte v ∷ []) ∷ others) held own (omega (arith, count, needs, e, e2)) (omega (arith, size)) o))
       operation_leads GetChar is nil needs g = λ answer. next GetChar g (byte_or_end answer ∷ stack) held own (omega (arith, count)) (omega (arith, size)) o
-      operation_leads Nil is nil needs g = next Nil g stack (placed 0 held) (0 ∷ own) (omega (arith, count)) (omega (arith, size)) (owns_more 0 own held o)
-      operation_leads HoldSelf is nil needs g = holds_leads held.self held _ self_there (next HoldSelf g stack (placed held.self held) (held.self ∷ own) (omega (arith, count)) (omega (arith, size)) (owns_more held.self own held o))
-      operation_leads (Hold depth) is nil needs g = found_leads held.places depth _ (within depth needs) (λ r found. holds_leads r held _ (place_is depth r found) (next (Hold depth) g stack (placed r held) (r ∷ own) (omega (arith, count)) (omega (arith, size)) (owns_more r own held o)))
-      operation_leads (Forget number) is nil needs g = subst (λ l. Leads (forgets number l (λ rest. keeps s stack (with_places held rest)))) (sym o.is) (forgets_leads own waiting number _ (omega (arith, needs, size)) (nil 0 (number, is)) (next (Forget number) g stack (with_places held waiting) [] (omega (arith, count)) (omega (arith, needs)) (record { is = refl; itself = o.itself; dying = o.dying })))
+      operation_leads Nil is nil needs g = next Nil g stack (placed 0 held) (0 ∷ own) (omega (arith, count)) (omega (arith, size)) (owns_more 0 own held tt o)
+      operation_leads HoldSelf is nil needs g = holds_leads held.self held _ self_there (next HoldSelf g stack (placed held.self held) (held.self ∷ own) (omega (arith, count)) (omega (arith, size)) (owns_more held.self own held self_there o))
+      operation_leads (Hold depth) is nil needs g = found_leads held.places depth _ (within depth needs) (λ r found. holds_leads r held _ (place_is depth r found) (next (Hold depth) g stack (placed r held) (r ∷ own) (omega (arith, count)) (omega (arith, size)) (owns_more r own held (place_is depth r found) o)))
+      operation_leads (Forget number) is nil needs g = subst (λ l. Leads (forgets number l (λ rest. keeps s stack (with_places held rest)))) (sym o.is) (forgets_leads own waiting number _ (omega (arith, needs, size)) (nil 0 (number, is)) (next (Forget number) g stack (with_places held waiting) [] (omega (arith, count)) (omega (arith, needs)) (record { is = refl; itself = o.itself; dying = o.dying; sane = forgotten_sane own waiting held (nil 0 (number, is)) (subst (λ l. Sane (with_places held l)) o.is o.sane) })))
       operation_leads Alloc is nil needs g = top_leads stack _ (omega (arith, count, needs)) (λ v rest e. made_leads (class_at v) rest needs g e)
       operation_leads (GetField class index) is nil needs g =
           let f = first_of own (omega (arith, needs, size)) in
           let top = top_place f.0 f.1 f.2 in
-          place_leads f.0 held.places (f.1 ++ waiting) _ top (field_leads class f.0 held _ (place_is 0 f.0 (ap (λ l. slice_get l 0) top)) (λ j ob same found. next (GetField class index) g (slice_index_or ob.fields index (pos 0) ∷ stack) held own (omega (arith, count)) (omega (arith, size)) o))
+          place_leads f.0 held.places (f.1 ++ waiting) _ top (field_leads class f.0 held _ (place_is 0 f.0 (ap (λ l. slice_get l 0) top)) (λ j ob same found _. next (GetField class index) g (slice_index_or ob.fields index (pos 0) ∷ stack) held own (omega (arith, count)) (omega (arith, size)) o))
       operation_leads (SetField depth class index) is nil needs g = found_leads held.places depth _ (within depth needs.1) (λ r found. top_leads stack _ (omega (arith, count, needs.0)) (λ v rest e.
-          field_leads class r held _ (place_is depth r found) (λ j ob same at_j. next (SetField depth class index) g stack (with_field held r ob index v) own (omega (arith, count, needs.0)) (omega (arith, size)) (record { is = o.is; itself = o.itself; dying = field_dies j ob (slice_set ob.fields index v) r same at_j }))))
+          field_leads class r held _ (place_is depth r found) (λ j ob same at_j there. next (SetField depth class index) g stack (with_field held r ob index v) own (omega (arith, count, needs.0)) (omega (arith, size)) (record { is = o.is; itself = o.itself; dying = field_dies j ob (slice_set ob.fields index v) r same at_j; sane = subst (λ q. Sane (with_things held (with_object held.objects q (with_fields ob (slice_set ob.fields index v))))) (sym same) (sane_field held j ob (slice_set ob.fields index v) at_j there o.sane) }))))
       operation_leads (Differ depth) is nil needs g =
           let f = first_of own (omega (arith, needs, size)) in
           let top = top_place f.0 f.1 f.2 in
@@ -323,14 +334,14 @@ module _ (p : Program) (R : resolved.Program) where
       told zero selector takes le living there g = taken_leads takes stack _ (omega (arith, count, le)) (λ rest e. go_on (pc + 1) _ g (pos 0 ∷ rest) held own (omega (arith, count, le, e)) (omega (arith, size)) o)
       told (suc j) selector takes le living there g =
           subst Leads (sym (object_goes (object_at held.objects (suc j)) there.0 (λ x. answers s (suc j) (lookup p.classes (Some x.class) signs.Instance selector takes)) there.1 there.2))
-          (answers_lead (lookup p.classes (Some there.0.class) signs.Instance selector takes) (suc j) takes pc stack held (finds (Some there.0.class) signs.Instance selector takes) (omega (arith, count, le)) living o.itself o.dying (back pc _ g (length stack - takes + 1) held.places own (omega (arith, count, le)) (omega (arith, size)) o.is))
+          (answers_lead (lookup p.classes (Some there.0.class) signs.Instance selector takes) (suc j) takes pc stack held (finds (Some there.0.class) signs.Instance selector takes) (omega (arith, count, le)) living o.itself o.dying o.sane (back pc _ g (length stack - takes + 1) held.places own (omega (arith, count, le)) (omega (arith, size)) o.is))
 
       told_up : (r from selector takes : ℕ) → takes ≤ h.numbers → Alive frames held.places r → Goes_to (pc + 1) (height (h.numbers - takes + 1) (h.places - 0 + 0)) → Leads (sends_up p s from r selector takes)
       told_up zero from selector takes le living g = taken_leads takes stack _ (omega (arith, count, le)) (λ rest e. go_on (pc + 1) _ g (pos 0 ∷ rest) held own (omega (arith, count, le, e)) (omega (arith, size)) o)
-      told_up (suc j) from selector takes le living g = answers_lead (lookup p.classes (Some from) signs.Instance selector takes) (suc j) takes pc stack held (finds (Some from) signs.Instance selector takes) (omega (arith, count, le)) living o.itself o.dying (back pc _ g (length stack - takes + 1) held.places own (omega (arith, count, le)) (omega (arith, size)) o.is)
+      told_up (suc j) from selector takes le living g = answers_lead (lookup p.classes (Some from) signs.Instance selector takes) (suc j) takes pc stack held (finds (Some from) signs.Instance selector takes) (omega (arith, count, le)) living o.itself o.dying o.sane (back pc _ g (length stack - takes + 1) held.places own (omega (arith, count, le)) (omega (arith, size)) o.is)
 
       class_told : (from : Option ℕ) (selector takes : ℕ) → suc takes ≤ h.numbers → Goes_to (pc + 1) (height (h.numbers - suc takes + 1) (h.places - 0 + 0)) → Leads (answers s 0 (lookup p.classes from signs.Class selector takes))
-      class_told from selector takes le g = answers_lead (lookup p.classes from signs.Class selector takes) 0 (suc takes) pc stack held (finds from signs.Class selector takes) (omega (arith, count, le)) (nil_alive frames held.places) o.itself o.dying (back pc _ g (length stack - suc takes + 1) held.places own (omega (arith, count, le)) (omega (arith, size)) o.is)
+      class_told from selector takes le g = answers_lead (lookup p.classes from signs.Class selector takes) 0 (suc takes) pc stack held (finds from signs.Class selector takes) (omega (arith, count, le)) (nil_alive frames held.places) o.itself o.dying o.sane (back pc _ g (length stack - suc takes + 1) held.places own (omega (arith, count, le)) (omega (arith, size)) o.is)
 
       chosen_leads : (b : Bool) (x y : Next State) → Leads x → Leads y → Leads (chosen b x y)
       chosen_leads false x y f g = f
@@ -341,13 +352,13 @@ module _ (p : Program) (R : resolved.Program) where
       order_leads (PrintText bytes) is no_end nil st = top_leads stack _ (omega (arith, count, st.0)) (λ c rest e. go_on (pc + 1) _ st.1 (counted c bytes ∷ rest) held own (omega (arith, count, st.0, e)) (omega (arith, size)) o)
       order_leads (Jump to) is no_end nil st = go_on (lands pc to) h st stack held own count size o
       order_leads (JumpZero to) is no_end nil st = top_leads stack _ (omega (arith, count, st.0)) (λ v rest e. chosen_leads (is_zero v) _ _ (go_on (pc + 1) _ st.1 rest held own (omega (arith, count, st.0, e)) size o) (go_on (lands pc to) _ st.2 rest held own (omega (arith, count, st.0, e)) size o))
-      order_leads (Call f) is no_end nil st = enters_lead (has_level s) (entry p f) 0 (slots_of R f) pc stack held (calls f st.0.1) (omega (arith, count, st.0.0)) (nil_alive frames held.places) o.itself o.dying (back pc _ st.1 (length stack - slots_of R f + 1) held.places own (omega (arith, count, st.0.0)) (omega (arith, size)) o.is)
+      order_leads (Call f) is no_end nil st = enters_lead (has_level s) (entry p f) 0 (slots_of R f) pc stack held (calls f st.0.1) (omega (arith, count, st.0.0)) (nil_alive frames held.places) o.itself o.dying o.sane (back pc _ st.1 (length stack - slots_of R f + 1) held.places own (omega (arith, count, st.0.0)) (omega (arith, size)) o.is)
       order_leads (Send selector takes) is no_end nil st = found_leads stack takes _ (omega (arith, count, st.0)) (λ class _. class_told (class_at class) selector takes st.0 st.1)
       order_leads (SendSuper from selector takes) is no_end nil st = class_told (Some from) selector takes st.0 st.1
       order_leads (SendTo depth selector takes) is no_end nil st = found_leads held.places depth _ (within depth st.0.1) (λ r found. told r selector takes st.0.0 (λ objects there dying. place_there objects depth r held.places found there) (place_is depth r found) st.1)
       order_leads (SendToSuper from selector takes) is no_end nil st = told_up held.self from selector takes st.0 self_alive st.1
       order_leads Return is no_end nil st = top_leads stack _ (omega (arith, count, st.0)) (λ v rest e.
-          leaves_lead frames below waiting pc v stack rest held waits (subst (Alive frames waiting) (sym o.itself) alive) e (omega (arith, count, st.0, e)) (sym (o.is ∙ none_before own (omega (arith, size, st.1)))) o.dying)
+          leaves_lead frames below waiting pc v stack rest held waits (subst (Alive frames waiting) (sym o.itself) alive) e (omega (arith, count, st.0, e)) (sym (o.is ∙ none_before own (omega (arith, size, st.1)))) o.dying o.sane)
       order_leads (StoreStrong depth) is no_end nil st =
           let f = first_of own (omega (arith, st.0, size)) in
           let r = f.0 in
@@ -360,14 +371,14 @@ module _ (p : Program) (R : resolved.Program) where
           let own1 = r ∷ slice_set rest depth r in
           place_leads r held.places (rest ++ waiting) _ top (found_leads (rest ++ waiting) depth _ (omega (arith, deep, length-append rest waiting)) (λ old found.
           holds_leads r held _ (place_is 0 r (ap (λ l. slice_get l 0) top))
-          (releases_lead old pc stack held (with_places (placed r held) (r ∷ slice_set (rest ++ waiting) depth r)) o.itself o.itself (place_is (suc depth) old (ap (λ l. slice_get l (suc depth)) top ∙ found)) o.dying
+          (releases_lead old pc stack held (with_places (placed r held) (r ∷ slice_set (rest ++ waiting) depth r)) o.itself o.itself (place_is (suc depth) old (ap (λ l. slice_get l (suc depth)) top ∙ found)) o.dying (sane_store (with_places held (r ∷ (rest ++ waiting))) (suc depth) old r found (place_is 0 r (ap (λ l. slice_get l 0) top)) (subst (λ l. Sane (with_places held l)) top o.sane))
           (back pc _ st.1 (length stack) (r ∷ slice_set (rest ++ waiting) depth r) own1 (omega (arith, count)) (omega (arith, size, shorter, length-set rest depth r)) (ap (λ l. r ∷ l) set)))))
       order_leads Drop is no_end nil st =
           let f = first_of own (omega (arith, st.0, size)) in
           let top = top_place f.0 f.1 f.2 in
           let shorter = ap length f.2 in
           place_leads f.0 held.places (f.1 ++ waiting) _ top
-          (releases_lead f.0 pc stack held (with_places held (f.1 ++ waiting)) o.itself o.itself (place_is 0 f.0 (ap (λ l. slice_get l 0) top)) o.dying (back pc _ st.1 (length stack) (f.1 ++ waiting) f.1 (omega (arith, count)) (omega (arith, size, shorter)) refl))
+          (releases_lead f.0 pc stack held (with_places held (f.1 ++ waiting)) o.itself o.itself (place_is 0 f.0 (ap (λ l. slice_get l 0) top)) o.dying (subst (λ l. Sane (with_places held l)) top o.sane) (back pc _ st.1 (length stack) (f.1 ++ waiting) f.1 (omega (arith, count)) (omega (arith, size, shorter)) refl))
       order_leads (Empty i) is no_end nil st =
           let emptied = slice_set own i 0 in
           let places = slice_set held.places i 0 in
@@ -383,7 +394,7 @@ module _ (p : Program) (R : resolved.Program) where
             nil = λ k c. ⊎_elim (λ same. nil_from (subst (λ j. Clears R (all R) (table R) j (pc + 1)) same c) same) (λ le. nil_from_end emptied k (omega (arith, size, many, le))) (st.2 k c);
             alive = alive;
           } in
-          found_leads held.places i _ (within i st.0) (λ r found. releases_lead r pc stack held (raised 0 (with_places held places)) o.itself o.itself (place_is i r found) o.dying home)
+          found_leads held.places i _ (within i st.0) (λ r found. releases_lead r pc stack held (raised 0 (with_places held places)) o.itself o.itself (place_is i r found) o.dying (sane_store held i r 0 found tt o.sane) home)
         where
           nil_from : {k : ℕ} → Clears R (all R) (table R) i (pc + 1) → k ≡ i → NilFrom k (slice_set own i 0)
           nil_from {k} c same = subst (λ j. NilFrom j (slice_set own i 0)) (sym same) (nil_from_set i own (nil (suc i) (is, c)))
@@ -391,25 +402,22 @@ module _ (p : Program) (R : resolved.Program) where
 
   -- ---- the end of an object
 
-  module _ (classes : p.classes ≡ classes_linked R) (stack : List ℤ) (held : Held) where
-    ends_lead : (b : Bool) (back self o : ℕ) (next : Option ℕ) (left : ℕ) (others : List Frame) → Waits (Ending back self o next left ∷ others) (length stack) held.places → AllDying held.objects (ending (Ending back self o next left ∷ others)) → Leads (if b then Goes (record { at = back; stack = stack; frames = others; held = with_self (with_things held (gone_in held.objects o)) self }) [] else Faults Resurrected)
-    ends_lead false back self o next left others waits dying = tt
-    ends_lead true back self zero next left others waits dying = (inl (record { below = waits.0; waiting = waits.1; resumes = waits.2; waits = waits.3 }), no_object dying.0.1)
-      where
-        no_object : None ≡ Some dying.0.0 → AllDying (gone_in held.objects 0) (ending others)
-        no_object e = cc
-    ends_lead true back self (suc k) next left others waits dying =
+  module _ (classes : p.classes ≡ classes_linked R) (stack : List ℤ) (held : Held) (sane : Sane held) where
+    ends_lead : (b : Bool) (back self o : ℕ) (next : Option ℕ) (left : ℕ) (others : List Frame) → nat_eq (held.counts o) 0 ≡ b → Waits (Ending back self o next left ∷ others) (length stack) held.places → AllDying held.objects (ending (Ending back self o next left ∷ others)) → Leads (if b then Goes (record { at = back; stack = stack; frames = others; held = with_self (with_things held (gone_in held.objects o)) self }) [] else Faults Resurrected)
+    ends_lead false back self o next left others e waits dying = tt
+    ends_lead true back self zero next left others e waits dying = absurd (no_nil dying.0)
+    ends_lead true back self (suc k) next left others e waits dying =
         let ob = dying.0.0 in
         let found : object_at held.objects (suc k) ≡ Some ob = dying.0.1 in
         let still : AllDying (gone_in held.objects (suc k)) (ending others) = rw found (apart_dying held.objects k (in_phase Gone ob) (ending others) waits.4 dying.1) in
-        (inl (record { below = waits.0; waiting = waits.1; resumes = waits.2; waits = waits.3 }), still)
+        (inl (record { below = waits.0; waiting = waits.1; resumes = waits.2; waits = waits.3 }), still, sane_gone held (suc k) self e sane)
 
     module _ (back self o : ℕ) (others : List Frame) (alive : (next : Option ℕ) (left : ℕ) → Alive (Ending back self o next left ∷ others) held.places held.self) (waits : (next : Option ℕ) (left : ℕ) → Waits (Ending back self o next left ∷ others) (length stack) held.places) (dying : (next : Option ℕ) (left : ℕ) → AllDying held.objects (ending (Ending back self o next left ∷ others))) (frames : List Frame) where
       abbrev here : State
       here = at frames p.end_step stack held
 
       dealloc_leads : (d : Option ℕ) (next : Option ℕ) (left : ℕ) → ((to : ℕ) → d ≡ Some to → Goes_to to (height 0 0)) → Leads (runs_dealloc d here (Ending back self o next left ∷ others))
-      dealloc_leads None next left goes = (inr (record { at_end = refl; is_ending = tt; alive = alive next left; waits = waits next left }), dying next left)
+      dealloc_leads None next left goes = (inr (record { at_end = refl; is_ending = tt; alive = alive next left; waits = waits next left }), dying next left, sane)
       dealloc_leads (Some to) next left goes =
           let g = goes to refl in (
             inl (record {
@@ -419,17 +427,18 @@ module _ (p : Program) (R : resolved.Program) where
               waits = waits next left;
             }),
             dying next left,
+            sane,
           )
 
       class_leads : (i : ℕ) (c : Option Class) (left : ℕ) → slice_get p.classes i ≡ c → Leads (ends_class p here back self o c left others)
-      class_leads i None left e = ends_lead (nat_eq (held.counts o) 0) back self o None left others (waits None left) (dying None left)
+      class_leads i None left e = ends_lead (nat_eq (held.counts o) 0) back self o None left others refl (waits None left) (dying None left)
       class_leads i (Some d) left e = dealloc_leads d.dealloc d.superclass left (λ to f. dealloc_goes R i d to (ap (λ cs. slice_get cs i) (sym classes) ∙ e) f)
 
     goes_on_leads : (frames : List Frame) → IsEnding frames → Alive frames held.places held.self → Waits frames (length stack) held.places → AllDying held.objects (ending frames) → Leads (end_goes_on p (at frames p.end_step stack held) frames)
     goes_on_leads [] is alive waits dying = absurd is
     goes_on_leads (Calling back self ∷ others) is alive waits dying = absurd is
-    goes_on_leads (Ending back self o None left ∷ others) is alive waits dying = ends_lead (nat_eq (held.counts o) 0) back self o None left others waits dying
-    goes_on_leads (Ending back self o (Some c) zero ∷ others) is alive waits dying = ends_lead (nat_eq (held.counts o) 0) back self o (Some c) zero others waits dying
+    goes_on_leads (Ending back self o None left ∷ others) is alive waits dying = ends_lead (nat_eq (held.counts o) 0) back self o None left others refl waits dying
+    goes_on_leads (Ending back self o (Some c) zero ∷ others) is alive waits dying = ends_lead (nat_eq (held.counts o) 0) back self o (Some c) zero others refl waits dying
     goes_on_leads (Ending back self o (Some c) (suc left) ∷ others) is alive waits dying = class_leads back self o others (λ n l. alive) (λ n l. waits) (λ n l. dying) (Ending back self o (Some c) (suc left) ∷ others) c (slice_get p.classes c) left refl
 
   -- ---- the program
@@ -438,31 +447,31 @@ module _ (p : Program) (R : resolved.Program) where
     step_does : (s : State) (x : Order) → slice_get (lowered_orders R) s.at ≡ Some x → step p s ≡ does p x s
     step_does s x e = executes_at p p.actions s.at x s (ap (λ l. slice_get l s.at) is ∙ e)
 
-    function_leads : (s : State) → Sane s.held → InFunction s → AllDying s.held.objects (ending s.frames) → Leads (step p s)
-    function_leads s sane f dying =
+    function_leads : (s : State) → InFunction s → AllDying s.held.objects (ending s.frames) → Sane s.held → Leads (step p s)
+    function_leads s f dying sane =
         let r = f.resumes in
         let x = r.stands.order in
         let st = steps_at R s.at x r.stands.is in
         let same : st.0 ≡ r.high = some_same st.0 r.high (sym st.1 ∙ r.stands.height) in
         let steps = subst (λ h. Steps R (all R) (table R) h s.at x) same st.2 in
         subst Leads (sym (step_does s x r.stands.is))
-        (order_leads s.frames f.below f.waiting s.held.self r.alive f.waits classes (λ g le. entry_goes p R is entries g le) s.at r.high s.stack s.held r.own r.count r.size (record { is = r.is; itself = refl; dying = dying }) sane x r.stands.is r.stands.no_end r.nil steps)
+        (order_leads s.frames f.below f.waiting s.held.self r.alive f.waits classes (λ g le. entry_goes p R is entries g le) s.at r.high s.stack s.held r.own r.count r.size (record { is = r.is; itself = refl; dying = dying; sane = sane }) x r.stands.is r.stands.no_end r.nil steps)
 
-    end_leads : (s : State) → InEnd s → AllDying s.held.objects (ending s.frames) → Leads (step p s)
-    end_leads s f dying =
+    end_leads : (s : State) → InEnd s → AllDying s.held.objects (ending s.frames) → Sane s.held → Leads (step p s)
+    end_leads s f dying sane =
         let e : slice_get (lowered_orders R) s.at ≡ Some EndStep = ap (slice_get (lowered_orders R)) (f.at_end ∙ end) ∙ end_is R in
-        subst Leads (sym (step_does s EndStep e)) (subst (λ pc. Leads (end_goes_on p (at s.frames pc s.stack s.held) s.frames)) (sym f.at_end) (goes_on_leads classes s.stack s.held s.frames f.is_ending f.alive f.waits dying))
+        subst Leads (sym (step_does s EndStep e)) (subst (λ pc. Leads (end_goes_on p (at s.frames pc s.stack s.held) s.frames)) (sym f.at_end) (goes_on_leads classes s.stack s.held sane s.frames f.is_ending f.alive f.waits dying))
 
-    step_leads : (s : State) → Sane s.held → Good s → Leads (step p s)
-    step_leads s sane good = ⊎_elim (λ f. function_leads s sane f good.1) (λ f. end_leads s f good.1) good.0
+    pub step_leads : (s : State) → Good s → Leads (step p s)
+    step_leads s good = ⊎_elim (λ f. function_leads s f good.1 good.2) (λ f. end_leads s f good.1 good.2) good.0
 
-    safe : (n : ℕ) (s : State) → Good s → SafeIfSane p n s
-    safe zero s good = tt
-    safe (suc n) s good = λ sane. along_map Good (SafeIfSane p n) (safe n) (step p s) (step_leads s sane good)
+    safe : (n : ℕ) (s : State) → Good s → Safe (step p) (λ t. Counted t.held) n s
+    safe zero s good = good.2.counted
+    safe (suc n) s good = along_map Good (Safe (step p) (λ t. Counted t.held) n) (safe n) (step p s) (step_leads s good)
 
-    start_good : Good start
-    start_good = (inl (record { below = 0; waiting = []; resumes = record { high = height 0 0; stands = (start_goes R).0; own = []; count = refl; is = refl; size = refl; nil = λ k c. nil_from_end [] k (omega arith); alive = nil_alive [] [] }; waits = tt }), tt)
+    pub start_good : Good start
+    start_good = (inl (record { below = 0; waiting = []; resumes = record { high = height 0 0; stands = (start_goes R).0; own = []; count = refl; is = refl; size = refl; nil = λ k c. nil_from_end [] k (omega arith); alive = nil_alive [] [] }; waits = tt }), tt, nothing_sane)
 
     -- the actions of a lowered program are never stuck, and their counts are right
     pub lowered_never_stuck : Sound (step p) (λ s. Counted s.held) start
-    lowered_never_stuck = sound_if_sane p (λ n. safe n start start_good)
+    lowered_never_stuck = record { safe = λ n. safe n start start_good }
