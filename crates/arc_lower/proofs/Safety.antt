@@ -69,8 +69,8 @@ forgotten_sane : (own waiting : List ℕ) (held : Held) → AllNil own → Sane 
 forgotten_sane [] waiting held nil sane = sane
 forgotten_sane (r ∷ own) waiting held nil sane = forgotten_sane own waiting held nil.1 (sane_forget held (own ++ waiting) (subst (λ q. Sane (with_places held (q ∷ own ++ waiting))) nil.0 sane))
 
-pub no_nil : {objects : List Object} → IsDying objects 0 → ⊥
-no_nil d = none d.1
+pub no_nil : (objects : List Object) → IsDying objects 0 → ⊥
+no_nil objects d = none d.1
   where
     none : None ≡ Some d.0 → ⊥
     none e = cc
@@ -405,7 +405,7 @@ module _ (p : Program) (R : resolved.Program) where
   module _ (classes : p.classes ≡ classes_linked R) (stack : List ℤ) (held : Held) (sane : Sane held) where
     ends_lead : (b : Bool) (back self o : ℕ) (next : Option ℕ) (left : ℕ) (others : List Frame) → nat_eq (held.counts o) 0 ≡ b → Waits (Ending back self o next left ∷ others) (length stack) held.places → AllDying held.objects (ending (Ending back self o next left ∷ others)) → Leads (if b then Goes (record { at = back; stack = stack; frames = others; held = with_self (with_things held (gone_in held.objects o)) self }) [] else Faults Resurrected)
     ends_lead false back self o next left others e waits dying = tt
-    ends_lead true back self zero next left others e waits dying = absurd (no_nil dying.0)
+    ends_lead true back self zero next left others e waits dying = absurd (no_nil held.objects dying.0)
     ends_lead true back self (suc k) next left others e waits dying =
         let ob = dying.0.0 in
         let found : object_at held.objects (suc k) ≡ Some ob = dying.0.1 in

@@ -140,7 +140,7 @@ module _ (p : Program) (s : State) (c : Counted s.held) where
   end_goes_on_agrees : (frames : List Frame) → AllDying s.held.objects (ending frames) → Agree (end_goes_on p s frames) (end_goes_on p t frames)
   end_goes_on_agrees [] dying = refl
   end_goes_on_agrees (Calling back self ∷ others) dying = refl
-  end_goes_on_agrees (Ending back self zero next left ∷ others) dying = absurd (no_nil dying.0)
+  end_goes_on_agrees (Ending back self zero next left ∷ others) dying = absurd (no_nil s.held.objects dying.0)
   end_goes_on_agrees (Ending back self (suc k) None left ∷ others) dying = ends_object_agrees back self k others
   end_goes_on_agrees (Ending back self (suc k) (Some class) zero ∷ others) dying = ends_object_agrees back self k others
   end_goes_on_agrees (Ending back self (suc k) (Some class) (suc left) ∷ others) dying = ends_class_agrees back self k (slice_get p.classes class) left others
