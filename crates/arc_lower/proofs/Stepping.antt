@@ -212,13 +212,6 @@ module _ (R : resolved.Program) (all : List Order) (table : List Height) where
         let goes = goes_here (pc + 1) (left (height a b) x) xs (types_ordinary R 0 0 _ _ xs n m t.1) rest in
         ((height a b, f.0, order_steps x pc a b needs goes), typed_steps (pc + 1) (numbers_left R x a) (places_left R x b) xs n m t.1 rest)
 
-    pub typed_end : (pc a b : ℕ) (xs : List Order) (n m : ℕ) → Types R 0 0 a b xs n m → Follows pc (height a b) xs → Goes (pc + length xs) (height n m)
-    typed_end pc a b xs n m t f = subst (Goes (pc + length xs)) (types_last R 0 0 base a b xs n m t) (ends_with pc (height a b) xs f)
-
-    -- and what is behind them
-    pub typed_back : (pc a b : ℕ) (xs ys : List Order) (n m : ℕ) → Types R 0 0 a b xs n m → Follows pc (height a b) (xs ++ ys) → Follows (pc + length xs) (height n m) ys
-    typed_back pc a b xs ys n m t f = subst (λ h. Follows (pc + length xs) h ys) (types_last R 0 0 base a b xs n m t) (back pc (height a b) xs ys f)
-
   -- ---- blocks, in a function that is left from a place
 
   module _ (slots names exit : ℕ) where
@@ -257,9 +250,10 @@ module _ (R : resolved.Program) (all : List Order) (table : List Height) where
           let after = behind x slots names n m one rest t.2 inside in
           let first = goes_here base one base (xs ++ rest) (ordinary_then xs rest (block_ordinary x slots names n m t.2) o) inside in
           let second = goes_here base two base ys (block_ordinary y slots names n m t.3) after.2 in
-          let last = subst (Goes (two + length ys)) (block_ends R slots names exit y slots names n m t.3) (ends_with base two base ys after.2) in
-          ((height a b, f.0, (omega (arith, t.0), subst (Goes one) less first, subst (λ q. Goes q (height (a - 1) b)) there (subst (Goes two) less second))),
-          step_then one xs rest (block_steps x slots names n m one t.2 (front base one base xs rest o inside)) ((height n m, after.0, last), block_steps y slots names n m two t.3 after.2))
+          let last = subst (Goes (two + length ys)) (block_ends R slots names exit y slots names n m t.3) (ends_with base two base ys after.2) in (
+            (height a b, f.0, (omega (arith, t.0), subst (Goes one) less first, subst (λ q. Goes q (height (a - 1) b)) there (subst (Goes two) less second))),
+            step_then one xs rest (block_steps x slots names n m one t.2 (front base one base xs rest o inside)) ((height n m, after.0, last), block_steps y slots names n m two t.3 after.2),
+          )
       block_steps (Loop test x) a b n m pc t f =
           let ts = flat exit test in
           let xs = flat exit x in
@@ -277,7 +271,8 @@ module _ (R : resolved.Program) (all : List Order) (table : List Height) where
           let inside = subst (λ h. Follows base one h (xs ++ again)) low tested.2 in
           let after = behind x slots names a b one again t.1 inside in
           let first = goes_here base pc (height a b) (ts ++ (out ∷ (xs ++ again))) (block_ordinary (Loop test x) a b n m t) f in
-          step_then pc ts (out ∷ (xs ++ again)) (block_steps test a b (suc slots) names pc t.0 (front base pc (height a b) ts (out ∷ (xs ++ again)) (tt, o) f))
-          ((height (suc slots) names, tested.0, (omega arith, subst (Goes one) less (goes_here base one base (xs ++ again) o inside), subst (λ q. Goes q (height (suc slots - 1) names)) there (subst (Goes end) less after.2))),
-          step_then one xs again (block_steps x slots names a b one t.1 (front base one base xs again (tt, tt) inside)) ((height a b, after.0, subst (λ q. Goes q (height a b)) begin first), tt))
+          step_then pc ts (out ∷ (xs ++ again)) (block_steps test a b (suc slots) names pc t.0 (front base pc (height a b) ts (out ∷ (xs ++ again)) (tt, o) f)) (
+            (height (suc slots) names, tested.0, (omega arith, subst (Goes one) less (goes_here base one base (xs ++ again) o inside), subst (λ q. Goes q (height (suc slots - 1) names)) there (subst (Goes end) less after.2))),
+            step_then one xs again (block_steps x slots names a b one t.1 (front base one base xs again (tt, tt) inside)) ((height a b, after.0, subst (λ q. Goes q (height a b)) begin first), tt),
+          )
       block_steps Leave a b n m pc t f = ((height a b, f.0, subst (Goes exit) (heights_same (suc slots) names a b (sym t.0) (sym t.1)) leaves), tt)
