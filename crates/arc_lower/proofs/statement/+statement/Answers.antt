@@ -26,9 +26,9 @@ append_command-returns-in_ok-append_commands-in-Sequence t c =
     in
     subst (λ l. OnOk c.append_all_empty.result (orders c.append_all_empty.new.actions.items ≡ l)) e c.append_all_empty.ensures
 
-pub append_command-returns-in_ok-past_second :
-    goal.append_command-returns-in_ok-past_second
-append_command-returns-in_ok-past_second t c =
+pub append_command-returns-in_ok-past_second-in-Choose :
+    goal.append_command-returns-in_ok-past_second-in-Choose
+append_command-returns-in_ok-past_second-in-Choose t c =
     let P = program_of c.args.program.now in
     let body = c.args.body in
     let old = orders c.args.actions.now.items in
@@ -41,8 +41,8 @@ append_command-returns-in_ok-past_second t c =
     let one = flat body.exit (made c.deref-in-Choose.result.now) in
     let two = flat body.exit (made c.deref-in-Choose-2.result.now) in
     c.replace-in-Choose.ensures
-    ∙ ap (λ l. slice_set l c.len-skip.result (Jump (Skip c.in_ok-past_second.past_second))) c.replace.ensures
-    ∙ patch_fork old (orders v1.items) (orders c.append-in-Choose.new.actions.items) (orders v3.items) (orders v4.items) (orders v5.items) test one two c.len-branch.result c.len-skip.result c.len-other.result c.in_ok-past_first.past_first c.in_ok-past_second.past_second c.len.result c.in_ok-append_whole-in-Choose.ensures (c.len-branch.ensures ∙ v1.ok.0 ∙ sym (length-map v1.items order)) c.in_ok-append-in-Choose.ensures c.in_ok-append_command-in-Choose.ensures (c.len-skip.ensures ∙ v3.ok.0 ∙ sym (length-map v3.items order)) c.in_ok-append-in-Choose-2.ensures (c.len-other.ensures ∙ v4.ok.0 ∙ sym (length-map v4.items order)) c.in_ok-append_command-in-Choose-2.ensures (c.len.ensures ∙ v5.ok.0 ∙ sym (length-map v5.items order)) c.in_ok-past_first.ensures c.in_ok-past_second.ensures
+    ∙ ap (λ l. slice_set l c.len-skip.result (Jump (Skip c.in_ok-past_second-in-Choose.past_second))) c.replace.ensures
+    ∙ patch_fork old (orders v1.items) (orders c.append-in-Choose.new.actions.items) (orders v3.items) (orders v4.items) (orders v5.items) test one two c.len-branch.result c.len-skip.result c.len-other.result c.in_ok-past_first-in-Choose.past_first c.in_ok-past_second-in-Choose.past_second c.len.result c.in_ok-append_whole-in-Choose.ensures (c.len-branch.ensures ∙ v1.ok.0 ∙ sym (length-map v1.items order)) c.in_ok-append-in-Choose.ensures c.in_ok-append_command-in-Choose.ensures (c.len-skip.ensures ∙ v3.ok.0 ∙ sym (length-map v3.items order)) c.in_ok-append-in-Choose-2.ensures (c.len-other.ensures ∙ v4.ok.0 ∙ sym (length-map v4.items order)) c.in_ok-append_command-in-Choose-2.ensures (c.len.ensures ∙ v5.ok.0 ∙ sym (length-map v5.items order)) c.in_ok-past_first-in-Choose.ensures c.in_ok-past_second-in-Choose.ensures
     ∙ ap (λ a. old ++ flat body.exit (Then (Straight test) (Fork (made a) (made c.deref-in-Choose-2.result.now)))) c.deref-in-Choose.ensures
     ∙ ap (λ b. old ++ flat body.exit (Then (Straight test) (Fork (made c.in-Choose.first.value) (made b)))) c.deref-in-Choose-2.ensures
     ∙ ap (λ s. old ++ flat body.exit (made s)) (sym c.in-Choose.is)
@@ -60,6 +60,6 @@ append_command-returns-in_ok-append-in-Repeat-2 t c =
     let test = whole_orders P body.slots body.names (value c.in-Repeat.test) in
     let turn = flat body.exit (made c.deref-in-Repeat.result.now) in
     c.replace-in-Repeat.ensures
-    ∙ patch_loop old (orders v1.items) (orders c.append-in-Repeat.new.actions.items) (orders v3.items) (orders c.append-in-Repeat-2.new.actions.items) test turn c.len-begin.result c.len-branch-in-Repeat.result c.len-again.result c.in_ok-past_turn.past_turn c.in_ok-back.back (c.len-begin.ensures ∙ v0.ok.0 ∙ sym (length-map v0.items order)) c.in_ok-append_whole-in-Repeat.ensures (c.len-branch-in-Repeat.ensures ∙ v1.ok.0 ∙ sym (length-map v1.items order)) c.in_ok-append-in-Repeat.ensures c.in_ok-append_command-in-Repeat.ensures (c.len-again.ensures ∙ v3.ok.0 ∙ sym (length-map v3.items order)) c.in_ok-past_turn.ensures c.in_ok-back.ensures c.in_ok-append-in-Repeat-2.ensures
+    ∙ patch_loop old (orders v1.items) (orders c.append-in-Repeat.new.actions.items) (orders v3.items) (orders c.append-in-Repeat-2.new.actions.items) test turn c.len-begin.result c.len-branch-in-Repeat.result c.len-again.result c.in_ok-past_turn-in-Repeat.past_turn c.in_ok-back-in-Repeat.back (c.len-begin.ensures ∙ v0.ok.0 ∙ sym (length-map v0.items order)) c.in_ok-append_whole-in-Repeat.ensures (c.len-branch-in-Repeat.ensures ∙ v1.ok.0 ∙ sym (length-map v1.items order)) c.in_ok-append-in-Repeat.ensures c.in_ok-append_command-in-Repeat.ensures (c.len-again.ensures ∙ v3.ok.0 ∙ sym (length-map v3.items order)) c.in_ok-past_turn-in-Repeat.ensures c.in_ok-back-in-Repeat.ensures c.in_ok-append-in-Repeat-2.ensures
     ∙ ap (λ b. old ++ flat body.exit (Loop (Straight test) (made b))) c.deref-in-Repeat.ensures
     ∙ ap (λ s. old ++ flat body.exit (made s)) (sym c.in-Repeat.is)
