@@ -1,15 +1,15 @@
 -- Where orders stand with their heights, each has what it needs, and goes on where the heights are those that it leaves.
-use Rattle.std.proofs.Common.{◌≡◌, ◌⊎◌, inr, ℕ, zero, suc, ◌+◌, ◌-◌, ◌<◌, ◌≤◌, pos, List, [], ◌∷◌, ◌++◌, length, get_or, Some, None, slice_get, refl, sym, ap, ◌∙◌, subst, arith, append_assoc, length-append}
+use Rattle.std.proofs.Common.{◌≡◌, ◌⊎◌, inr, ℕ, zero, suc, ◌+◌, ◌-◌, ◌<◌, ◌≤◌, List, [], ◌∷◌, ◌++◌, length, get_or, Some, slice_get, refl, sym, ap, ◌∙◌, subst, arith, append_assoc, length-append}
 use Rattle.arc_spec.specs.Resolved as resolved
-use Rattle.arc_code.specs.declared.instr.Op.TheVariants.{Num, Pop, Forget}
-use Rattle.arc_code.specs.declared.instr.Instr.TheVariants.{Plain, PrintText, Jump, JumpZero, Call, Send, SendSuper, SendTo, SendToSuper, Return, StoreStrong, Drop, Empty, EndStep}
+use Rattle.arc_code.specs.declared.instr.Op.TheVariants.{Forget}
+use Rattle.arc_code.specs.declared.instr.Instr.TheVariants.{Plain, Jump, JumpZero, Return, Empty, EndStep}
 use Rattle.arc_ir.specs.declared.action.Target.TheVariants.{Skip, Back}
 use Rattle.arc_ir.specs.Acting.{lands}
 use Rattle.arc_lower.specs.Order.{Order}
 use Rattle.arc_lower.specs.Lowered.{Block, Straight, Then, Fork, Loop, Leave, flat}
 use Rattle.arc_lower.specs.declared.height.Height.{Height}
 use Rattle.arc_lower.specs.Heights.{height, next_height, heights, last_height}
-use Rattle.arc_lower.proofs.Typing.{heights_same, Reaches, Keeps, Needs, numbers_left, places_left, Types, types_last, next_same, BlockTypes}
+use Rattle.arc_lower.proofs.Typing.{heights_same, Reaches, Keeps, Needs, numbers_left, places_left, Types, next_same, BlockTypes}
 use Rattle.arc_lower.proofs.HeightsEnd.{between, block_ends}
 
 pub some_same : {A : Type 0} (a b : A) → Some a ≡ Some b → a ≡ b

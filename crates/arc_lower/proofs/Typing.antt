@@ -7,7 +7,7 @@ use Rattle.arc_spec.specs.Resolved.{Piece, Bytes, Decimal, Character, Value, Num
 use Rattle.arc_spec.specs.Resolved as resolved
 use Rattle.arc_code.specs.declared.instr.Op.{Op}
 use Rattle.arc_code.specs.declared.instr.Op.TheVariants.{Num, Bin, Un, Narrow, Pop, Get, Set, PrintNum, PrintByte, GetChar, Nil, HoldSelf, Hold, Forget, Alloc, GetField, SetField, Differ, IsObject}
-use Rattle.arc_code.specs.declared.instr.Instr.TheVariants.{Plain, PrintText, Jump, JumpZero, Return, Empty, Call, Send, SendSuper, SendTo, SendToSuper, StoreStrong, Drop, EndStep}
+use Rattle.arc_code.specs.declared.instr.Instr.TheVariants.{Plain, PrintText, Jump, Return, Empty, Call, Send, SendSuper, SendTo, SendToSuper, StoreStrong, Drop}
 use Rattle.arc_code.specs.Effects.{effect, passes}
 use Rattle.arc_lower.specs.Order.{Order}
 use Rattle.arc_lower.specs.Lowered.{value_count, value_takes, reference_takes, values_take, conversion_orders, part_orders, piece_orders, left_behind, format_orders, pop_orders, keep_orders, print_orders, get_orders, set_orders, zero_orders, fit_orders, nil_orders, hold_orders, store_orders, drop_orders, empty_orders, all_empty_orders, number_of, slots_of, call_orders, value_orders, reference_orders, all_value_orders, whole_orders, whole_reference_orders, begin_orders, Block, Straight, Then, Fork, Loop, Leave, command_block, commands_block}

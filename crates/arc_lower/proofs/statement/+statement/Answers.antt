@@ -1,10 +1,10 @@
-use Rattle.std.proofs.Common.{◌≡◌, ℕ, List, ◌++◌, length, slice_set, ap, sym, subst, ◌∙◌, OnOk, append_assoc}
+use Rattle.std.proofs.Common.{◌≡◌, ◌++◌, length, slice_set, ap, sym, subst, ◌∙◌, OnOk, append_assoc}
 use Rattle.std.proofs.lemmas.List.{length-map}
 use Rattle.arc_check.specs.Checked.{value, command, commands, program_of}
 use Rattle.arc_code.specs.declared.instr.Instr.TheVariants.{Jump}
 use Rattle.arc_ir.specs.declared.action.Target.TheVariants.{Skip}
-use Rattle.arc_lower.specs.Order.{Order, order, orders}
-use Rattle.arc_lower.specs.Lowered.{whole_orders, all_empty_orders, Block, Straight, Then, Fork, Loop, flat, command_block, commands_block}
+use Rattle.arc_lower.specs.Order.{order, orders}
+use Rattle.arc_lower.specs.Lowered.{whole_orders, all_empty_orders, Straight, Then, Fork, Loop, flat, command_block, commands_block}
 use Rattle.arc_check.proofs.Trees.{sequence_command}
 use Rattle.arc_lower.proofs.Patching.{patch_loop, patch_fork}
 use Rattle.arc_lower.proofs.statement.+statement.Goals as goal
