@@ -31,8 +31,7 @@ fn append_counted(
     action: Action,
     temporaries: usize,
 ) -> Result<usize, NoMemory>
-    ensures actions { OnOk result (orders actions.new.items ≡ orders actions.old.items ++ order action ∷ []) }
-    ensures temporaries { IfOk result (λ there. there ≡ temporaries) }
+    ensures { IfOk result (λ there. (orders actions.new.items ≡ orders actions.old.items ++ order action ∷ []) × (there ≡ temporaries)) }
 {
     append(actions, action)?;
     Ok(temporaries)
@@ -40,8 +39,7 @@ fn append_counted(
 
 /// Appends the actions that read a variable that holds a number.
 fn append_local(actions: &mut Vec<Action>, frame: Frame, index: usize) -> Result<usize, NoMemory>
-    ensures actions { OnOk result (orders actions.new.items ≡ orders actions.old.items ++ get_orders frame.slots frame.operands index) }
-    ensures temporaries { IfOk result (λ there. there ≡ frame.temporaries) }
+    ensures { IfOk result (λ there. (orders actions.new.items ≡ orders actions.old.items ++ get_orders frame.slots frame.operands index) × (there ≡ frame.temporaries)) }
 {
     append_get(actions, frame.slots, frame.operands, index)?;
     Ok(frame.temporaries)
@@ -57,8 +55,7 @@ pub(crate) fn append_value(
     frame: Frame,
     expression: &Value,
 ) -> Result<usize, NoMemory>
-    ensures actions { OnOk result (orders actions.new.items ≡ orders actions.old.items ++ value_orders (program_of program.now) frame.slots frame.names frame.operands frame.temporaries (value expression.now)) }
-    ensures temporaries { IfOk result (λ there. there ≡ frame.temporaries + value_takes (value expression.now)) }
+    ensures { IfOk result (λ there. (orders actions.new.items ≡ orders actions.old.items ++ value_orders (program_of program.now) frame.slots frame.names frame.operands frame.temporaries (value expression.now)) × (there ≡ frame.temporaries + value_takes (value expression.now))) }
 {
     match expression {
         Value::Number(number) => append_counted(
@@ -140,8 +137,7 @@ fn append_printed(
     pieces: &[Piece],
     arguments: &[Value],
 ) -> Result<usize, NoMemory>
-    ensures actions { OnOk result (orders actions.new.items ≡ orders actions.old.items ++ value_orders (program_of program.now) frame.slots frame.names frame.operands frame.temporaries (resolved.Print (checked.pieces pieces.now) (values arguments.now))) }
-    ensures temporaries { IfOk result (λ there. there ≡ frame.temporaries + value_takes (resolved.Print (checked.pieces pieces.now) (values arguments.now))) }
+    ensures { IfOk result (λ there. (orders actions.new.items ≡ orders actions.old.items ++ value_orders (program_of program.now) frame.slots frame.names frame.operands frame.temporaries (resolved.Print (checked.pieces pieces.now) (values arguments.now))) × (there ≡ frame.temporaries + value_takes (resolved.Print (checked.pieces pieces.now) (values arguments.now)))) }
 {
     let there = append_values(alloc, actions, program, frame, arguments)?;
     append_print(alloc, actions, pieces, arguments.len())?;
@@ -158,8 +154,7 @@ fn append_value_then(
     operand: &Value,
     action: Action,
 ) -> Result<usize, NoMemory>
-    ensures actions { OnOk result (orders actions.new.items ≡ orders actions.old.items ++ (value_orders (program_of program.now) frame.slots frame.names frame.operands frame.temporaries (value operand.now) ++ order action ∷ [])) }
-    ensures temporaries { IfOk result (λ there. there ≡ frame.temporaries + value_takes (value operand.now)) }
+    ensures { IfOk result (λ there. (orders actions.new.items ≡ orders actions.old.items ++ (value_orders (program_of program.now) frame.slots frame.names frame.operands frame.temporaries (value operand.now) ++ order action ∷ [])) × (there ≡ frame.temporaries + value_takes (value operand.now))) }
 {
     let there = append_value(alloc, actions, program, frame, operand)?;
     append_counted(actions, action, there)
@@ -175,8 +170,7 @@ fn append_reference_then(
     object: &Reference,
     action: Action,
 ) -> Result<usize, NoMemory>
-    ensures actions { OnOk result (orders actions.new.items ≡ orders actions.old.items ++ (reference_orders (program_of program.now) frame.slots frame.names frame.operands frame.temporaries (reference object.now) ++ order action ∷ [])) }
-    ensures temporaries { IfOk result (λ there. there ≡ frame.temporaries + reference_takes (reference object.now)) }
+    ensures { IfOk result (λ there. (orders actions.new.items ≡ orders actions.old.items ++ (reference_orders (program_of program.now) frame.slots frame.names frame.operands frame.temporaries (reference object.now) ++ order action ∷ [])) × (there ≡ frame.temporaries + reference_takes (reference object.now))) }
 {
     let there = append_reference(alloc, actions, program, frame, object)?;
     append_counted(actions, action, there)
@@ -194,8 +188,7 @@ fn append_both(
     right: &Value,
     action: Action,
 ) -> Result<usize, NoMemory>
-    ensures actions { OnOk result (orders actions.new.items ≡ orders actions.old.items ++ (value_orders (program_of program.now) frame.slots frame.names frame.operands frame.temporaries (value left.now) ++ (value_orders (program_of program.now) frame.slots frame.names (suc frame.operands) (frame.temporaries + value_takes (value left.now)) (value right.now) ++ order action ∷ []))) }
-    ensures temporaries { IfOk result (λ there. there ≡ frame.temporaries + (value_takes (value left.now) + value_takes (value right.now))) }
+    ensures { IfOk result (λ there. (orders actions.new.items ≡ orders actions.old.items ++ (value_orders (program_of program.now) frame.slots frame.names frame.operands frame.temporaries (value left.now) ++ (value_orders (program_of program.now) frame.slots frame.names (suc frame.operands) (frame.temporaries + value_takes (value left.now)) (value right.now) ++ order action ∷ []))) × (there ≡ frame.temporaries + (value_takes (value left.now) + value_takes (value right.now)))) }
 {
     let temporaries = append_value(alloc, actions, program, frame, left)?;
     let operands = one_more(frame.operands)?;
@@ -218,8 +211,7 @@ fn append_assigned(
     index: usize,
     operand: &Value,
 ) -> Result<usize, NoMemory>
-    ensures actions { OnOk result (orders actions.new.items ≡ orders actions.old.items ++ value_orders (program_of program.now) frame.slots frame.names frame.operands frame.temporaries (resolved.Assigned index (value operand.now))) }
-    ensures temporaries { IfOk result (λ there. there ≡ frame.temporaries + value_takes (resolved.Assigned index (value operand.now))) }
+    ensures { IfOk result (λ there. (orders actions.new.items ≡ orders actions.old.items ++ value_orders (program_of program.now) frame.slots frame.names frame.operands frame.temporaries (resolved.Assigned index (value operand.now))) × (there ≡ frame.temporaries + value_takes (resolved.Assigned index (value operand.now)))) }
 {
     let there = append_value(alloc, actions, program, frame, operand)?;
     append_set(actions, frame.slots, frame.operands, index)?;
@@ -236,8 +228,7 @@ fn append_invoked(
     function: usize,
     arguments: &[Value],
 ) -> Result<usize, NoMemory>
-    ensures actions { OnOk result (orders actions.new.items ≡ orders actions.old.items ++ value_orders (program_of program.now) frame.slots frame.names frame.operands frame.temporaries (resolved.Invoked function (values arguments.now))) }
-    ensures temporaries { IfOk result (λ there. there ≡ frame.temporaries + value_takes (resolved.Invoked function (values arguments.now))) }
+    ensures { IfOk result (λ there. (orders actions.new.items ≡ orders actions.old.items ++ value_orders (program_of program.now) frame.slots frame.names frame.operands frame.temporaries (resolved.Invoked function (values arguments.now))) × (there ≡ frame.temporaries + value_takes (resolved.Invoked function (values arguments.now)))) }
 {
     let there = append_values(alloc, actions, program, frame, arguments)?;
     append_call(actions, program, function, arguments.len())?;
@@ -255,8 +246,7 @@ fn append_sent(
     selector: usize,
     arguments: &[Value],
 ) -> Result<usize, NoMemory>
-    ensures actions { OnOk result (orders actions.new.items ≡ orders actions.old.items ++ value_orders (program_of program.now) frame.slots frame.names frame.operands frame.temporaries (resolved.Sent (value receiver.now) selector (values arguments.now))) }
-    ensures temporaries { IfOk result (λ there. there ≡ frame.temporaries + value_takes (resolved.Sent (value receiver.now) selector (values arguments.now))) }
+    ensures { IfOk result (λ there. (orders actions.new.items ≡ orders actions.old.items ++ value_orders (program_of program.now) frame.slots frame.names frame.operands frame.temporaries (resolved.Sent (value receiver.now) selector (values arguments.now))) × (there ≡ frame.temporaries + value_takes (resolved.Sent (value receiver.now) selector (values arguments.now)))) }
 {
     let temporaries = append_value(alloc, actions, program, frame, receiver)?;
     let operands = one_more(frame.operands)?;
@@ -281,8 +271,7 @@ fn append_sent_super(
     selector: usize,
     arguments: &[Value],
 ) -> Result<usize, NoMemory>
-    ensures actions { OnOk result (orders actions.new.items ≡ orders actions.old.items ++ value_orders (program_of program.now) frame.slots frame.names frame.operands frame.temporaries (resolved.SentSuper from selector (values arguments.now))) }
-    ensures temporaries { IfOk result (λ there. there ≡ frame.temporaries + value_takes (resolved.SentSuper from selector (values arguments.now))) }
+    ensures { IfOk result (λ there. (orders actions.new.items ≡ orders actions.old.items ++ value_orders (program_of program.now) frame.slots frame.names frame.operands frame.temporaries (resolved.SentSuper from selector (values arguments.now))) × (there ≡ frame.temporaries + value_takes (resolved.SentSuper from selector (values arguments.now)))) }
 {
     append_get(actions, frame.slots, frame.operands, 0)?;
     let operands = one_more(frame.operands)?;
@@ -307,8 +296,7 @@ fn append_sent_to(
     selector: usize,
     arguments: &[Value],
 ) -> Result<usize, NoMemory>
-    ensures actions { OnOk result (orders actions.new.items ≡ orders actions.old.items ++ value_orders (program_of program.now) frame.slots frame.names frame.operands frame.temporaries (resolved.SentTo (reference receiver.now) selector (values arguments.now))) }
-    ensures temporaries { IfOk result (λ there. there ≡ frame.temporaries + value_takes (resolved.SentTo (reference receiver.now) selector (values arguments.now))) }
+    ensures { IfOk result (λ there. (orders actions.new.items ≡ orders actions.old.items ++ value_orders (program_of program.now) frame.slots frame.names frame.operands frame.temporaries (resolved.SentTo (reference receiver.now) selector (values arguments.now))) × (there ≡ frame.temporaries + value_takes (resolved.SentTo (reference receiver.now) selector (values arguments.now)))) }
 {
     let temporaries = append_reference(alloc, actions, program, frame, receiver)?;
     let above = Frame {
@@ -335,8 +323,7 @@ fn append_sent_to_super(
     selector: usize,
     arguments: &[Value],
 ) -> Result<usize, NoMemory>
-    ensures actions { OnOk result (orders actions.new.items ≡ orders actions.old.items ++ value_orders (program_of program.now) frame.slots frame.names frame.operands frame.temporaries (resolved.SentToSuper from selector (values arguments.now))) }
-    ensures temporaries { IfOk result (λ there. there ≡ frame.temporaries + value_takes (resolved.SentToSuper from selector (values arguments.now))) }
+    ensures { IfOk result (λ there. (orders actions.new.items ≡ orders actions.old.items ++ value_orders (program_of program.now) frame.slots frame.names frame.operands frame.temporaries (resolved.SentToSuper from selector (values arguments.now))) × (there ≡ frame.temporaries + value_takes (resolved.SentToSuper from selector (values arguments.now)))) }
 {
     append(actions, Instr::Plain(Op::HoldSelf))?;
     let temporaries = one_more(frame.temporaries)?;
@@ -364,8 +351,7 @@ fn append_field_assigned(
     index: usize,
     operand: &Value,
 ) -> Result<usize, NoMemory>
-    ensures actions { OnOk result (orders actions.new.items ≡ orders actions.old.items ++ value_orders (program_of program.now) frame.slots frame.names frame.operands frame.temporaries (resolved.FieldAssigned (reference object.now) class index (value operand.now))) }
-    ensures temporaries { IfOk result (λ there. there ≡ frame.temporaries + value_takes (resolved.FieldAssigned (reference object.now) class index (value operand.now))) }
+    ensures { IfOk result (λ there. (orders actions.new.items ≡ orders actions.old.items ++ value_orders (program_of program.now) frame.slots frame.names frame.operands frame.temporaries (resolved.FieldAssigned (reference object.now) class index (value operand.now))) × (there ≡ frame.temporaries + value_takes (resolved.FieldAssigned (reference object.now) class index (value operand.now)))) }
 {
     let temporaries = append_reference(alloc, actions, program, frame, object)?;
     let above = Frame {
@@ -391,8 +377,7 @@ fn append_differ(
     left: &Reference,
     right: &Reference,
 ) -> Result<usize, NoMemory>
-    ensures actions { OnOk result (orders actions.new.items ≡ orders actions.old.items ++ value_orders (program_of program.now) frame.slots frame.names frame.operands frame.temporaries (resolved.Differ (reference left.now) (reference right.now))) }
-    ensures temporaries { IfOk result (λ there. there ≡ frame.temporaries + value_takes (resolved.Differ (reference left.now) (reference right.now))) }
+    ensures { IfOk result (λ there. (orders actions.new.items ≡ orders actions.old.items ++ value_orders (program_of program.now) frame.slots frame.names frame.operands frame.temporaries (resolved.Differ (reference left.now) (reference right.now))) × (there ≡ frame.temporaries + value_takes (resolved.Differ (reference left.now) (reference right.now)))) }
 {
     let temporaries = append_reference(alloc, actions, program, frame, left)?;
     let above = Frame {
@@ -418,8 +403,7 @@ pub(crate) fn append_reference(
     frame: Frame,
     expression: &Reference,
 ) -> Result<usize, NoMemory>
-    ensures actions { OnOk result (orders actions.new.items ≡ orders actions.old.items ++ reference_orders (program_of program.now) frame.slots frame.names frame.operands frame.temporaries (reference expression.now)) }
-    ensures temporaries { IfOk result (λ there. there ≡ frame.temporaries + reference_takes (reference expression.now)) }
+    ensures { IfOk result (λ there. (orders actions.new.items ≡ orders actions.old.items ++ reference_orders (program_of program.now) frame.slots frame.names frame.operands frame.temporaries (reference expression.now)) × (there ≡ frame.temporaries + reference_takes (reference expression.now))) }
 {
     match expression {
         Reference::Nil => {
@@ -469,8 +453,7 @@ fn append_values(
     frame: Frame,
     all: &[Value],
 ) -> Result<usize, NoMemory>
-    ensures actions { OnOk result (orders actions.new.items ≡ orders actions.old.items ++ all_value_orders (program_of program.now) frame.slots frame.names frame.operands frame.temporaries (values all.now)) }
-    ensures temporaries { IfOk result (λ there. there ≡ frame.temporaries + values_take (values all.now)) }
+    ensures { IfOk result (λ there. (orders actions.new.items ≡ orders actions.old.items ++ all_value_orders (program_of program.now) frame.slots frame.names frame.operands frame.temporaries (values all.now)) × (there ≡ frame.temporaries + values_take (values all.now))) }
 {
     let mut operands = frame.operands;
     let mut there = frame.temporaries;
