@@ -33,6 +33,7 @@ use Rattle.arc_lower.proofs.Printing.{print_passes}
 use Rattle.arc_lower.proofs.Fitting.{fit_passes}
 use Rattle.arc_lower.proofs.Standing.{ending, Fine, Alive, nil_alive, last_there, IsFramed, Kept, kept_framed, Took, took_none, took_more, took_suc, took_length, get_variable, place_named, made_dying, changed_dying}
 use Rattle.arc_lower.proofs.Releasing.{Ends, stays, store_segment}
+use Rattle.arc_lower.proofs.Typing.{positive}
 
 read_next : (frames : List Frame) (pc : ℕ) (stack : List ℤ) (w : World) (i : List ℕ) (t : List Event) → fed (λ answer. fresh (onward (at frames pc stack (held_of w)) (byte_or_end answer ∷ stack))) i t ≡ running frames (pc + 1) (next_number i ∷ stack) (record w { input = after_next i; trace = t })
 read_next frames pc stack w [] t = refl
@@ -427,14 +428,6 @@ module _ (p : Program) (frames : List Frame) (bound : ℕ) (R : resolved.Program
       returns n pc operands w0 w stack (answered D method (suc k) given w) (sent_from D (Some from) (suc k) selector given w) (found_answers D method (suc k) given w) h
       (deep.tells signs.Instance (Some from) selector count (suc k) given (framed operands w) w pc h.0.fine (λ objects all dying. place_there objects depth (suc k) (places w) found all) refl e)
 
-  reference_positive : (a : Reference) → 1 ≤ reference_takes a
-  reference_positive resolved.Nil = omega arith
-  reference_positive Itself = omega arith
-  reference_positive (Variable i) = omega arith
-  reference_positive (Stored i a) = omega arith
-  reference_positive (Made a) = omega arith
-  reference_positive (Initialized a) = omega arith
-
   mutual
     pub value_segment : (e : Value) (operands : List ℤ) (t : ℕ) (w : World) → t ≡ length w.frame.temporaries → Good w → Segment p frames bound (λ v w1. Behind (value_takes e) w w1) (value_orders R slots names (length operands) t e) (framed operands w) w (above operands) (evaluated D e w)
     value_segment (Number n) operands t w at_t g = λ pc has. ((g, nothing_taken w), num_passes n (framed operands w) w pc has)
@@ -546,7 +539,7 @@ module _ (p : Program) (frames : List Frame) (bound : ℕ) (R : resolved.Program
         let ys = reference_orders R slots names (length operands) (t + n) b in
         then_segment p frames bound (Referred n w) (λ v w1. Behind (n + m) w w1) (reference_orders R slots names (length operands) t a) (ys ++ Plain (Differ (m - 1)) ∷ []) (framed operands w) w (beside operands) (above operands) (referred D a w) (λ x w1. then_do (referred D b w1) (λ y w2. Done (difference x y) w2)) (reference_segment a operands t w at_t g) (λ x w1 h.
         then_segment p frames bound (Referred m w1) (λ v w2. Behind (n + m) w w2) ys (Plain (Differ (m - 1)) ∷ []) (framed operands w1) w1 (beside operands) (above operands) (referred D b w1) (λ y w2. Done (difference x y) w2) (reference_segment b operands (t + n) w1 (count n t w w1 at_t h.1) h.0) (λ y w2 h2.
-        one_segment p frames bound (λ v w3. Behind (n + m) w w3) (Plain (Differ (m - 1))) (framed operands w2) w2 (above operands) (Done (difference x y) w2) (λ pc. differ_runs n m x y pc operands w w1 w2 (reference_positive b) h h2)))
+        one_segment p frames bound (λ v w3. Behind (n + m) w w3) (Plain (Differ (m - 1))) (framed operands w2) w2 (above operands) (Done (difference x y) w2) (λ pc. differ_runs n m x y pc operands w w1 w2 (positive R 0 0 b) h h2)))
     value_segment (resolved.IsObject a) operands t w at_t g =
         let n = reference_takes a in
         then_segment p frames bound (Referred n w) (λ v w1. Behind n w w1) (reference_orders R slots names (length operands) t a) (Plain IsObject ∷ []) (framed operands w) w (beside operands) (above operands) (referred D a w) (λ x w1. Done (difference x 0) w1) (reference_segment a operands t w at_t g) (λ x w1 h.

@@ -40,13 +40,13 @@ module _ (R : resolved.Program) where
 
   -- orders and their heights stand there
   abbrev Both : ℕ → List Height → List Order → Type 0
-  Both pc hs xs = HasPart table pc hs × HasPart all pc xs × (length hs ≡ length xs)
+  Both pc hs xs = HasPart table pc hs × HasPart all pc xs
 
-  both_front : (pc : ℕ) (a b : List Height) (xs ys : List Order) → length a ≡ length xs → Both pc (a ++ b) (xs ++ ys) → Both pc a xs
-  both_front pc a b xs ys e f = (part_front table pc a b f.0, part_front all pc xs ys f.1, e)
+  both_front : (pc : ℕ) (a b : List Height) (xs ys : List Order) → Both pc (a ++ b) (xs ++ ys) → Both pc a xs
+  both_front pc a b xs ys f = (part_front table pc a b f.0, part_front all pc xs ys f.1)
 
   both_back : (pc : ℕ) (a b : List Height) (xs ys : List Order) → length a ≡ length xs → Both pc (a ++ b) (xs ++ ys) → Both (pc + length xs) b ys
-  both_back pc a b xs ys e f = (subst (λ n. HasPart table (pc + n) b) e (part_back table pc a b f.0), part_back all pc xs ys f.1, omega (arith, e, f.2, length-append a b, length-append xs ys))
+  both_back pc a b xs ys e f = (subst (λ n. HasPart table (pc + n) b) e (part_back table pc a b f.0), part_back all pc xs ys f.1)
 
   abbrev Goes_to : ℕ → Height → Type 0
   Goes_to = Goes R all table
@@ -216,7 +216,7 @@ module _ (R : resolved.Program) where
   functions_begin (g ∷ fs) place zero f has e =
       let same : g ≡ f = cc in
       let xs = function_orders R place g in
-      let here = both_front place (function_heights R place g) (functions_heights R (place + length xs) fs) xs _ (function_length place g) has in
+      let here = both_front place (function_heights R place g) (functions_heights R (place + length xs) fs) xs _ has in
       record { at = entry_of place g; is = refl; goes = subst (λ (h : Function). Goes_to (entry_of place g) (height h.slots 0)) same (entry_goes place g.slots g.names g.body (row (height g.slots g.names) (height (suc g.slots) g.names) place xs here)) }
   functions_begin (g ∷ fs) place (suc n) f has e =
       let xs = function_orders R place g in
@@ -228,7 +228,7 @@ module _ (R : resolved.Program) where
   functions_step (g ∷ fs) place has =
       let xs = function_orders R place g in
       let rest = functions_heights R (place + length xs) fs in
-      step_then R all table place xs (functions_orders R (place + length xs) fs) (function_steps place g.slots g.names g.body (row (height g.slots g.names) (height (suc g.slots) g.names) place xs (both_front place (function_heights R place g) rest xs _ (function_length place g) has)))
+      step_then R all table place xs (functions_orders R (place + length xs) fs) (function_steps place g.slots g.names g.body (row (height g.slots g.names) (height (suc g.slots) g.names) place xs (both_front place (function_heights R place g) rest xs _ has)))
       (functions_step fs (place + length xs) (both_back place (function_heights R place g) rest xs _ (function_length place g) has))
 
   functions_length : (fs : List Function) (place : ℕ) → length (functions_heights R place fs) ≡ length (functions_orders R place fs)
@@ -297,19 +297,19 @@ module _ (R : resolved.Program) where
   Classes place cs = Both place (classes_heights R (entries_of R) cs) (classes_orders R (entries_of R) cs)
 
   first_method : (place : ℕ) (m : Method) (others : List Method) → Methods place (m ∷ others) → Both place (stub_heights R (entries_of R) (passes m.sign m.takes) m.runs) (stub (passes m.sign m.takes) m.runs)
-  first_method place m others has = both_front place _ (methods_heights R (entries_of R) others) _ _ (stub_length (passes m.sign m.takes) m.runs) has
+  first_method place m others has = both_front place _ (methods_heights R (entries_of R) others) _ _ has
 
   other_methods : (place : ℕ) (m : Method) (others : List Method) → Methods place (m ∷ others) → Methods (place + length (stub (passes m.sign m.takes) m.runs)) others
   other_methods place m others has = both_back place (stub_heights R (entries_of R) (passes m.sign m.takes) m.runs) _ (stub (passes m.sign m.takes) m.runs) _ (stub_length (passes m.sign m.takes) m.runs) has
 
   first_class : (place : ℕ) (c : Class) (others : List Class) → Classes place (c ∷ others) → Both place (class_heights R (entries_of R) c) (class_orders R (entries_of R) c)
-  first_class place c others has = both_front place _ (classes_heights R (entries_of R) others) _ _ (class_length c) has
+  first_class place c others has = both_front place _ (classes_heights R (entries_of R) others) _ _ has
 
   other_classes : (place : ℕ) (c : Class) (others : List Class) → Classes place (c ∷ others) → Classes (place + length (class_orders R (entries_of R) c)) others
   other_classes place c others has = both_back place (class_heights R (entries_of R) c) _ (class_orders R (entries_of R) c) _ (class_length c) has
 
   class_dealloc : (place : ℕ) (c : Class) → Both place (class_heights R (entries_of R) c) (class_orders R (entries_of R) c) → Both place (dealloc_heights R (entries_of R) c.dealloc) (dealloc_orders R (entries_of R) c.dealloc)
-  class_dealloc place c has = both_front place _ (methods_heights R (entries_of R) c.methods) _ _ (dealloc_length c.dealloc) has
+  class_dealloc place c has = both_front place _ (methods_heights R (entries_of R) c.methods) _ _ has
 
   class_methods : (place : ℕ) (c : Class) → Both place (class_heights R (entries_of R) c) (class_orders R (entries_of R) c) → Methods (place + length (dealloc_orders R (entries_of R) c.dealloc)) c.methods
   class_methods place c has = both_back place (dealloc_heights R (entries_of R) c.dealloc) _ (dealloc_orders R (entries_of R) c.dealloc) _ (dealloc_length c.dealloc) has
@@ -393,21 +393,17 @@ module _ (R : resolved.Program) where
   running_length : length (first ++ functions) ≡ length (running_orders R)
   running_length = omega (arith, length-append first functions, length-append (start_orders R) function_list, start_length, functions_length (all_functions R) (length (start_orders R)))
 
-  classes_length : (cs : List Class) → length (classes_heights R (entries_of R) cs) ≡ length (classes_orders R (entries_of R) cs)
-  classes_length [] = refl
-  classes_length (c ∷ others) = omega (arith, length-append (class_heights R (entries_of R) c) (classes_heights R (entries_of R) others), length-append (class_orders R (entries_of R) c) (classes_orders R (entries_of R) others), class_length c, classes_length others)
-
   has_all : Both 0 table all
-  has_all = (has_whole table, has_whole all, omega (arith, length-append (first ++ functions) (classes_heights R (entries_of R) R.classes), length-append (running_orders R) (classes_orders R (entries_of R) R.classes), running_length, classes_length R.classes))
+  has_all = (has_whole table, has_whole all)
 
   has_running : Both 0 (first ++ functions) (running_orders R)
-  has_running = both_front 0 (first ++ functions) (classes_heights R (entries_of R) R.classes) (running_orders R) (classes_orders R (entries_of R) R.classes) running_length has_all
+  has_running = both_front 0 (first ++ functions) (classes_heights R (entries_of R) R.classes) (running_orders R) (classes_orders R (entries_of R) R.classes) has_all
 
   none_more : (n : ℕ) → 0 + n ≡ n
   none_more n = omega arith
 
   has_start : Both 0 first (start_orders R)
-  has_start = both_front 0 first functions (start_orders R) function_list start_length has_running
+  has_start = both_front 0 first functions (start_orders R) function_list has_running
 
   has_functions : Both (length (start_orders R)) functions function_list
   has_functions = subst (λ n. Both n functions function_list) (none_more (length (start_orders R))) (both_back 0 first functions (start_orders R) function_list start_length has_running)

@@ -163,8 +163,6 @@ module _ (p : Program) (s : State) (c : Counted s.held) where
   raised_same r k = ap (λ n. if nat_eq (suc k) r then suc n else n) (c.counted k)
 
   acts_agree : (action : Option Action) → AllDying s.held.objects (ending s.frames) → Agree (executes p action s) (executes p action t)
-  acts_agree None dying = refl
-  acts_agree (Some (Plain (Num n))) dying = refl
   acts_agree (Some (Plain (Bin operator kind))) dying = two_agree s.stack _ _ (λ y x rest. or_fault_agrees (combined operator kind x y) rest)
   acts_agree (Some (Plain (Un kind))) dying = top_agrees s.stack _ _ (λ x rest. refl)
   acts_agree (Some (Plain (Narrow kind))) dying = top_agrees s.stack _ _ (λ x rest. refl)
@@ -174,14 +172,11 @@ module _ (p : Program) (s : State) (c : Counted s.held) where
   acts_agree (Some (PrintText bytes)) dying = top_agrees s.stack _ _ (λ count rest. refl)
   acts_agree (Some (Plain PrintNum)) dying = two_agree s.stack _ _ (λ v count rest. refl)
   acts_agree (Some (Plain PrintByte)) dying = two_agree s.stack _ _ (λ v count rest. refl)
-  acts_agree (Some (Plain GetChar)) dying = refl
-  acts_agree (Some (Jump to)) dying = refl
   acts_agree (Some (JumpZero to)) dying = top_agrees s.stack _ _ (λ v rest. chosen_agrees (is_zero v) _ _ _ _ refl refl)
   acts_agree (Some (Call f)) dying = enters_agree (entry p f) 0 (has_level s)
   acts_agree (Some (Send selector takes)) dying = found_agrees (slice_get s.stack takes) _ _ (λ self _. answers_agree 0 (lookup p.classes (class_at self) signs.Class selector takes))
   acts_agree (Some (SendSuper from selector takes)) dying = answers_agree 0 (lookup p.classes (Some from) signs.Class selector takes)
   acts_agree (Some Return) dying = top_agrees s.stack _ _ (λ v rest. leaves_agree s.frames v rest)
-  acts_agree (Some (Plain Nil)) dying = refl
   acts_agree (Some (Plain HoldSelf)) dying = holds_agree s.held.self _ _ refl
   acts_agree (Some (Plain (Hold depth))) dying = found_agrees (slice_get s.held.places depth) _ _ (λ r _. holds_agree r _ _ refl)
   acts_agree (Some (StoreStrong depth)) dying = place_agrees s.held.places _ _ (λ r rest _. found_agrees (slice_get rest depth) _ _ (λ old _. holds_agree r _ _ (releases_agree old (r ∷ slice_set rest depth r) (λ k. if nat_eq k r then suc (s.held.counts k) else s.held.counts k) (λ k. if nat_eq k r then suc (holders k s.held.places) else holders k s.held.places) (raised_same r))))
@@ -196,6 +191,7 @@ module _ (p : Program) (s : State) (c : Counted s.held) where
   acts_agree (Some (SendTo depth selector takes)) dying = found_agrees (slice_get s.held.places depth) _ _ (λ r _. sends_agree r selector takes)
   acts_agree (Some (SendToSuper from selector takes)) dying = sends_up_agree from s.held.self selector takes
   acts_agree (Some EndStep) dying = end_goes_on_agrees s.frames dying
+  acts_agree _ dying = refl
 
 -- ---- runs
 

@@ -1,4 +1,4 @@
--- What an expression is of its parts, and how much of it is left to lower: that falls with each call.
+-- How much of an expression is left to lower: that falls with each call.
 use Rattle.std.proofs.Common.{rules, arith, ◌≡◌, ℕ, zero, suc, ◌+◌, ◌<◌, List, [], ◌∷◌, Box, Global, length, get_or, sym, ap, subst, ◌∙◌}
 use Rattle.arc_ast.specs.declared.tree.Kind.{Kind}
 use Rattle.arc_ast.specs.declared.tree.BinaryOperator.{BinaryOperator}
@@ -46,48 +46,3 @@ pub value_in : (vs : List c.Value) (i : ℕ) (v : c.Value) → i < length vs →
 value_in [] i v below is = nothing_below below
 value_in (a ∷ vs) zero v below is = subst (λ x. value_weight (value x) < suc (value_weight (value a) + values_weight (values vs))) (sym is) (omega arith)
 value_in (a ∷ vs) (suc i) v below is = let deep = value_in vs i v (omega (arith, below)) is in omega (arith, deep)
-
-pub is_negated : (v : c.Value) (kind : Kind) (a : Box c.Value Global) (this : c.Value) → v ≡ c.Negated kind a → this ≡ a.value → value v ≡ Negated kind (value this)
-is_negated v kind a this is same = ap value is ∙ ap (λ x. Negated kind (value x)) (sym same)
-
-pub is_converted : (v : c.Value) (kind : Kind) (a : Box c.Value Global) (this : c.Value) → v ≡ c.Converted kind a → this ≡ a.value → value v ≡ Converted kind (value this)
-is_converted v kind a this is same = ap value is ∙ ap (λ x. Converted kind (value x)) (sym same)
-
-pub is_combined : (v : c.Value) (operator : BinaryOperator) (kind : Kind) (a b : Box c.Value Global) (left right : c.Value)
-    → v ≡ c.Combined operator kind a b → left ≡ a.value → right ≡ b.value → value v ≡ Combined operator kind (value left) (value right)
-is_combined v operator kind a b left right is same_left same_right =
-    ap value is
-    ∙ ap (λ x. Combined operator kind (value x) (value b.value)) (sym same_left)
-    ∙ ap (λ x. Combined operator kind (value left) (value x)) (sym same_right)
-
-pub is_assigned : (v : c.Value) (i : ℕ) (a : Box c.Value Global) (this : c.Value) → v ≡ c.Assigned i a → this ≡ a.value → value v ≡ Assigned i (value this)
-is_assigned v i a this is same = ap value is ∙ ap (λ x. Assigned i (value x)) (sym same)
-
-pub is_field : (v : c.Value) (a : Box r.Reference Global) (class index : ℕ) (this : r.Reference) → v ≡ c.Field a class index → this ≡ a.value → value v ≡ Field (reference this) class index
-is_field v a class index this is same = ap value is ∙ ap (λ x. Field (reference x) class index) (sym same)
-
-pub is_field_assigned : (v : c.Value) (a : Box r.Reference Global) (class index : ℕ) (b : Box c.Value Global) (object : r.Reference) (operand : c.Value)
-    → v ≡ c.FieldAssigned a class index b → object ≡ a.value → operand ≡ b.value → value v ≡ FieldAssigned (reference object) class index (value operand)
-is_field_assigned v a class index b object operand is same_object same =
-    ap value is
-    ∙ ap (λ x. FieldAssigned (reference x) class index (value b.value)) (sym same_object)
-    ∙ ap (λ x. FieldAssigned (reference object) class index (value x)) (sym same)
-
-pub is_differ : (v : c.Value) (a b : Box r.Reference Global) (left right : r.Reference)
-    → v ≡ c.Differ a b → left ≡ a.value → right ≡ b.value → value v ≡ Differ (reference left) (reference right)
-is_differ v a b left right is same_left same_right =
-    ap value is
-    ∙ ap (λ x. Differ (reference x) (reference b.value)) (sym same_left)
-    ∙ ap (λ x. Differ (reference left) (reference x)) (sym same_right)
-
-pub is_object : (v : c.Value) (a : Box r.Reference Global) (this : r.Reference) → v ≡ c.IsObject a → this ≡ a.value → value v ≡ IsObject (reference this)
-is_object v a this is same = ap value is ∙ ap (λ x. IsObject (reference x)) (sym same)
-
-pub is_stored : (v : r.Reference) (i : ℕ) (a : Box r.Reference Global) (this : r.Reference) → v ≡ r.Stored i a → this ≡ a.value → reference v ≡ Stored i (reference this)
-is_stored v i a this is same = ap reference is ∙ ap (λ x. Stored i (reference x)) (sym same)
-
-pub is_made : (v : r.Reference) (a : Box c.Value Global) (this : c.Value) → v ≡ r.Made a → this ≡ a.value → reference v ≡ Made (value this)
-is_made v a this is same = ap reference is ∙ ap (λ x. Made (value x)) (sym same)
-
-pub is_initialized : (v : r.Reference) (a : Box r.Reference Global) (this : r.Reference) → v ≡ r.Initialized a → this ≡ a.value → reference v ≡ Initialized (reference this)
-is_initialized v a this is same = ap reference is ∙ ap (λ x. Initialized (reference x)) (sym same)

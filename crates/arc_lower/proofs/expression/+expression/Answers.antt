@@ -10,7 +10,7 @@ use Rattle.arc_lower.specs.Order.{Order, order, orders}
 use Rattle.arc_lower.specs.Lowered.{value_takes, reference_takes, values_take, value_orders, reference_orders, all_value_orders, print_orders, call_orders, get_orders, set_orders, value_count}
 use Rattle.arc_lower.proofs.Rows.{values_counted}
 use Rattle.arc_check.proofs.Trees.{is_print, is_invoked, is_sent, is_sent_super, is_sent_to, is_sent_to_super}
-use Rattle.arc_lower.proofs.Weights.{value_weight, reference_weight, value_in, is_negated, is_combined, is_converted, is_assigned, is_field, is_field_assigned, is_differ, is_object, is_stored, is_made, is_initialized}
+use Rattle.arc_lower.proofs.Weights.{value_weight, reference_weight, value_in}
 use Rattle.arc_lower.proofs.expression.+expression.Goals as goal
 
 behind_two : (old o1 o2 a b last : List Order) → o1 ≡ old ++ a → o2 ≡ o1 ++ b → o2 ++ last ≡ old ++ (a ++ (b ++ last))
@@ -34,39 +34,39 @@ append_value-returns-in-Print t c =
 
 pub append_value-append_value_then-requires : goal.append_value-append_value_then-requires
 append_value-append_value_then-requires t c =
-    (omega (arith, ap value_weight (is_negated c.args.expression.now c.in-Negated.kind c.in-Negated.operand c.deref-in-Negated.result.now c.in-Negated.is c.deref-in-Negated.ensures), c.decreases), tt)
+    (omega (arith, ap value_weight (ap value c.in-Negated.is ∙ ap (λ x. resolved.Negated c.in-Negated.kind (value x)) (sym c.deref-in-Negated.ensures)), c.decreases), tt)
 
 pub append_value-returns-in-Negated : goal.append_value-returns-in-Negated
 append_value-returns-in-Negated t c =
     told (λ x. IfOk c.append_value_then.result (λ there. (orders c.append_value_then.new.actions.items ≡ orders c.args.actions.now.items ++ value_orders (program_of c.args.program.now) c.args.frame.slots c.args.frame.names c.args.frame.operands c.args.frame.temporaries x) × (there ≡ c.args.frame.temporaries + value_takes x))) c.args.expression.now _
-    (is_negated c.args.expression.now c.in-Negated.kind c.in-Negated.operand c.deref-in-Negated.result.now c.in-Negated.is c.deref-in-Negated.ensures) c.append_value_then.ensures
+    (ap value c.in-Negated.is ∙ ap (λ x. resolved.Negated c.in-Negated.kind (value x)) (sym c.deref-in-Negated.ensures)) c.append_value_then.ensures
 
 pub append_value-append_both-requires : goal.append_value-append_both-requires
 append_value-append_both-requires t c =
-    (omega (arith, ap value_weight (is_combined c.args.expression.now c.in-Combined.operator c.in-Combined.kind c.in-Combined.left c.in-Combined.right c.deref-in-Combined.result.now c.deref-in-Combined-2.result.now c.in-Combined.is c.deref-in-Combined.ensures c.deref-in-Combined-2.ensures), c.decreases), tt)
+    (omega (arith, ap value_weight (ap value c.in-Combined.is ∙ ap (λ x. resolved.Combined c.in-Combined.operator c.in-Combined.kind (value x) (value c.in-Combined.right.value)) (sym c.deref-in-Combined.ensures) ∙ ap (λ x. resolved.Combined c.in-Combined.operator c.in-Combined.kind (value c.deref-in-Combined.result.now) (value x)) (sym c.deref-in-Combined-2.ensures)), c.decreases), tt)
 
 pub append_value-returns-in-Combined : goal.append_value-returns-in-Combined
 append_value-returns-in-Combined t c =
     told (λ x. IfOk c.append_both.result (λ there. (orders c.append_both.new.actions.items ≡ orders c.args.actions.now.items ++ value_orders (program_of c.args.program.now) c.args.frame.slots c.args.frame.names c.args.frame.operands c.args.frame.temporaries x) × (there ≡ c.args.frame.temporaries + value_takes x))) c.args.expression.now _
-    (is_combined c.args.expression.now c.in-Combined.operator c.in-Combined.kind c.in-Combined.left c.in-Combined.right c.deref-in-Combined.result.now c.deref-in-Combined-2.result.now c.in-Combined.is c.deref-in-Combined.ensures c.deref-in-Combined-2.ensures) c.append_both.ensures
+    (ap value c.in-Combined.is ∙ ap (λ x. resolved.Combined c.in-Combined.operator c.in-Combined.kind (value x) (value c.in-Combined.right.value)) (sym c.deref-in-Combined.ensures) ∙ ap (λ x. resolved.Combined c.in-Combined.operator c.in-Combined.kind (value c.deref-in-Combined.result.now) (value x)) (sym c.deref-in-Combined-2.ensures)) c.append_both.ensures
 
 pub append_value-append_value_then-requires-in-Converted : goal.append_value-append_value_then-requires-in-Converted
 append_value-append_value_then-requires-in-Converted t c =
-    (omega (arith, ap value_weight (is_converted c.args.expression.now c.in-Converted.kind c.in-Converted.operand c.deref-in-Converted.result.now c.in-Converted.is c.deref-in-Converted.ensures), c.decreases), tt)
+    (omega (arith, ap value_weight (ap value c.in-Converted.is ∙ ap (λ x. resolved.Converted c.in-Converted.kind (value x)) (sym c.deref-in-Converted.ensures)), c.decreases), tt)
 
 pub append_value-returns-in-Converted : goal.append_value-returns-in-Converted
 append_value-returns-in-Converted t c =
     told (λ x. IfOk c.append_value_then-in-Converted.result (λ there. (orders c.append_value_then-in-Converted.new.actions.items ≡ orders c.args.actions.now.items ++ value_orders (program_of c.args.program.now) c.args.frame.slots c.args.frame.names c.args.frame.operands c.args.frame.temporaries x) × (there ≡ c.args.frame.temporaries + value_takes x))) c.args.expression.now _
-    (is_converted c.args.expression.now c.in-Converted.kind c.in-Converted.operand c.deref-in-Converted.result.now c.in-Converted.is c.deref-in-Converted.ensures) c.append_value_then-in-Converted.ensures
+    (ap value c.in-Converted.is ∙ ap (λ x. resolved.Converted c.in-Converted.kind (value x)) (sym c.deref-in-Converted.ensures)) c.append_value_then-in-Converted.ensures
 
 pub append_value-append_assigned-requires : goal.append_value-append_assigned-requires
 append_value-append_assigned-requires t c =
-    (omega (arith, ap value_weight (is_assigned c.args.expression.now c.in-Assigned.index c.in-Assigned.operand c.deref-in-Assigned.result.now c.in-Assigned.is c.deref-in-Assigned.ensures), c.decreases), tt)
+    (omega (arith, ap value_weight (ap value c.in-Assigned.is ∙ ap (λ x. resolved.Assigned c.in-Assigned.index (value x)) (sym c.deref-in-Assigned.ensures)), c.decreases), tt)
 
 pub append_value-returns-in-Assigned : goal.append_value-returns-in-Assigned
 append_value-returns-in-Assigned t c =
     told (λ x. IfOk c.append_assigned.result (λ there. (orders c.append_assigned.new.actions.items ≡ orders c.args.actions.now.items ++ value_orders (program_of c.args.program.now) c.args.frame.slots c.args.frame.names c.args.frame.operands c.args.frame.temporaries x) × (there ≡ c.args.frame.temporaries + value_takes x))) c.args.expression.now _
-    (is_assigned c.args.expression.now c.in-Assigned.index c.in-Assigned.operand c.deref-in-Assigned.result.now c.in-Assigned.is c.deref-in-Assigned.ensures) c.append_assigned.ensures
+    (ap value c.in-Assigned.is ∙ ap (λ x. resolved.Assigned c.in-Assigned.index (value x)) (sym c.deref-in-Assigned.ensures)) c.append_assigned.ensures
 
 pub append_value-append_invoked-requires : goal.append_value-append_invoked-requires
 append_value-append_invoked-requires t c =
@@ -115,39 +115,39 @@ append_value-returns-in-SentToSuper t c =
 
 pub append_value-append_reference_then-requires : goal.append_value-append_reference_then-requires
 append_value-append_reference_then-requires t c =
-    (omega (arith, ap value_weight (is_field c.args.expression.now c.in-Field.object c.in-Field.class c.in-Field.index c.deref-in-Field.result.now c.in-Field.is c.deref-in-Field.ensures), c.decreases), tt)
+    (omega (arith, ap value_weight (ap value c.in-Field.is ∙ ap (λ x. resolved.Field (reference x) c.in-Field.class c.in-Field.index) (sym c.deref-in-Field.ensures)), c.decreases), tt)
 
 pub append_value-returns-in-Field : goal.append_value-returns-in-Field
 append_value-returns-in-Field t c =
     told (λ x. IfOk c.append_reference_then.result (λ there. (orders c.append_reference_then.new.actions.items ≡ orders c.args.actions.now.items ++ value_orders (program_of c.args.program.now) c.args.frame.slots c.args.frame.names c.args.frame.operands c.args.frame.temporaries x) × (there ≡ c.args.frame.temporaries + value_takes x))) c.args.expression.now _
-    (is_field c.args.expression.now c.in-Field.object c.in-Field.class c.in-Field.index c.deref-in-Field.result.now c.in-Field.is c.deref-in-Field.ensures) c.append_reference_then.ensures
+    (ap value c.in-Field.is ∙ ap (λ x. resolved.Field (reference x) c.in-Field.class c.in-Field.index) (sym c.deref-in-Field.ensures)) c.append_reference_then.ensures
 
 pub append_value-append_field_assigned-requires : goal.append_value-append_field_assigned-requires
 append_value-append_field_assigned-requires t c =
-    (omega (arith, ap value_weight (is_field_assigned c.args.expression.now c.in-FieldAssigned.object c.in-FieldAssigned.class c.in-FieldAssigned.index c.in-FieldAssigned.operand c.deref-in-FieldAssigned.result.now c.deref-in-FieldAssigned-2.result.now c.in-FieldAssigned.is c.deref-in-FieldAssigned.ensures c.deref-in-FieldAssigned-2.ensures), c.decreases), tt)
+    (omega (arith, ap value_weight (ap value c.in-FieldAssigned.is ∙ ap (λ x. resolved.FieldAssigned (reference x) c.in-FieldAssigned.class c.in-FieldAssigned.index (value c.in-FieldAssigned.operand.value)) (sym c.deref-in-FieldAssigned.ensures) ∙ ap (λ x. resolved.FieldAssigned (reference c.deref-in-FieldAssigned.result.now) c.in-FieldAssigned.class c.in-FieldAssigned.index (value x)) (sym c.deref-in-FieldAssigned-2.ensures)), c.decreases), tt)
 
 pub append_value-returns-in-FieldAssigned : goal.append_value-returns-in-FieldAssigned
 append_value-returns-in-FieldAssigned t c =
     told (λ x. IfOk c.append_field_assigned.result (λ there. (orders c.append_field_assigned.new.actions.items ≡ orders c.args.actions.now.items ++ value_orders (program_of c.args.program.now) c.args.frame.slots c.args.frame.names c.args.frame.operands c.args.frame.temporaries x) × (there ≡ c.args.frame.temporaries + value_takes x))) c.args.expression.now _
-    (is_field_assigned c.args.expression.now c.in-FieldAssigned.object c.in-FieldAssigned.class c.in-FieldAssigned.index c.in-FieldAssigned.operand c.deref-in-FieldAssigned.result.now c.deref-in-FieldAssigned-2.result.now c.in-FieldAssigned.is c.deref-in-FieldAssigned.ensures c.deref-in-FieldAssigned-2.ensures) c.append_field_assigned.ensures
+    (ap value c.in-FieldAssigned.is ∙ ap (λ x. resolved.FieldAssigned (reference x) c.in-FieldAssigned.class c.in-FieldAssigned.index (value c.in-FieldAssigned.operand.value)) (sym c.deref-in-FieldAssigned.ensures) ∙ ap (λ x. resolved.FieldAssigned (reference c.deref-in-FieldAssigned.result.now) c.in-FieldAssigned.class c.in-FieldAssigned.index (value x)) (sym c.deref-in-FieldAssigned-2.ensures)) c.append_field_assigned.ensures
 
 pub append_value-append_differ-requires : goal.append_value-append_differ-requires
 append_value-append_differ-requires t c =
-    (omega (arith, ap value_weight (is_differ c.args.expression.now c.in-Differ.left c.in-Differ.right c.deref-in-Differ.result.now c.deref-in-Differ-2.result.now c.in-Differ.is c.deref-in-Differ.ensures c.deref-in-Differ-2.ensures), c.decreases), tt)
+    (omega (arith, ap value_weight (ap value c.in-Differ.is ∙ ap (λ x. resolved.Differ (reference x) (reference c.in-Differ.right.value)) (sym c.deref-in-Differ.ensures) ∙ ap (λ x. resolved.Differ (reference c.deref-in-Differ.result.now) (reference x)) (sym c.deref-in-Differ-2.ensures)), c.decreases), tt)
 
 pub append_value-returns-in-Differ : goal.append_value-returns-in-Differ
 append_value-returns-in-Differ t c =
     told (λ x. IfOk c.append_differ.result (λ there. (orders c.append_differ.new.actions.items ≡ orders c.args.actions.now.items ++ value_orders (program_of c.args.program.now) c.args.frame.slots c.args.frame.names c.args.frame.operands c.args.frame.temporaries x) × (there ≡ c.args.frame.temporaries + value_takes x))) c.args.expression.now _
-    (is_differ c.args.expression.now c.in-Differ.left c.in-Differ.right c.deref-in-Differ.result.now c.deref-in-Differ-2.result.now c.in-Differ.is c.deref-in-Differ.ensures c.deref-in-Differ-2.ensures) c.append_differ.ensures
+    (ap value c.in-Differ.is ∙ ap (λ x. resolved.Differ (reference x) (reference c.in-Differ.right.value)) (sym c.deref-in-Differ.ensures) ∙ ap (λ x. resolved.Differ (reference c.deref-in-Differ.result.now) (reference x)) (sym c.deref-in-Differ-2.ensures)) c.append_differ.ensures
 
 pub append_value-append_reference_then-requires-in-IsObject : goal.append_value-append_reference_then-requires-in-IsObject
 append_value-append_reference_then-requires-in-IsObject t c =
-    (omega (arith, ap value_weight (is_object c.args.expression.now c.in-IsObject.object c.deref-in-IsObject.result.now c.in-IsObject.is c.deref-in-IsObject.ensures), c.decreases), tt)
+    (omega (arith, ap value_weight (ap value c.in-IsObject.is ∙ ap (λ x. resolved.IsObject (reference x)) (sym c.deref-in-IsObject.ensures)), c.decreases), tt)
 
 pub append_value-returns-in-IsObject : goal.append_value-returns-in-IsObject
 append_value-returns-in-IsObject t c =
     told (λ x. IfOk c.append_reference_then-in-IsObject.result (λ there. (orders c.append_reference_then-in-IsObject.new.actions.items ≡ orders c.args.actions.now.items ++ value_orders (program_of c.args.program.now) c.args.frame.slots c.args.frame.names c.args.frame.operands c.args.frame.temporaries x) × (there ≡ c.args.frame.temporaries + value_takes x))) c.args.expression.now _
-    (is_object c.args.expression.now c.in-IsObject.object c.deref-in-IsObject.result.now c.in-IsObject.is c.deref-in-IsObject.ensures) c.append_reference_then-in-IsObject.ensures
+    (ap value c.in-IsObject.is ∙ ap (λ x. resolved.IsObject (reference x)) (sym c.deref-in-IsObject.ensures)) c.append_reference_then-in-IsObject.ensures
 
 pub append_printed-append_values-requires : goal.append_printed-append_values-requires
 append_printed-append_values-requires t c =
@@ -219,15 +219,15 @@ append_differ-append_reference-requires-2 t c =
 
 pub append_reference-append_reference-requires : goal.append_reference-append_reference-requires
 append_reference-append_reference-requires t c =
-    (omega (arith, ap reference_weight (is_stored c.args.expression.now c.in-Stored.index c.in-Stored.operand c.deref.result.now c.in-Stored.is c.deref.ensures), c.decreases), tt)
+    (omega (arith, ap reference_weight (ap reference c.in-Stored.is ∙ ap (λ x. resolved.Stored c.in-Stored.index (reference x)) (sym c.deref.ensures)), c.decreases), tt)
 
 pub append_reference-append_value_then-requires : goal.append_reference-append_value_then-requires
 append_reference-append_value_then-requires t c =
-    (omega (arith, ap reference_weight (is_made c.args.expression.now c.in-Made.class c.deref-in-Made.result.now c.in-Made.is c.deref-in-Made.ensures), c.decreases), tt)
+    (omega (arith, ap reference_weight (ap reference c.in-Made.is ∙ ap (λ x. resolved.Made (value x)) (sym c.deref-in-Made.ensures)), c.decreases), tt)
 
 pub append_reference-append_reference_then-requires : goal.append_reference-append_reference_then-requires
 append_reference-append_reference_then-requires t c =
-    (omega (arith, ap reference_weight (is_initialized c.args.expression.now c.in-Initialized.operand c.deref-in-Initialized.result.now c.in-Initialized.is c.deref-in-Initialized.ensures), c.decreases), tt)
+    (omega (arith, ap reference_weight (ap reference c.in-Initialized.is ∙ ap (λ x. resolved.Initialized (reference x)) (sym c.deref-in-Initialized.ensures)), c.decreases), tt)
 
 pub append_values-append_value-requires : goal.append_values-append_value-requires
 append_values-append_value-requires t c =
