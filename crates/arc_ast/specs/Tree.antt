@@ -69,6 +69,7 @@ mutual
     If : ℕ → ExprTree → StmtTree → StmtTree
     IfElse : ℕ → ExprTree → StmtTree → StmtTree → StmtTree
     While : ℕ → ExprTree → StmtTree → StmtTree
+    DoWhile : ℕ → StmtTree → ExprTree → StmtTree
 
   pub data StmtTrees : Type 0 where
     no_stmts : StmtTrees
@@ -218,6 +219,7 @@ abbrev mutual
   stmt_tree (s.If' at c q a) = If at (expr_tree c) (stmt_tree a)
   stmt_tree (s.IfElse' at c q a r b) = IfElse at (expr_tree c) (stmt_tree a) (stmt_tree b)
   stmt_tree (s.While' at c q a) = While at (expr_tree c) (stmt_tree a)
+  stmt_tree (s.DoWhile' at q a c) = DoWhile at (stmt_tree a) (expr_tree c)
 
   pub row_stmts : {n : _} → Row_of-Stmt n → StmtTrees
   row_stmts end_of-Stmt = no_stmts

@@ -110,6 +110,8 @@ pub enum Stmt {
     If(usize, Expr, Box<Stmt>),
     IfElse(usize, Expr, Box<Stmt>, Box<Stmt>),
     While(usize, Expr, Box<Stmt>),
+    /// The body, and the test that comes after it.
+    DoWhile(usize, Box<Stmt>, Expr),
 }
 
 /// An `int` that a function or a method takes, with the place of its name.

@@ -16,7 +16,7 @@ use Rattle.arc_ast.specs.declared.tree.Visibility.{Visibility}
 use Rattle.arc_ast.specs.declared.tree.Visibility.TheVariants as seen
 use Rattle.arc_ast.specs.declared.tree.BinaryOperator.{BinaryOperator}
 use Rattle.arc_ast.specs.declared.tree.BinaryOperator.TheVariants as operators
-use Rattle.arc_ast.specs.Tree.{TypeTree, ExprTree, ExprTrees, VariableTree, StmtTree, StmtTrees, ParameterTree, ParametersTree, FunctionTree, HeadTree, MethodTree, FieldTree, InterfaceTree, ImplementationTree, UnitTree, Int, Id, Object, Integer, Text, Paren, Call, Nil, Itself, Name, Negate, Plus, Cast, Binary, Arrow, Assign, Send, SendSuper, no_exprs, and_expr, Block, Empty, Simple, Return, Variables, If, IfElse, While, no_stmts, and_stmt, Ints, CountAndTexts, begins}
+use Rattle.arc_ast.specs.Tree.{TypeTree, ExprTree, ExprTrees, VariableTree, StmtTree, StmtTrees, ParameterTree, ParametersTree, FunctionTree, HeadTree, MethodTree, FieldTree, InterfaceTree, ImplementationTree, UnitTree, Int, Id, Object, Integer, Text, Paren, Call, Nil, Itself, Name, Negate, Plus, Cast, Binary, Arrow, Assign, Send, SendSuper, no_exprs, and_expr, Block, Empty, Simple, Return, Variables, If, IfElse, While, DoWhile, no_stmts, and_stmt, Ints, CountAndTexts, begins}
 use Rattle.arc_form.specs.Kinds.{Kinds, ◌∪◌, mark, word, at, name, main, other_name, integer, text}
 use Rattle.arc_form.specs.Reader.{Reader, ◌>>=◌, ret, from}
 use Rattle.arc_form.specs.Reader as readers
@@ -294,7 +294,7 @@ objects = map (λ (n, (v, (others, end))). Variables n.0 (Object n.0 n.1) (v ∷
 -- ---- statements (C99, section 6.8)
 
 abbrev pub begins_stmt : Kinds
-begins_stmt = mark m.OpenBrace ∪ mark m.Semicolon ∪ word w.Return ∪ word w.If ∪ word w.While ∪ begins_expr
+begins_stmt = mark m.OpenBrace ∪ mark m.Semicolon ∪ word w.Return ∪ word w.If ∪ word w.While ∪ word w.Do ∪ begins_expr
 
 -- a list as the trees hold it
 abbrev pub stmts : List StmtTree → StmtTrees
@@ -331,6 +331,14 @@ if_else d = map (λ (at, (c, (a, b))). conditional at c a b) (key w.If ⨾ test 
 unfoldable pub while_do : ℕ → Part StmtTree
 while_do d = map (λ (at, (c, a)). While at c a) (key w.While ⨾ test ⨾ call (stmt (suc d)))
 
+-- what is after the body of a `do` statement
+unfoldable pub test_after : Part ExprTree
+test_after = map (λ (at, (c, end)). c) (key w.While ⨾ test ⨾ the m.Semicolon)
+
+-- a body, and the test after it (6.8.5.2)
+unfoldable pub do_while : ℕ → Part StmtTree
+do_while d = map (λ (at, (a, c)). DoWhile at a c) (key w.Do ⨾ call (stmt (suc d)) ⨾ test_after)
+
 -- a declaration, where a name and `*` are ahead, or a statement
 unfoldable pub by_name : ℕ → Part StmtTree
 by_name d = two_ahead name (mark m.Star) objects (call (stmt d))
@@ -348,7 +356,7 @@ unfoldable pub block : ℕ → Part StmtTree
 block d = map (λ (at, (all, end)). Block at (stmts all)) (the m.OpenBrace ⨾ items (suc d) ⨾ the m.CloseBrace)
 
 unfoldable pub worded : ℕ → Part StmtTree
-worded d = choose (word w.Return) returned (choose (word w.If) (if_else d) (choose (word w.While) (while_do d) simple))
+worded d = choose (word w.Return) returned (choose (word w.If) (if_else d) (choose (word w.While) (while_do d) (choose (word w.Do) (do_while d) simple)))
 
 unfoldable pub statement : ℕ → Part StmtTree
 statement d = choose (mark m.OpenBrace) (block d) (choose (mark m.Semicolon) empty (worded d))

@@ -33,6 +33,7 @@ pub fn begins_stmt(tokens: &[Token]) -> bool
         || sees_word(Word::Return, tokens)
         || sees_word(Word::If, tokens)
         || sees_word(Word::While, tokens)
+        || sees_word(Word::Do, tokens)
         || begins_expr(tokens)
 }
 

@@ -66,6 +66,8 @@ fn worded<'a>(alloc: Global, depth: usize, tokens: &'a [Token]) -> Read<'a, Stmt
         conditional(alloc, depth, tokens)
     } else if sees_word(Word::While, tokens) {
         repeated(alloc, depth, tokens)
+    } else if sees_word(Word::Do, tokens) {
+        do_while(alloc, depth, tokens)
     } else {
         simple(alloc, tokens)
     }
@@ -125,6 +127,32 @@ fn repeated<'a>(alloc: Global, depth: usize, tokens: &'a [Token]) -> Read<'a, St
     let (condition, rest) = test(alloc, rest)?;
     let (body, rest) = branch(alloc, depth + 1, rest)?;
     Ok((Stmt::While(at, Box::into_inner(condition), body), rest))
+}
+
+/// `do`, a body, and the test after it.
+#[cycle(stmts)]
+#[tactic(auto, unfolding(arc_grammar::specs::Grammar::do_while))]
+fn do_while<'a>(alloc: Global, depth: usize, tokens: &'a [Token]) -> Read<'a, Stmt>
+    requires { depth ≤ 200 }
+    ensures gives { Gives (λ x. (stmt_tree x.0, toks x.1.now)) result (reads (grammar.do_while depth) (toks tokens.now)) }
+    ensures shorter { IfOk result (λ x. length x.1.now < length tokens.now) }
+{
+    let (at, rest) = keyword(Word::Do, tokens)?;
+    let (body, rest) = branch(alloc, depth + 1, rest)?;
+    let (condition, rest) = test_after(alloc, rest)?;
+    Ok((Stmt::DoWhile(at, body, Box::into_inner(condition)), rest))
+}
+
+/// `while`, a test and `;`, after the body of a `do` statement.
+#[tactic(auto, unfolding(arc_grammar::specs::Grammar::test_after))]
+fn test_after<'a>(alloc: Global, tokens: &'a [Token]) -> Read<'a, Box<Expr>>
+    ensures gives { Gives (λ x. (expr_tree x.0.value, toks x.1.now)) result (reads grammar.test_after (toks tokens.now)) }
+    ensures shorter { IfOk result (λ x. length x.1.now < length tokens.now) }
+{
+    let (_, rest) = keyword(Word::While, tokens)?;
+    let (condition, rest) = test(alloc, rest)?;
+    let (_, rest) = expect(Mark::Semicolon, rest)?;
+    Ok((condition, rest))
 }
 
 /// A statement in a box.

@@ -24,6 +24,9 @@ decreases-otherwise l = 16 * length l.tokens.now + 9
 abbrev pub decreases-repeated : goal.decreases-repeated
 decreases-repeated l = 16 * length l.tokens.now + 3
 
+abbrev pub decreases-do_while : goal.decreases-do_while
+decreases-do_while l = 16 * length l.tokens.now + 3
+
 abbrev pub decreases-branch : goal.decreases-branch
 decreases-branch l = 16 * length l.tokens.now + 7
 
