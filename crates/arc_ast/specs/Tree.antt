@@ -2,6 +2,7 @@
 use Rattle.std.specs.Prelude.{ℕ, ℤ, List, [], ◌∷◌, Option, option_map}
 use Rattle.arc_ast.specs.declared.tree.Kind.{Kind}
 use Rattle.arc_ast.specs.declared.tree.BinaryOperator.{BinaryOperator}
+use Rattle.arc_ast.specs.declared.tree.Qual.{Qual}
 use Rattle.arc_ast.specs.declared.tree.Sign.{Sign}
 use Rattle.arc_ast.specs.declared.tree.Visibility.{Visibility}
 use Rattle.arc_ast.specs.declared.tree.TypeName.{TypeName}
@@ -52,10 +53,12 @@ mutual
     no_exprs : ExprTrees
     and_expr : ExprTree → ExprTrees → ExprTrees
 
--- a variable of a declaration, with the place of its name (C99, section 6.7)
+-- a variable of a declaration, with the place of its name (C99, section 6.7); a qualifier of its own, or else that of the whole declaration (ARC, "Ownership
+-- qualification")
 pub record VariableTree : Type 0 where
   pub at : ℕ
   pub name : List ℕ
+  pub qualifier : Option Qual
   pub initial : Option ExprTree
 
 mutual
@@ -203,7 +206,7 @@ expr_trees [] = no_exprs
 expr_trees (a ∷ others) = and_expr (expr_tree a) (expr_trees others)
 
 abbrev pub variable_tree : Variable → VariableTree
-variable_tree v = record { at = v.at; name = v.name.items; initial = option_map expr_tree v.initial }
+variable_tree v = record { at = v.at; name = v.name.items; qualifier = v.qualifier; initial = option_map expr_tree v.initial }
 
 abbrev pub variable_trees : List Variable → List VariableTree
 variable_trees [] = []

@@ -89,11 +89,13 @@ pub enum Expr {
     SendSuper(usize, usize, usize, Vec<u8>, Vec<Expr>),
 }
 
-/// A variable that a declaration makes, with the place of its name.
+/// A variable that a declaration makes, with the place of its name. The qualifier is its own, or else that of the
+/// whole declaration.
 #[derive(Drop)]
 pub struct Variable {
     pub at: usize,
     pub name: Vec<u8>,
+    pub qualifier: Option<Qual>,
     pub initial: Option<Expr>,
 }
 

@@ -6,7 +6,7 @@ use Rattle.arc_form.specs.Kinds.{none, ◌∪◌, mark, word}
 use Rattle.arc_form.specs.Operators.{marks_at}
 use Rattle.arc_form.specs.Form.{bounded}
 use Rattle.arc_form.proofs.Static.{Facts, fits, decided}
-use Rattle.arc_grammar.specs.Grammar.{Rule, expr, unary, binary, stmt, table, begins_expr, begins_stmt, further, more, continued, literal, field_name, arrows, next_argument, more_arguments, some_arguments, no_arguments, given, arguments, named, argument_part, next_part, more_parts, parts, sent, to_super, to_object, message, inside, cast_to_id, cast, product, starred, parenthesized, primary, postfix, negated, plus, prefixed, operations, assigned, operation, expression, full, initial, variable, next_variable, more_variables, declaration, reference, next_reference, more_references, objects, simple, empty, value, returned, test, otherwise, if_else, while_do, test_after, do_while, by_name, item, items, block, worded, statement, result_kind, parameter, next_parameter, more_parameters, void_parameters, some_parameters, parameters, texts_name, perhaps_const, texts, further_parameters, second, some_of_main, parameters_of_main, signature_of_main, other_signature, signature, braces, function_body, function, typed, next_typed, typed_parts, selector, sign, method_head, next_head, method_heads, perhaps_semicolon, method, methods, next_name, more_names, group, groups, fields, interface, implementation, class_names, top, tops, unit, body}
+use Rattle.arc_grammar.specs.Grammar.{Rule, expr, unary, binary, stmt, table, begins_expr, begins_stmt, further, more, continued, literal, field_name, arrows, next_argument, more_arguments, some_arguments, no_arguments, given, arguments, named, argument_part, next_part, more_parts, parts, sent, to_super, to_object, message, inside, cast_to_id, cast, product, starred, parenthesized, primary, postfix, negated, plus, prefixed, operations, assigned, operation, expression, full, initial, variable, next_variable, more_variables, declaration, qualified, reference, next_reference, more_references, references, objects, qualified_objects, simple, empty, value, returned, test, otherwise, if_else, while_do, test_after, do_while, by_name, by_qualifier, item, items, block, worded, statement, result_kind, parameter, next_parameter, more_parameters, void_parameters, some_parameters, parameters, texts_name, perhaps_const, texts, further_parameters, second, some_of_main, parameters_of_main, signature_of_main, other_signature, signature, braces, function_body, function, typed, next_typed, typed_parts, selector, sign, method_head, next_head, method_heads, perhaps_semicolon, method, methods, next_name, more_names, group, groups, fields, interface, implementation, class_names, top, tops, unit, body}
 
 abbrev pub facts : Rule → Facts
 facts expr = record { begins = begins_expr; goes_on = mark m.Arrow ∪ mark m.OpenParen ∪ mark m.Assign ∪ marks_at 1 table ∪ marks_at 2 table ∪ marks_at 3 table; bars = none }
@@ -17,7 +17,7 @@ facts (binary (suc (suc l))) = record { begins = begins_expr; goes_on = mark m.A
 facts (stmt d) = record { begins = begins_stmt; goes_on = none; bars = word w.Else }
 
 pub sure : (n : Rule) → fits facts body n ≡ true
-unfolding further more continued literal field_name arrows next_argument more_arguments some_arguments no_arguments given arguments named argument_part next_part more_parts parts sent to_super to_object message inside cast_to_id cast product starred parenthesized primary postfix negated plus prefixed operations assigned operation expression full initial variable next_variable more_variables declaration reference next_reference more_references objects simple empty value returned test otherwise if_else while_do test_after do_while by_name item items block worded statement result_kind parameter next_parameter more_parameters void_parameters some_parameters parameters texts_name perhaps_const texts further_parameters second some_of_main parameters_of_main signature_of_main other_signature signature braces function_body function typed next_typed typed_parts selector sign method_head next_head method_heads perhaps_semicolon method methods next_name more_names group groups fields interface implementation class_names top tops unit body
+unfolding further more continued literal field_name arrows next_argument more_arguments some_arguments no_arguments given arguments named argument_part next_part more_parts parts sent to_super to_object message inside cast_to_id cast product starred parenthesized primary postfix negated plus prefixed operations assigned operation expression full initial variable next_variable more_variables declaration qualified reference next_reference more_references references objects qualified_objects simple empty value returned test otherwise if_else while_do test_after do_while by_name by_qualifier item items block worded statement result_kind parameter next_parameter more_parameters void_parameters some_parameters parameters texts_name perhaps_const texts further_parameters second some_of_main parameters_of_main signature_of_main other_signature signature braces function_body function typed next_typed typed_parts selector sign method_head next_head method_heads perhaps_semicolon method methods next_name more_names group groups fields interface implementation class_names top tops unit body
 sure expr = refl
 sure unary = refl
 sure (binary zero) = refl
@@ -27,7 +27,7 @@ sure (stmt d) = refl
 
 -- and so does the whole
 pub sure_unit : decided facts unit ≡ true
-unfolding further more continued literal field_name arrows next_argument more_arguments some_arguments no_arguments given arguments named argument_part next_part more_parts parts sent to_super to_object message inside cast_to_id cast product starred parenthesized primary postfix negated plus prefixed operations assigned operation expression full initial variable next_variable more_variables declaration reference next_reference more_references objects simple empty value returned test otherwise if_else while_do by_name item items block worded statement result_kind parameter next_parameter more_parameters void_parameters some_parameters parameters texts_name perhaps_const texts further_parameters second some_of_main parameters_of_main signature_of_main other_signature signature braces function_body function typed next_typed typed_parts selector sign method_head next_head method_heads perhaps_semicolon method methods next_name more_names group groups fields interface implementation class_names top tops unit body
+unfolding further more continued literal field_name arrows next_argument more_arguments some_arguments no_arguments given arguments named argument_part next_part more_parts parts sent to_super to_object message inside cast_to_id cast product starred parenthesized primary postfix negated plus prefixed operations assigned operation expression full initial variable next_variable more_variables declaration qualified reference next_reference more_references references objects qualified_objects simple empty value returned test otherwise if_else while_do by_name by_qualifier item items block worded statement result_kind parameter next_parameter more_parameters void_parameters some_parameters parameters texts_name perhaps_const texts further_parameters second some_of_main parameters_of_main signature_of_main other_signature signature braces function_body function typed next_typed typed_parts selector sign method_head next_head method_heads perhaps_semicolon method methods next_name more_names group groups fields interface implementation class_names top tops unit body
 sure_unit = refl
 
 -- and a full-expression

@@ -10,6 +10,8 @@ use Rattle.arc_lex.specs.Tokens.{Tok, Sort}
 use Rattle.arc_lex.specs.Tokens as tokens
 use Rattle.arc_ast.specs.declared.tree.Kind.{Kind}
 use Rattle.arc_ast.specs.declared.tree.Kind.TheVariants as results
+use Rattle.arc_ast.specs.declared.tree.Qual.{Qual}
+use Rattle.arc_ast.specs.declared.tree.Qual.TheVariants as qualifiers
 use Rattle.arc_ast.specs.declared.tree.Sign.{Sign}
 use Rattle.arc_ast.specs.declared.tree.Sign.TheVariants as signs
 use Rattle.arc_ast.specs.declared.tree.Visibility.{Visibility}
@@ -264,32 +266,44 @@ full = bounded expression
 unfoldable pub initial : Part (Option ExprTree)
 initial = choose (mark m.Assign) (map (λ (sign, e). Some e) (the m.Assign ⨾ full)) (give None)
 
-unfoldable pub variable : Part VariableTree
-variable = map (λ (n, e). record { at = n.0; name = n.1; initial = e }) (called ⨾ initial)
+-- a variable that is qualified so
+unfoldable pub variable : Option Qual → Part VariableTree
+variable q = map (λ (n, e). record { at = n.0; name = n.1; qualifier = q; initial = e }) (called ⨾ initial)
 
 unfoldable pub next_variable : Part VariableTree
-next_variable = map (λ (comma, v). v) (the m.Comma ⨾ variable)
+next_variable = map (λ (comma, v). v) (the m.Comma ⨾ variable None)
 
 unfoldable pub more_variables : Part (List VariableTree)
 more_variables = many (mark m.Comma) next_variable
 
 -- a word, variables and `;`
 unfoldable pub declaration : Word → TypeTree → Part StmtTree
-declaration w type = map (λ (at, (v, (others, end))). Variables at type (v ∷ others)) (key w ⨾ variable ⨾ more_variables ⨾ the m.Semicolon)
+declaration w type = map (λ (at, (v, (others, end))). Variables at type (v ∷ others)) (key w ⨾ variable None ⨾ more_variables ⨾ the m.Semicolon)
 
--- `*` and a variable (6.7.5.1)
-unfoldable pub reference : Part VariableTree
-reference = map (λ (star, v). v) (the m.Star ⨾ variable)
+-- a variable after its own qualifier, or else with that of the whole declaration (ARC, "Ownership qualification")
+unfoldable pub qualified : Option Qual → Part VariableTree
+qualified outer = choose (word w.Strong) (map (λ (at, v). v) (key w.Strong ⨾ variable (Some qualifiers.Strong)))
+    (choose (word w.Weak) (map (λ (at, v). v) (key w.Weak ⨾ variable (Some qualifiers.Weak))) (variable outer))
 
-unfoldable pub next_reference : Part VariableTree
-next_reference = map (λ (comma, v). v) (the m.Comma ⨾ reference)
+-- `*` and a variable, perhaps with its own qualifier (6.7.5.1)
+unfoldable pub reference : Option Qual → Part VariableTree
+reference outer = map (λ (star, v). v) (the m.Star ⨾ qualified outer)
 
-unfoldable pub more_references : Part (List VariableTree)
-more_references = many (mark m.Comma) next_reference
+unfoldable pub next_reference : Option Qual → Part VariableTree
+next_reference outer = map (λ (comma, v). v) (the m.Comma ⨾ reference outer)
+
+unfoldable pub more_references : Option Qual → Part (List VariableTree)
+more_references outer = many (mark m.Comma) (next_reference outer)
 
 -- a class's name, variables with a `*` each, and `;`
+unfoldable pub references : Option Qual → Part ((ℕ × List ℕ) × List VariableTree)
+references outer = map (λ (n, (v, (others, end))). (n, v ∷ others)) (called ⨾ reference outer ⨾ more_references outer ⨾ the m.Semicolon)
+
 unfoldable pub objects : Part StmtTree
-objects = map (λ (n, (v, (others, end))). Variables n.0 (Object n.0 n.1) (v ∷ others)) (called ⨾ reference ⨾ more_references ⨾ the m.Semicolon)
+objects = map (λ (n, all). Variables n.0 (Object n.0 n.1) all) (references None)
+
+unfoldable pub qualified_objects : Word → Qual → Part StmtTree
+qualified_objects w q = map (λ (at, (n, all)). Variables at (Object n.0 n.1) all) (key w ⨾ references (Some q))
 
 -- ---- statements (C99, section 6.8)
 
@@ -343,11 +357,15 @@ do_while d = map (λ (at, (a, c)). DoWhile at a c) (key w.Do ⨾ call (stmt (suc
 unfoldable pub by_name : ℕ → Part StmtTree
 by_name d = two_ahead name (mark m.Star) objects (call (stmt d))
 
+-- a declaration that begins with a qualifier, or one without
+unfoldable pub by_qualifier : ℕ → Part StmtTree
+by_qualifier d = choose (word w.Strong) (qualified_objects w.Strong qualifiers.Strong) (choose (word w.Weak) (qualified_objects w.Weak qualifiers.Weak) (by_name d))
+
 unfoldable pub item : ℕ → Part StmtTree
-item d = choose (word w.Int) (declaration w.Int Int) (choose (word w.Id) (declaration w.Id Id) (by_name d))
+item d = choose (word w.Int) (declaration w.Int Int) (choose (word w.Id) (declaration w.Id Id) (by_qualifier d))
 
 abbrev pub begins_item : Kinds
-begins_item = word w.Int ∪ word w.Id ∪ begins_stmt
+begins_item = word w.Int ∪ word w.Id ∪ word w.Strong ∪ word w.Weak ∪ begins_stmt
 
 unfoldable pub items : ℕ → Part (List StmtTree)
 items d = many begins_item (item d)

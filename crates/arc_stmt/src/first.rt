@@ -42,5 +42,9 @@ pub fn begins_stmt(tokens: &[Token]) -> bool
 pub fn begins_item(tokens: &[Token]) -> bool
     ensures { result ≡ sees grammar.begins_item (toks tokens.now) }
 {
-    sees_word(Word::Int, tokens) || sees_word(Word::Id, tokens) || begins_stmt(tokens)
+    sees_word(Word::Int, tokens)
+        || sees_word(Word::Id, tokens)
+        || sees_word(Word::Strong, tokens)
+        || sees_word(Word::Weak, tokens)
+        || begins_stmt(tokens)
 }

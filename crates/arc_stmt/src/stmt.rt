@@ -8,8 +8,8 @@ ghost use Rattle.arc_grammar.specs.Grammar.{reads, rules, these};
 ghost use Rattle.arc_grammar.specs.Grammar as grammar;
 
 use crate::first::{begins_item, begins_stmt};
-use crate::variable::{declaration, objects};
-use arc_ast::tree::{Expr, Stmt, TypeName};
+use crate::variable::{declaration, objects, qualified_objects};
+use arc_ast::tree::{Expr, Qual, Stmt, TypeName};
 use arc_expr::full::full;
 use arc_form::fail::{Fail, Read};
 use arc_form::slice::after_first;
@@ -211,7 +211,7 @@ pub fn items<'a>(alloc: Global, depth: usize, tokens: &'a [Token]) -> Read<'a, V
 
 /// A declaration or a statement.
 #[cycle(stmts)]
-#[tactic(auto, unfolding(arc_grammar::specs::Grammar::item, arc_grammar::specs::Grammar::by_name))]
+#[tactic(auto, unfolding(arc_grammar::specs::Grammar::item))]
 fn item<'a>(alloc: Global, depth: usize, tokens: &'a [Token]) -> Read<'a, Stmt>
     requires { depth ≤ 201 }
     ensures gives { Gives (λ x. (stmt_tree x.0, toks x.1.now)) result (reads (grammar.item depth) (toks tokens.now)) }
@@ -221,6 +221,23 @@ fn item<'a>(alloc: Global, depth: usize, tokens: &'a [Token]) -> Read<'a, Stmt>
         declaration(alloc, Word::Int, TypeName::Int, tokens)
     } else if sees_word(Word::Id, tokens) {
         declaration(alloc, Word::Id, TypeName::Id, tokens)
+    } else {
+        by_qualifier(alloc, depth, tokens)
+    }
+}
+
+/// A declaration that begins with a qualifier, one that begins with a class's name, or a statement.
+#[cycle(stmts)]
+#[tactic(auto, unfolding(arc_grammar::specs::Grammar::by_qualifier, arc_grammar::specs::Grammar::by_name))]
+fn by_qualifier<'a>(alloc: Global, depth: usize, tokens: &'a [Token]) -> Read<'a, Stmt>
+    requires { depth ≤ 201 }
+    ensures gives { Gives (λ x. (stmt_tree x.0, toks x.1.now)) result (reads (grammar.by_qualifier depth) (toks tokens.now)) }
+    ensures shorter { IfOk result (λ x. length x.1.now < length tokens.now) }
+{
+    if sees_word(Word::Strong, tokens) {
+        qualified_objects(alloc, Word::Strong, Qual::Strong, tokens)
+    } else if sees_word(Word::Weak, tokens) {
+        qualified_objects(alloc, Word::Weak, Qual::Weak, tokens)
     } else if sees_reference(tokens) {
         objects(alloc, tokens)
     } else {

@@ -39,6 +39,9 @@ decreases-items l = 16 * length l.tokens.now + 9
 abbrev pub decreases-item : goal.decreases-item
 decreases-item l = 16 * length l.tokens.now + 8
 
+abbrev pub decreases-by_qualifier : goal.decreases-by_qualifier
+decreases-by_qualifier l = 16 * length l.tokens.now + 7
+
 -- the items so far and those to come are all
 abbrev pub invariant-items-items : goal.invariant-items-items
 invariant-items-items l = record {

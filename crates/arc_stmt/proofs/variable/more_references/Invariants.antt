@@ -10,7 +10,7 @@ use Rattle.arc_stmt.proofs.variable.more_references.Given as goal
 abbrev pub invariant-references : goal.invariant-references
 invariant-references l = record {
   rest : length l.rest ≤ length l.tokens;
-  all : with_row variable_tree l.fn.before.items (reads grammar.more_references (toks l.tokens)) ≡ with_row variable_tree l.all.items (reads grammar.more_references (toks l.rest));
+  all : with_row variable_tree l.fn.before.items (reads (grammar.more_references l.fn.outer) (toks l.tokens)) ≡ with_row variable_tree l.all.items (reads (grammar.more_references l.fn.outer) (toks l.rest));
 }
 
 abbrev pub decreases-references : goal.decreases-references
