@@ -1,5 +1,6 @@
 -- What is built of lists of statements, and one more.
 use Rattle.std.proofs.Common.{◌≡◌, ℕ, ◌+◌, ◌-◌, ◌<◌, ◌≤◌, List, [], ◌∷◌, ◌++◌, length, get_or, drop, Some, None, Vec, Global, option_map, refl, sym, ap, ◌∙◌}
+use Rattle.std.specs.List.{filter_map, cons_option}
 use Rattle.arc_ast.specs.declared.tree.Function.{Function}
 use Rattle.arc_ast.specs.declared.tree.Parameter.{Parameter}
 use Rattle.arc_ast.specs.declared.tree.Stmt as stmt
@@ -9,13 +10,13 @@ use Rattle.arc_ast.specs.declared.tree.Variable.{Variable}
 use Rattle.arc_ast.specs.Tree.{TypeTree, StmtTrees, ParameterTree, type_tree, expr_tree, stmt_tree, stmt_trees, variable_trees, parameter_trees, parameters_tree, function_trees}
 use Rattle.arc_spec.specs.Resolved as resolved
 use Rattle.arc_spec.specs.Resolved.{Commands, no_commands, and_command}
-use Rattle.arc_class.specs.Bodies.{named_parameters}
+use Rattle.arc_sites.specs.Sites.{named_parameters}
 use Rattle.arc_check.specs.declared.checked.Command as command
 use Rattle.arc_check.specs.declared.checked.Command.{Command}
 use Rattle.arc_check.specs.declared.checked.CheckedFunction.{CheckedFunction}
 use Rattle.arc_check.specs.private.Building.{ahead_of, function_of, functions_ahead}
 use Rattle.arc_check.specs.Checked as checked
-use Rattle.arc_check.specs.Resolving.{declared, resolved_variables, resolved_stmt, resolved_stmts, resolved_body, with_function, resolved_functions}
+use Rattle.arc_check.specs.Resolving.{declared, resolved_variables, resolved_stmt, resolved_stmts, resolved_body, resolved_function}
 use Rattle.arc_check.specs.Scopes.{Known, Scope, declare, with_parameters, leave, behind, behind_all, outermost}
 use Rattle.arc_check.proofs.Lists.{drop_turn, drop_end}
 use Rattle.arc_ast.proofs.Trees.{block_tree}
@@ -102,22 +103,22 @@ functions_ahead-none (b ∷ all) = ap (λ us. function_of b ∷ us) (functions_a
 -- one function more, with a body
 pub functions_turn : (known : Known) (xs : List Function) (i : ℕ) (x : Function) (named : List Parameter) (body : Vec Stmt Global) (items : List Stmt) (old : List CheckedFunction) (pushed new : Vec CheckedFunction Global) (a : CheckedFunction) (s : Scope) (whole : List resolved.Function) → i < length xs → x ≡ get_or xs i x
     → x.body ≡ Some body → items ≡ body.items → parameter_trees named ≡ named_parameters (parameters_tree x.parameters) → s ≡ outermost known → function_of a ≡ resolved_body (with_parameters s (parameter_trees named)) (stmt_trees items) → pushed.items ≡ old ++ a ∷ [] → new ≡ pushed
-    → whole ≡ functions_ahead old (resolved_functions known (function_trees (drop i xs))) → whole ≡ functions_ahead new.items (resolved_functions known (function_trees (drop (i + 1) xs)))
+    → whole ≡ functions_ahead old (filter_map (resolved_function known) (function_trees (drop i xs))) → whole ≡ functions_ahead new.items (filter_map (resolved_function known) (function_trees (drop (i + 1) xs)))
 functions_turn known xs i x named body items old pushed new a s whole l e o m p q h n v w =
-    let rest = resolved_functions known (function_trees (drop (i + 1) xs)) in
+    let rest = filter_map (resolved_function known) (function_trees (drop (i + 1) xs)) in
     let ps = named_parameters (parameters_tree x.parameters) in
     let own : function_of a ≡ resolved_body (with_parameters (outermost known) ps) (stmt_trees body.items) =
     h ∙ ap (λ b. resolved_body (with_parameters b (parameter_trees named)) (stmt_trees items)) q ∙ ap (λ us. resolved_body (with_parameters (outermost known) us) (stmt_trees items)) p ∙ ap (λ us. resolved_body (with_parameters (outermost known) ps) (stmt_trees us)) m in
-    w ∙ ap (λ us. functions_ahead old (resolved_functions known (function_trees us))) (drop_turn xs i x l e) ∙ ap (λ b. functions_ahead old (with_function known ps (option_map (λ b. stmt_trees b.items) b) rest)) o
+    w ∙ ap (λ us. functions_ahead old (filter_map (resolved_function known) (function_trees us))) (drop_turn xs i x l e) ∙ ap (λ b. functions_ahead old (cons_option (option_map (resolved_body (with_parameters (outermost known) ps)) (option_map (λ b. stmt_trees b.items) b)) rest)) o
     ∙ ap (λ f. functions_ahead old (f ∷ rest)) (sym own) ∙ sym (functions_ahead-push old a rest) ∙ ap (λ us. functions_ahead us rest) (sym n) ∙ ap (λ us. functions_ahead us.items rest) (sym v)
 
 -- one function more, without a body
 pub functions_pass : (known : Known) (xs : List Function) (i : ℕ) (x : Function) (old new : List CheckedFunction) (whole : List resolved.Function) → i < length xs → x ≡ get_or xs i x → x.body ≡ None → new ≡ old
-    → whole ≡ functions_ahead old (resolved_functions known (function_trees (drop i xs))) → whole ≡ functions_ahead new (resolved_functions known (function_trees (drop (i + 1) xs)))
+    → whole ≡ functions_ahead old (filter_map (resolved_function known) (function_trees (drop i xs))) → whole ≡ functions_ahead new (filter_map (resolved_function known) (function_trees (drop (i + 1) xs)))
 functions_pass known xs i x old new whole l e o n w =
-    let rest = resolved_functions known (function_trees (drop (i + 1) xs)) in
-    w ∙ ap (λ us. functions_ahead old (resolved_functions known (function_trees us))) (drop_turn xs i x l e)
-    ∙ ap (λ b. functions_ahead old (with_function known (named_parameters (parameters_tree x.parameters)) (option_map (λ b. stmt_trees b.items) b) rest)) o ∙ ap (λ us. functions_ahead us rest) (sym n)
+    let rest = filter_map (resolved_function known) (function_trees (drop (i + 1) xs)) in
+    w ∙ ap (λ us. functions_ahead old (filter_map (resolved_function known) (function_trees us))) (drop_turn xs i x l e)
+    ∙ ap (λ b. functions_ahead old (cons_option (option_map (resolved_body (with_parameters (outermost known) (named_parameters (parameters_tree x.parameters)))) (option_map (λ b. stmt_trees b.items) b)) rest)) o ∙ ap (λ us. functions_ahead us rest) (sym n)
 
-pub functions_end : (known : Known) (xs : List Function) (i : ℕ) (all : List CheckedFunction) (whole : List resolved.Function) → length xs ≤ i → whole ≡ functions_ahead all (resolved_functions known (function_trees (drop i xs))) → checked.functions all ≡ whole
-functions_end known xs i all whole l w = sym (w ∙ ap (λ us. functions_ahead all (resolved_functions known (function_trees us))) (drop_end xs i l) ∙ functions_ahead-none all)
+pub functions_end : (known : Known) (xs : List Function) (i : ℕ) (all : List CheckedFunction) (whole : List resolved.Function) → length xs ≤ i → whole ≡ functions_ahead all (filter_map (resolved_function known) (function_trees (drop i xs))) → checked.functions all ≡ whole
+functions_end known xs i all whole l w = sym (w ∙ ap (λ us. functions_ahead all (filter_map (resolved_function known) (function_trees us))) (drop_end xs i l) ∙ functions_ahead-none all)

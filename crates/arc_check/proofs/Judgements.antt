@@ -1,13 +1,12 @@
 -- What is told of expressions.
-use Rattle.std.proofs.Common.{◌≡◌, ℕ, ◌+◌, ◌<◌, Bool, true, false, ◌&&◌, ◌++◌, List, [], ◌∷◌, length, cond, not, get_or, drop, Vec, Box, Global, Option, Some, None, option_map, is_some, is_none, slice_get, refl, sym, ap, ◌∙◌}
+use Rattle.std.proofs.Common.{◌≡◌, ℕ, ◌+◌, ◌<◌, Bool, true, false, ◌&&◌, ◌++◌, List, [], ◌∷◌, length, cond, not, get_or, drop, Vec, Box, Global, Option, Some, None, option_map, is_some, is_none, slice_get, refl, sym, ap, ◌∙◌, if◌then◌else◌}
 use Rattle.arc_ast.specs.declared.tree.Kind.{Kind}
 use Rattle.arc_ast.specs.declared.tree.Kind.TheVariants as kinds_of
 use Rattle.arc_ast.specs.declared.tree.Expr as ast
 use Rattle.arc_ast.specs.declared.tree.Expr.{Expr}
 use Rattle.arc_ast.specs.declared.tree.BinaryOperator.{BinaryOperator}
 use Rattle.arc_ast.specs.Tree.{ExprTree, ExprTrees, Arrow, Assign, Binary, Cast, Itself, Negate, Plus, Send, SendSuper, TypeTree, expr_tree, expr_trees, place}
-use Rattle.arc_class.specs.Bodies.{broken_if}
-use Rattle.arc_class.specs.Broken.{Broken, first, earlier_of}
+use Rattle.arc_class.specs.Broken.{broken_if, Broken, first, earlier_of}
 use Rattle.arc_class.specs.Table.{number_of_class}
 use Rattle.arc_class.specs.declared.table.ClassId.{ClassId}
 use Rattle.arc_class.proofs.Firsts.{first_turn, first_both, first-append}
@@ -20,12 +19,14 @@ use Rattle.arc_check.specs.declared.judge.Judged.{Judged}
 use Rattle.arc_check.specs.declared.taken.Taken.{Taken}
 use Rattle.arc_check.specs.Fault.{told}
 use Rattle.arc_check.specs.Formats.{fits}
-use Rattle.arc_check.specs.private.Judging.{Judges, JudgesCall, JudgesWhole, counted, none_counted}
-use Rattle.arc_check.specs.Rules.{all_taken, arrow_kind, at_if, binary_kind, broken, broken_arguments, broken_at, broken_field, call_rule, count, is_assignable, is_object, is_unread, kind_if, kind_of, kinds, message_kind, most_taken, no_left, no_method, no_number, no_object, no_right, no_such, number_kind, one_too_many, other_rule, taken, unless}
+use Rattle.arc_check.specs.private.Judging.{Judges, JudgesCall, JudgesWhole, counted, none_counted, other_rule}
+use Rattle.arc_check.specs.Rules.{all_taken, arrow_kind, at_if, binary_kind, broken, broken_arguments, broken_at, broken_field, call_rule, is_assignable, is_object, is_unread, kind_if, kind_of, kinds, message_kind, no_left, no_method, no_number, no_object, no_right, no_such, number_kind, taken}
 use Rattle.arc_check.specs.Scopes.{Scope, callee, class_of, class_receiver, is_printf, own_class, result_kind, sent_class, static_class, super_class, super_kind}
 use Rattle.arc_check.proofs.Counting.{counted_both, past_is}
 use Rattle.arc_check.proofs.Lists.{drop_turn}
 use Rattle.arc_ast.proofs.Trees.{call_tree, send_tree, send_super_tree}
+use Rattle.arc_sites.specs.Violations.{violates}
+use Rattle.arc_check.specs.declared.taken.TheConstants.{MOST_TAKEN}
 
 -- what is told of an expression, and then one rule more of its kind
 pub with_rule : (s : Scope) (all : List Broken) (a : ExprTree) (rule : Option Kind → ℕ → List Broken) (fault new : Option Broken) (kind : Option Kind) (at : ℕ) → fault ≡ first all → kind ≡ kind_of s a → at ≡ place a
@@ -34,14 +35,14 @@ with_rule s all a rule fault new kind at f k p n =
     n ∙ ap (λ o. earlier_of o (first (rule kind at))) f ∙ ap (λ o. earlier_of (first all) (first (rule o at))) k ∙ ap (λ i. earlier_of (first all) (first (rule (kind_of s a) i))) p ∙ sym (first-append all (rule (kind_of s a) (place a)))
 
 -- what is told of a full-expression
-pub judges_whole : (s : Scope) (a : ExprTree) (judged new : Judged) (past : Option Broken) → Judges s none_counted a judged → new.kind ≡ judged.kind → past ≡ first (one_too_many judged.taken.past)
+pub judges_whole : (s : Scope) (a : ExprTree) (judged new : Judged) (past : Option Broken) → Judges s none_counted a judged → new.kind ≡ judged.kind → past ≡ first (violates 50 judged.taken.past)
     → option_map told new.fault ≡ earlier_of (option_map told judged.fault) past → JudgesWhole s a new
 judges_whole s a judged new past j k p f =
-    let over = one_too_many (slice_get (taken s a) most_taken) in
+    let over = violates 50 (slice_get (taken s a) MOST_TAKEN) in
     record {
       kind = k ∙ j.kind;
       fault = first_both (broken s a) over (option_map told judged.fault) past (option_map told new.fault) j.fault
-          (p ∙ ap (λ t. first (one_too_many t.past)) j.taken ∙ ap (λ o. first (one_too_many o)) (past_is most_taken (taken s a))) f;
+          (p ∙ ap (λ t. first (violates 50 t.past)) j.taken ∙ ap (λ o. first (violates 50 o)) (past_is MOST_TAKEN (taken s a))) f;
     }
 
 pub judges_call : (s : Scope) (before : Taken) (a : Expr) (at : ℕ) (name : Vec ℕ Global) (arguments : Vec Expr Global) (bytes : List ℕ) (all : List Expr) (judged : Judged) → a ≡ ast.Call at name arguments
@@ -170,7 +171,7 @@ judges_assign s before between at sign a b assignable left right both right_at l
 
 -- ---- messages
 
-unless_class : (some : Bool) (own : List Broken) (fault : Option Broken) → fault ≡ first own → cond some None fault ≡ first (unless some own)
+unless_class : (some : Bool) (own : List Broken) (fault : Option Broken) → fault ≡ first own → cond some None fault ≡ first (if some then [] else own)
 unless_class true own fault e = refl
 unless_class false own fault e = e
 
@@ -183,7 +184,7 @@ judges_message s before between at part r selector arguments class judged new pa
     let kind = message_kind s (class_receiver s r) (kind_of s r) (class_of s r) selector in
     let is : new.kind ≡ kind = k ∙ ap (λ x. message_kind s x judged.kind (option_map number_of_class judged.class) selector) e ∙ ap (λ x. message_kind s (class_receiver s r) x (option_map number_of_class judged.class) selector) j.kind
     ∙ ap (λ x. message_kind s (class_receiver s r) (kind_of s r) x selector) j.class in
-    let one = unless (is_some (class_receiver s r)) (broken s r ++ no_object (kind_of s r) (place r)) in
+    let one = if is_some (class_receiver s r) then [] else broken s r ++ no_object (kind_of s r) (place r) in
     let two = no_method s (class_receiver s r) (kind_of s r) (class_of s r) selector part in
     let gives = at_if (is_object kind) part in
     record {
@@ -222,9 +223,9 @@ taken_turn s xs i x so_far one whole l e o w =
     let rest = all_taken s (expr_trees (drop (i + 1) xs)) in
     w ∙ ap (λ us. counted so_far (all_taken s (expr_trees us))) (drop_turn xs i x l e) ∙ sym (counted_both so_far one (counted one rest) (taken s (expr_tree x)) rest o refl)
 
-pub count-expr_trees : (all : List Expr) → count (expr_trees all) ≡ length all
-count-expr_trees [] = refl
-count-expr_trees (a ∷ all) = rw (count-expr_trees all) refl
+pub count-expr_trees : (s : Scope) (all : List Expr) → length (kinds s (expr_trees all)) ≡ length all
+count-expr_trees s [] = refl
+count-expr_trees s (a ∷ all) = rw (count-expr_trees s all) refl
 
 and-assoc : (p q r : Bool) → (p && (q && r)) ≡ ((p && q) && r)
 and-assoc true q r = refl
@@ -240,11 +241,11 @@ fit_turn s xs i x kind wanted behind so_far fit now whole l e k h w n =
     ∙ and-assoc so_far fit (fits behind rest) ∙ ap (λ p. p && fits behind rest) (sym n)
 
 pub fault_turn : (s : Scope) (printed : Bool) (xs : List Expr) (i : ℕ) (x : Expr) (so_far one now whole : Option Broken) → i < length xs → x ≡ get_or xs i x
-    → one ≡ earlier_of (first (broken s (expr_tree x))) (first (unless printed (no_number (kind_of s (expr_tree x)) (place (expr_tree x))))) → now ≡ earlier_of so_far one
+    → one ≡ earlier_of (first (broken s (expr_tree x))) (first (if printed then [] else no_number (kind_of s (expr_tree x)) (place (expr_tree x)))) → now ≡ earlier_of so_far one
     → whole ≡ earlier_of so_far (first (broken_arguments s printed false (expr_trees (drop i xs)))) → whole ≡ earlier_of now (first (broken_arguments s printed false (expr_trees (drop (i + 1) xs))))
 fault_turn s printed xs i x so_far one now whole l e o n w =
     let own = broken s (expr_tree x) in
-    let kind = unless printed (no_number (kind_of s (expr_tree x)) (place (expr_tree x))) in
+    let kind = if printed then [] else no_number (kind_of s (expr_tree x)) (place (expr_tree x)) in
     first_turn (own ++ kind) (broken_arguments s printed false (expr_trees (drop (i + 1) xs))) so_far one now whole (o ∙ sym (first-append own kind)) n
     (w ∙ ap (λ us. earlier_of so_far (first (broken_arguments s printed false (expr_trees us)))) (drop_turn xs i x l e))
 
@@ -256,12 +257,12 @@ is_none-broken_at : (at : ℕ) (rule : Option ℕ) → is_none (first (broken_at
 is_none-broken_at at None = refl
 is_none-broken_at at (Some n) = refl
 
-other_is : (s : Scope) (before : Taken) (at : ℕ) (callee : Callee) (all : List Expr) (own : Option CheckFault) (inside : Arguments) (judged : Judged) → is_printf callee ≡ false → call_rule callee (expr_trees all) (kinds s (expr_trees all)) ≡ other_rule callee (count (expr_trees all))
+other_is : (s : Scope) (before : Taken) (at : ℕ) (callee : Callee) (all : List Expr) (own : Option CheckFault) (inside : Arguments) (judged : Judged) → is_printf callee ≡ false → call_rule callee (expr_trees all) (kinds s (expr_trees all)) ≡ other_rule callee (length (kinds s (expr_trees all)))
     → option_map told own ≡ first (broken_at at (other_rule callee (length all))) → judged.kind ≡ kind_if (is_none own) (result_kind callee) → judged.class ≡ None → option_map told judged.fault ≡ earlier_of (option_map told own) (option_map told inside.fault) → judged.taken ≡ inside.taken
     → option_map told inside.fault ≡ first (broken_arguments s false false (expr_trees all)) → inside.taken ≡ counted before (all_taken s (expr_trees all)) → JudgesCall s before at callee (expr_trees all) judged
 other_is s before at callee all own inside judged p r o k c f t i n =
     let rule = call_rule callee (expr_trees all) (kinds s (expr_trees all)) in
-    let same : other_rule callee (length all) ≡ rule = ap (other_rule callee) (sym (count-expr_trees all)) ∙ sym r in
+    let same : other_rule callee (length all) ≡ rule = ap (other_rule callee) (sym (count-expr_trees s all)) ∙ sym r in
     let told_own : option_map told own ≡ first (broken_at at rule) = o ∙ ap (λ x. first (broken_at at x)) same in
     record {
       kind = k ∙ ap (λ b. kind_if b (result_kind callee)) (sym (is_none-told own) ∙ ap is_none told_own ∙ is_none-broken_at at rule);

@@ -1,5 +1,6 @@
 -- What is told of methods, and one more.
-use Rattle.std.proofs.Common.{◌≡◌, ℕ, ◌+◌, ◌<◌, Bool, List, ◌++◌, length, get_or, drop, Option, refl, ap, ◌∙◌}
+use Rattle.std.proofs.Common.{◌≡◌, Some, ℕ, ◌+◌, ◌<◌, Bool, List, ◌++◌, length, get_or, drop, Option, refl, ap, ◌∙◌}
+use Rattle.std.specs.List.{flat_map}
 use Rattle.arc_ast.specs.declared.tree.Implementation.{Implementation}
 use Rattle.arc_ast.specs.declared.tree.Interface.{Interface}
 use Rattle.arc_ast.specs.declared.tree.Method.{Method}
@@ -9,41 +10,41 @@ use Rattle.arc_ast.specs.declared.tree.Stmt.{Stmt}
 use Rattle.arc_ast.specs.Tree.{parameter_trees, stmt_trees, head_tree, head_trees, method_tree, method_trees, interface_trees, implementation_trees}
 use Rattle.arc_class.specs.Broken.{Broken, first, earlier_of}
 use Rattle.arc_class.proofs.Firsts.{first_turn, first_both}
-use Rattle.arc_check.specs.Rules.{broken_parameters, broken_stmts, is_void, broken_head, broken_heads, broken_interfaces, broken_method, broken_methods, broken_implementations}
+use Rattle.arc_check.specs.Rules.{broken_parameters, broken_stmts, is_nothing, broken_head, broken_interface, broken_method, broken_implementation}
 use Rattle.arc_check.specs.Scopes.{Known, Scope, with_parameters, in_method}
 use Rattle.arc_check.proofs.Lists.{drop_turn}
 
 pub heads_turn : (xs : List MethodHead) (i : ℕ) (x : MethodHead) (so_far one now whole : Option Broken) → i < length xs → x ≡ get_or xs i x → one ≡ first (broken_head (head_tree x)) → now ≡ earlier_of so_far one
-    → whole ≡ earlier_of so_far (first (broken_heads (head_trees (drop i xs)))) → whole ≡ earlier_of now (first (broken_heads (head_trees (drop (i + 1) xs))))
+    → whole ≡ earlier_of so_far (first (flat_map broken_head (head_trees (drop i xs)))) → whole ≡ earlier_of now (first (flat_map broken_head (head_trees (drop (i + 1) xs))))
 heads_turn xs i x so_far one now whole l e o n w =
-    first_turn (broken_head (head_tree x)) (broken_heads (head_trees (drop (i + 1) xs))) so_far one now whole o n (w ∙ ap (λ us. earlier_of so_far (first (broken_heads (head_trees us)))) (drop_turn xs i x l e))
+    first_turn (broken_head (head_tree x)) (flat_map broken_head (head_trees (drop (i + 1) xs))) so_far one now whole o n (w ∙ ap (λ us. earlier_of so_far (first (flat_map broken_head (head_trees us)))) (drop_turn xs i x l e))
 
-pub interfaces_turn : (xs : List Interface) (i : ℕ) (x : Interface) (items : List MethodHead) (so_far one now whole : Option Broken) → i < length xs → x ≡ get_or xs i x → items ≡ x.methods.items → one ≡ first (broken_heads (head_trees items)) → now ≡ earlier_of so_far one
-    → whole ≡ earlier_of so_far (first (broken_interfaces (interface_trees (drop i xs)))) → whole ≡ earlier_of now (first (broken_interfaces (interface_trees (drop (i + 1) xs))))
+pub interfaces_turn : (xs : List Interface) (i : ℕ) (x : Interface) (items : List MethodHead) (so_far one now whole : Option Broken) → i < length xs → x ≡ get_or xs i x → items ≡ x.methods.items → one ≡ first (flat_map broken_head (head_trees items)) → now ≡ earlier_of so_far one
+    → whole ≡ earlier_of so_far (first (flat_map broken_interface (interface_trees (drop i xs)))) → whole ≡ earlier_of now (first (flat_map broken_interface (interface_trees (drop (i + 1) xs))))
 interfaces_turn xs i x items so_far one now whole l e m o n w =
-    first_turn (broken_heads (head_trees x.methods.items)) (broken_interfaces (interface_trees (drop (i + 1) xs))) so_far one now whole (o ∙ ap (λ us. first (broken_heads (head_trees us))) m) n
-    (w ∙ ap (λ us. earlier_of so_far (first (broken_interfaces (interface_trees us)))) (drop_turn xs i x l e))
+    first_turn (flat_map broken_head (head_trees x.methods.items)) (flat_map broken_interface (interface_trees (drop (i + 1) xs))) so_far one now whole (o ∙ ap (λ us. first (flat_map broken_head (head_trees us))) m) n
+    (w ∙ ap (λ us. earlier_of so_far (first (flat_map broken_interface (interface_trees us)))) (drop_turn xs i x l e))
 
 -- a method's parameters and its body stand in Vecs
-pub method_is : (known : Known) (class : Option ℕ) (m : Method) (s : Scope) (gives_nothing : Bool) (named : List Parameter) (body : List Stmt) (own inside both : Option Broken) → own ≡ first (broken_head (head_tree m.head)) → s ≡ in_method known class m.head.sign → gives_nothing ≡ is_void m.head.result
+pub method_is : (known : Known) (class : Option ℕ) (m : Method) (s : Scope) (gives_nothing : Bool) (named : List Parameter) (body : List Stmt) (own inside both : Option Broken) → own ≡ first (broken_head (head_tree m.head)) → s ≡ in_method known class m.head.sign → gives_nothing ≡ is_nothing (Some m.head.result)
     → named ≡ m.head.parameters.items → body ≡ m.body.items → inside ≡ first (broken_parameters s (parameter_trees named) ++ broken_stmts gives_nothing (with_parameters s (parameter_trees named)) (stmt_trees body)) → both ≡ earlier_of own inside
     → both ≡ first (broken_method known class (method_tree m))
 method_is known class m s gives_nothing named body own inside both o p g n b h e =
     let start = in_method known class m.head.sign in
     let ps = parameter_trees m.head.parameters.items in
-    first_both (broken_head (head_tree m.head)) (broken_parameters start ps ++ broken_stmts (is_void m.head.result) (with_parameters start ps) (stmt_trees m.body.items)) own inside both o (h ∙ rw (p, g, n, b) refl) e
+    first_both (broken_head (head_tree m.head)) (broken_parameters start ps ++ broken_stmts (is_nothing (Some m.head.result)) (with_parameters start ps) (stmt_trees m.body.items)) own inside both o (h ∙ rw (p, g, n, b) refl) e
 
 pub methods_turn : (known : Known) (class : Option ℕ) (xs : List Method) (i : ℕ) (x : Method) (so_far one now whole : Option Broken) → i < length xs → x ≡ get_or xs i x → one ≡ first (broken_method known class (method_tree x)) → now ≡ earlier_of so_far one
-    → whole ≡ earlier_of so_far (first (broken_methods known class (method_trees (drop i xs)))) → whole ≡ earlier_of now (first (broken_methods known class (method_trees (drop (i + 1) xs))))
+    → whole ≡ earlier_of so_far (first (flat_map (broken_method known class) (method_trees (drop i xs)))) → whole ≡ earlier_of now (first (flat_map (broken_method known class) (method_trees (drop (i + 1) xs))))
 methods_turn known class xs i x so_far one now whole l e o n w =
-    first_turn (broken_method known class (method_tree x)) (broken_methods known class (method_trees (drop (i + 1) xs))) so_far one now whole o n
-    (w ∙ ap (λ us. earlier_of so_far (first (broken_methods known class (method_trees us)))) (drop_turn xs i x l e))
+    first_turn (broken_method known class (method_tree x)) (flat_map (broken_method known class) (method_trees (drop (i + 1) xs))) so_far one now whole o n
+    (w ∙ ap (λ us. earlier_of so_far (first (flat_map (broken_method known class) (method_trees us)))) (drop_turn xs i x l e))
 
 pub implementations_turn : (known : Known) (xs : List Implementation) (i : ℕ) (x : Implementation) (name : List ℕ) (class : Option ℕ) (items : List Method) (so_far one now whole : Option Broken) → i < length xs → x ≡ get_or xs i x → name ≡ x.name.items → class ≡ known.class name
-    → items ≡ x.methods.items → one ≡ first (broken_methods known class (method_trees items)) → now ≡ earlier_of so_far one
-    → whole ≡ earlier_of so_far (first (broken_implementations known (implementation_trees (drop i xs)))) → whole ≡ earlier_of now (first (broken_implementations known (implementation_trees (drop (i + 1) xs))))
+    → items ≡ x.methods.items → one ≡ first (flat_map (broken_method known class) (method_trees items)) → now ≡ earlier_of so_far one
+    → whole ≡ earlier_of so_far (first (flat_map (broken_implementation known) (implementation_trees (drop i xs)))) → whole ≡ earlier_of now (first (flat_map (broken_implementation known) (implementation_trees (drop (i + 1) xs))))
 implementations_turn known xs i x name class items so_far one now whole l e p c m o n w =
     let own = known.class x.name.items in
-    first_turn (broken_methods known own (method_trees x.methods.items)) (broken_implementations known (implementation_trees (drop (i + 1) xs))) so_far one now whole
-    (o ∙ ap (λ us. first (broken_methods known class (method_trees us))) m ∙ ap (λ b. first (broken_methods known b (method_trees x.methods.items))) (c ∙ ap known.class p)) n
-    (w ∙ ap (λ us. earlier_of so_far (first (broken_implementations known (implementation_trees us)))) (drop_turn xs i x l e))
+    first_turn (flat_map (broken_method known own) (method_trees x.methods.items)) (flat_map (broken_implementation known) (implementation_trees (drop (i + 1) xs))) so_far one now whole
+    (o ∙ ap (λ us. first (flat_map (broken_method known class) (method_trees us))) m ∙ ap (λ b. first (flat_map (broken_method known b) (method_trees x.methods.items))) (c ∙ ap known.class p)) n
+    (w ∙ ap (λ us. earlier_of so_far (first (flat_map (broken_implementation known) (implementation_trees us)))) (drop_turn xs i x l e))

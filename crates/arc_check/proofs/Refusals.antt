@@ -1,5 +1,7 @@
 -- From what is told of a source and what is built of it to an answer.
 use Rattle.std.proofs.Common.{◌≡◌, ℕ, Bool, List, [], ◌++◌, Option, Some, None, option_map, refl, sym, ap, ◌∙◌}
+use Rattle.std.specs.Option.{unwrap_or}
+use Rattle.std.specs.List.{flat_map, filter_map}
 use Rattle.std.proofs.Math.Path.{fun_ext}
 use Rattle.arc_ast.specs.declared.tree.Kind.{Kind}
 use Rattle.arc_ast.specs.declared.tree.Sign.{Sign}
@@ -16,8 +18,8 @@ use Rattle.arc_fault.specs.declared.check.CheckFault.{CheckFault}
 use Rattle.arc_fault.specs.declared.check.CheckFault.TheVariants as f
 use Rattle.arc_check.specs.Checked as checked
 use Rattle.arc_check.specs.Fault.{told, Refuses}
-use Rattle.arc_check.specs.Resolving.{number, resolved_functions, resolved_methods, resolved_unit}
-use Rattle.arc_check.specs.Rules.{broken_functions, broken_interfaces, broken_implementations, broken_unit, known_of}
+use Rattle.arc_check.specs.Resolving.{resolved_function, resolved_methods, resolved_unit}
+use Rattle.arc_check.specs.Rules.{broken_function, broken_interface, broken_implementation, broken_unit, known_of}
 use Rattle.arc_check.specs.Scopes.{Known}
 use Rattle.arc_check.specs.private.Views.{known_in}
 use Rattle.arc_spec.specs.Classes.{Class, classes_of, descends}
@@ -58,24 +60,24 @@ known_is u table t =
 -- ---- what is told of a source
 
 pub told_of_unit : (u : UnitTree) (table : ClassTable) (fs : List FunctionTree) (is : List InterfaceTree) (ms : List ImplementationTree) (one two three between all : Option Broken) → IsTableOf u table → fs ≡ u.functions → is ≡ u.interfaces → ms ≡ u.implementations
-    → one ≡ first (broken_functions (known_in table) fs) → two ≡ first (broken_interfaces is) → three ≡ first (broken_implementations (known_in table) ms) → between ≡ earlier_of two three → all ≡ earlier_of one between → all ≡ first (broken_unit u)
+    → one ≡ first (flat_map (broken_function (known_in table)) fs) → two ≡ first (flat_map broken_interface is) → three ≡ first (flat_map (broken_implementation (known_in table)) ms) → between ≡ earlier_of two three → all ≡ earlier_of one between → all ≡ first (broken_unit u)
 told_of_unit u table fs is ms one two three between all t f i m o p q b a =
     let k = known_of u in
     let same = known_is u table t in
-    let functions : one ≡ first (broken_functions k u.functions) = o ∙ ap (λ us. first (broken_functions (known_in table) us)) f ∙ ap (λ known. first (broken_functions known u.functions)) same in
-    let interfaces : two ≡ first (broken_interfaces u.interfaces) = p ∙ ap (λ us. first (broken_interfaces us)) i in
-    let implementations : three ≡ first (broken_implementations k u.implementations) = q ∙ ap (λ us. first (broken_implementations (known_in table) us)) m ∙ ap (λ known. first (broken_implementations known u.implementations)) same in
-    first_both (broken_functions k u.functions) (broken_interfaces u.interfaces ++ broken_implementations k u.implementations) one between all functions
-    (first_both (broken_interfaces u.interfaces) (broken_implementations k u.implementations) two three between interfaces implementations b) a
+    let functions : one ≡ first (flat_map (broken_function k) u.functions) = o ∙ ap (λ us. first (flat_map (broken_function (known_in table)) us)) f ∙ ap (λ known. first (flat_map (broken_function known) u.functions)) same in
+    let interfaces : two ≡ first (flat_map broken_interface u.interfaces) = p ∙ ap (λ us. first (flat_map broken_interface us)) i in
+    let implementations : three ≡ first (flat_map (broken_implementation k) u.implementations) = q ∙ ap (λ us. first (flat_map (broken_implementation (known_in table)) us)) m ∙ ap (λ known. first (flat_map (broken_implementation known) u.implementations)) same in
+    first_both (flat_map (broken_function k) u.functions) (flat_map broken_interface u.interfaces ++ flat_map (broken_implementation k) u.implementations) one between all functions
+    (first_both (flat_map broken_interface u.interfaces) (flat_map (broken_implementation k) u.implementations) two three between interfaces implementations b) a
 
 -- ---- what is built of a source
 
 pub functions_are : (u : UnitTree) (table : ClassTable) (fs : List FunctionTree) (ms : List ImplementationTree) (old new : List CheckedFunction) → IsTableOf u table → fs ≡ u.functions → ms ≡ u.implementations
-    → checked.functions old ≡ resolved_functions (known_in table) fs → checked.functions new ≡ checked.functions old ++ resolved_methods (known_in table) ms → checked.functions new ≡ (resolved_unit u).functions
+    → checked.functions old ≡ filter_map (resolved_function (known_in table)) fs → checked.functions new ≡ checked.functions old ++ flat_map (resolved_methods (known_in table)) ms → checked.functions new ≡ (resolved_unit u).functions
 functions_are u table fs ms old new t f m o n =
     let k = known_in table in
-    n ∙ ap (λ us. us ++ resolved_methods k ms) o ∙ ap (λ us. resolved_functions k us ++ resolved_methods k ms) f ∙ ap (λ us. resolved_functions k u.functions ++ resolved_methods k us) m
-    ∙ ap (λ known. resolved_functions known u.functions ++ resolved_methods known u.implementations) (known_is u table t)
+    n ∙ ap (λ us. us ++ flat_map (resolved_methods k) ms) o ∙ ap (λ us. filter_map (resolved_function k) us ++ flat_map (resolved_methods k) ms) f ∙ ap (λ us. filter_map (resolved_function k) u.functions ++ flat_map (resolved_methods k) us) m
+    ∙ ap (λ known. filter_map (resolved_function known) u.functions ++ flat_map (resolved_methods known) u.implementations) (known_is u table t)
 
 abbrev program : List resolved.Function → ℕ → List Class → resolved.Program
 program functions main classes = record { functions = functions; main = main; classes = classes }
@@ -84,4 +86,4 @@ program_is : (f g : List resolved.Function) (m n : ℕ) (c d : List Class) → f
 program_is f g m n c d a b e = rw (a, b, e) refl
 
 pub resolved_is : (u : UnitTree) (table : ClassTable) (new : Checked) → IsTableOf u table → checked.functions new.functions.items ≡ (resolved_unit u).functions → new.main ≡ table.main → classes_of new.classes.items ≡ classes_of table.classes.items → checked.program_of new ≡ resolved_unit u
-resolved_is u table new t f m c = program_is _ _ _ _ _ _ f (m ∙ sym (ap number t.main)) (c ∙ t.classes)
+resolved_is u table new t f m c = program_is _ _ _ _ _ _ f (m ∙ sym (ap (λ n. unwrap_or n 0) t.main)) (c ∙ t.classes)

@@ -1,12 +1,13 @@
 -- What is told of statements and of functions.
 use Rattle.std.proofs.Common.{◌≡◌, ℕ, ◌+◌, ◌<◌, Bool, List, ◌++◌, length, get_or, drop, Vec, Global, Option, Some, option_map, refl, sym, ap, ◌∙◌}
+use Rattle.std.specs.List.{flat_map}
 use Rattle.arc_ast.specs.declared.tree.Stmt as stmt
 use Rattle.arc_ast.specs.declared.tree.Stmt.{Stmt}
 use Rattle.arc_ast.specs.declared.tree.Function.{Function}
 use Rattle.arc_ast.specs.Tree.{ParameterTree, stmt_tree, stmt_trees, function_tree, function_trees}
 use Rattle.arc_class.specs.Broken.{Broken, first, earlier_of}
 use Rattle.arc_class.proofs.Firsts.{first_turn}
-use Rattle.arc_check.specs.Rules.{broken_parameters, broken_stmt, broken_stmts, broken_body, broken_function, broken_functions}
+use Rattle.arc_check.specs.Rules.{broken_parameters, broken_stmt, broken_stmts, broken_body, broken_function}
 use Rattle.arc_check.specs.Scopes.{Known, Scope, outermost, with_parameters, leave, behind, behind_all}
 use Rattle.arc_check.proofs.Lists.{drop_turn}
 use Rattle.arc_ast.proofs.Trees.{block_tree}
@@ -31,9 +32,9 @@ block_behind a at all items e m s = ap (λ us. leave s (behind_all s (stmt_trees
 
 -- one function more is told
 pub functions_turn : (known : Known) (xs : List Function) (i : ℕ) (x : Function) (so_far one now whole : Option Broken) → i < length xs → x ≡ get_or xs i x → one ≡ first (broken_function known (function_tree x)) → now ≡ earlier_of so_far one
-    → whole ≡ earlier_of so_far (first (broken_functions known (function_trees (drop i xs)))) → whole ≡ earlier_of now (first (broken_functions known (function_trees (drop (i + 1) xs))))
+    → whole ≡ earlier_of so_far (first (flat_map (broken_function known) (function_trees (drop i xs)))) → whole ≡ earlier_of now (first (flat_map (broken_function known) (function_trees (drop (i + 1) xs))))
 functions_turn known xs i x so_far one now whole l e o n w =
-    first_turn (broken_function known (function_tree x)) (broken_functions known (function_trees (drop (i + 1) xs))) so_far one now whole o n (w ∙ ap (λ us. earlier_of so_far (first (broken_functions known (function_trees us)))) (drop_turn xs i x l e))
+    first_turn (broken_function known (function_tree x)) (flat_map (broken_function known) (function_trees (drop (i + 1) xs))) so_far one now whole o n (w ∙ ap (λ us. earlier_of so_far (first (flat_map (broken_function known) (function_trees us)))) (drop_turn xs i x l e))
 
 -- a function's body stands in a Vec, if there is one
 pub body_is : (gives_nothing : Bool) (known : Known) (s : Scope) (named : List ParameterTree) (maybe : Option (Vec Stmt Global)) (body : Vec Stmt Global) (items : List Stmt) → maybe ≡ Some body → items ≡ body.items → s ≡ outermost known

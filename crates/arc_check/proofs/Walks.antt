@@ -4,8 +4,7 @@ use Rattle.arc_ast.specs.declared.tree.Parameter.{Parameter}
 use Rattle.arc_ast.specs.declared.tree.Variable.{Variable}
 use Rattle.arc_ast.specs.Tree as tree
 use Rattle.arc_ast.specs.Tree.{TypeTree, expr_tree, parameter_trees, variable_trees}
-use Rattle.arc_class.specs.Broken.{Broken, first, earlier_of}
-use Rattle.arc_class.specs.Bodies.{broken_if}
+use Rattle.arc_class.specs.Broken.{Broken, first, earlier_of, broken_if}
 use Rattle.arc_class.proofs.Firsts.{first_turn}
 use Rattle.arc_check.specs.Rules.{broken_parameters, broken_initial, broken_variables}
 use Rattle.arc_check.specs.Scopes.{Scope, is_full, declare, with_variables}

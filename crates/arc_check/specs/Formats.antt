@@ -1,5 +1,6 @@
 -- What a format of printf says (C99, section 7.19.6.1), without flags, widths and precisions.
-use Rattle.std.specs.Prelude.{ℕ, Bool, true, false, ◌||◌, ◌&&◌, ◌==◌, List, [], ◌∷◌, Option, Some, None, if◌then◌else◌}
+use Rattle.std.specs.Prelude.{ℕ, Bool, true, false, ◌||◌, ◌&&◌, ◌==◌, List, [], ◌∷◌, Option, if◌then◌else◌}
+use Rattle.std.specs.Option.{option_map_or}
 use Rattle.arc_ast.specs.declared.tree.Kind.{Kind}
 use Rattle.arc_ast.specs.declared.tree.Kind.TheVariants as k
 use Rattle.arc_check.specs.declared.format.Begun.{Begun}
@@ -21,9 +22,7 @@ reading PercentLL byte = if byte == 100 then Gives (Decimal k.Long) else Gives U
 -- a conversion that has begun where the format ends is unknown
 abbrev pub unfinished : Begun → List Part
 unfinished Nothing = []
-unfinished Percent = Unknown ∷ []
-unfinished PercentL = Unknown ∷ []
-unfinished PercentLL = Unknown ∷ []
+unfinished _ = Unknown ∷ []
 
 -- the part that was read, if one was, before those that follow
 abbrev pub before : Reading → (Begun → List Part) → List Part
@@ -39,9 +38,7 @@ parts begun (byte ∷ bytes) = before (reading begun byte) (λ next. parts next 
 abbrev pub conversions : List Part → List Part
 conversions [] = []
 conversions (Plain byte ∷ others) = conversions others
-conversions (Decimal kind ∷ others) = Decimal kind ∷ conversions others
-conversions (Character ∷ others) = Character ∷ conversions others
-conversions (Unknown ∷ others) = Unknown ∷ conversions others
+conversions (part ∷ others) = part ∷ conversions others
 
 abbrev pub wanted : List ℕ → List Part
 wanted format = conversions (parts Nothing format)
@@ -55,10 +52,8 @@ suits_kind _ _ = false
 -- whether a conversion may print a value; one that has no kind breaks no rule about kinds
 abbrev pub suits : Part → Option Kind → Bool
 suits (Plain byte) kind = true
-suits (Decimal wanted) None = true
-suits (Decimal wanted) (Some kind) = suits_kind wanted kind
-suits Character None = true
-suits Character (Some kind) = suits_kind k.Int kind
+suits (Decimal wanted) kind = option_map_or (suits_kind wanted) kind true
+suits Character kind = option_map_or (suits_kind k.Int) kind true
 suits Unknown kind = false
 
 -- whether there is a value for each conversion, which suits it, and no other value

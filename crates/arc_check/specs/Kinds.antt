@@ -19,7 +19,4 @@ wider _ _ = k.Int
 -- the kind of what an operator gives that computes in a kind: `!=` gives an int (C99, section 6.5.9)
 abbrev pub given_kind : BinaryOperator → Kind → Kind
 given_kind o.NotEqual kind = k.Int
-given_kind o.Add kind = kind
-given_kind o.Subtract kind = kind
-given_kind o.Multiply kind = kind
-given_kind o.Divide kind = kind
+given_kind _ kind = kind

@@ -1,5 +1,6 @@
 -- The resolved program of a source that breaks no rule.
-use Rattle.std.specs.Prelude.{ℕ, ◌-◌, pos, Bool, false, List, [], ◌∷◌, ◌++◌, Option, Some, None, option_map, if◌then◌else◌}
+use Rattle.std.specs.Prelude.{ℕ, ◌-◌, pos, Bool, false, List, [], ◌∷◌, ◌++◌, map, flat_map, filter_map, Option, Some, None, option_map, option_and_then, unwrap_or, if◌then◌else◌}
+use Rattle.std.specs.Option.{option_map_or}
 use Rattle.arc_ast.specs.declared.tree.BinaryOperator.{BinaryOperator}
 use Rattle.arc_ast.specs.declared.tree.BinaryOperator.TheVariants as o
 use Rattle.arc_ast.specs.declared.tree.Kind.{Kind}
@@ -8,8 +9,9 @@ use Rattle.arc_ast.specs.declared.tree.Sign.{Sign}
 use Rattle.arc_ast.specs.declared.tree.Sign.TheVariants as signs
 use Rattle.arc_ast.specs.Tree as tree
 use Rattle.arc_ast.specs.Tree.{TypeTree, ExprTree, ExprTrees, Integer, Text, Paren, Call, Name, Negate, Plus, Cast, Binary, Arrow, Assign, Send, SendSuper, no_exprs, and_expr, VariableTree, StmtTree, StmtTrees, Block, Empty, Simple, Variables, If, IfElse, While, no_stmts, and_stmt, ParameterTree, FunctionTree, MethodTree, ImplementationTree, UnitTree}
+use Rattle.arc_spec.specs.Classes.{same_sign}
 use Rattle.arc_spec.specs.Resolved.{Value, Reference, Number, ReadByte, Print, Negated, Combined, Converted, Local, Assigned, Invoked, Sent, SentSuper, SentTo, SentToSuper, Field, FieldAssigned, Differ, IsObject, Nil, Itself, Variable, Stored, Made, Initialized, Values, no_values, and_value, Command, Sequence, Evaluate, EvaluateReference, Begin, Return, Choose, Repeat, Commands, no_commands, and_command, Function, Program}
-use Rattle.arc_class.specs.Bodies.{named_parameters}
+use Rattle.arc_sites.specs.Sites.{named_parameters}
 use Rattle.arc_class.specs.Running.{classes}
 use Rattle.arc_class.specs.Names.{number_of, is_main}
 use Rattle.arc_class.specs.Table.{number_of_class}
@@ -20,7 +22,7 @@ use Rattle.arc_check.specs.declared.format.Begun.TheVariants.{Nothing}
 use Rattle.arc_check.specs.Kinds.{literal_kind, wider, given_kind}
 use Rattle.arc_check.specs.Formats.{parts, printed}
 use Rattle.arc_check.specs.Scopes as scopes
-use Rattle.arc_check.specs.Scopes.{Known, Scope, declare, with_parameters, leave, behind, behind_all, outermost, in_method, callee, result_kind, is_printf, own_field, above, class_receiver, object_result, super_kind, class_of}
+use Rattle.arc_check.specs.Scopes.{Known, Scope, declare, with_parameters, leave, behind, behind_all, outermost, in_method, callee, result_kind, is_printf, own_field, class_receiver, object_result, super_kind, class_of}
 use Rattle.arc_check.specs.Rules.{is_object, known_of}
 
 -- What an expression is resolved to, which breaks no rule: a number of a kind, or an object. What stands below for one that breaks a rule is never asked for.
@@ -41,10 +43,6 @@ abbrev pub object_in : Resolution → Reference
 object_in (Gives kind a) = Nil
 object_in (Refers r) = r
 
-abbrev pub kind_or_int : Option Kind → Kind
-kind_or_int None = k.Int
-kind_or_int (Some kind) = kind
-
 -- a value of one kind as one of another (C99, section 6.3.1.8; for an assignment section 6.5.16.1, and for a returned value section 6.8.6.4)
 abbrev pub as_kind : Kind → Kind → Value → Value
 as_kind k.Long k.Int a = Converted k.Long a
@@ -57,11 +55,6 @@ converted kind a = as_kind kind (kind_in a) (number_in a)
 
 abbrev pub int_in : Resolution → Value
 int_in = converted k.Int
-
--- a number that there is
-abbrev pub number : Option ℕ → ℕ
-number None = 0
-number (Some n) = n
 
 -- ---- operators and calls
 
@@ -95,7 +88,7 @@ behind_first (and_value a others) = others
 abbrev pub called : Callee → ExprTrees → Values → Value
 called Printf arguments all = Print (printed (parts Nothing (format arguments))) (behind_first all)
 called GetChar arguments all = ReadByte
-called (Defined result count body) arguments all = Invoked (number body) all
+called (Defined result count body) arguments all = Invoked (unwrap_or body 0) all
 called Unknown arguments all = ReadByte
 
 -- a value that printf prints keeps its kind, and any other argument is an int
@@ -106,12 +99,10 @@ argument printed a = if printed then number_in a else int_in a
 
 -- a field of an object, and an assignment to it
 abbrev pub field : Reference → Option FoundField → Resolution
-field r None = Gives k.Int (Number (pos 0))
-field r (Some f) = Gives k.Int (Field r (number_of_class f.owner) f.index)
+field r found = option_map_or (λ f. Gives k.Int (Field r (number_of_class f.owner) f.index)) found (Gives k.Int (Number (pos 0)))
 
 abbrev pub field_assigned : Reference → Option FoundField → Resolution → Resolution
-field_assigned r None a = a
-field_assigned r (Some f) a = Gives k.Int (FieldAssigned r (number_of_class f.owner) f.index (int_in a))
+field_assigned r found a = option_map_or (λ f. Gives k.Int (FieldAssigned r (number_of_class f.owner) f.index (int_in a))) found a
 
 -- what a name means: a variable, or else a field of `self`; and an assignment to it
 abbrev pub named : Option scopes.Local → Option FoundField → Resolution
@@ -134,31 +125,29 @@ class_value _ class = Local 0
 -- What gives an object is built in: `alloc` and `new` of classes, and `init` of objects. (`retain` and `autorelease` are refused by the rules of ownership, and
 -- stand here as `alloc` and `init`.)
 abbrev pub to_class : Option Kind → Value → (selector : ℕ) → Values → Resolution
-to_class kind class selector all = if is_object kind then Refers (Made class) else Gives (kind_or_int kind) (Sent class selector all)
+to_class kind class selector all = if is_object kind then Refers (Made class) else Gives (unwrap_or kind k.Int) (Sent class selector all)
 
 abbrev pub to_object : Option Kind → Reference → (selector : ℕ) → Values → Resolution
-to_object kind r selector all = if is_object kind then Refers (Initialized r) else Gives (kind_or_int kind) (SentTo r selector all)
+to_object kind r selector all = if is_object kind then Refers (Initialized r) else Gives (unwrap_or kind k.Int) (SentTo r selector all)
 
 -- a message to a class, or else to an object with a static class (OPL, "Messages to self and super")
 abbrev pub sent : Scope → ExprTree → (class static : Option ℕ) → Resolution → List ℕ → Values → Resolution
 sent s receiver (Some class) static a name all =
-    to_class (s.known.result (Some class) signs.Class name) (class_value receiver class) (number (s.known.selector name)) all
-sent s receiver None static a name all = to_object (object_result s.known static name) (object_in a) (number (s.known.selector name)) all
+    to_class (s.known.result (Some class) signs.Class name) (class_value receiver class) (unwrap_or (s.known.selector name) 0) all
+sent s receiver None static a name all = to_object (object_result s.known static name) (object_in a) (unwrap_or (s.known.selector name) 0) all
 
 -- a message to `super`: it goes to `self`, and its method is looked up from the superclass of the class whose method has it
 abbrev pub made_by_super : Sign → Resolution
-made_by_super signs.Class = Refers (Made (Local 0))
-made_by_super signs.Instance = Refers (Initialized Itself)
+made_by_super sign = Refers (if same_sign sign signs.Class then Made (Local 0) else Initialized Itself)
 
 abbrev pub super_value : Sign → (from selector : ℕ) → Values → Value
-super_value signs.Class from selector all = SentSuper from selector all
-super_value signs.Instance from selector all = SentToSuper from selector all
+super_value sign from selector all = if same_sign sign signs.Class then SentSuper from selector all else SentToSuper from selector all
 
 abbrev pub to_super : Sign → Option Kind → (from selector : ℕ) → Values → Resolution
-to_super sign kind from selector all = if is_object kind then made_by_super sign else Gives (kind_or_int kind) (super_value sign from selector all)
+to_super sign kind from selector all = if is_object kind then made_by_super sign else Gives (unwrap_or kind k.Int) (super_value sign from selector all)
 
 abbrev pub sent_super : Scope → List ℕ → Values → Resolution
-sent_super s name all = to_super s.sign (super_kind s name) (number (above s.known s.class)) (number (s.known.selector name)) all
+sent_super s name all = to_super s.sign (super_kind s name) (unwrap_or (option_and_then s.known.superclass s.class) 0) (unwrap_or (s.known.selector name) 0) all
 
 -- ---- expressions
 
@@ -214,8 +203,7 @@ put n a = Evaluate (Assigned n a)
 
 -- an int takes what is written, if something is (C99, section 6.7.8)
 abbrev pub initialized : Scope → (n : ℕ) → Option ExprTree → Commands → Commands
-initialized s n None others = others
-initialized s n (Some a) others = and_command (put n (as_int s a)) others
+initialized s n a others = option_map_or (λ e. and_command (put n (as_int s e)) others) a others
 
 -- An int begins anew, with 0, each time that its declaration runs (this project's own choice); then it takes its value. It is in scope where that is written, and
 -- is 0 there (C99, section 6.2.1).
@@ -225,14 +213,12 @@ begun_int s n a others = and_command (put n (Number (pos 0))) (initialized s n a
 -- A variable that names objects begins anew with nil, and then names what is written (ARC, "Ownership qualification"). No command is needed for the nil: its
 -- function begins with it, and each end of its block drops the variable.
 abbrev pub begun_object : Scope → (n : ℕ) → Option ExprTree → Commands → Commands
-begun_object s n None others = others
-begun_object s n (Some a) others = and_command (Begin n (object_in (resolved s a))) others
+begun_object s n a others = option_map_or (λ e. and_command (Begin n (object_in (resolved s e))) others) a others
 
 -- a declared variable, from the scope before it and the one behind it
 abbrev pub declared : TypeTree → (before after : Scope) → Option ExprTree → Commands → Commands
 declared tree.Int before after a others = begun_int after before.next a others
-declared tree.Id before after a others = begun_object after before.names a others
-declared (tree.Object at class) before after a others = begun_object after before.names a others
+declared _ before after a others = begun_object after before.names a others
 
 -- a declaration gives its variables their values in turn, each time that it runs
 abbrev pub resolved_variables : TypeTree → Scope → List VariableTree → Commands
@@ -259,30 +245,20 @@ abbrev mutual
 abbrev pub resolved_body : Scope → StmtTrees → Function
 resolved_body s body = record { slots = (behind_all s body).next; names = (behind_all s body).names; body = resolved_stmts s body }
 
-abbrev pub with_function : Known → List ParameterTree → Option StmtTrees → List Function → List Function
-with_function known parameters None others = others
-with_function known parameters (Some body) others = resolved_body (with_parameters (outermost known) parameters) body ∷ others
+-- a function, if it has a body
+abbrev pub resolved_function : Known → FunctionTree → Option Function
+resolved_function known f = option_map (resolved_body (with_parameters (outermost known) (named_parameters f.parameters))) f.body
 
--- the functions with a body, in their order
-abbrev pub resolved_functions : Known → List FunctionTree → List Function
-resolved_functions known [] = []
-resolved_functions known (f ∷ others) = with_function known (named_parameters f.parameters) f.body (resolved_functions known others)
+abbrev pub resolved_method : Known → (class : Option ℕ) → MethodTree → Function
+resolved_method known class m = resolved_body (with_parameters (in_method known class m.head.sign) m.head.parameters) m.body
 
--- the methods of an implementation of a class, in front of other functions
-abbrev pub with_methods : Known → (class : Option ℕ) → List MethodTree → List Function → List Function
-with_methods known class [] others = others
-with_methods known class (m ∷ rest) others =
-    resolved_body (with_parameters (in_method known class m.head.sign) m.head.parameters) m.body ∷ with_methods known class rest others
+abbrev pub resolved_methods : Known → ImplementationTree → List Function
+resolved_methods known i = map (resolved_method known (known.class i.name)) i.methods
 
--- the methods of all implementations, in their order
-abbrev pub resolved_methods : Known → List ImplementationTree → List Function
-resolved_methods known [] = []
-resolved_methods known (i ∷ others) = with_methods known (known.class i.name) i.methods (resolved_methods known others)
-
--- the program of a source: its functions with a body, and then its methods
+-- the program of a source: its functions with a body, and then its methods, in their order
 abbrev pub resolved_unit : UnitTree → Program
 resolved_unit u = record {
-  functions = resolved_functions (known_of u) u.functions ++ resolved_methods (known_of u) u.implementations;
-  main = number (number_of is_main u.functions);
+  functions = filter_map (resolved_function (known_of u)) u.functions ++ flat_map (resolved_methods (known_of u)) u.implementations;
+  main = unwrap_or (number_of is_main u.functions) 0;
   classes = classes u;
 }

@@ -1,18 +1,20 @@
 -- The rules for functions and methods: names, kinds, counts of arguments, formats, and the number of variables.
-use Rattle.std.specs.Prelude.{ℕ, suc, Bool, true, false, ◌&&◌, ◌||◌, not, List, [], ◌∷◌, ◌++◌, length, Option, Some, None, is_some, is_none, nat_lt, nat_eq, slice_get, if◌then◌else◌}
+use Rattle.std.specs.Prelude.{ℕ, Bool, true, false, ◌&&◌, ◌||◌, not, List, [], ◌∷◌, ◌++◌, length, flat_map, Option, Some, None, is_some, is_none, option_map, option_and_then, nat_lt, nat_eq, slice_get, if◌then◌else◌}
+use Rattle.std.specs.Option.{option_map_or}
 use Rattle.arc_ast.specs.declared.tree.Kind.{Kind}
 use Rattle.arc_ast.specs.declared.tree.Kind.TheVariants as k
 use Rattle.arc_ast.specs.declared.tree.BinaryOperator.{BinaryOperator}
 use Rattle.arc_ast.specs.declared.tree.BinaryOperator.TheVariants as o
 use Rattle.arc_ast.specs.Tree as tree
 use Rattle.arc_ast.specs.Tree.{TypeTree, ExprTree, ExprTrees, Integer, Text, Paren, Call, Nil, Itself, Name, Negate, Plus, Cast, Binary, Arrow, Assign, Send, SendSuper, no_exprs, and_expr, place, VariableTree, StmtTree, StmtTrees, Block, Empty, Simple, Return, Variables, If, IfElse, While, no_stmts, and_stmt, ParameterTree, FunctionTree, HeadTree, MethodTree, InterfaceTree, ImplementationTree, UnitTree}
-use Rattle.arc_class.specs.Bodies.{broken_if, named_parameters}
-use Rattle.arc_class.specs.Broken.{Broken}
+use Rattle.arc_class.specs.Broken.{broken_if, Broken}
+use Rattle.arc_sites.specs.Sites.{named_parameters}
 use Rattle.arc_class.specs.Classes.{class_number, superclass, known_result, any_result, selector_number}
 use Rattle.arc_class.specs.Fields.{known_field}
 use Rattle.arc_class.specs.Running.{classes}
 use Rattle.arc_class.specs.declared.table.FoundField.{FoundField}
 use Rattle.arc_class.specs.Names.{known}
+use Rattle.arc_sites.specs.Violations.{violates}
 use Rattle.arc_spec.specs.Classes.{descends}
 use Rattle.arc_check.specs.declared.body.TheConstants.{MOST_PARAMETERS}
 use Rattle.arc_check.specs.declared.taken.TheConstants.{MOST_TAKEN}
@@ -22,10 +24,6 @@ use Rattle.arc_check.specs.Formats.{wanted, fits}
 use Rattle.arc_check.specs.Kinds.{literal_kind, wider}
 use Rattle.arc_check.specs.Scopes.{Known, Local, Scope, is_full, declare, with_parameters, leave, behind, outermost, in_method, callee, result_kind, is_printf, own_class, own_field, is_visible, class_receiver, sent_kind, super_kind, class_of}
 use Rattle.arc_check.specs.Scopes as scopes
-
-abbrev pub count : ExprTrees → ℕ
-count no_exprs = 0
-count (and_expr a others) = suc (count others)
 
 abbrev pub is_text : ExprTree → Bool
 is_text (Text at bytes) = true
@@ -37,29 +35,20 @@ prints (and_expr (Text at format) others) (_ ∷ kinds) = fits (wanted format) k
 prints _ _ = false
 
 abbrev pub unless_so : Bool → ℕ → Option ℕ
-unless_so true number = None
-unless_so false number = Some number
+unless_so so number = if so then None else Some number
 
--- the number of the rule that a call with so many arguments breaks, but for printf: 45 ArgumentCount for another number than the function takes (C99, section
--- 6.5.2.2), and 41 UnknownName for a name that is no function's; the line for printf is never asked for (`call_rule`)
-abbrev pub other_rule : Callee → (arguments : ℕ) → Option ℕ
-other_rule Printf arguments = unless_so (nat_eq arguments 0) 45
-other_rule GetChar arguments = unless_so (nat_eq arguments 0) 45
-other_rule (Defined result wanted body) arguments = unless_so (nat_eq arguments wanted) 45
-other_rule Unknown arguments = Some 41
-
--- the number of the rule that a call breaks at its function's name, if it breaks one: for printf 46 Format (section 7.19.6.1)
+-- the number of the rule that a call breaks at its function's name, if it breaks one: 46 Format for printf (C99, section 7.19.6.1), else 45 ArgumentCount for
+-- another number of arguments than the function takes (section 6.5.2.2), and 41 UnknownName for a name that is no function's
 abbrev pub call_rule : Callee → ExprTrees → List (Option Kind) → Option ℕ
 call_rule Printf arguments kinds = unless_so (prints arguments kinds) 46
-call_rule GetChar arguments kinds = other_rule GetChar (count arguments)
-call_rule (Defined result wanted body) arguments kinds = other_rule (Defined result wanted body) (count arguments)
+call_rule GetChar arguments kinds = unless_so (nat_eq (length kinds) 0) 45
+call_rule (Defined result wanted body) arguments kinds = unless_so (nat_eq (length kinds) wanted) 45
 call_rule Unknown arguments kinds = Some 41
 
 -- ---- kinds
 
 abbrev pub kind_if : Bool → Kind → Option Kind
-kind_if true kind = Some kind
-kind_if false kind = None
+kind_if so kind = if so then Some kind else None
 
 -- the kind of an operand with which an operator computes: none, where it is no number
 abbrev pub number_kind : Option Kind → Option Kind
@@ -69,9 +58,7 @@ number_kind _ = None
 
 -- the kind of a sum, from those of its operands: none, where one has none
 abbrev pub both_kinds : Option Kind → Option Kind → Option Kind
-both_kinds (Some a) (Some b) = Some (wider a b)
-both_kinds (Some a) None = None
-both_kinds None b = None
+both_kinds a b = option_and_then (λ one. option_map (wider one) b) a
 
 -- `!=` gives an int, whatever its operands are (C99, section 6.5.9)
 abbrev pub binary_kind : BinaryOperator → Option Kind → Option Kind → Option Kind
@@ -84,8 +71,7 @@ is_object _ = false
 
 -- fields are ints
 abbrev pub field_kind : Scope → Option FoundField → Option Kind
-field_kind s None = None
-field_kind s (Some f) = kind_if (is_visible s f) k.Int
+field_kind s = option_and_then (λ f. kind_if (is_visible s f) k.Int)
 
 -- the kind of what a name means: a variable, or else a field of `self`
 abbrev pub name_kind : Scope → Option Local → List ℕ → Option Kind
@@ -133,28 +119,26 @@ abbrev mutual
   kinds s no_exprs = []
   kinds s (and_expr a others) = kind_of s a ∷ kinds s others
 
--- 43 KindMismatch, at an expression's place: it gives no value where one is needed (C99, section 6.3.2.2)
+-- whether an expression of a kind gives nothing
+abbrev pub is_nothing : Option Kind → Bool
+is_nothing (Some k.Void) = true
+is_nothing _ = false
+
+-- 43 KindMismatch, at an expression's place: it gives no value where one is needed (C99, section 6.3.2.2); what has no kind breaks another rule
 abbrev pub no_value : Option Kind → ℕ → List Broken
-no_value (Some k.Void) at = record { at = at; number = 43 } ∷ []
-no_value _ at = []
+no_value kind at = broken_if (is_nothing kind) at 43
 
 -- the same where it gives no number and one is needed
 abbrev pub no_number : Option Kind → ℕ → List Broken
-no_number (Some k.Void) at = record { at = at; number = 43 } ∷ []
-no_number (Some k.Object) at = record { at = at; number = 43 } ∷ []
-no_number _ at = []
+no_number kind at = broken_if (is_nothing kind || is_object kind) at 43
 
 -- and where it gives no object and one is needed
 abbrev pub no_object : Option Kind → ℕ → List Broken
-no_object None at = []
-no_object (Some k.Object) at = []
-no_object (Some _) at = record { at = at; number = 43 } ∷ []
+no_object kind at = broken_if (is_some kind && not (is_object kind)) at 43
 
--- An object is assigned to what names objects, and a number to an int (C99, section 6.5.16.1); what has no kind breaks another rule.
+-- An object is assigned to what names objects, and a number to an int (C99, section 6.5.16.1).
 abbrev pub no_such : (wanted given : Option Kind) → ℕ → List Broken
-no_such None given at = []
-no_such (Some k.Object) given at = no_object given at
-no_such (Some _) given at = no_number given at
+no_such wanted given at = if is_none wanted then [] else if is_object wanted then no_object given at else no_number given at
 
 -- An operator computes with numbers; `!=` compares two numbers or two objects, and tells an object and a number at the second (C99, section 6.5.9).
 abbrev pub no_left : BinaryOperator → Option Kind → ℕ → List Broken
@@ -162,28 +146,19 @@ no_left o.NotEqual a at = no_value a at
 no_left _ a at = no_number a at
 
 abbrev pub no_right : BinaryOperator → Option Kind → Option Kind → ℕ → List Broken
-no_right o.NotEqual (Some k.Object) (Some k.Object) at = []
-no_right o.NotEqual (Some k.Object) (Some _) at = record { at = at; number = 43 } ∷ []
-no_right o.NotEqual _ b at = no_number b at
+no_right o.NotEqual a b at = if is_object a then no_object b at else no_number b at
 no_right _ a b at = no_number b at
 
 abbrev pub broken_at : ℕ → Option ℕ → List Broken
-broken_at at None = []
-broken_at at (Some number) = record { at = at; number = number } ∷ []
-
-abbrev pub unless : Bool → List Broken → List Broken
-unless true all = []
-unless false all = all
+broken_at at rule = option_map_or (λ number. record { at = at; number = number } ∷ []) rule []
 
 -- 41 UnknownName, at a field's name: there is no such field. 49 FieldHidden, there too: it may not be named here (OPL, "The Scope of Instance Variables").
 abbrev pub no_field : Scope → Option FoundField → ℕ → List Broken
-no_field s None at = record { at = at; number = 41 } ∷ []
-no_field s (Some f) at = broken_if (not (is_visible s f)) at 49
+no_field s found at = option_map_or (λ f. broken_if (not (is_visible s f)) at 49) found (record { at = at; number = 41 } ∷ [])
 
 -- 41 UnknownName: a name that means neither a variable nor a field of `self` (C99, section 6.5.1)
 abbrev pub broken_name : Scope → Option Local → List ℕ → ℕ → List Broken
-broken_name s None name at = no_field s (own_field s name) at
-broken_name s (Some local) name at = []
+broken_name s local name at = if is_some local then [] else no_field s (own_field s name) at
 
 -- `self` is known in methods alone, and in a class method it is only sent messages: 41 UnknownName, and 43 KindMismatch (this project's own choice)
 abbrev pub broken_itself : Scope → ℕ → List Broken
@@ -202,12 +177,10 @@ no_method s class kind static selector part =
 -- 44 NotAssignable, at the `=`: the left side is no variable, no field and not `self` (C99, section 6.5.16). A receiver is a class or has to be an object.
 abbrev mutual
   pub broken : Scope → ExprTree → List Broken
-  broken s (Integer at n) = []
   broken s (Text at bytes) = record { at = at; number = 43 } ∷ []
   broken s (Paren at a) = broken s a
   broken s (Call at name arguments) =
       broken_at at (call_rule (callee s.known name) arguments (kinds s arguments)) ++ broken_arguments s (is_printf (callee s.known name)) (is_printf (callee s.known name)) arguments
-  broken s (Nil at) = []
   broken s (Itself at) = broken_itself s at
   broken s (Name at name) = broken_name s (s.variables name) name at
   broken s (Negate at a) = broken s a ++ no_number (kind_of s a) (place a)
@@ -219,16 +192,17 @@ abbrev mutual
       (broken s a ++ no_object (kind_of s a) (place a)) ++ broken_field s (kind_of s a) (s.known.field (class_of s a) name) name_at
   broken s (Assign at sign a b) = (broken s a ++ broken_if (not (is_assignable a)) sign 44) ++ (broken s b ++ no_such (kind_of s a) (kind_of s b) (place b))
   broken s (Send at part receiver selector arguments) =
-      (unless (is_some (class_receiver s receiver)) (broken s receiver ++ no_object (kind_of s receiver) (place receiver))
+      ((if is_some (class_receiver s receiver) then [] else broken s receiver ++ no_object (kind_of s receiver) (place receiver))
       ++ no_method s (class_receiver s receiver) (kind_of s receiver) (class_of s receiver) selector part)
       ++ broken_arguments s false false arguments
   broken s (SendSuper at part super_at selector arguments) = broken_if (is_none (super_kind s selector)) part 42 ++ broken_arguments s false false arguments
+  broken s _ = []
 
   -- what printf prints may be of any kind here, since a wrong one breaks the rule of formats
   pub broken_arguments : Scope → (printed text_may_begin : Bool) → ExprTrees → List Broken
   broken_arguments s printed text_may_begin no_exprs = []
   broken_arguments s printed text_may_begin (and_expr a others) =
-      (unless (text_may_begin && is_text a) (broken s a) ++ unless printed (no_number (kind_of s a) (place a))) ++ broken_arguments s printed false others
+      ((if text_may_begin && is_text a then [] else broken s a) ++ (if printed then [] else no_number (kind_of s a) (place a))) ++ broken_arguments s printed false others
 
 -- ---- how many objects an expression takes
 
@@ -252,11 +226,8 @@ is_unread s _ = false
 -- name of a field too), each message that gives an object, at its selector's first part, and each assignment of one, at its `=` (this project's own choice).
 abbrev mutual
   pub taken : Scope → ExprTree → List ℕ
-  taken s (Integer at n) = []
-  taken s (Text at bytes) = []
   taken s (Paren at a) = taken s a
   taken s (Call at name arguments) = all_taken s arguments
-  taken s (Nil at) = []
   taken s (Itself at) = at_if (is_some (own_class s)) at
   taken s (Name at name) = at_if (name_takes s (s.variables name) name) at
   taken s (Negate at a) = taken s a
@@ -269,23 +240,16 @@ abbrev mutual
       (taken s receiver ++ at_if (is_object (message_kind s (class_receiver s receiver) (kind_of s receiver) (class_of s receiver) selector)) part) ++ all_taken s arguments
   taken s (SendSuper at part super_at selector arguments) =
       (at_if (is_some (own_class s)) super_at ++ at_if (is_object (super_kind s selector)) part) ++ all_taken s arguments
+  taken s _ = []
 
   pub all_taken : Scope → ExprTrees → List ℕ
   all_taken s no_exprs = []
   all_taken s (and_expr a others) = taken s a ++ all_taken s others
 
--- how many objects a full-expression takes at most (this project's own choice)
-abbrev pub most_taken : ℕ
-most_taken = MOST_TAKEN
-
--- 50 TooManyLocals, at the place at which one more is taken
-abbrev pub one_too_many : Option ℕ → List Broken
-one_too_many None = []
-one_too_many (Some at) = record { at = at; number = 50 } ∷ []
-
--- all that is wrong with a full-expression (C99, section 6.8)
+-- All that is wrong with a full-expression (C99, section 6.8). 50 TooManyLocals, at the place at which it takes one object more than is allowed (this project's own
+-- choice).
 abbrev pub broken_whole : Scope → ExprTree → List Broken
-broken_whole s a = broken s a ++ one_too_many (slice_get (taken s a) most_taken)
+broken_whole s a = broken s a ++ violates 50 (slice_get (taken s a) MOST_TAKEN)
 
 -- and with one that has to give a number
 abbrev pub broken_number : Scope → ExprTree → List Broken
@@ -300,12 +264,10 @@ broken_test s a = broken_whole s a ++ no_value (kind_of s a) (place a)
 -- the kind of what a variable of a type holds
 abbrev pub type_kind : TypeTree → Kind
 type_kind tree.Int = k.Int
-type_kind tree.Id = k.Object
-type_kind (tree.Object at name) = k.Object
+type_kind _ = k.Object
 
 abbrev pub broken_initial : Scope → TypeTree → Option ExprTree → List Broken
-broken_initial s type None = []
-broken_initial s type (Some a) = broken_whole s a ++ no_such (Some (type_kind type)) (kind_of s a) (place a)
+broken_initial s type a = option_map_or (λ e. broken_whole s e ++ no_such (Some (type_kind type)) (kind_of s e) (place e)) a []
 
 -- 50 TooManyLocals too: a variable past the 200th, at its name; a variable is in scope in its own initializer (C99, section 6.2.1)
 abbrev pub broken_variables : TypeTree → Scope → List VariableTree → List Broken
@@ -340,53 +302,31 @@ abbrev mutual
   broken_stmts gives_nothing s no_stmts = []
   broken_stmts gives_nothing s (and_stmt a others) = broken_stmt gives_nothing s a ++ broken_stmts gives_nothing (behind s a) others
 
-abbrev pub is_void : Kind → Bool
-is_void k.Void = true
-is_void _ = false
-
 -- the parameters of a mere declaration are counted alone
 abbrev pub broken_body : (gives_nothing : Bool) → Known → List ParameterTree → Option StmtTrees → List Broken
 broken_body gives_nothing known parameters None = []
 broken_body gives_nothing known parameters (Some body) =
     broken_parameters (outermost known) parameters ++ broken_stmts gives_nothing (with_parameters (outermost known) parameters) body
 
--- how many parameters a function has at most (this project's own choice)
-abbrev pub most_parameters : ℕ
-most_parameters = MOST_PARAMETERS
-
--- 45 ArgumentCount too: a function with more parameters, at its name
+-- 45 ArgumentCount too: a function with more parameters than are allowed, at its name (this project's own choice)
 abbrev pub broken_function : Known → FunctionTree → List Broken
 broken_function known f =
-    broken_if (nat_lt most_parameters (length (named_parameters f.parameters))) f.at 45 ++ broken_body (is_void f.result) known (named_parameters f.parameters) f.body
-
-abbrev pub broken_functions : Known → List FunctionTree → List Broken
-broken_functions known [] = []
-broken_functions known (f ∷ others) = broken_function known f ++ broken_functions known others
+    broken_if (nat_lt MOST_PARAMETERS (length (named_parameters f.parameters))) f.at 45 ++ broken_body (is_nothing (Some f.result)) known (named_parameters f.parameters) f.body
 
 -- 45 ArgumentCount too: a method with more parameters, declared or defined, at its sign
 abbrev pub broken_head : HeadTree → List Broken
-broken_head h = broken_if (nat_lt most_parameters (length h.parameters)) h.at 45
+broken_head h = broken_if (nat_lt MOST_PARAMETERS (length h.parameters)) h.at 45
 
-abbrev pub broken_heads : List HeadTree → List Broken
-broken_heads [] = []
-broken_heads (h ∷ others) = broken_head h ++ broken_heads others
-
-abbrev pub broken_interfaces : List InterfaceTree → List Broken
-broken_interfaces [] = []
-broken_interfaces (i ∷ others) = broken_heads i.methods ++ broken_interfaces others
+abbrev pub broken_interface : InterfaceTree → List Broken
+broken_interface i = flat_map broken_head i.methods
 
 abbrev pub broken_method : Known → (class : Option ℕ) → MethodTree → List Broken
 broken_method known class m = broken_head m.head
     ++ (broken_parameters (in_method known class m.head.sign) m.head.parameters
-    ++ broken_stmts (is_void m.head.result) (with_parameters (in_method known class m.head.sign) m.head.parameters) m.body)
+    ++ broken_stmts (is_nothing (Some m.head.result)) (with_parameters (in_method known class m.head.sign) m.head.parameters) m.body)
 
-abbrev pub broken_methods : Known → (class : Option ℕ) → List MethodTree → List Broken
-broken_methods known class [] = []
-broken_methods known class (m ∷ others) = broken_method known class m ++ broken_methods known class others
-
-abbrev pub broken_implementations : Known → List ImplementationTree → List Broken
-broken_implementations known [] = []
-broken_implementations known (i ∷ others) = broken_methods known (known.class i.name) i.methods ++ broken_implementations known others
+abbrev pub broken_implementation : Known → ImplementationTree → List Broken
+broken_implementation known i = flat_map (broken_method known (known.class i.name)) i.methods
 
 -- what is known of the names of a source
 abbrev pub known_of : UnitTree → Known
@@ -403,4 +343,4 @@ known_of u = record {
 
 -- all that is wrong in the functions and the methods of a source
 abbrev pub broken_unit : UnitTree → List Broken
-broken_unit u = broken_functions (known_of u) u.functions ++ (broken_interfaces u.interfaces ++ broken_implementations (known_of u) u.implementations)
+broken_unit u = flat_map (broken_function (known_of u)) u.functions ++ (flat_map broken_interface u.interfaces ++ flat_map (broken_implementation (known_of u)) u.implementations)

@@ -1,5 +1,6 @@
 -- What names mean at a place of a body.
-use Rattle.std.specs.Prelude.{ℕ, suc, ◌+◌, Bool, true, false, ◌||◌, not, nat_lt, nat_eq, List, [], ◌∷◌, Option, Some, None, is_some, codes, if◌then◌else◌}
+use Rattle.std.specs.Prelude.{ℕ, suc, ◌+◌, Bool, true, false, ◌||◌, not, nat_lt, nat_eq, List, fold, Option, Some, None, is_some, option_map, option_and_then, unwrap_or, codes, if◌then◌else◌}
+use Rattle.std.specs.Option.{option_map_or}
 use Rattle.std.specs.Str.{bytes_eq}
 use Rattle.arc_ast.specs.declared.tree.Kind.{Kind}
 use Rattle.arc_ast.specs.declared.tree.Kind.TheVariants as k
@@ -9,6 +10,7 @@ use Rattle.arc_ast.specs.declared.tree.Visibility.{Visibility}
 use Rattle.arc_ast.specs.declared.tree.Visibility.TheVariants as v
 use Rattle.arc_ast.specs.Tree as tree
 use Rattle.arc_ast.specs.Tree.{TypeTree, ExprTree, Paren, Cast, Itself, Name, Assign, Send, SendSuper, VariableTree, StmtTree, StmtTrees, Block, Empty, Simple, Return, Variables, If, IfElse, While, no_stmts, and_stmt, ParameterTree}
+use Rattle.arc_spec.specs.Classes.{same_sign}
 use Rattle.arc_class.specs.declared.table.Declared.{Declared}
 use Rattle.arc_class.specs.declared.table.FoundField.{FoundField}
 use Rattle.arc_class.specs.Table.{number_of_class}
@@ -45,13 +47,9 @@ pub record Scope : Type 0 where
   pub next : ℕ
   pub names : ℕ
 
--- how many parameters and variables, of both sorts together, a body has at most (this project's own choice)
-abbrev pub most_variables : ℕ
-most_variables = MOST_VARIABLES
-
--- whether there is place for one variable more
+-- whether there is place for one variable more: how many parameters and variables, of both sorts together, a body has at most is this project's own choice
 abbrev pub has_place : Scope → Bool
-has_place s = nat_lt (s.next + s.names) (most_variables + s.hidden)
+has_place s = nat_lt (s.next + s.names) (MOST_VARIABLES + s.hidden)
 
 -- whether there is none
 abbrev pub is_full : Scope → Bool
@@ -61,18 +59,15 @@ abbrev pub bound : List ℕ → Local → (List ℕ → Option Local) → List �
 bound one local variables name = if bytes_eq one name then Some local else variables name
 
 abbrev pub with_int : List ℕ → Scope → Scope
-with_int name s =
-    record { known = s.known; class = s.class; sign = s.sign; hidden = s.hidden; variables = bound name (Int s.next) s.variables; next = suc s.next; names = s.names }
+with_int name s = record s { variables = bound name (Int s.next) s.variables; next = suc s.next }
 
 abbrev pub with_object : List ℕ → (class : Option ℕ) → Scope → Scope
-with_object name class s =
-    record { known = s.known; class = s.class; sign = s.sign; hidden = s.hidden; variables = bound name (Object s.names class) s.variables; next = s.next; names = suc s.names }
+with_object name class s = record s { variables = bound name (Object s.names class) s.variables; names = suc s.names }
 
 -- the class of a type, of which `id` has none
 abbrev pub static_class : Known → TypeTree → Option ℕ
-static_class known tree.Int = None
-static_class known tree.Id = None
 static_class known (tree.Object at name) = known.class name
+static_class known _ = None
 
 abbrev pub with_variable : List ℕ → TypeTree → Scope → Scope
 with_variable name tree.Int s = with_int name s
@@ -84,18 +79,15 @@ abbrev pub declare : List ℕ → TypeTree → Scope → Scope
 declare name type s = if has_place s then with_variable name type s else s
 
 abbrev pub with_variables : TypeTree → Scope → List VariableTree → Scope
-with_variables type s [] = s
-with_variables type s (v ∷ others) = with_variables type (declare v.name type s) others
+with_variables type = fold (λ s v. declare v.name type s)
 
 -- parameters are ints
 abbrev pub with_parameters : Scope → List ParameterTree → Scope
-with_parameters s [] = s
-with_parameters s (p ∷ others) = with_parameters (declare p.name tree.Int s) others
+with_parameters = fold (λ s p. declare p.name tree.Int s)
 
 -- behind an inner scope (C99, section 6.2.1): the names mean what they meant before it, and the numbers that it gave aren't given again
 abbrev pub leave : (outer inner : Scope) → Scope
-leave outer inner =
-    record { known = outer.known; class = outer.class; sign = outer.sign; hidden = outer.hidden; variables = outer.variables; next = inner.next; names = inner.names }
+leave outer inner = record outer { next = inner.next; names = inner.names }
 
 -- what names mean behind a statement
 abbrev mutual
@@ -119,8 +111,7 @@ outermost known = record { known = known; class = None; sign = signs.Class; hidd
 
 -- the first int of a class method is `self`
 abbrev pub hidden_in : Sign → ℕ
-hidden_in signs.Class = 1
-hidden_in signs.Instance = 0
+hidden_in sign = if same_sign sign signs.Class then 1 else 0
 
 -- before the parameters of a method of a class
 abbrev pub in_method : Known → Option ℕ → Sign → Scope
@@ -130,13 +121,8 @@ in_method known class sign =
 -- ---- functions
 
 -- a function that takes numbers; a count and texts are `main`'s alone
-abbrev pub callee_taking : Kind → Option ℕ → Option ℕ → Callee
-callee_taking result None body = Unknown
-callee_taking result (Some count) body = Defined result count body
-
 abbrev pub callee_known : Option Declared → Callee
-callee_known None = Unknown
-callee_known (Some d) = callee_taking d.signature.result d.signature.takes d.body
+callee_known f = unwrap_or (option_and_then (λ d. option_map (λ count. Defined d.signature.result count d.body) d.signature.takes) f) Unknown
 
 -- The function that a name calls: the two of the library, or one of the source. Variables aren't looked at, and no program calls `main` (both are this project's own choice).
 abbrev pub callee : Known → List ℕ → Callee
@@ -145,34 +131,22 @@ callee known name =
 
 -- the kind that a call gives
 abbrev pub result_kind : Callee → Kind
-result_kind Printf = k.Int
-result_kind GetChar = k.Int
 result_kind (Defined result count body) = result
-result_kind Unknown = k.Int
+result_kind _ = k.Int
 
 abbrev pub is_printf : Callee → Bool
 is_printf Printf = true
-is_printf GetChar = false
-is_printf (Defined result count body) = false
-is_printf Unknown = false
+is_printf _ = false
 
 -- ---- classes and fields
 
 -- the class of the objects that a method is sent to; None in class methods, and outside methods
 abbrev pub own_class : Scope → Option ℕ
-own_class s = class_of_objects s.sign s.class
-  where
-    class_of_objects : Sign → Option ℕ → Option ℕ
-    class_of_objects signs.Class class = None
-    class_of_objects signs.Instance class = class
+own_class s = if same_sign s.sign signs.Instance then s.class else None
 
 -- the class whose method this is, in a class method: there it is `self`
 abbrev pub class_itself : Scope → Option ℕ
-class_itself s = class_of_classes s.sign s.class
-  where
-    class_of_classes : Sign → Option ℕ → Option ℕ
-    class_of_classes signs.Class class = class
-    class_of_classes signs.Instance class = None
+class_itself s = if same_sign s.sign signs.Class then s.class else None
 
 -- the field of `self` that a name means which is no variable's, in a method of objects
 abbrev pub own_field : Scope → List ℕ → Option FoundField
@@ -182,17 +156,12 @@ own_field s name = s.known.field (own_class s) name
 abbrev pub is_variable : Scope → List ℕ → Bool
 is_variable s name = is_some (s.variables name) || is_some (own_field s name)
 
--- whether a class, if there is one, is the other
-abbrev pub is_class : Option ℕ → ℕ → Bool
-is_class None other = false
-is_class (Some class) other = nat_eq class other
-
 -- Where a field may be named (OPL, "The Scope of Instance Variables"): public ones everywhere, private ones in the methods of the class whose own they are, and
 -- protected ones in those of classes that come from it, too.
 abbrev pub may_name : Visibility → Scope → (owner : ℕ) → Bool
 may_name v.Public s owner = true
 may_name v.Protected s owner = s.known.descends s.class owner
-may_name v.Private s owner = is_class s.class owner
+may_name v.Private s owner = option_map_or (λ class. nat_eq class owner) s.class false
 
 abbrev pub is_visible : Scope → FoundField → Bool
 is_visible s f = may_name f.visibility s (number_of_class f.owner)
@@ -213,27 +182,17 @@ class_receiver s (Paren at a) = itself_in s a
 class_receiver s (Itself at) = class_itself s
 class_receiver s _ = None
 
-abbrev pub above : Known → Option ℕ → Option ℕ
-above known None = None
-above known (Some class) = known.superclass class
-
 -- what a method of objects gives that is known for a static class, of which `id` has none and knows all
 abbrev pub object_result : Known → (static : Option ℕ) → List ℕ → Option Kind
-object_result known None selector = known.result_of_any selector
-object_result known (Some class) selector = known.result (Some class) signs.Instance selector
+object_result known static selector = option_map_or (λ class. known.result (Some class) signs.Instance selector) static (known.result_of_any selector)
 
 -- what a message gives, where a method is known for it: to a class, or else to an object with a static class
 abbrev pub sent_kind : Known → (class static : Option ℕ) → List ℕ → Option Kind
-sent_kind known (Some class) static selector = known.result (Some class) signs.Class selector
-sent_kind known None static selector = object_result known static selector
+sent_kind known class static selector = option_map_or (λ c. known.result (Some c) signs.Class selector) class (object_result known static selector)
 
 -- the same of a message to `super`, which has the methods of the superclass of the class whose method has it (OPL, "Messages to self and super")
 abbrev pub super_kind : Scope → List ℕ → Option Kind
-super_kind s selector = known_above (above s.known s.class)
-  where
-    known_above : Option ℕ → Option Kind
-    known_above None = None
-    known_above (Some class) = s.known.result (Some class) s.sign selector
+super_kind s selector = option_and_then (λ class. s.known.result (Some class) s.sign selector) (option_and_then s.known.superclass s.class)
 
 -- ---- static classes
 
@@ -249,16 +208,11 @@ if_class so class = if so then class else None
 
 -- the static class of what a message gives, to a class, or else to an object with a static class
 abbrev pub sent_class : (class static : Option ℕ) → List ℕ → Option ℕ
-sent_class (Some class) static selector = if_class (makes selector) (Some class)
-sent_class None static selector = if_class (is_init selector) static
+sent_class class static selector = option_map_or (λ c. if_class (makes selector) (Some c)) class (if_class (is_init selector) static)
 
 -- the same of a message to `super`
 abbrev pub super_class : Scope → List ℕ → Option ℕ
-super_class s selector = by_sign s.sign
-  where
-    by_sign : Sign → Option ℕ
-    by_sign signs.Class = if_class (makes selector) s.class
-    by_sign signs.Instance = if_class (is_init selector) s.class
+super_class s selector = if_class (if same_sign s.sign signs.Class then makes selector else is_init selector) s.class
 
 abbrev pub local_class : Option Local → Option ℕ
 local_class None = None

@@ -1,12 +1,13 @@
 //! Finds the first rule that is broken in the functions of a source.
 ghost use Rattle.std.specs.Prelude.{◌≡◌, ◌++◌, IfOk, OnOk, nat_lt, option_map, take, length};
+ghost use Rattle.std.specs.List.{flat_map};
 ghost use Rattle.arc_ast.specs.Tree.{expr_tree, type_tree, variable_trees, parameter_trees, parameters_tree, stmt_tree, stmt_trees, function_tree, function_trees};
-ghost use Rattle.arc_class.specs.Bodies as bodies;
-ghost use Rattle.arc_class.specs.Broken.{first};
+ghost use Rattle.arc_class.specs.Broken.{broken_if, first};
 ghost use Rattle.arc_class.specs.declared.table.ClassTable.{ClassTable};
+ghost use Rattle.arc_sites.specs.Sites as sites;
 ghost use Rattle.arc_check.specs.Fault.{told};
 ghost use Rattle.arc_check.specs.Rules as rules;
-ghost use Rattle.arc_check.specs.Rules.{broken_initial, broken_variables, broken_parameters, broken_result, broken_stmt, broken_stmts, broken_body, most_parameters, broken_function, broken_functions};
+ghost use Rattle.arc_check.specs.Rules.{broken_initial, broken_variables, broken_parameters, broken_result, broken_stmt, broken_stmts, broken_body, broken_function};
 ghost use Rattle.arc_check.specs.Scopes.{is_full, leave, behind, behind_all, with_variables, with_parameters};
 ghost use Rattle.arc_check.specs.private.Views.{known_in, seen};
 
@@ -56,7 +57,7 @@ fn returned<'a>(
 
 /// The rule that one variable more breaks, whose name is at this place.
 fn place_fault(visible: &Visible, at: usize) -> Option<CheckFault>
-    ensures { (table : ClassTable) → option_map told result ≡ first (bodies.broken_if (is_full (seen table visible.now)) at 50) }
+    ensures { (table : ClassTable) → option_map told result ≡ first (broken_if (is_full (seen table visible.now)) at 50) }
 {
     if visible.is_full() {
         Some(CheckFault::TooManyLocals(at))
@@ -196,7 +197,7 @@ fn statements<'a>(
 
 /// The parameters that have names in a body.
 pub fn named_parameters(parameters: &Parameters) -> &[Parameter]
-    ensures { parameter_trees result.now ≡ bodies.named_parameters (parameters_tree parameters.now) }
+    ensures { parameter_trees result.now ≡ sites.named_parameters (parameters_tree parameters.now) }
 {
     match parameters {
         Parameters::Ints(all) => all,
@@ -209,7 +210,7 @@ const MOST_PARAMETERS: usize = 16;
 
 /// The rule that a function or a method with so many parameters breaks, at its place.
 pub fn count_fault(at: usize, count: usize) -> Option<CheckFault>
-    ensures { option_map told result ≡ first (bodies.broken_if (nat_lt most_parameters count) at 45) }
+    ensures { option_map told result ≡ first (broken_if (nat_lt MOST_PARAMETERS count) at 45) }
 {
     if count > MOST_PARAMETERS {
         Some(CheckFault::ArgumentCount(at))
@@ -220,7 +221,7 @@ pub fn count_fault(at: usize, count: usize) -> Option<CheckFault>
 
 /// Whether nothing is of the kind.
 pub fn is_void(kind: Kind) -> bool
-    ensures { result ≡ rules.is_void kind }
+    ensures { result ≡ rules.is_nothing (Some kind) }
 {
     matches!(kind, Kind::Void)
 }
@@ -279,7 +280,7 @@ pub fn judge_functions<'a>(
     table: &ClassTable<'a>,
     functions: &'a [Function],
 ) -> Result<Option<CheckFault>, AllocError>
-    ensures { IfOk result (λ fault. option_map told fault ≡ first (broken_functions (known_in table.now) (function_trees functions.now))) }
+    ensures { IfOk result (λ fault. option_map told fault ≡ first (flat_map (broken_function (known_in table.now)) (function_trees functions.now))) }
 {
     let mut fault = None;
     for one in functions {

@@ -1,5 +1,6 @@
 //! The fields that names mean.
-ghost use Rattle.std.specs.Prelude.{◌≡◌, option_map};
+ghost use Rattle.std.specs.Prelude.{◌≡◌, false, option_map, nat_eq};
+ghost use Rattle.std.specs.Option.{option_map_or};
 ghost use Rattle.arc_class.specs.Broken.{first};
 ghost use Rattle.arc_class.specs.Table.{number_of_class};
 ghost use Rattle.arc_check.specs.Fault.{told};
@@ -41,7 +42,7 @@ fn descends(table: &ClassTable, class: Option<ClassId>, other: ClassId) -> bool
 
 /// Whether the class is that one.
 fn is_class(class: Option<ClassId>, other: ClassId) -> bool
-    ensures { result ≡ scopes.is_class (option_map number_of_class class) (number_of_class other) }
+    ensures { result ≡ option_map_or (λ n. nat_eq n (number_of_class other)) (option_map number_of_class class) false }
 {
     match class {
         None => false,

@@ -1,16 +1,15 @@
 //! Finds the first rule that is broken in an expression.
-ghost use Rattle.std.specs.Prelude.{◌≡◌, ℕ, None, Some, not, is_none, is_some, option_map, if◌then◌else◌};
+ghost use Rattle.std.specs.Prelude.{◌≡◌, ℕ, None, Some, not, is_none, is_some, option_map, if◌then◌else◌, []};
 ghost use Rattle.arc_ast.specs.Tree as tree;
 ghost use Rattle.arc_ast.specs.Tree.{Arrow, Assign, Cast, Itself, Name, Send, SendSuper, expr_tree, expr_trees, type_tree};
-ghost use Rattle.arc_class.specs.Bodies.{broken_if};
-ghost use Rattle.arc_class.specs.Broken.{earlier_of, first};
+ghost use Rattle.arc_class.specs.Broken.{broken_if, earlier_of, first};
 ghost use Rattle.arc_class.specs.declared.table.ClassTable.{ClassTable};
 ghost use Rattle.arc_class.specs.Table.{number_of_class};
 ghost use Rattle.arc_check.specs.Fault.{told};
 ghost use Rattle.arc_check.specs.Formats.{wanted};
 ghost use Rattle.arc_check.specs.private.Judging.{Judges, JudgesWhole, JudgesAll, JudgesCall, counted};
 ghost use Rattle.arc_check.specs.Rules as rules;
-ghost use Rattle.arc_check.specs.Rules.{kind_if, no_left, no_number, no_right, no_value, unless};
+ghost use Rattle.arc_check.specs.Rules.{kind_if, no_left, no_number, no_right, no_value};
 ghost use Rattle.arc_check.specs.Scopes as scopes;
 ghost use Rattle.arc_check.specs.declared.scope.Visible.{Visible};
 ghost use Rattle.arc_check.specs.private.Views.{known_in, seen};
@@ -539,7 +538,7 @@ fn judge_argument<'a>(
 ) -> Judged
     ensures kind { result.kind ≡ rules.kind_of (seen table.now visible.now) (expr_tree argument.now) }
     ensures fault { option_map told result.fault
-        ≡ earlier_of (first (rules.broken (seen table.now visible.now) (expr_tree argument.now))) (first (unless printed (no_number (rules.kind_of (seen table.now visible.now) (expr_tree argument.now)) (tree.place (expr_tree argument.now))))) }
+        ≡ earlier_of (first (rules.broken (seen table.now visible.now) (expr_tree argument.now))) (first (if printed then [] else (no_number (rules.kind_of (seen table.now visible.now) (expr_tree argument.now)) (tree.place (expr_tree argument.now))))) }
     ensures taken { result.taken ≡ counted before (rules.taken (seen table.now visible.now) (expr_tree argument.now)) }
 {
     let judged = judge(table, visible, before, argument);

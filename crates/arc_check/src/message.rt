@@ -1,5 +1,6 @@
 //! The methods that messages may have, and the static classes of what they give.
 ghost use Rattle.std.specs.Prelude.{◌≡◌, option_map};
+ghost use Rattle.std.specs.Option.{option_and_then};
 ghost use Rattle.arc_ast.specs.Tree.{expr_tree, type_tree};
 ghost use Rattle.arc_class.specs.declared.table.ClassTable.{ClassTable};
 ghost use Rattle.arc_class.specs.Table.{number_of_class};
@@ -56,7 +57,7 @@ pub fn class_receiver<'a>(
 
 /// The superclass of the class, if there is one.
 pub fn above(table: &ClassTable, class: Option<ClassId>) -> Option<ClassId>
-    ensures { option_map number_of_class result ≡ scopes.above (known_in table.now) (option_map number_of_class class) }
+    ensures { option_map number_of_class result ≡ option_and_then (known_in table.now).superclass (option_map number_of_class class) }
 {
     match class {
         None => None,

@@ -1,10 +1,11 @@
 //! Finds the first rule that is broken in the methods of a source.
 ghost use Rattle.std.specs.Prelude.{◌≡◌, IfOk, option_map};
+ghost use Rattle.std.specs.List.{flat_map};
 ghost use Rattle.arc_ast.specs.Tree.{head_tree, head_trees, method_tree, method_trees, interface_trees, implementation_trees};
 ghost use Rattle.arc_class.specs.Broken.{first};
 ghost use Rattle.arc_class.specs.Table.{number_of_class};
 ghost use Rattle.arc_check.specs.Fault.{told};
-ghost use Rattle.arc_check.specs.Rules.{broken_head, broken_heads, broken_interfaces, broken_method, broken_methods, broken_implementations};
+ghost use Rattle.arc_check.specs.Rules.{broken_head, broken_interface, broken_method, broken_implementation};
 ghost use Rattle.arc_check.specs.private.Views.{known_in};
 
 use crate::body::{count_fault, inside, is_void};
@@ -24,7 +25,7 @@ fn head(head: &MethodHead) -> Option<CheckFault>
 
 /// The first rule that the methods of an interface break.
 fn heads(all: &[MethodHead]) -> Option<CheckFault>
-    ensures { option_map told result ≡ first (broken_heads (head_trees all.now)) }
+    ensures { option_map told result ≡ first (flat_map broken_head (head_trees all.now)) }
 {
     let mut fault = None;
     for one in all {
@@ -35,7 +36,7 @@ fn heads(all: &[MethodHead]) -> Option<CheckFault>
 
 /// The first rule that the methods of the interfaces break.
 pub fn judge_interfaces(all: &[Interface]) -> Option<CheckFault>
-    ensures { option_map told result ≡ first (broken_interfaces (interface_trees all.now)) }
+    ensures { option_map told result ≡ first (flat_map broken_interface (interface_trees all.now)) }
 {
     let mut fault = None;
     for one in all {
@@ -74,7 +75,7 @@ fn methods<'a>(
     all: &'a [Method],
 ) -> Result<Option<CheckFault>, AllocError>
     ensures { IfOk result (λ fault. option_map told fault
-        ≡ first (broken_methods (known_in table.now) (option_map number_of_class class) (method_trees all.now))) }
+        ≡ first (flat_map (broken_method (known_in table.now) (option_map number_of_class class)) (method_trees all.now))) }
 {
     let mut fault = None;
     for one in all {
@@ -89,7 +90,7 @@ pub fn judge_implementations<'a>(
     table: &ClassTable<'a>,
     all: &'a [Implementation],
 ) -> Result<Option<CheckFault>, AllocError>
-    ensures { IfOk result (λ fault. option_map told fault ≡ first (broken_implementations (known_in table.now) (implementation_trees all.now))) }
+    ensures { IfOk result (λ fault. option_map told fault ≡ first (flat_map (broken_implementation (known_in table.now)) (implementation_trees all.now))) }
 {
     let mut fault = None;
     for one in all {

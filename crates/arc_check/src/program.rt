@@ -1,5 +1,6 @@
 //! Builds the resolved functions and methods of a source that breaks no rule.
-ghost use Rattle.std.specs.Prelude.{◌≡◌, ◌-◌, List, ◌++◌, IfOk, OnOk, option_map, take, length};
+ghost use Rattle.std.specs.Prelude.{◌≡◌, ◌-◌, List, ◌++◌, IfOk, OnOk, option_map, take, length, map};
+ghost use Rattle.std.specs.List.{flat_map, filter_map};
 ghost use Rattle.arc_ast.specs.Tree.{expr_tree, type_tree, variable_trees, parameter_trees, stmt_tree, stmt_trees, function_trees, method_trees, implementation_trees};
 ghost use Rattle.arc_class.specs.Table.{number_of_class};
 ghost use Rattle.arc_spec.specs.Resolved.{Sequence, Choose, Repeat};
@@ -7,7 +8,7 @@ ghost use Rattle.arc_spec.specs.Resolved as spec;
 ghost use Rattle.arc_check.specs.private.Building.{ahead_of, function_of, functions_ahead, resolution};
 ghost use Rattle.arc_check.specs.Checked as checked;
 ghost use Rattle.arc_check.specs.Resolving as resolving;
-ghost use Rattle.arc_check.specs.Resolving.{as_int, resolved_variables, resolved_stmt, resolved_stmts, resolved_body, resolved_functions, with_methods, resolved_methods};
+ghost use Rattle.arc_check.specs.Resolving.{as_int, resolved_variables, resolved_stmt, resolved_stmts, resolved_body, resolved_function, resolved_method, resolved_methods};
 ghost use Rattle.arc_check.specs.Scopes.{declare, leave, behind, behind_all, with_parameters, with_variables};
 ghost use Rattle.arc_check.specs.private.Views.{known_in, seen};
 
@@ -362,7 +363,7 @@ pub fn functions<'a>(
     table: &ClassTable<'a>,
     declared: &'a [Function],
 ) -> Result<Vec<CheckedFunction>, AllocError>
-    ensures { IfOk result (λ all. checked.functions all.items ≡ resolved_functions (known_in table.now) (function_trees declared.now)) }
+    ensures { IfOk result (λ all. checked.functions all.items ≡ filter_map (resolved_function (known_in table.now)) (function_trees declared.now)) }
 {
     let mut all = Vec::new(alloc);
     for one in declared {
@@ -383,7 +384,7 @@ fn add_methods<'a>(
     all: &mut Vec<CheckedFunction>,
 ) -> Result<(), AllocError>
     ensures { OnOk result ((others : List spec.Function) → functions_ahead all.new.items others
-        ≡ functions_ahead all.old.items (with_methods (known_in table.now) (option_map number_of_class class) (method_trees methods.now) others)) }
+        ≡ functions_ahead all.old.items (map (resolved_method (known_in table.now) (option_map number_of_class class)) (method_trees methods.now) ++ others)) }
 {
     for one in methods {
         let visible = Visible::in_method(alloc, class, one.head.sign);
@@ -400,7 +401,7 @@ pub fn add_implementations<'a>(
     all: &mut Vec<CheckedFunction>,
 ) -> Result<(), AllocError>
     ensures { OnOk result (checked.functions all.new.items
-        ≡ checked.functions all.old.items ++ resolved_methods (known_in table.now) (implementation_trees implementations.now)) }
+        ≡ checked.functions all.old.items ++ flat_map (resolved_methods (known_in table.now)) (implementation_trees implementations.now)) }
 {
     for one in implementations {
         let class = table.objc_get_class(&one.name);

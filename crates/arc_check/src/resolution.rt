@@ -1,5 +1,6 @@
 //! What an expression is resolved to, and how that is made of what its parts are resolved to.
 ghost use Rattle.std.specs.Prelude.{◌≡◌, Option, Some, None, option_map, IfOk};
+ghost use Rattle.std.specs.Option.{unwrap_or};
 ghost use Rattle.arc_ast.specs.Tree.{expr_tree, Name};
 ghost use Rattle.arc_class.specs.Table.{number_of_class, number_of_selector};
 ghost use Rattle.arc_check.specs.private.Building.{resolution};
@@ -158,14 +159,14 @@ pub fn binary(
 
 /// The number, or 0 where there is none.
 pub fn number(found: Option<usize>) -> usize
-    ensures { result ≡ resolving.number found }
+    ensures { result ≡ unwrap_or found 0 }
 {
     found.unwrap_or(0)
 }
 
 /// The class's number, or 0 where there is none.
 pub fn class_number(found: Option<ClassId>) -> usize
-    ensures { result ≡ resolving.number (option_map number_of_class found) }
+    ensures { result ≡ unwrap_or (option_map number_of_class found) 0 }
 {
     match found {
         None => 0,
@@ -175,7 +176,7 @@ pub fn class_number(found: Option<ClassId>) -> usize
 
 /// The selector's number, or 0 where there is none.
 pub fn selector_number(found: Option<Sel>) -> usize
-    ensures { result ≡ resolving.number (option_map number_of_selector found) }
+    ensures { result ≡ unwrap_or (option_map number_of_selector found) 0 }
 {
     match found {
         None => 0,
@@ -185,7 +186,7 @@ pub fn selector_number(found: Option<Sel>) -> usize
 
 /// The kind, or int where there is none.
 fn kind_or_int(kind: Option<Kind>) -> Kind
-    ensures { result ≡ resolving.kind_or_int kind }
+    ensures { result ≡ unwrap_or kind Kind.Int }
 {
     kind.unwrap_or(Kind::Int)
 }

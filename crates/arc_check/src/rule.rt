@@ -7,7 +7,8 @@ ghost use Rattle.arc_class.specs.declared.table.ClassTable.{ClassTable};
 ghost use Rattle.arc_check.specs.Fault.{told};
 ghost use Rattle.arc_check.specs.Kinds as kinds;
 ghost use Rattle.arc_check.specs.Rules as rules;
-ghost use Rattle.arc_check.specs.Rules.{broken_at, no_left, no_number, no_right, no_value, number_kind, other_rule};
+ghost use Rattle.arc_check.specs.Rules.{broken_at, no_left, no_number, no_right, no_value, number_kind};
+ghost use Rattle.arc_check.specs.private.Judging.{other_rule};
 ghost use Rattle.arc_check.specs.private.Views.{seen};
 
 use crate::callee::Callee;

@@ -8,16 +8,18 @@ use Rattle.arc_fault.specs.declared.class.ClassFault.TheVariants as f
 use Rattle.arc_class.specs.declared.kept.Source.{Source}
 use Rattle.arc_class.specs.declared.look.Seen.{Seen}
 use Rattle.arc_class.specs.Broken.{Broken, first, earlier_of}
-use Rattle.arc_class.specs.Bodies.{Missing, lacks_body}
-use Rattle.arc_class.specs.ClassRules.{named_as_classes, broken_interfaces, broken_implementations, missing_of, broken}
+use Rattle.arc_class.specs.Bodies.{lacks_body, broken_bodies}
+use Rattle.arc_class.specs.Names.{known, number_of, is_main}
+use Rattle.arc_class.specs.ClassRules.{named_as_classes, broken_interfaces, broken_implementations, broken}
 use Rattle.arc_class.specs.Fault.{told, Refuses}
-use Rattle.arc_class.specs.Functions.{duplicates, missing_main, no_main, broken_functions, lacks_body_in, broken_in_functions}
+use Rattle.arc_class.specs.Functions.{duplicates, missing_main}
 use Rattle.arc_class.specs.Kept.{Knows}
 use Rattle.arc_class.specs.Look.{Sums}
 use Rattle.arc_class.specs.Table.{class_number_in}
-use Rattle.arc_class.specs.Walk.{missing_in}
+use Rattle.arc_class.specs.Walk.{Missing, missing_in, missing_of, broken_walked}
 use Rattle.arc_class.proofs.Firsts.{first_both, none_broken}
 use Rattle.arc_class.proofs.Rules.{class_number_kept}
+use Rattle.arc_class.proofs.Bodies.{bodies_are}
 
 pub refuses : (all : List Broken) (fault : ClassFault) → first all ≡ Some (told fault) → Refuses all fault
 refuses all (f.Duplicate at) h = h
@@ -37,22 +39,29 @@ missing_with bodies classes = record { bodies = bodies; classes = classes }
 pub missing_kept : (u : UnitTree) (source : Source) → Knows u source → missing_in source ≡ missing_of u
 missing_kept u source h =
     ap (λ f. missing_with f (λ name. is_none (class_number_in source.names name))) (fun_ext (λ name. ap lacks_body (h.knows name)))
-    ∙ ap (missing_with (lacks_body_in u.functions)) (fun_ext (λ name. ap is_none (class_number_kept source.names u.interfaces name (h.class_places name))))
+    ∙ ap (missing_with (λ name. lacks_body (known u.functions name))) (fun_ext (λ name. ap is_none (class_number_kept source.names u.interfaces name (h.class_places name))))
 
--- the first of all broken rules, from those of the names, a missing main's and those of the bodies
-pub first_known : (fs : List FunctionTree) (L : Missing) (seen : Seen) (own inside gone all : Option Broken) → Sums fs seen → gone ≡ first (missing_main seen.main) → own ≡ earlier_of (option_map told seen.fault) gone
-    → inside ≡ first (broken_functions L fs) → all ≡ earlier_of own inside → all ≡ first (broken_in_functions L fs)
-first_known fs L seen own inside gone all h m o i a =
-    let both : own ≡ first (duplicates [] fs ++ no_main fs) = first_both (duplicates [] fs) (no_main fs) (option_map told seen.fault) gone own h.fault (m ∙ ap (λ o. first (missing_main o)) h.main) o in
-    first_both (duplicates [] fs ++ no_main fs) (broken_functions L fs) own inside all both i a ∙ ap first (append_assoc (duplicates [] fs) (no_main fs) (broken_functions L fs))
+-- what is found in the bodies, by what is kept
+pub walked_kept : (u : UnitTree) (source : Source) (inside : Option Broken) → Knows u source → inside ≡ first (broken_walked (missing_in source) u) → inside ≡ first (broken_bodies u)
+walked_kept u source inside h i = i ∙ ap (λ m. first (broken_walked m u)) (missing_kept u source h) ∙ bodies_are u
+
+-- the first of all broken rules of functions, from those of the names, a missing main's and those of the bodies
+first_known : (fs : List FunctionTree) (bodies : List Broken) (seen : Seen) (own inside gone all : Option Broken) → Sums fs seen → gone ≡ first (missing_main seen.main) → own ≡ earlier_of (option_map told seen.fault) gone
+    → inside ≡ first bodies → all ≡ earlier_of own inside → all ≡ first (duplicates [] fs ++ (missing_main (number_of is_main fs) ++ bodies))
+first_known fs bodies seen own inside gone all h m o i a =
+    let A = duplicates [] fs in
+    let B = missing_main (number_of is_main fs) in
+    let both : own ≡ first (A ++ B) = first_both A B (option_map told seen.fault) gone own h.fault (m ∙ ap (λ o. first (missing_main o)) h.main) o in
+    first_both (A ++ B) bodies own inside all both i a ∙ ap first (append_assoc A B bodies)
 
 abbrev pub in_classes : UnitTree → List Broken
-in_classes u = named_as_classes u.interfaces u.functions ++ (broken_interfaces u [] u.interfaces ++ broken_implementations u (missing_of u) [] u.implementations)
+in_classes u = named_as_classes u.interfaces u.functions ++ (broken_interfaces u [] u.interfaces ++ broken_implementations u [] u.implementations)
 
 pub whole_known : (u : UnitTree) (seen : Seen) (own inside gone functions classes all : Option Broken) → Sums u.functions seen → gone ≡ first (missing_main seen.main) → own ≡ earlier_of (option_map told seen.fault) gone
-    → inside ≡ first (broken_functions (missing_of u) u.functions) → functions ≡ earlier_of own inside → classes ≡ first (in_classes u) → all ≡ earlier_of functions classes → all ≡ first (broken u)
+    → inside ≡ first (broken_bodies u) → functions ≡ earlier_of own inside → classes ≡ first (in_classes u) → all ≡ earlier_of functions classes → all ≡ first (broken u)
 whole_known u seen own inside gone functions classes all h m o i f k a =
-    first_both (broken_in_functions (missing_of u) u.functions) (in_classes u) functions classes all (first_known u.functions (missing_of u) seen own inside gone functions h m o i f) k a
+    first_both (duplicates [] u.functions ++ (missing_main (number_of is_main u.functions) ++ broken_bodies u)) (in_classes u) functions classes all
+    (first_known u.functions (broken_bodies u) seen own inside gone functions h m o i f) k a
 
 -- a source knows its own names
 pub own_known : (t : TranslationUnit) (source : Source) → source.unit.now ≡ t → Knows (unit_tree t) source → Knows (unit_tree source.unit.now) source

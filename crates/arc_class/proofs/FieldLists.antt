@@ -1,5 +1,6 @@
 -- The fields of classes, a class at a time.
 use Rattle.std.proofs.Common.{◌≡◌, ℕ, zero, suc, ◌+◌, ◌<◌, ◌≤◌, Bool, true, false, List, [], ◌∷◌, ◌++◌, length, map, reverse, nat_lt, slice_get, Option, Some, None, option_map, Vec, Global, if◌then◌else◌, refl, sym, ap, subst, ◌∙◌, arith}
+use Rattle.std.specs.Option.{option_and_then, option_map_or}
 use Rattle.std.proofs.Math.Path.{fun_ext}
 use Rattle.std.proofs.lemmas.Bool.{lt-ltb, le-ltb}
 use Rattle.std.proofs.lemmas.Bool.Decides.{nat_tests, Decides-ltb}
@@ -16,10 +17,12 @@ use Rattle.arc_spec.specs.Classes.{and_above, ancestry, ancestry_within, first_t
 use Rattle.arc_class.specs.declared.fields.ClassFields.{ClassFields}
 use Rattle.arc_class.specs.declared.table.Field.{Field}
 use Rattle.arc_class.specs.declared.table.FoundField.{FoundField}
-use Rattle.arc_class.specs.ClassRules.{field_place, least_among, inherited_place}
-use Rattle.arc_class.specs.Classes.{class_number, superclass, superclass_of, superclasses, or_else}
+use Rattle.arc_class.specs.ClassRules.{field_place}
+use Rattle.arc_class.specs.Lookups.{least_among}
+use Rattle.arc_class.specs.Entries.{inherited_place}
+use Rattle.arc_class.specs.Classes.{class_number, superclass, superclasses, or_else}
 use Rattle.arc_class.specs.Entries.{FieldsTree, fields_tree, root_fields, class_fields, class_fields_from, class_fields_with, all_class_fields, count_at, count_among}
-use Rattle.arc_class.specs.Fields.{ClassField, fields_declared, fields_of, own_fields, owned, if_before, earlier_superclasses_from, earlier_superclasses, own_class_fields, fields_from, inherited_by, fields, all_fields_from, inherited, numbered, own_field, known_field}
+use Rattle.arc_class.specs.Fields.{ClassField, fields_declared, own_fields, owned, if_before, earlier_superclasses_from, earlier_superclasses, own_class_fields, inherited_by, fields, all_fields_from, inherited, numbered, own_field, known_field}
 use Rattle.arc_class.specs.Table.{at_name, own_field_in, own_place_in, superclass_of_fields, field_among, place_among, list_of, list_at, list_among}
 use Rattle.arc_class.proofs.Parts.{kept_none}
 use Rattle.arc_class.proofs.Leasts.{nothing_least}
@@ -94,7 +97,7 @@ above_fields : (u : UnitTree) (class : ℕ) (superclass : Option ℕ) → class 
 above_fields u class superclass l = go (if_before class superclass) refl
   where
     go : (o : Option ℕ) → if_before class superclass ≡ o
-        → flat_map (own_class_fields u) (reverse (ancestry_within (length u.interfaces) (chain u.interfaces) o)) ≡ fields_from u o
+        → flat_map (own_class_fields u) (reverse (ancestry_within (length u.interfaces) (chain u.interfaces) o)) ≡ option_map_or (fields u) o []
     go None e = refl
     go (Some above) e =
         let falls : above < class = before_is class superclass above e in
@@ -115,17 +118,17 @@ in_chain u class superclass l e =
 
 -- those of a class that stands before another are inherited, and of one that doesn't none are
 pub fields_among : (n : ℕ) (u : UnitTree) (class : ℕ) → class < n → inherited_by u n (Some class) ≡ fields u class
-fields_among n u class l = ap (λ b. fields_from u (if b then Some class else None)) (lt-ltb class n l)
+fields_among n u class l = ap (λ b. option_map_or (fields u) (if b then Some class else None) []) (lt-ltb class n l)
 
 pub fields_past : (n : ℕ) (u : UnitTree) (class : ℕ) → n ≤ class → inherited_by u n (Some class) ≡ []
-fields_past n u class l = ap (λ b. fields_from u (if b then Some class else None)) (le-ltb class n l)
+fields_past n u class l = ap (λ b. option_map_or (fields u) (if b then Some class else None) []) (le-ltb class n l)
 
 -- the class of an interface
 pub superclass_here : (u : UnitTree) (n : ℕ) (i : InterfaceTree) → slice_get u.interfaces n ≡ Some i → superclass u.interfaces (suc n) ≡ class_number u.interfaces i.superclass
-superclass_here u n i e = ap (superclass_of u.interfaces) e
+superclass_here u n i e = ap (option_and_then (λ i. class_number u.interfaces i.superclass)) e
 
 pub own_here : (u : UnitTree) (n : ℕ) (i : InterfaceTree) → slice_get u.interfaces n ≡ Some i → own_fields u (suc n) ≡ fields_declared u (suc n) i
-own_here u n i e = ap (fields_of u (suc n)) e
+own_here u n i e = ap (λ o. option_map_or (fields_declared u (suc n)) o []) e
 
 pub class_here : (u : UnitTree) (n : ℕ) (i : InterfaceTree) → slice_get u.interfaces n ≡ Some i
     → fields u (suc n) ≡ inherited_by u (suc n) (class_number u.interfaces i.superclass) ++ map (owned (suc n)) (fields_declared u (suc n) i)
@@ -213,7 +216,7 @@ said_named u zero name = refl
 said_named u (suc n) name = ap (λ t. named_said t name) (said u n) ∙ go (slice_get u.interfaces n) refl
   where
     go : (o : Option InterfaceTree) → slice_get u.interfaces n ≡ o → named_said (option_map (class_fields u (suc n)) o) name ≡ own_field u (suc n) name
-    go None e = sym (ap (λ o. numbered (suc n) (length (inherited u (suc n))) (fields_of u (suc n) o) name) e)
+    go None e = sym (ap (λ o. numbered (suc n) (length (inherited u (suc n))) (option_map_or (fields_declared u (suc n)) o []) name) e)
     go (Some i) e = sym (ap (λ s. numbered (suc n) (length (inherited_by u (suc n) s)) (own_fields u (suc n)) name) (superclass_here u n i e)
         ∙ ap (λ fs. numbered (suc n) (length (inherited_by u (suc n) (class_number u.interfaces i.superclass))) fs name) (own_here u n i e))
 
@@ -221,7 +224,7 @@ said_places : (u : UnitTree) (class : ℕ) (name : List ℕ) → places_said (sl
 said_places u zero name = refl
 said_places u (suc n) name = ap (λ t. places_said t name) (said u n) ∙ go (slice_get u.interfaces n)
   where
-    go : (o : Option InterfaceTree) → places_said (option_map (class_fields u (suc n)) o) name ≡ field_place name (fields_of u (suc n) o)
+    go : (o : Option InterfaceTree) → places_said (option_map (class_fields u (suc n)) o) name ≡ field_place name (option_map_or (fields_declared u (suc n)) o [])
     go None = refl
     go (Some i) = refl
 

@@ -4,6 +4,7 @@ pub mod Lessers
 pub mod Firsts
 pub mod Scopes
 pub mod Walks
+pub mod Bodies
 pub mod Looks
 pub mod Answering
 pub mod Leasts

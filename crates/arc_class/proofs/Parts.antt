@@ -1,5 +1,6 @@
 -- The parts of a table, one class or one method more.
 use Rattle.std.proofs.Common.{◌≡◌, ℕ, ◌+◌, Bool, true, false, List, [], ◌∷◌, ◌++◌, length, map, nat_lt, Option, Some, None, option_map, if◌then◌else◌, append_assoc, refl, sym, ap, ◌∙◌}
+use Rattle.std.specs.Option.{option_and_then, option_map_or}
 use Rattle.std.proofs.lemmas.List.{length-append, map_push}
 use Rattle.std.proofs.Math.Path.{fun_ext}
 use Rattle.std.specs.BTreeMap.{BTreeMap}
@@ -16,7 +17,7 @@ use Rattle.arc_class.specs.Classes.{first_head, heads, result_of, defined_by, cl
 use Rattle.arc_class.specs.Entries.{EntryTree, entry_tree, root_entry, class_entry}
 use Rattle.arc_class.specs.Fields.{fields_by, implemented_before}
 use Rattle.arc_class.specs.Kept.{head_in}
-use Rattle.arc_class.specs.Running.{implemented, methods_of, dealloc_of, implementation_of, class_with}
+use Rattle.arc_class.specs.Running.{methods_from, dealloc_from, implemented, implementation_of, class_with}
 use Rattle.arc_class.specs.Table.{at_name, head_at, result_at}
 
 -- one more is made
@@ -105,7 +106,7 @@ abbrev class_made : Option ℕ → List Method → Option ℕ → ℕ → Class
 class_made superclass methods dealloc fields = record { superclass = superclass; methods = methods; dealloc = dealloc; fields = fields }
 
 pub class_is : (u : UnitTree) (fields : ℕ) (i : InterfaceTree) (superclass : Option ℕ) (methods : List Method) (dealloc : Option ℕ) → superclass ≡ class_number u.interfaces i.superclass
-    → methods ≡ methods_of u (implementation_of u i) → dealloc ≡ dealloc_of (implementation_of u i) → class_made superclass methods dealloc fields ≡ class_with u fields i
+    → methods ≡ option_map_or (λ p. methods_from u p.0 (p.1).methods) (implementation_of u i) [] → dealloc ≡ option_and_then (λ p. dealloc_from p.0 (p.1).methods) (implementation_of u i) → class_made superclass methods dealloc fields ≡ class_with u fields i
 class_is u fields i superclass methods dealloc e h d =
     ap (λ s. class_made s methods dealloc fields) e ∙ ap (λ ms. class_made (class_number u.interfaces i.superclass) ms dealloc fields) h
-    ∙ ap (λ f. class_made (class_number u.interfaces i.superclass) (methods_of u (implementation_of u i)) f fields) d
+    ∙ ap (λ f. class_made (class_number u.interfaces i.superclass) (option_map_or (λ p. methods_from u p.0 (p.1).methods) (implementation_of u i) []) f fields) d

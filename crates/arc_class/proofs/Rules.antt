@@ -1,29 +1,28 @@
 -- What is told of methods, interfaces and implementations, and one more.
 use Rattle.std.proofs.Common.{◌≡◌, ℕ, zero, suc, ◌+◌, ◌<◌, Bool, true, false, ◌||◌, List, [], ◌∷◌, ◌++◌, length, not, nat_lt, Option, Some, None, is_some, is_none, option_map, slice_get, if◌then◌else◌, take, drop, get_or, length-take-le, append_assoc, refl, sym, ap, ◌∙◌, arith}
+use Rattle.std.specs.List.{flat_map}
 use Rattle.std.proofs.lemmas.List.{take_more}
 use Rattle.std.specs.Str.{bytes_eq}
 use Rattle.std.specs.BTreeMap.{BTreeMap}
 use Rattle.std.specs.Borrow.{Bor}
 use Rattle.arc_ast.specs.declared.tree.Function.{Function}
 use Rattle.arc_ast.specs.declared.tree.MethodHead.{MethodHead}
-use Rattle.arc_ast.specs.declared.tree.Parameter.{Parameter}
-use Rattle.arc_ast.specs.declared.tree.Stmt.{Stmt}
 use Rattle.arc_ast.specs.declared.tree.Implementation.{Implementation}
 use Rattle.arc_ast.specs.declared.tree.Interface.{Interface}
 use Rattle.arc_ast.specs.declared.tree.Method.{Method}
 use Rattle.arc_ast.specs.declared.tree.Field.{Field}
 use Rattle.arc_ast.specs.declared.tree.Sign.{Sign}
-use Rattle.arc_ast.specs.Tree.{HeadTree, MethodTree, FieldTree, InterfaceTree, ImplementationTree, UnitTree, head_tree, method_tree, method_trees, field_trees, interface_tree, interface_trees, implementation_tree, implementation_trees, function_trees, head_trees, parameter_trees, stmt_trees}
+use Rattle.arc_ast.specs.Tree.{HeadTree, FieldTree, InterfaceTree, ImplementationTree, UnitTree, head_tree, method_trees, field_trees, interface_tree, interface_trees, implementation_tree, implementation_trees, function_trees, head_trees}
 use Rattle.arc_class.specs.declared.kept.Implemented.{Implemented}
 use Rattle.arc_class.specs.declared.table.Place.{Place}
-use Rattle.arc_class.specs.Bodies.{Missing, and_name, broken_if, no_name, names_taken, broken_parameters, broken_stmts}
-use Rattle.arc_class.specs.Broken.{Broken, first, earlier_of}
-use Rattle.arc_class.specs.ClassRules.{broken_head, broken_heads, broken_inside, broken_method, broken_methods, broken_field, broken_fields, field_place, broken_interface, broken_interfaces, broken_implementation, broken_implementations, is_implemented, interface_before, class_before, named_as_classes}
+use Rattle.arc_class.specs.Walk.{and_name}
+use Rattle.arc_class.specs.Broken.{broken_if, Broken, first, earlier_of}
+use Rattle.arc_class.specs.ClassRules.{broken_head, broken_method, broken_methods, broken_field, broken_fields, field_place, broken_interface, broken_interfaces, broken_implementation, broken_implementations, is_implemented, interface_before, class_before, named_as_classes}
 use Rattle.arc_class.specs.Classes.{heads, first_head, interface_number, class_number, is_root, or_else}
 use Rattle.arc_class.specs.Kept.{place_before, places, implemented_tree}
 use Rattle.arc_class.specs.Running.{implemented}
 use Rattle.arc_class.specs.Table.{at_name, class_number_in}
-use Rattle.arc_class.proofs.Firsts.{first_turn, first_both}
+use Rattle.arc_class.proofs.Firsts.{first_turn}
 use Rattle.arc_class.proofs.Keeping.{first_head-append}
 use Rattle.arc_class.proofs.Lists.{drop_turn}
 use Rattle.arc_class.proofs.Names.{eq_turned}
@@ -127,17 +126,10 @@ names_turn is xs k x so_far one now whole l e o n w =
 
 pub heads_turn : (u : UnitTree) (xs : List MethodHead) (k : ℕ) (x : MethodHead) (so_far one now whole : Option Broken) → k < length xs → x ≡ get_or xs k x
     → one ≡ first (broken_head u (head_tree x)) → now ≡ earlier_of so_far one
-    → whole ≡ earlier_of so_far (first (broken_heads u (head_trees (drop k xs)))) → whole ≡ earlier_of now (first (broken_heads u (head_trees (drop (k + 1) xs))))
+    → whole ≡ earlier_of so_far (first (flat_map (broken_head u) (head_trees (drop k xs)))) → whole ≡ earlier_of now (first (flat_map (broken_head u) (head_trees (drop (k + 1) xs))))
 heads_turn u xs k x so_far one now whole l e o n w =
-    first_turn (broken_head u (head_tree x)) (broken_heads u (head_trees (drop (k + 1) xs))) so_far one now whole o n
-    (w ∙ ap (λ us. earlier_of so_far (first (broken_heads u (head_trees us)))) (drop_turn xs k x l e))
-
-pub inside_method : (known L : Missing) (m : Method) (ps : List Parameter) (all : List Stmt) → known ≡ L → ps ≡ m.head.parameters.items → all ≡ m.body.items
-    → first (broken_parameters no_name (parameter_trees ps) ++ broken_stmts known (names_taken no_name (parameter_trees ps)) (stmt_trees all)) ≡ first (broken_inside L (method_tree m))
-inside_method known L m ps all e p a =
-    ap (λ k. first (broken_parameters no_name (parameter_trees ps) ++ broken_stmts k (names_taken no_name (parameter_trees ps)) (stmt_trees all))) e
-    ∙ ap (λ qs. first (broken_parameters no_name (parameter_trees qs) ++ broken_stmts L (names_taken no_name (parameter_trees qs)) (stmt_trees all))) p
-    ∙ ap (λ us. first (broken_parameters no_name (parameter_trees m.head.parameters.items) ++ broken_stmts L (names_taken no_name (parameter_trees m.head.parameters.items)) (stmt_trees us))) a
+    first_turn (broken_head u (head_tree x)) (flat_map (broken_head u) (head_trees (drop (k + 1) xs))) so_far one now whole o n
+    (w ∙ ap (λ us. earlier_of so_far (first (flat_map (broken_head u) (head_trees us)))) (drop_turn xs k x l e))
 
 heads_push : (xs : List Method) (x : Method) → heads (method_trees (xs ++ x ∷ [])) ≡ heads (method_trees xs) ++ head_tree x.head ∷ []
 heads_push [] x = refl
@@ -146,15 +138,15 @@ heads_push (y ∷ xs) x = ap (λ us. head_tree y.head ∷ us) (heads_push xs x)
 heads_take : (xs : List Method) (k : ℕ) (x : Method) → k < length xs → x ≡ get_or xs k x → heads (method_trees (take (k + 1) xs)) ≡ heads (method_trees (take k xs)) ++ head_tree x.head ∷ []
 heads_take xs k x l e = ap (λ us. heads (method_trees us)) (take_more xs k x l ∙ ap (λ y. take k xs ++ y ∷ []) (sym e)) ∙ heads_push (take k xs) x
 
-pub methods_turn : (u : UnitTree) (L : Missing) (xs : List Method) (k : ℕ) (x : Method) (so_far one now whole : Option Broken) → k < length xs → x ≡ get_or xs k x
-    → one ≡ first (broken_method u L (heads (method_trees (take k xs))) (method_tree x)) → now ≡ earlier_of so_far one
-    → whole ≡ earlier_of so_far (first (broken_methods u L (heads (method_trees (take k xs))) (method_trees (drop k xs)))) → whole ≡ earlier_of now (first (broken_methods u L (heads (method_trees (take (k + 1) xs))) (method_trees (drop (k + 1) xs))))
-methods_turn u L xs k x so_far one now whole l e o n w =
+pub methods_turn : (u : UnitTree) (xs : List Method) (k : ℕ) (x : Method) (so_far one now whole : Option Broken) → k < length xs → x ≡ get_or xs k x
+    → one ≡ first (broken_method u (heads (method_trees (take k xs))) (head_tree x.head)) → now ≡ earlier_of so_far one
+    → whole ≡ earlier_of so_far (first (broken_methods u (heads (method_trees (take k xs))) (method_trees (drop k xs)))) → whole ≡ earlier_of now (first (broken_methods u (heads (method_trees (take (k + 1) xs))) (method_trees (drop (k + 1) xs))))
+methods_turn u xs k x so_far one now whole l e o n w =
     let before = heads (method_trees (take k xs)) in
     let others = method_trees (drop (k + 1) xs) in
-    first_turn (broken_method u L before (method_tree x)) (broken_methods u L (before ++ head_tree x.head ∷ []) others) so_far one now whole o n
-    (w ∙ ap (λ us. earlier_of so_far (first (broken_methods u L before (method_trees us)))) (drop_turn xs k x l e))
-    ∙ ap (λ b. earlier_of now (first (broken_methods u L b others))) (sym (heads_take xs k x l e))
+    first_turn (broken_method u before (head_tree x.head)) (broken_methods u (before ++ head_tree x.head ∷ []) others) so_far one now whole o n
+    (w ∙ ap (λ us. earlier_of so_far (first (broken_methods u before (method_trees us)))) (drop_turn xs k x l e))
+    ∙ ap (λ b. earlier_of now (first (broken_methods u b others))) (sym (heads_take xs k x l e))
 
 pub methods_held : (xs : List Method) (k : ℕ) (x : Method) (old new : Sign → List ℕ → Option HeadTree) → k < length xs → x ≡ get_or xs k x
     → ((sign : Sign) (selector : List ℕ) → new sign selector ≡ or_else (old sign selector) (first_head sign selector (head_tree x.head ∷ [])))
@@ -162,13 +154,6 @@ pub methods_held : (xs : List Method) (k : ℕ) (x : Method) (old new : Sign →
 methods_held xs k x old new l e n h sign selector =
     n sign selector ∙ ap (λ o. or_else o (first_head sign selector (head_tree x.head ∷ []))) (h sign selector)
     ∙ sym (ap (first_head sign selector) (heads_take xs k x l e) ∙ first_head-append sign selector (heads (method_trees (take k xs))) (head_tree x.head ∷ []))
-
--- all that is told of a method
-pub method_told : (u : UnitTree) (L : Missing) (before : List HeadTree) (m : MethodTree) (again head own inside all : Option Broken) → again ≡ first (broken_if (is_some (first_head m.head.sign m.head.selector before)) m.head.at 21)
-    → head ≡ first (broken_head u m.head) → own ≡ earlier_of again head → inside ≡ first (broken_inside L m) → all ≡ earlier_of own inside → all ≡ first (broken_method u L before m)
-method_told u L before m again head own inside all a h o i e =
-    first_both (broken_if (is_some (first_head m.head.sign m.head.selector before)) m.head.at 21 ++ broken_head u m.head) (broken_inside L m) own inside all
-    (first_both (broken_if (is_some (first_head m.head.sign m.head.selector before)) m.head.at 21) (broken_head u m.head) again head own a h o) i e
 
 -- ---- fields
 
@@ -245,17 +230,17 @@ implementations_push (y ∷ xs) x = ap (λ us. implementation_tree y ∷ us) (im
 implementations_take : (xs : List Implementation) (k : ℕ) (x : Implementation) → k < length xs → x ≡ get_or xs k x → implementation_trees (take (k + 1) xs) ≡ implementation_trees (take k xs) ++ implementation_tree x ∷ []
 implementations_take xs k x l e = ap implementation_trees (take_more xs k x l ∙ ap (λ y. take k xs ++ y ∷ []) (sym e)) ∙ implementations_push (take k xs) x
 
-pub implementations_turn : (u : UnitTree) (L : Missing) (xs : List Implementation) (k : ℕ) (x : Implementation) (so_far one now whole : Option Broken) → k < length xs → x ≡ get_or xs k x
-    → one ≡ first (broken_implementation u L (implementation_trees (take k xs)) (implementation_tree x)) → now ≡ earlier_of so_far one
-    → whole ≡ earlier_of so_far (first (broken_implementations u L (implementation_trees (take k xs)) (implementation_trees (drop k xs))))
-    → whole ≡ earlier_of now (first (broken_implementations u L (implementation_trees (take (k + 1) xs)) (implementation_trees (drop (k + 1) xs))))
-implementations_turn u L xs k x so_far one now whole l e o n w =
+pub implementations_turn : (u : UnitTree) (xs : List Implementation) (k : ℕ) (x : Implementation) (so_far one now whole : Option Broken) → k < length xs → x ≡ get_or xs k x
+    → one ≡ first (broken_implementation u (implementation_trees (take k xs)) (implementation_tree x)) → now ≡ earlier_of so_far one
+    → whole ≡ earlier_of so_far (first (broken_implementations u (implementation_trees (take k xs)) (implementation_trees (drop k xs))))
+    → whole ≡ earlier_of now (first (broken_implementations u (implementation_trees (take (k + 1) xs)) (implementation_trees (drop (k + 1) xs))))
+implementations_turn u xs k x so_far one now whole l e o n w =
     let before = implementation_trees (take k xs) in
     let others = implementation_trees (drop (k + 1) xs) in
     let i = implementation_tree x in
-    first_turn (broken_implementation u L before i) (broken_implementations u L (before ++ i ∷ []) others) so_far one now whole o n
-    (w ∙ ap (λ us. earlier_of so_far (first (broken_implementations u L before (implementation_trees us)))) (drop_turn xs k x l e))
-    ∙ ap (λ b. earlier_of now (first (broken_implementations u L b others))) (sym (implementations_take xs k x l e))
+    first_turn (broken_implementation u before i) (broken_implementations u (before ++ i ∷ []) others) so_far one now whole o n
+    (w ∙ ap (λ us. earlier_of so_far (first (broken_implementations u before (implementation_trees us)))) (drop_turn xs k x l e))
+    ∙ ap (λ b. earlier_of now (first (broken_implementations u b others))) (sym (implementations_take xs k x l e))
 
 pub implementations_held : (xs : List Implementation) (k : ℕ) (x : Implementation) (old new : List ℕ → Bool) → k < length xs → x ≡ get_or xs k x → new ≡ and_name x.name.items old
     → ((name : List ℕ) → old name ≡ is_implemented (implementation_trees (take k xs)) name) → (name : List ℕ) → new name ≡ is_implemented (implementation_trees (take (k + 1) xs)) name

@@ -8,9 +8,8 @@ use Rattle.std.specs.Cmp.Lexicographic.{slice_cmp}
 use Rattle.std.specs.Ordering.{nat_cmp}
 use Rattle.std.specs.Map.{update}
 use Rattle.std.specs.Str.{bytes_eq}
-use Rattle.arc_class.specs.Bodies.{and_name, no_name}
+use Rattle.arc_class.specs.Walk.{and_name, no_name, holds}
 use Rattle.arc_class.specs.Table.{at_name}
-use Rattle.arc_class.specs.Walk.{holds}
 
 pub at_name-update : {X : Type 0} (name : List ℕ) (m n : BTreeMap (Bor (List ℕ)) X) (w : Option X) → UpdatesBy (λ x y. slice_cmp nat_cmp x.now y.now) (λ k. slice_cmp nat_cmp name k.now) m n w → (q : List ℕ) → at_name n q ≡ update bytes_eq (at_name m) name w q
 at_name-update name m n w h q = btree_map_updates_str name m n w h q

@@ -1,5 +1,6 @@
 -- From the parts of a table to what it is a table of.
 use Rattle.std.proofs.Common.{◌≡◌, ℕ, zero, suc, List, [], ◌∷◌, map, slice_get, Option, Some, None, option_map, refl, sym, ap, ◌∙◌}
+use Rattle.std.specs.Option.{option_and_then}
 use Rattle.std.proofs.Math.Path.{fun_ext}
 use Rattle.std.proofs.lemmas.Option.{slice_get-map}
 use Rattle.arc_ast.specs.declared.tree.Kind.{Kind}
@@ -9,7 +10,7 @@ use Rattle.arc_ast.specs.Tree.{InterfaceTree, UnitTree}
 use Rattle.arc_spec.specs.Classes.{ancestry, first_that_has}
 use Rattle.arc_class.specs.declared.table.ClassTable.{ClassTable}
 use Rattle.arc_class.specs.declared.table.Entry.{Entry}
-use Rattle.arc_class.specs.Classes.{superclass, superclass_of, own_result, result_in, result_of, built_in_result, counting_result, nearest_result, known_result, any_result, superclasses, class_number, or_else, first_head, declared, defined}
+use Rattle.arc_class.specs.Classes.{superclass, own_result, result_in, result_of, built_in_result, counting_result, nearest_result, known_result, any_result, superclasses, class_number, or_else, first_head, declared, defined}
 use Rattle.arc_class.specs.Entries.{EntryTree, entry_tree, root_entry, class_entry}
 use Rattle.arc_class.specs.Kept.{head_in}
 use Rattle.arc_class.specs.Table.{own_result_in, superclass_of_entry, superclass_in, result_among, result_at, result_in_table, any_result_in}
@@ -32,7 +33,7 @@ said_superclass : (u : UnitTree) (class : ℕ) → superclass_said (slice_get (r
 said_superclass u zero = refl
 said_superclass u (suc n) = ap superclass_said (slice_get-map (class_entry u) u.interfaces n) ∙ go (slice_get u.interfaces n)
   where
-    go : (o : Option InterfaceTree) → superclass_said (option_map (class_entry u) o) ≡ superclass_of u.interfaces o
+    go : (o : Option InterfaceTree) → superclass_said (option_map (class_entry u) o) ≡ option_and_then (λ i. class_number u.interfaces i.superclass) o
     go None = refl
     go (Some i) = refl
 
@@ -40,7 +41,7 @@ said_result : (u : UnitTree) (class : ℕ) (sign : Sign) (selector : List ℕ) �
 said_result u zero sign selector = refl
 said_result u (suc n) sign selector = ap (λ o. result_said (suc n) o sign selector) (slice_get-map (class_entry u) u.interfaces n) ∙ go (slice_get u.interfaces n)
   where
-    go : (o : Option InterfaceTree) → result_said (suc n) (option_map (class_entry u) o) sign selector ≡ own_result u o sign selector
+    go : (o : Option InterfaceTree) → result_said (suc n) (option_map (class_entry u) o) sign selector ≡ option_and_then (own_result u sign selector) o
     go None = refl
     go (Some i) = refl
 

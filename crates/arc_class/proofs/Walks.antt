@@ -7,10 +7,13 @@ use Rattle.arc_ast.specs.declared.tree.Stmt.{Stmt}
 use Rattle.arc_ast.specs.declared.tree.Variable.{Variable}
 use Rattle.arc_ast.specs.declared.tree.Parameter.{Parameter}
 use Rattle.arc_ast.specs.declared.tree.Function.{Function}
-use Rattle.arc_ast.specs.Tree.{ParameterTree, StmtTrees, expr_tree, expr_trees, stmt_tree, stmt_trees, variable_trees, parameter_trees, parameters_tree, function_tree, function_trees}
-use Rattle.arc_class.specs.Broken.{Broken, first, earlier_of}
-use Rattle.arc_class.specs.Bodies.{Missing, broken_if, broken_expr, broken_exprs, broken_maybe, broken_variables, broken_stmt, broken_stmts, broken_parameters, broken_function, no_name, and_name, names_with, names_after, names_taken, named_parameters, broken_body}
-use Rattle.arc_class.specs.Functions.{broken_functions}
+use Rattle.arc_ast.specs.declared.tree.Method.{Method}
+use Rattle.arc_ast.specs.declared.tree.Implementation.{Implementation}
+use Rattle.arc_ast.specs.Tree.{ParameterTree, StmtTrees, expr_tree, expr_trees, stmt_tree, stmt_trees, variable_trees, parameter_trees, parameters_tree, function_tree, function_trees, method_tree, method_trees, implementation_tree, implementation_trees}
+use Rattle.arc_class.specs.Broken.{Broken, first, earlier_of, broken_if}
+use Rattle.arc_class.specs.Walk.{Missing, broken_expr, broken_exprs, broken_maybe, broken_variables, broken_stmt, broken_stmts, broken_parameters, broken_function, no_name, and_name, names_with, names_after, names_taken, broken_body, broken_inside, broken_methods}
+use Rattle.arc_sites.specs.Sites.{named_parameters}
+use Rattle.std.specs.List.{flat_map}
 use Rattle.arc_class.proofs.Firsts.{first_turn, first_both}
 use Rattle.arc_class.proofs.Lists.{drop_turn}
 use Rattle.arc_ast.proofs.Trees.{call_tree, send_tree, send_super_tree, block_tree}
@@ -21,9 +24,19 @@ expressions_turn L xs i x so_far one now whole l e o n w =
     first_turn (broken_expr L (expr_tree x)) (broken_exprs L (expr_trees (drop (i + 1) xs))) so_far one now whole o n (w ∙ ap (λ us. earlier_of so_far (first (broken_exprs L (expr_trees us)))) (drop_turn xs i x l e))
 
 pub functions_turn : (L : Missing) (xs : List Function) (i : ℕ) (x : Function) (so_far one now whole : Option Broken) → i < length xs → x ≡ get_or xs i x → one ≡ first (broken_function L (function_tree x)) → now ≡ earlier_of so_far one
-    → whole ≡ earlier_of so_far (first (broken_functions L (function_trees (drop i xs)))) → whole ≡ earlier_of now (first (broken_functions L (function_trees (drop (i + 1) xs))))
+    → whole ≡ earlier_of so_far (first (flat_map (broken_function L) (function_trees (drop i xs)))) → whole ≡ earlier_of now (first (flat_map (broken_function L) (function_trees (drop (i + 1) xs))))
 functions_turn L xs i x so_far one now whole l e o n w =
-    first_turn (broken_function L (function_tree x)) (broken_functions L (function_trees (drop (i + 1) xs))) so_far one now whole o n (w ∙ ap (λ us. earlier_of so_far (first (broken_functions L (function_trees us)))) (drop_turn xs i x l e))
+    first_turn (broken_function L (function_tree x)) (flat_map (broken_function L) (function_trees (drop (i + 1) xs))) so_far one now whole o n (w ∙ ap (λ us. earlier_of so_far (first (flat_map (broken_function L) (function_trees us)))) (drop_turn xs i x l e))
+
+pub methods_turn : (L : Missing) (xs : List Method) (i : ℕ) (x : Method) (so_far one now whole : Option Broken) → i < length xs → x ≡ get_or xs i x → one ≡ first (broken_inside L (method_tree x)) → now ≡ earlier_of so_far one
+    → whole ≡ earlier_of so_far (first (flat_map (broken_inside L) (method_trees (drop i xs)))) → whole ≡ earlier_of now (first (flat_map (broken_inside L) (method_trees (drop (i + 1) xs))))
+methods_turn L xs i x so_far one now whole l e o n w =
+    first_turn (broken_inside L (method_tree x)) (flat_map (broken_inside L) (method_trees (drop (i + 1) xs))) so_far one now whole o n (w ∙ ap (λ us. earlier_of so_far (first (flat_map (broken_inside L) (method_trees us)))) (drop_turn xs i x l e))
+
+pub implementations_turn : (L : Missing) (xs : List Implementation) (i : ℕ) (x : Implementation) (so_far one now whole : Option Broken) → i < length xs → x ≡ get_or xs i x → one ≡ first (broken_methods L (implementation_tree x)) → now ≡ earlier_of so_far one
+    → whole ≡ earlier_of so_far (first (flat_map (broken_methods L) (implementation_trees (drop i xs)))) → whole ≡ earlier_of now (first (flat_map (broken_methods L) (implementation_trees (drop (i + 1) xs))))
+implementations_turn L xs i x so_far one now whole l e o n w =
+    first_turn (broken_methods L (implementation_tree x)) (flat_map (broken_methods L) (implementation_trees (drop (i + 1) xs))) so_far one now whole o n (w ∙ ap (λ us. earlier_of so_far (first (flat_map (broken_methods L) (implementation_trees us)))) (drop_turn xs i x l e))
 
 pub statements_turn : (L : Missing) (names after : List ℕ → Bool) (xs : List Stmt) (i : ℕ) (x : Stmt) (so_far one now whole : Option Broken) → i < length xs → x ≡ get_or xs i x → one ≡ first (broken_stmt L names (stmt_tree x)) → after ≡ names_after names (stmt_tree x)
     → now ≡ earlier_of so_far one → whole ≡ earlier_of so_far (first (broken_stmts L names (stmt_trees (drop i xs)))) → whole ≡ earlier_of now (first (broken_stmts L after (stmt_trees (drop (i + 1) xs))))
@@ -91,3 +104,9 @@ pub function_is : (L : Missing) (a : Function) (body : Vec Stmt Global) (named :
 function_is L a body named items e m n =
     ap (λ us. first (broken_parameters no_name (parameter_trees named) ++ broken_stmts L (names_taken no_name (parameter_trees named)) (stmt_trees us))) m
     ∙ ap (λ qs. first (broken_body L qs (Some (stmt_trees body.items)))) (sym n) ∙ sym (ap (λ o. first (broken_body L (named_parameters (parameters_tree a.parameters)) (option_map (λ b. stmt_trees b.items) o))) e)
+
+pub inside_method : (L : Missing) (m : Method) (ps : List Parameter) (all : List Stmt) → ps ≡ m.head.parameters.items → all ≡ m.body.items
+    → first (broken_parameters no_name (parameter_trees ps) ++ broken_stmts L (names_taken no_name (parameter_trees ps)) (stmt_trees all)) ≡ first (broken_inside L (method_tree m))
+inside_method L m ps all p a =
+    ap (λ qs. first (broken_parameters no_name (parameter_trees qs) ++ broken_stmts L (names_taken no_name (parameter_trees qs)) (stmt_trees all))) p
+    ∙ ap (λ us. first (broken_parameters no_name (parameter_trees m.head.parameters.items) ++ broken_stmts L (names_taken no_name (parameter_trees m.head.parameters.items)) (stmt_trees us))) a

@@ -1,111 +1,50 @@
--- The rules for the bodies of a source: names of variables, classes of types, and calls of functions that have no body.
-use Rattle.std.specs.Prelude.{ℕ, Bool, false, ◌||◌, List, [], ◌∷◌, ◌++◌, Option, Some, None, is_none, if◌then◌else◌}
+-- The rules for the bodies of a source: names of variables, classes of types, and calls of functions that have no body. Each is a predicate on a site: the place at
+-- which the site breaks it, if it does.
+use Rattle.std.specs.Prelude.{ℕ, Bool, false, List, ◌++◌, Option, None, is_none}
+use Rattle.std.specs.List.{list_any}
+use Rattle.std.specs.Option.{option_map_or}
 use Rattle.std.specs.Str.{bytes_eq}
 use Rattle.arc_ast.specs.Tree as t
-use Rattle.arc_ast.specs.Tree.{TypeTree, ExprTree, ExprTrees, Integer, Text, Paren, Call, Nil, Itself, Name, Negate, Plus, Cast, Binary, Arrow, Assign, Send, SendSuper, no_exprs, and_expr, VariableTree, StmtTree, StmtTrees, Block, Empty, Simple, Return, Variables, If, IfElse, While, no_stmts, and_stmt, ParameterTree, ParametersTree, Ints, CountAndTexts, FunctionTree}
+use Rattle.arc_ast.specs.Tree.{TypeTree, Call, Cast, Variables, UnitTree}
+use Rattle.arc_sites.specs.Finding.{violations_of}
+use Rattle.arc_sites.specs.Sites.{Around, Bound, Node, Value, Statement, Variable, Parameter, unit_sites}
+use Rattle.arc_sites.specs.Violations.{at_if, violates}
 use Rattle.arc_class.specs.declared.table.Declared.{Declared}
 use Rattle.arc_class.specs.Broken.{Broken}
+use Rattle.arc_class.specs.Classes.{class_number}
+use Rattle.arc_class.specs.Names.{known}
 
-abbrev pub broken_if : Bool → ℕ → ℕ → List Broken
-broken_if breaks at number = if breaks then record { at = at; number = number } ∷ [] else []
+abbrev pub is_bound : List Bound → List ℕ → Bool
+is_bound bound name = list_any (λ b. bytes_eq b.name name) bound
 
-abbrev pub lacks_body : Option Declared → Bool
-lacks_body None = false
-lacks_body (Some f) = is_none f.body
-
--- What a source doesn't have, by its name: a body of a function that it declares, and a class with an interface.
-pub record Missing : Type 0 where
-  pub bodies : List ℕ → Bool
-  pub classes : List ℕ → Bool
+-- 21 Duplicate: a variable or a parameter whose name stands in its scope already, at the name (C99, section 6.7)
+abbrev pub rule_21 : Around → Node → Option ℕ
+rule_21 s (Variable type v) = at_if (is_bound s.scope.own v.name) v.at
+rule_21 s (Parameter p) = at_if (is_bound s.scope.own p.name) p.at
+rule_21 s _ = None
 
 -- 22 UnknownClass: a type that names no class with an interface, at the class's name (OPL, "Static Typing"); the root needs none
-abbrev pub broken_type : Missing → TypeTree → List Broken
-broken_type missing t.Int = []
-broken_type missing t.Id = []
-broken_type missing (t.Object at name) = broken_if (missing.classes name) at 22
+abbrev pub unknown_class : UnitTree → TypeTree → Option ℕ
+unknown_class u (t.Object at name) = at_if (is_none (class_number u.interfaces name)) at
+unknown_class u _ = None
+
+abbrev pub rule_22 : UnitTree → Node → Option ℕ
+rule_22 u (Value (Cast at type a)) = unknown_class u type
+rule_22 u (Statement (Variables at type all)) = unknown_class u type
+rule_22 u _ = None
 
 -- 30 UndefinedFunction: a call of a function that is declared and has no body, at its name (C99, section 6.9)
-abbrev mutual
-  pub broken_expr : Missing → ExprTree → List Broken
-  broken_expr missing (Integer at n) = []
-  broken_expr missing (Text at bytes) = []
-  broken_expr missing (Paren at a) = broken_expr missing a
-  broken_expr missing (Call at name arguments) = broken_if (missing.bodies name) at 30 ++ broken_exprs missing arguments
-  broken_expr missing (Nil at) = []
-  broken_expr missing (Itself at) = []
-  broken_expr missing (Name at name) = []
-  broken_expr missing (Negate at a) = broken_expr missing a
-  broken_expr missing (Plus at a) = broken_expr missing a
-  broken_expr missing (Cast at type a) = broken_type missing type ++ broken_expr missing a
-  broken_expr missing (Binary at operator a b) = broken_expr missing a ++ broken_expr missing b
-  broken_expr missing (Arrow at name_at a name) = broken_expr missing a
-  broken_expr missing (Assign at sign a b) = broken_expr missing a ++ broken_expr missing b
-  broken_expr missing (Send at part receiver selector arguments) = broken_expr missing receiver ++ broken_exprs missing arguments
-  broken_expr missing (SendSuper at part super_at selector arguments) = broken_exprs missing arguments
+abbrev pub lacks_body : Option Declared → Bool
+lacks_body f = option_map_or (λ f. is_none f.body) f false
 
-  pub broken_exprs : Missing → ExprTrees → List Broken
-  broken_exprs missing no_exprs = []
-  broken_exprs missing (and_expr a others) = broken_expr missing a ++ broken_exprs missing others
+abbrev pub rule_30 : UnitTree → Node → Option ℕ
+rule_30 u (Value (Call at name arguments)) = at_if (lacks_body (known u.functions name)) at
+rule_30 u _ = None
 
-abbrev pub broken_maybe : Missing → Option ExprTree → List Broken
-broken_maybe missing None = []
-broken_maybe missing (Some a) = broken_expr missing a
+-- the rules that are broken at a site
+abbrev pub violations : UnitTree → Around → Node → List Broken
+violations u s n = violates 21 (rule_21 s n) ++ (violates 22 (rule_22 u n) ++ violates 30 (rule_30 u n))
 
--- the names that stand in a scope, as a test: none, and one more
-abbrev pub no_name : List ℕ → Bool
-no_name name = false
-
-abbrev pub and_name : List ℕ → (List ℕ → Bool) → List ℕ → Bool
-and_name one names name = bytes_eq one name || names name
-
--- 21 Duplicate: a variable whose name stands in its scope already, at the name (C99, section 6.7)
-abbrev pub broken_variables : Missing → (names : List ℕ → Bool) → List VariableTree → List Broken
-broken_variables missing names [] = []
-broken_variables missing names (v ∷ others) =
-    broken_if (names v.name) v.at 21 ++ (broken_maybe missing v.initial ++ broken_variables missing (and_name v.name names) others)
-
-abbrev pub names_with : (List ℕ → Bool) → List VariableTree → List ℕ → Bool
-names_with names [] = names
-names_with names (v ∷ others) = names_with (and_name v.name names) others
-
--- the names of a scope behind a statement
-abbrev pub names_after : (List ℕ → Bool) → StmtTree → List ℕ → Bool
-names_after names (Variables at type all) = names_with names all
-names_after names _ = names
-
--- All that is wrong with a statement in a scope with these names. A block is a scope of its own, and so is what an `if` or a `while` runs (C99, section 6.8).
-abbrev mutual
-  pub broken_stmt : Missing → (names : List ℕ → Bool) → StmtTree → List Broken
-  broken_stmt missing names (Block at all) = broken_stmts missing no_name all
-  broken_stmt missing names (Empty at) = []
-  broken_stmt missing names (Simple a) = broken_expr missing a
-  broken_stmt missing names (Return at a) = broken_maybe missing a
-  broken_stmt missing names (Variables at type all) = broken_type missing type ++ broken_variables missing names all
-  broken_stmt missing names (If at c a) = broken_expr missing c ++ broken_stmt missing no_name a
-  broken_stmt missing names (IfElse at c a b) = broken_expr missing c ++ (broken_stmt missing no_name a ++ broken_stmt missing no_name b)
-  broken_stmt missing names (While at c a) = broken_expr missing c ++ broken_stmt missing no_name a
-
-  pub broken_stmts : Missing → (names : List ℕ → Bool) → StmtTrees → List Broken
-  broken_stmts missing names no_stmts = []
-  broken_stmts missing names (and_stmt a others) = broken_stmt missing names a ++ broken_stmts missing (names_after names a) others
-
-abbrev pub broken_parameters : (names : List ℕ → Bool) → List ParameterTree → List Broken
-broken_parameters names [] = []
-broken_parameters names (p ∷ others) = broken_if (names p.name) p.at 21 ++ broken_parameters (and_name p.name names) others
-
-abbrev pub names_taken : (List ℕ → Bool) → List ParameterTree → List ℕ → Bool
-names_taken names [] = names
-names_taken names (p ∷ others) = names_taken (and_name p.name names) others
-
--- the parameters that have names in a body
-abbrev pub named_parameters : ParametersTree → List ParameterTree
-named_parameters (Ints all) = all
-named_parameters CountAndTexts = []
-
-abbrev pub broken_body : Missing → List ParameterTree → Option StmtTrees → List Broken
-broken_body missing parameters None = []
-broken_body missing parameters (Some body) = broken_parameters no_name parameters ++ broken_stmts missing (names_taken no_name parameters) body
-
--- all that is wrong inside a function; its parameters and the variables of its outermost block are one scope, and those of a mere declaration are in none
-abbrev pub broken_function : Missing → FunctionTree → List Broken
-broken_function missing f = broken_body missing (named_parameters f.parameters) f.body
+-- all that is wrong in the bodies of a source
+abbrev pub broken_bodies : UnitTree → List Broken
+broken_bodies u = violations_of (violations u) (unit_sites u)

@@ -1,5 +1,7 @@
 -- The rules for classes, their methods and their fields.
-use Rattle.std.specs.Prelude.{ℕ, suc, Bool, false, ◌&&◌, ◌||◌, not, nat_lt, List, [], ◌∷◌, ◌++◌, length, Option, Some, None, is_some, is_none, codes, if◌then◌else◌}
+use Rattle.std.specs.Prelude.{ℕ, suc, Bool, false, ◌&&◌, ◌||◌, not, nat_lt, List, [], ◌∷◌, ◌++◌, length, flat_map, Option, Some, None, is_some, is_none, codes, if◌then◌else◌}
+use Rattle.std.specs.List.{list_any}
+use Rattle.std.specs.Option.{option_map_or}
 use Rattle.std.specs.Str.{bytes_eq}
 use Rattle.arc_class.specs.declared.classes.TheConstants.{MOST_FIELDS}
 use Rattle.arc_ast.specs.declared.tree.Kind.{Kind}
@@ -7,25 +9,23 @@ use Rattle.arc_ast.specs.declared.tree.Kind.TheVariants as k
 use Rattle.arc_ast.specs.declared.tree.Sign.{Sign}
 use Rattle.arc_ast.specs.declared.tree.Sign.TheVariants as signs
 use Rattle.arc_ast.specs.Tree.{FunctionTree, HeadTree, MethodTree, FieldTree, InterfaceTree, ImplementationTree, UnitTree}
-use Rattle.arc_spec.specs.Classes.{ancestry}
-use Rattle.arc_class.specs.Bodies.{Missing, broken_if, broken_parameters, broken_stmts, names_taken, no_name}
-use Rattle.arc_class.specs.Broken.{Broken}
+use Rattle.arc_spec.specs.Classes.{same_sign, ancestry}
+use Rattle.arc_class.specs.Bodies.{broken_bodies}
+use Rattle.arc_class.specs.Broken.{Broken, broken_if}
 use Rattle.arc_class.specs.Classes.{is_root, interface_number, class_number, superclasses, first_head, built_in_result, or_else, declared, defined}
 use Rattle.arc_class.specs.Fields.{own_fields, fields_declared, fields}
-use Rattle.arc_class.specs.Functions.{is_library, same_kind, lacks_body_in, broken_in_functions}
-use Rattle.arc_class.specs.Names.{first_named}
+use Rattle.arc_class.specs.Functions.{is_library, same_kind, duplicates, missing_main}
+use Rattle.arc_class.specs.Names.{first_named, number_of, is_main}
 
 -- ---- methods
 
 -- whether a method stands before another and gives another kind of value
 abbrev pub differs_before : Option HeadTree → HeadTree → Bool
-differs_before None h = false
-differs_before (Some earlier) h = nat_lt earlier.at h.at && not (same_kind earlier.result h.result)
+differs_before earlier h = option_map_or (λ e. nat_lt e.at h.at && not (same_kind e.result h.result)) earlier false
 
 -- whether a method that is built in gives another kind of value
 abbrev pub differs_from : Option Kind → HeadTree → Bool
-differs_from None h = false
-differs_from (Some kind) h = not (same_kind kind h.result)
+differs_from kind h = option_map_or (λ given. not (same_kind given h.result)) kind false
 
 -- the selectors of the methods of the root that tell of an object's class (OPL, "Introspection")
 abbrev pub tells_class : List ℕ → Bool
@@ -34,8 +34,7 @@ tells_class selector = bytes_eq selector (codes "isKindOfClass:") || (bytes_eq s
 
 -- these give a BOOL; no source can send them yet
 abbrev pub told_kind : Sign → List ℕ → Option Kind
-told_kind signs.Class selector = None
-told_kind signs.Instance selector = if tells_class selector then Some k.Bool else None
+told_kind sign selector = if same_sign sign signs.Instance && tells_class selector then Some k.Bool else None
 
 -- what the methods of the root give, which are built in
 abbrev pub built_in_kind : Sign → List ℕ → Option Kind
@@ -53,8 +52,7 @@ abbrev pub is_class_hook : List ℕ → Bool
 is_class_hook selector = bytes_eq selector (codes "load") || (bytes_eq selector (codes "initialize") || bytes_eq selector (codes "alloc"))
 
 abbrev pub is_hook_of : Sign → List ℕ → Bool
-is_hook_of signs.Class selector = is_class_hook selector
-is_hook_of signs.Instance selector = tells_class selector
+is_hook_of sign selector = if same_sign sign signs.Class then is_class_hook selector else tells_class selector
 
 abbrev pub is_hook : HeadTree → Bool
 is_hook h = is_hook_of h.sign h.selector || bytes_eq h.selector (codes "class")
@@ -62,22 +60,13 @@ is_hook h = is_hook_of h.sign h.selector || bytes_eq h.selector (codes "class")
 abbrev pub broken_head : UnitTree → HeadTree → List Broken
 broken_head u h = broken_if (changes_kind u h) h.at 24 ++ broken_if (is_hook h) h.at 28
 
-abbrev pub broken_heads : UnitTree → List HeadTree → List Broken
-broken_heads u [] = []
-broken_heads u (h ∷ others) = broken_head u h ++ broken_heads u others
-
--- all that is wrong inside a method; its parameters and the variables of its outermost block are one scope
-abbrev pub broken_inside : Missing → MethodTree → List Broken
-broken_inside missing m = broken_parameters no_name m.head.parameters ++ broken_stmts missing (names_taken no_name m.head.parameters) m.body
-
 -- 21 Duplicate: a second method of one implementation of a sign with a selector, at its `+` or `-`; `before` are those before it (this project's own choice)
-abbrev pub broken_method : UnitTree → Missing → (before : List HeadTree) → MethodTree → List Broken
-broken_method u missing before m =
-    (broken_if (is_some (first_head m.head.sign m.head.selector before)) m.head.at 21 ++ broken_head u m.head) ++ broken_inside missing m
+abbrev pub broken_method : UnitTree → (before : List HeadTree) → HeadTree → List Broken
+broken_method u before h = broken_if (is_some (first_head h.sign h.selector before)) h.at 21 ++ broken_head u h
 
-abbrev pub broken_methods : UnitTree → Missing → (before : List HeadTree) → List MethodTree → List Broken
-broken_methods u missing before [] = []
-broken_methods u missing before (m ∷ others) = broken_method u missing before m ++ broken_methods u missing (before ++ m.head ∷ []) others
+abbrev pub broken_methods : UnitTree → (before : List HeadTree) → List MethodTree → List Broken
+broken_methods u before [] = []
+broken_methods u before (m ∷ others) = broken_method u before m.head ++ broken_methods u (before ++ m.head ∷ []) others
 
 -- ---- fields
 
@@ -87,47 +76,25 @@ field_place name [] = None
 field_place name (f ∷ others) = if bytes_eq name f.name then Some f.at else field_place name others
 
 abbrev pub is_earlier : Option ℕ → ℕ → Bool
-is_earlier None at = false
-is_earlier (Some other) at = nat_lt other at
-
--- the lesser of two places, where there are any
-abbrev pub least_of : Option ℕ → Option ℕ → Option ℕ
-least_of None b = b
-least_of (Some a) None = Some a
-least_of (Some a) (Some b) = Some (if nat_lt b a then b else a)
-
--- the least place that one of these classes has
-abbrev pub least_among : (own : ℕ → Option ℕ) → (classes : List ℕ) → Option ℕ
-least_among own [] = None
-least_among own (class ∷ others) = least_of (own class) (least_among own others)
-
--- the first by position of the fields with a name that a class and those above it declare
-abbrev pub inherited_place : UnitTree → (above : Option ℕ) → List ℕ → Option ℕ
-inherited_place u above name = least_among (λ class. field_place name (own_fields u class)) (ancestry (superclasses u.interfaces) above)
+is_earlier other at = option_map_or (λ o. nat_lt o at) other false
 
 -- two fields with one name, told at the second by position
 abbrev pub broken_pair : Option ℕ → ℕ → List Broken
-broken_pair None at = []
-broken_pair (Some other) at = record { at = if nat_lt at other then other else at; number = 21 } ∷ []
+broken_pair other at = option_map_or (λ o. record { at = if nat_lt at o then o else at; number = 21 } ∷ []) other []
 
 -- 21 Duplicate: of two fields with one name, of one class or of a class and one above it, the second by position, at its name (OPL, "Instance Variables"). These
 -- are a field's, where its class declares all of these.
 abbrev pub broken_field : UnitTree → (above : Option ℕ) → (all : List FieldTree) → (at : ℕ) → (name : List ℕ) → List Broken
-broken_field u above all at name = broken_if (is_earlier (field_place name all) at) at 21 ++ broken_pair (inherited_place u above name) at
+broken_field u above all at name = broken_if (is_earlier (field_place name all) at) at 21
+    ++ flat_map (λ class. broken_pair (field_place name (own_fields u class)) at) (ancestry (superclasses u.interfaces) above)
 
 abbrev pub broken_fields : UnitTree → (above : Option ℕ) → (all : List FieldTree) → List FieldTree → List Broken
-broken_fields u above all [] = []
-broken_fields u above all (f ∷ others) = broken_field u above all f.at f.name ++ broken_fields u above all others
-
--- 27 TooManyFields: a class whose objects have more fields than this, at its interface's name (this project's own limit)
-abbrev pub most_fields : ℕ
-most_fields = MOST_FIELDS
+broken_fields u above all = flat_map (λ f. broken_field u above all f.at f.name)
 
 -- ---- classes
 
 abbrev pub stands_before : Option FunctionTree → ℕ → Bool
-stands_before None at = false
-stands_before (Some f) at = nat_lt f.at at
+stands_before f at = option_map_or (λ f. nat_lt f.at at) f false
 
 -- 21 Duplicate: an interface of the root, of a name of the library's, of an earlier interface's class or of an earlier function's name, at its name
 -- (this project's own choice)
@@ -136,8 +103,7 @@ is_taken u before i = is_root i.name || (is_library i.name || (is_some (interfac
 
 -- the first implementation with a name is there
 abbrev pub is_implemented : List ImplementationTree → List ℕ → Bool
-is_implemented [] name = false
-is_implemented (i ∷ others) name = bytes_eq name i.name || is_implemented others name
+is_implemented implementations name = list_any (λ i. bytes_eq name i.name) implementations
 
 -- 22 UnknownClass: a superclass that has no earlier interface, at its name. 26 NoImplementation: a class that has no implementation, at its interface's name
 -- (OPL, "Defining a Class").
@@ -148,8 +114,9 @@ broken_names u before i = (broken_if (is_taken u before i) i.at 21 ++ broken_if 
 abbrev pub broken_own_fields : UnitTree → (class : ℕ) → InterfaceTree → List Broken
 broken_own_fields u class i = broken_fields u (class_number u.interfaces i.superclass) (fields_declared u class i) (fields_declared u class i)
 
+-- 27 TooManyFields: a class whose objects have more fields than this, at its interface's name (this project's own limit)
 abbrev pub broken_members : UnitTree → (class : ℕ) → InterfaceTree → List Broken
-broken_members u class i = broken_if (nat_lt most_fields (length (fields u class))) i.at 27 ++ (broken_own_fields u class i ++ broken_heads u i.methods)
+broken_members u class i = broken_if (nat_lt MOST_FIELDS (length (fields u class))) i.at 27 ++ (broken_own_fields u class i ++ flat_map (broken_head u) i.methods)
 
 abbrev pub broken_interface : UnitTree → (before : List InterfaceTree) → InterfaceTree → List Broken
 broken_interface u before i = broken_names u before i ++ broken_members u (suc (length before)) i
@@ -165,12 +132,12 @@ broken_own_names u before i =
     broken_if (is_root i.name || is_implemented before i.name) i.at 21 ++ broken_if (is_none (class_number u.interfaces i.name)) i.at 22
 
 -- the fields of an implementation are told with those of its class's interface
-abbrev pub broken_implementation : UnitTree → Missing → (before : List ImplementationTree) → ImplementationTree → List Broken
-broken_implementation u missing before i = broken_own_names u before i ++ broken_methods u missing [] i.methods
+abbrev pub broken_implementation : UnitTree → (before : List ImplementationTree) → ImplementationTree → List Broken
+broken_implementation u before i = broken_own_names u before i ++ broken_methods u [] i.methods
 
-abbrev pub broken_implementations : UnitTree → Missing → (before : List ImplementationTree) → List ImplementationTree → List Broken
-broken_implementations u missing before [] = []
-broken_implementations u missing before (i ∷ others) = broken_implementation u missing before i ++ broken_implementations u missing (before ++ i ∷ []) others
+abbrev pub broken_implementations : UnitTree → (before : List ImplementationTree) → List ImplementationTree → List Broken
+broken_implementations u before [] = []
+broken_implementations u before (i ∷ others) = broken_implementation u before i ++ broken_implementations u (before ++ i ∷ []) others
 
 -- ---- names
 
@@ -184,14 +151,9 @@ class_before interfaces name at = is_root name || interface_before interfaces na
 
 -- 21 Duplicate: a function with the name of the root or of an earlier interface's class, at its name (this project's own choice)
 abbrev pub named_as_classes : List InterfaceTree → List FunctionTree → List Broken
-named_as_classes interfaces [] = []
-named_as_classes interfaces (f ∷ others) = broken_if (class_before interfaces f.name f.at) f.at 21 ++ named_as_classes interfaces others
+named_as_classes interfaces = flat_map (λ f. broken_if (class_before interfaces f.name f.at) f.at 21)
 
--- what a source doesn't have
-abbrev pub missing_of : UnitTree → Missing
-missing_of u = record { bodies = lacks_body_in u.functions; classes = λ name. is_none (class_number u.interfaces name) }
-
--- all that is wrong with what a source declares
+-- all that is wrong with what a source declares, and inside its functions and methods with names of variables, with types and with calls
 abbrev pub broken : UnitTree → List Broken
-broken u = broken_in_functions (missing_of u) u.functions ++ (named_as_classes u.interfaces u.functions
-    ++ (broken_interfaces u [] u.interfaces ++ broken_implementations u (missing_of u) [] u.implementations))
+broken u = (duplicates [] u.functions ++ (missing_main (number_of is_main u.functions) ++ broken_bodies u))
+    ++ (named_as_classes u.interfaces u.functions ++ (broken_interfaces u [] u.interfaces ++ broken_implementations u [] u.implementations))

@@ -1,5 +1,6 @@
 -- The classes of a source, their methods and their selectors.
-use Rattle.std.specs.Prelude.{ℕ, zero, suc, ◌+◌, Bool, false, ◌&&◌, ◌||◌, nat_lt, List, [], ◌∷◌, ◌++◌, length, map, Option, Some, None, option_map, slice_get, codes, if◌then◌else◌}
+use Rattle.std.specs.Prelude.{ℕ, zero, suc, ◌+◌, Bool, ◌&&◌, ◌||◌, nat_lt, List, [], ◌∷◌, ◌++◌, length, map, fold, flat_map, Option, Some, None, option_map, option_and_then, slice_get, codes, if◌then◌else◌}
+use Rattle.std.specs.List.{find, list_any}
 use Rattle.std.specs.Str.{bytes_eq}
 use Rattle.arc_ast.specs.declared.tree.Kind.{Kind}
 use Rattle.arc_ast.specs.declared.tree.Kind.TheVariants as k
@@ -24,14 +25,10 @@ interface_number (i ∷ others) name = if bytes_eq name i.name then Some 0 else 
 abbrev pub class_number : List InterfaceTree → List ℕ → Option ℕ
 class_number interfaces name = if is_root name then Some 0 else option_map (λ n. suc n) (interface_number interfaces name)
 
-abbrev pub superclass_of : List InterfaceTree → Option InterfaceTree → Option ℕ
-superclass_of interfaces None = None
-superclass_of interfaces (Some i) = class_number interfaces i.superclass
-
 -- the number of the superclass of a class (OPL, "Inheritance")
 abbrev pub superclass : List InterfaceTree → (class : ℕ) → Option ℕ
 superclass interfaces zero = None
-superclass interfaces (suc n) = superclass_of interfaces (slice_get interfaces n)
+superclass interfaces (suc n) = option_and_then (λ i. class_number interfaces i.superclass) (slice_get interfaces n)
 
 -- the superclasses of all classes, in the order of their numbers
 abbrev pub superclasses : List InterfaceTree → List (Option ℕ)
@@ -39,8 +36,7 @@ superclasses interfaces = None ∷ map (λ i. class_number interfaces i.supercla
 
 -- what is declared of methods
 abbrev pub heads : List MethodTree → List HeadTree
-heads [] = []
-heads (m ∷ others) = m.head ∷ heads others
+heads = map (λ m. m.head)
 
 -- the methods that the first implementation with a name defines
 abbrev pub defined_by : List ImplementationTree → List ℕ → List MethodTree
@@ -53,16 +49,14 @@ is_method sign selector h = same_sign sign h.sign && bytes_eq selector h.selecto
 
 -- the first method of a sign with a selector
 abbrev pub first_head : Sign → List ℕ → List HeadTree → Option HeadTree
-first_head sign selector [] = None
-first_head sign selector (h ∷ others) = if is_method sign selector h then Some h else first_head sign selector others
+first_head sign selector = find (is_method sign selector)
 
 abbrev pub result_of : HeadTree → Kind
 result_of h = h.result
 
 -- what a class's own method with a selector gives: one that its interface declares, or else one that its implementation defines
-abbrev pub own_result : UnitTree → Option InterfaceTree → Sign → List ℕ → Option Kind
-own_result u None sign selector = None
-own_result u (Some i) sign selector = option_map result_of (first_head sign selector (i.methods ++ heads (defined_by u.implementations i.name)))
+abbrev pub own_result : UnitTree → Sign → List ℕ → InterfaceTree → Option Kind
+own_result u sign selector i = option_map result_of (first_head sign selector (i.methods ++ heads (defined_by u.implementations i.name)))
 
 -- What the methods of the root give that are built in: two make objects, and `init` gives the object that it was sent to (OPL, "Allocating and Initializing
 -- Objects"); `dealloc` gives nothing.
@@ -81,7 +75,7 @@ counting_result selector =
 
 abbrev pub result_in : UnitTree → (class : ℕ) → Sign → List ℕ → Option Kind
 result_in u zero sign selector = built_in_result sign selector
-result_in u (suc n) sign selector = own_result u (slice_get u.interfaces n) sign selector
+result_in u (suc n) sign selector = option_and_then (own_result u sign selector) (slice_get u.interfaces n)
 
 -- What the method gives that is known for a message to a class or to its objects: the nearest that the class or a class above it declares or defines (OPL,
 -- "Messages to self and super"), those of the root being built in, and those that count owners as they are always known.
@@ -89,17 +83,14 @@ abbrev pub nearest_result : UnitTree → Option ℕ → Sign → List ℕ → Op
 nearest_result u from sign selector = first_that_has (λ class. result_in u class sign selector) (ancestry (superclasses u.interfaces) from)
 
 abbrev pub known_result : UnitTree → Option ℕ → Sign → List ℕ → Option Kind
-known_result u None sign selector = None
-known_result u (Some class) sign selector = or_else (counting_result selector) (nearest_result u (Some class) sign selector)
+known_result u from sign selector = option_and_then (λ class. or_else (counting_result selector) (nearest_result u (Some class) sign selector)) from
 
 -- the methods of all interfaces, and those of all implementations
 abbrev pub declared : List InterfaceTree → List HeadTree
-declared [] = []
-declared (i ∷ others) = i.methods ++ declared others
+declared = flat_map (λ i. i.methods)
 
 abbrev pub defined : List ImplementationTree → List HeadTree
-defined [] = []
-defined (i ∷ others) = heads i.methods ++ defined others
+defined = flat_map (λ i. heads i.methods)
 
 -- What a message to an object gives of which no class is known (OPL, "Dynamic Typing"): where it counts owners as that is known, and else as the first method of
 -- objects does that is declared, or else defined, or built in. All of these give the same.
@@ -114,20 +105,17 @@ any_result u selector = or_else (counting_result selector) (source_result u sele
 
 -- whether a name is among these
 abbrev pub among : List (List ℕ) → List ℕ → Bool
-among [] name = false
-among (a ∷ others) name = bytes_eq a name || among others name
+among names name = list_any (λ a. bytes_eq a name) names
 
 -- names and one more, unless it is among them
 abbrev pub and_name : List (List ℕ) → List ℕ → List (List ℕ)
 and_name names name = if among names name then names else names ++ name ∷ []
 
 abbrev pub with_selectors : List (List ℕ) → List HeadTree → List (List ℕ)
-with_selectors names [] = names
-with_selectors names (h ∷ others) = with_selectors (and_name names h.selector) others
+with_selectors = fold (λ names h. and_name names h.selector)
 
 abbrev pub defined_selectors : List (List ℕ) → List ImplementationTree → List (List ℕ)
-defined_selectors names [] = names
-defined_selectors names (i ∷ others) = defined_selectors (with_selectors names (heads i.methods)) others
+defined_selectors = fold (λ names i. with_selectors names (heads i.methods))
 
 -- the selectors of the root's methods, which are built in (Runtime Reference, "NSObject"; OPL, "Allocating and Initializing Objects" and "Introspection")
 abbrev pub built_in_selectors : List (List ℕ)
@@ -160,10 +148,6 @@ number_among (a ∷ others) name = if bytes_eq a name then Some 0 else option_ma
 abbrev pub selector_number : UnitTree → List ℕ → Option ℕ
 selector_number u name = number_among (selectors u) name
 
-abbrev pub or_zero : Option ℕ → ℕ
-or_zero None = 0
-or_zero (Some n) = n
-
 -- whether a method ends the objects of its class
 abbrev pub is_dealloc : HeadTree → Bool
 is_dealloc h = is_method signs.Instance (codes "dealloc") h
@@ -177,8 +161,7 @@ bodies (f ∷ others) = if has_body f then suc (bodies others) else bodies other
 
 -- Functions are numbered: first those with a body, and then the methods, in the order of the implementations. This is how many there are behind some.
 abbrev pub numbers_after : (first : ℕ) → List ImplementationTree → ℕ
-numbers_after first [] = first
-numbers_after first (i ∷ others) = numbers_after (first + length i.methods) others
+numbers_after = fold (λ number i. number + length i.methods)
 
 abbrev pub function_count : UnitTree → ℕ
 function_count u = numbers_after (bodies u.functions) u.implementations

@@ -3,14 +3,15 @@ use Rattle.std.specs.Prelude.{ℕ, suc, ◌+◌, List, [], ◌∷◌, ◌++◌, 
 use Rattle.arc_ast.specs.declared.tree.Kind.{Kind}
 use Rattle.arc_ast.specs.declared.tree.Sign.{Sign}
 use Rattle.arc_ast.specs.Tree.{FieldTree, InterfaceTree, UnitTree, field_trees}
+use Rattle.arc_spec.specs.Classes.{ancestry}
 use Rattle.arc_class.specs.declared.fields.ClassFields.{ClassFields}
 use Rattle.arc_class.specs.declared.fields.OwnFields.{OwnFields}
 use Rattle.arc_class.specs.declared.table.Entry.{Entry}
 use Rattle.arc_class.specs.declared.table.FoundField.{FoundField}
 use Rattle.arc_class.specs.ClassRules.{field_place}
-use Rattle.arc_class.specs.Classes.{class_number, own_result}
-use Rattle.arc_class.specs.Fields.{numbered, fields_declared, inherited_by}
-use Rattle.arc_class.specs.Lookups.{at_name, result_at}
+use Rattle.arc_class.specs.Classes.{class_number, own_result, superclasses}
+use Rattle.arc_class.specs.Fields.{numbered, fields_declared, inherited_by, own_fields}
+use Rattle.arc_class.specs.Lookups.{at_name, result_at, least_among}
 
 -- a class's superclass, and what its own methods give
 pub record EntryTree : Type 0 where
@@ -25,7 +26,7 @@ abbrev pub root_entry : EntryTree
 root_entry = record { superclass = None; results = λ sign selector. None }
 
 abbrev pub class_entry : UnitTree → InterfaceTree → EntryTree
-class_entry u i = record { superclass = class_number u.interfaces i.superclass; results = own_result u (Some i) }
+class_entry u i = record { superclass = class_number u.interfaces i.superclass; results = λ sign selector. own_result u sign selector i }
 
 -- the fields that a class declares, without where they lie in memory
 abbrev pub own_trees : OwnFields → List FieldTree
@@ -72,3 +73,7 @@ count_at (Some c) = c.count
 abbrev pub count_among : List ClassFields → Option ℕ → ℕ
 count_among classes None = 0
 count_among classes (Some class) = count_at (slice_get classes class)
+
+-- the first by position of the fields with a name that a class and those above it declare, in a source
+abbrev pub inherited_place : UnitTree → (above : Option ℕ) → List ℕ → Option ℕ
+inherited_place u above name = least_among (λ class. field_place name (own_fields u class)) (ancestry (superclasses u.interfaces) above)

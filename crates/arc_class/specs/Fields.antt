@@ -1,5 +1,6 @@
 -- The fields of objects.
 use Rattle.std.specs.Prelude.{ℕ, zero, suc, Bool, false, List, [], ◌∷◌, ◌++◌, length, map, Option, Some, None, nat_eq, nat_lt, reverse, flat_map, slice_get, if◌then◌else◌}
+use Rattle.std.specs.Option.{option_and_then, option_map_or}
 use Rattle.std.specs.Str.{bytes_eq}
 use Rattle.arc_ast.specs.declared.tree.Kind.{Kind}
 use Rattle.arc_ast.specs.declared.tree.Kind.TheVariants as k
@@ -24,8 +25,7 @@ fields_by [] name = []
 fields_by (i ∷ others) name = if bytes_eq name i.name then i.fields else fields_by others name
 
 abbrev pub is_number : ℕ → Option ℕ → Bool
-is_number class None = false
-is_number class (Some n) = nat_eq n class
+is_number class found = option_map_or (λ n. nat_eq n class) found false
 
 -- the fields that an implementation adds to those of this interface, whose class has this number; the first interface with a name has the implementation
 abbrev pub fields_added : UnitTree → (class : ℕ) → InterfaceTree → List FieldTree
@@ -42,21 +42,16 @@ abbrev pub fields_declared : UnitTree → (class : ℕ) → InterfaceTree → Li
 fields_declared u class i =
     if implemented_before u.implementations i.name i.at then fields_added u class i ++ i.fields else i.fields ++ fields_added u class i
 
-abbrev pub fields_of : UnitTree → (class : ℕ) → Option InterfaceTree → List FieldTree
-fields_of u class None = []
-fields_of u class (Some i) = fields_declared u class i
-
 abbrev pub own_fields : UnitTree → (class : ℕ) → List FieldTree
 own_fields u zero = []
-own_fields u (suc n) = fields_of u (suc n) (slice_get u.interfaces n)
+own_fields u (suc n) = option_map_or (fields_declared u (suc n)) (slice_get u.interfaces n) []
 
 abbrev pub owned : (owner : ℕ) → FieldTree → ClassField
 owned owner f = record { name = f.name; kind = k.Int; qual = None; owner = owner; visibility = f.visibility }
 
 -- a superclass that stands before its class; another one is inherited from by nobody, since it is refused (rule 22, UnknownClass)
 abbrev pub if_before : (class : ℕ) → (superclass : Option ℕ) → Option ℕ
-if_before class None = None
-if_before class (Some above) = if nat_lt above class then Some above else None
+if_before class = option_and_then (λ above. if nat_lt above class then Some above else None)
 
 abbrev pub earlier_superclasses_from : List InterfaceTree → (class : ℕ) → List InterfaceTree → List (Option ℕ)
 earlier_superclasses_from interfaces class [] = []
@@ -74,13 +69,9 @@ own_class_fields u class = map (owned class) (own_fields u class)
 abbrev pub fields : UnitTree → (class : ℕ) → List ClassField
 fields u class = flat_map (own_class_fields u) (reverse (ancestry (earlier_superclasses u.interfaces) (Some class)))
 
-abbrev pub fields_from : UnitTree → (class : Option ℕ) → List ClassField
-fields_from u None = []
-fields_from u (Some class) = fields u class
-
 -- those that a class inherits from a superclass
 abbrev pub inherited_by : UnitTree → (class : ℕ) → (superclass : Option ℕ) → List ClassField
-inherited_by u class superclass = fields_from u (if_before class superclass)
+inherited_by u class superclass = option_map_or (fields u) (if_before class superclass) []
 
 -- the same of so many classes, from one on
 abbrev pub all_fields_from : UnitTree → (class count : ℕ) → List (List ClassField)

@@ -1,5 +1,5 @@
 -- What tables, maps and lists have at names and numbers.
-use Rattle.std.specs.Prelude.{ℕ, zero, suc, ◌+◌, Bool, false, List, [], ◌∷◌, map, slice_get, nat_eq, codes, Option, Some, None, option_map, Vec, if◌then◌else◌}
+use Rattle.std.specs.Prelude.{ℕ, zero, suc, ◌+◌, Bool, false, List, [], ◌∷◌, map, slice_get, nat_eq, nat_lt, codes, Option, Some, None, option_map, Vec, if◌then◌else◌}
 use Rattle.std.specs.Global.{Global}
 use Rattle.std.specs.Str.{bytes_eq}
 use Rattle.std.specs.BTreeMap.{BTreeMap, get_by}
@@ -22,7 +22,6 @@ use Rattle.arc_class.specs.declared.table.MethodId.{MethodId}
 use Rattle.arc_class.specs.declared.table.Place.{Place}
 use Rattle.arc_class.specs.declared.table.Sel.{Sel}
 use Rattle.arc_class.specs.Classes.{is_root, built_in_result}
-use Rattle.arc_class.specs.ClassRules.{least_among}
 use Rattle.arc_class.specs.Fields.{ClassField}
 use Rattle.arc_class.specs.Running.{classes}
 
@@ -88,6 +87,17 @@ superclass_of_fields c = c.superclass
 
 abbrev pub field_among : List ClassFields → Option ℕ → List ℕ → Option FoundField
 field_among classes from name = first_that_has (λ class. own_field_in (slice_get classes class) name) (ancestry (map superclass_of_fields classes) from)
+
+-- the lesser of two places, where there are any
+abbrev pub least_of : Option ℕ → Option ℕ → Option ℕ
+least_of None b = b
+least_of (Some a) None = Some a
+least_of (Some a) (Some b) = Some (if nat_lt b a then b else a)
+
+-- the least place that one of these classes has
+abbrev pub least_among : (own : ℕ → Option ℕ) → (classes : List ℕ) → Option ℕ
+least_among own [] = None
+least_among own (class ∷ others) = least_of (own class) (least_among own others)
 
 -- the first by position of the fields with a name that a class and those above it declare
 abbrev pub place_among : List ClassFields → Option ℕ → List ℕ → Option ℕ

@@ -1,5 +1,6 @@
 -- Functions by their names.
 use Rattle.std.specs.Prelude.{ℕ, zero, suc, Bool, true, false, ◌&&◌, List, [], ◌∷◌, length, Option, Some, None, is_some, option_map, codes, if◌then◌else◌}
+use Rattle.std.specs.List.{find}
 use Rattle.std.specs.Str.{bytes_eq}
 use Rattle.arc_ast.specs.declared.tree.Kind.{Kind}
 use Rattle.arc_ast.specs.declared.tree.Kind.TheVariants as k
@@ -19,19 +20,18 @@ takes CountAndTexts = None
 abbrev pub signature : FunctionTree → Signature
 signature f = record { result = f.result; takes = takes f.parameters }
 
+abbrev pub is_named : List ℕ → FunctionTree → Bool
+is_named name f = bytes_eq name f.name
+
 -- the first function with a name
 abbrev pub first_named : List ℕ → List FunctionTree → Option FunctionTree
-first_named name [] = None
-first_named name (f ∷ others) = if bytes_eq name f.name then Some f else first_named name others
+first_named name functions = find (is_named name) functions
 
 -- the number of the first function that has a body and passes a test, counted from 0 among those with a body
 abbrev pub number_of : (FunctionTree → Bool) → List FunctionTree → Option ℕ
 number_of test [] = None
 number_of test (f ∷ others) =
     if has_body f then (if test f then Some 0 else option_map (λ n. suc n) (number_of test others)) else number_of test others
-
-abbrev pub is_named : List ℕ → FunctionTree → Bool
-is_named name f = bytes_eq name f.name
 
 -- what is known of a name: the signature of the first function with it, and the number of the first one with a body
 abbrev pub known : List FunctionTree → List ℕ → Option Declared

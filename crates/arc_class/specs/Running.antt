@@ -1,15 +1,16 @@
 -- Classes as a running program knows them.
-use Rattle.std.specs.Prelude.{ℕ, suc, ◌+◌, List, [], ◌∷◌, ◌++◌, length, Option, Some, None, if◌then◌else◌}
+use Rattle.std.specs.Prelude.{ℕ, suc, ◌+◌, List, [], ◌∷◌, ◌++◌, length, Option, Some, None, option_and_then, unwrap_or, if◌then◌else◌}
+use Rattle.std.specs.Option.{option_map_or}
 use Rattle.std.specs.Str.{bytes_eq}
 use Rattle.arc_ast.specs.Tree.{HeadTree, MethodTree, InterfaceTree, ImplementationTree, UnitTree}
 use Rattle.arc_spec.specs.declared.class.Method.{Method}
 use Rattle.arc_spec.specs.Classes.{Class}
-use Rattle.arc_class.specs.Classes.{class_number, selectors, number_among, or_zero, is_dealloc, bodies}
+use Rattle.arc_class.specs.Classes.{class_number, selectors, number_among, is_dealloc, bodies}
 use Rattle.arc_class.specs.Fields.{fields}
 
 -- a method that runs this function, where selectors have these names
 abbrev pub method_made : (selectors : List (List ℕ)) → (runs : ℕ) → HeadTree → Method
-method_made selectors runs h = record { sign = h.sign; selector = or_zero (number_among selectors h.selector); takes = length h.parameters; runs = runs }
+method_made selectors runs h = record { sign = h.sign; selector = unwrap_or (number_among selectors h.selector) 0; takes = length h.parameters; runs = runs }
 
 -- methods and one more, unless it ends objects
 abbrev pub with_method : (selectors : List (List ℕ)) → (runs : ℕ) → HeadTree → List Method → List Method
@@ -32,14 +33,6 @@ abbrev pub implemented : (first : ℕ) → List ImplementationTree → List ℕ 
 implemented first [] name = None
 implemented first (i ∷ others) name = if bytes_eq name i.name then Some (first, i) else implemented (first + length i.methods) others name
 
-abbrev pub methods_of : UnitTree → Option (ℕ × ImplementationTree) → List Method
-methods_of u None = []
-methods_of u (Some p) = methods_from u p.0 (p.1).methods
-
-abbrev pub dealloc_of : Option (ℕ × ImplementationTree) → Option ℕ
-dealloc_of None = None
-dealloc_of (Some p) = dealloc_from p.0 (p.1).methods
-
 abbrev pub implementation_of : UnitTree → InterfaceTree → Option (ℕ × ImplementationTree)
 implementation_of u i = implemented (bodies u.functions) u.implementations i.name
 
@@ -47,8 +40,8 @@ implementation_of u i = implemented (bodies u.functions) u.implementations i.nam
 abbrev pub class_with : UnitTree → (count : ℕ) → InterfaceTree → Class
 class_with u count i = record {
   superclass = class_number u.interfaces i.superclass;
-  methods = methods_of u (implementation_of u i);
-  dealloc = dealloc_of (implementation_of u i);
+  methods = option_map_or (λ p. methods_from u p.0 (p.1).methods) (implementation_of u i) [];
+  dealloc = option_and_then (λ p. dealloc_from p.0 (p.1).methods) (implementation_of u i);
   fields = count;
 }
 

@@ -1,10 +1,10 @@
 //! The parts of a table: selectors, entries and classes.
-ghost use Rattle.std.specs.Prelude.{◌≡◌, ◌<◌, ◌+◌, ◌++◌, ◌∷◌, List, ℕ, suc, length, map, IfOk, IfErr, OnOk};
+ghost use Rattle.std.specs.Prelude.{◌≡◌, ◌<◌, ◌+◌, ◌++◌, ◌∷◌, List, ℕ, suc, length, map, unwrap_or, IfOk, IfErr, OnOk};
 ghost use Rattle.arc_ast.specs.declared.tree.Sign.{Sign};
 ghost use Rattle.arc_ast.specs.Tree.{UnitTree, unit_tree, head_tree, head_trees, method_trees, interface_trees, implementation_trees, interface_tree};
 ghost use Rattle.arc_spec.specs.Classes.{class_of, classes_of};
 ghost use Rattle.arc_class.specs.Classes as classes;
-ghost use Rattle.arc_class.specs.Classes.{heads, first_head, with_selectors, defined_selectors, standing_before, standing_after, selectors_in_order, built_in_selectors, selectors, number_among, or_zero, defined_by};
+ghost use Rattle.arc_class.specs.Classes.{heads, first_head, with_selectors, defined_selectors, standing_before, standing_after, selectors_in_order, built_in_selectors, selectors, number_among, defined_by};
 ghost use Rattle.arc_fault.specs.declared.class.ClassFault.TheVariants.{Memory};
 ghost use Rattle.arc_class.specs.Entries.{entry_tree, root_entry, class_entry, fields_tree, all_class_fields};
 ghost use Rattle.arc_class.specs.Fields.{all_fields_from};
@@ -129,7 +129,7 @@ pub fn selectors<'a>(alloc: Global, unit: &'a TranslationUnit) -> Result<Selecto
 
 /// The number of the selector, and 0 for one that has none.
 fn selector_number<'a>(selectors: &Selectors<'a>, name: &'a [u8]) -> usize
-    ensures { result ≡ or_zero (number_among (names_of selectors.now.keys) name.now) }
+    ensures { result ≡ unwrap_or (number_among (names_of selectors.now.keys) name.now) 0 }
 {
     match selectors.get_index_of(&name) {
         None => 0,

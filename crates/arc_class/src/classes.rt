@@ -3,7 +3,7 @@ ghost use Rattle.std.specs.Prelude.{◌≡◌, ◌≤◌, ◌||◌, List, ℕ, [
 ghost use Rattle.arc_ast.specs.Tree.{InterfaceTree, ImplementationTree, unit_tree, function_tree, interface_tree, implementation_tree};
 ghost use Rattle.arc_class.specs.Broken.{first};
 ghost use Rattle.arc_class.specs.ClassRules as rules;
-ghost use Rattle.arc_class.specs.ClassRules.{broken_names, broken_members, broken_interfaces, broken_own_names, broken_own_fields, broken_implementations, named_as_classes, missing_of};
+ghost use Rattle.arc_class.specs.ClassRules.{broken_names, broken_members, broken_interfaces, broken_own_names, broken_own_fields, broken_implementations, named_as_classes};
 ghost use Rattle.arc_class.specs.Classes as classes;
 ghost use Rattle.arc_class.specs.Classes.{interface_number};
 ghost use Rattle.arc_class.specs.Entries.{fields_tree, all_class_fields};
@@ -197,7 +197,7 @@ impl<'a> Source<'a> {
     fn implementations_fault(&self, alloc: Global) -> Result<Option<ClassFault>, AllocError>
         requires { Knows (unit_tree self.now.unit.now) self.now }
         ensures { IfOk result (λ fault. option_map told fault
-            ≡ first (broken_implementations (unit_tree self.now.unit.now) (missing_of (unit_tree self.now.unit.now)) [] (unit_tree self.now.unit.now).implementations)) }
+            ≡ first (broken_implementations (unit_tree self.now.unit.now) [] (unit_tree self.now.unit.now).implementations)) }
     {
         let mut before = Scope::new(alloc);
         let mut fault = None;
@@ -222,7 +222,7 @@ impl<'a> Source<'a> {
         requires owners { TellsFields fields.now owners.now }
         ensures { IfOk result (λ fault. option_map told fault ≡ first (named_as_classes (unit_tree self.now.unit.now).interfaces (unit_tree self.now.unit.now).functions
             ++ (broken_interfaces (unit_tree self.now.unit.now) [] (unit_tree self.now.unit.now).interfaces
-            ++ broken_implementations (unit_tree self.now.unit.now) (missing_of (unit_tree self.now.unit.now)) [] (unit_tree self.now.unit.now).implementations))) }
+            ++ broken_implementations (unit_tree self.now.unit.now) [] (unit_tree self.now.unit.now).implementations))) }
     {
         let interfaces = self.interfaces_fault(alloc, fields, owners)?;
         let implementations = self.implementations_fault(alloc)?;

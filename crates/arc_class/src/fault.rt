@@ -1,15 +1,14 @@
 //! Why a source has no table.
 ghost use Rattle.std.specs.Prelude.{◌≡◌, option_map};
-ghost use Rattle.arc_class.specs.Bodies.{broken_if};
-ghost use Rattle.arc_class.specs.Broken.{first};
-ghost use Rattle.arc_fault.specs.Class.{fault_number, fault_at};
+ghost use Rattle.arc_class.specs.Broken.{broken_if, first};
+ghost use Rattle.arc_fault.specs.Class.{report};
 ghost use Rattle.arc_class.specs.Fault.{told};
 
 pub use arc_fault::class::ClassFault;
 
 /// The fault, if the rule is broken.
 pub(crate) fn fault_if(breaks: bool, fault: ClassFault) -> Option<ClassFault>
-    ensures { option_map told result ≡ first (broken_if breaks (fault_at fault) (fault_number fault)) }
+    ensures { option_map told result ≡ first (broken_if breaks (report fault).at (report fault).number) }
 {
     if breaks { Some(fault) } else { None }
 }

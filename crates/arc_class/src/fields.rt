@@ -6,12 +6,12 @@ ghost use Rattle.arc_class.specs.Classes.{or_else};
 ghost use Rattle.arc_class.specs.ClassRules as rules;
 ghost use Rattle.arc_class.specs.ClassRules.{broken_field, broken_fields, broken_pair};
 ghost use Rattle.arc_fault.specs.declared.class.ClassFault.TheVariants.{Memory};
-ghost use Rattle.arc_class.specs.Entries.{own_trees, fields_tree, root_fields, all_class_fields, class_fields_with, count_among};
+ghost use Rattle.arc_class.specs.Entries.{own_trees, fields_tree, root_fields, all_class_fields, class_fields_with, count_among, inherited_place};
 ghost use Rattle.arc_class.specs.Fault.{told};
 ghost use Rattle.arc_class.specs.Fields as specs;
 ghost use Rattle.arc_class.specs.Fields.{numbered, owned, fields_declared, all_fields_from};
 ghost use Rattle.arc_class.specs.Kept.{Knows};
-ghost use Rattle.arc_class.specs.Lookups.{at_name, own_field_in, own_place_in, field_among, place_among, field_tree, list_of, list_among, number_of_class};
+ghost use Rattle.arc_class.specs.Lookups.{at_name, own_field_in, own_place_in, field_among, place_among, field_tree, list_of, list_among, number_of_class, least_of};
 ghost use Rattle.arc_class.specs.Owners.{TellsFields};
 
 use crate::fault::fault_if;
@@ -204,7 +204,7 @@ fn own_place<'a>(classes: &[ClassFields<'a>], class: usize, name: &'a [u8]) -> O
 
 /// The lesser of two places, where there are any.
 fn least_of(a: Option<usize>, b: Option<usize>) -> Option<usize>
-    ensures { result ≡ rules.least_of a b }
+    ensures { result ≡ least_of a b }
 {
     match (a, b) {
         (None, b) => b,
@@ -246,7 +246,7 @@ fn inherited_place<'a>(
     name: &'a [u8],
 ) -> Option<usize>
     requires { TellsFields classes.now owners.now }
-    ensures { (u : UnitTree) → map fields_tree classes.now ≡ all_class_fields u → result ≡ rules.inherited_place u above name.now }
+    ensures { (u : UnitTree) → map fields_tree classes.now ≡ all_class_fields u → result ≡ inherited_place u above name.now }
 {
     if field_of(classes, owners, above, name).is_none() {
         return None;

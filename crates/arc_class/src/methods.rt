@@ -1,10 +1,10 @@
 //! The rules for methods.
-ghost use Rattle.std.specs.Prelude.{◌≡◌, List, ℕ, [], option_map, IfOk};
+ghost use Rattle.std.specs.Prelude.{◌≡◌, List, ℕ, [], flat_map, option_map, IfOk};
 ghost use Rattle.arc_ast.specs.declared.tree.Sign.{Sign};
-ghost use Rattle.arc_ast.specs.Tree.{HeadTree, unit_tree, head_tree, head_trees, method_tree, method_trees};
+ghost use Rattle.arc_ast.specs.Tree.{HeadTree, unit_tree, head_tree, head_trees, method_trees};
 ghost use Rattle.arc_class.specs.Broken.{first};
 ghost use Rattle.arc_class.specs.ClassRules as rules;
-ghost use Rattle.arc_class.specs.ClassRules.{broken_head, broken_heads, broken_method, broken_methods, missing_of};
+ghost use Rattle.arc_class.specs.ClassRules.{broken_head, broken_method, broken_methods};
 ghost use Rattle.arc_class.specs.Classes.{first_head};
 ghost use Rattle.arc_class.specs.Fault.{told};
 ghost use Rattle.arc_class.specs.Kept.{head_in, Knows};
@@ -14,7 +14,6 @@ use crate::heads::Heads;
 use crate::kept::Source;
 use crate::look::same_kind;
 use crate::root::built_in_result;
-use crate::walk::inside;
 use arc_ast::tree::{Kind, Method, MethodHead, Sign};
 use arc_fault::class::ClassFault;
 use arc_sites::violation::earlier;
@@ -127,7 +126,7 @@ impl<'a> Source<'a> {
     /// The first rule that an interface's methods break.
     pub fn heads_fault(&self, heads: &'a [MethodHead]) -> Option<ClassFault>
         requires { Knows (unit_tree self.now.unit.now) self.now }
-        ensures { option_map told result ≡ first (broken_heads (unit_tree self.now.unit.now) (head_trees heads.now)) }
+        ensures { option_map told result ≡ first (flat_map (broken_head (unit_tree self.now.unit.now)) (head_trees heads.now)) }
     {
         let mut fault = None;
         for head in heads {
@@ -136,26 +135,18 @@ impl<'a> Source<'a> {
         fault
     }
 
-    /// The first rule that is broken in a method, behind those that are kept.
-    fn method_fault(
-        &self,
-        alloc: Global,
-        before: &Heads<'a>,
-        method: &'a Method,
-    ) -> Result<Option<ClassFault>, AllocError>
+    /// The first rule that a method breaks as it is defined, after those that are kept.
+    fn method_fault(&self, before: &Heads<'a>, head: &'a MethodHead) -> Option<ClassFault>
         requires { Knows (unit_tree self.now.unit.now) self.now }
-        ensures { IfOk result (λ fault. (earlier : List HeadTree) → ((sign : Sign) (selector : List ℕ) → head_in before.now sign selector ≡ first_head sign selector earlier)
-            → option_map told fault ≡ first (broken_method (unit_tree self.now.unit.now) (missing_of (unit_tree self.now.unit.now)) earlier (method_tree method.now))) }
+        ensures { (earlier : List HeadTree) → ((sign : Sign) (selector : List ℕ) → head_in before.now sign selector ≡ first_head sign selector earlier)
+            → option_map told result ≡ first (broken_method (unit_tree self.now.unit.now) earlier (head_tree head.now)) }
     {
-        let head = &method.head;
         let stands = before.get(head.sign, &head.selector).is_some();
         let again = fault_if(stands, ClassFault::Duplicate(head.at));
-        let own = earlier(again, self.head_fault(head));
-        let inside = inside(alloc, self, &head.parameters, &method.body)?;
-        Ok(earlier(own, inside))
+        earlier(again, self.head_fault(head))
     }
 
-    /// The first rule that is broken in the methods of an implementation.
+    /// The first rule that the methods of an implementation break as they are defined.
     pub fn methods_fault(
         &self,
         alloc: Global,
@@ -163,12 +154,12 @@ impl<'a> Source<'a> {
     ) -> Result<Option<ClassFault>, AllocError>
         requires { Knows (unit_tree self.now.unit.now) self.now }
         ensures { IfOk result (λ fault. option_map told fault
-            ≡ first (broken_methods (unit_tree self.now.unit.now) (missing_of (unit_tree self.now.unit.now)) [] (method_trees methods.now))) }
+            ≡ first (broken_methods (unit_tree self.now.unit.now) [] (method_trees methods.now))) }
     {
         let mut before = Heads::new(alloc);
         let mut fault = None;
         for method in methods {
-            fault = earlier(fault, self.method_fault(alloc, &before, method)?);
+            fault = earlier(fault, self.method_fault(&before, &method.head));
             before.keep(&method.head)?;
         }
         Ok(fault)

@@ -528,7 +528,7 @@ impl<'a> ClassTable<'a> {
         let main = seen.main;
         let own = earlier(seen.fault, missing_main(main));
         let source = Source::new(alloc, unit, seen.known, seen.bodies)?;
-        let functions = earlier(own, walk(alloc, &source, &unit.functions)?);
+        let functions = earlier(own, walk(alloc, &source, unit)?);
         let fields = source.class_fields(alloc)?;
         let owners = field_owners(alloc, &fields)?;
         let classes = source.classes_fault(alloc, &fields, &owners)?;

@@ -1,17 +1,18 @@
 //! A walk through the bodies of a source.
-ghost use Rattle.std.specs.Prelude.{◌≡◌, ◌++◌, IfOk, OnOk, option_map};
-ghost use Rattle.arc_ast.specs.Tree.{type_tree, expr_tree, expr_trees, variable_trees, parameter_trees, parameters_tree, stmt_tree, stmt_trees, function_tree, function_trees};
-ghost use Rattle.arc_class.specs.Bodies as bodies;
-ghost use Rattle.arc_class.specs.Bodies.{broken_if, broken_type, broken_expr, broken_exprs, broken_maybe, broken_variables, broken_stmt, broken_stmts, broken_parameters, broken_function, no_name, and_name, names_with, names_after, names_taken};
-ghost use Rattle.arc_class.specs.Broken.{first};
+ghost use Rattle.std.specs.Prelude.{◌≡◌, ◌++◌, flat_map, IfOk, OnOk, option_map};
+ghost use Rattle.arc_ast.specs.Tree.{type_tree, expr_tree, expr_trees, variable_trees, parameter_trees, parameters_tree, stmt_tree, stmt_trees, function_tree, function_trees, method_trees, implementation_trees, unit_tree};
+ghost use Rattle.arc_sites.specs.Sites as sites;
+ghost use Rattle.arc_class.specs.Broken.{broken_if, first};
+ghost use Rattle.arc_class.specs.Walk.{broken_type, broken_expr, broken_exprs, broken_maybe, broken_variables, broken_stmt, broken_stmts, broken_parameters, broken_function, broken_inside, broken_methods, broken_walked, no_name, and_name, names_with, names_after, names_taken, missing_in, holds};
 ghost use Rattle.arc_class.specs.Fault.{told};
-ghost use Rattle.arc_class.specs.Functions.{broken_functions};
-ghost use Rattle.arc_class.specs.Walk.{missing_in, holds};
 
 use crate::fault::fault_if;
 use crate::kept::Source;
 use crate::table::{at_name, class_number};
-use arc_ast::tree::{Expr, Function, Parameter, Parameters, Stmt, TypeName, Variable};
+use arc_ast::tree::{
+    Expr, Function, Implementation, Method, Parameter, Parameters, Stmt, TranslationUnit, TypeName,
+    Variable,
+};
 use arc_fault::class::ClassFault;
 use arc_sites::violation::earlier;
 use std::alloc::{AllocError, Global};
@@ -251,7 +252,7 @@ fn statements<'a>(
 
 /// The parameters that have names in a body.
 fn named_parameters(parameters: &Parameters) -> &[Parameter]
-    ensures { parameter_trees result.now ≡ bodies.named_parameters (parameters_tree parameters.now) }
+    ensures { parameter_trees result.now ≡ sites.named_parameters (parameters_tree parameters.now) }
 {
     match parameters {
         Parameters::Ints(all) => all,
@@ -260,7 +261,7 @@ fn named_parameters(parameters: &Parameters) -> &[Parameter]
 }
 
 /// The first rule that is broken inside a body, whose parameters are in one scope with the variables of its outermost block.
-pub fn inside<'a>(
+fn inside<'a>(
     alloc: Global,
     source: &Source<'a>,
     taken: &'a [Parameter],
@@ -289,18 +290,65 @@ fn function<'a>(
     inside(alloc, source, named_parameters(&function.parameters), body)
 }
 
-/// The first rule that is broken inside the functions of the source.
-pub fn walk<'a>(
+/// The first rule that is broken inside the functions.
+fn functions<'a>(
     alloc: Global,
     source: &Source<'a>,
     functions: &'a [Function],
 ) -> Result<Option<ClassFault>, AllocError>
     ensures { IfOk result
-        (λ fault. option_map told fault ≡ first (broken_functions (missing_in source.now) (function_trees functions.now))) }
+        (λ fault. option_map told fault ≡ first (flat_map (broken_function (missing_in source.now)) (function_trees functions.now))) }
 {
     let mut fault = None;
     for one in functions {
         fault = earlier(fault, function(alloc, source, one)?);
     }
     Ok(fault)
+}
+
+/// The first rule that is broken inside the methods.
+fn methods<'a>(
+    alloc: Global,
+    source: &Source<'a>,
+    methods: &'a [Method],
+) -> Result<Option<ClassFault>, AllocError>
+    ensures { IfOk result
+        (λ fault. option_map told fault ≡ first (flat_map (broken_inside (missing_in source.now)) (method_trees methods.now))) }
+{
+    let mut fault = None;
+    for one in methods {
+        let inside = inside(alloc, source, &one.head.parameters, &one.body)?;
+        fault = earlier(fault, inside);
+    }
+    Ok(fault)
+}
+
+/// The first rule that is broken inside the methods of the implementations.
+fn implementations<'a>(
+    alloc: Global,
+    source: &Source<'a>,
+    implementations: &'a [Implementation],
+) -> Result<Option<ClassFault>, AllocError>
+    ensures { IfOk result
+        (λ fault. option_map told fault ≡ first (flat_map (broken_methods (missing_in source.now)) (implementation_trees implementations.now))) }
+{
+    let mut fault = None;
+    for one in implementations {
+        fault = earlier(fault, methods(alloc, source, &one.methods)?);
+    }
+    Ok(fault)
+}
+
+/// The first rule that is broken inside the bodies of the source.
+pub fn walk<'a>(
+    alloc: Global,
+    source: &Source<'a>,
+    unit: &'a TranslationUnit,
+) -> Result<Option<ClassFault>, AllocError>
+    ensures { IfOk result
+        (λ fault. option_map told fault ≡ first (broken_walked (missing_in source.now) (unit_tree unit.now))) }
+{
+    let functions = functions(alloc, source, &unit.functions)?;
+    let implementations = implementations(alloc, source, &unit.implementations)?;
+    Ok(earlier(functions, implementations))
 }

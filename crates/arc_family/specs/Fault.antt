@@ -1,13 +1,13 @@
 -- What an answer that is no program says.
 use Rattle.std.specs.Prelude.{◌≡◌, List, Some}
 use Rattle.arc_fault.specs.declared.own.OwnFault.{OwnFault}
-use Rattle.arc_fault.specs.Own.{fault_number, fault_at}
+use Rattle.arc_fault.specs.Own.{report}
 use Rattle.arc_sites.specs.declared.violation.Violation.{Violation}
 use Rattle.arc_sites.specs.Violations.{first}
 
 -- the violation that a fault reports
 abbrev pub told : OwnFault → Violation
-told f = record { at = fault_at f; number = fault_number f }
+told f = record { at = (report f).at; number = (report f).number }
 
 -- when a fault is answered: it reports the first of all violations
 abbrev pub Refuses : List Violation → OwnFault → Type 0

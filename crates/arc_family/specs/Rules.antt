@@ -1,12 +1,12 @@
 -- The rules of ownership: what a program can't say, since the compiler counts references for it. Each is a predicate on a site: the place at which the site breaks it, if it does.
-use Rattle.std.specs.Prelude.{ℕ, Bool, true, false, ◌||◌, ◌&&◌, List, ◌++◌, Option, Some, None, codes, if◌then◌else◌}
+use Rattle.std.specs.Prelude.{ℕ, Bool, false, ◌||◌, ◌&&◌, List, ◌++◌, Option, None, codes}
 use Rattle.std.specs.Str.{bytes_eq}
-use Rattle.arc_ast.specs.declared.tree.Sign.{Sign}
 use Rattle.arc_ast.specs.declared.tree.Sign.TheVariants as signs
 use Rattle.arc_ast.specs.Tree.{Assign, UnitTree}
 use Rattle.arc_sites.specs.declared.violation.Violation.{Violation}
 use Rattle.arc_sites.specs.Violations.{at_if, violates}
-use Rattle.arc_sites.specs.Sites.{Enclosing, InFunction, InMethod, InInterface, Around, Node, Value, Declared, Defined, unit_sites}
+use Rattle.arc_spec.specs.Classes.{same_sign}
+use Rattle.arc_sites.specs.Sites.{Enclosing, InMethod, Around, Node, Value, Declared, Defined, unit_sites}
 use Rattle.arc_sites.specs.Messages.{Message, sends, is_itself, is_to_itself}
 use Rattle.arc_sites.specs.Finding.{violations_of}
 
@@ -42,13 +42,8 @@ is_init selector = bytes_eq selector (codes "init")
 
 -- whether `self` is an object: in the methods of objects
 abbrev pub is_in_instance : Enclosing → Bool
-is_in_instance (InFunction f) = false
-is_in_instance (InMethod class h) = is_instance h.sign
-  where
-    is_instance : Sign → Bool
-    is_instance signs.Instance = true
-    is_instance signs.Class = false
-is_in_instance (InInterface class) = false
+is_in_instance (InMethod class h) = same_sign h.sign signs.Instance
+is_in_instance _ = false
 
 -- whether a message is one of init to `self` or `super` in a method of objects
 abbrev pub is_delegated : Enclosing → Message → Bool

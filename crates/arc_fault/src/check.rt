@@ -1,7 +1,7 @@
 //! Why a source is refused.
 ghost use Rattle.std.specs.Prelude.{◌≡◌};
 ghost use Rattle.arc_fault.specs.declared.check.CheckFault.TheVariants.{Memory};
-ghost use Rattle.arc_fault.specs.Check.{fault_number, fault_name, fault_at};
+ghost use Rattle.arc_fault.specs.Check.{report};
 
 use std::alloc::AllocError;
 use thiserror::Error;
@@ -44,7 +44,7 @@ pub enum CheckFault {
 impl CheckFault {
     /// The fault's number.
     pub fn number(&self) -> u8
-        ensures { result ≡ fault_number self.now }
+        ensures { result ≡ (report self.now).number }
     {
         match self {
             CheckFault::UnknownName(_) => 41,
@@ -61,7 +61,7 @@ impl CheckFault {
 
     /// The fault's name.
     pub fn name(&self) -> &'static str
-        ensures { result.now ≡ fault_name self.now }
+        ensures { result.now ≡ (report self.now).name }
     {
         match self {
             CheckFault::UnknownName(_) => "UnknownName",
@@ -78,7 +78,7 @@ impl CheckFault {
 
     /// The byte of the source that the fault names, counted from 0: 0 for want of memory.
     pub fn at(&self) -> usize
-        ensures { result ≡ fault_at self.now }
+        ensures { result ≡ (report self.now).at }
     {
         match self {
             CheckFault::UnknownName(at) => *at,

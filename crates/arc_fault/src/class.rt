@@ -1,7 +1,7 @@
 //! Why a source has no table.
 ghost use Rattle.std.specs.Prelude.{◌≡◌};
 ghost use Rattle.arc_fault.specs.declared.class.ClassFault.TheVariants.{Memory};
-ghost use Rattle.arc_fault.specs.Class.{fault_number, fault_name, fault_at};
+ghost use Rattle.arc_fault.specs.Class.{report};
 
 use std::alloc::{AllocError, AllocFailed};
 use thiserror::Error;
@@ -47,7 +47,7 @@ pub enum ClassFault {
 impl ClassFault {
     /// The fault's number.
     pub fn number(&self) -> u8
-        ensures { result ≡ fault_number self.now }
+        ensures { result ≡ (report self.now).number }
     {
         match self {
             ClassFault::Duplicate(_) => 21,
@@ -64,7 +64,7 @@ impl ClassFault {
 
     /// The fault's name.
     pub fn name(&self) -> &'static str
-        ensures { result.now ≡ fault_name self.now }
+        ensures { result.now ≡ (report self.now).name }
     {
         match self {
             ClassFault::Duplicate(_) => "Duplicate",
@@ -81,7 +81,7 @@ impl ClassFault {
 
     /// The byte of the source that the fault names, counted from 0: 0 where no `main` has a body, and for want of memory.
     pub fn at(&self) -> usize
-        ensures { result ≡ fault_at self.now }
+        ensures { result ≡ (report self.now).at }
     {
         match self {
             ClassFault::Duplicate(at) => *at,

@@ -1,6 +1,6 @@
 //! Why a program is refused.
 ghost use Rattle.std.specs.Prelude.{◌≡◌};
-ghost use Rattle.arc_fault.specs.Own.{fault_number, fault_name, fault_at};
+ghost use Rattle.arc_fault.specs.Own.{report};
 
 use thiserror::Error;
 
@@ -24,7 +24,7 @@ pub enum OwnFault {
 impl OwnFault {
     /// The fault's number.
     pub fn number(&self) -> u8
-        ensures { result ≡ fault_number self.now }
+        ensures { result ≡ (report self.now).number }
     {
         match self {
             OwnFault::SelfConst(_) => 47,
@@ -36,7 +36,7 @@ impl OwnFault {
 
     /// The fault's name.
     pub fn name(&self) -> &'static str
-        ensures { result.now ≡ fault_name self.now }
+        ensures { result.now ≡ (report self.now).name }
     {
         match self {
             OwnFault::SelfConst(_) => "SelfConst",
@@ -48,7 +48,7 @@ impl OwnFault {
 
     /// The byte of the source that the fault names, counted from 0.
     pub fn at(&self) -> usize
-        ensures { result ≡ fault_at self.now }
+        ensures { result ≡ (report self.now).at }
     {
         match self {
             OwnFault::SelfConst(at) => *at,

@@ -1,6 +1,6 @@
 //! Why a source is not parsed.
 ghost use Rattle.std.specs.Prelude.{◌≡◌};
-ghost use Rattle.arc_fault.specs.Parse.{fault_number, fault_name, fault_at};
+ghost use Rattle.arc_fault.specs.Parse.{report};
 
 use thiserror::Error;
 
@@ -21,7 +21,7 @@ pub enum ParseFault {
 impl ParseFault {
     /// The number of the refusal: 11, 12 or 13.
     pub fn number(&self) -> u8
-        ensures { result ≡ fault_number self.now }
+        ensures { result ≡ (report self.now).number }
     {
         match self {
             ParseFault::Unexpected(_) => 11,
@@ -32,7 +32,7 @@ impl ParseFault {
 
     /// The name of the refusal.
     pub fn name(&self) -> &'static str
-        ensures { result.now ≡ fault_name self.now }
+        ensures { result.now ≡ (report self.now).name }
     {
         match self {
             ParseFault::Unexpected(_) => "Unexpected",
@@ -43,7 +43,7 @@ impl ParseFault {
 
     /// The byte of the source where it is, counted from 0; 0 for want of memory.
     pub fn at(&self) -> usize
-        ensures { result ≡ fault_at self.now }
+        ensures { result ≡ (report self.now).at }
     {
         match self {
             ParseFault::Unexpected(at) | ParseFault::TooDeep(at) => *at,

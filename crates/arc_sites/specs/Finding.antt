@@ -1,5 +1,5 @@
 -- What a walk through sites finds.
-use Rattle.std.specs.Prelude.{◌≡◌, ℕ, List, [], ◌∷◌, ◌++◌, Option, Some, None, option_map}
+use Rattle.std.specs.Prelude.{List, [], ◌∷◌, flat_map, Option, option_map}
 use Rattle.arc_ast.specs.Tree.{expr_tree, variable_tree, stmt_tree, type_tree, function_tree, head_tree, ParameterTree}
 use Rattle.arc_ast.specs.declared.tree.Parameter as tree
 use Rattle.arc_sites.specs.declared.violation.Violation.{Violation}
@@ -41,8 +41,7 @@ around m s need = record { enclosing = m; scope = s; need = need }
 
 -- all that is violated at some sites
 abbrev pub violations_of : (Around → Node → List Violation) → List Site → List Violation
-violations_of rules [] = []
-violations_of rules (x ∷ others) = rules x.around x.node ++ violations_of rules others
+violations_of rules = flat_map (λ x. rules x.around x.node)
 
 -- what is found first at some sites, where this was found before
 abbrev pub found_from : (Around → Node → List Violation) → Option Violation → List Site → Option Violation

@@ -1,5 +1,6 @@
 -- The messages of a source.
-use Rattle.std.specs.Prelude.{ℕ, Bool, true, false, List, Option, Some, None, if◌then◌else◌}
+use Rattle.std.specs.Prelude.{ℕ, Bool, true, false, List, Option, Some, None, option_and_then, if◌then◌else◌}
+use Rattle.std.specs.Option.{option_map_or}
 use Rattle.arc_ast.specs.Tree.{ExprTree, Paren, Itself, Send, SendSuper}
 
 -- A message (OPL, "Message Syntax"): the place of its selector's first part, what it is sent to, of which one to `super` has none, and its selector.
@@ -15,12 +16,8 @@ sent_message (SendSuper at part super_at selector arguments) = Some (record { pa
 sent_message _ = None
 
 -- the place of the message that an expression sends, where it is one of these
-abbrev pub where_sent : (Message → Bool) → Option Message → Option ℕ
-where_sent is None = None
-where_sent is (Some m) = if is m then Some m.part else None
-
 abbrev pub sends : (Message → Bool) → ExprTree → Option ℕ
-sends is a = where_sent is (sent_message a)
+sends is a = option_and_then (λ m. if is m then Some m.part else None) (sent_message a)
 
 -- whether an expression is `self`, parentheses aside
 abbrev pub is_itself : ExprTree → Bool
@@ -30,8 +27,4 @@ is_itself _ = false
 
 -- whether a message is sent to `self` or to `super`
 abbrev pub is_to_itself : Message → Bool
-is_to_itself m = is_own m.receiver
-  where
-    is_own : Option ExprTree → Bool
-    is_own None = true
-    is_own (Some a) = is_itself a
+is_to_itself m = option_map_or is_itself m.receiver true

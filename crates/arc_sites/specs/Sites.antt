@@ -1,9 +1,10 @@
 -- The sites of a source: each node of its tree, with what surrounds it.
-use Rattle.std.specs.Prelude.{ℕ, Bool, true, false, ◌||◌, List, [], ◌∷◌, ◌++◌, flat_map, Option, Some, None}
+use Rattle.std.specs.Prelude.{ℕ, Bool, true, false, ◌||◌, List, [], ◌∷◌, ◌++◌, flat_map, fold, Option, Some, None}
+use Rattle.std.specs.Option.{option_map_or}
 use Rattle.arc_ast.specs.declared.tree.BinaryOperator.{BinaryOperator}
 use Rattle.arc_ast.specs.declared.tree.BinaryOperator.TheVariants as o
 use Rattle.arc_ast.specs.Tree as t
-use Rattle.arc_ast.specs.Tree.{TypeTree, ExprTree, ExprTrees, Integer, Text, Paren, Call, Nil, Itself, Name, Negate, Plus, Cast, Binary, Arrow, Assign, Send, SendSuper, no_exprs, and_expr, VariableTree, StmtTree, StmtTrees, Block, Empty, Simple, Return, Variables, If, IfElse, While, no_stmts, and_stmt, ParameterTree, ParametersTree, Ints, CountAndTexts, FunctionTree, HeadTree, MethodTree, InterfaceTree, ImplementationTree, UnitTree}
+use Rattle.arc_ast.specs.Tree.{TypeTree, ExprTree, ExprTrees, Paren, Call, Negate, Plus, Cast, Binary, Arrow, Assign, Send, SendSuper, no_exprs, and_expr, VariableTree, StmtTree, StmtTrees, Block, Empty, Simple, Return, Variables, If, IfElse, While, no_stmts, and_stmt, ParameterTree, ParametersTree, Ints, CountAndTexts, FunctionTree, HeadTree, MethodTree, InterfaceTree, ImplementationTree, UnitTree}
 
 -- ---- what surrounds a node
 
@@ -76,8 +77,7 @@ abbrev pub inner : (loops : Bool) → Scope → Scope
 inner loops s = record { own = []; outer = s.own ++ s.outer; in_loop = s.in_loop || loops }
 
 abbrev pub with_variables : TypeTree → List VariableTree → Scope → Scope
-with_variables type [] s = s
-with_variables type (v ∷ others) s = with_variables type others (declare v.name type s)
+with_variables type all s = fold (λ s v. declare v.name type s) s all
 
 -- what is in scope after a statement
 abbrev pub after : Scope → StmtTree → Scope
@@ -90,8 +90,7 @@ outermost = record { own = []; outer = []; in_loop = false }
 
 -- parameters are ints
 abbrev pub with_parameters : List ParameterTree → Scope → Scope
-with_parameters [] s = s
-with_parameters (p ∷ others) s = with_parameters others (declare p.name t.Int s)
+with_parameters all s = fold (λ s p. declare p.name t.Int s) s all
 
 -- ---- expressions
 
@@ -107,11 +106,6 @@ right_need _ left = ANumber
 -- the sites inside an expression that is needed for something, each one after those inside it
 abbrev mutual
   pub inside : Enclosing → Scope → Need → ExprTree → List Site
-  inside m s need (Integer at n) = []
-  inside m s need (Text at bytes) = []
-  inside m s need (Nil at) = []
-  inside m s need (Itself at) = []
-  inside m s need (Name at name) = []
   inside m s need (Paren at a) = inside m s need a ++ value m s need a
   inside m s need (Call at name all) = arguments m s (Argument name true) (Argument name false) all
   inside m s need (Negate at a) = inside m s ANumber a ++ value m s ANumber a
@@ -124,6 +118,7 @@ abbrev mutual
   inside m s need (Send at part receiver selector all) =
       (inside m s Receiver receiver ++ value m s Receiver receiver) ++ arguments m s ANumber ANumber all
   inside m s need (SendSuper at part super_at selector all) = arguments m s ANumber ANumber all
+  inside m s need _ = []
 
   -- the sites of arguments, where the first one and the others are needed for these
   pub arguments : Enclosing → Scope → (first others : Need) → ExprTrees → List Site
@@ -135,8 +130,7 @@ abbrev pub sites : Enclosing → Scope → Need → ExprTree → List Site
 sites m s need a = inside m s need a ++ value m s need a
 
 abbrev pub maybe_sites : Enclosing → Scope → Need → Option ExprTree → List Site
-maybe_sites m s need None = []
-maybe_sites m s need (Some a) = sites m s need a
+maybe_sites m s need a = option_map_or (sites m s need) a []
 
 -- ---- statements
 

@@ -30,7 +30,7 @@ pub trait Report: Copy {
 }
 
 impl Report for ClassFault {
-    ghost violation = { λ fault. record { at = class.fault_at fault; number = class.fault_number fault } };
+    ghost violation = { λ fault. record { at = (class.report fault).at; number = (class.report fault).number } };
 
     fn reported(&self) -> Violation {
         Violation {
@@ -41,7 +41,7 @@ impl Report for ClassFault {
 }
 
 impl Report for CheckFault {
-    ghost violation = { λ fault. record { at = check.fault_at fault; number = check.fault_number fault } };
+    ghost violation = { λ fault. record { at = (check.report fault).at; number = (check.report fault).number } };
 
     fn reported(&self) -> Violation {
         Violation {
@@ -52,7 +52,7 @@ impl Report for CheckFault {
 }
 
 impl Report for OwnFault {
-    ghost violation = { λ fault. record { at = own.fault_at fault; number = own.fault_number fault } };
+    ghost violation = { λ fault. record { at = (own.report fault).at; number = (own.report fault).number } };
 
     fn reported(&self) -> Violation {
         Violation {

@@ -1,9 +1,9 @@
 -- When a source is a program, what it means, and when code does that.
-use Rattle.std.specs.Prelude.{◌≡◌, ℕ, List, [], ◌∷◌, codes, Vec}
+use Rattle.std.specs.Prelude.{◌≡◌, ℕ, List, [], ◌∷◌, map, codes, Vec}
 use Rattle.std.specs.Global.{Global}
 use Rattle.arc_lex.specs.Tokens.{Tok}
 use Rattle.arc_lex.specs.Source.{Tokens}
-use Rattle.arc_ast.specs.Tree.{InterfaceTree, UnitTree}
+use Rattle.arc_ast.specs.Tree.{UnitTree}
 use Rattle.arc_grammar.specs.Grammar.{these}
 use Rattle.arc_parse.specs.Refusal.{SpellsUnit}
 use Rattle.arc_class.specs.ClassRules.{broken}
@@ -44,14 +44,9 @@ pub record Compiles (source : List ℕ) (code : Program) : Type 0 where
   pub steady : Steady (seen code)
   pub sound : IsSound code
 
--- the names of interfaces
-abbrev pub names_of : List InterfaceTree → List (List ℕ)
-names_of [] = []
-names_of (i ∷ others) = i.name ∷ names_of others
-
 -- the names of the classes of a source, in the order of their numbers: the root's, which is built in, and then those of the interfaces
 abbrev pub class_names : UnitTree → List (List ℕ)
-class_names u = codes "NSObject" ∷ names_of u.interfaces
+class_names u = codes "NSObject" ∷ map (λ i. i.name) u.interfaces
 
 -- a name, without where it lies in memory
 abbrev pub bytes_of_name : Vec ℕ Global → List ℕ

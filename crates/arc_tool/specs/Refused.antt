@@ -35,12 +35,12 @@ IsTooLarge P = most_instrs < length (lowered P)
 pub data IsRefusal (source : List ℕ) (r : Refusal) : Type 0 where
   in_lexing : (f : LexFault) → lexing.IsLexFault source f → Tells (lexing.fault_number f) (lexing.fault_name f) (lexing.fault_at f) r → IsRefusal source r
   in_parsing : (f : ParseFault) (tokens : List Tok) → Tokens source tokens → parsing.IsRefused tokens f
-      → Tells (parse_fault.fault_number f) (parse_fault.fault_name f) (parse_fault.fault_at f) r → IsRefusal source r
+      → Tells (parse_fault.report f).number (parse_fault.report f).name (parse_fault.report f).at r → IsRefusal source r
   in_building : (f : ClassFault) (tree : UnitTree) → Spelled source tree → building.Refuses (broken tree) f
-      → Tells (class_fault.fault_number f) (class_fault.fault_name f) (class_fault.fault_at f) r → IsRefusal source r
+      → Tells (class_fault.report f).number (class_fault.report f).name (class_fault.report f).at r → IsRefusal source r
   in_checking : (f : CheckFault) (tree : UnitTree) → Spelled source tree → broken tree ≡ [] → checking.Refuses (broken_unit tree) f
-      → Tells (check_fault.fault_number f) (check_fault.fault_name f) (check_fault.fault_at f) r → IsRefusal source r
+      → Tells (check_fault.report f).number (check_fault.report f).name (check_fault.report f).at r → IsRefusal source r
   in_owning : (f : OwnFault) (tree : UnitTree) → Spelled source tree → broken tree ≡ [] → broken_unit tree ≡ [] → owning.Refuses (ownership.broken tree) f
-      → Tells (own_fault.fault_number f) (own_fault.fault_name f) (own_fault.fault_at f) r → IsRefusal source r
+      → Tells (own_fault.report f).number (own_fault.report f).name (own_fault.report f).at r → IsRefusal source r
   too_large : (program : Accepted source) → IsTooLarge (program_meant program) → Tells 71 (codes "TooLarge") 0 r → IsRefusal source r
   no_memory : (program : Accepted source) → Tells 72 (codes "Memory") 0 r → IsRefusal source r

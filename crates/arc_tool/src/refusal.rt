@@ -48,7 +48,7 @@ impl From<LexFault> for Refusal {
 }
 
 impl From<ParseFault> for Refusal {
-    ghost from_gives = { λ f r. Tells (parse_fault.fault_number f) (parse_fault.fault_name f) (parse_fault.fault_at f) r };
+    ghost from_gives = { λ f r. Tells (parse_fault.report f).number (parse_fault.report f).name (parse_fault.report f).at r };
 
     fn from(fault: ParseFault) -> Refusal {
         Refusal {
@@ -60,7 +60,7 @@ impl From<ParseFault> for Refusal {
 }
 
 impl From<ClassFault> for Refusal {
-    ghost from_gives = { λ f r. Tells (class_fault.fault_number f) (class_fault.fault_name f) (class_fault.fault_at f) r };
+    ghost from_gives = { λ f r. Tells (class_fault.report f).number (class_fault.report f).name (class_fault.report f).at r };
 
     fn from(fault: ClassFault) -> Refusal {
         Refusal {
@@ -72,7 +72,7 @@ impl From<ClassFault> for Refusal {
 }
 
 impl From<CheckFault> for Refusal {
-    ghost from_gives = { λ f r. Tells (check_fault.fault_number f) (check_fault.fault_name f) (check_fault.fault_at f) r };
+    ghost from_gives = { λ f r. Tells (check_fault.report f).number (check_fault.report f).name (check_fault.report f).at r };
 
     fn from(fault: CheckFault) -> Refusal {
         Refusal {
@@ -84,7 +84,7 @@ impl From<CheckFault> for Refusal {
 }
 
 impl From<OwnFault> for Refusal {
-    ghost from_gives = { λ f r. Tells (own_fault.fault_number f) (own_fault.fault_name f) (own_fault.fault_at f) r };
+    ghost from_gives = { λ f r. Tells (own_fault.report f).number (own_fault.report f).name (own_fault.report f).at r };
 
     fn from(fault: OwnFault) -> Refusal {
         Refusal {

@@ -1,17 +1,19 @@
 -- What is told of expressions, statements and functions.
-use Rattle.std.specs.Prelude.{◌≡◌, ℕ, zero, suc, Bool, List, [], ◌∷◌, ◌++◌, Option, Some, None, false, is_none, option_map}
+use Rattle.std.specs.Prelude.{◌≡◌, ℕ, zero, suc, Bool, List, [], ◌∷◌, ◌++◌, Option, Some, None, false, is_none, option_map, nat_eq}
 use Rattle.arc_ast.specs.Tree.{ExprTree, ExprTrees}
 use Rattle.arc_class.specs.Broken.{first}
 use Rattle.arc_class.specs.Table.{number_of_class}
 use Rattle.arc_check.specs.declared.callee.Callee.{Callee}
+use Rattle.arc_check.specs.declared.callee.Callee.TheVariants.{Printf, GetChar, Defined, Unknown}
 use Rattle.arc_check.specs.declared.format.Part.{Part}
 use Rattle.arc_check.specs.declared.judge.Judged.{Judged}
 use Rattle.arc_check.specs.declared.judge.Arguments.{Arguments}
 use Rattle.arc_check.specs.declared.taken.Taken.{Taken}
 use Rattle.arc_check.specs.Fault.{told}
 use Rattle.arc_check.specs.Formats.{fits}
-use Rattle.arc_check.specs.Rules.{call_rule, kind_if, kind_of, kinds, broken_at, broken, broken_whole, broken_arguments, taken, all_taken, most_taken}
+use Rattle.arc_check.specs.Rules.{call_rule, kind_if, kind_of, kinds, broken_at, broken, broken_whole, broken_arguments, taken, all_taken, unless_so}
 use Rattle.arc_check.specs.Scopes.{Scope, result_kind, is_printf, class_of}
+use Rattle.arc_check.specs.declared.taken.TheConstants.{MOST_TAKEN}
 
 -- ---- counts of objects that are taken
 
@@ -30,9 +32,16 @@ counted t [] = t
 counted t (at ∷ others) = counted (one_counted t at) others
 
 abbrev pub none_counted : Taken
-none_counted = record { left = most_taken; past = None }
+none_counted = record { left = MOST_TAKEN; past = None }
 
 -- ---- expressions
+
+-- the number of the rule that a call with so many arguments breaks, but for printf, for which this is never asked
+abbrev pub other_rule : Callee → (arguments : ℕ) → Option ℕ
+other_rule Printf arguments = unless_so (nat_eq arguments 0) 45
+other_rule GetChar arguments = unless_so (nat_eq arguments 0) 45
+other_rule (Defined result wanted body) arguments = unless_so (nat_eq arguments wanted) 45
+other_rule Unknown arguments = Some 41
 
 -- an expression's kind, where it has one, its static class, the first rule that is broken in it, and how many objects are taken behind it
 pub record Judges (s : Scope) (before : Taken) (a : ExprTree) (judged : Judged) : Type 0 where

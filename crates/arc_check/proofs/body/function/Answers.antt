@@ -1,13 +1,14 @@
-use Rattle.std.proofs.Common.{◌≡◌, nat_lt, length, option_map, sym, ap, ◌∙◌}
+use Rattle.std.proofs.Common.{◌≡◌, Some, nat_lt, length, option_map, sym, ap, ◌∙◌}
 use Rattle.arc_ast.specs.Tree.{parameter_trees, parameters_tree, stmt_trees}
-use Rattle.arc_class.specs.Bodies.{broken_if, named_parameters}
-use Rattle.arc_class.specs.Broken.{first}
+use Rattle.arc_class.specs.Broken.{broken_if, first}
+use Rattle.arc_sites.specs.Sites.{named_parameters}
 use Rattle.arc_class.proofs.Firsts.{first_both}
 use Rattle.arc_ast.proofs.Trees.{length-parameter_trees}
 use Rattle.arc_check.specs.Fault.{told}
-use Rattle.arc_check.specs.Rules.{broken_body, is_void, most_parameters}
+use Rattle.arc_check.specs.Rules.{broken_body, is_nothing}
 use Rattle.arc_check.specs.private.Views.{known_in}
 use Rattle.arc_check.proofs.body.function.Goals as goal
+use Rattle.arc_check.specs.declared.body.TheConstants.{MOST_PARAMETERS}
 
 pub returns : goal.returns
 returns c =
@@ -15,8 +16,8 @@ returns c =
     let named = c.named_parameters-named.result.now in
     let all = named_parameters (parameters_tree f.parameters) in
     let known = known_in c.args.table.now in
-    let own : option_map told c.count_fault-own.result ≡ first (broken_if (nat_lt most_parameters (length all)) f.at 45) =
-    c.count_fault-own.ensures ∙ ap (λ n. first (broken_if (nat_lt most_parameters n) f.at 45)) (sym (length-parameter_trees named) ∙ ap length c.named_parameters-named.ensures) in
+    let own : option_map told c.count_fault-own.result ≡ first (broken_if (nat_lt MOST_PARAMETERS (length all)) f.at 45) =
+    c.count_fault-own.ensures ∙ ap (λ n. first (broken_if (nat_lt MOST_PARAMETERS n) f.at 45)) (sym (length-parameter_trees named) ∙ ap length c.named_parameters-named.ensures) in
     let body = option_map (λ b. stmt_trees b.items) f.body in
-    first_both (broken_if (nat_lt most_parameters (length all)) f.at 45) (broken_body (is_void f.result) known all body) (option_map told c.count_fault-own.result) (option_map told c.in_ok-inside.inside) (option_map told c.earlier.result) own
-    (c.in_ok-inside.ensures ∙ ap (λ b. first (broken_body b known (parameter_trees named) body)) c.is_void-gives_nothing.ensures ∙ ap (λ ps. first (broken_body (is_void f.result) known ps body)) c.named_parameters-named.ensures) c.earlier.ensures
+    first_both (broken_if (nat_lt MOST_PARAMETERS (length all)) f.at 45) (broken_body (is_nothing (Some f.result)) known all body) (option_map told c.count_fault-own.result) (option_map told c.in_ok-inside.inside) (option_map told c.earlier.result) own
+    (c.in_ok-inside.ensures ∙ ap (λ b. first (broken_body b known (parameter_trees named) body)) c.is_void-gives_nothing.ensures ∙ ap (λ ps. first (broken_body (is_nothing (Some f.result)) known ps body)) c.named_parameters-named.ensures) c.earlier.ensures

@@ -14,6 +14,12 @@ use Rattle.arc_check.proofs.judge.+judge.Goals.{judge_arguments-then-told, judge
 pub judge-returns-in-Itself : goal.judge-returns-in-Itself
 judge-returns-in-Itself t c = rw c.in-Itself.is (c.judge_itself.ensures c.args.table.now)
 
+pub judge-returns-in-Paren : goal.judge-returns-in-Paren
+judge-returns-in-Paren t c =
+    let s = seen c.args.table.now c.args.visible.now in
+    let h : Judges s c.args.before (expr_tree c.in-Paren.inside.value) c.judge.result = rw c.deref.ensures at c.judge.ensures in
+    rw c.in-Paren.is (record { kind = h.kind; class = h.class; fault = h.fault; taken = h.taken })
+
 pub judge-returns-in-Negate : goal.judge-returns-in-Negate
 judge-returns-in-Negate t c = rw c.in-Negate.is (rw c.deref-in-Negate.ensures at (c.judge_signed.ensures.negate c.in-Negate.field-0))
 

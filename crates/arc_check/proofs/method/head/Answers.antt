@@ -1,11 +1,10 @@
 use Rattle.std.proofs.Common.{nat_lt, sym, ap, ◌∙◌}
-use Rattle.arc_class.specs.Bodies.{broken_if}
-use Rattle.arc_class.specs.Broken.{first}
+use Rattle.arc_class.specs.Broken.{broken_if, first}
 use Rattle.arc_ast.proofs.Trees.{length-parameter_trees}
-use Rattle.arc_check.specs.Rules.{most_parameters}
 use Rattle.arc_check.proofs.method.head.Goals as goal
+use Rattle.arc_check.specs.declared.body.TheConstants.{MOST_PARAMETERS}
 
 pub returns : goal.returns
 returns c =
     let h = c.args.head.now in
-    c.count_fault.ensures ∙ ap (λ n. first (broken_if (nat_lt most_parameters n) h.at 45)) (c.len.ensures ∙ h.parameters.ok.0 ∙ sym (length-parameter_trees h.parameters.items))
+    c.count_fault.ensures ∙ ap (λ n. first (broken_if (nat_lt MOST_PARAMETERS n) h.at 45)) (c.len.ensures ∙ h.parameters.ok.0 ∙ sym (length-parameter_trees h.parameters.items))

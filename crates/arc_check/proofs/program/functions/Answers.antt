@@ -1,6 +1,7 @@
 use Rattle.std.proofs.Common.{ap}
+use Rattle.std.specs.List.{filter_map}
 use Rattle.arc_ast.specs.Tree.{function_trees}
-use Rattle.arc_check.specs.Resolving.{resolved_functions}
+use Rattle.arc_check.specs.Resolving.{resolved_function}
 use Rattle.arc_check.specs.private.Views.{known_in, seen}
 use Rattle.arc_check.proofs.Commands.{functions_turn, functions_pass, functions_end}
 use Rattle.arc_check.proofs.program.functions.Goals as goal
@@ -12,7 +13,7 @@ loop-one-preserved c =
     let xs = c.args.declared.now in
     let i = c.loop-one.one-index in
     let x = c.one-item.result in
-    let whole = resolved_functions known (function_trees xs) in
+    let whole = filter_map (resolved_function known) (function_trees xs) in
     elim c.match-one.branch [
       | in-Some+in_ok-function+in_ok-push w ↦ functions_turn known xs i x w.named_parameters-named.result.now w.in-Some.body w.deref.result.now c.loop-one.all.items w.push.new.self c.match-one.all w.in_ok-function.field-0 (seen c.args.table.now w.new.result) whole c.loop-one-test.true c.one-item.is w.in-Some.is w.deref.ensures.value
           w.named_parameters-named.ensures (w.new.ensures c.args.table.now) w.in_ok-function.ensures w.in_ok-push.ensures.items w.all-is c.loop-one.invariant
@@ -22,4 +23,4 @@ loop-one-preserved c =
 pub returns : goal.returns
 returns c =
     let known = known_in c.args.table.now in
-    functions_end known c.args.declared.now c.loop-one.one-index c.loop-one.all.items (resolved_functions known (function_trees c.args.declared.now)) c.loop-one-test.false c.loop-one.invariant
+    functions_end known c.args.declared.now c.loop-one.one-index c.loop-one.all.items (filter_map (resolved_function known) (function_trees c.args.declared.now)) c.loop-one-test.false c.loop-one.invariant

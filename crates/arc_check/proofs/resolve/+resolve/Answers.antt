@@ -1,4 +1,5 @@
 use Rattle.std.proofs.Common.{None, refl, sym, ap, ◌∙◌}
+use Rattle.std.specs.Option.{unwrap_or}
 use Rattle.std.proofs.lemmas.Result.{IfOk-weaker}
 use Rattle.arc_class.specs.Table.{number_of_class}
 use Rattle.arc_spec.specs.Resolved.{Invoked}
@@ -8,7 +9,7 @@ use Rattle.arc_check.specs.private.Building.{resolution}
 use Rattle.arc_check.specs.Checked as checked
 use Rattle.arc_ast.specs.Tree.{expr_tree, expr_trees}
 use Rattle.arc_check.specs.Resolving as resolving
-use Rattle.arc_check.specs.Resolving.{number, negated, binary, resolved, resolved_all}
+use Rattle.arc_check.specs.Resolving.{negated, binary, resolved, resolved_all}
 use Rattle.arc_check.specs.Scopes.{class_of, result_kind}
 use Rattle.arc_check.specs.private.Views.{seen}
 use Rattle.arc_ast.proofs.Trees.{call_tree, send_tree, send_super_tree}
@@ -117,7 +118,7 @@ message-returns-in_ok-object_message-in-None t c = λ at part.
 pub super_message-returns : goal.super_message-returns
 super_message-returns t c = λ at part super_at.
     resolves_super (seen c.args.table.now c.args.visible.now) at part super_at c.args.selector.now (expr_trees c.args.arguments.now) c.super_kind-kind.result c.class_number-from.result c.selector_number-number.result (checked.values c.in_ok-all.all.items)
-    (record { class = c.super_class.result; value = c.in_ok-to_super.field-0 }) c.super_kind-kind.ensures (c.class_number-from.ensures ∙ ap number c.above.ensures) (c.selector_number-number.ensures ∙ ap number c.selector.ensures) c.in_ok-all.ensures
+    (record { class = c.super_class.result; value = c.in_ok-to_super.field-0 }) c.super_kind-kind.ensures (c.class_number-from.ensures ∙ ap (λ n. unwrap_or n 0) c.above.ensures) (c.selector_number-number.ensures ∙ ap (λ n. unwrap_or n 0) c.selector.ensures) c.in_ok-all.ensures
     (c.super_class.ensures c.args.table.now) c.in_ok-to_super.ensures
 
 pub call-returns : goal.call-returns
@@ -130,7 +131,7 @@ call-returns t c = λ at.
     elim c.match-callee.branch [
       | call-in-Printf+in_ok-value-in-Printf w ↦ resolves_call s at c.args.name.now all Printf k v typed (sym w.in-Printf.ensures) (c.result_kind.ensures ∙ ap result_kind (w.callee-is ∙ c.callee_of-callee.ensures ∙ sym w.in-Printf.ensures)) (ap checked.value w.value-is ∙ w.in_ok-value-in-Printf.ensures) refl c.in_ok-given.ensures
       | call-in-Defined+in_ok-values-in-Defined w ↦ resolves_call s at c.args.name.now all (Defined w.in-Defined.field-0 w.in-Defined.field-1 w.in-Defined.body) k v typed (sym w.in-Defined.ensures) (c.result_kind.ensures ∙ ap result_kind w.callee-is)
-          (ap checked.value w.value-is ∙ invoked_value w.number.result w.in_ok-values-in-Defined.field-0 ∙ ap (λ f. Invoked f (checked.values w.in_ok-values-in-Defined.field-0.items)) w.number.ensures ∙ ap (Invoked (number w.in-Defined.body)) w.in_ok-values-in-Defined.ensures) refl c.in_ok-given.ensures
+          (ap checked.value w.value-is ∙ invoked_value w.number.result w.in_ok-values-in-Defined.field-0 ∙ ap (λ f. Invoked f (checked.values w.in_ok-values-in-Defined.field-0.items)) w.number.ensures ∙ ap (Invoked (unwrap_or w.in-Defined.body 0)) w.in_ok-values-in-Defined.ensures) refl c.in_ok-given.ensures
       | call-in-GetChar w ↦ resolves_call s at c.args.name.now all GetChar k v typed (sym w.in-GetChar.ensures) (c.result_kind.ensures ∙ ap result_kind (w.callee-is ∙ c.callee_of-callee.ensures ∙ sym w.in-GetChar.ensures)) (ap checked.value w.value-is) refl c.in_ok-given.ensures
       | call-in-Unknown w ↦ resolves_call s at c.args.name.now all Unknown k v typed (sym w.in-Unknown.ensures) (c.result_kind.ensures ∙ ap result_kind (w.callee-is ∙ c.callee_of-callee.ensures ∙ sym w.in-Unknown.ensures)) (ap checked.value w.value-is) refl c.in_ok-given.ensures
     ]

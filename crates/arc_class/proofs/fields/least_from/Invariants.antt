@@ -1,6 +1,6 @@
 use Rattle.std.proofs.Common.{◌≡◌, ◌-◌, length, map, slice_get}
 use Rattle.arc_spec.specs.Classes.{ancestry_within}
-use Rattle.arc_class.specs.ClassRules.{least_of, least_among}
+use Rattle.arc_class.specs.Lookups.{least_of, least_among}
 use Rattle.arc_class.specs.Table.{place_among, superclass_of_fields, own_place_in}
 use Rattle.arc_class.proofs.fields.least_from.Given as goal
 

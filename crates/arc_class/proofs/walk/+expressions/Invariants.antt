@@ -1,9 +1,8 @@
 use Rattle.std.proofs.Common.{◌≡◌, option_map, drop}
 use Rattle.arc_ast.specs.Tree.{expr_trees}
 use Rattle.arc_class.specs.Broken.{first, earlier_of}
-use Rattle.arc_class.specs.Bodies.{broken_exprs}
+use Rattle.arc_class.specs.Walk.{broken_exprs, missing_in}
 use Rattle.arc_class.specs.Fault.{told}
-use Rattle.arc_class.specs.Walk.{missing_in}
 use Rattle.arc_class.proofs.walk.+expressions.Given as goal
 
 -- what is told so far and what is told of the rest is told of all

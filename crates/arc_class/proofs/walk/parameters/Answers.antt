@@ -1,8 +1,7 @@
 use Rattle.std.proofs.Common.{◌≡◌, ap, ◌∙◌, option_map}
-use Rattle.arc_class.specs.Broken.{first}
-use Rattle.arc_class.specs.Bodies.{broken_if, and_name}
+use Rattle.arc_class.specs.Broken.{first, broken_if}
+use Rattle.arc_class.specs.Walk.{and_name, holds}
 use Rattle.arc_class.specs.Fault.{told}
-use Rattle.arc_class.specs.Walk.{holds}
 use Rattle.arc_class.proofs.Walks.{parameters_turn, taken_turn}
 use Rattle.arc_class.proofs.walk.parameters.Goals as goal
 

@@ -1,9 +1,8 @@
 use Rattle.std.proofs.Common.{◌≡◌, option_map, drop}
 use Rattle.arc_ast.specs.Tree.{parameter_trees}
 use Rattle.arc_class.specs.Broken.{first, earlier_of}
-use Rattle.arc_class.specs.Bodies.{broken_parameters, names_taken}
+use Rattle.arc_class.specs.Walk.{broken_parameters, names_taken, holds}
 use Rattle.arc_class.specs.Fault.{told}
-use Rattle.arc_class.specs.Walk.{holds}
 use Rattle.arc_class.proofs.walk.parameters.Given as goal
 
 -- what is told so far and what is told of the rest is told of all

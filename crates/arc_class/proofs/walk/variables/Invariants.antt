@@ -1,9 +1,8 @@
 use Rattle.std.proofs.Common.{◌≡◌, option_map, drop}
 use Rattle.arc_ast.specs.Tree.{variable_trees}
 use Rattle.arc_class.specs.Broken.{first, earlier_of}
-use Rattle.arc_class.specs.Bodies.{broken_variables, names_with}
+use Rattle.arc_class.specs.Walk.{broken_variables, names_with, missing_in, holds}
 use Rattle.arc_class.specs.Fault.{told}
-use Rattle.arc_class.specs.Walk.{missing_in, holds}
 use Rattle.arc_class.proofs.walk.variables.Given as goal
 
 -- what is told so far and what is told of the rest is told of all

@@ -1,10 +1,16 @@
-use Rattle.std.proofs.Common.{option_map}
-use Rattle.arc_class.specs.Fault.{told}
-use Rattle.arc_class.specs.Walk.{missing_in}
-use Rattle.arc_class.proofs.Walks.{functions_turn}
+use Rattle.std.proofs.Common.{ap, ◌∙◌}
+use Rattle.std.specs.List.{flat_map}
+use Rattle.arc_ast.specs.Tree.{function_trees, implementation_trees}
+use Rattle.arc_class.specs.Broken.{first}
+use Rattle.arc_class.specs.Walk.{missing_in, broken_function, broken_methods}
+use Rattle.arc_class.proofs.Firsts.{first_both}
 use Rattle.arc_class.proofs.walk.walk.Goals as goal
 
-pub loop-one-preserved : goal.loop-one-preserved
-loop-one-preserved c =
-    functions_turn (missing_in c.args.source.now) c.args.functions.now c.loop-one.one-index c.one-item.result (option_map told c.loop-one.fault) (option_map told c.in_ok-function.field-0) (option_map told c.earlier-fault.result) _
-    c.loop-one-test.true c.one-item.is c.in_ok-function.ensures c.earlier-fault.ensures c.loop-one.invariant
+pub returns : goal.returns
+returns c =
+    let missing = missing_in c.args.source.now in
+    let unit = c.args.unit.now in
+    first_both (flat_map (broken_function missing) (function_trees unit.functions.items)) (flat_map (broken_methods missing) (implementation_trees unit.implementations.items)) _ _ _
+    (c.in_ok-functions.ensures ∙ ap (λ us. first (flat_map (broken_function missing) (function_trees us))) c.deref.ensures.value)
+    (c.in_ok-implementations.ensures ∙ ap (λ us. first (flat_map (broken_methods missing) (implementation_trees us))) c.deref-2.ensures.value)
+    c.earlier.ensures

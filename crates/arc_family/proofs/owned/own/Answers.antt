@@ -1,4 +1,4 @@
-use Rattle.std.proofs.Common.{◌≡◌, None, sym, ap, ◌∙◌, option_map}
+use Rattle.std.proofs.Common.{None, sym, ap, ◌∙◌, option_map}
 use Rattle.arc_ast.specs.Tree.{unit_tree}
 use Rattle.arc_sites.specs.Sites.{unit_sites}
 use Rattle.arc_sites.proofs.Firsts.{none_violated}

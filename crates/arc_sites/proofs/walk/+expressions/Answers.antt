@@ -1,4 +1,4 @@
-use Rattle.std.proofs.Common.{◌+◌, ◌++◌, true, false, drop, refl, sym, ap, ◌∙◌}
+use Rattle.std.proofs.Common.{◌+◌, true, false, drop, refl, sym, ap, ◌∙◌}
 use Rattle.arc_ast.specs.Tree.{expr_tree, expr_trees}
 use Rattle.arc_sites.specs.Sites as sites
 use Rattle.arc_sites.specs.Sites.{ANumber, AnObject, AValue, Anything, Receiver, Argument, Like, left_need, right_need, value, arguments}

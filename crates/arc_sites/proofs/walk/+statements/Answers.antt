@@ -1,4 +1,4 @@
-use Rattle.std.proofs.Common.{◌+◌, ◌++◌, true, false, drop, refl, sym, ap, ◌∙◌}
+use Rattle.std.proofs.Common.{◌+◌, true, false, drop, refl, sym, ap, ◌∙◌}
 use Rattle.arc_ast.specs.Tree.{expr_tree, stmt_tree, stmt_trees}
 use Rattle.arc_sites.specs.Sites as sites
 use Rattle.arc_sites.specs.Sites.{AValue, Anything, Statement, site, inner, after, stmt_sites, all_sites}

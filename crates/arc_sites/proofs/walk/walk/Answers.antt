@@ -1,4 +1,4 @@
-use Rattle.std.proofs.Common.{◌++◌, flat_map}
+use Rattle.std.proofs.Common.{flat_map}
 use Rattle.arc_ast.specs.Tree.{function_trees, interface_trees, implementation_trees}
 use Rattle.arc_sites.specs.Sites.{function_sites, interface_sites, implementation_sites}
 use Rattle.arc_sites.proofs.Found.{found_three}

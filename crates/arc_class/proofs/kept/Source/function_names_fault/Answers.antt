@@ -1,7 +1,6 @@
 use Rattle.std.proofs.Common.{◌≡◌, ◌<◌, length, get_or, option_map, subst, ap, ◌∙◌}
 use Rattle.arc_ast.specs.Tree.{unit_tree}
-use Rattle.arc_class.specs.Bodies.{broken_if}
-use Rattle.arc_class.specs.Broken.{first}
+use Rattle.arc_class.specs.Broken.{broken_if, first}
 use Rattle.arc_class.specs.ClassRules.{class_before}
 use Rattle.arc_class.specs.Fault.{told}
 use Rattle.arc_class.proofs.Rules.{names_turn}

@@ -1,10 +1,9 @@
 use Rattle.std.proofs.Common.{◌≡◌, ◌<◌, ◌+◌, suc, length, get_or, take, option_map, subst, ap, ◌∙◌, arith}
 use Rattle.arc_ast.specs.Tree.{unit_tree, interface_tree, interface_trees}
-use Rattle.arc_class.specs.Bodies.{and_name}
+use Rattle.arc_class.specs.Walk.{and_name, holds}
 use Rattle.arc_class.specs.Broken.{first}
 use Rattle.arc_class.specs.ClassRules.{broken_names, broken_members, broken_interface}
 use Rattle.arc_class.specs.Fault.{told}
-use Rattle.arc_class.specs.Walk.{holds}
 use Rattle.arc_class.proofs.Firsts.{first_both}
 use Rattle.arc_class.proofs.Rules.{interfaces_turn, interfaces_held, interfaces_before, interfaces_count}
 use Rattle.arc_class.proofs.Scopes.{holds-more}

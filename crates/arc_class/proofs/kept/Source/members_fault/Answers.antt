@@ -1,8 +1,8 @@
-use Rattle.std.proofs.Common.{◌≡◌, ◌++◌, length, nat_lt, option_map, ap, ◌∙◌}
+use Rattle.std.proofs.Common.{◌≡◌, ◌++◌, length, nat_lt, flat_map, option_map, ap, ◌∙◌}
 use Rattle.arc_ast.specs.Tree.{unit_tree, interface_tree, head_trees}
-use Rattle.arc_class.specs.Bodies.{broken_if}
-use Rattle.arc_class.specs.Broken.{first}
-use Rattle.arc_class.specs.ClassRules.{broken_own_fields, broken_heads, most_fields}
+use Rattle.arc_class.specs.Broken.{broken_if, first}
+use Rattle.arc_class.specs.declared.classes.TheConstants.{MOST_FIELDS}
+use Rattle.arc_class.specs.ClassRules.{broken_own_fields, broken_head}
 use Rattle.arc_class.specs.Fault.{told}
 use Rattle.arc_class.specs.Fields.{fields}
 use Rattle.arc_class.proofs.FieldLists.{count_kept}
@@ -17,7 +17,7 @@ returns c =
     let all = c.args.fields.now in
     let heads = head_trees i.methods.items in
     let count : c.count_among-many.result ≡ length (fields u class) = c.count_among-many.ensures ∙ count_kept u all c.requires.fields class c.requires.there in
-    let inside : option_map told c.heads_fault.result ≡ first (broken_heads u heads) = c.heads_fault.ensures ∙ ap (λ us. first (broken_heads u (head_trees us))) c.deref.ensures.value in
-    first_both (broken_if (nat_lt most_fields (length (fields u class))) i.at 27) (broken_own_fields u class (interface_tree i) ++ broken_heads u heads) _ _ _
-    (c.fault_if-many.ensures ∙ ap (λ n. first (broken_if (nat_lt most_fields n) i.at 27)) count)
-    (first_both (broken_own_fields u class (interface_tree i)) (broken_heads u heads) _ _ _ c.in_ok-again.ensures inside c.earlier-inside.ensures) c.earlier.ensures
+    let inside : option_map told c.heads_fault.result ≡ first (flat_map (broken_head u) heads) = c.heads_fault.ensures ∙ ap (λ us. first (flat_map (broken_head u) (head_trees us))) c.deref.ensures.value in
+    first_both (broken_if (nat_lt MOST_FIELDS (length (fields u class))) i.at 27) (broken_own_fields u class (interface_tree i) ++ flat_map (broken_head u) heads) _ _ _
+    (c.fault_if-many.ensures ∙ ap (λ n. first (broken_if (nat_lt MOST_FIELDS n) i.at 27)) count)
+    (first_both (broken_own_fields u class (interface_tree i)) (flat_map (broken_head u) heads) _ _ _ c.in_ok-again.ensures inside c.earlier-inside.ensures) c.earlier.ensures

@@ -1,7 +1,6 @@
 use Rattle.std.proofs.Common.{take, ap, option_map, refl}
 use Rattle.arc_ast.specs.Tree.{unit_tree, head_tree, method_trees}
 use Rattle.arc_class.specs.Classes.{heads}
-use Rattle.arc_class.specs.ClassRules.{missing_of}
 use Rattle.arc_class.specs.Kept.{head_in}
 use Rattle.arc_class.proofs.Rules.{methods_turn, methods_held}
 use Rattle.arc_class.proofs.kept.Source.methods_fault.Goals as goal
@@ -19,7 +18,7 @@ loop-method-preserved c =
     let k = c.loop-method.method-index in
     let x = c.method-item.result in
     record {
-      fault = methods_turn u (missing_of u) xs k x _ _ _ _ c.loop-method-test.true c.method-item.is
-          (c.in_ok-method_fault.ensures (heads (method_trees (take k xs))) c.loop-method.invariant.held) c.earlier-fault.ensures c.loop-method.invariant.fault;
+      fault = methods_turn u xs k x _ _ _ _ c.loop-method-test.true c.method-item.is
+          (c.method_fault.ensures (heads (method_trees (take k xs))) c.loop-method.invariant.held) c.earlier-fault.ensures c.loop-method.invariant.fault;
       held = methods_held xs k x (head_in c.loop-method.before) (head_in c.keep.new.self) c.loop-method-test.true c.method-item.is c.in_ok-keep.ensures c.loop-method.invariant.held;
     }

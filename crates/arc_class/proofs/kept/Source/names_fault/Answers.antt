@@ -1,7 +1,6 @@
 use Rattle.std.proofs.Common.{◌≡◌, ◌||◌, ◌++◌, not, is_some, is_none, ap, ◌∙◌}
 use Rattle.arc_ast.specs.Tree.{unit_tree, interface_tree}
-use Rattle.arc_class.specs.Bodies.{broken_if}
-use Rattle.arc_class.specs.Broken.{first}
+use Rattle.arc_class.specs.Broken.{broken_if, first}
 use Rattle.arc_class.specs.ClassRules.{is_implemented, is_taken}
 use Rattle.arc_class.specs.Classes.{is_root, class_number, bodies}
 use Rattle.arc_class.specs.Table.{at_name}

@@ -5,13 +5,11 @@ use Rattle.arc_class.specs.declared.fields.ClassFields.{ClassFields}
 use Rattle.arc_class.specs.Broken.{first}
 use Rattle.arc_class.specs.ClassRules.{broken}
 use Rattle.arc_class.specs.Fault.{told}
-use Rattle.arc_class.specs.Functions.{broken_functions}
 use Rattle.arc_class.specs.Look.{Sums}
 use Rattle.arc_class.specs.Names.{number_of, is_main}
 use Rattle.arc_class.specs.Owners.{TellsFields}
 use Rattle.arc_class.specs.Table.{IsTableOf}
-use Rattle.arc_class.specs.Walk.{missing_in}
-use Rattle.arc_class.proofs.Answering.{in_classes, refuses, whole_known, nothing, missing_kept, own_known}
+use Rattle.arc_class.proofs.Answering.{in_classes, refuses, whole_known, nothing, walked_kept, own_known}
 use Rattle.arc_class.proofs.table.ClassTable.build.Goals as goal
 
 pub class_fields-requires : goal.class_fields-requires
@@ -29,12 +27,12 @@ of-requires-clause-main c = ap (λ t. number_of is_main (unit_tree t).functions)
 pub classes_fault-requires-clause-owners : goal.classes_fault-requires-clause-owners
 classes_fault-requires-clause-owners c =
     let Told : List ClassFields → Type 0 = λ fields. TellsFields fields c.in_ok-owners.owners in
-    subst Told (c.deref-3.ensures.value ∙ sym c.deref-4.ensures.value) c.in_ok-owners.ensures.tells
+    subst Told (c.deref-2.ensures.value ∙ sym c.deref-3.ensures.value) c.in_ok-owners.ensures.tells
 
 pub of-requires-clause-owners : goal.of-requires-clause-owners
 of-requires-clause-owners c =
     let Told : List ClassFields → Type 0 = λ fields. TellsFields fields c.in_ok-owners.owners in
-    subst Told c.deref-3.ensures.value c.in_ok-owners.ensures.tells
+    subst Told c.deref-2.ensures.value c.in_ok-owners.ensures.tells
 
 pub returns-in-Some-default-clause-refused : goal.returns-in-Some-default-clause-refused
 returns-in-Some-default-clause-refused c =
@@ -42,12 +40,11 @@ returns-in-Some-default-clause-refused c =
     let seen = c.in_ok-seen.seen in
     let source = c.in_ok-source.source in
     let sums : Sums u.functions seen = rw c.deref.ensures.value at c.in_ok-seen.ensures in
-    let inside : option_map told c.in_ok-walk.field-0 ≡ first (broken_functions (missing_in source) u.functions) = rw c.deref-2.ensures.value at c.in_ok-walk.ensures in
-    let inside_u = inside ∙ ap (λ m. first (broken_functions m u.functions)) (missing_kept u source c.in_ok-source.ensures.knows) in
+    let inside = walked_kept u source (option_map told c.in_ok-walk.field-0) c.in_ok-source.ensures.knows c.in_ok-walk.ensures in
     let classes : option_map told c.in_ok-classes.classes ≡ first (in_classes u) = c.in_ok-classes.ensures ∙ ap (λ t. first (in_classes (unit_tree t))) c.in_ok-source.ensures.unit in
     let whole : option_map told c.earlier.result ≡ first (broken u) =
     whole_known u seen (option_map told c.earlier-own.result) (option_map told c.in_ok-walk.field-0) (option_map told c.missing_main.result) (option_map told c.earlier-functions.result) (option_map told c.in_ok-classes.classes) (option_map told c.earlier.result)
-    sums c.missing_main.ensures c.earlier-own.ensures inside_u c.earlier-functions.ensures classes c.earlier.ensures in
+    sums c.missing_main.ensures c.earlier-own.ensures inside c.earlier-functions.ensures classes c.earlier.ensures in
     refuses (broken u) c.in-Some-default.fault (sym whole ∙ ap (option_map told) c.in-Some-default.is-0)
 
 pub returns-in-None-Some-clause-unbroken : goal.returns-in-None-Some-clause-unbroken
@@ -56,12 +53,11 @@ returns-in-None-Some-clause-unbroken c =
     let seen = c.in_ok-seen.seen in
     let source = c.in_ok-source.source in
     let sums : Sums u.functions seen = rw c.deref.ensures.value at c.in_ok-seen.ensures in
-    let inside : option_map told c.in_ok-walk.field-0 ≡ first (broken_functions (missing_in source) u.functions) = rw c.deref-2.ensures.value at c.in_ok-walk.ensures in
-    let inside_u = inside ∙ ap (λ m. first (broken_functions m u.functions)) (missing_kept u source c.in_ok-source.ensures.knows) in
+    let inside = walked_kept u source (option_map told c.in_ok-walk.field-0) c.in_ok-source.ensures.knows c.in_ok-walk.ensures in
     let classes : option_map told c.in_ok-classes.classes ≡ first (in_classes u) = c.in_ok-classes.ensures ∙ ap (λ t. first (in_classes (unit_tree t))) c.in_ok-source.ensures.unit in
     let whole : option_map told c.earlier.result ≡ first (broken u) =
     whole_known u seen (option_map told c.earlier-own.result) (option_map told c.in_ok-walk.field-0) (option_map told c.missing_main.result) (option_map told c.earlier-functions.result) (option_map told c.in_ok-classes.classes) (option_map told c.earlier.result)
-    sums c.missing_main.ensures c.earlier-own.ensures inside_u c.earlier-functions.ensures classes c.earlier.ensures in
+    sums c.missing_main.ensures c.earlier-own.ensures inside c.earlier-functions.ensures classes c.earlier.ensures in
     IfOk-weaker c.of.result _ _ (λ table h. nothing (broken u) (sym (ap (option_map told) c.in-None-Some.is-0) ∙ whole)) c.of.ensures.table
 
 pub returns-in-None-Some-clause-table : goal.returns-in-None-Some-clause-table

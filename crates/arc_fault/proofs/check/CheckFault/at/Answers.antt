@@ -1,30 +1,30 @@
 use Rattle.std.proofs.Common.{sym, ap}
-use Rattle.arc_fault.specs.Check.{fault_at}
+use Rattle.arc_fault.specs.Check.{report}
 use Rattle.arc_fault.proofs.check.CheckFault.at.Goals as goal
 
 pub returns-in-UnknownName : goal.returns-in-UnknownName
-returns-in-UnknownName c = ap fault_at (sym c.in-UnknownName.is)
+returns-in-UnknownName c = ap (λ f. (report f).at) (sym c.in-UnknownName.is)
 
 pub returns-in-NoSuchMethod : goal.returns-in-NoSuchMethod
-returns-in-NoSuchMethod c = ap fault_at (sym c.in-NoSuchMethod.is)
+returns-in-NoSuchMethod c = ap (λ f. (report f).at) (sym c.in-NoSuchMethod.is)
 
 pub returns-in-KindMismatch : goal.returns-in-KindMismatch
-returns-in-KindMismatch c = ap fault_at (sym c.in-KindMismatch.is)
+returns-in-KindMismatch c = ap (λ f. (report f).at) (sym c.in-KindMismatch.is)
 
 pub returns-in-NotAssignable : goal.returns-in-NotAssignable
-returns-in-NotAssignable c = ap fault_at (sym c.in-NotAssignable.is)
+returns-in-NotAssignable c = ap (λ f. (report f).at) (sym c.in-NotAssignable.is)
 
 pub returns-in-ArgumentCount : goal.returns-in-ArgumentCount
-returns-in-ArgumentCount c = ap fault_at (sym c.in-ArgumentCount.is)
+returns-in-ArgumentCount c = ap (λ f. (report f).at) (sym c.in-ArgumentCount.is)
 
 pub returns-in-Format : goal.returns-in-Format
-returns-in-Format c = ap fault_at (sym c.in-Format.is)
+returns-in-Format c = ap (λ f. (report f).at) (sym c.in-Format.is)
 
 pub returns-in-FieldHidden : goal.returns-in-FieldHidden
-returns-in-FieldHidden c = ap fault_at (sym c.in-FieldHidden.is)
+returns-in-FieldHidden c = ap (λ f. (report f).at) (sym c.in-FieldHidden.is)
 
 pub returns-in-TooManyLocals : goal.returns-in-TooManyLocals
-returns-in-TooManyLocals c = ap fault_at (sym c.in-TooManyLocals.is)
+returns-in-TooManyLocals c = ap (λ f. (report f).at) (sym c.in-TooManyLocals.is)
 
 pub returns-in-Memory : goal.returns-in-Memory
-returns-in-Memory c = ap fault_at (sym c.in-Memory.is)
+returns-in-Memory c = ap (λ f. (report f).at) (sym c.in-Memory.is)
