@@ -11,7 +11,7 @@ use Rattle.arc_code.specs.Running.{text_at}
 use Rattle.arc_code.proofs.Renamed.{renamed_same}
 use Rattle.arc_ir.specs.declared.action.TextPart.{TextPart}
 use Rattle.arc_ir.specs.Acting as acting
-use Rattle.arc_ir.specs.Acting.{Action, State, entry}
+use Rattle.arc_ir.specs.Acting.{Action, State, lands, entry}
 use Rattle.arc_emit.specs.Emitted.{text_of, texts_of, piece, instr_of, instrs_of, code_of}
 
 along_by : {S : Type 0} → (P Q : S → Type 0) → ((s : S) → P s → Q s) → (x : Next S) → Along P x → Along Q x
@@ -47,23 +47,25 @@ module _ (p : acting.Program) where
   print_same : (a : Action) (part : TextPart) (before behind : List ℕ) → a ≡ PrintText part → code.texts ≡ before ++ (text_of a ++ behind) → running.text_of code (piece (length before) part) ≡ Some part.bytes.items
   print_same a part before behind is e = text_is before part.bytes.items behind (subst (λ (x : Action). code.texts ≡ before ++ (text_of x ++ behind)) is e) part.short
 
-  instr_same : (a : Action) (before behind : List ℕ) (s : State) → code.texts ≡ before ++ (text_of a ++ behind) → running.executes code (Some (instr_of p (length before) a)) s ≡ acting.executes p (Some a) s
+  instr_same : (a : Action) (before behind : List ℕ) (s : State) → code.texts ≡ before ++ (text_of a ++ behind) → running.executes code (Some (instr_of p s.at (length before) a)) s ≡ acting.executes p (Some a) s
   instr_same a before behind s e =
-      renamed_same (acting.linked p) code.instrs (λ at to. to) (λ to. Some to) (running.text_of code) (λ to. to) (entry p) (piece (length before)) s a (λ to. refl) (λ f is. refl) (λ part is. print_same a part before behind is e)
+      renamed_same (acting.linked p) code.instrs (λ at to. to) (λ to. Some to) (running.text_of code) (lands s.at) (entry p) (piece (length before)) s a (λ to. refl) (λ f is. refl) (λ part is. print_same a part before behind is e)
 
   -- ---- runs
 
-  -- the action with this number among the last actions, where `before` are the texts of those before them
-  step_at : (actions : List Action) (before : List ℕ) (n : ℕ) (s : State) → code.texts ≡ before ++ texts_of actions → running.executes code (slice_get (instrs_of p (length before) actions) n) s ≡ acting.executes p (slice_get actions n) s
-  step_at [] before n s e = refl
-  step_at (a ∷ actions) before zero s e = instr_same a before (texts_of actions) s e
-  step_at (a ∷ actions) before (suc n) s e =
+  -- one of the last actions, of which the first has the number `at`, where `before` are the texts of those before it
+  step_at : (actions : List Action) (before : List ℕ) (at n : ℕ) (s : State) → at + n ≡ s.at → code.texts ≡ before ++ texts_of actions → running.executes code (slice_get (instrs_of p at (length before) actions) n) s ≡ acting.executes p (slice_get actions n) s
+  step_at [] before at n s here e = refl
+  step_at (a ∷ actions) before at zero s here e =
+      let same : at ≡ s.at = omega (arith, here) in
+      ap (λ m. running.executes code (Some (instr_of p m (length before) a)) s) same ∙ instr_same a before (texts_of actions) s e
+  step_at (a ∷ actions) before at (suc n) s here e =
       let long : length before + length (text_of a) ≡ length (before ++ text_of a) = omega (arith, length-append before (text_of a)) in
-      ap (λ from. running.executes code (slice_get (instrs_of p from actions) n) s) long
-      ∙ step_at actions (before ++ text_of a) n s (e ∙ sym (append_assoc before (text_of a) (texts_of actions)))
+      ap (λ from. running.executes code (slice_get (instrs_of p (at + 1) from actions) n) s) long
+      ∙ step_at actions (before ++ text_of a) (at + 1) n s (omega (arith, here)) (e ∙ sym (append_assoc before (text_of a) (texts_of actions)))
 
   step_same : (s : State) → running.step code s ≡ acting.step p s
-  step_same s = step_at p.actions [] s.at s refl
+  step_same s = let none : 0 + s.at ≡ s.at = omega arith in step_at p.actions [] 0 s.at s none refl
 
   further_same : (r : Reached State) → further (running.step code) r ≡ further (acting.step p) r
   further_same (Running s i t) = ap (λ x. follow x i t) (step_same s)

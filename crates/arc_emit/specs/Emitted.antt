@@ -7,7 +7,7 @@ use Rattle.arc_code.specs.Running as running
 use Rattle.arc_code.specs.Running.{Instruction}
 use Rattle.arc_ir.specs.declared.action.TextPart.{TextPart}
 use Rattle.arc_ir.specs.Acting as acting
-use Rattle.arc_ir.specs.Acting.{Action, entry}
+use Rattle.arc_ir.specs.Acting.{Action, lands, entry}
 
 -- the text that an action prints
 abbrev pub text_of : Action → List ℕ
@@ -23,19 +23,19 @@ texts_of (a ∷ rest) = text_of a ++ texts_of rest
 abbrev pub piece : (from : ℕ) → TextPart → Piece
 piece from part = record { from = from; len = length part.bytes.items }
 
--- the instruction that an action is, whose text stands at `from`
-abbrev pub instr_of : acting.Program → (from : ℕ) → Action → Instruction
-instr_of p from = renamed (λ to. to) (entry p) (piece from)
+-- the instruction that the action with a number is, whose text stands at `from`
+abbrev pub instr_of : acting.Program → (at from : ℕ) → Action → Instruction
+instr_of p at from = renamed (lands at) (entry p) (piece from)
 
--- the instructions of actions whose texts stand at `from`, one after another
-abbrev pub instrs_of : acting.Program → (from : ℕ) → List Action → List Instruction
-instrs_of p from [] = []
-instrs_of p from (a ∷ rest) = instr_of p from a ∷ instrs_of p (from + length (text_of a)) rest
+-- the instructions of actions from one with a number on, whose texts stand at `from`, one after another
+abbrev pub instrs_of : acting.Program → (at from : ℕ) → List Action → List Instruction
+instrs_of p at from [] = []
+instrs_of p at from (a ∷ rest) = instr_of p at from a ∷ instrs_of p (at + 1) (from + length (text_of a)) rest
 
 -- the code of a program
 abbrev pub code_of : acting.Program → running.Program
 code_of p = record {
-  instrs = instrs_of p 0 p.actions;
+  instrs = instrs_of p 0 0 p.actions;
   texts = texts_of p.actions;
   end_step = p.end_step;
   room = p.room;

@@ -17,8 +17,8 @@ use std::alloc::Global;
 /// The most instructions that code may have.
 const MOST_INSTRS: usize = 16_777_216;
 
-/// The code of a program. Each action is the instruction with the same number, so jumps, functions,
-/// methods and the ends of objects go on at the same numbers. The texts stand one after another.
+/// The code of a program. Each action is the instruction with the same number, so functions, methods
+/// and the ends of objects go on at the same numbers, and a jump names the one where it goes on. The texts stand one after another.
 /// TooLarge: there would be over 16,777,216 instructions. Memory: memory was refused.
 pub fn emit(alloc: Global, ir: &Ir, _table: &ClassTable) -> Result<Code, EmitFault>
     requires { acting.IsSound (acting.program_of ir.now) }
@@ -44,7 +44,8 @@ fn write_code(alloc: Global, ir: &Ir) -> Result<Code, EmitFault>
     let mut instrs = Vec::new(alloc);
     let mut texts = Vec::new(alloc);
     for action in &ir.actions {
-        instrs.push(instr_of(ir, texts.len() as u32, action))?;
+        let at = instrs.len() as u32;
+        instrs.push(instr_of(ir, at, texts.len() as u32, action))?;
         texts.extend_from_slice(text_of(action))?;
     }
     let classes = copy_classes(alloc, &ir.classes)?;

@@ -1,16 +1,16 @@
 //! The instruction of one action, and its text.
 ghost use Rattle.std.specs.Prelude.{◌≡◌, ◌≤◌, length};
-ghost use Rattle.arc_ir.specs.Acting.{program_of, entry};
+ghost use Rattle.arc_ir.specs.Acting.{program_of, lands, entry};
 ghost use Rattle.arc_emit.specs.Emitted.{instr_of, text_of};
 
 use arc_code::code::{Instruction, Piece};
 use arc_code::instr::Instr;
-use arc_ir::action::{Action, Ir};
+use arc_ir::action::{Action, Ir, Target};
 
-/// The instruction of an action of this program; `from` is where the action's text begins among all
-/// texts.
-pub fn instr_of(ir: &Ir, from: u32, action: &Action) -> Instruction
-    ensures { result ≡ instr_of (program_of ir.now) from action.now }
+/// The instruction of the action with the number `at` of this program; `from` is where the action's
+/// text begins among all texts.
+pub fn instr_of(ir: &Ir, at: u32, from: u32, action: &Action) -> Instruction
+    ensures { result ≡ instr_of (program_of ir.now) at from action.now }
 {
     match action {
         Instr::Plain(op) => Instr::Plain(*op),
@@ -18,8 +18,8 @@ pub fn instr_of(ir: &Ir, from: u32, action: &Action) -> Instruction
             from,
             len: part.bytes.len() as u8,
         }),
-        Instr::Jump(to) => Instr::Jump(*to),
-        Instr::JumpZero(to) => Instr::JumpZero(*to),
+        Instr::Jump(target) => Instr::Jump(lands(at, *target)),
+        Instr::JumpZero(target) => Instr::JumpZero(lands(at, *target)),
         Instr::Call(function) => Instr::Call(entry(ir, *function)),
         Instr::Send(selector, takes) => Instr::Send(*selector, *takes),
         Instr::SendSuper(from, selector, takes) => Instr::SendSuper(*from, *selector, *takes),
@@ -30,6 +30,17 @@ pub fn instr_of(ir: &Ir, from: u32, action: &Action) -> Instruction
         Instr::Drop => Instr::Drop,
         Instr::Empty(depth) => Instr::Empty(*depth),
         Instr::EndStep => Instr::EndStep,
+    }
+}
+
+/// Where a jump goes on that is the action with the number `at`.
+fn lands(at: u32, target: Target) -> usize
+    ensures { result ≡ lands at target }
+{
+    match target {
+        Target::Skip(count) => at as usize + 1 + count as usize,
+        Target::Back(count) => (at as usize).saturating_sub(count as usize),
+        Target::At(to) => to,
     }
 }
 

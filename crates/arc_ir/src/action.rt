@@ -12,8 +12,19 @@ pub struct TextPart {
     pub ghost short: { length bytes.items ≤ 16 },
 }
 
-/// One action: a jump names the action with this number, and a call the function with this number.
-pub type Action = Instr<usize, usize, TextPart>;
+/// Where a jump goes on.
+#[derive(Clone, Copy)]
+pub enum Target {
+    /// After the next actions, so many.
+    Skip(u32),
+    /// So many actions before the jump.
+    Back(u32),
+    /// At the action with this number.
+    At(usize),
+}
+
+/// One action: a jump goes on at a target, and a call names the function with this number.
+pub type Action = Instr<Target, usize, TextPart>;
 
 /// A program: all actions, of which the first is where it begins; where each function begins; where
 /// the ends of objects go on; the most numbers that the stack comes to hold, and the most strong places

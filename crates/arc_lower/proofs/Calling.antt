@@ -14,8 +14,9 @@ use Rattle.arc_spec.specs.Stepping.{Goes, Faults, Reached, Running, follow}
 use Rattle.arc_spec.proofs.Deallocs.{dealloc_and_above, deallocs_from}
 use Rattle.arc_ir.specs.Acting.{Program, State, has_level, enters, answers, begins_end, ends_object, runs_dealloc, ends_class}
 use Rattle.arc_code.specs.declared.instr.Instr.TheVariants.{Call, Jump, EndStep}
+use Rattle.arc_ir.specs.declared.action.Target.TheVariants.{At}
 use Rattle.arc_code.specs.Effects.{passes}
-use Rattle.arc_lower.specs.Lowered.{number_of, slots_of, entry_of, entries_of, fit_orders, leave_orders, body_orders}
+use Rattle.arc_lower.specs.Lowered.{number_of, slots_of, entry_of, entries_of, fit_orders, leave_orders, flat, body_block}
 use Rattle.arc_lower.proofs.CountsPlaces.{no_one, names_holders}
 use Rattle.arc_lower.proofs.CountsThere.{AllThere, changed_there, gone_there, set_here}
 use Rattle.arc_lower.proofs.Leading.{Leads, leads_same, leads_trans, leads_step, Runs, leads_runs, then_runs, better_runs}
@@ -77,8 +78,8 @@ module _ (p : Program) (R : resolved.Program) (bound : ℕ) (begins : (f : ℕ) 
       let before = onto given stack in
       let s = onto (first_locals (slots_of R f) given) stack in
       let next = Goes (at frames target s (held_of w)) [] in
-      let last = has_back p to fits (Jump target ∷ []) has in
-      let ready = subst (λ n. HasAt p to (fit_orders n (slots_of R f)) → Leads (moves p) (running frames to before w) (running frames (to + length (fit_orders n (slots_of R f))) s w)) size (λ h. fit_passes p frames bound (slots_of R f) given stack w to h) (has_front p to fits (Jump target ∷ []) has) in
+      let last = has_back p to fits (Jump (At target) ∷ []) has in
+      let ready = subst (λ n. HasAt p to (fit_orders n (slots_of R f)) → Leads (moves p) (running frames to before w) (running frames (to + length (fit_orders n (slots_of R f))) s w)) size (λ h. fit_passes p frames bound (slots_of R f) given stack w to h) (has_front p to fits (Jump (At target) ∷ []) has) in
       let there = subst (λ n. Leads (moves p) (follow next w.input w.trace) (running frames n s w)) (begins f).first (quiet p frames bound target s w) in
       leads_trans (moves p) (running frames to before w) (running frames q s w) (running frames (entry f) s w) ready
       (leads_trans (moves p) (running frames q s w) (follow next w.input w.trace) (running frames (entry f) s w) (leads_step (moves p) (at frames q s (held_of w)) w.input w.trace next (ap recount (last.0 frames s (held_of w)))) there)
@@ -89,7 +90,7 @@ module _ (p : Program) (R : resolved.Program) (bound : ℕ) (begins : (f : ℕ) 
       let F = function_at R f in
       let place = (begins f).place in
       let leave = leave_orders F.slots F.names in
-      let body = body_orders R place (entry f) F in
+      let body = flat place (body_block R F) in
       function_runs p frames bound R F.slots F.names self w stack (level R bound levels) deep alive place F.body (entry f) given (first_length F.slots given) fine (has_front p place leave body (begins f).code) (has_back p place leave body (begins f).code)
 
   -- a method or a function comes back behind its call

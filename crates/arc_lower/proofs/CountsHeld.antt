@@ -28,10 +28,6 @@ nothing_counted = record { counted = λ k. refl; held = λ k o e live. cc }
 pub same_places : (h : Held) (old new : List ℕ) → ((k : ℕ) → holders (suc k) old ≡ holders (suc k) new) → Counted (with_places h old) → Counted (with_places h new)
 same_places h old new same c = record { counted = λ k. c.counted k ∙ same k; held = c.held }
 
--- places that were told apart
-pub at_places : (h : Held) (places : List ℕ) → h.places ≡ places → Counted h → Counted (with_places h places)
-at_places h places e c = subst (λ ps. Counted (with_places h ps)) e c
-
 pub forgets_nil : (h : Held) (rest : List ℕ) → Counted (with_places h (0 ∷ rest)) → Counted (with_places h rest)
 forgets_nil h rest c = same_places h (0 ∷ rest) rest (λ k. holders_nil k rest) c
 

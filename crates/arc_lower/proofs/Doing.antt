@@ -5,20 +5,21 @@ use Rattle.arc_spec.specs.Stepping.{Next}
 use Rattle.arc_code.specs.Instructions as instructions
 use Rattle.arc_code.specs.Renaming.{relinked}
 use Rattle.arc_code.proofs.Renamed.{renamed_same}
-use Rattle.arc_ir.specs.Acting.{Action, Program, State, entry, linked, executes, step}
+use Rattle.arc_ir.specs.declared.action.Target.{Target}
+use Rattle.arc_ir.specs.Acting.{Action, Program, State, lands, entry, linked, executes, step}
 use Rattle.arc_lower.specs.Order.{Order, order, orders}
 use Rattle.arc_lower.proofs.Recounting.{at}
 
 -- the same program, whose orders name their texts by the bytes
-abbrev pub bare : Program → instructions.Program ℕ ℕ (List ℕ)
-bare p = relinked (linked p) [] (λ at to. to) (λ f. Some (entry p f)) (λ bytes. Some bytes)
+abbrev pub bare : Program → instructions.Program Target ℕ (List ℕ)
+bare p = relinked (linked p) [] lands (λ f. Some (entry p f)) (λ bytes. Some bytes)
 
 -- what the action of an order does
 abbrev pub does : Program → Order → State → Next State
 does p x = instructions.executes (bare p) (Some x)
 
-acts_does : (p : Program) (x : Action) (s : State) → executes p (Some x) s ≡ does p (order x) s
-acts_does p x s = sym (renamed_same (linked p) [] (λ at to. to) (λ f. Some (entry p f)) (λ bytes. Some bytes) (λ to. to) (λ f. f) (λ part. part.bytes.items) s x (λ to. refl) (λ f is. refl) (λ part is. refl))
+pub acts_does : (p : Program) (x : Action) (s : State) → executes p (Some x) s ≡ does p (order x) s
+acts_does p x s = sym (renamed_same (linked p) [] lands (λ f. Some (entry p f)) (λ bytes. Some bytes) (λ to. to) (λ f. f) (λ part. part.bytes.items) s x (λ to. refl) (λ f is. refl) (λ part is. refl))
 
 -- the actions of these orders stand among the actions at this place
 abbrev pub HasAt : Program → ℕ → List Order → Type 0

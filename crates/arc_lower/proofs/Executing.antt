@@ -10,12 +10,14 @@ use Rattle.arc_spec.specs.World as world
 use Rattle.arc_spec.specs.World.{World, Outcome, Done, Faulted, Cut, Finished, then_do, places, first_frame, first_locals, entered, left, with_temporaries, stores}
 use Rattle.arc_spec.specs.Holding.{Frame, holders, with_places, forgets}
 use Rattle.arc_spec.specs.Stepping.{Next, Reached, Goes, follow}
-use Rattle.arc_ir.specs.Acting.{Program, State, keeps}
+use Rattle.arc_ir.specs.declared.action.Target.{Target}
+use Rattle.arc_ir.specs.declared.action.Target.TheVariants.{Skip, Back, At}
+use Rattle.arc_ir.specs.Acting.{Program, State, lands, keeps}
 use Rattle.arc_ir.specs.Acting as acting
 use Rattle.arc_code.specs.declared.instr.Op.TheVariants.{Num, Pop, Nil, Forget}
 use Rattle.arc_code.specs.declared.instr.Instr.TheVariants.{Plain, Jump, JumpZero, Return}
 use Rattle.arc_lower.specs.Order.{Order}
-use Rattle.arc_lower.specs.Lowered.{value_takes, reference_takes, keep_orders, nil_orders, store_orders, drop_orders, all_empty_orders, value_orders, reference_orders, whole_orders, whole_reference_orders, begin_orders, leave_orders, command_orders, all_command_orders, body_orders}
+use Rattle.arc_lower.specs.Lowered.{value_takes, reference_takes, keep_orders, nil_orders, store_orders, drop_orders, all_empty_orders, value_orders, reference_orders, whole_orders, whole_reference_orders, begin_orders, leave_orders, flat, command_block, commands_block, body_block}
 use Rattle.arc_lower.proofs.CountsThere.{AllThere, placed_there}
 use Rattle.arc_lower.proofs.Leading.{Leads, leads_same, leads_trans, leads_step, Runs, leads_runs, later_runs, fewer_runs, then_runs, better_runs}
 use Rattle.arc_lower.proofs.Recounting.{recount, moves, at, held_of}
@@ -139,74 +141,89 @@ module _ (p : Program) (frames : List Frame) (bound : ℕ) (R : resolved.Program
       subst (λ s. Runs (moves p) Good bound (running frames q2 s w2) (passed (q2 + length zs)) (all_dropped D w2)) same (drops_runs n w w2 q2 g framed2 took2 has2)) q has1) pc has
 
   -- a jump leads there
-  abbrev jump_leads : (to : ℕ) (stack : List ℤ) (w : World) (pc : ℕ) → HasAt p pc (Jump to ∷ []) → Leads (moves p) (running frames pc stack w) (follow (Goes (at frames to stack (held_of w)) []) w.input w.trace)
-  jump_leads to stack w pc has = leads_step (moves p) (at frames pc stack (held_of w)) w.input w.trace (Goes (at frames to stack (held_of w)) []) (ap recount (has.0 frames stack (held_of w)))
+  abbrev moved : Target → List ℤ → World → ℕ → Reached State
+  moved t stack w pc = follow (Goes (at frames (lands pc t) stack (held_of w)) []) w.input w.trace
 
-  -- the function is to be left with the number on top
-  return_leads : (v : ℤ) (w : World) (pc : ℕ) → HasAt p pc (Jump exit ∷ []) → Leads (moves p) (running frames pc (v ∷ vars w) w) (running frames exit (v ∷ vars w) w)
-  return_leads v w pc has =
-      leads_trans (moves p) (running frames pc (v ∷ vars w) w) (follow (Goes (at frames exit (v ∷ vars w) (held_of w)) []) w.input w.trace) (running frames exit (v ∷ vars w) w) (jump_leads exit (v ∷ vars w) w pc has) (quiet p frames bound exit (v ∷ vars w) w)
+  abbrev jump_step : (t : Target) (stack : List ℤ) (w : World) (pc : ℕ) → HasAt p pc (Jump t ∷ []) → Leads (moves p) (running frames pc stack w) (moved t stack w pc)
+  jump_step t stack w pc has = leads_step (moves p) (at frames pc stack (held_of w)) w.input w.trace (Goes (at frames (lands pc t) stack (held_of w)) []) (ap recount (has.0 frames stack (held_of w)))
+
+  jump_leads : (t : Target) (stack : List ℤ) (w : World) (pc : ℕ) → HasAt p pc (Jump t ∷ []) → Leads (moves p) (running frames pc stack w) (running frames (lands pc t) stack w)
+  jump_leads t stack w pc has = leads_trans (moves p) (running frames pc stack w) (moved t stack w pc) (running frames (lands pc t) stack w) (jump_step t stack w pc has) (quiet p frames bound (lands pc t) stack w)
 
   zero_leads : (w : World) (pc : ℕ) → HasAt p pc (Plain (Num (pos 0)) ∷ []) → Leads (moves p) (running frames pc (vars w) w) (running frames (pc + 1) (pos 0 ∷ vars w) w)
   zero_leads w pc has = one_passes p frames bound (Plain (Num (pos 0))) (vars w) w (pos 0 ∷ vars w) w (λ q. quiet p frames bound (q + 1) (pos 0 ∷ vars w) w) pc has
 
-  zero_returns : (w : World) (pc : ℕ) → HasAt p pc (Plain (Num (pos 0)) ∷ Jump exit ∷ []) → Leads (moves p) (running frames pc (vars w) w) (running frames exit (pos 0 ∷ vars w) w)
-  zero_returns w pc has = leads_trans (moves p) (running frames pc (vars w) w) (running frames (pc + 1) (pos 0 ∷ vars w) w) (running frames exit (pos 0 ∷ vars w) w) (zero_leads w pc (has.0, tt)) (return_leads (pos 0) w (pc + 1) has.1)
+  zero_returns : (w : World) (pc : ℕ) → HasAt p pc (Plain (Num (pos 0)) ∷ Jump (At exit) ∷ []) → Leads (moves p) (running frames pc (vars w) w) (running frames exit (pos 0 ∷ vars w) w)
+  zero_returns w pc has = leads_trans (moves p) (running frames pc (vars w) w) (running frames (pc + 1) (pos 0 ∷ vars w) w) (running frames exit (pos 0 ∷ vars w) w) (zero_leads w pc (has.0, tt)) (jump_leads (At exit) (pos 0 ∷ vars w) w (pc + 1) has.1)
 
   -- by the number on top a run goes on behind the test, or elsewhere
   branch_by : (b : Bool) (bound' pc to : ℕ) (stack : List ℤ) (w : World) (exit : Flow → World → Reached State) (x y : Outcome Flow) → Runs (moves p) Good bound' (running frames pc stack w) exit x → Runs (moves p) Good bound' (running frames to stack w) exit y → Runs (moves p) Good bound' (follow (recount (chosen b (Goes (at frames pc stack (held_of w)) []) (Goes (at frames to stack (held_of w)) []))) w.input w.trace) exit (chosen b x y)
   branch_by false bound' pc to stack w exit x y one two = leads_runs (moves p) Good bound' (follow (Goes (at frames pc stack (held_of w)) []) w.input w.trace) (running frames pc stack w) exit x (quiet p frames bound pc stack w) one
   branch_by true bound' pc to stack w exit x y one two = leads_runs (moves p) Good bound' (follow (Goes (at frames to stack (held_of w)) []) w.input w.trace) (running frames to stack w) exit y (quiet p frames bound to stack w) two
 
-  branch_runs : (bound' pc to : ℕ) (v : ℤ) (stack : List ℤ) (w : World) (exit : Flow → World → Reached State) (x y : Outcome Flow) → HasAt p pc (JumpZero to ∷ []) → Runs (moves p) Good bound' (running frames (pc + 1) stack w) exit x → Runs (moves p) Good bound' (running frames to stack w) exit y → Runs (moves p) Good bound' (running frames pc (v ∷ stack) w) exit (chosen (is_zero v) x y)
-  branch_runs bound' pc to v stack w exit x y has one two =
-      let next = recount (chosen (is_zero v) (Goes (at frames (pc + 1) stack (held_of w)) []) (Goes (at frames to stack (held_of w)) [])) in
-      leads_runs (moves p) Good bound' (running frames pc (v ∷ stack) w) (follow next w.input w.trace) exit (chosen (is_zero v) x y) (leads_step (moves p) (at frames pc (v ∷ stack) (held_of w)) w.input w.trace next (ap recount (has.0 frames (v ∷ stack) (held_of w)))) (branch_by (is_zero v) bound' (pc + 1) to stack w exit x y one two)
+  branch_runs : (bound' pc to : ℕ) (t : Target) (v : ℤ) (stack : List ℤ) (w : World) (exit : Flow → World → Reached State) (x y : Outcome Flow) → to ≡ lands pc t → HasAt p pc (JumpZero t ∷ []) → Runs (moves p) Good bound' (running frames (pc + 1) stack w) exit x → Runs (moves p) Good bound' (running frames to stack w) exit y → Runs (moves p) Good bound' (running frames pc (v ∷ stack) w) exit (chosen (is_zero v) x y)
+  branch_runs bound' pc to t v stack w exit x y e has one two =
+      let next = recount (chosen (is_zero v) (Goes (at frames (pc + 1) stack (held_of w)) []) (Goes (at frames (lands pc t) stack (held_of w)) [])) in
+      leads_runs (moves p) Good bound' (running frames pc (v ∷ stack) w) (follow next w.input w.trace) exit (chosen (is_zero v) x y) (leads_step (moves p) (at frames pc (v ∷ stack) (held_of w)) w.input w.trace next (ap recount (has.0 frames (v ∷ stack) (held_of w)))) (branch_by (is_zero v) bound' (pc + 1) (lands pc t) stack w exit x y one (subst (λ n. Runs (moves p) Good bound' (running frames n stack w) exit y) e two))
 
   -- what a run does of a statement at a place
   abbrev Performs : List Order → ℕ → (World → Outcome Flow) → Type 0
   Performs xs pc go = (w : World) → Calm w → Runs (moves p) Good bound (running frames pc (vars w) w) (flows (pc + length xs)) (go w)
 
   module _ (place : ℕ) (test : Value) (xs : List Order) (body : World → Outcome Flow) (done : Performs xs (place + length (whole_orders R slots names test) + 1) body) where
+    abbrev tests : List Order
+    tests = whole_orders R slots names test
+
     abbrev inside : ℕ
-    inside = place + length (whole_orders R slots names test) + 1
+    inside = place + length tests + 1
 
     abbrev behind : ℕ
     behind = inside + length xs + 1
 
-    loop_runs : (n : ℕ) → n ≤ bound → HasAt p place (whole_orders R slots names test) → HasAt p (place + length (whole_orders R slots names test)) (JumpZero behind ∷ []) → HasAt p (inside + length xs) (Jump place ∷ []) → (w : World) → Calm w → Runs (moves p) Good n (running frames place (vars w) w) (flows behind) (turns n (whole D test) body w)
+    abbrev again : List Order
+    again = Jump (Back (suc (length tests + length xs))) ∷ []
+
+    back_home : lands (inside + length xs) (Back (suc (length tests + length xs))) ≡ place
+    back_home = omega arith
+
+    past : behind ≡ lands (place + length tests) (Skip (suc (length xs)))
+    past = omega arith
+
+    -- behind a turn, by how it is left
+    turned : (n : ℕ) (flow : Flow) (w2 : World) → Calm w2 → HasAt p (inside + length xs) again → ((w3 : World) → Calm w3 → Runs (moves p) Good n (running frames place (vars w3) w3) (flows behind) (turns n (whole D test) body w3)) → Runs (moves p) Good (suc n) (flows (inside + length xs) flow w2) (flows behind) (if_normal flow (turns n (whole D test) body) w2)
+    turned n Normal w2 g2 h3 go_on =
+        let q = inside + length xs in
+        let t = Back (suc (length tests + length xs)) in
+        let rest = turns n (whole D test) body w2 in
+        let one : (jump_step t (vars w2) w2 q h3).steps ≡ 1 = refl in
+        later_runs (moves p) Good n (running frames q (vars w2) w2) (moved t (vars w2) w2 q) (flows behind) rest (jump_step t (vars w2) w2 q h3) (omega (arith, one))
+        (leads_runs (moves p) Good n (moved t (vars w2) w2 q) (running frames (lands q t) (vars w2) w2) (flows behind) rest (quiet p frames bound (lands q t) (vars w2) w2)
+        (subst (λ r. Runs (moves p) Good n (running frames r (vars w2) w2) (flows behind) rest) (sym back_home) (go_on w2 g2)))
+    turned n (Returned v) w2 g2 h3 go_on = (g2, leads_same (moves p) _ _ refl)
+
+    loop_runs : (n : ℕ) → n ≤ bound → HasAt p place tests → HasAt p (place + length tests) (JumpZero (Skip (suc (length xs))) ∷ []) → HasAt p (inside + length xs) again → (w : World) → Calm w → Runs (moves p) Good n (running frames place (vars w) w) (flows behind) (turns n (whole D test) body w)
     loop_runs zero le h1 h2 h3 w g =
-        let q = place + length (whole_orders R slots names test) in
+        let q = place + length tests in
         then_runs (moves p) Good Good 0 (running frames place (vars w) w) (valued q) (flows behind) (whole D test w) (λ v w1. chosen (is_zero v) (Cut w1) (Done Normal w1)) (fewer_runs (moves p) Good 0 bound (running frames place (vars w) w) (valued q) (whole D test w) le (whole_runs test w place g h1)) (λ v w1 g1.
-        branch_runs 0 q behind v (vars w1) w1 (flows behind) (Cut w1) (Done Normal w1) h2 (0, at frames (q + 1) (vars w1) (held_of w1), omega arith, refl) (g1, leads_same (moves p) _ _ refl))
+        branch_runs 0 q behind (Skip (suc (length xs))) v (vars w1) w1 (flows behind) (Cut w1) (Done Normal w1) past h2 (0, at frames (q + 1) (vars w1) (held_of w1), omega arith, refl) (g1, leads_same (moves p) _ _ refl))
     loop_runs (suc n) le h1 h2 h3 w g =
-        let q = place + length (whole_orders R slots names test) in
-        let again = λ (flow : Flow) (w2 : World). if_normal flow (turns n (whole D test) body) w2 in
-        then_runs (moves p) Good Good (suc n) (running frames place (vars w) w) (valued q) (flows behind) (whole D test w) (λ v w1. chosen (is_zero v) (then_do (body w1) again) (Done Normal w1)) (fewer_runs (moves p) Good (suc n) bound (running frames place (vars w) w) (valued q) (whole D test w) le (whole_runs test w place g h1)) (λ v w1 g1.
-        branch_runs (suc n) q behind v (vars w1) w1 (flows behind) (then_do (body w1) again) (Done Normal w1) h2
-        (then_runs (moves p) Good Good (suc n) (running frames inside (vars w1) w1) (flows (inside + length xs)) (flows behind) (body w1) again (fewer_runs (moves p) Good (suc n) bound (running frames inside (vars w1) w1) (flows (inside + length xs)) (body w1) le (done w1 g1)) (λ flow w2 g2. turned n flow w2 g2 h3 (λ w3 g3. loop_runs n (omega (arith, le)) h1 h2 h3 w3 g3)))
+        let q = place + length tests in
+        let next = λ (flow : Flow) (w2 : World). if_normal flow (turns n (whole D test) body) w2 in
+        then_runs (moves p) Good Good (suc n) (running frames place (vars w) w) (valued q) (flows behind) (whole D test w) (λ v w1. chosen (is_zero v) (then_do (body w1) next) (Done Normal w1)) (fewer_runs (moves p) Good (suc n) bound (running frames place (vars w) w) (valued q) (whole D test w) le (whole_runs test w place g h1)) (λ v w1 g1.
+        branch_runs (suc n) q behind (Skip (suc (length xs))) v (vars w1) w1 (flows behind) (then_do (body w1) next) (Done Normal w1) past h2
+        (then_runs (moves p) Good Good (suc n) (running frames inside (vars w1) w1) (flows (inside + length xs)) (flows behind) (body w1) next (fewer_runs (moves p) Good (suc n) bound (running frames inside (vars w1) w1) (flows (inside + length xs)) (body w1) le (done w1 g1)) (λ flow w2 g2. turned n flow w2 g2 h3 (loop_runs n (omega (arith, le)) h1 h2 h3)))
         (g1, leads_same (moves p) _ _ refl))
-      where
-        turned : (n : ℕ) (flow : Flow) (w2 : World) → Calm w2 → HasAt p (inside + length xs) (Jump place ∷ []) → ((w3 : World) → Calm w3 → Runs (moves p) Good n (running frames place (vars w3) w3) (flows behind) (turns n (whole D test) body w3)) → Runs (moves p) Good (suc n) (flows (inside + length xs) flow w2) (flows behind) (if_normal flow (turns n (whole D test) body) w2)
-        turned n Normal w2 g2 h3 again =
-            let s = running frames (inside + length xs) (vars w2) w2 in
-            let moved = follow (Goes (at frames place (vars w2) (held_of w2)) []) w2.input w2.trace in
-            let one : (jump_leads place (vars w2) w2 (inside + length xs) h3).steps ≡ 1 = refl in
-            later_runs (moves p) Good n s moved (flows behind) (turns n (whole D test) body w2) (jump_leads place (vars w2) w2 (inside + length xs) h3) (omega (arith, one)) (leads_runs (moves p) Good n moved (running frames place (vars w2) w2) (flows behind) (turns n (whole D test) body w2) (quiet p frames bound place (vars w2) w2) (again w2 g2))
-        turned n (Returned v) w2 g2 h3 again = (g2, leads_same (moves p) _ _ refl)
 
   if_normal_runs : (pc end : ℕ) (flow : Flow) (go : World → Outcome Flow) (w : World) → Calm w → ((w : World) → Calm w → Runs (moves p) Good bound (running frames pc (vars w) w) (flows end) (go w)) → Runs (moves p) Good bound (flows pc flow w) (flows end) (if_normal flow go w)
   if_normal_runs pc end Normal go w g next = next w g
   if_normal_runs pc end (Returned v) go w g next = (g, leads_same (moves p) _ _ refl)
 
   -- behind the first of a choice, the run goes on behind all
-  skip_runs : (pc end : ℕ) (o : Outcome Flow) (r : Reached State) → HasAt p pc (Jump end ∷ []) → Runs (moves p) Good bound r (flows pc) o → Runs (moves p) Good bound r (flows end) o
-  skip_runs pc end (Done Normal w) r has q =
-      let moved = follow (Goes (at frames end (vars w) (held_of w)) []) w.input w.trace in
-      (q.0, leads_trans (moves p) r (running frames pc (vars w) w) (running frames end (vars w) w) q.1 (leads_trans (moves p) (running frames pc (vars w) w) moved (running frames end (vars w) w) (jump_leads end (vars w) w pc has) (quiet p frames bound end (vars w) w)))
-  skip_runs pc end (Done (Returned v) w) r has q = q
-  skip_runs pc end (Faulted f w) r has q = q
-  skip_runs pc end (Cut w) r has q = q
+  skip_runs : (pc : ℕ) (t : Target) (o : Outcome Flow) (r : Reached State) → HasAt p pc (Jump t ∷ []) → Runs (moves p) Good bound r (flows pc) o → Runs (moves p) Good bound r (flows (lands pc t)) o
+  skip_runs pc t (Done Normal w) r has q = (q.0, leads_trans (moves p) r (running frames pc (vars w) w) (running frames (lands pc t) (vars w) w) q.1 (jump_leads t (vars w) w pc has))
+  skip_runs pc t (Done (Returned v) w) r has q = q
+  skip_runs pc t (Faulted f w) r has q = q
+  skip_runs pc t (Cut w) r has q = q
 
   normal_runs : (pc : ℕ) (r : Reached State) (o : Outcome Finished) → Runs (moves p) Good bound r (passed pc) o → Runs (moves p) Good bound r (flows pc) (then_do o (λ _ w. Done Normal w))
   normal_runs pc r o h = then_runs (moves p) Good Good bound r (passed pc) (flows pc) o (λ _ w. Done Normal w) h (λ done w g. (g, leads_same (moves p) _ _ refl))
@@ -233,9 +250,9 @@ module _ (p : Program) (frames : List Frame) (bound : ℕ) (R : resolved.Program
   scope_runs first n (Returned v) q w g has = (g, leads_same (moves p) _ _ refl)
 
   mutual
-    command_runs : (c : Command) (place : ℕ) → HasAt p place (command_orders R slots names exit place c) → Performs (command_orders R slots names exit place c) place (executed D bound c)
+    command_runs : (c : Command) (place : ℕ) → HasAt p place (flat exit (command_block R slots names c)) → Performs (flat exit (command_block R slots names c)) place (executed D bound c)
     command_runs (Sequence first n all) place has w g =
-        let xs = all_command_orders R slots names exit place all in
+        let xs = flat exit (commands_block R slots names all) in
         let ys = all_empty_orders names first n in
         then_at p frames bound Good Good xs ys (running frames place (vars w) w) place flows flows (all_executed D bound all w) (λ flow w1. scope_left D first n flow w1) has (λ h. all_runs all place h w g) (λ flow w1 g1 h. scope_runs first n flow (place + length xs) w1 g1 h)
     command_runs (Evaluate a) place has w g =
@@ -247,41 +264,46 @@ module _ (p : Program) (frames : List Frame) (bound : ℕ) (R : resolved.Program
     command_runs (resolved.Return None) place has w g = (g, zero_returns w place has)
     command_runs (resolved.Return (Some a)) place has w g =
         let xs = whole_orders R slots names a in
-        then_at p frames bound Good Good xs (Jump exit ∷ []) (running frames place (vars w) w) place valued flows (whole D a w) (λ v w1. Done (Returned v) w1) has (λ h. whole_runs a w place g h) (λ v w1 g1 h.
-        (g1, return_leads v w1 (place + length xs) h))
+        then_at p frames bound Good Good xs (Jump (At exit) ∷ []) (running frames place (vars w) w) place valued flows (whole D a w) (λ v w1. Done (Returned v) w1) has (λ h. whole_runs a w place g h) (λ v w1 g1 h.
+        (g1, jump_leads (At exit) (v ∷ vars w1) w1 (place + length xs) h))
     command_runs (Choose test a b) place has w g =
         let t = whole_orders R slots names test in
         let q = place + length t in
         let one = q + 1 in
-        let xs = command_orders R slots names exit one a in
+        let xs = flat exit (command_block R slots names a) in
         let two = one + length xs + 1 in
-        let ys = command_orders R slots names exit two b in
+        let ys = flat exit (command_block R slots names b) in
         let end = two + length ys in
-        let behind_test = has_back p place t (JumpZero two ∷ (xs ++ Jump end ∷ ys)) has in
-        let behind_one = has_back p one xs (Jump end ∷ ys) behind_test.1 in
-        let e : end ≡ place + length (t ++ JumpZero two ∷ (xs ++ Jump end ∷ ys)) = omega (arith, length-append t (JumpZero two ∷ (xs ++ Jump end ∷ ys)), length-append xs (Jump end ∷ ys)) in
+        let over = Skip (suc (length xs)) in
+        let past = Skip (length ys) in
+        let behind_test = has_back p place t (JumpZero over ∷ (xs ++ Jump past ∷ ys)) has in
+        let behind_one = has_back p one xs (Jump past ∷ ys) behind_test.1 in
+        let there : two ≡ lands q over = omega arith in
+        let e : end ≡ place + length (t ++ JumpZero over ∷ (xs ++ Jump past ∷ ys)) = omega (arith, length-append t (JumpZero over ∷ (xs ++ Jump past ∷ ys)), length-append xs (Jump past ∷ ys)) in
         subst (λ n. Runs (moves p) Good bound (running frames place (vars w) w) (flows n) (executed D bound (Choose test a b) w)) e
-        (then_runs (moves p) Good Good bound (running frames place (vars w) w) (valued q) (flows end) (whole D test w) (λ v w1. chosen (is_zero v) (executed D bound a w1) (executed D bound b w1)) (whole_runs test w place g (has_front p place t (JumpZero two ∷ (xs ++ Jump end ∷ ys)) has)) (λ v w1 g1.
-        branch_runs bound q two v (vars w1) w1 (flows end) (executed D bound a w1) (executed D bound b w1) (behind_test.0, tt)
-        (skip_runs (one + length xs) end (executed D bound a w1) (running frames one (vars w1) w1) (behind_one.0, tt) (command_runs a one (has_front p one xs (Jump end ∷ ys) behind_test.1) w1 g1))
+        (then_runs (moves p) Good Good bound (running frames place (vars w) w) (valued q) (flows end) (whole D test w) (λ v w1. chosen (is_zero v) (executed D bound a w1) (executed D bound b w1)) (whole_runs test w place g (has_front p place t (JumpZero over ∷ (xs ++ Jump past ∷ ys)) has)) (λ v w1 g1.
+        branch_runs bound q two over v (vars w1) w1 (flows end) (executed D bound a w1) (executed D bound b w1) there (behind_test.0, tt)
+        (skip_runs (one + length xs) past (executed D bound a w1) (running frames one (vars w1) w1) (behind_one.0, tt) (command_runs a one (has_front p one xs (Jump past ∷ ys) behind_test.1) w1 g1))
         (command_runs b two behind_one.1 w1 g1)))
     command_runs (Repeat test c) place has w g =
         let t = whole_orders R slots names test in
         let q = place + length t in
         let one = q + 1 in
-        let xs = command_orders R slots names exit one c in
+        let xs = flat exit (command_block R slots names c) in
         let end = one + length xs + 1 in
-        let behind_test = has_back p place t (JumpZero end ∷ (xs ++ Jump place ∷ [])) has in
-        let e : end ≡ place + length (t ++ JumpZero end ∷ (xs ++ Jump place ∷ [])) = omega (arith, length-append t (JumpZero end ∷ (xs ++ Jump place ∷ [])), length-append xs (Jump place ∷ [])) in
+        let out : Order = JumpZero (Skip (suc (length xs))) in
+        let last : List Order = Jump (Back (suc (length t + length xs))) ∷ [] in
+        let behind_test = has_back p place t (out ∷ (xs ++ last)) has in
+        let e : end ≡ place + length (t ++ out ∷ (xs ++ last)) = omega (arith, length-append t (out ∷ (xs ++ last)), length-append xs last) in
         subst (λ n. Runs (moves p) Good bound (running frames place (vars w) w) (flows n) (executed D bound (Repeat test c) w)) e
-        (loop_runs place test xs (executed D bound c) (command_runs c one (has_front p one xs (Jump place ∷ []) behind_test.1)) bound (omega arith) (has_front p place t (JumpZero end ∷ (xs ++ Jump place ∷ [])) has) (behind_test.0, tt) (has_back p one xs (Jump place ∷ []) behind_test.1) w g)
+        (loop_runs place test xs (executed D bound c) (command_runs c one (has_front p one xs last behind_test.1)) bound (omega arith) (has_front p place t (out ∷ (xs ++ last)) has) (behind_test.0, tt) (has_back p one xs last behind_test.1) w g)
 
-    all_runs : (all : Commands) (place : ℕ) → HasAt p place (all_command_orders R slots names exit place all) → Performs (all_command_orders R slots names exit place all) place (all_executed D bound all)
+    all_runs : (all : Commands) (place : ℕ) → HasAt p place (flat exit (commands_block R slots names all)) → Performs (flat exit (commands_block R slots names all)) place (all_executed D bound all)
     all_runs no_commands place has w g = let e : place ≡ place + 0 = omega arith in (g, leads_same (moves p) _ _ (ap (λ q. running frames q (vars w) w) e))
     all_runs (and_command c others') place has w g =
-        let xs = command_orders R slots names exit place c in
+        let xs = flat exit (command_block R slots names c) in
         let q = place + length xs in
-        let ys = all_command_orders R slots names exit q others' in
+        let ys = flat exit (commands_block R slots names others') in
         then_at p frames bound Good Good xs ys (running frames place (vars w) w) place flows flows (executed D bound c w) (λ flow w1. if_normal flow (all_executed D bound others') w1) has (λ h. command_runs c place h w g) (λ flow w1 g1 h.
         if_normal_runs q (q + length ys) flow (all_executed D bound others') w1 g1 (λ w2 g2. all_runs others' q h w2 g2))
 
@@ -341,17 +363,17 @@ module _ (p : Program) (frames : List Frame) (bound : ℕ) (R : resolved.Program
   nils_there zero objects there = there
   nils_there (suc n) objects there = placed_there objects 0 (nils n ++ places before) tt (nils_there n objects there)
 
-  flow_leaves : (flow : Flow) (q : ℕ) (w : World) → Calm w → HasAt p q (Plain (Num (pos 0)) ∷ Jump exit ∷ []) → HasAt p exit (leave_orders slots names) → Runs (moves p) (λ (x : ℤ) w2. Kept frames before w2) bound (flows q flow w) leaving (then_do (variables_dropped D 0 names w) (λ _ w2. Done (given flow) (left before w2)))
+  flow_leaves : (flow : Flow) (q : ℕ) (w : World) → Calm w → HasAt p q (Plain (Num (pos 0)) ∷ Jump (At exit) ∷ []) → HasAt p exit (leave_orders slots names) → Runs (moves p) (λ (x : ℤ) w2. Kept frames before w2) bound (flows q flow w) leaving (then_do (variables_dropped D 0 names w) (λ _ w2. Done (given flow) (left before w2)))
   flow_leaves Normal q w g has leave = leads_runs (moves p) (λ (x : ℤ) w2. Kept frames before w2) bound (running frames q (vars w) w) (running frames exit (pos 0 ∷ vars w) w) leaving (then_do (variables_dropped D 0 names w) (λ _ w2. Done (pos 0) (left before w2))) (zero_returns w q has) (leave_runs (pos 0) w g leave)
   flow_leaves (Returned v) q w g has leave = leave_runs v w g leave
 
   -- a function that is entered comes to its last step
-  pub function_runs : (body : Commands) (entry : ℕ) (arguments : List ℤ) → length (first_locals slots arguments) ≡ slots → Fine frames before.objects (places before) → HasAt p exit (leave_orders slots names) → HasAt p entry (body_orders R exit entry (record { slots = slots; names = names; body = body })) → Runs (moves p) (λ (x : ℤ) w2. Kept frames before w2) bound (running frames entry (onto (first_locals slots arguments) below) (entered slots 0 self arguments before)) leaving (called D bound (record { slots = slots; names = names; body = body }) self arguments before)
+  pub function_runs : (body : Commands) (entry : ℕ) (arguments : List ℤ) → length (first_locals slots arguments) ≡ slots → Fine frames before.objects (places before) → HasAt p exit (leave_orders slots names) → HasAt p entry (flat exit (body_block R (record { slots = slots; names = names; body = body }))) → Runs (moves p) (λ (x : ℤ) w2. Kept frames before w2) bound (running frames entry (onto (first_locals slots arguments) below) (entered slots 0 self arguments before)) leaving (called D bound (record { slots = slots; names = names; body = body }) self arguments before)
   function_runs body entry arguments size fine leave has =
       let none = nil_orders names in
       let place = entry + length none in
-      let xs = all_command_orders R slots names exit place body in
-      let ys : List Order = Plain (Num (pos 0)) ∷ Jump exit ∷ [] in
+      let xs = flat exit (commands_block R slots names body) in
+      let ys : List Order = Plain (Num (pos 0)) ∷ Jump (At exit) ∷ [] in
       let w0 = entered slots names self arguments before in
       let stack = onto (first_locals slots arguments) below in
       let e : names + 0 ≡ names = omega arith in

@@ -2,9 +2,6 @@ mod CountsPlaces
 mod CountsHeld
 mod CountsThere
 mod CountsKept
-mod CountsSteps
-mod CountsActing
-mod CountsSound
 mod Recounting
 mod Standing
 mod Releasing
@@ -27,14 +24,12 @@ mod Executing
 mod Linking
 mod Finding
 mod Calling
+mod Typing
 mod HeightsEnd
-mod Straight
-mod HeightsFollow
+mod Stepping
+mod Programs
 mod HeightsFit
 mod Safety
-mod Staying
-mod Leaving
-mod Sounding
 mod RoomSuffices
 mod Transferring
 mod Whole

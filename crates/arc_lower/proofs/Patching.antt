@@ -1,67 +1,54 @@
--- Jumps are written once it is known where they lead.
-use Rattle.std.proofs.Common.{◌≡◌, ℕ, zero, suc, ◌+◌, List, [], ◌∷◌, ◌++◌, length, refl, sym, ap, ◌∙◌, arith, append_assoc, length-append, slice_set}
+-- Jumps are written once it is known how many actions they skip.
+use Rattle.std.proofs.Common.{◌≡◌, ℕ, zero, suc, ◌+◌, ◌-◌, List, [], ◌∷◌, ◌++◌, length, refl, sym, ap, ◌∙◌, arith, append_assoc, length-append, slice_set}
 use Rattle.std.proofs.Math.Seq.{set-append_seam}
+use Rattle.arc_ir.specs.declared.action.Target.TheVariants.{Skip, Back}
 use Rattle.arc_ir.specs.Acting.{Action}
 use Rattle.arc_code.specs.declared.instr.Instr.TheVariants.{Jump, JumpZero}
 use Rattle.arc_lower.specs.Order.{Order, order, orders}
-use Rattle.arc_lower.specs.Lowered.{choose_orders, repeat_orders}
 
 pub orders_set : (is : List Action) (n : ℕ) (a : Action) → orders (slice_set is n a) ≡ slice_set (orders is) n (order a)
 orders_set [] n a = refl
 orders_set (i ∷ is) zero a = refl
 orders_set (i ∷ is) (suc n) a = ap (λ l. order i ∷ l) (orders_set is n a)
 
-pub patch_repeat : (old o1 o2 o3 o4 test : List Order) (body : ℕ → List Order) (begin branch end : ℕ) → begin ≡ length old → o1 ≡ old ++ test → branch ≡ length o1 → o2 ≡ o1 ++ JumpZero 0 ∷ [] → o3 ≡ o2 ++ body (length o2) → o4 ≡ o3 ++ Jump begin ∷ [] → end ≡ length o4 → slice_set o4 branch (JumpZero end) ≡ old ++ repeat_orders (length old) test body
-patch_repeat old o1 o2 o3 o4 test body begin branch end b0 e1 b1 e2 e3 e4 b4 =
-    let l1 = ap length e1 ∙ length-append old test in
-    let l2 = ap length e2 ∙ length-append o1 (JumpZero 0 ∷ []) in
-    let l3 = ap length e3 ∙ length-append o2 (body (length o2)) in
-    let l4 = ap length e4 ∙ length-append o3 (Jump begin ∷ []) in
-    let inside = length old + length test + 1 in
-    let p : length o2 ≡ inside = omega (arith, l1, l2) in
-    let is = body inside in
-    let lb : length (body (length o2)) ≡ length is = ap (λ n. length (body n)) p in
-    let pe : end ≡ inside + length is + 1 = omega (arith, p, l3, l4, lb, b4) in
-    let flat : o4 ≡ o1 ++ JumpZero 0 ∷ (is ++ Jump (length old) ∷ []) =
-    e4 ∙ ap (λ l. l ++ Jump begin ∷ []) (e3 ∙ ap (λ l. l ++ body (length o2)) e2 ∙ ap (λ n. (o1 ++ JumpZero 0 ∷ []) ++ body n) p) ∙ ap (λ n. ((o1 ++ JumpZero 0 ∷ []) ++ is) ++ Jump n ∷ []) b0 ∙ append_assoc (o1 ++ JumpZero 0 ∷ []) is (Jump (length old) ∷ []) ∙ append_assoc o1 (JumpZero 0 ∷ []) (is ++ Jump (length old) ∷ [])
-    in
-    ap (λ l. slice_set l branch (JumpZero end)) flat
-    ∙ ap (λ n. slice_set (o1 ++ JumpZero 0 ∷ (is ++ Jump (length old) ∷ [])) n (JumpZero end)) b1
-    ∙ set-append_seam o1 (JumpZero 0) (is ++ Jump (length old) ∷ []) (JumpZero end)
-    ∙ ap (λ n. o1 ++ JumpZero n ∷ (is ++ Jump (length old) ∷ [])) pe
-    ∙ ap (λ l. l ++ JumpZero (inside + length is + 1) ∷ (is ++ Jump (length old) ∷ [])) e1
-    ∙ append_assoc old test (JumpZero (inside + length is + 1) ∷ (is ++ Jump (length old) ∷ []))
+-- the jump that was written first, before some others, is another one
+patched : (o1 o2 rest : List Order) (branch : ℕ) (first then : Order) → o2 ≡ o1 ++ first ∷ rest → branch ≡ length o1 → slice_set o2 branch then ≡ o1 ++ then ∷ rest
+patched o1 o2 rest branch first then e b = ap (λ l. slice_set l branch then) e ∙ ap (λ n. slice_set (o1 ++ first ∷ rest) n then) b ∙ set-append_seam o1 first rest then
 
-pub patch_choose : (old o1 o2 o3 o4 o5 test : List Order) (first second : ℕ → List Order) (branch skip other end : ℕ) → o1 ≡ old ++ test → branch ≡ length o1 → o2 ≡ o1 ++ JumpZero 0 ∷ [] → o3 ≡ o2 ++ first (length o2) → skip ≡ length o3 → o4 ≡ o3 ++ Jump 0 ∷ [] → other ≡ length o4 → o5 ≡ o4 ++ second (length o4) → end ≡ length o5 → slice_set (slice_set o5 branch (JumpZero other)) skip (Jump end) ≡ old ++ choose_orders (length old) test first second
-patch_choose old o1 o2 o3 o4 o5 test first second branch skip other end e1 b1 e2 e3 b3 e4 b4 e5 b5 =
+pub patch_loop : (old o1 o2 o3 o4 test body : List Order) (begin branch again skip back : ℕ) → begin ≡ length old → o1 ≡ old ++ test → branch ≡ length o1 → o2 ≡ o1 ++ JumpZero (Skip 0) ∷ [] → o3 ≡ o2 ++ body → again ≡ length o3 → skip ≡ again - branch → back ≡ again - begin → o4 ≡ o3 ++ Jump (Back back) ∷ []
+    → slice_set o4 branch (JumpZero (Skip skip)) ≡ old ++ (test ++ (JumpZero (Skip (suc (length body))) ∷ (body ++ Jump (Back (suc (length test + length body))) ∷ [])))
+patch_loop old o1 o2 o3 o4 test body begin branch again skip back b0 e1 b1 e2 e3 b3 s0 s1 e4 =
     let l1 = ap length e1 ∙ length-append old test in
-    let l2 = ap length e2 ∙ length-append o1 (JumpZero 0 ∷ []) in
-    let l3 = ap length e3 ∙ length-append o2 (first (length o2)) in
-    let l4 = ap length e4 ∙ length-append o3 (Jump 0 ∷ []) in
-    let l5 = ap length e5 ∙ length-append o4 (second (length o4)) in
-    let one = length old + length test + 1 in
-    let p : length o2 ≡ one = omega (arith, l1, l2) in
-    let xs = first one in
-    let lx : length (first (length o2)) ≡ length xs = ap (λ n. length (first n)) p in
-    let two = one + length xs + 1 in
-    let q : length o4 ≡ two = omega (arith, p, l3, l4, lx) in
-    let ys = second two in
-    let ly : length (second (length o4)) ≡ length ys = ap (λ n. length (second n)) q in
-    let pe : end ≡ two + length ys = omega (arith, q, l5, ly, b5) in
-    let po : other ≡ two = b4 ∙ q in
-    let f2 : o3 ≡ o1 ++ JumpZero 0 ∷ xs = e3 ∙ ap (λ n. o2 ++ first n) p ∙ ap (λ l. l ++ xs) e2 ∙ append_assoc o1 (JumpZero 0 ∷ []) xs in
-    let f3 : o5 ≡ o3 ++ Jump 0 ∷ ys = e5 ∙ ap (λ n. o4 ++ second n) q ∙ ap (λ l. l ++ ys) e4 ∙ append_assoc o3 (Jump 0 ∷ []) ys in
-    let f4 : o5 ≡ o1 ++ JumpZero 0 ∷ (xs ++ Jump 0 ∷ ys) = f3 ∙ ap (λ l. l ++ Jump 0 ∷ ys) f2 ∙ append_assoc o1 (JumpZero 0 ∷ xs) (Jump 0 ∷ ys) in
-    let pre = o1 ++ JumpZero other ∷ xs in
-    let lp : skip ≡ length pre = omega (arith, b3, l3, p, l2, lx, length-append o1 (JumpZero other ∷ xs)) in
-    let first_set : slice_set o5 branch (JumpZero other) ≡ pre ++ Jump 0 ∷ ys =
-    ap (λ l. slice_set l branch (JumpZero other)) f4 ∙ ap (λ n. slice_set (o1 ++ JumpZero 0 ∷ (xs ++ Jump 0 ∷ ys)) n (JumpZero other)) b1 ∙ set-append_seam o1 (JumpZero 0) (xs ++ Jump 0 ∷ ys) (JumpZero other) ∙ sym (append_assoc o1 (JumpZero other ∷ xs) (Jump 0 ∷ ys))
-    in
-    ap (λ l. slice_set l skip (Jump end)) first_set
-    ∙ ap (λ n. slice_set (pre ++ Jump 0 ∷ ys) n (Jump end)) lp
-    ∙ set-append_seam pre (Jump 0) ys (Jump end)
-    ∙ append_assoc o1 (JumpZero other ∷ xs) (Jump end ∷ ys)
-    ∙ ap (λ n. o1 ++ JumpZero n ∷ (xs ++ Jump end ∷ ys)) po
-    ∙ ap (λ n. o1 ++ JumpZero two ∷ (xs ++ Jump n ∷ ys)) pe
-    ∙ ap (λ l. l ++ JumpZero two ∷ (xs ++ Jump (two + length ys) ∷ ys)) e1
-    ∙ append_assoc old test (JumpZero two ∷ (xs ++ Jump (two + length ys) ∷ ys))
+    let l2 = ap length e2 ∙ length-append o1 (JumpZero (Skip 0) ∷ []) in
+    let l3 = ap length e3 ∙ length-append o2 body in
+    let last : List Order = Jump (Back back) ∷ [] in
+    let whole : o4 ≡ o1 ++ JumpZero (Skip 0) ∷ (body ++ last) = e4 ∙ ap (λ l. l ++ last) (e3 ∙ ap (λ l. l ++ body) e2) ∙ append_assoc (o1 ++ JumpZero (Skip 0) ∷ []) body last ∙ append_assoc o1 (JumpZero (Skip 0) ∷ []) (body ++ last) in
+    let over : skip ≡ suc (length body) = omega (arith, s0, b1, b3, l2, l3) in
+    let home : back ≡ suc (length test + length body) = omega (arith, s1, b0, b3, l1, l2, l3) in
+    patched o1 o4 (body ++ last) branch (JumpZero (Skip 0)) (JumpZero (Skip skip)) whole b1
+    ∙ ap (λ n. o1 ++ JumpZero (Skip n) ∷ (body ++ last)) over
+    ∙ ap (λ n. o1 ++ JumpZero (Skip (suc (length body))) ∷ (body ++ Jump (Back n) ∷ [])) home
+    ∙ ap (λ l. l ++ JumpZero (Skip (suc (length body))) ∷ (body ++ Jump (Back (suc (length test + length body))) ∷ [])) e1
+    ∙ append_assoc old test (JumpZero (Skip (suc (length body))) ∷ (body ++ Jump (Back (suc (length test + length body))) ∷ []))
+
+pub patch_fork : (old o1 o2 o3 o4 o5 test one two : List Order) (branch skip other first second end : ℕ) → o1 ≡ old ++ test → branch ≡ length o1 → o2 ≡ o1 ++ JumpZero (Skip 0) ∷ [] → o3 ≡ o2 ++ one → skip ≡ length o3 → o4 ≡ o3 ++ Jump (Skip 0) ∷ [] → other ≡ length o4 → o5 ≡ o4 ++ two → end ≡ length o5 → first ≡ skip - branch → second ≡ end - other
+    → slice_set (slice_set o5 branch (JumpZero (Skip first))) skip (Jump (Skip second)) ≡ old ++ (test ++ (JumpZero (Skip (suc (length one))) ∷ (one ++ Jump (Skip (length two)) ∷ two)))
+patch_fork old o1 o2 o3 o4 o5 test one two branch skip other first second end e1 b1 e2 e3 b3 e4 b4 e5 b5 s0 s1 =
+    let l2 = ap length e2 ∙ length-append o1 (JumpZero (Skip 0) ∷ []) in
+    let l3 = ap length e3 ∙ length-append o2 one in
+    let l4 = ap length e4 ∙ length-append o3 (Jump (Skip 0) ∷ []) in
+    let l5 = ap length e5 ∙ length-append o4 two in
+    let over : first ≡ suc (length one) = omega (arith, s0, b1, b3, l2, l3) in
+    let past : second ≡ length two = omega (arith, s1, b4, b5, l5) in
+    let rest : List Order = Jump (Skip 0) ∷ two in
+    let pre : List Order = o1 ++ JumpZero (Skip first) ∷ one in
+    let f3 : o5 ≡ o3 ++ rest = e5 ∙ ap (λ l. l ++ two) e4 ∙ append_assoc o3 (Jump (Skip 0) ∷ []) two in
+    let f4 : o5 ≡ o1 ++ JumpZero (Skip 0) ∷ (one ++ rest) = f3 ∙ ap (λ l. l ++ rest) (e3 ∙ ap (λ l. l ++ one) e2) ∙ append_assoc (o1 ++ JumpZero (Skip 0) ∷ []) one rest ∙ append_assoc o1 (JumpZero (Skip 0) ∷ []) (one ++ rest) in
+    let place : skip ≡ length pre = omega (arith, b3, l3, l2, length-append o1 (JumpZero (Skip first) ∷ one)) in
+    let once : slice_set o5 branch (JumpZero (Skip first)) ≡ pre ++ rest = patched o1 o5 (one ++ rest) branch (JumpZero (Skip 0)) (JumpZero (Skip first)) f4 b1 ∙ sym (append_assoc o1 (JumpZero (Skip first) ∷ one) rest) in
+    patched pre (slice_set o5 branch (JumpZero (Skip first))) two skip (Jump (Skip 0)) (Jump (Skip second)) once place
+    ∙ append_assoc o1 (JumpZero (Skip first) ∷ one) (Jump (Skip second) ∷ two)
+    ∙ ap (λ n. o1 ++ JumpZero (Skip n) ∷ (one ++ Jump (Skip second) ∷ two)) over
+    ∙ ap (λ n. o1 ++ JumpZero (Skip (suc (length one))) ∷ (one ++ Jump (Skip n) ∷ two)) past
+    ∙ ap (λ l. l ++ JumpZero (Skip (suc (length one))) ∷ (one ++ Jump (Skip (length two)) ∷ two)) e1
+    ∙ append_assoc old test (JumpZero (Skip (suc (length one))) ∷ (one ++ Jump (Skip (length two)) ∷ two))

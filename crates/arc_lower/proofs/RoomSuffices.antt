@@ -7,8 +7,8 @@ use Rattle.arc_ir.specs.Acting.{Program, linked, IsSound}
 use Rattle.arc_lower.specs.Order.{orders}
 use Rattle.arc_lower.specs.Lowered.{lowered, entries_of, end_step_of, classes_linked}
 use Rattle.arc_lower.specs.Heights.{greatest_height, numbers_at, places_at}
-use Rattle.arc_lower.proofs.Sounding.{lowered_never_stuck}
 use Rattle.arc_lower.proofs.HeightsFit.{heights_fit}
+use Rattle.arc_lower.proofs.Safety.{lowered_never_stuck}
 
 module _ (p : Program) (R : resolved.Program) (is : orders p.actions ≡ lowered R) (entries : p.entries ≡ entries_of R) (classes : p.classes ≡ classes_linked R) where
   -- no run has more numbers and places than the greatest heights on all levels

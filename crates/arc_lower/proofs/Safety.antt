@@ -1,494 +1,477 @@
--- No action lacks the numbers and the places that it takes, whatever is read.
-use Rattle.std.proofs.Common.{◌≡◌, ℕ, zero, suc, ◌+◌, ◌-◌, ◌/◌, ◌<◌, ◌≤◌, ℤ, pos, Bool, true, false, ◌&&◌, nat_eq, nat_lt, if◌then◌else◌, List, [], ◌∷◌, ◌++◌, length, take, drop, Option, Some, None, refl, sym, ap, ◌∙◌, subst, arith, length-append, slice_get, slice_set, slice_index_or}
-use Rattle.std.proofs.lemmas.Bool.{ltb-true, and_parts}
+-- No action lacks the numbers and the places that it takes, whatever is read, and the counts are right: what runs and what waits have as many as the heights of a program say.
+use Rattle.std.proofs.Common.{◌≡◌, ◌⊎◌, inl, inr, ℕ, zero, suc, ◌+◌, ◌-◌, ◌<◌, ◌≤◌, ℤ, pos, Bool, true, false, ◌&&◌, nat_eq, if◌then◌else◌, List, [], ◌∷◌, ◌++◌, length, Option, Some, None, ⊎_elim, refl, sym, ap, ◌∙◌, subst, arith, length-append, slice_get, slice_set, slice_index_or}
+use Rattle.std.proofs.lemmas.Bool.{and_parts}
 use Rattle.std.proofs.lemmas.List.{length-set}
 use Rattle.std.specs.Fmt.{signed_decimal}
-use Rattle.arc_ast.specs.declared.tree.Kind.TheVariants as k
 use Rattle.arc_ast.specs.declared.tree.Sign.{Sign}
 use Rattle.arc_ast.specs.declared.tree.Sign.TheVariants as signs
-use Rattle.arc_spec.specs.Classes.{class_at, lookup, descends}
-use Rattle.arc_spec.specs.declared.event.Fault.TheVariants.{FieldClass}
-use Rattle.arc_spec.specs.Number.{converted, negated, combined, counted, low_byte, byte_or_end}
-use Rattle.arc_spec.specs.Objects.{Object, Dying, object_at, with_object, with_fields, in_phase, is_live}
-use Rattle.arc_spec.specs.Resolved.{Piece, Bytes, Decimal, Character, Value, Number, ReadByte, Print, Negated, Combined, Converted, Local, Assigned, Invoked, Sent, SentSuper, SentTo, SentToSuper, Field, FieldAssigned, Reference, Itself, Variable, Stored, Made, Initialized, Values, no_values, and_value}
+use Rattle.arc_spec.specs.Classes.{Class, class_at, lookup, descends}
+use Rattle.arc_spec.specs.declared.event.Fault.TheVariants.{FieldClass, Resurrected}
+use Rattle.arc_spec.specs.Meaning.{chosen}
+use Rattle.arc_spec.specs.Number.{converted, negated, combined, counted, low_byte, byte_or_end, is_zero}
+use Rattle.arc_spec.specs.Objects.{Object, Dying, Gone, object_at, with_object, with_fields, in_phase, is_live}
 use Rattle.arc_spec.specs.Resolved as resolved
-use Rattle.arc_spec.specs.Holding.{Held, Frame, with_places, with_things, lowered, raised, placed, holds, on_place, on_field, makes, with_field}
-use Rattle.arc_spec.specs.Stepping.{Next, Faults, Along, on_top, on_found}
-use Rattle.arc_ir.specs.Acting.{Program, State, keeps, or_fault, has_level, answers, taken, sends, sends_up, allocates, difference, begins_end, releases}
-use Rattle.arc_code.specs.declared.instr.Op.TheVariants.{Num, Bin, Un, Narrow, Pop, Get, Set, PrintNum, PrintByte, GetChar, Nil, HoldSelf, Hold, Alloc, GetField, SetField, Differ, IsObject}
-use Rattle.arc_code.specs.declared.instr.Instr.TheVariants.{Plain, PrintText, Jump, Call, Send, SendSuper, StoreStrong, Drop, Empty, SendTo, SendToSuper}
+use Rattle.arc_spec.specs.Holding.{Held, Frame, Calling, Ending, Counted, is_there, with_places, with_self, with_things, lowered, raised, placed, gone_in, holds, on_place, on_field, forgets, makes, with_field}
+use Rattle.arc_spec.specs.Stepping.{Next, Goes, Asks, Ends, Faults, Stuck, Along, Safe, Sound, on_top, on_found}
+use Rattle.arc_ir.specs.Acting.{Action, Program, State, lands, start, step, entry, keeps, goes, or_fault, has_level, enters, answers, taken, sends, sends_up, allocates, difference, operates, begins_end, releases, runs_dealloc, ends_class, end_goes_on, leaves, executes}
+use Rattle.arc_code.specs.declared.instr.Op.{Op}
+use Rattle.arc_code.specs.declared.instr.Op.TheVariants.{Num, Bin, Un, Narrow, Pop, Get, Set, PrintNum, PrintByte, GetChar, Nil, HoldSelf, Hold, Forget, Alloc, GetField, SetField, Differ, IsObject}
+use Rattle.arc_code.specs.declared.instr.Instr.TheVariants.{Plain, PrintText, Jump, JumpZero, Call, Send, SendSuper, SendTo, SendToSuper, Return, StoreStrong, Drop, Empty, EndStep}
 use Rattle.arc_code.specs.Effects.{passes}
-use Rattle.arc_lower.specs.Order.{Order}
-use Rattle.arc_lower.specs.Lowered.{value_count, value_takes, reference_takes, values_take, part_orders, text_orders, format_orders, pop_orders, keep_orders, print_orders, get_orders, set_orders, zero_orders, fit_orders, drop_orders, store_orders, number_of, slots_of, call_orders, value_orders, reference_orders, all_value_orders}
-use Rattle.arc_lower.proofs.CountsThere.{IsThere, AllThere, place_there, object_goes, holds_goes}
-use Rattle.arc_lower.proofs.CountsKept.{Sane}
-use Rattle.arc_lower.proofs.CountsSound.{SafeIfSane}
+use Rattle.arc_lower.specs.Order.{Order, order, orders}
+use Rattle.arc_lower.specs.Lowered.{slots_of, entries_of, end_step_of, lowered as lowered_orders, classes_linked}
+use Rattle.arc_lower.specs.declared.height.Height.{Height}
+use Rattle.arc_lower.specs.Heights.{height}
+use Rattle.arc_lower.proofs.CountsThere.{IsThere, AllThere, place_there, object_goes, holds_goes, set_here}
+use Rattle.arc_lower.proofs.CountsKept.{Sane, nothing_sane, sane_self, sane_place, sane_store, sane_forget, sane_nil, sane_last, sane_other, sane_make, sane_field, sane_gone}
 use Rattle.arc_lower.proofs.Recounting.{at}
-use Rattle.arc_lower.proofs.Doing.{does, HasAt, has_front, has_back}
-use Rattle.arc_lower.proofs.Standing.{ending, AllDying, Alive, nil_alive, last_there, set_front, made_dying, changed_dying}
+use Rattle.arc_lower.proofs.Doing.{does, acts_does}
+use Rattle.arc_lower.proofs.Standing.{ending, AllDying, IsDying, Alive, nil_alive, ending_alive, last_there, set_front, made_dying, changed_dying, IsApart, live_apart, apart_dying}
+use Rattle.arc_lower.proofs.Typing.{Reaches}
+use Rattle.arc_lower.proofs.Stepping.{some_same, Clears, Stands, Steps, left}
+use Rattle.arc_lower.proofs.Stepping as stepping
+use Rattle.arc_lower.proofs.Programs.{all, table, methods_go, dealloc_goes, start_goes, end_is, steps_at}
+use Rattle.arc_lower.proofs.HeightsFit.{entry_goes}
 
--- where a function runs: what waits for it, with its places, and `self`
-pub record Stage : Type 0 where
-  pub frames : List Frame
-  pub waiting : List ℕ
-  pub self : ℕ
+-- ---- places that name nothing
 
--- these are the places of the running function
-pub record Owns (g : Stage) (own : List ℕ) (held : Held) : Type 0 where
-  pub is : held.places ≡ own ++ g.waiting
-  pub itself : held.self ≡ g.self
-  pub dying : AllDying held.objects (ending g.frames)
+abbrev AllNil : List ℕ → Type 0
+AllNil [] = Unit {0}
+AllNil (r ∷ rest) = (r ≡ 0) × AllNil rest
 
--- n steps from here are safe with each stack of this height, and each so many places
-abbrev pub SafeAt : Program → Stage → (n pc height own : ℕ) → Type 0
-SafeAt p g n pc height own = (stack : List ℤ) (held : Held) (mine : List ℕ) → length stack ≡ height → length mine ≡ own → Owns g mine held → SafeIfSane p n (at g.frames pc stack held)
+-- none behind the first n names an object
+abbrev NilFrom : ℕ → List ℕ → Type 0
+NilFrom zero places = AllNil places
+NilFrom (suc n) [] = Unit {0}
+NilFrom (suc n) (r ∷ rest) = NilFrom n rest
 
--- and so are fewer
-abbrev pub Until : Program → Stage → (n pc height own : ℕ) → Type 0
-Until p g n pc height own = (m : ℕ) → m ≤ n → SafeAt p g m pc height own
+nil_from_end : (places : List ℕ) (n : ℕ) → length places ≤ n → NilFrom n places
+nil_from_end [] zero le = tt
+nil_from_end [] (suc n) le = tt
+nil_from_end (r ∷ rest) zero le = absurd (omega (arith, le))
+nil_from_end (r ∷ rest) (suc n) le = nil_from_end rest n (omega (arith, le))
 
--- the same with these places
-abbrev pub UntilOn : Program → Stage → (n pc height : ℕ) → List ℕ → Type 0
-UntilOn p g n pc height mine = (m : ℕ) → m ≤ n → (stack : List ℤ) (held : Held) → length stack ≡ height → Owns g mine held → SafeIfSane p m (at g.frames pc stack held)
+nil_from_set : (n : ℕ) (places : List ℕ) → NilFrom (suc n) places → NilFrom n (slice_set places n 0)
+nil_from_set zero [] h = tt
+nil_from_set zero (r ∷ rest) h = (refl, h)
+nil_from_set (suc n) [] h = tt
+nil_from_set (suc n) (r ∷ rest) h = nil_from_set n rest h
 
-pub until_on : (p : Program) (g : Stage) (n pc height own : ℕ) (mine : List ℕ) → length mine ≡ own → Until p g n pc height own → UntilOn p g n pc height mine
-until_on p g n pc height own mine f behind m le stack held e o = behind m le stack held mine e f o
+first_of : (own : List ℕ) → 1 ≤ length own → (r : ℕ) × (rest : List ℕ) × (own ≡ r ∷ rest)
+first_of [] some = absurd (omega (arith, some))
+first_of (r ∷ rest) some = (r, rest, refl)
 
--- calls, messages and ends of objects are safe
-pub record CallsSafe (p : Program) (R : resolved.Program) (g : Stage) : Type 0 where
-  pub invokes : (f height own n pc : ℕ) → HasAt p pc (Call (number_of R f) ∷ []) → Until p g n (pc + 1) (suc height) own → SafeAt p g n pc (slots_of R f + height) own
-  pub tells : (sign : Sign) (from : Option ℕ) (selector takes self height n pc : ℕ) (stack : List ℤ) (held : Held) (mine : List ℕ) → length stack ≡ passes sign takes + height → Owns g mine held → Sane held → Alive g.frames held.places self → Until p g n (pc + 1) (suc height) (length mine) → Along (SafeIfSane p n) (answers (at g.frames pc stack held) self (lookup p.classes from sign selector takes))
-  pub ends : (k height n pc : ℕ) (ob : Object) (counts : ℕ → ℕ) (stack : List ℤ) (before held : Held) (mine : List ℕ) → length stack ≡ height → before.self ≡ g.self → Owns g mine held → object_at held.objects (suc k) ≡ Some ob → is_live (Some ob) ≡ true → UntilOn p g n (pc + 1) height mine → Along (SafeIfSane p n) (begins_end p (at g.frames pc stack before) (suc k) ob.class (record { places = held.places; self = held.self; objects = with_object held.objects (suc k) (in_phase Dying ob); counts = counts }) (has_level (at g.frames pc stack before)))
-  pub alive : Alive g.frames g.waiting g.self
+none_before : {waiting : List ℕ} (own : List ℕ) → length own ≡ 0 → own ++ waiting ≡ waiting
+none_before [] none = refl
+none_before (r ∷ own) none = absurd (omega (arith, none))
 
-pub top_along : (p : Program) (n height : ℕ) (stack : List ℤ) (go : ℤ → List ℤ → Next State) → length stack ≡ suc height → ((v : ℤ) (rest : List ℤ) → length rest ≡ height → Along (SafeIfSane p n) (go v rest)) → Along (SafeIfSane p n) (on_top stack go)
-top_along p n height [] go e h = absurd (omega (arith, e))
-top_along p n height (v ∷ rest) go e h = h v rest (omega (arith, e))
+forgotten_sane : (own waiting : List ℕ) (held : Held) → AllNil own → Sane (with_places held (own ++ waiting)) → Sane (with_places held waiting)
+forgotten_sane [] waiting held nil sane = sane
+forgotten_sane (r ∷ own) waiting held nil sane = forgotten_sane own waiting held nil.1 (sane_forget held (own ++ waiting) (subst (λ q. Sane (with_places held (q ∷ own ++ waiting))) nil.0 sane))
 
-pub found_along : {A : Type 0} (p : Program) (n : ℕ) (list : List A) (i : ℕ) (go : A → Next State) → i < length list → ((a : A) → slice_get list i ≡ Some a → Along (SafeIfSane p n) (go a)) → Along (SafeIfSane p n) (on_found (slice_get list i) go)
-found_along p n [] i go lt h = absurd (omega (arith, lt))
-found_along p n (a ∷ list) zero go lt h = h a refl
-found_along p n (a ∷ list) (suc i) go lt h = found_along p n list i go (omega (arith, lt)) h
+pub no_nil : (objects : List Object) → IsDying objects 0 → ⊥
+no_nil objects d = none d.1
+  where
+    none : None ≡ Some d.0 → ⊥
+    none e = cc
 
-behind_both : (xs ys : List Order) (pc : ℕ) → pc + length (xs ++ ys) ≡ pc + length xs + length ys
-behind_both xs ys pc = omega (arith, length-append xs ys)
+along_map : {S : Type 0} (P Q : S → Type 0) → ((s : S) → P s → Q s) → (next : Next S) → Along P next → Along Q next
+along_map P Q f (Goes s events) p = f s p
+along_map P Q f (Asks go) p = λ answer. f (go answer) (p answer)
+along_map P Q f (Ends n) p = tt
+along_map P Q f (Faults e) p = tt
+along_map P Q f Stuck p = p
 
-module _ (p : Program) (g : Stage) where
-  -- orders that take a stack of one height to one of another, and so many places to others, are safe where the run is safe behind them
-  pub record Keeps (xs : List Order) (height own after left : ℕ) : Type 0 where
-    pub safe : (n pc : ℕ) → HasAt p pc xs → Until p g n (pc + length xs) after left → SafeAt p g n pc height own
+executes_at : (p : Program) (xs : List Action) (pc : ℕ) (x : Order) (s : State) → slice_get (orders xs) pc ≡ Some x → executes p (slice_get xs pc) s ≡ does p x s
+executes_at p [] pc x s e = cc
+executes_at p (y ∷ xs) zero x s e = acts_does p y s ∙ ap (λ z. does p z s) (some_same (order y) x e)
+executes_at p (y ∷ xs) (suc pc) x s e = executes_at p xs pc x s e
 
-  pub then_keeps : (xs ys : List Order) (height own middle between after left : ℕ) → Keeps xs height own middle between → Keeps ys middle between after left → Keeps (xs ++ ys) height own after left
-  then_keeps xs ys height own middle between after left first next = record {
-    safe = λ n pc has behind.
-        first.safe n pc (has_front p pc xs ys has) (λ m le.
-        next.safe m (pc + length xs) (has_back p pc xs ys has) (λ j le2. subst (λ e. SafeAt p g j e after left) (behind_both xs ys pc) (behind j (omega (arith, le, le2)))));
-  }
+module _ (p : Program) (R : resolved.Program) where
+  abbrev Goes_to : ℕ → Height → Type 0
+  Goes_to = stepping.Goes R (all R) (table R)
 
-  pub one_keeps : (x : Order) (height own after left : ℕ) → ((n pc : ℕ) (stack : List ℤ) (held : Held) (mine : List ℕ) → length stack ≡ height → length mine ≡ own → Owns g mine held → Sane held → Until p g n (pc + 1) after left → Along (SafeIfSane p n) (does p x (at g.frames pc stack held))) → Keeps (x ∷ []) height own after left
-  one_keeps x height own after left h = record { safe = λ n pc has behind stack held mine e f o. steps h n pc has behind stack held mine e f o }
-    where
-      steps : ((n pc : ℕ) (stack : List ℤ) (held : Held) (mine : List ℕ) → length stack ≡ height → length mine ≡ own → Owns g mine held → Sane held → Until p g n (pc + 1) after left → Along (SafeIfSane p n) (does p x (at g.frames pc stack held))) → (n pc : ℕ) → HasAt p pc (x ∷ []) → Until p g n (pc + 1) after left → SafeAt p g n pc height own
-      steps h zero pc has behind stack held mine e f o = tt
-      steps h (suc n) pc has behind stack held mine e f o = λ sane. subst (Along (SafeIfSane p n)) (sym (has.0 g.frames stack held)) (h n pc stack held mine e f o sane (λ m le. behind m (omega (arith, le))))
+  -- ---- what runs, and what waits
 
-  pub no_keeps : (height own after left : ℕ) → height ≡ after → own ≡ left → Keeps [] height own after left
-  no_keeps height own after left same alike = record {
-    safe = λ n pc has behind stack held mine e f o.
-        let h : pc + 0 ≡ pc = omega arith in
-        subst (λ q. SafeIfSane p n (at g.frames q stack held)) h (behind n (omega arith) stack held mine (e ∙ same) (f ∙ alike) o);
-  }
+  -- with so many numbers and these places a function goes on at a place, above those that wait
+  pub record Resumes (back self : ℕ) (others : List Frame) (numbers : ℕ) (places : List ℕ) (below : ℕ) (waiting : List ℕ) : Type 0 where
+    high : Height
+    stands : Stands R (all R) (table R) back high
+    own : List ℕ
+    count : numbers ≡ high.numbers + below
+    is : places ≡ own ++ waiting
+    size : length own ≡ high.places
+    nil : (k : ℕ) → Clears R (all R) (table R) k back → NilFrom k own
+    alive : Alive others waiting self
 
-  -- a jump is safe where the place that it leads to is
-  pub jump_safe : (height own : ℕ) → (n pc to : ℕ) → HasAt p pc (Jump to ∷ []) → ((m : ℕ) → m < n → SafeAt p g m to height own) → SafeAt p g n pc height own
-  jump_safe height own zero pc to has there stack held mine e f o = tt
-  jump_safe height own (suc n) pc to has there stack held mine e f o = λ sane. subst (Along (SafeIfSane p n)) (sym (has.0 g.frames stack held)) (there n (omega arith) stack held mine e f o)
+  -- so many numbers and these places wait; a call gives a number, which isn't there yet
+  abbrev pub Waits : List Frame → ℕ → List ℕ → Type 0
+  Waits [] n places = Unit {0}
+  Waits (Calling back self ∷ others) n places = (below : ℕ) × (waiting : List ℕ) × Resumes back self others (n + 1) places below waiting × Waits others below waiting
+  Waits (Ending back self o next left ∷ others) n places = (below : ℕ) × (waiting : List ℕ) × Resumes back self others n places below waiting × Waits others below waiting × IsApart o (ending others)
 
-  pub num_keeps : (v : ℤ) (height own : ℕ) → Keeps (Plain (Num v) ∷ []) height own (suc height) own
-  num_keeps v height own = one_keeps (Plain (Num v)) height own (suc height) own (λ n pc stack held mine e f o sane behind. behind n (omega arith) (v ∷ stack) held mine (ap suc e) f o)
+  pub record InFunction (s : State) : Type 0 where
+    below : ℕ
+    waiting : List ℕ
+    resumes : Resumes s.at s.held.self s.frames (length s.stack) s.held.places below waiting
+    waits : Waits s.frames below waiting
 
-  read_keeps : (height own : ℕ) → Keeps (Plain GetChar ∷ []) height own (suc height) own
-  read_keeps height own = one_keeps (Plain GetChar) height own (suc height) own (λ n pc stack held mine e f o sane behind answer. behind n (omega arith) (byte_or_end answer ∷ stack) held mine (ap suc e) f o)
+  abbrev pub IsEnding : List Frame → Type 0
+  IsEnding (Ending back self o next left ∷ others) = Unit {0}
+  IsEnding _ = ⊥
 
-  pub pop_keeps : (height own : ℕ) → Keeps (Plain Pop ∷ []) (suc height) own height own
-  pop_keeps height own = one_keeps (Plain Pop) (suc height) own height own (λ n pc stack held mine e f o sane behind. top_along p n height stack _ e (λ v rest r. behind n (omega arith) rest held mine r f o))
+  -- where the end of an object goes on
+  pub record InEnd (s : State) : Type 0 where
+    at_end : s.at ≡ p.end_step
+    is_ending : IsEnding s.frames
+    alive : Alive s.frames s.held.places s.held.self
+    waits : Waits s.frames (length s.stack) s.held.places
 
-  unary_keeps : (kind : _) (height own : ℕ) → Keeps (Plain (Un kind) ∷ []) (suc height) own (suc height) own
-  unary_keeps kind height own = one_keeps (Plain (Un kind)) (suc height) own (suc height) own (λ n pc stack held mine e f o sane behind. top_along p n height stack _ e (λ v rest r. behind n (omega arith) (negated kind v ∷ rest) held mine (ap suc r) f o))
+  abbrev pub Good : State → Type 0
+  Good s = (InFunction s ⊎ InEnd s) × AllDying s.held.objects (ending s.frames) × Sane s.held
 
-  narrow_keeps : (kind : _) (height own : ℕ) → Keeps (Plain (Narrow kind) ∷ []) (suc height) own (suc height) own
-  narrow_keeps kind height own = one_keeps (Plain (Narrow kind)) (suc height) own (suc height) own (λ n pc stack held mine e f o sane behind. top_along p n height stack _ e (λ v rest r. behind n (omega arith) (converted kind v ∷ rest) held mine (ap suc r) f o))
+  abbrev Leads : Next State → Type 0
+  Leads = Along Good
 
-  or_fault_safe : (v : Option ℤ) (n pc : ℕ) (all rest : List ℤ) (held : Held) → ((x : ℤ) → SafeIfSane p n (at g.frames (pc + 1) (x ∷ rest) held)) → Along (SafeIfSane p n) (or_fault v (at g.frames pc all held) rest)
-  or_fault_safe None n pc all rest held behind = tt
-  or_fault_safe (Some v) n pc all rest held behind = behind v
+  top_leads : (stack : List ℤ) (go : ℤ → List ℤ → Next State) → 1 ≤ length stack → ((v : ℤ) (rest : List ℤ) → length stack ≡ suc (length rest) → Leads (go v rest)) → Leads (on_top stack go)
+  top_leads [] go some h = absurd (omega (arith, some))
+  top_leads (v ∷ rest) go some h = h v rest refl
 
-  binary_keeps : (operator : _) (kind : _) (height own : ℕ) → Keeps (Plain (Bin operator kind) ∷ []) (suc (suc height)) own (suc height) own
-  binary_keeps operator kind height own = one_keeps (Plain (Bin operator kind)) (suc (suc height)) own (suc height) own (λ n pc stack held mine e f o sane behind.
-      top_along p n (suc height) stack _ e (λ y rest r. top_along p n height rest _ r (λ x below b. or_fault_safe (combined operator kind x y) n pc stack below held (λ v. behind n (omega arith) (v ∷ below) held mine (ap suc b) f o))))
+  found_leads : {A : Type 0} (list : List A) (i : ℕ) (go : A → Next State) → i < length list → ((a : A) → slice_get list i ≡ Some a → Leads (go a)) → Leads (on_found (slice_get list i) go)
+  found_leads [] i go lt h = absurd (omega (arith, lt))
+  found_leads (a ∷ list) zero go lt h = h a refl
+  found_leads (a ∷ list) (suc i) go lt h = found_leads list i go (omega (arith, lt)) h
 
-  text_keeps : (bytes : List ℕ) (height own : ℕ) → Keeps (PrintText bytes ∷ []) (suc height) own (suc height) own
-  text_keeps bytes height own = one_keeps (PrintText bytes) (suc height) own (suc height) own (λ n pc stack held mine e f o sane behind. top_along p n height stack _ e (λ c rest r. behind n (omega arith) (counted c bytes ∷ rest) held mine (ap suc r) f o))
+  place_leads : (r : ℕ) (places rest : List ℕ) (go : ℕ → List ℕ → Next State) → places ≡ r ∷ rest → Leads (go r rest) → Leads (on_place places go)
+  place_leads r places rest go e h = subst (λ l. Leads (on_place l go)) (sym e) h
 
-  parts_keep : (full : ℕ) (bytes : List ℕ) (height own : ℕ) → Keeps (part_orders full bytes) (suc height) own (suc height) own
-  parts_keep zero bytes height own = text_keeps bytes height own
-  parts_keep (suc full) bytes height own = then_keeps (PrintText (take 16 bytes) ∷ []) (part_orders full (drop 16 bytes)) (suc height) own (suc height) own (suc height) own (text_keeps (take 16 bytes) height own) (parts_keep full (drop 16 bytes) height own)
+  holds_leads : (r : ℕ) (held : Held) (go : Held → Next State) → IsThere held.objects r → Leads (go (placed r held)) → Leads (holds r held go)
+  holds_leads r held go there h = subst Leads (sym (holds_goes r held go there)) h
 
-  number_keeps : (height own : ℕ) → Keeps (Plain PrintNum ∷ []) (suc (suc height)) own (suc height) own
-  number_keeps height own = one_keeps (Plain PrintNum) (suc (suc height)) own (suc height) own (λ n pc stack held mine e f o sane behind.
-      top_along p n (suc height) stack _ e (λ v rest r. top_along p n height rest _ r (λ c below b. behind n (omega arith) (counted c (signed_decimal v) ∷ below) held mine (ap suc b) f o)))
+  taken_leads : (takes : ℕ) (stack : List ℤ) (go : List ℤ → Next State) → takes ≤ length stack → ((rest : List ℤ) → length stack ≡ takes + length rest → Leads (go rest)) → Leads (taken takes stack go)
+  taken_leads zero stack go le h = h stack (omega arith)
+  taken_leads (suc takes) [] go le h = absurd (omega (arith, le))
+  taken_leads (suc takes) (v ∷ rest) go le h = taken_leads takes rest go (omega (arith, le)) (λ rest1 e. h rest1 (omega (arith, e)))
 
-  byte_keeps : (height own : ℕ) → Keeps (Plain PrintByte ∷ []) (suc (suc height)) own (suc height) own
-  byte_keeps height own = one_keeps (Plain PrintByte) (suc (suc height)) own (suc height) own (λ n pc stack held mine e f o sane behind.
-      top_along p n (suc height) stack _ e (λ v rest r. top_along p n height rest _ r (λ c below b. behind n (omega arith) (counted c (low_byte v ∷ []) ∷ below) held mine (ap suc b) f o)))
+  if_leads : (b : Bool) (x y : Next State) → Leads x → Leads y → Leads (if b then x else y)
+  if_leads true x y h i = h
+  if_leads false x y h i = i
 
-  pub get_keeps : (depth height own : ℕ) → depth < height → Keeps (Plain (Get depth) ∷ []) height own (suc height) own
-  get_keeps depth height own lt = one_keeps (Plain (Get depth)) height own (suc height) own (λ n pc stack held mine e f o sane behind.
-      found_along p n stack depth _ (omega (arith, e, lt)) (λ v _. behind n (omega arith) (v ∷ stack) held mine (ap suc e) f o))
+  field_leads : (class r : ℕ) (held : Held) (go : Object → Next State) → IsThere held.objects r → ((j : ℕ) (o : Object) → r ≡ suc j → object_at held.objects (suc j) ≡ Some o → is_there o.phase ≡ true → Leads (go o)) → Leads (on_field p.classes class r held go)
+  field_leads class zero held go there h = tt
+  field_leads class (suc j) held go there h =
+      let o = there.0 in
+      subst Leads (sym (object_goes (object_at held.objects (suc j)) o (λ x. if descends p.classes (Some x.class) class then go x else Faults FieldClass) there.1 there.2))
+      (if_leads (descends p.classes (Some o.class) class) (go o) (Faults FieldClass) (h j o refl there.1 there.2) tt)
 
-  pub set_keeps : (depth height own : ℕ) → depth < height → Keeps (Plain (Set depth) ∷ []) (suc height) own height own
-  set_keeps depth height own lt = one_keeps (Plain (Set depth)) (suc height) own height own (λ n pc stack held mine e f o sane behind.
-      top_along p n height stack _ e (λ v rest r. found_along p n rest depth _ (omega (arith, r, lt)) (λ u _. behind n (omega arith) (slice_set rest depth v) held mine (length-set rest depth v ∙ r) f o)))
+  forgets_leads : (own waiting : List ℕ) (count : ℕ) (go : List ℕ → Next State) → count ≡ length own → AllNil own → Leads (go waiting) → Leads (forgets count (own ++ waiting) go)
+  forgets_leads [] waiting zero go e nil h = h
+  forgets_leads [] waiting (suc count) go e nil h = absurd (omega (arith, e))
+  forgets_leads (r ∷ own) waiting zero go e nil h = absurd (omega (arith, e))
+  forgets_leads (r ∷ own) waiting (suc count) go e nil h = subst (λ q. Leads (forgets (suc count) (q ∷ own ++ waiting) go)) (sym nil.0) (forgets_leads own waiting count go (omega (arith, e)) nil.1 h)
 
-  format_keeps : (pieces : List Piece) (left height own : ℕ) → left ≤ height → Keeps (format_orders pieces left) (suc height) own (suc height) own
-  format_keeps [] left height own le = no_keeps (suc height) own (suc height) own refl refl
-  format_keeps (Bytes bytes ∷ others) left height own le = then_keeps (text_orders bytes) (format_orders others left) (suc height) own (suc height) own (suc height) own (parts_keep ((length bytes - 1) / 16) bytes height own) (format_keeps others left height own le)
-  format_keeps (Decimal ∷ others) zero height own le = format_keeps others zero height own le
-  format_keeps (Decimal ∷ others) (suc left) height own le =
-      then_keeps (Plain (Get (suc left)) ∷ Plain PrintNum ∷ []) (format_orders others left) (suc height) own (suc height) own (suc height) own
-      (then_keeps (Plain (Get (suc left)) ∷ []) (Plain PrintNum ∷ []) (suc height) own (suc (suc height)) own (suc height) own (get_keeps (suc left) (suc height) own (omega (arith, le))) (number_keeps height own))
-      (format_keeps others left height own (omega (arith, le)))
-  format_keeps (Character ∷ others) zero height own le = format_keeps others zero height own le
-  format_keeps (Character ∷ others) (suc left) height own le =
-      then_keeps (Plain (Get (suc left)) ∷ Plain PrintByte ∷ []) (format_orders others left) (suc height) own (suc height) own (suc height) own
-      (then_keeps (Plain (Get (suc left)) ∷ []) (Plain PrintByte ∷ []) (suc height) own (suc (suc height)) own (suc height) own (get_keeps (suc left) (suc height) own (omega (arith, le))) (byte_keeps height own))
-      (format_keeps others left height own (omega (arith, le)))
+  same_frame : (back self : ℕ) (others : List Frame) (n m : ℕ) (places places1 : List ℕ) (below : ℕ) (waiting : List ℕ) → n ≡ m → places ≡ places1 → Resumes back self others n places below waiting → Resumes back self others m places1 below waiting
+  same_frame back self others n m places places1 below waiting e f h = subst (λ l. Resumes back self others m l below waiting) f (subst (λ k. Resumes back self others k places below waiting) e h)
 
-  pub pops_keep : (n height own after : ℕ) → height ≡ n + after → Keeps (pop_orders n) height own after own
-  pops_keep zero height own after e = no_keeps height own after own (omega (arith, e)) refl
-  pops_keep (suc n) height own after e =
-      let h : suc (n + after) ≡ height = omega (arith, e) in
-      subst (λ m. Keeps (pop_orders (suc n)) m own after own) h (then_keeps (Plain Pop ∷ []) (pop_orders n) (suc (n + after)) own (n + after) own after own (pop_keeps (n + after) own) (pops_keep n (n + after) own after refl))
+  -- a function is left
+  leaves_lead : (frames : List Frame) (below : ℕ) (waiting : List ℕ) (pc : ℕ) (v : ℤ) (stack rest : List ℤ) (held : Held) → Waits frames below waiting → Alive frames waiting held.self → length stack ≡ suc (length rest) → below ≡ length rest → waiting ≡ held.places → AllDying held.objects (ending frames) → Sane held → Leads (leaves p (at frames pc stack held) frames v rest)
+  leaves_lead [] below waiting pc v stack rest held waits alive size e f dying sane = tt
+  leaves_lead (Calling back self ∷ others) below waiting pc v stack rest held waits alive size e f dying sane =
+      (inl (record { below = waits.0; waiting = waits.1; resumes = same_frame back self others (below + 1) (length stack) waiting held.places waits.0 waits.1 (omega (arith, size, e)) f waits.2; waits = waits.3 }), dying, sane_self held self sane)
+  leaves_lead (Ending back self o next left ∷ others) below waiting pc v stack rest held waits alive size e f dying sane =
+      let frames = Ending back self o next left ∷ others in
+      (inr (record { at_end = refl; is_ending = tt; alive = subst (λ l. Alive frames l held.self) f alive; waits = subst (λ l. Waits frames (length rest) l) f (subst (λ n. Waits frames n waiting) e waits) }), dying, sane)
 
-  pub keep_keeps : (n height own after : ℕ) → height ≡ n + after → Keeps (keep_orders n) (suc height) own (suc after) own
-  keep_keeps zero height own after e = no_keeps (suc height) own (suc after) own (omega (arith, e)) refl
-  keep_keeps (suc n) height own after e = then_keeps (Plain (Set n) ∷ []) (pop_orders n) (suc height) own height own (suc after) own (set_keeps n height own (omega (arith, e))) (pops_keep n height own (suc after) (omega (arith, e)))
+  -- ---- one step of a function
 
-  print_keeps : (pieces : List Piece) (n height own after : ℕ) → height ≡ n + after → Keeps (print_orders pieces n) height own (suc after) own
-  print_keeps pieces n height own after e =
-      then_keeps (Plain (Num (pos 0)) ∷ []) (format_orders pieces n ++ (Plain (Narrow k.Int) ∷ [] ++ keep_orders n)) height own (suc height) own (suc after) own (num_keeps (pos 0) height own)
-      (then_keeps (format_orders pieces n) (Plain (Narrow k.Int) ∷ [] ++ keep_orders n) (suc height) own (suc height) own (suc after) own (format_keeps pieces n height own (omega (arith, e)))
-      (then_keeps (Plain (Narrow k.Int) ∷ []) (keep_orders n) (suc height) own (suc height) own (suc after) own (narrow_keeps k.Int height own) (keep_keeps n height own after e)))
+  module _ (frames : List Frame) (below : ℕ) (waiting : List ℕ) (self : ℕ) (alive : Alive frames waiting self) (waits : Waits frames below waiting) where
+    -- these are the places of the running function
+    record Owns (own : List ℕ) (held : Held) : Type 0 where
+      is : held.places ≡ own ++ waiting
+      itself : held.self ≡ self
+      dying : AllDying held.objects (ending frames)
+      sane : Sane held
 
-  pub zeros_keep : (n height own after : ℕ) → after ≡ n + height → Keeps (zero_orders n) height own after own
-  zeros_keep zero height own after e = no_keeps height own after own (omega (arith, e)) refl
-  zeros_keep (suc n) height own after e = then_keeps (Plain (Num (pos 0)) ∷ []) (zero_orders n) height own (suc height) own after own (num_keeps (pos 0) height own) (zeros_keep n (suc height) own after (omega (arith, e)))
+    go_on : (to : ℕ) (h : Height) → Goes_to to h → (stack : List ℤ) (held : Held) (own : List ℕ) → length stack ≡ h.numbers + below → length own ≡ h.places → Owns own held → Good (at frames to stack held)
+    go_on to h g stack held own count size o =
+        (inl (record { below = below; waiting = waiting; resumes = record { high = h; stands = g.0; own = own; count = count; is = o.is; size = size; nil = λ k c. let le = g.1 k c in nil_from_end own k (omega (arith, size, le)); alive = subst (Alive frames waiting) (sym o.itself) alive }; waits = waits }), o.dying, o.sane)
 
-  pub fit_keeps : (values slots height own after stack : ℕ) → height ≡ values + stack → after ≡ slots + stack → Keeps (fit_orders values slots) height own after own
-  fit_keeps values slots height own after stack e1 e2 =
-      let middle = height - (values - slots) in
-      then_keeps (pop_orders (values - slots)) (zero_orders (slots - values)) height own middle own after own (pops_keep (values - slots) height own middle (omega (arith, e1))) (zeros_keep (slots - values) middle own after (omega (arith, e1, e2)))
+    owns_more : (r : ℕ) (own : List ℕ) (held : Held) → IsThere held.objects r → Owns own held → Owns (r ∷ own) (placed r held)
+    owns_more r own held there o = record { is = ap (λ l. r ∷ l) o.is; itself = o.itself; dying = o.dying; sane = sane_place held r there o.sane }
 
-  -- ---- places
+    -- a function to which the run comes back
+    abbrev Back : ℕ → ℕ → List ℕ → Type 0
+    Back pc numbers places = Resumes (pc + 1) self frames numbers places below waiting
 
-  owns_more : (r : ℕ) (mine : List ℕ) (held : Held) → Owns g mine held → Owns g (r ∷ mine) (placed r held)
-  owns_more r mine held o = record { is = ap (λ l. r ∷ l) o.is; itself = o.itself; dying = o.dying }
+    back : (pc : ℕ) (h : Height) → Goes_to (pc + 1) h → (numbers : ℕ) (places own : List ℕ) → numbers ≡ h.numbers + below → length own ≡ h.places → places ≡ own ++ waiting → Back pc numbers places
+    back pc h g numbers places own count size is = record { high = h; stands = g.0; own = own; count = count; is = is; size = size; nil = λ k c. let le = g.1 k c in nil_from_end own k (omega (arith, size, le)); alive = alive }
 
-  holds_along : (r n : ℕ) (held : Held) (go : Held → Next State) → IsThere held.objects r → Along (SafeIfSane p n) (go (placed r held)) → Along (SafeIfSane p n) (holds r held go)
-  holds_along r n held go there h = subst (Along (SafeIfSane p n)) (sym (holds_goes r held go there)) h
+    -- ---- what begins the end of an object, or calls
 
-  place_along : (n r : ℕ) (held rest : List ℕ) (go : ℕ → List ℕ → Next State) → held ≡ r ∷ rest → Along (SafeIfSane p n) (go r rest) → Along (SafeIfSane p n) (on_place held go)
-  place_along n r held rest go e h = subst (λ l. Along (SafeIfSane p n) (on_place l go)) (sym e) h
+    begins_leads : (b : Bool) (k pc : ℕ) (ob : Object) (stack : List ℤ) (before held : Held) → before.self ≡ self → object_at held.objects (suc k) ≡ Some ob → is_live (Some ob) ≡ true → AllDying held.objects (ending frames) → Sane (with_places held (suc k ∷ held.places)) → Back pc (length stack) held.places → Leads (begins_end p (at frames pc stack before) (suc k) ob.class (with_things (lowered (suc k) held) (with_object held.objects (suc k) (in_phase Dying ob))) b)
+    begins_leads false k pc ob stack before held same found live dying sane home = tt
+    begins_leads true k pc ob stack before held same found live dying sane home =
+        let objects = with_object held.objects (suc k) (in_phase Dying ob) in
+        let begun : IsDying objects (suc k) = (in_phase Dying ob, set_here held.objects k (in_phase Dying ob) ob found, refl) in
+        let still : AllDying objects (ending frames) = changed_dying held.objects k (in_phase Dying ob) (ending frames) (λ _. refl) dying in
+        let apart = live_apart held.objects k ob (ending frames) found live dying in (
+          inr (record { at_end = refl; is_ending = tt; alive = ending_alive frames (pc + 1) before.self (suc k) (Some ob.class) (length p.classes) held.places; waits = (below, waiting, subst (λ x. Resumes (pc + 1) x frames (length stack) held.places below waiting) (sym same) home, waits, apart) }),
+          (begun, still),
+          sane_self (with_things (lowered (suc k) held) objects) (suc k) (sane_last held k ob found sane),
+        )
 
-  within_own : (depth own : ℕ) (mine : List ℕ) (held : Held) → depth < own → length mine ≡ own → Owns g mine held → depth < length held.places
-  within_own depth own mine held lt f o =
-      let size = ap length o.is in
-      omega (arith, lt, f, size, length-append mine g.waiting)
-
-  pub nil_keeps : (height own : ℕ) → Keeps (Plain Nil ∷ []) height own height (suc own)
-  nil_keeps height own = one_keeps (Plain Nil) height own height (suc own) (λ n pc stack held mine e f o sane behind. behind n (omega arith) stack (placed 0 held) (0 ∷ mine) e (ap suc f) (owns_more 0 mine held o))
-
-  pub hold_keeps : (depth height own : ℕ) → depth < own → Keeps (Plain (Hold depth) ∷ []) height own height (suc own)
-  hold_keeps depth height own lt = one_keeps (Plain (Hold depth)) height own height (suc own) (λ n pc stack held mine e f o sane behind.
-      found_along p n held.places depth _ (within_own depth own mine held lt f o) (λ r found.
-      holds_along r n held _ (place_there held.objects depth r held.places found sane.there) (behind n (omega arith) stack (placed r held) (r ∷ mine) e (ap suc f) (owns_more r mine held o))))
-
-  module _ (R : resolved.Program) (slots names below : ℕ) (safe_calls : CallsSafe p R g) where
     -- a place that named this is dropped
-    releases_by : (b : Bool) (k n pc height : ℕ) (ob : Object) (stack : List ℤ) (before held : Held) (mine : List ℕ) → (is_live (Some ob) && nat_eq (held.counts (suc k)) 1) ≡ b → length stack ≡ height → before.self ≡ g.self → object_at held.objects (suc k) ≡ Some ob → Owns g mine held → UntilOn p g n (pc + 1) height mine → Along (SafeIfSane p n) (if b then begins_end p (at g.frames pc stack before) (suc k) ob.class (with_things (lowered (suc k) held) (with_object held.objects (suc k) (in_phase Dying ob))) (has_level (at g.frames pc stack before)) else keeps (at g.frames pc stack before) stack (lowered (suc k) held))
-    releases_by true k n pc height ob stack before held mine t e same found o behind =
-        safe_calls.ends k height n pc ob (lowered (suc k) held).counts stack before held mine e same o found (and_parts (is_live (Some ob)) (nat_eq (held.counts (suc k)) 1) t).0 behind
-    releases_by false k n pc height ob stack before held mine t e same found o behind = behind n (omega arith) stack (lowered (suc k) held) e (record { is = o.is; itself = o.itself; dying = o.dying })
+    stays : (r pc : ℕ) (stack : List ℤ) (before held : Held) → held.self ≡ self → AllDying held.objects (ending frames) → Sane (lowered r held) → Back pc (length stack) held.places → Leads (keeps (at frames pc stack before) stack (lowered r held))
+    stays r pc stack before held same dying sane home = (inl (record { below = below; waiting = waiting; resumes = subst (λ x. Resumes (pc + 1) x frames (length stack) held.places below waiting) (sym same) home; waits = waits }), dying, sane)
 
-    pub releases_safe : (r n pc height : ℕ) (stack : List ℤ) (before held : Held) (mine : List ℕ) → length stack ≡ height → before.self ≡ g.self → IsThere held.objects r → Owns g mine held → UntilOn p g n (pc + 1) height mine → Along (SafeIfSane p n) (releases p (at g.frames pc stack before) r held)
-    releases_safe zero n pc height stack before held mine e same there o behind = behind n (omega arith) stack (lowered 0 held) e (record { is = o.is; itself = o.itself; dying = o.dying })
-    releases_safe (suc k) n pc height stack before held mine e same there o behind =
+    releases_by : (b : Bool) (k pc : ℕ) (ob : Object) (stack : List ℤ) (before held : Held) → (is_live (Some ob) && nat_eq (held.counts (suc k)) 1) ≡ b → before.self ≡ self → held.self ≡ self → object_at held.objects (suc k) ≡ Some ob → AllDying held.objects (ending frames) → Sane (with_places held (suc k ∷ held.places)) → Back pc (length stack) held.places
+        → Leads (if b then begins_end p (at frames pc stack before) (suc k) ob.class (with_things (lowered (suc k) held) (with_object held.objects (suc k) (in_phase Dying ob))) (has_level (at frames pc stack before)) else keeps (at frames pc stack before) stack (lowered (suc k) held))
+    releases_by true k pc ob stack before held t same alike found dying sane home = begins_leads (has_level (at frames pc stack before)) k pc ob stack before held same found (and_parts (is_live (Some ob)) (nat_eq (held.counts (suc k)) 1) t).0 dying sane home
+    releases_by false k pc ob stack before held t same alike found dying sane home = stays (suc k) pc stack before held alike dying (sane_other held k ob found t sane) home
+
+    releases_lead : (r pc : ℕ) (stack : List ℤ) (before held : Held) → before.self ≡ self → held.self ≡ self → IsThere held.objects r → AllDying held.objects (ending frames) → Sane (with_places held (r ∷ held.places)) → Back pc (length stack) held.places → Leads (releases p (at frames pc stack before) r held)
+    releases_lead zero pc stack before held same alike there dying sane home = stays 0 pc stack before held alike dying (sane_nil held sane) home
+    releases_lead (suc k) pc stack before held same alike there dying sane home =
         let ob = there.0 in
-        let go : Object → Next State = λ x. if is_live (Some x) && nat_eq (held.counts (suc k)) 1 then begins_end p (at g.frames pc stack before) (suc k) x.class (with_things (lowered (suc k) held) (with_object held.objects (suc k) (in_phase Dying x))) (has_level (at g.frames pc stack before)) else keeps (at g.frames pc stack before) stack (lowered (suc k) held) in
-        subst (Along (SafeIfSane p n)) (sym (object_goes (object_at held.objects (suc k)) ob go there.1 there.2)) (releases_by (is_live (Some ob) && nat_eq (held.counts (suc k)) 1) k n pc height ob stack before held mine refl e same there.1 o behind)
+        let go : Object → Next State = λ x. if is_live (Some x) && nat_eq (held.counts (suc k)) 1 then begins_end p (at frames pc stack before) (suc k) x.class (with_things (lowered (suc k) held) (with_object held.objects (suc k) (in_phase Dying x))) (has_level (at frames pc stack before)) else keeps (at frames pc stack before) stack (lowered (suc k) held) in
+        subst Leads (sym (object_goes (object_at held.objects (suc k)) ob go there.1 there.2)) (releases_by (is_live (Some ob) && nat_eq (held.counts (suc k)) 1) k pc ob stack before held refl same alike there.1 dying sane home)
 
-    drop_by : (height own n pc : ℕ) (stack : List ℤ) (held : Held) (mine : List ℕ) → length stack ≡ height → length mine ≡ suc own → Owns g mine held → Sane held → Until p g n (pc + 1) height own → Along (SafeIfSane p n) (does p Drop (at g.frames pc stack held))
-    drop_by height own n pc stack held [] e f o sane behind = absurd (omega (arith, f))
-    drop_by height own n pc stack held (r ∷ mine) e f o sane behind =
-        let rest = mine ++ g.waiting in
-        let size : length mine ≡ own = omega (arith, f) in
-        let there = place_there held.objects 0 r held.places (ap (λ l. slice_get l 0) o.is) sane.there in
-        place_along n r held.places rest _ o.is
-        (releases_safe r n pc height stack held (with_places held rest) mine e o.itself there (record { is = refl; itself = o.itself; dying = o.dying }) (until_on p g n (pc + 1) height own mine size behind))
+    -- what is entered has so many numbers, which lie on the stack
+    enters_lead : (b : Bool) (to self1 passed pc : ℕ) (stack : List ℤ) (held : Held) → Goes_to to (height passed 0) → passed ≤ length stack → Alive frames held.places self1 → held.self ≡ self → AllDying held.objects (ending frames) → Sane held → Back pc (length stack - passed + 1) held.places → Leads (enters (at frames pc stack held) to self1 b)
+    enters_lead false to self1 passed pc stack held g le living same dying sane home = tt
+    enters_lead true to self1 passed pc stack held g le living same dying sane home = (
+      inl (record {
+        below = length stack - passed;
+        waiting = held.places;
+        resumes = record { high = height passed 0; stands = g.0; own = []; count = omega (arith, le); is = refl; size = refl; nil = λ k c. nil_from_end [] k (omega arith); alive = living };
+        waits = (below, waiting, subst (λ x. Resumes (pc + 1) x frames (length stack - passed + 1) held.places below waiting) (sym same) home, waits);
+      }),
+      dying,
+      sane_self held self1 sane,
+    )
 
-    pub drop_keeps : (height own : ℕ) → Keeps (Drop ∷ []) height (suc own) height own
-    drop_keeps height own = one_keeps Drop height (suc own) height own (λ n pc stack held mine e f o sane behind. drop_by height own n pc stack held mine e f o sane behind)
+    answers_lead : (found : Option ℕ) (self1 passed pc : ℕ) (stack : List ℤ) (held : Held) → ((to : ℕ) → found ≡ Some to → Goes_to to (height passed 0)) → passed ≤ length stack → Alive frames held.places self1 → held.self ≡ self → AllDying held.objects (ending frames) → Sane held → Back pc (length stack - passed + 1) held.places → Leads (answers (at frames pc stack held) self1 found)
+    answers_lead None self1 passed pc stack held begins le living same dying sane home = tt
+    answers_lead (Some to) self1 passed pc stack held begins le living same dying sane home = enters_lead (has_level (at frames pc stack held)) to self1 passed pc stack held (begins to refl) le living same dying sane home
 
-    pub drops_keep : (n height own left : ℕ) → own ≡ n + left → Keeps (drop_orders n) height own height left
-    drops_keep zero height own left e = no_keeps height own height left refl (omega (arith, e))
-    drops_keep (suc n) height own left e =
-        let h : suc (n + left) ≡ own = omega (arith, e) in
-        subst (λ m. Keeps (drop_orders (suc n)) height m height left) h (then_keeps (Drop ∷ []) (drop_orders n) height (suc (n + left)) height (n + left) height left (drop_keeps height (n + left)) (drops_keep n height (n + left) left refl))
+    -- ---- one order
 
-    store_by : (depth height own n pc : ℕ) (stack : List ℤ) (held : Held) (mine : List ℕ) → depth < own → length stack ≡ height → length mine ≡ suc own → Owns g mine held → Sane held → Until p g n (pc + 1) height (suc own) → Along (SafeIfSane p n) (does p (StoreStrong depth) (at g.frames pc stack held))
-    store_by depth height own n pc stack held [] lt e f o sane behind = absurd (omega (arith, f))
-    store_by depth height own n pc stack held (r ∷ mine) lt e f o sane behind =
-        let rest = mine ++ g.waiting in
-        let size : length mine ≡ own = omega (arith, f) in
-        let there = place_there held.objects 0 r held.places (ap (λ l. slice_get l 0) o.is) sane.there in
-        let deep : depth < length rest = omega (arith, lt, size, length-append mine g.waiting) in
-        let set = set_front mine g.waiting depth r (omega (arith, lt, size)) in
-        let own' = r ∷ slice_set mine depth r in
-        let many : length own' ≡ suc own = ap suc (length-set mine depth r ∙ size) in
-        place_along n r held.places rest _ o.is
-        (found_along p n rest depth _ deep (λ old found.
-        holds_along r n held _ there
-        (releases_safe old n pc height stack held (with_places (placed r held) (r ∷ slice_set rest depth r)) own' e o.itself (place_there held.objects (suc depth) old held.places (ap (λ l. slice_get l (suc depth)) o.is ∙ found) sane.there) (record { is = ap (λ l. r ∷ l) set; itself = o.itself; dying = o.dying }) (until_on p g n (pc + 1) height (suc own) own' many behind))))
+    module _ (classes : p.classes ≡ classes_linked R) (calls : (f : ℕ) → f ≤ length R.functions → Goes_to (entry p f) (height (slots_of R f) 0)) (pc : ℕ) (h : Height) (stack : List ℤ) (held : Held) (own : List ℕ) (count : length stack ≡ h.numbers + below) (size : length own ≡ h.places) (o : Owns own held) where
+      abbrev s : State
+      s = at frames pc stack held
 
-    pub store_keeps : (depth height own : ℕ) → depth < own → Keeps (StoreStrong depth ∷ []) height (suc own) height (suc own)
-    store_keeps depth height own lt = one_keeps (StoreStrong depth) height (suc own) height (suc own) (λ n pc stack held mine e f o sane behind. store_by depth height own n pc stack held mine lt e f o sane behind)
+      finds : (from : Option ℕ) (sign : Sign) (selector takes to : ℕ) → lookup p.classes from sign selector takes ≡ Some to → Goes_to to (height (passes sign takes) 0)
+      finds from sign selector takes to e = methods_go R from sign selector takes to (subst (λ cs. lookup cs from sign selector takes ≡ Some to) classes e)
 
-    -- a place is emptied, and the others are as they were
-    pub empty_safe : (depth height own n pc : ℕ) (stack : List ℤ) (held : Held) (mine : List ℕ) → depth < own → length stack ≡ height → length mine ≡ own → Owns g mine held → Sane held → UntilOn p g n (pc + 1) height (slice_set mine depth 0) → Along (SafeIfSane p n) (does p (Empty depth) (at g.frames pc stack held))
-    empty_safe depth height own n pc stack held mine lt e f o sane behind = found_along p n held.places depth _ (within_own depth own mine held lt f o) (λ r found.
-        let set = ap (λ l. slice_set l depth 0) o.is ∙ set_front mine g.waiting depth 0 (omega (arith, lt, f)) in
-        let many : length (slice_set mine depth 0) ≡ own = length-set mine depth 0 ∙ f in
-        releases_safe r n pc height stack held (raised 0 (with_places held (slice_set held.places depth 0))) (slice_set mine depth 0) e o.itself (place_there held.objects depth r held.places found sane.there) (record { is = set; itself = o.itself; dying = o.dying }) behind)
+      within : (depth : ℕ) → depth < h.places → depth < length held.places
+      within depth lt = let all_places = ap length o.is in omega (arith, lt, size, all_places, length-append own waiting)
 
-    pub empty_keeps : (depth height own : ℕ) → depth < own → Keeps (Empty depth ∷ []) height own height own
-    empty_keeps depth height own lt = one_keeps (Empty depth) height own height own (λ n pc stack held mine e f o sane behind.
-        empty_safe depth height own n pc stack held mine lt e f o sane (until_on p g n (pc + 1) height own (slice_set mine depth 0) (length-set mine depth 0 ∙ f) behind))
+      self_alive : Alive frames held.places held.self
+      self_alive objects there dying = subst (IsThere objects) (sym o.itself) (alive objects (last_there objects own waiting (subst (AllThere objects) o.is there)) dying)
 
-    -- ---- objects
+      self_there : IsThere held.objects held.self
+      self_there = self_alive held.objects o.sane.there o.dying
 
-    self_there : (held : Held) (mine : List ℕ) → Owns g mine held → Sane held → IsThere held.objects held.self
-    self_there held mine o sane =
-        let all : AllThere held.objects g.waiting = last_there held.objects mine g.waiting (subst (AllThere held.objects) o.is sane.there) in
-        subst (IsThere held.objects) (sym o.itself) (safe_calls.alive held.objects all o.dying)
+      place_is : (depth r : ℕ) → slice_get held.places depth ≡ Some r → IsThere held.objects r
+      place_is depth r found = place_there held.objects depth r held.places found o.sane.there
 
-    hold_self_keeps : (height own : ℕ) → Keeps (Plain HoldSelf ∷ []) height own height (suc own)
-    hold_self_keeps height own = one_keeps (Plain HoldSelf) height own height (suc own) (λ n pc stack held mine e f o sane behind.
-        holds_along held.self n held _ (self_there held mine o sane) (behind n (omega arith) stack (placed held.self held) (held.self ∷ mine) e (ap suc f) (owns_more held.self mine held o)))
+      -- the last place, and the others
+      top_place : (r : ℕ) (rest : List ℕ) → own ≡ r ∷ rest → held.places ≡ r ∷ (rest ++ waiting)
+      top_place r rest e = o.is ∙ ap (λ l. l ++ waiting) e
 
-    made_safe : (found : Option ℕ) (n pc height own : ℕ) (stack rest : List ℤ) (held : Held) (mine : List ℕ) → length rest ≡ height → length mine ≡ own → Owns g mine held → Until p g n (pc + 1) height (suc own) → Along (SafeIfSane p n) (allocates p.classes (at g.frames pc stack held) rest found)
-    made_safe None n pc height own stack rest held mine e f o behind = tt
-    made_safe (Some c) n pc height own stack rest held mine e f o behind =
-        let r = suc (length held.objects) in
-        behind n (omega arith) rest (makes p.classes c held) (r ∷ mine) e (ap suc f) (record { is = ap (λ l. r ∷ l) o.is; itself = o.itself; dying = made_dying held.objects _ (ending g.frames) o.dying })
+      next : (x : Op) → Goes_to (pc + 1) (left R (all R) (table R) h (Plain x)) → (stack1 : List ℤ) (held1 : Held) (own1 : List ℕ) → length stack1 ≡ (left R (all R) (table R) h (Plain x)).numbers + below → length own1 ≡ (left R (all R) (table R) h (Plain x)).places → Owns own1 held1 → Good (at frames (pc + 1) stack1 held1)
+      next x g = go_on (pc + 1) (left R (all R) (table R) h (Plain x)) g
 
-    made_keeps : (height own : ℕ) → Keeps (Plain Alloc ∷ []) (suc height) own height (suc own)
-    made_keeps height own = one_keeps (Plain Alloc) (suc height) own height (suc own) (λ n pc stack held mine e f o sane behind.
-        top_along p n height stack _ e (λ v rest r. made_safe (class_at v) n pc height own stack rest held mine r f o behind))
+      or_fault_leads : (v : Option ℤ) (rest : List ℤ) → ((x : ℤ) → Good (at frames (pc + 1) (x ∷ rest) held)) → Leads (or_fault v s rest)
+      or_fault_leads None rest g = tt
+      or_fault_leads (Some v) rest g = g v
 
-    if_along : (b : Bool) (n : ℕ) (x y : Next State) → Along (SafeIfSane p n) x → Along (SafeIfSane p n) y → Along (SafeIfSane p n) (if b then x else y)
-    if_along true n x y h i = h
-    if_along false n x y h i = i
+      made_leads : (found : Option ℕ) (rest : List ℤ) → 1 ≤ h.numbers → Goes_to (pc + 1) (left R (all R) (table R) h (Plain Alloc)) → length stack ≡ suc (length rest) → Leads (allocates p.classes s rest found)
+      made_leads None rest some g e = tt
+      made_leads (Some c) rest some g e =
+          let r = suc (length held.objects) in
+          next Alloc g rest (makes p.classes c held) (r ∷ own) (omega (arith, some, count, e)) (omega (arith, size)) (record { is = ap (λ l. r ∷ l) o.is; itself = o.itself; dying = made_dying held.objects _ (ending frames) o.dying; sane = sane_make p.classes held c o.sane })
 
-    field_along : (class r n : ℕ) (held : Held) (go : Object → Next State) → IsThere held.objects r → ((j : ℕ) (o : Object) → r ≡ suc j → object_at held.objects (suc j) ≡ Some o → Along (SafeIfSane p n) (go o)) → Along (SafeIfSane p n) (on_field p.classes class r held go)
-    field_along class zero n held go there h = tt
-    field_along class (suc j) n held go there h =
-        let o = there.0 in
-        subst (Along (SafeIfSane p n)) (sym (object_goes (object_at held.objects (suc j)) o (λ x. if descends p.classes (Some x.class) class then go x else Faults FieldClass) there.1 there.2))
-        (if_along (descends p.classes (Some o.class) class) n (go o) (Faults FieldClass) (h j o refl there.1) tt)
+      field_dies : (j : ℕ) (ob : Object) (fields : List ℤ) (r : ℕ) → r ≡ suc j → object_at held.objects (suc j) ≡ Some ob → AllDying (with_object held.objects r (with_fields ob fields)) (ending frames)
+      field_dies j ob fields r same found = subst (λ q. AllDying (with_object held.objects q (with_fields ob fields)) (ending frames)) (sym same) (changed_dying held.objects j (with_fields ob fields) (ending frames) (λ x. dies x.0 (sym x.1 ∙ found) x.2) o.dying)
+        where
+          dies : (x : Object) → Some x ≡ Some ob → x.phase ≡ Dying → ob.phase ≡ Dying
+          dies x e d = let alike : x ≡ ob = cc in subst (λ (y : Object). y.phase ≡ Dying) alike d
 
-    get_field_by : (class index height own n pc : ℕ) (stack : List ℤ) (held : Held) (mine : List ℕ) → 1 ≤ own → length stack ≡ height → length mine ≡ own → Owns g mine held → Sane held → Until p g n (pc + 1) (suc height) own → Along (SafeIfSane p n) (does p (Plain (GetField class index)) (at g.frames pc stack held))
-    get_field_by class index height own n pc stack held [] one e f o sane behind = absurd (omega (arith, f, one))
-    get_field_by class index height own n pc stack held (r ∷ mine) one e f o sane behind =
-        place_along n r held.places (mine ++ g.waiting) _ o.is
-        (field_along class r n held _ (place_there held.objects 0 r held.places (ap (λ l. slice_get l 0) o.is) sane.there) (λ j ob same found. behind n (omega arith) (slice_index_or ob.fields index (pos 0) ∷ stack) held (r ∷ mine) (ap suc e) f o))
+      operation_leads : (x : Op) → slice_get (all R) pc ≡ Some (Plain x) → ((k : ℕ) → Clears R (all R) (table R) k pc → NilFrom k own) → Reaches x h.numbers h.places → Goes_to (pc + 1) (left R (all R) (table R) h (Plain x)) → Leads (operates p.classes x s)
+      operation_leads (Num n) is nil needs g = next (Num n) g (n ∷ stack) held own (omega (arith, count)) (omega (arith, size)) o
+      operation_leads (Bin operator kind) is nil needs g = top_leads stack _ (omega (arith, count, needs)) (λ y rest e. top_leads rest _ (omega (arith, count, needs, e)) (λ x others e2. or_fault_leads (combined operator kind x y) others (λ v. next (Bin operator kind) g (v ∷ others) held own (omega (arith, count, needs, e, e2)) (omega (arith, size)) o)))
+      operation_leads (Un kind) is nil needs g = top_leads stack _ (omega (arith, count, needs)) (λ x rest e. next (Un kind) g (negated kind x ∷ rest) held own (omega (arith, count, needs, e)) (omega (arith, size)) o)
+      operation_leads (Narrow kind) is nil needs g = top_leads stack _ (omega (arith, count, needs)) (λ x rest e. next (Narrow kind) g (converted kind x ∷ rest) held own (omega (arith, count, needs, e)) (omega (arith, size)) o)
+      operation_leads Pop is nil needs g = top_leads stack _ (omega (arith, count, needs)) (λ x rest e. next Pop g rest held own (omega (arith, count, needs, e)) (omega (arith, size)) o)
+      operation_leads (Get depth) is nil needs g = found_leads stack depth _ (omega (arith, count, needs)) (λ v _. next (Get depth) g (v ∷ stack) held own (omega (arith, count)) (omega (arith, size)) o)
+      operation_leads (Set depth) is nil needs g = top_leads stack _ (omega (arith, count, needs)) (λ v rest e. found_leads rest depth _ (omega (arith, count, needs, e)) (λ u _. next (Set depth) g (slice_set rest depth v) held own (omega (arith, count, needs, e, length-set rest depth v)) (omega (arith, size)) o))
+      operation_leads PrintNum is nil needs g = top_leads stack _ (omega (arith, count, needs)) (λ v rest e. top_leads rest _ (omega (arith, count, needs, e)) (λ c others e2. next PrintNum g (counted c (signed_decimal v) ∷ others) held own (omega (arith, count, needs, e, e2)) (omega (arith, size)) o))
+      operation_leads PrintByte is nil needs g = top_leads stack _ (omega (arith, count, needs)) (λ v rest e. top_leads rest _ (omega (arith, count, needs, e)) (λ c others e2. next PrintByte g (counted c (low_byte v ∷ []) ∷ others) held own (omega (arith, count, needs, e, e2)) (omega (arith, size)) o))
+      operation_leads GetChar is nil needs g = λ answer. next GetChar g (byte_or_end answer ∷ stack) held own (omega (arith, count)) (omega (arith, size)) o
+      operation_leads Nil is nil needs g = next Nil g stack (placed 0 held) (0 ∷ own) (omega (arith, count)) (omega (arith, size)) (owns_more 0 own held tt o)
+      operation_leads HoldSelf is nil needs g = holds_leads held.self held _ self_there (next HoldSelf g stack (placed held.self held) (held.self ∷ own) (omega (arith, count)) (omega (arith, size)) (owns_more held.self own held self_there o))
+      operation_leads (Hold depth) is nil needs g = found_leads held.places depth _ (within depth needs) (λ r found. holds_leads r held _ (place_is depth r found) (next (Hold depth) g stack (placed r held) (r ∷ own) (omega (arith, count)) (omega (arith, size)) (owns_more r own held (place_is depth r found) o)))
+      operation_leads (Forget number) is nil needs g = subst (λ l. Leads (forgets number l (λ rest. keeps s stack (with_places held rest)))) (sym o.is) (forgets_leads own waiting number _ (omega (arith, needs, size)) (nil 0 (number, is)) (next (Forget number) g stack (with_places held waiting) [] (omega (arith, count)) (omega (arith, needs)) (record { is = refl; itself = o.itself; dying = o.dying; sane = forgotten_sane own waiting held (nil 0 (number, is)) (subst (λ l. Sane (with_places held l)) o.is o.sane) })))
+      operation_leads Alloc is nil needs g = top_leads stack _ (omega (arith, count, needs)) (λ v rest e. made_leads (class_at v) rest needs g e)
+      operation_leads (GetField class index) is nil needs g =
+          let f = first_of own (omega (arith, needs, size)) in
+          let top = top_place f.0 f.1 f.2 in
+          place_leads f.0 held.places (f.1 ++ waiting) _ top (field_leads class f.0 held _ (place_is 0 f.0 (ap (λ l. slice_get l 0) top)) (λ j ob same found _. next (GetField class index) g (slice_index_or ob.fields index (pos 0) ∷ stack) held own (omega (arith, count)) (omega (arith, size)) o))
+      operation_leads (SetField depth class index) is nil needs g = found_leads held.places depth _ (within depth needs.1) (λ r found. top_leads stack _ (omega (arith, count, needs.0)) (λ v rest e.
+          field_leads class r held _ (place_is depth r found) (λ j ob same at_j there. next (SetField depth class index) g stack (with_field held r ob index v) own (omega (arith, count, needs.0)) (omega (arith, size)) (record { is = o.is; itself = o.itself; dying = field_dies j ob (slice_set ob.fields index v) r same at_j; sane = subst (λ q. Sane (with_things held (with_object held.objects q (with_fields ob (slice_set ob.fields index v))))) (sym same) (sane_field held j ob (slice_set ob.fields index v) at_j there o.sane) }))))
+      operation_leads (Differ depth) is nil needs g =
+          let f = first_of own (omega (arith, needs, size)) in
+          let top = top_place f.0 f.1 f.2 in
+          let longer = ap length top in
+          place_leads f.0 held.places (f.1 ++ waiting) _ top (found_leads (f.1 ++ waiting) depth _ (omega (arith, within (suc depth) needs, longer)) (λ other found. next (Differ depth) g (difference other f.0 ∷ stack) held own (omega (arith, count)) (omega (arith, size)) o))
+      operation_leads IsObject is nil needs g =
+          let f = first_of own (omega (arith, needs, size)) in
+          place_leads f.0 held.places (f.1 ++ waiting) _ (top_place f.0 f.1 f.2) (next IsObject g (difference f.0 0 ∷ stack) held own (omega (arith, count)) (omega (arith, size)) o)
 
-    get_field_keeps : (class index height own : ℕ) → 1 ≤ own → Keeps (Plain (GetField class index) ∷ []) height own (suc height) own
-    get_field_keeps class index height own one = one_keeps (Plain (GetField class index)) height own (suc height) own (λ n pc stack held mine e f o sane behind. get_field_by class index height own n pc stack held mine one e f o sane behind)
+      -- a message to the object of a place, and one to `self`
+      told : (r selector takes : ℕ) → takes ≤ h.numbers → Alive frames held.places r → IsThere held.objects r → Goes_to (pc + 1) (height (h.numbers - takes + 1) (h.places - 0 + 0)) → Leads (sends p s r selector takes)
+      told zero selector takes le living there g = taken_leads takes stack _ (omega (arith, count, le)) (λ rest e. go_on (pc + 1) _ g (pos 0 ∷ rest) held own (omega (arith, count, le, e)) (omega (arith, size)) o)
+      told (suc j) selector takes le living there g =
+          subst Leads (sym (object_goes (object_at held.objects (suc j)) there.0 (λ x. answers s (suc j) (lookup p.classes (Some x.class) signs.Instance selector takes)) there.1 there.2))
+          (answers_lead (lookup p.classes (Some there.0.class) signs.Instance selector takes) (suc j) takes pc stack held (finds (Some there.0.class) signs.Instance selector takes) (omega (arith, count, le)) living o.itself o.dying o.sane (back pc _ g (length stack - takes + 1) held.places own (omega (arith, count, le)) (omega (arith, size)) o.is))
 
-    set_dying : (held : Held) (j : ℕ) (o : Object) (fields : List ℤ) (r : ℕ) → r ≡ suc j → object_at held.objects (suc j) ≡ Some o → AllDying held.objects (ending g.frames) → AllDying (with_object held.objects r (with_fields o fields)) (ending g.frames)
-    set_dying held j o fields r same found d = subst (λ q. AllDying (with_object held.objects q (with_fields o fields)) (ending g.frames)) (sym same) (changed_dying held.objects j (with_fields o fields) (ending g.frames) (λ x. dies x.0 (sym x.1 ∙ found) x.2) d)
-      where
-        dies : (x : Object) → Some x ≡ Some o → x.phase ≡ Dying → o.phase ≡ Dying
-        dies x e h = let alike : x ≡ o = cc in subst (λ (y : Object). y.phase ≡ Dying) alike h
+      told_up : (r from selector takes : ℕ) → takes ≤ h.numbers → Alive frames held.places r → Goes_to (pc + 1) (height (h.numbers - takes + 1) (h.places - 0 + 0)) → Leads (sends_up p s from r selector takes)
+      told_up zero from selector takes le living g = taken_leads takes stack _ (omega (arith, count, le)) (λ rest e. go_on (pc + 1) _ g (pos 0 ∷ rest) held own (omega (arith, count, le, e)) (omega (arith, size)) o)
+      told_up (suc j) from selector takes le living g = answers_lead (lookup p.classes (Some from) signs.Instance selector takes) (suc j) takes pc stack held (finds (Some from) signs.Instance selector takes) (omega (arith, count, le)) living o.itself o.dying o.sane (back pc _ g (length stack - takes + 1) held.places own (omega (arith, count, le)) (omega (arith, size)) o.is)
 
-    set_field_keeps : (depth class index height own : ℕ) → depth < own → Keeps (Plain (SetField depth class index) ∷ []) (suc height) own (suc height) own
-    set_field_keeps depth class index height own lt = one_keeps (Plain (SetField depth class index)) (suc height) own (suc height) own (λ n pc stack held mine e f o sane behind.
-        found_along p n held.places depth _ (within_own depth own mine held lt f o) (λ r found. top_along p n height stack _ e (λ v rest b.
-        field_along class r n held _ (place_there held.objects depth r held.places found sane.there) (λ j ob same at_j. behind n (omega arith) stack (with_field held r ob index v) mine e f (record { is = o.is; itself = o.itself; dying = set_dying held j ob (slice_set ob.fields index v) r same at_j o.dying })))))
+      class_told : (from : Option ℕ) (selector takes : ℕ) → suc takes ≤ h.numbers → Goes_to (pc + 1) (height (h.numbers - suc takes + 1) (h.places - 0 + 0)) → Leads (answers s 0 (lookup p.classes from signs.Class selector takes))
+      class_told from selector takes le g = answers_lead (lookup p.classes from signs.Class selector takes) 0 (suc takes) pc stack held (finds from signs.Class selector takes) (omega (arith, count, le)) (nil_alive frames held.places) o.itself o.dying o.sane (back pc _ g (length stack - suc takes + 1) held.places own (omega (arith, count, le)) (omega (arith, size)) o.is)
 
-    differ_by : (depth height own n pc : ℕ) (stack : List ℤ) (held : Held) (mine : List ℕ) → suc depth < own → length stack ≡ height → length mine ≡ own → Owns g mine held → Until p g n (pc + 1) (suc height) own → Along (SafeIfSane p n) (does p (Plain (Differ depth)) (at g.frames pc stack held))
-    differ_by depth height own n pc stack held [] lt e f o behind = absurd (omega (arith, f, lt))
-    differ_by depth height own n pc stack held (r ∷ mine) lt e f o behind =
-        place_along n r held.places (mine ++ g.waiting) _ o.is
-        (found_along p n (mine ++ g.waiting) depth _ (omega (arith, lt, f, length-append mine g.waiting)) (λ other found. behind n (omega arith) (difference other r ∷ stack) held (r ∷ mine) (ap suc e) f o))
+      chosen_leads : (b : Bool) (x y : Next State) → Leads x → Leads y → Leads (chosen b x y)
+      chosen_leads false x y f g = f
+      chosen_leads true x y f g = g
 
-    differ_keeps : (depth height own : ℕ) → suc depth < own → Keeps (Plain (Differ depth) ∷ []) height own (suc height) own
-    differ_keeps depth height own lt = one_keeps (Plain (Differ depth)) height own (suc height) own (λ n pc stack held mine e f o sane behind. differ_by depth height own n pc stack held mine lt e f o behind)
+      order_leads : (x : Order) → slice_get (all R) pc ≡ Some x → (x ≡ EndStep → ⊥) → ((k : ℕ) → Clears R (all R) (table R) k pc → NilFrom k own) → Steps R (all R) (table R) h pc x → Leads (does p x s)
+      order_leads (Plain x) is no_end nil st = operation_leads x is nil st.0 st.1
+      order_leads (PrintText bytes) is no_end nil st = top_leads stack _ (omega (arith, count, st.0)) (λ c rest e. go_on (pc + 1) _ st.1 (counted c bytes ∷ rest) held own (omega (arith, count, st.0, e)) (omega (arith, size)) o)
+      order_leads (Jump to) is no_end nil st = go_on (lands pc to) h st stack held own count size o
+      order_leads (JumpZero to) is no_end nil st = top_leads stack _ (omega (arith, count, st.0)) (λ v rest e. chosen_leads (is_zero v) _ _ (go_on (pc + 1) _ st.1 rest held own (omega (arith, count, st.0, e)) size o) (go_on (lands pc to) _ st.2 rest held own (omega (arith, count, st.0, e)) size o))
+      order_leads (Call f) is no_end nil st = enters_lead (has_level s) (entry p f) 0 (slots_of R f) pc stack held (calls f st.0.1) (omega (arith, count, st.0.0)) (nil_alive frames held.places) o.itself o.dying o.sane (back pc _ st.1 (length stack - slots_of R f + 1) held.places own (omega (arith, count, st.0.0)) (omega (arith, size)) o.is)
+      order_leads (Send selector takes) is no_end nil st = found_leads stack takes _ (omega (arith, count, st.0)) (λ class _. class_told (class_at class) selector takes st.0 st.1)
+      order_leads (SendSuper from selector takes) is no_end nil st = class_told (Some from) selector takes st.0 st.1
+      order_leads (SendTo depth selector takes) is no_end nil st = found_leads held.places depth _ (within depth st.0.1) (λ r found. told r selector takes st.0.0 (λ objects there dying. place_there objects depth r held.places found there) (place_is depth r found) st.1)
+      order_leads (SendToSuper from selector takes) is no_end nil st = told_up held.self from selector takes st.0 self_alive st.1
+      order_leads Return is no_end nil st = top_leads stack _ (omega (arith, count, st.0)) (λ v rest e.
+          leaves_lead frames below waiting pc v stack rest held waits (subst (Alive frames waiting) (sym o.itself) alive) e (omega (arith, count, st.0, e)) (sym (o.is ∙ none_before own (omega (arith, size, st.1)))) o.dying o.sane)
+      order_leads (StoreStrong depth) is no_end nil st =
+          let f = first_of own (omega (arith, st.0, size)) in
+          let r = f.0 in
+          let rest = f.1 in
+          let top = top_place r rest f.2 in
+          let longer = ap length top in
+          let shorter = ap length f.2 in
+          let deep : depth < length rest = omega (arith, st.0, size, shorter) in
+          let set = set_front rest waiting depth r deep in
+          let own1 = r ∷ slice_set rest depth r in
+          place_leads r held.places (rest ++ waiting) _ top (found_leads (rest ++ waiting) depth _ (omega (arith, deep, length-append rest waiting)) (λ old found.
+          holds_leads r held _ (place_is 0 r (ap (λ l. slice_get l 0) top))
+          (releases_lead old pc stack held (with_places (placed r held) (r ∷ slice_set (rest ++ waiting) depth r)) o.itself o.itself (place_is (suc depth) old (ap (λ l. slice_get l (suc depth)) top ∙ found)) o.dying (sane_store (with_places held (r ∷ (rest ++ waiting))) (suc depth) old r found (place_is 0 r (ap (λ l. slice_get l 0) top)) (subst (λ l. Sane (with_places held l)) top o.sane))
+          (back pc _ st.1 (length stack) (r ∷ slice_set (rest ++ waiting) depth r) own1 (omega (arith, count)) (omega (arith, size, shorter, length-set rest depth r)) (ap (λ l. r ∷ l) set)))))
+      order_leads Drop is no_end nil st =
+          let f = first_of own (omega (arith, st.0, size)) in
+          let top = top_place f.0 f.1 f.2 in
+          let shorter = ap length f.2 in
+          place_leads f.0 held.places (f.1 ++ waiting) _ top
+          (releases_lead f.0 pc stack held (with_places held (f.1 ++ waiting)) o.itself o.itself (place_is 0 f.0 (ap (λ l. slice_get l 0) top)) o.dying (subst (λ l. Sane (with_places held l)) top o.sane) (back pc _ st.1 (length stack) (f.1 ++ waiting) f.1 (omega (arith, count)) (omega (arith, size, shorter)) refl))
+      order_leads (Empty i) is no_end nil st =
+          let emptied = slice_set own i 0 in
+          let places = slice_set held.places i 0 in
+          let set : places ≡ emptied ++ waiting = ap (λ l. slice_set l i 0) o.is ∙ set_front own waiting i 0 (omega (arith, st.0, size)) in
+          let many = length-set own i 0 in
+          let home : Back pc (length stack) places = record {
+            high = left R (all R) (table R) h (Empty i);
+            stands = st.1;
+            own = emptied;
+            count = omega (arith, count);
+            is = set;
+            size = omega (arith, size, many);
+            nil = λ k c. ⊎_elim (λ same. nil_from (subst (λ j. Clears R (all R) (table R) j (pc + 1)) same c) same) (λ le. nil_from_end emptied k (omega (arith, size, many, le))) (st.2 k c);
+            alive = alive;
+          } in
+          found_leads held.places i _ (within i st.0) (λ r found. releases_lead r pc stack held (raised 0 (with_places held places)) o.itself o.itself (place_is i r found) o.dying (sane_store held i r 0 found tt o.sane) home)
+        where
+          nil_from : {k : ℕ} → Clears R (all R) (table R) i (pc + 1) → k ≡ i → NilFrom k (slice_set own i 0)
+          nil_from {k} c same = subst (λ j. NilFrom j (slice_set own i 0)) (sym same) (nil_from_set i own (nil (suc i) (is, c)))
+      order_leads EndStep is no_end nil st = absurd (no_end refl)
 
-    is_object_by : (height own n pc : ℕ) (stack : List ℤ) (held : Held) (mine : List ℕ) → 1 ≤ own → length stack ≡ height → length mine ≡ own → Owns g mine held → Until p g n (pc + 1) (suc height) own → Along (SafeIfSane p n) (does p (Plain IsObject) (at g.frames pc stack held))
-    is_object_by height own n pc stack held [] one e f o behind = absurd (omega (arith, f, one))
-    is_object_by height own n pc stack held (r ∷ mine) one e f o behind = place_along n r held.places (mine ++ g.waiting) _ o.is (behind n (omega arith) (difference r 0 ∷ stack) held (r ∷ mine) (ap suc e) f o)
+  -- ---- the end of an object
 
-    is_object_keeps : (height own : ℕ) → 1 ≤ own → Keeps (Plain IsObject ∷ []) height own (suc height) own
-    is_object_keeps height own one = one_keeps (Plain IsObject) height own (suc height) own (λ n pc stack held mine e f o sane behind. is_object_by height own n pc stack held mine one e f o behind)
+  module _ (classes : p.classes ≡ classes_linked R) (stack : List ℤ) (held : Held) (sane : Sane held) where
+    ends_lead : (b : Bool) (back self o : ℕ) (next : Option ℕ) (left : ℕ) (others : List Frame) → nat_eq (held.counts o) 0 ≡ b → Waits (Ending back self o next left ∷ others) (length stack) held.places → AllDying held.objects (ending (Ending back self o next left ∷ others)) → Leads (if b then Goes (record { at = back; stack = stack; frames = others; held = with_self (with_things held (gone_in held.objects o)) self }) [] else Faults Resurrected)
+    ends_lead false back self o next left others e waits dying = tt
+    ends_lead true back self zero next left others e waits dying = absurd (no_nil held.objects dying.0)
+    ends_lead true back self (suc k) next left others e waits dying =
+        let ob = dying.0.0 in
+        let found : object_at held.objects (suc k) ≡ Some ob = dying.0.1 in
+        let still : AllDying (gone_in held.objects (suc k)) (ending others) = rw found (apart_dying held.objects k (in_phase Gone ob) (ending others) waits.4 dying.1) in
+        (inl (record { below = waits.0; waiting = waits.1; resumes = waits.2; waits = waits.3 }), still, sane_gone held (suc k) self e sane)
 
-    -- ---- calls and messages
+    module _ (back self o : ℕ) (others : List Frame) (alive : (next : Option ℕ) (left : ℕ) → Alive (Ending back self o next left ∷ others) held.places held.self) (waits : (next : Option ℕ) (left : ℕ) → Waits (Ending back self o next left ∷ others) (length stack) held.places) (dying : (next : Option ℕ) (left : ℕ) → AllDying held.objects (ending (Ending back self o next left ∷ others))) (frames : List Frame) where
+      abbrev here : State
+      here = at frames p.end_step stack held
 
-    call_keeps : (f height own : ℕ) → Keeps (Call (number_of R f) ∷ []) (slots_of R f + height) own (suc height) own
-    call_keeps f height own = record { safe = λ n pc has behind. safe_calls.invokes f height own n pc has behind }
+      dealloc_leads : (d : Option ℕ) (next : Option ℕ) (left : ℕ) → ((to : ℕ) → d ≡ Some to → Goes_to to (height 0 0)) → Leads (runs_dealloc d here (Ending back self o next left ∷ others))
+      dealloc_leads None next left goes = (inr (record { at_end = refl; is_ending = tt; alive = alive next left; waits = waits next left }), dying next left, sane)
+      dealloc_leads (Some to) next left goes =
+          let g = goes to refl in (
+            inl (record {
+              below = length stack;
+              waiting = held.places;
+              resumes = record { high = height 0 0; stands = g.0; own = []; count = omega arith; is = refl; size = refl; nil = λ k c. nil_from_end [] k (omega arith); alive = alive next left };
+              waits = waits next left;
+            }),
+            dying next left,
+            sane,
+          )
 
-    invoked_keeps : (f values height own stack : ℕ) → height ≡ values + stack → Keeps (call_orders R f values) height own (suc stack) own
-    invoked_keeps f values height own stack e = then_keeps (fit_orders values (slots_of R f)) (Call (number_of R f) ∷ []) height own (slots_of R f + stack) own (suc stack) own (fit_keeps values (slots_of R f) height own (slots_of R f + stack) stack e refl) (call_keeps f stack own)
+      class_leads : (i : ℕ) (c : Option Class) (left : ℕ) → slice_get p.classes i ≡ c → Leads (ends_class p here back self o c left others)
+      class_leads i None left e = ends_lead (nat_eq (held.counts o) 0) back self o None left others refl (waits None left) (dying None left)
+      class_leads i (Some d) left e = dealloc_leads d.dealloc d.superclass left (λ to f. dealloc_goes R i d to (ap (λ cs. slice_get cs i) (sym classes) ∙ e) f)
 
-    send_keeps : (selector takes height own : ℕ) → Keeps (Send selector takes ∷ []) (suc takes + height) own (suc height) own
-    send_keeps selector takes height own = one_keeps (Send selector takes) (suc takes + height) own (suc height) own (λ n pc stack held mine e f o sane behind.
-        found_along p n stack takes _ (omega (arith, e)) (λ class _. safe_calls.tells signs.Class (class_at class) selector takes 0 height n pc stack held mine e o sane (nil_alive g.frames held.places) (subst (Until p g n (pc + 1) (suc height)) (sym f) behind)))
+    goes_on_leads : (frames : List Frame) → IsEnding frames → Alive frames held.places held.self → Waits frames (length stack) held.places → AllDying held.objects (ending frames) → Leads (end_goes_on p (at frames p.end_step stack held) frames)
+    goes_on_leads [] is alive waits dying = absurd is
+    goes_on_leads (Calling back self ∷ others) is alive waits dying = absurd is
+    goes_on_leads (Ending back self o None left ∷ others) is alive waits dying = ends_lead (nat_eq (held.counts o) 0) back self o None left others refl waits dying
+    goes_on_leads (Ending back self o (Some c) zero ∷ others) is alive waits dying = ends_lead (nat_eq (held.counts o) 0) back self o (Some c) zero others refl waits dying
+    goes_on_leads (Ending back self o (Some c) (suc left) ∷ others) is alive waits dying = class_leads back self o others (λ n l. alive) (λ n l. waits) (λ n l. dying) (Ending back self o (Some c) (suc left) ∷ others) c (slice_get p.classes c) left refl
 
-    super_keeps : (from selector takes height own : ℕ) → Keeps (SendSuper from selector takes ∷ []) (suc takes + height) own (suc height) own
-    super_keeps from selector takes height own = one_keeps (SendSuper from selector takes) (suc takes + height) own (suc height) own (λ n pc stack held mine e f o sane behind.
-        safe_calls.tells signs.Class (Some from) selector takes 0 height n pc stack held mine e o sane (nil_alive g.frames held.places) (subst (Until p g n (pc + 1) (suc height)) (sym f) behind))
+  -- ---- the program
 
-    taken_along : (takes height n : ℕ) (stack : List ℤ) (go : List ℤ → Next State) → length stack ≡ takes + height → ((rest : List ℤ) → length rest ≡ height → Along (SafeIfSane p n) (go rest)) → Along (SafeIfSane p n) (taken takes stack go)
-    taken_along zero height n stack go e h = h stack (omega (arith, e))
-    taken_along (suc takes) height n [] go e h = absurd (omega (arith, e))
-    taken_along (suc takes) height n (v ∷ rest) go e h = taken_along takes height n rest go (omega (arith, e)) h
+  module _ (is : orders p.actions ≡ lowered_orders R) (entries : p.entries ≡ entries_of R) (classes : p.classes ≡ classes_linked R) (end : p.end_step ≡ end_step_of R) where
+    step_does : (s : State) (x : Order) → slice_get (lowered_orders R) s.at ≡ Some x → step p s ≡ does p x s
+    step_does s x e = executes_at p p.actions s.at x s (ap (λ l. slice_get l s.at) is ∙ e)
 
-    tells_place : (r depth selector takes height n pc : ℕ) (stack : List ℤ) (held : Held) (mine : List ℕ) → length stack ≡ takes + height → Owns g mine held → Sane held → slice_get held.places depth ≡ Some r → Until p g n (pc + 1) (suc height) (length mine) → Along (SafeIfSane p n) (sends p (at g.frames pc stack held) r selector takes)
-    tells_place zero depth selector takes height n pc stack held mine e o sane found behind = taken_along takes height n stack _ e (λ rest b. behind n (omega arith) (pos 0 ∷ rest) held mine (ap suc b) refl o)
-    tells_place (suc j) depth selector takes height n pc stack held mine e o sane found behind =
-        let there = place_there held.objects depth (suc j) held.places found sane.there in
-        let s = at g.frames pc stack held in
-        subst (Along (SafeIfSane p n)) (sym (object_goes (object_at held.objects (suc j)) there.0 (λ x. answers s (suc j) (lookup p.classes (Some x.class) signs.Instance selector takes)) there.1 there.2))
-        (safe_calls.tells signs.Instance (Some there.0.class) selector takes (suc j) height n pc stack held mine e o sane (λ objects all dying. place_there objects depth (suc j) held.places found all) behind)
+    function_leads : (s : State) → InFunction s → AllDying s.held.objects (ending s.frames) → Sane s.held → Leads (step p s)
+    function_leads s f dying sane =
+        let r = f.resumes in
+        let x = r.stands.order in
+        let st = steps_at R s.at x r.stands.is in
+        let same : st.0 ≡ r.high = some_same st.0 r.high (sym st.1 ∙ r.stands.height) in
+        let steps = subst (λ h. Steps R (all R) (table R) h s.at x) same st.2 in
+        subst Leads (sym (step_does s x r.stands.is))
+        (order_leads s.frames f.below f.waiting s.held.self r.alive f.waits classes (λ g le. entry_goes p R is entries g le) s.at r.high s.stack s.held r.own r.count r.size (record { is = r.is; itself = refl; dying = dying; sane = sane }) x r.stands.is r.stands.no_end r.nil steps)
 
-    send_to_keeps : (depth selector takes height own : ℕ) → depth < own → Keeps (SendTo depth selector takes ∷ []) (takes + height) own (suc height) own
-    send_to_keeps depth selector takes height own lt = one_keeps (SendTo depth selector takes) (takes + height) own (suc height) own (λ n pc stack held mine e f o sane behind.
-        found_along p n held.places depth _ (within_own depth own mine held lt f o) (λ r found. tells_place r depth selector takes height n pc stack held mine e o sane found (subst (Until p g n (pc + 1) (suc height)) (sym f) behind)))
+    end_leads : (s : State) → InEnd s → AllDying s.held.objects (ending s.frames) → Sane s.held → Leads (step p s)
+    end_leads s f dying sane =
+        let e : slice_get (lowered_orders R) s.at ≡ Some EndStep = ap (slice_get (lowered_orders R)) (f.at_end ∙ end) ∙ end_is R in
+        subst Leads (sym (step_does s EndStep e)) (subst (λ pc. Leads (end_goes_on p (at s.frames pc s.stack s.held) s.frames)) (sym f.at_end) (goes_on_leads classes s.stack s.held sane s.frames f.is_ending f.alive f.waits dying))
 
-    self_alive : (held : Held) (mine : List ℕ) → Owns g mine held → Alive g.frames held.places held.self
-    self_alive held mine o objects all dying = subst (IsThere objects) (sym o.itself) (safe_calls.alive objects (last_there objects mine g.waiting (subst (AllThere objects) o.is all)) dying)
+    pub step_leads : (s : State) → Good s → Leads (step p s)
+    step_leads s good = ⊎_elim (λ f. function_leads s f good.1 good.2) (λ f. end_leads s f good.1 good.2) good.0
 
-    tells_up : (r from selector takes height n pc : ℕ) (stack : List ℤ) (held : Held) (mine : List ℕ) → length stack ≡ takes + height → Owns g mine held → Sane held → Alive g.frames held.places r → Until p g n (pc + 1) (suc height) (length mine) → Along (SafeIfSane p n) (sends_up p (at g.frames pc stack held) from r selector takes)
-    tells_up zero from selector takes height n pc stack held mine e o sane living behind = taken_along takes height n stack _ e (λ rest b. behind n (omega arith) (pos 0 ∷ rest) held mine (ap suc b) refl o)
-    tells_up (suc j) from selector takes height n pc stack held mine e o sane living behind = safe_calls.tells signs.Instance (Some from) selector takes (suc j) height n pc stack held mine e o sane living behind
+    safe : (n : ℕ) (s : State) → Good s → Safe (step p) (λ t. Counted t.held) n s
+    safe zero s good = good.2.counted
+    safe (suc n) s good = along_map Good (Safe (step p) (λ t. Counted t.held) n) (safe n) (step p s) (step_leads s good)
 
-    send_up_keeps : (from selector takes height own : ℕ) → Keeps (SendToSuper from selector takes ∷ []) (takes + height) own (suc height) own
-    send_up_keeps from selector takes height own = one_keeps (SendToSuper from selector takes) (takes + height) own (suc height) own (λ n pc stack held mine e f o sane behind.
-        tells_up held.self from selector takes height n pc stack held mine e o sane (self_alive held mine o) (subst (Until p g n (pc + 1) (suc height)) (sym f) behind))
+    pub start_good : Good start
+    start_good = (inl (record { below = 0; waiting = []; resumes = record { high = height 0 0; stands = (start_goes R).0; own = []; count = refl; is = refl; size = refl; nil = λ k c. nil_from_end [] k (omega arith); alive = nil_alive [] [] }; waits = tt }), tt, nothing_sane)
 
-    -- ---- expressions
-
-    local_keeps : (depth i height own : ℕ) (b : Bool) → nat_lt i slots ≡ b → height ≡ depth + (slots + below) → Keeps (if b then Plain (Get (depth + (slots - suc i))) ∷ [] else Plain (Num (pos 0)) ∷ []) height own (suc height) own
-    local_keeps depth i height own true e h = let lt = ltb-true i slots e in get_keeps (depth + (slots - suc i)) height own (omega (arith, lt, h))
-    local_keeps depth i height own false e h = num_keeps (pos 0) height own
-
-    assigned_keeps : (depth i height own : ℕ) (b : Bool) → nat_lt i slots ≡ b → height ≡ depth + (slots + below) → Keeps (if b then Plain (Get 0) ∷ Plain (Set (suc depth + (slots - suc i))) ∷ [] else []) (suc height) own (suc height) own
-    assigned_keeps depth i height own true e h =
-        let lt = ltb-true i slots e in
-        then_keeps (Plain (Get 0) ∷ []) (Plain (Set (suc depth + (slots - suc i))) ∷ []) (suc height) own (suc (suc height)) own (suc height) own (get_keeps 0 (suc height) own (omega arith)) (set_keeps (suc depth + (slots - suc i)) (suc height) own (omega (arith, lt, h)))
-    assigned_keeps depth i height own false e h = no_keeps (suc height) own (suc height) own refl refl
-
-    variable_keeps : (taken i height own : ℕ) (b : Bool) → nat_lt i names ≡ b → own ≡ taken + names → Keeps (if b then Plain (Hold (taken + i)) ∷ [] else Plain Nil ∷ []) height own height (suc own)
-    variable_keeps taken i height own true e h = let lt = ltb-true i names e in hold_keeps (taken + i) height own (omega (arith, lt, h))
-    variable_keeps taken i height own false e h = nil_keeps height own
-
-    pub stored_keeps : (taken i height own : ℕ) (b : Bool) → nat_lt i names ≡ b → own ≡ taken + names → Keeps (if b then StoreStrong (taken + i) ∷ [] else []) height (suc own) height (suc own)
-    stored_keeps taken i height own true e h = let lt = ltb-true i names e in store_keeps (taken + i) height own (omega (arith, lt, h))
-    stored_keeps taken i height own false e h = no_keeps height (suc own) height (suc own) refl refl
-
-    -- the same by other counts of places
-    pub alike : (xs : List Order) (height own after left own' left' : ℕ) → own ≡ own' → left ≡ left' → Keeps xs height own after left → Keeps xs height own' after left'
-    alike xs height own after left own' left' e f h = subst (λ m. Keeps xs height m after left') e (subst (Keeps xs height own after) f h)
-
-    pub positive : (a : Reference) → 1 ≤ reference_takes a
-    positive resolved.Nil = omega arith
-    positive Itself = omega arith
-    positive (Variable i) = omega arith
-    positive (Stored i a) = omega arith
-    positive (Made a) = omega arith
-    positive (Initialized a) = omega arith
-
-    mutual
-      pub value_keeps : (e : Value) (depth taken height own left : ℕ) → height ≡ depth + (slots + below) → own ≡ taken + names → left ≡ value_takes e + own → Keeps (value_orders R slots names depth taken e) height own (suc height) left
-      value_keeps (Number n) depth taken height own left h o e = alike _ height own (suc height) own own left refl (omega (arith, e)) (num_keeps n height own)
-      value_keeps ReadByte depth taken height own left h o e = alike _ height own (suc height) own own left refl (omega (arith, e)) (read_keeps height own)
-      value_keeps (Print pieces arguments) depth taken height own left h o e =
-          let n = value_count arguments in
-          then_keeps (all_value_orders R slots names depth taken arguments) (print_orders pieces n) height own (n + height) left (suc height) left (all_keep arguments depth taken height own (n + height) left h o refl e) (print_keeps pieces n (n + height) left height refl)
-      value_keeps (Negated kind a) depth taken height own left h o e = then_keeps (value_orders R slots names depth taken a) (Plain (Un kind) ∷ []) height own (suc height) left (suc height) left (value_keeps a depth taken height own left h o e) (unary_keeps kind height left)
-      value_keeps (Combined operator kind a b) depth taken height own left h o e =
-          let middle = value_takes a + own in
-          then_keeps (value_orders R slots names depth taken a) (value_orders R slots names (suc depth) (taken + value_takes a) b ++ Plain (Bin operator kind) ∷ []) height own (suc height) middle (suc height) left (value_keeps a depth taken height own middle h o refl)
-          (then_keeps (value_orders R slots names (suc depth) (taken + value_takes a) b) (Plain (Bin operator kind) ∷ []) (suc height) middle (suc (suc height)) left (suc height) left (value_keeps b (suc depth) (taken + value_takes a) (suc height) middle left (omega (arith, h)) (omega (arith, o)) (omega (arith, e))) (binary_keeps operator kind height left))
-      value_keeps (Converted kind a) depth taken height own left h o e = then_keeps (value_orders R slots names depth taken a) (Plain (Narrow kind) ∷ []) height own (suc height) left (suc height) left (value_keeps a depth taken height own left h o e) (narrow_keeps kind height left)
-      value_keeps (Local i) depth taken height own left h o e = alike _ height own (suc height) own own left refl (omega (arith, e)) (local_keeps depth i height own (nat_lt i slots) refl h)
-      value_keeps (Assigned i a) depth taken height own left h o e = then_keeps (value_orders R slots names depth taken a) (set_orders slots depth i) height own (suc height) left (suc height) left (value_keeps a depth taken height own left h o e) (assigned_keeps depth i height left (nat_lt i slots) refl h)
-      value_keeps (Invoked f arguments) depth taken height own left h o e =
-          let n = value_count arguments in
-          then_keeps (all_value_orders R slots names depth taken arguments) (call_orders R f n) height own (n + height) left (suc height) left (all_keep arguments depth taken height own (n + height) left h o refl e) (invoked_keeps f n (n + height) left height refl)
-      value_keeps (Sent a selector arguments) depth taken height own left h o e =
-          let n = value_count arguments in
-          let middle = value_takes a + own in
-          let xs = all_value_orders R slots names (suc depth) (taken + value_takes a) arguments in
-          then_keeps (value_orders R slots names depth taken a) (xs ++ Send selector n ∷ []) height own (suc height) middle (suc height) left (value_keeps a depth taken height own middle h o refl)
-          (then_keeps xs (Send selector n ∷ []) (suc height) middle (suc n + height) left (suc height) left (all_keep arguments (suc depth) (taken + value_takes a) (suc height) middle (suc n + height) left (omega (arith, h)) (omega (arith, o)) (omega arith) (omega (arith, e))) (send_keeps selector n height left))
-      value_keeps (SentSuper from selector arguments) depth taken height own left h o e =
-          let n = value_count arguments in
-          let xs = all_value_orders R slots names (suc depth) taken arguments in
-          then_keeps (get_orders slots depth 0) (xs ++ SendSuper from selector n ∷ []) height own (suc height) own (suc height) left (local_keeps depth 0 height own (nat_lt 0 slots) refl h)
-          (then_keeps xs (SendSuper from selector n ∷ []) (suc height) own (suc n + height) left (suc height) left (all_keep arguments (suc depth) taken (suc height) own (suc n + height) left (omega (arith, h)) o (omega arith) e) (super_keeps from selector n height left))
-      value_keeps (SentTo a selector arguments) depth taken height own left h o e =
-          let n = value_count arguments in
-          let middle = reference_takes a + own in
-          let one = positive a in
-          let xs = all_value_orders R slots names depth (taken + reference_takes a) arguments in
-          then_keeps (reference_orders R slots names depth taken a) (xs ++ SendTo (values_take arguments) selector n ∷ []) height own height middle (suc height) left (reference_keeps a depth taken height own middle h o refl)
-          (then_keeps xs (SendTo (values_take arguments) selector n ∷ []) height middle (n + height) left (suc height) left (all_keep arguments depth (taken + reference_takes a) height middle (n + height) left h (omega (arith, o)) refl (omega (arith, e))) (send_to_keeps (values_take arguments) selector n height left (omega (arith, e, one))))
-      value_keeps (SentToSuper from selector arguments) depth taken height own left h o e =
-          let n = value_count arguments in
-          let xs = all_value_orders R slots names depth (suc taken) arguments in
-          then_keeps (Plain HoldSelf ∷ []) (xs ++ SendToSuper from selector n ∷ []) height own height (suc own) (suc height) left (hold_self_keeps height own)
-          (then_keeps xs (SendToSuper from selector n ∷ []) height (suc own) (n + height) left (suc height) left (all_keep arguments depth (suc taken) height (suc own) (n + height) left h (omega (arith, o)) refl (omega (arith, e))) (send_up_keeps from selector n height left))
-      value_keeps (Field a class index) depth taken height own left h o e = then_keeps (reference_orders R slots names depth taken a) (Plain (GetField class index) ∷ []) height own height left (suc height) left (reference_keeps a depth taken height own left h o e) (get_field_keeps class index height left (omega (arith, e, positive a)))
-      value_keeps (FieldAssigned a class index b) depth taken height own left h o e =
-          let middle = reference_takes a + own in
-          then_keeps (reference_orders R slots names depth taken a) (value_orders R slots names depth (taken + reference_takes a) b ++ Plain (SetField (value_takes b) class index) ∷ []) height own height middle (suc height) left (reference_keeps a depth taken height own middle h o refl)
-          (then_keeps (value_orders R slots names depth (taken + reference_takes a) b) (Plain (SetField (value_takes b) class index) ∷ []) height middle (suc height) left (suc height) left (value_keeps b depth (taken + reference_takes a) height middle left h (omega (arith, o)) (omega (arith, e))) (set_field_keeps (value_takes b) class index height left (omega (arith, e, positive a))))
-      value_keeps (resolved.Differ a b) depth taken height own left h o e =
-          let middle = reference_takes a + own in
-          then_keeps (reference_orders R slots names depth taken a) (reference_orders R slots names depth (taken + reference_takes a) b ++ Plain (Differ (reference_takes b - 1)) ∷ []) height own height middle (suc height) left (reference_keeps a depth taken height own middle h o refl)
-          (then_keeps (reference_orders R slots names depth (taken + reference_takes a) b) (Plain (Differ (reference_takes b - 1)) ∷ []) height middle height left (suc height) left (reference_keeps b depth (taken + reference_takes a) height middle left h (omega (arith, o)) (omega (arith, e))) (differ_keeps (reference_takes b - 1) height left (omega (arith, e, positive a, positive b))))
-      value_keeps (resolved.IsObject a) depth taken height own left h o e = then_keeps (reference_orders R slots names depth taken a) (Plain IsObject ∷ []) height own height left (suc height) left (reference_keeps a depth taken height own left h o e) (is_object_keeps height left (omega (arith, e, positive a)))
-
-      pub reference_keeps : (e : Reference) (depth taken height own left : ℕ) → height ≡ depth + (slots + below) → own ≡ taken + names → left ≡ reference_takes e + own → Keeps (reference_orders R slots names depth taken e) height own height left
-      reference_keeps resolved.Nil depth taken height own left h o e = alike _ height own height (suc own) own left refl (omega (arith, e)) (nil_keeps height own)
-      reference_keeps Itself depth taken height own left h o e = alike _ height own height (suc own) own left refl (omega (arith, e)) (hold_self_keeps height own)
-      reference_keeps (Variable i) depth taken height own left h o e = alike _ height own height (suc own) own left refl (omega (arith, e)) (variable_keeps taken i height own (nat_lt i names) refl o)
-      reference_keeps (Stored i a) depth taken height own left h o e =
-          let middle = reference_takes a + own in
-          let stored = store_orders names (taken + reference_takes a - 1) i in
-          let less : middle ≡ suc (middle - 1) = omega (arith, positive a) in
-          then_keeps (reference_orders R slots names depth taken a) (stored ++ Plain (Hold 0) ∷ []) height own height middle height left (reference_keeps a depth taken height own middle h o refl)
-          (then_keeps stored (Plain (Hold 0) ∷ []) height middle height middle height left (alike stored height (suc (middle - 1)) height (suc (middle - 1)) middle middle (sym less) (sym less) (stored_keeps (taken + reference_takes a - 1) i height (middle - 1) (nat_lt i names) refl (omega (arith, o, positive a)))) (alike _ height middle height (suc middle) middle left refl (omega (arith, e)) (hold_keeps 0 height middle (omega (arith, positive a)))))
-      reference_keeps (Made a) depth taken height own left h o e =
-          let middle = value_takes a + own in
-          then_keeps (value_orders R slots names depth taken a) (Plain Alloc ∷ []) height own (suc height) middle height left (value_keeps a depth taken height own middle h o refl) (alike _ (suc height) middle height (suc middle) middle left refl (omega (arith, e)) (made_keeps height middle))
-      reference_keeps (Initialized a) depth taken height own left h o e =
-          let middle = reference_takes a + own in
-          then_keeps (reference_orders R slots names depth taken a) (Plain (Hold 0) ∷ []) height own height middle height left (reference_keeps a depth taken height own middle h o refl) (alike _ height middle height (suc middle) middle left refl (omega (arith, e)) (hold_keeps 0 height middle (omega (arith, positive a))))
-
-      all_keep : (arguments : Values) (depth taken height own after left : ℕ) → height ≡ depth + (slots + below) → own ≡ taken + names → after ≡ value_count arguments + height → left ≡ values_take arguments + own → Keeps (all_value_orders R slots names depth taken arguments) height own after left
-      all_keep no_values depth taken height own after left h o c e = no_keeps height own after left (omega (arith, c)) (omega (arith, e))
-      all_keep (and_value a others) depth taken height own after left h o c e =
-          let middle = value_takes a + own in
-          then_keeps (value_orders R slots names depth taken a) (all_value_orders R slots names (suc depth) (taken + value_takes a) others) height own (suc height) middle after left (value_keeps a depth taken height own middle h o refl) (all_keep others (suc depth) (taken + value_takes a) (suc height) middle after left (omega (arith, h)) (omega (arith, o)) (omega (arith, c)) (omega (arith, e)))
+    -- the actions of a lowered program are never stuck, and their counts are right
+    pub lowered_never_stuck : Sound (step p) (λ s. Counted s.held) start
+    lowered_never_stuck = record { safe = λ n. safe n start start_good }

@@ -7,16 +7,18 @@ use Rattle.arc_spec.specs.Classes.{Class, class_at, lookup, descends}
 use Rattle.arc_spec.specs.Number.{combined, is_zero}
 use Rattle.arc_spec.specs.Meaning.{chosen}
 use Rattle.arc_spec.specs.Objects.{Object, Dying, object_at, with_object, in_phase, is_live}
-use Rattle.arc_spec.specs.Stepping.{Next, Goes, Asks, Ends, Faults, Stuck, Reached, Running, Ended, Faulted, Wedged, fed, follow, further, after_steps, on_top, on_two, on_found, only_if}
+use Rattle.arc_spec.specs.Stepping.{Next, Goes, Asks, Ends, Faults, Stuck, Reached, Running, Ended, Faulted, Wedged, Along, fed, follow, further, after_steps, on_top, on_two, on_found, only_if}
 use Rattle.arc_spec.specs.Correct.{run_seen}
 use Rattle.arc_spec.specs.Holding.{Held, Frame, Calling, Ending, Counted, holders, is_there, on_object, on_place, holds, forgets, on_field, gone_in}
+use Rattle.arc_spec.specs.Resolved as resolved
 use Rattle.arc_ir.specs.Acting.{Action}
 use Rattle.arc_code.specs.declared.instr.Op.TheVariants.{Num, Bin, Un, Narrow, Pop, Get, Set, PrintNum, PrintByte, GetChar, Nil, HoldSelf, Hold, Forget, Alloc, GetField, SetField, Differ, IsObject}
 use Rattle.arc_code.specs.declared.instr.Instr.TheVariants.{Plain, PrintText, Jump, JumpZero, Call, Send, SendSuper, Return, StoreStrong, Drop, Empty, SendTo, SendToSuper, EndStep}
 use Rattle.arc_ir.specs.Acting.{Program, State, entry, start, or_fault, has_level, enters, answers, taken, sends, sends_up, begins_end, releases, ends_object, runs_dealloc, ends_class, end_goes_on, leaves, allocates, executes, step, seen}
-use Rattle.arc_lower.proofs.CountsHeld.{nothing_counted}
-use Rattle.arc_lower.proofs.CountsSteps.{After}
-use Rattle.arc_lower.proofs.CountsActing.{NamedEnds, counts_kept}
+use Rattle.arc_lower.specs.Order.{orders}
+use Rattle.arc_lower.specs.Lowered.{lowered, entries_of, end_step_of, classes_linked}
+use Rattle.arc_lower.proofs.Standing.{ending, AllDying}
+use Rattle.arc_lower.proofs.Safety.{no_nil, Good, step_leads, start_good}
 use Rattle.arc_lower.proofs.Recounting.{fresh, recount, moves}
 
 -- ---- a step with right counts
@@ -135,13 +137,13 @@ module _ (p : Program) (s : State) (c : Counted s.held) where
   ends_class_agrees back self k None left others = ends_object_agrees back self k others
   ends_class_agrees back self k (Some class) left others = runs_dealloc_agrees class.dealloc _
 
-  end_goes_on_agrees : (frames : List Frame) → NamedEnds frames → Agree (end_goes_on p s frames) (end_goes_on p t frames)
-  end_goes_on_agrees [] named = refl
-  end_goes_on_agrees (Calling back self ∷ others) named = refl
-  end_goes_on_agrees (Ending back self zero next left ∷ others) named = absurd named
-  end_goes_on_agrees (Ending back self (suc k) None left ∷ others) named = ends_object_agrees back self k others
-  end_goes_on_agrees (Ending back self (suc k) (Some class) zero ∷ others) named = ends_object_agrees back self k others
-  end_goes_on_agrees (Ending back self (suc k) (Some class) (suc left) ∷ others) named = ends_class_agrees back self k (slice_get p.classes class) left others
+  end_goes_on_agrees : (frames : List Frame) → AllDying s.held.objects (ending frames) → Agree (end_goes_on p s frames) (end_goes_on p t frames)
+  end_goes_on_agrees [] dying = refl
+  end_goes_on_agrees (Calling back self ∷ others) dying = refl
+  end_goes_on_agrees (Ending back self zero next left ∷ others) dying = absurd (no_nil s.held.objects dying.0)
+  end_goes_on_agrees (Ending back self (suc k) None left ∷ others) dying = ends_object_agrees back self k others
+  end_goes_on_agrees (Ending back self (suc k) (Some class) zero ∷ others) dying = ends_object_agrees back self k others
+  end_goes_on_agrees (Ending back self (suc k) (Some class) (suc left) ∷ others) dying = ends_class_agrees back self k (slice_get p.classes class) left others
 
   leaves_agree : (frames : List Frame) (v : ℤ) (rest : List ℤ) → Agree (leaves p s frames v rest) (leaves p t frames v rest)
   leaves_agree [] v rest = refl
@@ -160,40 +162,40 @@ module _ (p : Program) (s : State) (c : Counted s.held) where
   raised_same : (r k : ℕ) → (if nat_eq (suc k) r then suc (s.held.counts (suc k)) else s.held.counts (suc k)) ≡ (if nat_eq (suc k) r then suc (holders (suc k) s.held.places) else holders (suc k) s.held.places)
   raised_same r k = ap (λ n. if nat_eq (suc k) r then suc n else n) (c.counted k)
 
-  acts_agree : (action : Option Action) → NamedEnds s.frames → Agree (executes p action s) (executes p action t)
-  acts_agree None named = refl
-  acts_agree (Some (Plain (Num n))) named = refl
-  acts_agree (Some (Plain (Bin operator kind))) named = two_agree s.stack _ _ (λ y x rest. or_fault_agrees (combined operator kind x y) rest)
-  acts_agree (Some (Plain (Un kind))) named = top_agrees s.stack _ _ (λ x rest. refl)
-  acts_agree (Some (Plain (Narrow kind))) named = top_agrees s.stack _ _ (λ x rest. refl)
-  acts_agree (Some (Plain Pop)) named = top_agrees s.stack _ _ (λ x rest. refl)
-  acts_agree (Some (Plain (Get depth))) named = found_agrees (slice_get s.stack depth) _ _ (λ v _. refl)
-  acts_agree (Some (Plain (Set depth))) named = top_agrees s.stack _ _ (λ v rest. found_agrees (slice_get rest depth) _ _ (λ _ _. refl))
-  acts_agree (Some (PrintText bytes)) named = top_agrees s.stack _ _ (λ count rest. refl)
-  acts_agree (Some (Plain PrintNum)) named = two_agree s.stack _ _ (λ v count rest. refl)
-  acts_agree (Some (Plain PrintByte)) named = two_agree s.stack _ _ (λ v count rest. refl)
-  acts_agree (Some (Plain GetChar)) named = refl
-  acts_agree (Some (Jump to)) named = refl
-  acts_agree (Some (JumpZero to)) named = top_agrees s.stack _ _ (λ v rest. chosen_agrees (is_zero v) _ _ _ _ refl refl)
-  acts_agree (Some (Call f)) named = enters_agree (entry p f) 0 (has_level s)
-  acts_agree (Some (Send selector takes)) named = found_agrees (slice_get s.stack takes) _ _ (λ self _. answers_agree 0 (lookup p.classes (class_at self) signs.Class selector takes))
-  acts_agree (Some (SendSuper from selector takes)) named = answers_agree 0 (lookup p.classes (Some from) signs.Class selector takes)
-  acts_agree (Some Return) named = top_agrees s.stack _ _ (λ v rest. leaves_agree s.frames v rest)
-  acts_agree (Some (Plain Nil)) named = refl
-  acts_agree (Some (Plain HoldSelf)) named = holds_agree s.held.self _ _ refl
-  acts_agree (Some (Plain (Hold depth))) named = found_agrees (slice_get s.held.places depth) _ _ (λ r _. holds_agree r _ _ refl)
-  acts_agree (Some (StoreStrong depth)) named = place_agrees s.held.places _ _ (λ r rest _. found_agrees (slice_get rest depth) _ _ (λ old _. holds_agree r _ _ (releases_agree old (r ∷ slice_set rest depth r) (λ k. if nat_eq k r then suc (s.held.counts k) else s.held.counts k) (λ k. if nat_eq k r then suc (holders k s.held.places) else holders k s.held.places) (raised_same r))))
-  acts_agree (Some Drop) named = place_agrees s.held.places _ _ (λ r rest _. releases_agree r rest s.held.counts (λ k. holders k s.held.places) c.counted)
-  acts_agree (Some (Empty depth)) named = found_agrees (slice_get s.held.places depth) _ _ (λ r _. releases_agree r (slice_set s.held.places depth 0) (λ k. if nat_eq k 0 then suc (s.held.counts k) else s.held.counts k) (λ k. if nat_eq k 0 then suc (holders k s.held.places) else holders k s.held.places) (raised_same 0))
-  acts_agree (Some (Plain (Forget count))) named = forgets_agree count s.held.places _ _ (λ rest. refl)
-  acts_agree (Some (Plain Alloc)) named = top_agrees s.stack _ _ (λ v rest. allocates_agree rest (class_at v))
-  acts_agree (Some (Plain (GetField class index))) named = place_agrees s.held.places _ _ (λ r rest _. field_agrees class r _ _ (λ o. refl))
-  acts_agree (Some (Plain (SetField depth class index))) named = found_agrees (slice_get s.held.places depth) _ _ (λ r _. top_agrees s.stack _ _ (λ v rest. field_agrees class r _ _ (λ o. refl)))
-  acts_agree (Some (Plain (Differ depth))) named = place_agrees s.held.places _ _ (λ r rest _. found_agrees (slice_get rest depth) _ _ (λ other _. refl))
-  acts_agree (Some (Plain IsObject)) named = place_agrees s.held.places _ _ (λ r rest _. refl)
-  acts_agree (Some (SendTo depth selector takes)) named = found_agrees (slice_get s.held.places depth) _ _ (λ r _. sends_agree r selector takes)
-  acts_agree (Some (SendToSuper from selector takes)) named = sends_up_agree from s.held.self selector takes
-  acts_agree (Some EndStep) named = end_goes_on_agrees s.frames named
+  acts_agree : (action : Option Action) → AllDying s.held.objects (ending s.frames) → Agree (executes p action s) (executes p action t)
+  acts_agree None dying = refl
+  acts_agree (Some (Plain (Num n))) dying = refl
+  acts_agree (Some (Plain (Bin operator kind))) dying = two_agree s.stack _ _ (λ y x rest. or_fault_agrees (combined operator kind x y) rest)
+  acts_agree (Some (Plain (Un kind))) dying = top_agrees s.stack _ _ (λ x rest. refl)
+  acts_agree (Some (Plain (Narrow kind))) dying = top_agrees s.stack _ _ (λ x rest. refl)
+  acts_agree (Some (Plain Pop)) dying = top_agrees s.stack _ _ (λ x rest. refl)
+  acts_agree (Some (Plain (Get depth))) dying = found_agrees (slice_get s.stack depth) _ _ (λ v _. refl)
+  acts_agree (Some (Plain (Set depth))) dying = top_agrees s.stack _ _ (λ v rest. found_agrees (slice_get rest depth) _ _ (λ _ _. refl))
+  acts_agree (Some (PrintText bytes)) dying = top_agrees s.stack _ _ (λ count rest. refl)
+  acts_agree (Some (Plain PrintNum)) dying = two_agree s.stack _ _ (λ v count rest. refl)
+  acts_agree (Some (Plain PrintByte)) dying = two_agree s.stack _ _ (λ v count rest. refl)
+  acts_agree (Some (Plain GetChar)) dying = refl
+  acts_agree (Some (Jump to)) dying = refl
+  acts_agree (Some (JumpZero to)) dying = top_agrees s.stack _ _ (λ v rest. chosen_agrees (is_zero v) _ _ _ _ refl refl)
+  acts_agree (Some (Call f)) dying = enters_agree (entry p f) 0 (has_level s)
+  acts_agree (Some (Send selector takes)) dying = found_agrees (slice_get s.stack takes) _ _ (λ self _. answers_agree 0 (lookup p.classes (class_at self) signs.Class selector takes))
+  acts_agree (Some (SendSuper from selector takes)) dying = answers_agree 0 (lookup p.classes (Some from) signs.Class selector takes)
+  acts_agree (Some Return) dying = top_agrees s.stack _ _ (λ v rest. leaves_agree s.frames v rest)
+  acts_agree (Some (Plain Nil)) dying = refl
+  acts_agree (Some (Plain HoldSelf)) dying = holds_agree s.held.self _ _ refl
+  acts_agree (Some (Plain (Hold depth))) dying = found_agrees (slice_get s.held.places depth) _ _ (λ r _. holds_agree r _ _ refl)
+  acts_agree (Some (StoreStrong depth)) dying = place_agrees s.held.places _ _ (λ r rest _. found_agrees (slice_get rest depth) _ _ (λ old _. holds_agree r _ _ (releases_agree old (r ∷ slice_set rest depth r) (λ k. if nat_eq k r then suc (s.held.counts k) else s.held.counts k) (λ k. if nat_eq k r then suc (holders k s.held.places) else holders k s.held.places) (raised_same r))))
+  acts_agree (Some Drop) dying = place_agrees s.held.places _ _ (λ r rest _. releases_agree r rest s.held.counts (λ k. holders k s.held.places) c.counted)
+  acts_agree (Some (Empty depth)) dying = found_agrees (slice_get s.held.places depth) _ _ (λ r _. releases_agree r (slice_set s.held.places depth 0) (λ k. if nat_eq k 0 then suc (s.held.counts k) else s.held.counts k) (λ k. if nat_eq k 0 then suc (holders k s.held.places) else holders k s.held.places) (raised_same 0))
+  acts_agree (Some (Plain (Forget count))) dying = forgets_agree count s.held.places _ _ (λ rest. refl)
+  acts_agree (Some (Plain Alloc)) dying = top_agrees s.stack _ _ (λ v rest. allocates_agree rest (class_at v))
+  acts_agree (Some (Plain (GetField class index))) dying = place_agrees s.held.places _ _ (λ r rest _. field_agrees class r _ _ (λ o. refl))
+  acts_agree (Some (Plain (SetField depth class index))) dying = found_agrees (slice_get s.held.places depth) _ _ (λ r _. top_agrees s.stack _ _ (λ v rest. field_agrees class r _ _ (λ o. refl)))
+  acts_agree (Some (Plain (Differ depth))) dying = place_agrees s.held.places _ _ (λ r rest _. found_agrees (slice_get rest depth) _ _ (λ other _. refl))
+  acts_agree (Some (Plain IsObject)) dying = place_agrees s.held.places _ _ (λ r rest _. refl)
+  acts_agree (Some (SendTo depth selector takes)) dying = found_agrees (slice_get s.held.places depth) _ _ (λ r _. sends_agree r selector takes)
+  acts_agree (Some (SendToSuper from selector takes)) dying = sends_up_agree from s.held.self selector takes
+  acts_agree (Some EndStep) dying = end_goes_on_agrees s.frames dying
 
 -- ---- runs
 
@@ -202,24 +204,6 @@ freshened (Running s i t) = Running (fresh s) i t
 freshened (Ended n i t) = Ended n i t
 freshened (Faulted f i t) = Faulted f i t
 freshened (Wedged i t) = Wedged i t
-
--- the counts are right, and no end of nil is running
-abbrev Kept : Reached State → Type 0
-Kept (Running s i t) = Counted s.held × NamedEnds s.frames
-Kept (Ended n i t) = Unit {0}
-Kept (Faulted f i t) = Unit {0}
-Kept (Wedged i t) = Unit {0}
-
-fed_kept : (k : Option ℕ → State) (i : List ℕ) (t : List Event) → ((answer : Option ℕ) → Counted (k answer).held × NamedEnds (k answer).frames) → Kept (fed k i t)
-fed_kept k [] t kept = kept None
-fed_kept k (b ∷ i) t kept = kept (Some b)
-
-follow_kept : (next : Next State) (i : List ℕ) (t : List Event) → After (λ s. Counted s.held × NamedEnds s.frames) next → Kept (follow next i t)
-follow_kept (Goes s events) i t kept = kept
-follow_kept (Asks k) i t kept = fed_kept k i t kept
-follow_kept (Ends n) i t kept = tt
-follow_kept (Faults f) i t kept = tt
-follow_kept Stuck i t kept = tt
 
 fed_fresh : (k : Option ℕ → State) (i : List ℕ) (t : List Event) → fed (λ answer. fresh (k answer)) i t ≡ freshened (fed k i t)
 fed_fresh k [] t = refl
@@ -232,9 +216,27 @@ follow_fresh (Ends n) i t = refl
 follow_fresh (Faults f) i t = refl
 follow_fresh Stuck i t = refl
 
-module _ (p : Program) where
+module _ (p : Program) (R : resolved.Program) (is : orders p.actions ≡ lowered R) (entries : p.entries ≡ entries_of R) (classes : p.classes ≡ classes_linked R) (end : p.end_step ≡ end_step_of R) where
+  -- each state of a run is good
+  abbrev Kept : Reached State → Type 0
+  Kept (Running s i t) = Good p R s
+  Kept (Ended n i t) = Unit {0}
+  Kept (Faulted f i t) = Unit {0}
+  Kept (Wedged i t) = Unit {0}
+
+  fed_kept : (k : Option ℕ → State) (i : List ℕ) (t : List Event) → ((answer : Option ℕ) → Good p R (k answer)) → Kept (fed k i t)
+  fed_kept k [] t kept = kept None
+  fed_kept k (b ∷ i) t kept = kept (Some b)
+
+  follow_kept : (next : Next State) (i : List ℕ) (t : List Event) → Along (Good p R) next → Kept (follow next i t)
+  follow_kept (Goes s events) i t kept = kept
+  follow_kept (Asks k) i t kept = fed_kept k i t kept
+  follow_kept (Ends n) i t kept = tt
+  follow_kept (Faults f) i t kept = tt
+  follow_kept Stuck i t kept = tt
+
   further_kept : (r : Reached State) → Kept r → Kept (further (step p) r)
-  further_kept (Running s i t) k = follow_kept (step p s) i t (counts_kept p s k)
+  further_kept (Running s i t) k = follow_kept (step p s) i t (step_leads p R is entries classes end s k)
   further_kept (Ended n i t) k = tt
   further_kept (Faulted f i t) k = tt
   further_kept (Wedged i t) k = tt
@@ -244,7 +246,7 @@ module _ (p : Program) where
   steps_kept (suc n) r k = further_kept (after_steps (step p) n r) (steps_kept n r k)
 
   further_fresh : (r : Reached State) → Kept r → further (moves p) (freshened r) ≡ freshened (further (step p) r)
-  further_fresh (Running s i t) k = ap (λ next. follow next i t) (sym (acts_agree p s k.0 (slice_get p.actions s.at) k.1)) ∙ follow_fresh (step p s) i t
+  further_fresh (Running s i t) k = ap (λ next. follow next i t) (sym (acts_agree p s k.2.counted (slice_get p.actions s.at) k.1)) ∙ follow_fresh (step p s) i t
   further_fresh (Ended n i t) k = refl
   further_fresh (Faulted f i t) k = refl
   further_fresh (Wedged i t) k = refl
@@ -261,4 +263,4 @@ module _ (p : Program) where
 
   -- what is seen of the steps
   pub seen_moves : (input : List ℕ) (n : ℕ) → seen p input n ≡ run_seen (after_steps (moves p) n (Running start input []))
-  seen_moves input n = sym (seen_fresh (after_steps (step p) n (Running start input []))) ∙ ap run_seen (sym (steps_fresh n (Running start input []) (nothing_counted, tt)))
+  seen_moves input n = sym (seen_fresh (after_steps (step p) n (Running start input []))) ∙ ap run_seen (sym (steps_fresh n (Running start input []) (start_good p R is entries classes end)))

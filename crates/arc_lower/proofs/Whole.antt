@@ -5,7 +5,7 @@ use Rattle.arc_spec.specs.Number.{converted}
 use Rattle.arc_spec.specs.Resolved as resolved
 use Rattle.arc_spec.specs.World.{World, Outcome, Done, Faulted, Cut, first_world, first_locals}
 use Rattle.arc_spec.specs.Meaning.{level, most_levels, mean}
-use Rattle.arc_spec.specs.Stepping.{Ended}
+use Rattle.arc_spec.specs.Stepping.{Running, Ended, after_steps}
 use Rattle.arc_spec.specs.Correct.{meaning_seen, run_seen}
 use Rattle.arc_spec.proofs.Steadiness.{steady}
 use Rattle.arc_ir.specs.Acting.{Program, step, start, seen}
@@ -28,10 +28,10 @@ use Rattle.arc_lower.proofs.RoomSuffices.{room_suffices}
 use Rattle.arc_lower.proofs.Transferring.{seen_moves}
 
 -- what is seen of a run that does what is meant
-shows : (p : Program) (good : ℤ → World → Type 0) (input : List ℕ) (bound : ℕ) (o : Outcome ℤ) → Runs (moves p) good bound (running [] 0 [] (first_world input)) (λ v w. Ended v w.input w.trace) o → Shows (seen p input) bound (meaning_seen o)
-shows p good input bound (Done v w) r = record { steps = r.1.steps; same = seen_moves p input r.1.steps ∙ ap run_seen r.1.there; enough = λ e. cc }
-shows p good input bound (Faulted f w) r = record { steps = r.steps; same = seen_moves p input r.steps ∙ ap run_seen r.there; enough = λ e. cc }
-shows p good input bound (Cut w) r = record { steps = r.0; same = seen_moves p input r.0 ∙ ap run_seen r.3; enough = λ e. r.2 }
+shows : (p : Program) (good : ℤ → World → Type 0) (input : List ℕ) (bound : ℕ) (o : Outcome ℤ) → ((n : ℕ) → seen p input n ≡ run_seen (after_steps (moves p) n (Running start input []))) → Runs (moves p) good bound (running [] 0 [] (first_world input)) (λ v w. Ended v w.input w.trace) o → Shows (seen p input) bound (meaning_seen o)
+shows p good input bound (Done v w) alike r = record { steps = r.1.steps; same = alike r.1.steps ∙ ap run_seen r.1.there; enough = λ e. cc }
+shows p good input bound (Faulted f w) alike r = record { steps = r.steps; same = alike r.steps ∙ ap run_seen r.there; enough = λ e. cc }
+shows p good input bound (Cut w) alike r = record { steps = r.0; same = alike r.0 ∙ ap run_seen r.3; enough = λ e. r.2 }
 
 module _ (p : Program) (R : resolved.Program) (is : orders p.actions ≡ lowered R) (entries : p.entries ≡ entries_of R) (classes : p.classes ≡ classes_linked R) (end : p.end_step ≡ end_step_of R) where
   links : Linked p R
@@ -66,7 +66,7 @@ performs p R is =
     let calm = steady (step p) start in
     record {
       behaves = behaves (λ input bound. meaning_seen (mean R input bound)) (seen p) calm
-          (λ input bound. shows p (λ v w. Unit {0}) input bound (mean R input bound) (program_runs p R is.actions is.entries is.classes is.end_step input bound));
+          (λ input bound. shows p (λ v w. Unit {0}) input bound (mean R input bound) (seen_moves p R is.actions is.entries is.classes is.end_step input) (program_runs p R is.actions is.entries is.classes is.end_step input bound));
       steady = calm;
       sound = room_suffices p R is.actions is.entries is.classes is.end_step (at_most_same is.room) (at_most_same is.places);
     }

@@ -11,6 +11,7 @@ use Rattle.arc_spec.specs.Meaning.{function_at}
 use Rattle.arc_code.specs.declared.instr.Op.TheVariants.{Num, Bin, Un, Narrow, Pop, Get, Set, PrintNum, PrintByte, GetChar, Nil, HoldSelf, Hold, Forget, Alloc, GetField, SetField, Differ, IsObject}
 use Rattle.arc_code.specs.declared.instr.Instr.TheVariants.{Plain, PrintText, Jump, JumpZero, Call, Send, SendSuper, Return, StoreStrong, Drop, Empty, SendTo, SendToSuper, EndStep}
 use Rattle.arc_code.specs.Effects.{passes}
+use Rattle.arc_ir.specs.declared.action.Target.TheVariants.{Skip, Back, At}
 use Rattle.arc_lower.specs.Order.{Order}
 
 abbrev pub value_count : Values → ℕ
@@ -221,43 +222,52 @@ begin_orders P slots names i a =
 abbrev pub leave_orders : (slots names : ℕ) → List Order
 leave_orders slots names = all_empty_orders names 0 names ++ (Plain (Forget names) ∷ [] ++ (keep_orders slots ++ Return ∷ []))
 
--- A choice, whose first action has this number: the test, a jump to the second where it is 0, the first, a jump behind all, the second.
-abbrev pub choose_orders : (place : ℕ) → (test : List Order) → (first second : ℕ → List Order) → List Order
-choose_orders place test first second =
-    let one = place + length test + 1 in
-    let two = one + length (first one) + 1 in
-    test ++ (JumpZero two ∷ [] ++ (first one ++ (Jump (two + length (second two)) ∷ [] ++ second two)))
+-- Actions, and where control goes.
+pub data Block : Type 0 where
+  -- actions that go on with the next one each
+  Straight : List Order → Block
+  -- one after another
+  Then : Block → Block → Block
+  -- takes a number: the first where it isn't 0, else the second
+  Fork : Block → Block → Block
+  -- the test, which leaves a number, and the body while that isn't 0
+  Loop : Block → Block → Block
+  -- leaves the function, with its result on top
+  Leave : Block
 
--- A loop: the test, a jump behind all where it is 0, the body, a jump to the test.
-abbrev pub repeat_orders : (place : ℕ) → (test : List Order) → (body : ℕ → List Order) → List Order
-repeat_orders place test body =
-    let inside = place + length test + 1 in
-    test ++ (JumpZero (inside + length (body inside) + 1) ∷ [] ++ (body inside ++ Jump place ∷ []))
+-- the actions of a block, in a function that is left at this place
+abbrev pub flat : (exit : ℕ) → Block → List Order
+flat exit (Straight xs) = xs
+flat exit (Then a b) = flat exit a ++ flat exit b
+flat exit (Fork a b) =
+    let first = flat exit a in
+    let second = flat exit b in
+    JumpZero (Skip (suc (length first))) ∷ [] ++ (first ++ (Jump (Skip (length second)) ∷ [] ++ second))
+flat exit (Loop test body) =
+    let first = flat exit test in
+    let again = flat exit body in
+    first ++ (JumpZero (Skip (suc (length again))) ∷ [] ++ (again ++ Jump (Back (suc (length first + length again))) ∷ []))
+flat exit Leave = Jump (At exit) ∷ []
 
--- the first of which has this number, in a function that is left from the place `exit`; a return without a value gives 0
+-- a return without a value gives 0
 abbrev mutual
-  pub command_orders : Program → (slots names exit place : ℕ) → Command → List Order
-  command_orders P slots names exit place (Sequence first count all) = all_command_orders P slots names exit place all ++ all_empty_orders names first count
-  command_orders P slots names exit place (Evaluate a) = whole_orders P slots names a ++ Plain Pop ∷ []
-  command_orders P slots names exit place (EvaluateReference a) = whole_reference_orders P slots names a
-  command_orders P slots names exit place (Begin i a) = begin_orders P slots names i a
-  command_orders P slots names exit place (resolved.Return None) = Plain (Num (pos 0)) ∷ [] ++ Jump exit ∷ []
-  command_orders P slots names exit place (resolved.Return (Some a)) = whole_orders P slots names a ++ Jump exit ∷ []
-  command_orders P slots names exit place (Choose test a b) =
-      choose_orders place (whole_orders P slots names test) (λ at. command_orders P slots names exit at a) (λ at. command_orders P slots names exit at b)
-  command_orders P slots names exit place (Repeat test body) =
-      repeat_orders place (whole_orders P slots names test) (λ at. command_orders P slots names exit at body)
+  pub command_block : Program → (slots names : ℕ) → Command → Block
+  command_block P slots names (Sequence first count all) = Then (commands_block P slots names all) (Straight (all_empty_orders names first count))
+  command_block P slots names (Evaluate a) = Straight (whole_orders P slots names a ++ Plain Pop ∷ [])
+  command_block P slots names (EvaluateReference a) = Straight (whole_reference_orders P slots names a)
+  command_block P slots names (Begin i a) = Straight (begin_orders P slots names i a)
+  command_block P slots names (resolved.Return None) = Then (Straight (Plain (Num (pos 0)) ∷ [])) Leave
+  command_block P slots names (resolved.Return (Some a)) = Then (Straight (whole_orders P slots names a)) Leave
+  command_block P slots names (Choose test a b) = Then (Straight (whole_orders P slots names test)) (Fork (command_block P slots names a) (command_block P slots names b))
+  command_block P slots names (Repeat test body) = Loop (Straight (whole_orders P slots names test)) (command_block P slots names body)
 
-  pub all_command_orders : Program → (slots names exit place : ℕ) → Commands → List Order
-  all_command_orders P slots names exit place no_commands = []
-  all_command_orders P slots names exit place (and_command c others) =
-      let first = command_orders P slots names exit place c in
-      first ++ all_command_orders P slots names exit (place + length first) others
+  pub commands_block : Program → (slots names : ℕ) → Commands → Block
+  commands_block P slots names no_commands = Straight []
+  commands_block P slots names (and_command c others) = Then (command_block P slots names c) (commands_block P slots names others)
 
--- what a function does from its entry on, which stands at this place; it gives 0 at its end
-abbrev pub body_orders : Program → (exit place : ℕ) → Function → List Order
-body_orders P exit place f =
-    nil_orders f.names ++ (all_command_orders P f.slots f.names exit (place + length (nil_orders f.names)) f.body ++ (Plain (Num (pos 0)) ∷ [] ++ Jump exit ∷ []))
+-- what a function does from its entry on; it gives 0 at its end
+abbrev pub body_block : Program → Function → Block
+body_block P f = Then (Straight (nil_orders f.names)) (Then (commands_block P f.slots f.names f.body) (Then (Straight (Plain (Num (pos 0)) ∷ [])) Leave))
 
 -- where a function is entered whose first action has this number
 abbrev pub entry_of : (place : ℕ) → Function → ℕ
@@ -265,7 +275,7 @@ entry_of place f = place + length (leave_orders f.slots f.names)
 
 -- a function: what leaves it stands before its entry
 abbrev pub function_orders : Program → (place : ℕ) → Function → List Order
-function_orders P place f = leave_orders f.slots f.names ++ body_orders P place (entry_of place f) f
+function_orders P place f = leave_orders f.slots f.names ++ flat place (body_block P f)
 
 -- functions, one behind the other
 abbrev pub functions_orders : Program → (place : ℕ) → List Function → List Order
@@ -292,7 +302,7 @@ entries_of P = entries_from P (length (start_orders P)) (all_functions P)
 
 -- A stub, to which a message goes, or the end of an object: it makes so many numbers the variables of a function, and goes on where that is entered.
 abbrev pub stub_orders : Program → (entries : List ℕ) → (values f : ℕ) → List Order
-stub_orders P entries values f = fit_orders values (slots_of P f) ++ Jump (slice_index_or entries (number_of P f) 0) ∷ []
+stub_orders P entries values f = fit_orders values (slots_of P f) ++ Jump (At (slice_index_or entries (number_of P f) 0)) ∷ []
 
 -- the stubs of methods, one behind the other
 abbrev pub methods_orders : Program → (entries : List ℕ) → List Method → List Order

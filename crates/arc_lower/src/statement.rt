@@ -1,17 +1,16 @@
 //! From statements to actions.
-ghost use Rattle.std.specs.Prelude.{◌≡◌, ◌++◌, ◌<◌, [], ◌∷◌, length, OnOk, option_map, slice_set};
+ghost use Rattle.std.specs.Prelude.{◌≡◌, ◌++◌, ◌-◌, ◌<◌, length, OnOk, IfOk, option_map, slice_set};
 ghost use Rattle.arc_spec.specs.Resolved.{Return};
 ghost use Rattle.arc_check.specs.Checked.{value as value_of, reference as reference_of, command, commands, program_of};
-ghost use Rattle.arc_code.specs.declared.instr.Instr.TheVariants.{Jump};
 ghost use Rattle.arc_lower.specs.Order.{order, orders};
-ghost use Rattle.arc_lower.specs.Lowered.{whole_orders, whole_reference_orders, begin_orders, command_orders, all_command_orders};
+ghost use Rattle.arc_lower.specs.Lowered.{whole_orders, whole_reference_orders, begin_orders, Leave, flat, command_block, commands_block};
 
 use crate::expression::{append, append_reference, append_value};
 use crate::frame::{Body, Frame};
 use crate::place::{append_all_empty, append_drops, append_store};
 use arc_check::checked::{Checked, Command, Reference, Value};
 use arc_code::instr::{Instr, Op};
-use arc_ir::action::Action;
+use arc_ir::action::{Action, Target};
 use arc_spec::event::NoMemory;
 use std::alloc::Global;
 
@@ -86,7 +85,7 @@ pub(crate) fn append_command(
     body: Body,
     statement: &Command,
 ) -> Result<(), NoMemory>
-    ensures { OnOk result (orders actions.new.items ≡ orders actions.old.items ++ command_orders (program_of program.now) body.slots body.names body.exit (length (orders actions.old.items)) (command statement.now)) }
+    ensures { OnOk result (orders actions.new.items ≡ orders actions.old.items ++ flat body.exit (command_block (program_of program.now) body.slots body.names (command statement.now))) }
 {
     match statement {
         Command::Sequence(first, count, all) => {
@@ -107,26 +106,29 @@ pub(crate) fn append_command(
         Command::Choose(test, first, second) => {
             append_whole(alloc, actions, program, body, test)?;
             let branch = actions.len();
-            append(actions, Instr::JumpZero(0))?;
+            append(actions, Instr::JumpZero(Target::Skip(0)))?;
             append_command(alloc, actions, program, body, first)?;
             let skip = actions.len();
-            append(actions, Instr::Jump(0))?;
+            append(actions, Instr::Jump(Target::Skip(0)))?;
             let other = actions.len();
             append_command(alloc, actions, program, body, second)?;
-            let end = actions.len();
-            replace(actions, branch, Instr::JumpZero(other));
-            replace(actions, skip, Instr::Jump(end));
+            let past_first = distance(branch, skip)?;
+            let past_second = distance(other, actions.len())?;
+            replace(actions, branch, Instr::JumpZero(Target::Skip(past_first)));
+            replace(actions, skip, Instr::Jump(Target::Skip(past_second)));
             Ok(())
         }
         Command::Repeat(test, turn) => {
             let begin = actions.len();
             append_whole(alloc, actions, program, body, test)?;
             let branch = actions.len();
-            append(actions, Instr::JumpZero(0))?;
+            append(actions, Instr::JumpZero(Target::Skip(0)))?;
             append_command(alloc, actions, program, body, turn)?;
-            append(actions, Instr::Jump(begin))?;
-            let end = actions.len();
-            replace(actions, branch, Instr::JumpZero(end));
+            let again = actions.len();
+            let past_turn = distance(branch, again)?;
+            let back = distance(begin, again)?;
+            append(actions, Instr::Jump(Target::Back(back)))?;
+            replace(actions, branch, Instr::JumpZero(Target::Skip(past_turn)));
             Ok(())
         }
     }
@@ -141,7 +143,7 @@ pub(crate) fn append_commands(
     body: Body,
     all: &[Command],
 ) -> Result<(), NoMemory>
-    ensures { OnOk result (orders actions.new.items ≡ orders actions.old.items ++ all_command_orders (program_of program.now) body.slots body.names body.exit (length (orders actions.old.items)) (commands all.now)) }
+    ensures { OnOk result (orders actions.new.items ≡ orders actions.old.items ++ flat body.exit (commands_block (program_of program.now) body.slots body.names (commands all.now))) }
 {
     for statement in all {
         append_command(alloc, actions, program, body, statement)?;
@@ -157,7 +159,7 @@ fn append_return(
     body: Body,
     value: &Option<Value>,
 ) -> Result<(), NoMemory>
-    ensures { OnOk result (orders actions.new.items ≡ orders actions.old.items ++ command_orders (program_of program.now) body.slots body.names body.exit (length (orders actions.old.items)) (Return (option_map value_of value.now))) }
+    ensures { OnOk result (orders actions.new.items ≡ orders actions.old.items ++ flat body.exit (command_block (program_of program.now) body.slots body.names (Return (option_map value_of value.now)))) }
 {
     match value {
         None => append(actions, Instr::Plain(Op::Num(0)))?,
@@ -168,9 +170,19 @@ fn append_return(
 
 /// Appends the action by which a function is left.
 fn append_exit(actions: &mut Vec<Action>, body: Body) -> Result<(), NoMemory>
-    ensures { OnOk result (orders actions.new.items ≡ orders actions.old.items ++ Jump body.exit ∷ []) }
+    ensures { OnOk result (orders actions.new.items ≡ orders actions.old.items ++ flat body.exit Leave) }
 {
-    append(actions, Instr::Jump(body.exit))
+    append(actions, Instr::Jump(Target::At(body.exit)))
+}
+
+/// How many actions there are from one number to another. NoMemory: no jump goes over so many.
+fn distance(from: usize, to: usize) -> Result<u32, NoMemory>
+    ensures { IfOk result (λ count. count ≡ to - from) }
+{
+    let Ok(count) = u32::try_from(to.saturating_sub(from)) else {
+        return Err(NoMemory);
+    };
+    Ok(count)
 }
 
 /// Puts another action in the place of the one with this number.

@@ -14,7 +14,7 @@ use crate::variable::one_more;
 use arc_ast::tree::Sign;
 use arc_check::checked::Checked;
 use arc_code::instr::Instr;
-use arc_ir::action::Action;
+use arc_ir::action::{Action, Target};
 use arc_spec::class::{Class, Method};
 use arc_spec::event::NoMemory;
 use std::alloc::Global;
@@ -53,7 +53,7 @@ fn append_jump_to(
 {
     append_fit(actions, count, slots_of(program, function))?;
     let entry = entry_of(entries, number_of(program, function));
-    append(actions, Instr::Jump(entry))
+    append(actions, Instr::Jump(Target::At(entry)))
 }
 
 /// Appends the stub of a function that is passed `count` numbers, and raises the greatest height to

@@ -6,8 +6,8 @@ use Rattle.arc_emit.proofs.emit.write_code.Given as goal
 abbrev pub invariant-loop-action : goal.invariant-loop-action
 invariant-loop-action l = record {
   instrs :
-      l.instrs.items ++ instrs_of (program_of l.ir) (length l.texts.items) (drop l.action-index l.ir.actions.items)
-      ≡ instrs_of (program_of l.ir) 0 l.ir.actions.items;
+      l.instrs.items ++ instrs_of (program_of l.ir) (length l.instrs.items) (length l.texts.items) (drop l.action-index l.ir.actions.items)
+      ≡ instrs_of (program_of l.ir) 0 0 l.ir.actions.items;
   texts : l.texts.items ++ texts_of (drop l.action-index l.ir.actions.items) ≡ texts_of l.ir.actions.items;
   number : length l.instrs.items ≡ l.action-index;
   few : length l.texts.items ≤ 16 * l.action-index;

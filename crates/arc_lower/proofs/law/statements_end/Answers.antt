@@ -1,5 +1,7 @@
-use Rattle.arc_lower.proofs.HeightsEnd.{command_stays}
+use Rattle.arc_lower.proofs.Typing.{command_types}
+use Rattle.arc_lower.proofs.HeightsEnd.{block_ends}
+use Rattle.arc_lower.specs.Lowered.{command_block}
 use Rattle.arc_lower.proofs.law.statements_end.Goals as goal
 
 pub returns : goal.returns
-returns c = λ P slots names c exit place. command_stays P slots names c exit place
+returns c = λ P slots names c exit. block_ends P slots names exit (command_block P slots names c) slots names slots names (command_types P slots names c)

@@ -1,0 +1,493 @@
+-- Each order of a lowered program has what it needs, with the heights before it.
+use Rattle.std.proofs.Common.{◌≡◌, inl, ℕ, zero, suc, ◌+◌, ◌≤◌, pos, Bool, true, false, if◌then◌else◌, nat_lt, List, [], ◌∷◌, ◌++◌, length, Option, Some, None, refl, sym, ap, ◌∙◌, subst, arith, length-append, slice_get, slice_index_or}
+use Rattle.std.proofs.lemmas.Bool.{ltb-false}
+use Rattle.arc_ast.specs.declared.tree.Sign.{Sign}
+use Rattle.arc_spec.specs.declared.class.Method.{Method}
+use Rattle.arc_spec.specs.Classes.{Class, answers, found, own_methods, or_else, first_that_has, superclasses, ancestry, lookup}
+use Rattle.arc_spec.specs.Resolved.{Function, Commands}
+use Rattle.arc_spec.specs.Resolved as resolved
+use Rattle.arc_spec.specs.Meaning.{function_at}
+use Rattle.arc_code.specs.declared.instr.Op.TheVariants.{Num, Forget}
+use Rattle.arc_code.specs.declared.instr.Instr.TheVariants.{Plain, Jump, Call, Return, Empty, EndStep}
+use Rattle.arc_code.specs.Effects.{passes}
+use Rattle.arc_ir.specs.declared.action.Target.TheVariants.{At}
+use Rattle.arc_lower.specs.Order.{Order}
+use Rattle.arc_lower.specs.Lowered.{all_functions, number_of, slots_of, zero_orders, fit_orders, nil_orders, keep_orders, all_empty_orders, commands_block, flat, function_orders, functions_orders, entries_from, start_orders, end_step_of, entry_of, entries_of, stub_orders, methods_orders, dealloc_orders, class_orders, classes_orders, linked_methods, linked_dealloc, linked_classes, running_orders, lowered, classes_linked}
+use Rattle.arc_lower.specs.declared.height.Height.{Height}
+use Rattle.arc_lower.specs.Heights.{height, next_height, last_height, heights, start_heights, function_heights, functions_heights, stub_heights, methods_heights, dealloc_heights, class_heights, classes_heights, lowered_heights}
+use Rattle.arc_lower.proofs.Rows.{zeros_length}
+use Rattle.arc_lower.proofs.Linking.{numbered}
+use Rattle.arc_lower.proofs.Finding.{passes_same}
+use Rattle.arc_lower.proofs.Typing.{heights_same, slots_same, number_there, Types, types_same, types_last, keep_types, zeros_type, fit_types, nils_type, commands_type}
+use Rattle.arc_lower.proofs.HeightsEnd.{last_append, block_ends}
+use Rattle.arc_lower.proofs.Stepping.{some_same, HasPart, part_front, part_back, has_whole, types_ordinary, Clears, Stands, Goes, left, StepsAt, AllStep, step_then, opens_goes, Row, row_of, row_prefix, row_front, row_back, Follows, goes_here, typed_steps, block_ordinary, block_steps}
+
+heights_length : (R : resolved.Program) (base h : Height) (xs : List Order) → length (heights R base h xs) ≡ length xs
+heights_length R base h [] = refl
+heights_length R base h (x ∷ xs) = ap suc (heights_length R base (next_height R base x h) xs)
+
+-- an order that isn't the last step of an object's end
+abbrev NoEnd : Order → Type 0
+NoEnd EndStep = ⊥
+NoEnd _ = Unit {0}
+
+module _ (R : resolved.Program) where
+  abbrev pub all : List Order
+  all = lowered R
+
+  abbrev pub table : List Height
+  table = lowered_heights R
+
+  -- orders and their heights stand there
+  abbrev Both : ℕ → List Height → List Order → Type 0
+  Both pc hs xs = HasPart table pc hs × HasPart all pc xs × (length hs ≡ length xs)
+
+  both_front : (pc : ℕ) (a b : List Height) (xs ys : List Order) → length a ≡ length xs → Both pc (a ++ b) (xs ++ ys) → Both pc a xs
+  both_front pc a b xs ys e f = (part_front table pc a b f.0, part_front all pc xs ys f.1, e)
+
+  both_back : (pc : ℕ) (a b : List Height) (xs ys : List Order) → length a ≡ length xs → Both pc (a ++ b) (xs ++ ys) → Both (pc + length xs) b ys
+  both_back pc a b xs ys e f = (subst (λ n. HasPart table (pc + n) b) e (part_back table pc a b f.0), part_back all pc xs ys f.1, omega (arith, e, f.2, length-append a b, length-append xs ys))
+
+  abbrev Goes_to : ℕ → Height → Type 0
+  Goes_to = Goes R all table
+
+  abbrev Step_all : ℕ → List Order → Type 0
+  Step_all = AllStep R all table
+
+  -- ---- one function
+
+  module _ (place slots names : ℕ) (cs : Commands) where
+    abbrev base : Height
+    base = height slots names
+
+    -- where it is left
+    abbrev leaving : Height
+    leaving = height (suc slots) names
+
+    abbrev emptied : ℕ → List Order
+    emptied n = all_empty_orders names 0 n
+
+    abbrev forgotten : List Order
+    forgotten = Plain (Forget names) ∷ keep_orders slots
+
+    abbrev leave : List Order
+    leave = emptied names ++ (forgotten ++ Return ∷ [])
+
+    abbrev entered : ℕ
+    entered = place + length leave
+
+    abbrev nils : List Order
+    nils = nil_orders names
+
+    abbrev start : ℕ
+    start = entered + length nils
+
+    abbrev statements : List Order
+    statements = flat place (commands_block R slots names cs)
+
+    abbrev end : List Order
+    end = Plain (Num (pos 0)) ∷ Jump (At place) ∷ []
+
+    abbrev body : List Order
+    body = nils ++ (statements ++ end)
+
+    abbrev Rows : ℕ → Height → List Order → Type 0
+    Rows = Row R all table base
+
+    statements_end : last_height R base base statements ≡ base
+    statements_end = block_ends R slots names place (commands_block R slots names cs) slots names slots names (commands_type R slots names cs)
+
+    leave_ends : last_height R base leaving leave ≡ height slots 0
+    leave_ends = last_append R base leaving (emptied names) (forgotten ++ Return ∷ []) ∙ last_append R base (last_height R base leaving (emptied names)) forgotten (Return ∷ [])
+
+    -- before so many variables are emptied the others are nil
+    abbrev Emptying : ℕ → ℕ → Type 0
+    Emptying n pc = Step_all pc (emptied n) × Stands R all table pc leaving × ((k : ℕ) → Clears R all table k pc → k ≡ n)
+
+    same_place : (i j : ℕ) (x y : Order) → x ≡ Empty i → y ≡ Empty j → x ≡ y → i ≡ j
+    same_place i j x y e f same = cc
+
+    other_order : (i count : ℕ) (x y : Order) → x ≡ Empty i → y ≡ Plain (Forget count) → x ≡ y → ⊥
+    other_order i count x y e f same = cc
+
+    emptying : (n pc : ℕ) (ys : List Order) → n ≤ names → Rows pc leaving (emptied n ++ Plain (Forget names) ∷ ys) → Emptying n pc
+    emptying zero pc ys le f = (tt, record { height = f.0; order = Plain (Forget names); is = f.1; no_end = λ same. subst NoEnd same tt }, only f.1)
+      where
+        only : slice_get all pc ≡ Some (Plain (Forget names)) → (k : ℕ) → Clears R all table k pc → k ≡ 0
+        only is zero c = refl
+        only is (suc j) c = absurd (other_order j names (Empty j) (Plain (Forget names)) refl refl (some_same {A = Order} (Empty j) (Plain (Forget names)) (sym c.0 ∙ is)))
+    emptying (suc n) pc ys le f = by (nat_lt (0 + n) names) refl (λ rest. emptying n (pc + 1) ys (omega (arith, le)) rest) f
+      where
+        only : slice_get all pc ≡ Some (Empty (0 + n)) → (k : ℕ) → Clears R all table k pc → k ≡ suc n
+        only is zero c = absurd (other_order (0 + n) c.0 (Empty (0 + n)) (Plain (Forget c.0)) refl refl (some_same {A = Order} (Empty (0 + n)) (Plain (Forget c.0)) (sym is ∙ c.1)))
+        only is (suc j) c = let i = same_place j (0 + n) (Empty j) (Empty (0 + n)) refl refl (some_same {A = Order} (Empty j) (Empty (0 + n)) (sym c.0 ∙ is)) in omega (arith, i)
+
+        by : (b : Bool) → nat_lt (0 + n) names ≡ b → (Rows (pc + 1) leaving (emptied n ++ Plain (Forget names) ∷ ys) → Emptying n (pc + 1)) → Rows pc leaving (((if b then Empty (0 + n) ∷ [] else []) ++ emptied n) ++ Plain (Forget names) ∷ ys) → Step_all pc ((if b then Empty (0 + n) ∷ [] else []) ++ emptied n) × Stands R all table pc leaving × ((k : ℕ) → Clears R all table k pc → k ≡ suc n)
+        by false e others f = let ge = ltb-false (0 + n) names e in absurd (omega (arith, le, ge))
+        by true e others f =
+            let same : left R all table leaving (Empty (0 + n)) ≡ leaving = heights_same _ _ (suc slots) names (omega arith) (omega arith) in
+            let rest = others (subst (λ h. Rows (pc + 1) h (emptied n ++ Plain (Forget names) ∷ ys)) same f.2) in (
+              ((leaving, f.0, (omega (arith, le), subst (Stands R all table (pc + 1)) (sym same) rest.1, λ k c. let is = rest.2 k c in inl (omega (arith, is)))), rest.0),
+              record { height = f.0; order = Empty (0 + n); is = f.1; no_end = λ same. subst NoEnd same tt },
+              only f.1,
+            )
+
+    module _ (has : Rows place leaving (leave ++ body)) where
+      leave_row : Rows place leaving leave
+      leave_row = row_prefix R all table base place leaving leave body has
+
+      exit : Emptying names place
+      exit = emptying names place (keep_orders slots ++ Return ∷ []) (omega arith) leave_row
+
+      exit_goes : Goes_to place leaving
+      exit_goes = (exit.1, λ k c. let e = exit.2 k c in omega (arith, e))
+
+      body_row : Rows entered (height slots 0) body
+      body_row = subst (λ h. Rows entered h body) leave_ends (row_back R all table base place leaving leave body has)
+
+      nils_typed : Types R 0 0 slots 0 nils slots names
+      nils_typed = types_same R 0 0 slots 0 nils slots (names + 0) slots names refl (omega arith) (nils_type R 0 0 names slots 0)
+
+      rows : Rows start base (statements ++ end)
+      rows = subst (λ h. Rows start h (statements ++ end)) (types_last R 0 0 base slots 0 nils slots names nils_typed) (row_back R all table base entered (height slots 0) nils (statements ++ end) body_row)
+
+      last : Rows (start + length statements) base end
+      last = subst (λ h. Rows (start + length statements) h end) statements_end (row_back R all table base start base statements end rows)
+
+      statements_follow : Follows R all table base start base statements
+      statements_follow = row_front R all table base start base statements end (subst (Goes_to (start + length statements)) (sym statements_end) (opens_goes R all table (start + length statements) base (Plain (Num (pos 0))) tt last.0 last.1)) rows
+
+      nils_follow : Follows R all table base entered (height slots 0) nils
+      nils_follow = row_front R all table base entered (height slots 0) nils (statements ++ end) (subst (Goes_to start) (sym (types_last R 0 0 base slots 0 nils slots names nils_typed)) (goes_here R all table base start base statements (block_ordinary R all table slots names place (commands_block R slots names cs) slots names slots names (commands_type R slots names cs)) statements_follow)) body_row
+
+      pub entry_goes : Goes_to entered (height slots 0)
+      entry_goes = goes_here R all table base entered (height slots 0) nils (types_ordinary R 0 0 slots 0 nils slots names nils_typed) nils_follow
+
+      leave_steps : Step_all place leave
+      leave_steps =
+          let q = place + length (emptied names) in
+          let keep = keep_orders slots in
+          let emptied_same = types_emptied in
+          let behind = subst (λ h. Rows q h (forgotten ++ Return ∷ [])) emptied_same (row_back R all table base place leaving (emptied names) (forgotten ++ Return ∷ []) leave_row) in
+          let low : left R all table leaving (Plain (Forget names)) ≡ height (suc (slots + 0)) 0 = heights_same _ _ (suc (slots + 0)) 0 (omega arith) (omega arith) in
+          let kept = subst (λ h. Rows (q + 1) h (keep ++ Return ∷ [])) low behind.2 in
+          let typed = keep_types R 0 0 slots 0 0 in
+          let one = subst (λ h. Rows (q + 1 + length keep) h (Return ∷ [])) (types_last R 0 0 base (suc (slots + 0)) 0 keep 1 0 typed) (row_back R all table base (q + 1) (height (suc (slots + 0)) 0) keep (Return ∷ []) kept) in
+          let keeps = row_front R all table base (q + 1) (height (suc (slots + 0)) 0) keep (Return ∷ []) (subst (Goes_to (q + 1 + length keep)) (sym (types_last R 0 0 base (suc (slots + 0)) 0 keep 1 0 typed)) (opens_goes R all table (q + 1 + length keep) (height 1 0) Return tt one.0 one.1)) kept in
+          let next = goes_here R all table base (q + 1) (height (suc (slots + 0)) 0) keep (types_ordinary R 0 0 _ _ keep 1 0 typed) keeps in
+          step_then R all table place (emptied names) (forgotten ++ Return ∷ []) exit.0
+          ((leaving, behind.0, (refl, subst (Goes_to (q + 1)) (sym low) next)), step_then R all table (q + 1) keep (Return ∷ []) (typed_steps R all table base (q + 1) (suc (slots + 0)) 0 keep 1 0 typed keeps) ((height 1 0, one.0, (refl, refl)), tt))
+        where
+          types_emptied : last_height R base leaving (emptied names) ≡ leaving
+          types_emptied = emptied_ends names
+            where
+              empty_ends : (b : Bool) (i : ℕ) → last_height R base leaving (if b then Empty i ∷ [] else []) ≡ leaving
+              empty_ends true i = heights_same _ _ (suc slots) names (omega arith) (omega arith)
+              empty_ends false i = refl
+
+              emptied_ends : (n : ℕ) → last_height R base leaving (emptied n) ≡ leaving
+              emptied_ends zero = refl
+              emptied_ends (suc n) = last_append R base leaving (if nat_lt (0 + n) names then Empty (0 + n) ∷ [] else []) (emptied n) ∙ ap (λ h. last_height R base h (emptied n)) (empty_ends (nat_lt (0 + n) names) (0 + n)) ∙ emptied_ends n
+
+      pub function_steps : Step_all place (leave ++ body)
+      function_steps =
+          let up : next_height R base (Plain (Num (pos 0))) base ≡ leaving = heights_same _ _ (suc slots) names (omega arith) (omega arith) in
+          let q = start + length statements in
+          step_then R all table place leave body leave_steps
+          (step_then R all table entered nils (statements ++ end) (typed_steps R all table base entered slots 0 nils slots names nils_typed nils_follow)
+          (step_then R all table start statements end (block_steps R all table slots names place exit_goes (commands_block R slots names cs) slots names slots names start (commands_type R slots names cs) statements_follow)
+          ((base, last.0, (tt, opens_goes R all table (q + 1) _ (Jump (At place)) tt last.2.0 last.2.1)), ((leaving, last.2.0 ∙ ap Some up, exit_goes), tt))))
+
+  -- ---- all functions
+
+  abbrev row : (base h : Height) (pc : ℕ) (xs : List Order) → Both pc (heights R base h xs) xs → Row R all table base pc h xs
+  row base h pc xs f = row_of R all table base pc h xs f.0 f.1
+
+  function_length : (place : ℕ) (g : Function) → length (function_heights R place g) ≡ length (function_orders R place g)
+  function_length place g = heights_length R _ _ (function_orders R place g)
+
+  pub record Entered (entries : List ℕ) (n slots : ℕ) : Type 0 where
+    pub at : ℕ
+    pub is : slice_get entries n ≡ Some at
+    pub goes : Goes R all table at (height slots 0)
+
+  functions_begin : (fs : List Function) (place n : ℕ) (f : Function) → Both place (functions_heights R place fs) (functions_orders R place fs) → slice_get fs n ≡ Some f → Entered (entries_from R place fs) n f.slots
+  functions_begin [] place n f has e = cc
+  functions_begin (g ∷ fs) place zero f has e =
+      let same : g ≡ f = cc in
+      let xs = function_orders R place g in
+      let here = both_front place (function_heights R place g) (functions_heights R (place + length xs) fs) xs _ (function_length place g) has in
+      record { at = entry_of place g; is = refl; goes = subst (λ (h : Function). Goes_to (entry_of place g) (height h.slots 0)) same (entry_goes place g.slots g.names g.body (row (height g.slots g.names) (height (suc g.slots) g.names) place xs here)) }
+  functions_begin (g ∷ fs) place (suc n) f has e =
+      let xs = function_orders R place g in
+      let there = functions_begin fs (place + length xs) n f (both_back place (function_heights R place g) (functions_heights R (place + length xs) fs) xs _ (function_length place g) has) e in
+      record { at = there.at; is = there.is; goes = there.goes }
+
+  functions_step : (fs : List Function) (place : ℕ) → Both place (functions_heights R place fs) (functions_orders R place fs) → Step_all place (functions_orders R place fs)
+  functions_step [] place has = tt
+  functions_step (g ∷ fs) place has =
+      let xs = function_orders R place g in
+      let rest = functions_heights R (place + length xs) fs in
+      step_then R all table place xs (functions_orders R (place + length xs) fs) (function_steps place g.slots g.names g.body (row (height g.slots g.names) (height (suc g.slots) g.names) place xs (both_front place (function_heights R place g) rest xs _ (function_length place g) has)))
+      (functions_step fs (place + length xs) (both_back place (function_heights R place g) rest xs _ (function_length place g) has))
+
+  functions_length : (fs : List Function) (place : ℕ) → length (functions_heights R place fs) ≡ length (functions_orders R place fs)
+  functions_length [] place = refl
+  functions_length (g ∷ fs) place =
+      let xs = function_orders R place g in
+      omega (arith, length-append (function_heights R place g) (functions_heights R (place + length xs) fs), length-append xs (functions_orders R (place + length xs) fs), function_length place g, functions_length fs (place + length xs))
+
+  -- ---- stubs
+
+  abbrev zeroed : Height
+  zeroed = height 0 0
+
+  abbrev stub : (values f : ℕ) → List Order
+  stub values f = stub_orders R (entries_of R) values f
+
+  stub_length : (values f : ℕ) → length (stub_heights R (entries_of R) values f) ≡ length (stub values f)
+  stub_length values f = heights_length R zeroed (height values 0) (stub values f)
+
+  fit_typed : (values slots : ℕ) → Types R 0 0 values 0 (fit_orders values slots) slots 0
+  fit_typed values slots =
+      let v : values + 0 ≡ values = omega arith in
+      let s : slots + 0 ≡ slots = omega arith in
+      subst (λ n. Types R 0 0 n 0 (fit_orders values slots) slots 0) v (subst (λ m. Types R 0 0 (values + 0) 0 (fit_orders values slots) m 0) s (fit_types R 0 0 values slots 0 0))
+
+  module _ (values f place : ℕ) (has : Both place (stub_heights R (entries_of R) values f) (stub values f)) where
+    abbrev fit : List Order
+    fit = fit_orders values (slots_of R f)
+
+    abbrev to : ℕ
+    to = slice_index_or (entries_of R) (number_of R f) 0
+
+    stub_row : Row R all table zeroed place (height values 0) (stub values f)
+    stub_row = row zeroed (height values 0) place (stub values f) has
+
+    stub_last : Row R all table zeroed (place + length fit) (height (slots_of R f) 0) (Jump (At to) ∷ [])
+    stub_last = subst (λ h. Row R all table zeroed (place + length fit) h (Jump (At to) ∷ [])) (types_last R 0 0 zeroed values 0 fit (slots_of R f) 0 (fit_typed values (slots_of R f))) (row_back R all table zeroed place (height values 0) fit (Jump (At to) ∷ []) stub_row)
+
+    stub_follows : Follows R all table zeroed place (height values 0) fit
+    stub_follows = row_front R all table zeroed place (height values 0) fit (Jump (At to) ∷ []) (subst (Goes_to (place + length fit)) (sym (types_last R 0 0 zeroed values 0 fit (slots_of R f) 0 (fit_typed values (slots_of R f)))) (opens_goes R all table (place + length fit) (height (slots_of R f) 0) (Jump (At to)) tt stub_last.0 stub_last.1)) stub_row
+
+    pub stub_goes : Goes_to place (height values 0)
+    stub_goes = goes_here R all table zeroed place (height values 0) fit (types_ordinary R 0 0 values 0 fit (slots_of R f) 0 (fit_typed values (slots_of R f))) stub_follows
+
+    stub_steps : Goes_to to (height (slots_of R f) 0) → Step_all place (stub values f)
+    stub_steps goes = step_then R all table place fit (Jump (At to) ∷ []) (typed_steps R all table zeroed place values 0 fit (slots_of R f) 0 (fit_typed values (slots_of R f)) stub_follows) ((height (slots_of R f) 0, stub_last.0, goes), tt)
+
+  methods_length : (ms : List Method) → length (methods_heights R (entries_of R) ms) ≡ length (methods_orders R (entries_of R) ms)
+  methods_length [] = refl
+  methods_length (m ∷ others) =
+      let n = passes m.sign m.takes in
+      omega (arith, length-append (stub_heights R (entries_of R) n m.runs) (methods_heights R (entries_of R) others), length-append (stub n m.runs) (methods_orders R (entries_of R) others), stub_length n m.runs, methods_length others)
+
+  dealloc_length : (d : Option ℕ) → length (dealloc_heights R (entries_of R) d) ≡ length (dealloc_orders R (entries_of R) d)
+  dealloc_length None = refl
+  dealloc_length (Some f) = stub_length 0 f
+
+  class_length : (c : Class) → length (class_heights R (entries_of R) c) ≡ length (class_orders R (entries_of R) c)
+  class_length c = omega (arith, length-append (dealloc_heights R (entries_of R) c.dealloc) (methods_heights R (entries_of R) c.methods), length-append (dealloc_orders R (entries_of R) c.dealloc) (methods_orders R (entries_of R) c.methods), dealloc_length c.dealloc, methods_length c.methods)
+
+  -- the stubs of a class, and those of the classes behind it
+  abbrev Methods : ℕ → List Method → Type 0
+  Methods place ms = Both place (methods_heights R (entries_of R) ms) (methods_orders R (entries_of R) ms)
+
+  abbrev Classes : ℕ → List Class → Type 0
+  Classes place cs = Both place (classes_heights R (entries_of R) cs) (classes_orders R (entries_of R) cs)
+
+  first_method : (place : ℕ) (m : Method) (others : List Method) → Methods place (m ∷ others) → Both place (stub_heights R (entries_of R) (passes m.sign m.takes) m.runs) (stub (passes m.sign m.takes) m.runs)
+  first_method place m others has = both_front place _ (methods_heights R (entries_of R) others) _ _ (stub_length (passes m.sign m.takes) m.runs) has
+
+  other_methods : (place : ℕ) (m : Method) (others : List Method) → Methods place (m ∷ others) → Methods (place + length (stub (passes m.sign m.takes) m.runs)) others
+  other_methods place m others has = both_back place (stub_heights R (entries_of R) (passes m.sign m.takes) m.runs) _ (stub (passes m.sign m.takes) m.runs) _ (stub_length (passes m.sign m.takes) m.runs) has
+
+  first_class : (place : ℕ) (c : Class) (others : List Class) → Classes place (c ∷ others) → Both place (class_heights R (entries_of R) c) (class_orders R (entries_of R) c)
+  first_class place c others has = both_front place _ (classes_heights R (entries_of R) others) _ _ (class_length c) has
+
+  other_classes : (place : ℕ) (c : Class) (others : List Class) → Classes place (c ∷ others) → Classes (place + length (class_orders R (entries_of R) c)) others
+  other_classes place c others has = both_back place (class_heights R (entries_of R) c) _ (class_orders R (entries_of R) c) _ (class_length c) has
+
+  class_dealloc : (place : ℕ) (c : Class) → Both place (class_heights R (entries_of R) c) (class_orders R (entries_of R) c) → Both place (dealloc_heights R (entries_of R) c.dealloc) (dealloc_orders R (entries_of R) c.dealloc)
+  class_dealloc place c has = both_front place _ (methods_heights R (entries_of R) c.methods) _ _ (dealloc_length c.dealloc) has
+
+  class_methods : (place : ℕ) (c : Class) → Both place (class_heights R (entries_of R) c) (class_orders R (entries_of R) c) → Methods (place + length (dealloc_orders R (entries_of R) c.dealloc)) c.methods
+  class_methods place c has = both_back place (dealloc_heights R (entries_of R) c.dealloc) _ (dealloc_orders R (entries_of R) c.dealloc) _ (dealloc_length c.dealloc) has
+
+  module _ (target : (f : ℕ) → Goes_to (slice_index_or (entries_of R) (number_of R f) 0) (height (slots_of R f) 0)) where
+    methods_step : (ms : List Method) (place : ℕ) → Methods place ms → Step_all place (methods_orders R (entries_of R) ms)
+    methods_step [] place has = tt
+    methods_step (m ∷ others) place has =
+        let n = passes m.sign m.takes in
+        step_then R all table place (stub n m.runs) (methods_orders R (entries_of R) others) (stub_steps n m.runs place (first_method place m others has) (target m.runs)) (methods_step others (place + length (stub n m.runs)) (other_methods place m others has))
+
+    dealloc_steps : (d : Option ℕ) (place : ℕ) → Both place (dealloc_heights R (entries_of R) d) (dealloc_orders R (entries_of R) d) → Step_all place (dealloc_orders R (entries_of R) d)
+    dealloc_steps None place has = tt
+    dealloc_steps (Some f) place has = stub_steps 0 f place has (target f)
+
+    classes_step : (cs : List Class) (place : ℕ) → Classes place cs → Step_all place (classes_orders R (entries_of R) cs)
+    classes_step [] place has = tt
+    classes_step (c ∷ others) place has =
+        let here = first_class place c others has in
+        let first = dealloc_orders R (entries_of R) c.dealloc in
+        step_then R all table place (class_orders R (entries_of R) c) (classes_orders R (entries_of R) others)
+        (step_then R all table place first (methods_orders R (entries_of R) c.methods) (dealloc_steps c.dealloc place (class_dealloc place c here)) (methods_step c.methods (place + length first) (class_methods place c here)))
+        (classes_step others (place + length (class_orders R (entries_of R) c)) (other_classes place c others has))
+
+  -- ---- what messages and ends of objects find
+
+  found_goes : (ms : List Method) (place : ℕ) → Methods place ms → (sign : Sign) (selector takes to : ℕ) → found sign selector takes (linked_methods R (entries_of R) place ms) ≡ Some to → Goes_to to (height (passes sign takes) 0)
+  found_goes [] place has sign selector takes to e = cc
+  found_goes (m ∷ others) place has sign selector takes to e =
+      by (found_goes others (place + length (stub (passes m.sign m.takes) m.runs)) (other_methods place m others has) sign selector takes to)
+      (stub_goes (passes m.sign m.takes) m.runs place (first_method place m others has)) (answers sign selector takes m) refl e
+    where
+      by : (found sign selector takes (linked_methods R (entries_of R) (place + length (stub (passes m.sign m.takes) m.runs)) others) ≡ Some to → Goes_to to (height (passes sign takes) 0)) → Goes_to place (height (passes m.sign m.takes) 0) → (t : Bool) → answers sign selector takes m ≡ t
+          → (if t then Some place else found sign selector takes (linked_methods R (entries_of R) (place + length (stub (passes m.sign m.takes) m.runs)) others)) ≡ Some to → Goes_to to (height (passes sign takes) 0)
+      by rest here true is e = subst (λ n. Goes_to n (height (passes sign takes) 0)) (some_same place to e) (subst (λ n. Goes_to place (height n 0)) (passes_same sign selector takes m is) here)
+      by rest here false is e = rest e
+
+  -- the classes of a program, with their stubs
+  record Finds (d : Class) : Type 0 where
+    methods : (sign : Sign) (selector takes to : ℕ) → found sign selector takes d.methods ≡ Some to → Goes R all table to (height (passes sign takes) 0)
+    dealloc : (to : ℕ) → d.dealloc ≡ Some to → Goes R all table to (height 0 0)
+
+  stub_found : (d : Option ℕ) (place to : ℕ) → Both place (dealloc_heights R (entries_of R) d) (dealloc_orders R (entries_of R) d) → linked_dealloc place d ≡ Some to → Goes_to to zeroed
+  stub_found None place to has e = cc
+  stub_found (Some f) place to has e = subst (λ n. Goes_to n zeroed) (some_same place to e) (stub_goes 0 f place has)
+
+  class_finds : (cs : List Class) (place i : ℕ) (d : Class) → Classes place cs → slice_get (linked_classes R (entries_of R) place cs) i ≡ Some d → Finds d
+  class_finds [] place i d has e = cc
+  class_finds (c ∷ others) place zero d has e =
+      let here = first_class place c others has in
+      let q = place + length (dealloc_orders R (entries_of R) c.dealloc) in
+      subst Finds (some_same _ d e) (record { methods = λ sign selector takes to e. found_goes c.methods q (class_methods place c here) sign selector takes to e; dealloc = λ to e. stub_found c.dealloc place to (class_dealloc place c here) e })
+  class_finds (c ∷ others) place (suc i) d has e = class_finds others (place + length (class_orders R (entries_of R) c)) i d (other_classes place c others has) e
+
+  own_goes : (o : Option Class) → ((d : Class) → o ≡ Some d → Finds d) → (sign : Sign) (selector takes to : ℕ) → found sign selector takes (own_methods o) ≡ Some to → Goes_to to (height (passes sign takes) 0)
+  own_goes None finds sign selector takes to e = cc
+  own_goes (Some d) finds sign selector takes to e = (finds d refl).methods sign selector takes to e
+
+  first_of : (Q : Type 0) (go : ℕ → Option ℕ) (to : ℕ) → ((c : ℕ) → go c ≡ Some to → Q) → (cs : List ℕ) → first_that_has go cs ≡ Some to → Q
+  first_of Q go to one [] e = cc
+  first_of Q go to one (c ∷ cs) e = by (first_of Q go to one cs) (go c) refl e
+    where
+      by : (first_that_has go cs ≡ Some to → Q) → (o : Option ℕ) → go c ≡ o → or_else o (first_that_has go cs) ≡ Some to → Q
+      by rest None is e = rest e
+      by rest (Some a) is e = one c (is ∙ e)
+
+  -- ---- the program
+
+  abbrev first : List Height
+  first = start_heights R
+
+  abbrev functions : List Height
+  functions = functions_heights R (length (start_orders R)) (all_functions R)
+
+  abbrev function_list : List Order
+  function_list = functions_orders R (length (start_orders R)) (all_functions R)
+
+  start_length : length first ≡ length (start_orders R)
+  start_length = heights_length R zeroed zeroed (start_orders R)
+
+  running_length : length (first ++ functions) ≡ length (running_orders R)
+  running_length = omega (arith, length-append first functions, length-append (start_orders R) function_list, start_length, functions_length (all_functions R) (length (start_orders R)))
+
+  classes_length : (cs : List Class) → length (classes_heights R (entries_of R) cs) ≡ length (classes_orders R (entries_of R) cs)
+  classes_length [] = refl
+  classes_length (c ∷ others) = omega (arith, length-append (class_heights R (entries_of R) c) (classes_heights R (entries_of R) others), length-append (class_orders R (entries_of R) c) (classes_orders R (entries_of R) others), class_length c, classes_length others)
+
+  has_all : Both 0 table all
+  has_all = (has_whole table, has_whole all, omega (arith, length-append (first ++ functions) (classes_heights R (entries_of R) R.classes), length-append (running_orders R) (classes_orders R (entries_of R) R.classes), running_length, classes_length R.classes))
+
+  has_running : Both 0 (first ++ functions) (running_orders R)
+  has_running = both_front 0 (first ++ functions) (classes_heights R (entries_of R) R.classes) (running_orders R) (classes_orders R (entries_of R) R.classes) running_length has_all
+
+  none_more : (n : ℕ) → 0 + n ≡ n
+  none_more n = omega arith
+
+  has_start : Both 0 first (start_orders R)
+  has_start = both_front 0 first functions (start_orders R) function_list start_length has_running
+
+  has_functions : Both (length (start_orders R)) functions function_list
+  has_functions = subst (λ n. Both n functions function_list) (none_more (length (start_orders R))) (both_back 0 first functions (start_orders R) function_list start_length has_running)
+
+  has_stubs : Classes (length (running_orders R)) R.classes
+  has_stubs = subst (λ n. Classes n R.classes) (none_more (length (running_orders R))) (both_back 0 (first ++ functions) (classes_heights R (entries_of R) R.classes) (running_orders R) (classes_orders R (entries_of R) R.classes) running_length has_all)
+
+  -- a function is entered with its variables
+  pub entered_at : (f : ℕ) → Entered (entries_of R) (number_of R f) (slots_of R f)
+  entered_at f = functions_begin (all_functions R) (length (start_orders R)) (number_of R f) (function_at R f) has_functions (numbered R f)
+
+  get_index : (list : List ℕ) (n x : ℕ) → slice_get list n ≡ Some x → slice_index_or list n 0 ≡ x
+  get_index [] n x e = cc
+  get_index (y ∷ list) zero x e = cc
+  get_index (y ∷ list) (suc n) x e = get_index list n x e
+
+  target : (f : ℕ) → Goes_to (slice_index_or (entries_of R) (number_of R f) 0) (height (slots_of R f) 0)
+  target f = let e = entered_at f in subst (λ n. Goes_to n (height (slots_of R f) 0)) (sym (get_index (entries_of R) (number_of R f) e.at e.is)) e.goes
+
+  pub methods_go : (from : Option ℕ) (sign : Sign) (selector takes to : ℕ) → lookup (classes_linked R) from sign selector takes ≡ Some to → Goes_to to (height (passes sign takes) 0)
+  methods_go from sign selector takes to e =
+      first_of (Goes_to to (height (passes sign takes) 0)) (λ c. found sign selector takes (own_methods (slice_get (classes_linked R) c))) to (λ c f.
+      own_goes (slice_get (classes_linked R) c) (λ d is. class_finds R.classes (length (running_orders R)) c d has_stubs is) sign selector takes to f) (ancestry (superclasses (classes_linked R)) from) e
+
+  pub dealloc_goes : (i : ℕ) (d : Class) (to : ℕ) → slice_get (classes_linked R) i ≡ Some d → d.dealloc ≡ Some to → Goes_to to (height 0 0)
+  dealloc_goes i d to is e = (class_finds R.classes (length (running_orders R)) i d has_stubs is).dealloc to e
+
+  abbrev zeros : List Order
+  zeros = zero_orders (slots_of R R.main)
+
+  abbrev call : List Order
+  call = Call (number_of R R.main) ∷ (Return ∷ (EndStep ∷ []))
+
+  zeros_typed : Types R 0 0 0 0 zeros (slots_of R R.main) 0
+  zeros_typed = types_same R 0 0 0 0 zeros (slots_of R R.main + 0) 0 (slots_of R R.main) 0 (omega arith) refl (zeros_type R 0 0 (slots_of R R.main) 0 0)
+
+  start_row : Row R all table zeroed 0 zeroed (start_orders R)
+  start_row = row zeroed zeroed 0 (start_orders R) has_start
+
+  call_row : Row R all table zeroed (0 + length zeros) (height (slots_of R R.main) 0) call
+  call_row = subst (λ h. Row R all table zeroed (0 + length zeros) h call) (types_last R 0 0 zeroed 0 0 zeros (slots_of R R.main) 0 zeros_typed) (row_back R all table zeroed 0 zeroed zeros call start_row)
+
+  zeros_follow : Follows R all table zeroed 0 zeroed zeros
+  zeros_follow = row_front R all table zeroed 0 zeroed zeros call (subst (Goes_to (0 + length zeros)) (sym (types_last R 0 0 zeroed 0 0 zeros (slots_of R R.main) 0 zeros_typed)) (opens_goes R all table (0 + length zeros) (height (slots_of R R.main) 0) (Call (number_of R R.main)) tt call_row.0 call_row.1)) start_row
+
+  pub start_goes : Goes_to 0 zeroed
+  start_goes = goes_here R all table zeroed 0 zeroed zeros (types_ordinary R 0 0 0 0 zeros (slots_of R R.main) 0 zeros_typed) zeros_follow
+
+  -- the order at which the ends of objects go on
+  pub end_is : slice_get all (end_step_of R) ≡ Some EndStep
+  end_is =
+      let e : 0 + length zeros + 1 + 1 ≡ end_step_of R = omega (arith, zeros_length (slots_of R R.main)) in
+      subst (λ n. slice_get all n ≡ Some EndStep) e call_row.2.2.1
+
+  start_steps : Step_all 0 (start_orders R)
+  start_steps =
+      let q = 0 + length zeros in
+      let s = slots_of R R.main in
+      let rest = call_row.2 in
+      let called : next_height R zeroed (Call (number_of R R.main)) (height s 0) ≡ height 1 0 = heights_same _ _ 1 0 (omega (arith, slots_same R R.main)) (omega arith) in
+      let one = rest.0 ∙ ap Some called in
+      step_then R all table 0 zeros call (typed_steps R all table zeroed 0 0 0 zeros s 0 zeros_typed zeros_follow) (
+        (height s 0, call_row.0, ((omega (arith, slots_same R R.main), number_there R R.main), opens_goes R all table (q + 1) _ Return tt rest.0 rest.1)),
+        ((height 1 0, one, (refl, refl)), ((height 0 0, rest.2.0, (refl, refl)), tt)),
+      )
+
+  program_steps : Step_all 0 (lowered R)
+  program_steps =
+      step_then R all table 0 (running_orders R) (classes_orders R (entries_of R) R.classes)
+      (step_then R all table 0 (start_orders R) function_list start_steps (subst (λ n. Step_all n function_list) (sym (none_more (length (start_orders R)))) (functions_step (all_functions R) (length (start_orders R)) has_functions)))
+      (subst (λ n. Step_all n (classes_orders R (entries_of R) R.classes)) (sym (none_more (length (running_orders R)))) (classes_step target R.classes (length (running_orders R)) has_stubs))
+
+  step_at : (xs : List Order) (pc i : ℕ) (x : Order) → Step_all pc xs → slice_get xs i ≡ Some x → StepsAt R all table (pc + i) x
+  step_at [] pc i x steps e = cc
+  step_at (y ∷ xs) pc zero x steps e =
+      let n : pc ≡ pc + 0 = omega arith in
+      subst (λ q. StepsAt R all table q x) n (subst (StepsAt R all table pc) (some_same y x e) steps.0)
+  step_at (y ∷ xs) pc (suc i) x steps e =
+      let n : pc + 1 + i ≡ pc + suc i = omega arith in
+      subst (λ q. StepsAt R all table q x) n (step_at xs (pc + 1) i x steps.1 e)
+
+  pub steps_at : (pc : ℕ) (x : Order) → slice_get (lowered R) pc ≡ Some x → StepsAt R all table pc x
+  steps_at pc x e = subst (λ q. StepsAt R all table q x) (none_more pc) (step_at (lowered R) 0 pc x program_steps e)
