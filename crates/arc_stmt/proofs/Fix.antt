@@ -5,8 +5,8 @@ use Rattle.arc_form.specs.Reader.{nested}
 use Rattle.arc_form.proofs.Static.{nullable, decided}
 use Rattle.arc_form.proofs.Local.{Local}
 use Rattle.arc_form.proofs.FormLocal.{solid, read_is, form_front}
-use Rattle.arc_grammar.specs.Grammar.{Part, these, rules, reads, body, stmt, begins_stmt, statement, item, by_name, further, more, continued, literal, field_name, arrows, next_argument, more_arguments, some_arguments, no_arguments, given, arguments, named, argument_part, next_part, more_parts, parts, sent, to_super, to_object, message, inside, cast_to_id, cast, product, starred, parenthesized, primary, postfix, negated, plus, prefixed, operations, assigned, operation, expression, full, initial, variable, next_variable, more_variables, declaration, reference, next_reference, more_references, objects}
-use Rattle.arc_grammar.proofs.Fits.{facts, sure}
+use Rattle.arc_grammar.specs.Grammar.{Part, these, rules, reads, body, stmt, begins_stmt, statement, item, next_variable, next_reference}
+use Rattle.arc_grammar.proofs.Fits.{facts, sure, lines}
 
 pub read_stmt : (d : ℕ) (ts : List Tok) → rules these (stmt d) ts ≡ nested (Some 200) d begins_stmt (reads (statement d)) ts
 unfolding body
@@ -17,13 +17,13 @@ front : {A : Type 0} (part : Part A) → decided facts part ≡ true → nullabl
 front part d n j = solid (nullable facts part) n (form_front facts body sure these part d j)
 
 pub variable_front : (j : ℕ) → Local ⊥ 1 j (reads next_variable) (reads next_variable)
-unfolding further more continued literal field_name arrows next_argument more_arguments some_arguments no_arguments given arguments named argument_part next_part more_parts parts sent to_super to_object message inside cast_to_id cast product starred parenthesized primary postfix negated plus prefixed operations assigned operation expression full initial variable next_variable more_variables declaration reference next_reference more_references objects
+unfolding lines
 variable_front j = front next_variable refl refl j
 
 pub reference_front : (j : ℕ) → Local ⊥ 1 j (reads next_reference) (reads next_reference)
-unfolding further more continued literal field_name arrows next_argument more_arguments some_arguments no_arguments given arguments named argument_part next_part more_parts parts sent to_super to_object message inside cast_to_id cast product starred parenthesized primary postfix negated plus prefixed operations assigned operation expression full initial variable next_variable more_variables declaration reference next_reference more_references objects
+unfolding lines
 reference_front j = front next_reference refl refl j
 
 pub item_front : (d j : ℕ) → Local ⊥ 1 j (reads (item d)) (reads (item d))
-unfolding item by_name further more continued literal field_name arrows next_argument more_arguments some_arguments no_arguments given arguments named argument_part next_part more_parts parts sent to_super to_object message inside cast_to_id cast product starred parenthesized primary postfix negated plus prefixed operations assigned operation expression full initial variable next_variable more_variables declaration reference next_reference more_references objects
+unfolding lines
 item_front d j = front (item d) refl refl j

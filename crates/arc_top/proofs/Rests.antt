@@ -11,9 +11,8 @@ use Rattle.arc_form.proofs.Sets.{name_has}
 use Rattle.arc_form.proofs.Static.{nullable, decided}
 use Rattle.arc_form.proofs.Local.{Local}
 use Rattle.arc_form.proofs.FormLocal.{solid, form_front}
-use Rattle.arc_grammar.specs.Grammar.{Part, Signature, these, reads, body, the, parameter, next_parameter, second, texts, parameters, parameters_of_main, signature_of_main, other_signature, signature, further, more, continued, literal, field_name, arrows, next_argument, more_arguments, some_arguments, no_arguments, given, arguments, argument_part, next_part, more_parts, parts, sent, to_super, to_object, message, inside, cast_to_id, cast, product, starred, parenthesized, primary, postfix, negated, plus, prefixed, operations, assigned, operation, expression, full, initial, variable, next_variable, more_variables, declaration, reference, next_reference, more_references, objects, by_name, item, items, braces, result_kind, typed, next_typed, typed_parts, selector, sign, method_head, next_head, perhaps_semicolon, method}
-use Rattle.arc_grammar.specs.Grammar as grammar
-use Rattle.arc_grammar.proofs.Fits.{facts, sure}
+use Rattle.arc_grammar.specs.Grammar.{Part, Signature, these, reads, body, the, next_parameter, second, texts, parameters, parameters_of_main, signature_of_main, other_signature, signature, next_typed, next_head, method}
+use Rattle.arc_grammar.proofs.Fits.{facts, sure, lines}
 use Rattle.arc_top.specs.Signatures.{reads_after, parameters_if_main, enclosed}
 
 -- a part that is some token at least takes one
@@ -21,19 +20,19 @@ pub front : {A : Type 0} (part : Part A) → decided facts part ≡ true → nul
 front part d n j = solid (nullable facts part) n (form_front facts body sure these part d j)
 
 pub parameter_front : (j : ℕ) → Local ⊥ 1 j (reads next_parameter) (reads next_parameter)
-unfolding parameter next_parameter
+unfolding lines
 parameter_front j = front next_parameter refl refl j
 
 pub typed_front : (j : ℕ) → Local ⊥ 1 j (reads next_typed) (reads next_typed)
-unfolding typed next_typed
+unfolding lines
 typed_front j = front next_typed refl refl j
 
 pub head_front : (j : ℕ) → Local ⊥ 1 j (reads next_head) (reads next_head)
-unfolding result_kind typed next_typed typed_parts selector sign method_head next_head
+unfolding lines
 head_front j = front next_head refl refl j
 
 pub method_front : (j : ℕ) → Local ⊥ 1 j (reads method) (reads method)
-unfolding further more continued literal field_name arrows next_argument more_arguments some_arguments no_arguments given arguments grammar.named argument_part next_part more_parts parts sent to_super to_object message inside cast_to_id cast product starred parenthesized primary postfix negated plus prefixed operations assigned operation expression full initial variable next_variable more_variables declaration reference next_reference more_references objects by_name item items braces result_kind typed next_typed typed_parts selector sign method_head perhaps_semicolon method
+unfolding lines
 method_front j = front method refl refl j
 
 -- after the first parameter of `main` and a comma, the texts
