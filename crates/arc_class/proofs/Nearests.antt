@@ -3,8 +3,10 @@ use Rattle.std.proofs.Common.{◌≡◌, ℕ, zero, suc, ◌+◌, List, [], ◌�
 use Rattle.std.proofs.lemmas.List.{length-append}
 use Rattle.std.proofs.lemmas.Option.{slice_get-map}
 use Rattle.arc_ast.specs.declared.tree.Sign.{Sign}
+use Rattle.arc_ast.specs.Tree.{head_tree}
 use Rattle.arc_class.specs.declared.fields.ClassFields.{ClassFields}
 use Rattle.arc_class.specs.declared.table.Entry.{Entry}
+use Rattle.arc_class.specs.Classes.{result_of}
 use Rattle.arc_class.specs.Lookups.{at_name, head_at, superclass_among, superclass_of_entry, own_result_in, superclass_of_fields, own_field_in}
 use Rattle.arc_class.specs.Owners.{view_at, with_own, owner_by, entry_view}
 use Rattle.arc_class.proofs.Chains.{Follows, follows_root, follows_class}
