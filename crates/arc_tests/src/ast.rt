@@ -25,7 +25,7 @@ fn are_copied(rt: HostRuntime) {
     let object = TypeName::Object(7, name);
     let copied = object.copy(alloc).expect(&rt, "no copy");
     let TypeName::Object(at, name) = copied else {
-        return;
+        panic!(rt; "no object");
     };
     assert_eq!(rt; at, 7);
     assert_eq!(rt; name.as_slice(), b"A".as_slice());
