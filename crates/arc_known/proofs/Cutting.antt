@@ -1,0 +1,114 @@
+-- The tokens of a source, computed: a piece at a time.
+use Rattle.std.proofs.Common.{◌≡◌, ◌<◌, ℕ, zero, suc, ◌+◌, List, [], ◌∷◌, ◌++◌, append_assoc, length, drop, Bool, true, false, cond, nat_eq, Option, Some, None, refl, sym, ap, subst, ◌∙◌, arith}
+use Rattle.std.proofs.lemmas.Bool.{eqb-true}
+use Rattle.std.proofs.lemmas.List.{append-nil}
+use Rattle.arc_lex.specs.Source.{Cuts, done}
+use Rattle.arc_lex.specs.Texts.{Part, Plain, Escape}
+use Rattle.arc_lex.specs.Tokens.{Tok}
+use Rattle.arc_lex.specs.private.Pieces.{Piece, Blank, Whole, Broken, Law, piece, parts_piece, text_piece, scan}
+use Rattle.arc_lex.proofs.Law.{piece_law}
+use Rattle.arc_lex.proofs.Walks.{blank_cuts, token_cuts}
+
+-- ---- texts
+
+abbrev pub in_front : {A : Type 0} → A → Option (List A) → Option (List A)
+in_front a None = None
+in_front a (Some others) = Some (a ∷ others)
+
+abbrev pub byte_step : (escaped ends_line closes escapes : Bool) → ℕ → (Bool → Option (List Part)) → Option (List Part)
+byte_step escaped true closes escapes b later = None
+byte_step true false closes escapes b later = in_front (Escape b) (later false)
+byte_step false false true escapes b later = Some []
+byte_step false false false true b later = later true
+byte_step false false false false b later = in_front (Plain b) (later false)
+
+-- what `scan` finds, with one call at each byte: it computes both of its own, and so all of the rest of the source in each way
+abbrev pub parts_of : List ℕ → (escaped : Bool) → Option (List Part)
+parts_of [] = λ escaped. None
+parts_of (b ∷ bs) = λ escaped. byte_step escaped (nat_eq b 10) (nat_eq b 34) (nat_eq b 92) b (parts_of bs)
+
+abbrev behind : List Part → Option (List Part) → Option (List Part)
+behind ps None = None
+behind ps (Some qs) = Some (ps ++ qs)
+
+behind_one : (ps : List Part) (p : Part) (found : Option (List Part)) → behind (ps ++ p ∷ []) found ≡ behind ps (in_front p found)
+behind_one ps p None = refl
+behind_one ps p (Some qs) = ap Some (append_assoc ps (p ∷ []) qs)
+
+scanned : (escaped : Bool) (ps : List Part) (bs : List ℕ) → scan escaped ps bs ≡ behind ps (parts_of bs escaped)
+scanned true ps [] = refl
+scanned false ps [] = refl
+scanned true ps (b ∷ bs) = go (nat_eq b 10) (scanned false (ps ++ Escape b ∷ []) bs)
+  where
+    go : (n : Bool) → scan false (ps ++ Escape b ∷ []) bs ≡ behind (ps ++ Escape b ∷ []) (parts_of bs false)
+        → cond n None (scan false (ps ++ Escape b ∷ []) bs) ≡ behind ps (byte_step true n (nat_eq b 34) (nat_eq b 92) b (parts_of bs))
+    go true later = refl
+    go false later = later ∙ behind_one ps (Escape b) (parts_of bs false)
+scanned false ps (b ∷ bs) = go (nat_eq b 10) (nat_eq b 34) (nat_eq b 92) (scanned true ps bs) (scanned false (ps ++ Plain b ∷ []) bs)
+  where
+    go : (n q s : Bool) → scan true ps bs ≡ behind ps (parts_of bs true) → scan false (ps ++ Plain b ∷ []) bs ≡ behind (ps ++ Plain b ∷ []) (parts_of bs false)
+        → cond n None (cond q (Some ps) (cond s (scan true ps bs) (scan false (ps ++ Plain b ∷ []) bs))) ≡ behind ps (byte_step false n q s b (parts_of bs))
+    go true q s escaped plain = refl
+    go false true s escaped plain = ap Some (sym (append-nil ps))
+    go false false true escaped plain = escaped
+    go false false false escaped plain = plain ∙ behind_one ps (Plain b) (parts_of bs false)
+
+-- ---- pieces
+
+abbrev pub by_quote : Bool → ℕ → List ℕ → Piece
+by_quote true b bs = parts_piece (parts_of bs false)
+by_quote false b bs = piece (b ∷ bs)
+
+-- the piece at the front
+abbrev pub front : ℕ → List ℕ → Piece
+front b bs = by_quote (nat_eq b 34) b bs
+
+text_front : (bs : List ℕ) → parts_piece (parts_of bs false) ≡ piece (34 ∷ bs)
+unfolding piece text_piece
+text_front bs = sym (ap parts_piece (scanned false [] bs ∙ nothing_before (parts_of bs false)))
+  where
+    nothing_before : (found : Option (List Part)) → behind [] found ≡ found
+    nothing_before None = refl
+    nothing_before (Some ps) = refl
+
+front_is : (b : ℕ) (bs : List ℕ) → front b bs ≡ piece (b ∷ bs)
+front_is b bs = go (nat_eq b 34) refl
+  where
+    go : (q : Bool) → nat_eq b 34 ≡ q → by_quote q b bs ≡ piece (b ∷ bs)
+    go true e = subst (λ d. parts_piece (parts_of bs false) ≡ piece (d ∷ bs)) (sym (eqb-true b 34 e)) (text_front bs)
+    go false e = refl
+
+front_law : (b : ℕ) (bs : List ℕ) → Law (b ∷ bs) (front b bs)
+front_law b bs = subst (Law (b ∷ bs)) (sym (front_is b bs)) (piece_law (b ∷ bs) (omega arith))
+
+-- ---- tokens
+
+abbrev pub next : (ℕ → List ℕ → Option (List Tok)) → ℕ → List ℕ → Piece → Option (List Tok)
+next go at bytes Blank = go (at + 1) (drop 1 bytes)
+next go at bytes (Whole s n) = in_front (record { sort = s; from = at; to = at + n }) (go (at + n) (drop n bytes))
+next go at bytes (Broken rule) = None
+
+-- the tokens from a place on, of at most so many pieces
+abbrev pub tokens_of : (most : ℕ) → ℕ → List ℕ → Option (List Tok)
+tokens_of zero at bytes = None
+tokens_of (suc most) at [] = Some []
+tokens_of (suc most) at (b ∷ bs) = next (λ later rest. tokens_of most later rest) at (b ∷ bs) (front b bs)
+
+pub cuts : (most at : ℕ) (bytes : List ℕ) (ts : List Tok) → tokens_of most at bytes ≡ Some ts → Cuts at bytes ts
+cuts zero at bytes ts e = cc
+cuts (suc most) at [] ts e = let none : [] ≡ ts = cc in subst (Cuts at []) none (done at)
+cuts (suc most) at (b ∷ bs) ts e = go (front b bs) (front_law b bs) e (λ later rest others k. cuts most later rest others k)
+  where
+    Later : Type 0
+    Later = (later : ℕ) (rest : List ℕ) (others : List Tok) → tokens_of most later rest ≡ Some others → Cuts later rest others
+
+    go : (p : Piece) → Law (b ∷ bs) p → next (λ later rest. tokens_of most later rest) at (b ∷ bs) p ≡ Some ts → Later → Cuts at (b ∷ bs) ts
+    go Blank law f later = blank_cuts at (b ∷ bs) ts law (later (at + 1) bs ts f)
+    go (Whole s n) law f later = first (tokens_of most (at + n) (drop n (b ∷ bs))) refl f
+      where
+        first : (found : Option (List Tok)) → tokens_of most (at + n) (drop n (b ∷ bs)) ≡ found → in_front (record { sort = s; from = at; to = at + n }) found ≡ Some ts → Cuts at (b ∷ bs) ts
+        first None k f = cc
+        first (Some others) k f =
+            let all : record { sort = s; from = at; to = at + n } ∷ others ≡ ts = cc in
+            subst (Cuts at (b ∷ bs)) all (token_cuts at n s (b ∷ bs) others law (later (at + n) (drop n (b ∷ bs)) others k))
+    go (Broken rule) law f later = cc
