@@ -1,10 +1,10 @@
 -- The tokens of a source, computed: a piece at a time.
-use Rattle.std.proofs.Common.{◌≡◌, ◌<◌, ℕ, zero, suc, ◌+◌, List, [], ◌∷◌, ◌++◌, append_assoc, length, drop, Bool, true, false, cond, nat_eq, Option, Some, None, refl, sym, ap, subst, ◌∙◌, arith}
+use Rattle.std.proofs.Common.{◌≡◌, ◌<◌, ℕ, zero, suc, ◌+◌, pos, negsuc, List, [], ◌∷◌, ◌++◌, append_assoc, length, drop, Bool, true, false, cond, nat_eq, Option, Some, None, refl, sym, ap, subst, ◌∙◌, arith}
 use Rattle.std.proofs.lemmas.Bool.{eqb-true}
 use Rattle.std.proofs.lemmas.List.{append-nil}
 use Rattle.arc_lex.specs.Source.{Cuts, done}
 use Rattle.arc_lex.specs.Texts.{Part, Plain, Escape}
-use Rattle.arc_lex.specs.Tokens.{Tok}
+use Rattle.arc_lex.specs.Tokens.{Tok, Sort, Name, Integer, Text, Key, At, Sign}
 use Rattle.arc_lex.specs.private.Pieces.{Piece, Blank, Whole, Broken, Law, piece, parts_piece, text_piece, scan}
 use Rattle.arc_lex.proofs.Law.{piece_law}
 use Rattle.arc_lex.proofs.Walks.{blank_cuts, token_cuts}
@@ -81,12 +81,50 @@ front_is b bs = go (nat_eq b 34) refl
 front_law : (b : ℕ) (bs : List ℕ) → Law (b ∷ bs) (front b bs)
 front_law b bs = subst (Law (b ∷ bs)) (sym (front_is b bs)) (piece_law (b ∷ bs) (omega arith))
 
+-- ---- values that are computed once, before they are used
+
+abbrev pub with_number : {A : Type 0} → ℕ → (ℕ → A) → A
+with_number zero go = go zero
+with_number (suc n) go = go (suc n)
+
+abbrev pub with_bytes : {A : Type 0} → List ℕ → (List ℕ → A) → A
+with_bytes [] go = go []
+with_bytes (b ∷ bs) go = with_number b (λ c. with_bytes bs (λ cs. go (c ∷ cs)))
+
+abbrev pub with_sort : {A : Type 0} → Sort → (Sort → A) → A
+with_sort (Name bytes) go = with_bytes bytes (λ bs. go (Name bs))
+with_sort (Text bytes) go = with_bytes bytes (λ bs. go (Text bs))
+with_sort (Integer (pos n)) go = with_number n (λ m. go (Integer (pos m)))
+with_sort s go = go s
+
+number_is : {A : Type 0} (n : ℕ) (go : ℕ → A) → with_number n go ≡ go n
+number_is zero go = refl
+number_is (suc n) go = refl
+
+bytes_are : {A : Type 0} (bs : List ℕ) (go : List ℕ → A) → with_bytes bs go ≡ go bs
+bytes_are [] go = refl
+bytes_are (b ∷ bs) go = number_is b (λ c. with_bytes bs (λ cs. go (c ∷ cs))) ∙ bytes_are bs (λ cs. go (b ∷ cs))
+
+sort_is : {A : Type 0} (s : Sort) (go : Sort → A) → with_sort s go ≡ go s
+sort_is (Name bytes) go = bytes_are bytes (λ bs. go (Name bs))
+sort_is (Text bytes) go = bytes_are bytes (λ bs. go (Text bs))
+sort_is (Integer (pos n)) go = number_is n (λ m. go (Integer (pos m)))
+sort_is (Integer (negsuc n)) go = refl
+sort_is (Key word) go = refl
+sort_is (At word) go = refl
+sort_is (Sign mark) go = refl
+
 -- ---- tokens
 
 abbrev pub next : (ℕ → List ℕ → Option (List Tok)) → ℕ → List ℕ → Piece → Option (List Tok)
-next go at bytes Blank = go (at + 1) (drop 1 bytes)
-next go at bytes (Whole s n) = in_front (record { sort = s; from = at; to = at + n }) (go (at + n) (drop n bytes))
+next go at bytes Blank = with_number (at + 1) (λ behind. go behind (drop 1 bytes))
+next go at bytes (Whole s n) = with_sort s (λ sort. with_number (at + n) (λ to. in_front (record { sort = sort; from = at; to = to }) (go to (drop n bytes))))
 next go at bytes (Broken rule) = None
+
+whole_is : (go : ℕ → List ℕ → Option (List Tok)) (at : ℕ) (bytes : List ℕ) (s : Sort) (n : ℕ)
+    → next go at bytes (Whole s n) ≡ in_front (record { sort = s; from = at; to = at + n }) (go (at + n) (drop n bytes))
+whole_is go at bytes s n = sort_is s (λ sort. with_number (at + n) (λ to. in_front (record { sort = sort; from = at; to = to }) (go to (drop n bytes))))
+    ∙ number_is (at + n) (λ to. in_front (record { sort = s; from = at; to = to }) (go to (drop n bytes)))
 
 -- the tokens from a place on, of at most so many pieces
 abbrev pub tokens_of : (most : ℕ) → ℕ → List ℕ → Option (List Tok)
@@ -103,8 +141,8 @@ cuts (suc most) at (b ∷ bs) ts e = go (front b bs) (front_law b bs) e (λ late
     Later = (later : ℕ) (rest : List ℕ) (others : List Tok) → tokens_of most later rest ≡ Some others → Cuts later rest others
 
     go : (p : Piece) → Law (b ∷ bs) p → next (λ later rest. tokens_of most later rest) at (b ∷ bs) p ≡ Some ts → Later → Cuts at (b ∷ bs) ts
-    go Blank law f later = blank_cuts at (b ∷ bs) ts law (later (at + 1) bs ts f)
-    go (Whole s n) law f later = first (tokens_of most (at + n) (drop n (b ∷ bs))) refl f
+    go Blank law f later = blank_cuts at (b ∷ bs) ts law (later (at + 1) bs ts (sym (number_is (at + 1) (λ behind. tokens_of most behind bs)) ∙ f))
+    go (Whole s n) law f later = first (tokens_of most (at + n) (drop n (b ∷ bs))) refl (sym (whole_is (λ later rest. tokens_of most later rest) at (b ∷ bs) s n) ∙ f)
       where
         first : (found : Option (List Tok)) → tokens_of most (at + n) (drop n (b ∷ bs)) ≡ found → in_front (record { sort = s; from = at; to = at + n }) found ≡ Some ts → Cuts at (b ∷ bs) ts
         first None k f = cc
