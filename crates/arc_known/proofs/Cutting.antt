@@ -1,13 +1,14 @@
--- The tokens of a source, computed: a piece at a time.
+-- The tokens of a source, or its first broken rule, computed: a piece at a time.
 use Rattle.std.proofs.Common.{◌≡◌, ◌<◌, ℕ, zero, suc, ◌+◌, pos, negsuc, List, [], ◌∷◌, ◌++◌, append_assoc, length, drop, Bool, true, false, cond, nat_eq, Option, Some, None, refl, sym, ap, subst, ◌∙◌, arith}
 use Rattle.std.proofs.lemmas.Bool.{eqb-true}
 use Rattle.std.proofs.lemmas.List.{append-nil}
-use Rattle.arc_lex.specs.Source.{Cuts, done}
+use Rattle.arc_lex.specs.declared.piece.Rule.{Rule}
+use Rattle.arc_lex.specs.Source.{Cuts, done, FaultAt, here}
 use Rattle.arc_lex.specs.Texts.{Part, Plain, Escape}
 use Rattle.arc_lex.specs.Tokens.{Tok, Sort, Name, Integer, Text, Key, At, Sign}
 use Rattle.arc_lex.specs.private.Pieces.{Piece, Blank, Whole, Broken, Law, piece, parts_piece, text_piece, scan}
 use Rattle.arc_lex.proofs.Law.{piece_law}
-use Rattle.arc_lex.proofs.Walks.{blank_cuts, token_cuts}
+use Rattle.arc_lex.proofs.Walks.{blank_cuts, token_cuts, blank_fault, token_fault}
 
 -- ---- texts
 
@@ -150,3 +151,38 @@ cuts (suc most) at (b ∷ bs) ts e = go (front b bs) (front_law b bs) e (λ late
             let all : record { sort = s; from = at; to = at + n } ∷ others ≡ ts = cc in
             subst (Cuts at (b ∷ bs)) all (token_cuts at n s (b ∷ bs) others law (later (at + n) (drop n (b ∷ bs)) others k))
     go (Broken rule) law f later = cc
+
+-- ---- the first place where a rule for tokens is broken
+
+abbrev pub next_fault : (ℕ → List ℕ → Option (ℕ × Rule)) → ℕ → List ℕ → Piece → Option (ℕ × Rule)
+next_fault go at bytes Blank = with_number (at + 1) (λ behind. go behind (drop 1 bytes))
+next_fault go at bytes (Whole s n) = with_number (at + n) (λ behind. go behind (drop n bytes))
+next_fault go at bytes (Broken rule) = Some (at, rule)
+
+abbrev pub fault_in : (most : ℕ) → ℕ → List ℕ → Option (ℕ × Rule)
+fault_in zero at bytes = None
+fault_in (suc most) at [] = None
+fault_in (suc most) at (b ∷ bs) = next_fault (λ later rest. fault_in most later rest) at (b ∷ bs) (front b bs)
+
+pub breaks : (most at : ℕ) (bytes : List ℕ) (p : ℕ) (rule : Rule) → fault_in most at bytes ≡ Some (p, rule) → FaultAt at bytes p rule
+breaks zero at bytes p rule e = cc
+breaks (suc most) at [] p rule e = cc
+breaks (suc most) at (b ∷ bs) p rule e = go (front b bs) (front_law b bs) e (λ later rest k. breaks most later rest p rule k)
+  where
+    Later : Type 0
+    Later = (later : ℕ) (rest : List ℕ) → fault_in most later rest ≡ Some (p, rule) → FaultAt later rest p rule
+
+    place : Option (ℕ × Rule) → ℕ
+    place None = 0
+    place (Some found) = found.0
+
+    of_rule : Option (ℕ × Rule) → Rule
+    of_rule None = rule
+    of_rule (Some found) = found.1
+
+    go : (x : Piece) → Law (b ∷ bs) x → next_fault (λ later rest. fault_in most later rest) at (b ∷ bs) x ≡ Some (p, rule) → Later → FaultAt at (b ∷ bs) p rule
+    go Blank law f later = blank_fault at (b ∷ bs) p rule law (later (at + 1) bs (sym (number_is (at + 1) (λ behind. fault_in most behind bs)) ∙ f))
+    go (Whole s n) law f later = token_fault at n s (b ∷ bs) p rule law
+        (later (at + n) (drop n (b ∷ bs)) (sym (number_is (at + n) (λ behind. fault_in most behind (drop n (b ∷ bs)))) ∙ f))
+    go (Broken other) law f later = subst (λ q. FaultAt at (b ∷ bs) q rule) (ap place f)
+        (subst (FaultAt at (b ∷ bs) at) (ap of_rule f) (here at (b ∷ bs) other law))

@@ -1,10 +1,14 @@
 -- What a source shows when it runs, and why one is refused, from its bytes on.
-use Rattle.std.specs.Prelude.{◌≡◌, ℕ, List, [], map, Option, Some}
+use Rattle.std.specs.Prelude.{◌≡◌, ℕ, List, [], Option, Some}
 use Rattle.arc_lex.specs.Tokens.{Tok}
 use Rattle.arc_lex.specs.Source.{Tokens}
+use Rattle.arc_lex.specs.Faults.{fault_number, fault_of, IsFirst}
+use Rattle.arc_lex.specs.declared.piece.Rule.{Rule}
 use Rattle.arc_ast.specs.Tree.{UnitTree}
 use Rattle.arc_grammar.specs.Grammar.{these}
-use Rattle.arc_parse.specs.Refusal.{SpellsUnit}
+use Rattle.arc_fault.specs.declared.parse.ParseFault.TheVariants.{Unexpected}
+use Rattle.arc_fault.specs.Parse.{report}
+use Rattle.arc_parse.specs.Refusal.{SpellsUnit, FitsNoneAt}
 use Rattle.arc_sites.specs.declared.violation.Violation.{Violation}
 use Rattle.arc_class.specs.Broken.{first}
 use Rattle.arc_class.specs.Classes.{or_else}
@@ -13,7 +17,6 @@ use Rattle.arc_check.specs.Rules.{broken_unit}
 use Rattle.arc_check.specs.Resolving.{resolved_unit}
 use Rattle.arc_family.specs.Rules as ownership
 use Rattle.arc_spec.specs.declared.event.Event.{Event}
-use Rattle.arc_spec.specs.declared.event.Event.TheVariants.{Byte}
 use Rattle.arc_spec.specs.Correct.{Stop, meaning_seen}
 use Rattle.arc_spec.specs.Meaning.{mean}
 
@@ -32,16 +35,13 @@ pub record HasTrace (source input : List ℕ) (turns : ℕ) (events : List Event
   pub owned : ownership.broken tree ≡ []
   pub shows : meaning_seen (mean (resolved_unit tree) input turns) ≡ record { trace = events; stop = Some stop }
 
--- the same, where the events are these printed bytes
-abbrev pub Prints : (source input : List ℕ) (turns : ℕ) (bytes : List ℕ) → Stop → Type 0
-Prints source input turns bytes stop = HasTrace source input turns (map Byte bytes) stop
-
 -- the violation that is reported: the first of those of the first stage that has some
 abbrev pub reported : UnitTree → Option Violation
 reported tree = or_else (first (broken tree)) (or_else (first (broken_unit tree)) (first (ownership.broken tree)))
 
--- The source spells a tree that breaks a rule, and this one is reported, with this place.
-pub record IsRefused (source : List ℕ) (number at : ℕ) : Type 0 where
-  pub tree : UnitTree
-  pub spelled : Spelled source tree
-  pub told : reported tree ≡ Some (record { at = at; number = number })
+-- The source is refused by the rule of this number, at this position: at the first byte where it breaks a rule for tokens; at the first token that doesn't fit; or
+-- because the tree that it spells breaks a rule, of which this one is reported.
+pub data IsRefused (source : List ℕ) (number at : ℕ) : Type 0 where
+  in_tokens : (rule : Rule) → IsFirst source at rule → fault_number (fault_of rule at) ≡ number → IsRefused source number at
+  in_tree : (tokens : List Tok) → Tokens source tokens → FitsNoneAt tokens at → (report (Unexpected at)).number ≡ number → IsRefused source number at
+  in_rules : (tree : UnitTree) → Spelled source tree → reported tree ≡ Some (record { at = at; number = number }) → IsRefused source number at

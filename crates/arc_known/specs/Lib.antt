@@ -1,2 +1,3 @@
 pub mod Known
-pub mod Sources
+pub mod Programs
+pub mod RefusedSources

@@ -1,4 +1,4 @@
--- Sources, and what the standards say that they show.
+-- Programs, and what the standards say that they show.
 use Rattle.std.specs.Prelude.{ℕ, List, [], ◌∷◌, ◌++◌, map, codes}
 use Rattle.arc_spec.specs.declared.event.Event.{Event}
 use Rattle.arc_spec.specs.declared.event.Event.TheVariants.{Byte, Dealloc}
@@ -80,6 +80,24 @@ nil_receiver = codes "@interface A : NSObject - (int)take:(int)a from:(int)b; @e
 abbrev pub nil_receiver_shows : List Event
 nil_receiver_shows = printed (codes "0,35") ++ Dealloc 1 1 ∷ []
 
+-- A message to super in a method of objects, and one to self in a method that is inherited (OPL, "Messages to self and super"); `alloc` and `init` make an object, which
+-- is no nil (OPL, "Allocating and Initializing Objects"). B is the class 2.
+abbrev pub object_methods : List ℕ
+object_methods = codes "@interface A : NSObject { @public int v; } - (int)get; - (int)twice; @end\n"
+    ++ codes "@implementation A - (int)get { return v; } - (int)twice { return [self get] * 2; } @end\n"
+    ++ codes "@interface B : A @end\n"
+    ++ codes "@implementation B - (int)get { return [super get] + 1; } @end\n"
+    ++ codes "int main(void) {\n"
+    ++ codes "    id b = [[B alloc] init];\n"
+    ++ codes "    ((B *)b)->v = 5;\n"
+    ++ codes "    printf(\"%d %d\", [b get], [b twice]);\n"
+    ++ codes "    if (b) printf(\"!\");\n"
+    ++ codes "    return b != nil;\n"
+    ++ codes "}\n"
+
+abbrev pub object_methods_show : List Event
+object_methods_show = printed (codes "6 12!") ++ Dealloc 1 2 ∷ []
+
 -- ---- the ends of objects
 
 -- An object ends with the scope of the variable that names it, or where that variable takes another (ARC, "Ownership qualification" and "Assignment"); the dealloc of
@@ -124,6 +142,20 @@ kept_alive = codes "@interface A : NSObject - (void)f; @end\n"
 abbrev pub kept_alive_shows : List Event
 kept_alive_shows = printed (codes "fxf") ++ Dealloc 2 1 ∷ printed (codes "y") ++ Dealloc 1 1 ∷ []
 
+-- A variable of a loop's body ends with each turn (C99, section 6.8.5), and temporaries with their full-expression (ARC, "Object operands"), the last one first (this
+-- project's own choice).
+abbrev pub turns_and_temporaries : List ℕ
+turns_and_temporaries = codes "@interface A : NSObject @end\n"
+    ++ codes "@implementation A - (void)dealloc { printf(\"d\"); } @end\n"
+    ++ codes "int main(void) {\n"
+    ++ codes "    int i = 0;\n"
+    ++ codes "    while (i != 2) { A *a = [A new]; i = i + 1; printf(\"%d\", i); }\n"
+    ++ codes "    if ([A new] != [A new]) printf(\"x\");\n"
+    ++ codes "}\n"
+
+abbrev pub turns_and_temporaries_show : List Event
+turns_and_temporaries_show = printed (codes "1") ++ Dealloc 1 1 ∷ printed (codes "d2") ++ Dealloc 2 1 ∷ printed (codes "d") ++ Dealloc 4 1 ∷ printed (codes "d") ++ Dealloc 3 1 ∷ printed (codes "dx")
+
 -- ---- faults
 
 -- a division by 0 stops the program (this project's own choice, where C99, section 6.5.5, says nothing); printf evaluates all values before it prints
@@ -150,20 +182,14 @@ field_of_nil = codes "@interface A : NSObject { @public int v; } @end\n"
     ++ codes "@implementation A @end\n"
     ++ codes "int main(void) { A *a = nil; printf(\"x\"); return a->v; }\n"
 
+-- a field of an object of another class, which a cast let through
+abbrev pub field_of_another_class : List ℕ
+field_of_another_class = codes "@interface A : NSObject { @public int v; } @end\n"
+    ++ codes "@implementation A @end\n"
+    ++ codes "@interface B : NSObject { @public int w; } @end\n"
+    ++ codes "@implementation B @end\n"
+    ++ codes "int main(void) { id b = [B new]; printf(\"x\"); return ((A *)b)->v; }\n"
+
 -- calls without an end
 abbrev pub endless_calls : List ℕ
 endless_calls = codes "int f(void) { return f(); } int main(void) { return f(); }"
-
--- ---- refused sources
-
--- a second body of a function, at its name
-abbrev pub second_body : List ℕ
-second_body = codes "int f(void) { return 1; } int f(void) { return 2; } int main(void) { }"
-
--- Two rules are broken: no variable has this name, and a format lacks its value. The first by position is reported.
-abbrev pub unknown_name : List ℕ
-unknown_name = codes "int main(void) { return x + printf(\"%d\"); }"
-
--- a message that ARC forbids, at its selector (ARC, "Retain count semantics")
-abbrev pub manual_release : List ℕ
-manual_release = codes "int main(void) { id a = nil; [a release]; }"
