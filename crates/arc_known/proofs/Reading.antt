@@ -1,9 +1,9 @@
 -- A source is taken through its tokens and its tree to its meaning by computing them.
-use Rattle.std.proofs.Common.{◌≡◌, ◌≤◌, ℕ, suc, List, [], ◌∷◌, length, Bool, true, nat_le, Option, Some, None, Ok, Err, refl, sym, ap, subst, ◌∙◌}
+use Rattle.std.proofs.Common.{◌≡◌, ◌≤◌, ℕ, suc, List, [], ◌∷◌, length, true, nat_le, Option, Some, None, Ok, Err, refl, ap, subst, ◌∙◌}
 use Rattle.std.proofs.lemmas.Bool.{leb-true}
 use Rattle.std.specs.Fmt.{digits}
 use Rattle.arc_lex.specs.declared.piece.Rule.{Rule}
-use Rattle.arc_lex.specs.Faults.{fault_number, fault_of, IsFirst}
+use Rattle.arc_lex.specs.Faults.{fault_number, fault_of}
 use Rattle.arc_lex.specs.Source.{Tokens, most_bytes}
 use Rattle.arc_lex.specs.Tokens.{Tok}
 use Rattle.arc_lex.specs.private.Pieces.{piece, name_piece, number_piece, text_piece, at_piece, mark_piece}
@@ -13,10 +13,10 @@ use Rattle.arc_form.specs.Reader.{Read, misfit, too_deep, loop, nested, up_to}
 use Rattle.arc_form.specs.Whole.{read_whole}
 use Rattle.arc_grammar.specs.Grammar.{body, unit, these}
 use Rattle.arc_grammar.proofs.Fits.{lines}
-use Rattle.arc_fault.specs.declared.parse.ParseFault.TheVariants.{Unexpected}
+use Rattle.arc_fault.specs.declared.parse.ParseFault.TheVariants.{Unexpected, TooDeep}
 use Rattle.arc_fault.specs.Parse.{report}
 use Rattle.arc_parse.specs.Refusal.{place_of}
-use Rattle.arc_parse.proofs.Unit.{within, refused as unfit}
+use Rattle.arc_parse.proofs.Unit.{within, refused as unfit, too_deep_at}
 use Rattle.arc_sites.specs.declared.violation.Violation.{Violation}
 use Rattle.arc_class.specs.ClassRules.{broken}
 use Rattle.arc_check.specs.Rules.{broken_unit}
@@ -25,7 +25,7 @@ use Rattle.arc_family.specs.Rules as ownership
 use Rattle.arc_spec.specs.declared.event.Event.{Event}
 use Rattle.arc_spec.specs.Correct.{Sight, Stop, meaning_seen}
 use Rattle.arc_spec.specs.Meaning.{mean}
-use Rattle.arc_known.specs.Known.{Spelled, HasTrace, IsRefused, in_tokens, in_tree, in_rules, reported}
+use Rattle.arc_known.specs.Known.{Spelled, HasTrace, IsRefused, in_tokens, in_tree, in_depth, in_rules, reported}
 use Rattle.arc_known.proofs.Cutting.{tokens_of, cuts, fault_in, breaks}
 
 -- `unfolding reading` opens what the computing of a tree and its meaning calls
@@ -92,7 +92,7 @@ told number at = Some (record { at = at; number = number })
 abbrev pub of_read : List Tok → Read UnitTree → Option Violation
 of_read ts (Ok x) = reported x.0
 of_read ts (Err (misfit, rest)) = told (report (Unexpected 0)).number (place_of ts rest)
-of_read ts (Err (too_deep, rest)) = None
+of_read ts (Err (too_deep, rest)) = told (report (TooDeep 0)).number (place_of ts rest)
 
 abbrev pub of_tokens : Option (List Tok) → Option Violation
 of_tokens None = None
@@ -122,10 +122,14 @@ module _ (source : List ℕ) (number at : ℕ) (short : length source ≤ most_b
       → IsRefused source number at
   by_misfit ts rest cut k e = subst (IsRefused source number) (ap at_in e) (in_tree ts cut (unfit ts rest k) (ap number_in e))
 
+  by_depth : (ts rest : List Tok) → Tokens source ts → read_whole body these unit ts ≡ Err (too_deep, rest) → told (report (TooDeep 0)).number (place_of ts rest) ≡ told number at
+      → IsRefused source number at
+  by_depth ts rest cut k e = subst (IsRefused source number) (ap at_in e) (in_depth ts cut (too_deep_at ts rest k) (ap number_in e))
+
   by_read : (ts : List Tok) → Tokens source ts → (x : Read UnitTree) → read_whole body these unit ts ≡ x → of_read ts x ≡ told number at → IsRefused source number at
   by_read ts cut (Ok x) k e = in_rules x.0 (record { tokens = ts; cut = cut; spelled = within ts x.0 x.1 k }) e
   by_read ts cut (Err (misfit, rest)) k e = by_misfit ts rest cut k e
-  by_read ts cut (Err (too_deep, rest)) k e = cc
+  by_read ts cut (Err (too_deep, rest)) k e = by_depth ts rest cut k e
 
   by_tokens : (found : Option (List Tok)) → tokens_of (suc (length source)) 0 source ≡ found → of_tokens found ≡ told number at → IsRefused source number at
   by_tokens None k e = cc

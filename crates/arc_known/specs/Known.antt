@@ -6,9 +6,9 @@ use Rattle.arc_lex.specs.Faults.{fault_number, fault_of, IsFirst}
 use Rattle.arc_lex.specs.declared.piece.Rule.{Rule}
 use Rattle.arc_ast.specs.Tree.{UnitTree}
 use Rattle.arc_grammar.specs.Grammar.{these}
-use Rattle.arc_fault.specs.declared.parse.ParseFault.TheVariants.{Unexpected}
+use Rattle.arc_fault.specs.declared.parse.ParseFault.TheVariants.{Unexpected, TooDeep}
 use Rattle.arc_fault.specs.Parse.{report}
-use Rattle.arc_parse.specs.Refusal.{SpellsUnit, FitsNoneAt}
+use Rattle.arc_parse.specs.Refusal.{SpellsUnit, FitsNoneAt, TooDeepAt}
 use Rattle.arc_sites.specs.declared.violation.Violation.{Violation}
 use Rattle.arc_class.specs.Broken.{first}
 use Rattle.arc_class.specs.Classes.{or_else}
@@ -39,9 +39,10 @@ pub record HasTrace (source input : List ℕ) (turns : ℕ) (events : List Event
 abbrev pub reported : UnitTree → Option Violation
 reported tree = or_else (first (broken tree)) (or_else (first (broken_unit tree)) (first (ownership.broken tree)))
 
--- The source is refused by the rule of this number, at this position: at the first byte where it breaks a rule for tokens; at the first token that doesn't fit; or
--- because the tree that it spells breaks a rule, of which this one is reported.
+-- The source is refused by the rule of this number, at this position: at the first byte where it breaks a rule for tokens; at the first token that doesn't fit, or
+-- that passes a limit; or because the tree that it spells breaks a rule, of which this one is reported.
 pub data IsRefused (source : List ℕ) (number at : ℕ) : Type 0 where
   in_tokens : (rule : Rule) → IsFirst source at rule → fault_number (fault_of rule at) ≡ number → IsRefused source number at
   in_tree : (tokens : List Tok) → Tokens source tokens → FitsNoneAt tokens at → (report (Unexpected at)).number ≡ number → IsRefused source number at
+  in_depth : (tokens : List Tok) → Tokens source tokens → TooDeepAt tokens at → (report (TooDeep at)).number ≡ number → IsRefused source number at
   in_rules : (tree : UnitTree) → Spelled source tree → reported tree ≡ Some (record { at = at; number = number }) → IsRefused source number at

@@ -1,11 +1,16 @@
 -- Programs, and what the standards say that they show.
-use Rattle.std.specs.Prelude.{ℕ, List, [], ◌∷◌, ◌++◌, map, codes}
+use Rattle.std.specs.Prelude.{ℕ, zero, suc, List, [], ◌∷◌, ◌++◌, map, codes}
 use Rattle.arc_spec.specs.declared.event.Event.{Event}
 use Rattle.arc_spec.specs.declared.event.Event.TheVariants.{Byte, Dealloc}
 
 -- the bytes of a text, printed
 abbrev pub printed : List ℕ → List Event
 printed bytes = map Byte bytes
+
+-- a text so many times
+abbrev pub repeated : ℕ → List ℕ → List ℕ
+repeated zero text = []
+repeated (suc n) text = text ++ repeated n text
 
 -- ---- numbers
 
@@ -54,6 +59,10 @@ echo = codes "int main(void) {\n"
     ++ codes "    while ((c = getchar()) != -1) printf(\"%c\", c);\n"
     ++ codes "    return c + getchar();\n"
     ++ codes "}\n"
+
+-- blocks that nest as deep as they may (this project's own limit)
+abbrev pub deepest_blocks : List ℕ
+deepest_blocks = codes "int main(void) " ++ (repeated 200 (codes "{") ++ repeated 200 (codes "}"))
 
 -- ---- messages
 

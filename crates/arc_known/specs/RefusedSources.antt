@@ -1,5 +1,6 @@
 -- Sources that are refused, each for one broken rule if nothing else is said, in the order of the numbers of the rules.
-use Rattle.std.specs.Prelude.{ℕ, List, codes}
+use Rattle.std.specs.Prelude.{ℕ, List, ◌++◌, codes}
+use Rattle.arc_known.specs.Programs.{repeated}
 
 -- a comment, which this compiler doesn't have yet
 abbrev pub comment : List ℕ
@@ -24,6 +25,14 @@ no_semicolon = codes "int main(void) { return 1 }"
 -- a body without its `}`: the end is refused
 abbrev pub no_brace : List ℕ
 no_brace = codes "int main(void) { return 1;"
+
+-- a block that is nested 201 deep, where the body of the function counts as 1 (this project's own limit)
+abbrev pub too_deep : List ℕ
+too_deep = codes "int main(void) " ++ repeated 201 (codes "{")
+
+-- 17 parameters (this project's own limit)
+abbrev pub too_many_parameters : List ℕ
+too_many_parameters = codes "int f(int a, int b, int c, int d, int e, int f, int g, int h, int i, int j, int k, int l, int m, int n, int o, int p, int q) { return 0; } int main(void) { }"
 
 -- a second body of a function, at its name (C99, section 6.9)
 abbrev pub second_body : List ℕ

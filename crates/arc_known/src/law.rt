@@ -20,6 +20,7 @@ pub fn statements()
     ensures operands { HasTrace program.operands [] 0 (printed (codes "cba")) (Ends (pos 9506)) }
     ensures scopes { HasTrace program.scopes [] 0 (printed (codes "27b")) (Ends (pos 0)) }
     ensures echo { HasTrace program.echo (codes "hi") 2 (printed (codes "hi")) (Ends (negsuc 1)) }
+    ensures deepest_blocks { HasTrace program.deepest_blocks [] 0 [] (Ends (pos 0)) }
 {}
 
 /// Messages to classes, to objects and to nil.
@@ -55,6 +56,7 @@ pub fn refusals()
     ensures directive { IsRefused refused.directive 5 19 }
     ensures no_semicolon { IsRefused refused.no_semicolon 11 26 }
     ensures no_brace { IsRefused refused.no_brace 11 26 }
+    ensures too_deep { IsRefused refused.too_deep 12 215 }
     ensures second_body { IsRefused refused.second_body 21 30 }
     ensures unknown_superclass { IsRefused refused.unknown_superclass 22 15 }
     ensures other_result { IsRefused refused.other_result 24 57 }
@@ -68,6 +70,7 @@ pub fn refusals()
     ensures object_as_number { IsRefused refused.object_as_number 43 24 }
     ensures number_assigned { IsRefused refused.number_assigned 44 19 }
     ensures argument_count { IsRefused refused.argument_count 45 51 }
+    ensures too_many_parameters { IsRefused refused.too_many_parameters 45 4 }
     ensures format { IsRefused refused.format 46 17 }
     ensures self_assigned { IsRefused refused.self_assigned 47 64 }
     ensures private_field { IsRefused refused.private_field 49 111 }

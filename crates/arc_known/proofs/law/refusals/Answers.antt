@@ -28,6 +28,10 @@ pub returns-clause-no_brace : goal.returns-clause-no_brace
 unfolding reading
 returns-clause-no_brace c = by.refused refused.no_brace 11 26 refl refl
 
+pub returns-clause-too_deep : goal.returns-clause-too_deep
+unfolding reading
+returns-clause-too_deep c = by.refused refused.too_deep 12 215 refl refl
+
 pub returns-clause-second_body : goal.returns-clause-second_body
 unfolding reading
 returns-clause-second_body c = by.refused refused.second_body 21 30 refl refl
@@ -79,6 +83,10 @@ returns-clause-number_assigned c = by.refused refused.number_assigned 44 19 refl
 pub returns-clause-argument_count : goal.returns-clause-argument_count
 unfolding reading
 returns-clause-argument_count c = by.refused refused.argument_count 45 51 refl refl
+
+pub returns-clause-too_many_parameters : goal.returns-clause-too_many_parameters
+unfolding reading
+returns-clause-too_many_parameters c = by.refused refused.too_many_parameters 45 4 refl refl
 
 pub returns-clause-format : goal.returns-clause-format
 unfolding reading

@@ -16,3 +16,7 @@ returns-clause-scopes c = known program.scopes [] 0 (printed (codes "27b")) (End
 pub returns-clause-echo : goal.returns-clause-echo
 unfolding reading
 returns-clause-echo c = known program.echo (codes "hi") 2 (printed (codes "hi")) (Ends (negsuc 1)) refl refl
+
+pub returns-clause-deepest_blocks : goal.returns-clause-deepest_blocks
+unfolding reading
+returns-clause-deepest_blocks c = known program.deepest_blocks [] 0 [] (Ends (pos 0)) refl refl
