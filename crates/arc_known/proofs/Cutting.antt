@@ -28,31 +28,32 @@ abbrev pub parts_of : List ℕ → (escaped : Bool) → Option (List Part)
 parts_of [] = λ escaped. None
 parts_of (b ∷ bs) = λ escaped. byte_step escaped (nat_eq b 10) (nat_eq b 34) (nat_eq b 92) b (parts_of bs)
 
-abbrev behind : List Part → Option (List Part) → Option (List Part)
-behind ps None = None
-behind ps (Some qs) = Some (ps ++ qs)
+-- parts, and those that were found after them
+abbrev joined : List Part → Option (List Part) → Option (List Part)
+joined ps None = None
+joined ps (Some qs) = Some (ps ++ qs)
 
-behind_one : (ps : List Part) (p : Part) (found : Option (List Part)) → behind (ps ++ p ∷ []) found ≡ behind ps (in_front p found)
-behind_one ps p None = refl
-behind_one ps p (Some qs) = ap Some (append_assoc ps (p ∷ []) qs)
+joined_one : (ps : List Part) (p : Part) (found : Option (List Part)) → joined (ps ++ p ∷ []) found ≡ joined ps (in_front p found)
+joined_one ps p None = refl
+joined_one ps p (Some qs) = ap Some (append_assoc ps (p ∷ []) qs)
 
-scanned : (escaped : Bool) (ps : List Part) (bs : List ℕ) → scan escaped ps bs ≡ behind ps (parts_of bs escaped)
+scanned : (escaped : Bool) (ps : List Part) (bs : List ℕ) → scan escaped ps bs ≡ joined ps (parts_of bs escaped)
 scanned true ps [] = refl
 scanned false ps [] = refl
 scanned true ps (b ∷ bs) = go (nat_eq b 10) (scanned false (ps ++ Escape b ∷ []) bs)
   where
-    go : (n : Bool) → scan false (ps ++ Escape b ∷ []) bs ≡ behind (ps ++ Escape b ∷ []) (parts_of bs false)
-        → cond n None (scan false (ps ++ Escape b ∷ []) bs) ≡ behind ps (byte_step true n (nat_eq b 34) (nat_eq b 92) b (parts_of bs))
+    go : (n : Bool) → scan false (ps ++ Escape b ∷ []) bs ≡ joined (ps ++ Escape b ∷ []) (parts_of bs false)
+        → cond n None (scan false (ps ++ Escape b ∷ []) bs) ≡ joined ps (byte_step true n (nat_eq b 34) (nat_eq b 92) b (parts_of bs))
     go true later = refl
-    go false later = later ∙ behind_one ps (Escape b) (parts_of bs false)
+    go false later = later ∙ joined_one ps (Escape b) (parts_of bs false)
 scanned false ps (b ∷ bs) = go (nat_eq b 10) (nat_eq b 34) (nat_eq b 92) (scanned true ps bs) (scanned false (ps ++ Plain b ∷ []) bs)
   where
-    go : (n q s : Bool) → scan true ps bs ≡ behind ps (parts_of bs true) → scan false (ps ++ Plain b ∷ []) bs ≡ behind (ps ++ Plain b ∷ []) (parts_of bs false)
-        → cond n None (cond q (Some ps) (cond s (scan true ps bs) (scan false (ps ++ Plain b ∷ []) bs))) ≡ behind ps (byte_step false n q s b (parts_of bs))
+    go : (n q s : Bool) → scan true ps bs ≡ joined ps (parts_of bs true) → scan false (ps ++ Plain b ∷ []) bs ≡ joined (ps ++ Plain b ∷ []) (parts_of bs false)
+        → cond n None (cond q (Some ps) (cond s (scan true ps bs) (scan false (ps ++ Plain b ∷ []) bs))) ≡ joined ps (byte_step false n q s b (parts_of bs))
     go true q s escaped plain = refl
     go false true s escaped plain = ap Some (sym (append-nil ps))
     go false false true escaped plain = escaped
-    go false false false escaped plain = plain ∙ behind_one ps (Plain b) (parts_of bs false)
+    go false false false escaped plain = plain ∙ joined_one ps (Plain b) (parts_of bs false)
 
 -- ---- pieces
 
@@ -68,7 +69,7 @@ text_front : (bs : List ℕ) → parts_piece (parts_of bs false) ≡ piece (34 �
 unfolding piece text_piece
 text_front bs = sym (ap parts_piece (scanned false [] bs ∙ nothing_before (parts_of bs false)))
   where
-    nothing_before : (found : Option (List Part)) → behind [] found ≡ found
+    nothing_before : (found : Option (List Part)) → joined [] found ≡ found
     nothing_before None = refl
     nothing_before (Some ps) = refl
 
@@ -118,7 +119,7 @@ sort_is (Sign mark) go = refl
 -- ---- tokens
 
 abbrev pub next : (ℕ → List ℕ → Option (List Tok)) → ℕ → List ℕ → Piece → Option (List Tok)
-next go at bytes Blank = with_number (at + 1) (λ behind. go behind (drop 1 bytes))
+next go at bytes Blank = with_number (at + 1) (λ later. go later (drop 1 bytes))
 next go at bytes (Whole s n) = with_sort s (λ sort. with_number (at + n) (λ to. in_front (record { sort = sort; from = at; to = to }) (go to (drop n bytes))))
 next go at bytes (Broken rule) = None
 
@@ -142,7 +143,7 @@ cuts (suc most) at (b ∷ bs) ts e = go (front b bs) (front_law b bs) e (λ late
     Later = (later : ℕ) (rest : List ℕ) (others : List Tok) → tokens_of most later rest ≡ Some others → Cuts later rest others
 
     go : (p : Piece) → Law (b ∷ bs) p → next (λ later rest. tokens_of most later rest) at (b ∷ bs) p ≡ Some ts → Later → Cuts at (b ∷ bs) ts
-    go Blank law f later = blank_cuts at (b ∷ bs) ts law (later (at + 1) bs ts (sym (number_is (at + 1) (λ behind. tokens_of most behind bs)) ∙ f))
+    go Blank law f later = blank_cuts at (b ∷ bs) ts law (later (at + 1) bs ts (sym (number_is (at + 1) (λ later. tokens_of most later bs)) ∙ f))
     go (Whole s n) law f later = first (tokens_of most (at + n) (drop n (b ∷ bs))) refl (sym (whole_is (λ later rest. tokens_of most later rest) at (b ∷ bs) s n) ∙ f)
       where
         first : (found : Option (List Tok)) → tokens_of most (at + n) (drop n (b ∷ bs)) ≡ found → in_front (record { sort = s; from = at; to = at + n }) found ≡ Some ts → Cuts at (b ∷ bs) ts
@@ -155,8 +156,8 @@ cuts (suc most) at (b ∷ bs) ts e = go (front b bs) (front_law b bs) e (λ late
 -- ---- the first place where a rule for tokens is broken
 
 abbrev pub next_fault : (ℕ → List ℕ → Option (ℕ × Rule)) → ℕ → List ℕ → Piece → Option (ℕ × Rule)
-next_fault go at bytes Blank = with_number (at + 1) (λ behind. go behind (drop 1 bytes))
-next_fault go at bytes (Whole s n) = with_number (at + n) (λ behind. go behind (drop n bytes))
+next_fault go at bytes Blank = with_number (at + 1) (λ later. go later (drop 1 bytes))
+next_fault go at bytes (Whole s n) = with_number (at + n) (λ later. go later (drop n bytes))
 next_fault go at bytes (Broken rule) = Some (at, rule)
 
 abbrev pub fault_in : (most : ℕ) → ℕ → List ℕ → Option (ℕ × Rule)
@@ -181,8 +182,8 @@ breaks (suc most) at (b ∷ bs) p rule e = go (front b bs) (front_law b bs) e (�
     of_rule (Some found) = found.1
 
     go : (x : Piece) → Law (b ∷ bs) x → next_fault (λ later rest. fault_in most later rest) at (b ∷ bs) x ≡ Some (p, rule) → Later → FaultAt at (b ∷ bs) p rule
-    go Blank law f later = blank_fault at (b ∷ bs) p rule law (later (at + 1) bs (sym (number_is (at + 1) (λ behind. fault_in most behind bs)) ∙ f))
+    go Blank law f later = blank_fault at (b ∷ bs) p rule law (later (at + 1) bs (sym (number_is (at + 1) (λ later. fault_in most later bs)) ∙ f))
     go (Whole s n) law f later = token_fault at n s (b ∷ bs) p rule law
-        (later (at + n) (drop n (b ∷ bs)) (sym (number_is (at + n) (λ behind. fault_in most behind (drop n (b ∷ bs)))) ∙ f))
+        (later (at + n) (drop n (b ∷ bs)) (sym (number_is (at + n) (λ later. fault_in most later (drop n (b ∷ bs)))) ∙ f))
     go (Broken other) law f later = subst (λ q. FaultAt at (b ∷ bs) q rule) (ap place f)
         (subst (FaultAt at (b ∷ bs) at) (ap of_rule f) (here at (b ∷ bs) other law))

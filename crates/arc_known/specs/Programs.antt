@@ -14,6 +14,7 @@ repeated (suc n) text = text ++ repeated n text
 
 -- ---- numbers
 
+-- printf writes its bytes, and main's value is the program's (C99, sections 7.19.6.3 and 5.1.2.2.3)
 abbrev pub forty_two : List ℕ
 forty_two = codes "int main(void) { printf(\"42\"); return 7; }"
 
@@ -28,7 +29,7 @@ conversions = codes "int main(void) {\n"
 abbrev pub wrapped_sum : List ℕ
 wrapped_sum = codes "int main(void) { return printf(\"%d\", 2147483647 + 1); }"
 
--- 13! keeps its low 32 bits
+-- calls within one another; 13! keeps its low 32 bits
 abbrev pub factorials : List ℕ
 factorials = codes "int f(int n) {\n"
     ++ codes "    if (n) return n * f(n - 1);\n"
@@ -175,7 +176,7 @@ division_by_zero = codes "int main(void) { printf(\"<%d>\", -8 / 3); printf(\"<%
 abbrev pub least_quotient : List ℕ
 least_quotient = codes "int main(void) { int a = -2147483647 - 1; printf(\"%d\", a); return a / -1; }"
 
--- An object that no method answers for; the first object ends where the variable takes the second.
+-- A message that the object's class has no method for; the first object ends where the variable takes the second.
 abbrev pub no_method : List ℕ
 no_method = codes "@interface A : NSObject - (void)f; @end\n"
     ++ codes "@implementation A - (void)f { printf(\"f\"); } @end\n"
@@ -186,12 +187,13 @@ no_method = codes "@interface A : NSObject - (void)f; @end\n"
 abbrev pub no_method_shows : List Event
 no_method_shows = printed (codes "f") ++ Dealloc 1 1 ∷ printed (codes "x")
 
+-- a field of nil stops the program (this project's own choice)
 abbrev pub field_of_nil : List ℕ
 field_of_nil = codes "@interface A : NSObject { @public int v; } @end\n"
     ++ codes "@implementation A @end\n"
     ++ codes "int main(void) { A *a = nil; printf(\"x\"); return a->v; }\n"
 
--- a field of an object of another class, which a cast let through
+-- and so does a field of an object of another class, which a cast let through
 abbrev pub field_of_another_class : List ℕ
 field_of_another_class = codes "@interface A : NSObject { @public int v; } @end\n"
     ++ codes "@implementation A @end\n"
@@ -199,6 +201,6 @@ field_of_another_class = codes "@interface A : NSObject { @public int v; } @end\
     ++ codes "@implementation B @end\n"
     ++ codes "int main(void) { id b = [B new]; printf(\"x\"); return ((A *)b)->v; }\n"
 
--- calls without an end
+-- more calls within one another than there may be (this project's own limit)
 abbrev pub endless_calls : List ℕ
 endless_calls = codes "int f(void) { return f(); } int main(void) { return f(); }"

@@ -10,7 +10,7 @@ comment = codes "int main(void) { } // end"
 abbrev pub open_text : List ℕ
 open_text = codes "int main(void) { printf(\"abc); }"
 
--- an integer with a 0 in front, which would be octal (C99, section 6.4.4.1)
+-- an integer with a 0 in front, which C99 reads as an octal one (section 6.4.4.1) and this compiler refuses
 abbrev pub octal : List ℕ
 octal = codes "int main(void) { return 07; }"
 
@@ -38,15 +38,15 @@ too_many_parameters = codes "int f(int a, int b, int c, int d, int e, int f, int
 abbrev pub second_body : List ℕ
 second_body = codes "int f(void) { return 1; } int f(void) { return 2; } int main(void) { }"
 
--- a superclass without an interface
+-- a superclass without an interface (OPL, "Defining a Class")
 abbrev pub unknown_superclass : List ℕ
 unknown_superclass = codes "@interface A : B @end @implementation A @end int main(void) { }"
 
--- a method that gives another kind than it was declared with
+-- a method that gives another kind of value than it was declared with (this project's own choice)
 abbrev pub other_result : List ℕ
 other_result = codes "@interface A : NSObject - (int)f; @end @implementation A - (void)f { } @end int main(void) { }"
 
--- a class without an implementation
+-- a class that has no implementation, at its interface's name
 abbrev pub no_implementation : List ℕ
 no_implementation = codes "@interface A : NSObject @end int main(void) { }"
 
@@ -62,11 +62,11 @@ no_main = codes "int f(void) { return 1; }"
 abbrev pub no_body : List ℕ
 no_body = codes "int f(void); int main(void) { return f(); }"
 
--- Two rules are broken: no variable has this name (C99, section 6.5.1), and a format lacks its value. The first by position is reported.
+-- Two rules are broken: no variable has this name (C99, section 6.5.1), and a format lacks its value. The first by position is reported (this project's own choice).
 abbrev pub unknown_name : List ℕ
 unknown_name = codes "int main(void) { return x + printf(\"%d\"); }"
 
--- The declarations are looked at before the bodies: this second body of main comes after the unknown name.
+-- Declarations are looked at before bodies: the second main is reported, though the unknown name stands before it (this project's own choice).
 abbrev pub stages : List ℕ
 stages = codes "int main(void) { return x; } int main(void) { }"
 
@@ -98,11 +98,11 @@ self_assigned = codes "@interface A : NSObject @end @implementation A - (void)f 
 abbrev pub private_field : List ℕ
 private_field = codes "@interface A : NSObject { @private int v; } @end @implementation A @end int main(void) { A *a = nil; return a->v; }"
 
--- a message that ARC forbids, at its selector (ARC, "Retain count semantics")
+-- a message that ARC forbids, at its selector (ARC, "Memory management methods")
 abbrev pub manual_release : List ℕ
 manual_release = codes "int main(void) { id a = nil; [a release]; }"
 
--- another (ARC, "dealloc")
+-- and another, which only the end of an object runs (ARC, "dealloc")
 abbrev pub dealloc_sent : List ℕ
 dealloc_sent = codes "int main(void) { id a = nil; [a dealloc]; }"
 
