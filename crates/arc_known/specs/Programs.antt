@@ -1,0 +1,206 @@
+-- Programs, and what the standards say that they show.
+use Rattle.std.specs.Prelude.{ℕ, zero, suc, List, [], ◌∷◌, ◌++◌, map, codes}
+use Rattle.arc_spec.specs.declared.event.Event.{Event}
+use Rattle.arc_spec.specs.declared.event.Event.TheVariants.{Byte, Dealloc}
+
+-- the bytes of a text, printed
+abbrev pub printed : List ℕ → List Event
+printed bytes = map Byte bytes
+
+-- a text so many times
+abbrev pub repeated : ℕ → List ℕ → List ℕ
+repeated zero text = []
+repeated (suc n) text = text ++ repeated n text
+
+-- ---- numbers
+
+-- printf writes its bytes, and main's value is the program's (C99, sections 7.19.6.3 and 5.1.2.2.3)
+abbrev pub forty_two : List ℕ
+forty_two = codes "int main(void) { printf(\"42\"); return 7; }"
+
+-- Products before sums (C99, section 6.5, note 74), a quotient is cut off towards 0 (6.5.5), `%c` prints the low byte (7.19.6.1), an integer past the ints is a Long
+-- (6.4.4.1), and printf gives the number of its bytes (7.19.6.3).
+abbrev pub conversions : List ℕ
+conversions = codes "int main(void) {\n"
+    ++ codes "    return printf(\"%d %i|%c%%|%ld\\n\", 2 + 3 * 4, -7 / 2, 65 + 256, 2147483648 * 2);\n"
+    ++ codes "}\n"
+
+-- a sum of ints wraps (this project's own choice, where C99, section 6.5, says nothing)
+abbrev pub wrapped_sum : List ℕ
+wrapped_sum = codes "int main(void) { return printf(\"%d\", 2147483647 + 1); }"
+
+-- calls within one another; 13! keeps its low 32 bits
+abbrev pub factorials : List ℕ
+factorials = codes "int f(int n) {\n"
+    ++ codes "    if (n) return n * f(n - 1);\n"
+    ++ codes "    return 1;\n"
+    ++ codes "}\n"
+    ++ codes "int main(void) { printf(\"%d\", f(5)); return f(13); }\n"
+
+-- ---- statements
+
+-- Operands are evaluated from the left (this project's own choice, where C99, section 6.5, leaves it open); the product is 98 * 97.
+abbrev pub operands : List ℕ
+operands = codes "int put(int c) { printf(\"%c\", c); return c; }\n"
+    ++ codes "int main(void) { int a = 1; return (a = put(99)) + put(98) * put(97) - a; }\n"
+
+-- a name means the innermost variable (C99, section 6.2.1), an `else` belongs to the nearest `if` (6.8.4.1), and main's end gives 0 (5.1.2.2.3)
+abbrev pub scopes : List ℕ
+scopes = codes "int main(void) {\n"
+    ++ codes "    int x = 7;\n"
+    ++ codes "    { int x = 1; x = x + 1; printf(\"%d\", x); }\n"
+    ++ codes "    printf(\"%d\", x);\n"
+    ++ codes "    if (x) if (x - 7) printf(\"a\"); else printf(\"b\");\n"
+    ++ codes "}\n"
+
+-- getchar gives the bytes and then -1, again and again (C99, section 7.19.7.6); main's value is -1 + -1
+abbrev pub echo : List ℕ
+echo = codes "int main(void) {\n"
+    ++ codes "    int c;\n"
+    ++ codes "    while ((c = getchar()) != -1) printf(\"%c\", c);\n"
+    ++ codes "    return c + getchar();\n"
+    ++ codes "}\n"
+
+-- blocks that nest as deep as they may (this project's own limit)
+abbrev pub deepest_blocks : List ℕ
+deepest_blocks = codes "int main(void) " ++ (repeated 200 (codes "{") ++ repeated 200 (codes "}"))
+
+-- ---- messages
+
+-- a message to self is looked up from the class that got the first one, and one to super from the superclass of the class where it stands (OPL, "Messages to self and super")
+abbrev pub class_methods : List ℕ
+class_methods = codes "@interface A : NSObject + (int)one; + (int)ten; @end\n"
+    ++ codes "@implementation A + (int)one { return 1; } + (int)ten { return [self one] * 10; } @end\n"
+    ++ codes "@interface B : A @end\n"
+    ++ codes "@implementation B + (int)one { return [super one] + 1; } @end\n"
+    ++ codes "int main(void) { printf(\"%d %d\", [A ten], [B ten]); }\n"
+
+-- A message to nil gives 0 (OPL, "Sending Messages to nil"), and takes a byte of the input for its argument all the same. On the input `xA` the second one takes the
+-- `A`, which is 65; its object ends with main's variable.
+abbrev pub nil_receiver : List ℕ
+nil_receiver = codes "@interface A : NSObject - (int)take:(int)a from:(int)b; @end\n"
+    ++ codes "@implementation A - (int)take:(int)a from:(int)b { return b - a; } @end\n"
+    ++ codes "int main(void) {\n"
+    ++ codes "    A *a = nil;\n"
+    ++ codes "    printf(\"%d,\", [a take:getchar() from:1]);\n"
+    ++ codes "    a = [A new];\n"
+    ++ codes "    printf(\"%d\", [a take:getchar() from:100]);\n"
+    ++ codes "}\n"
+
+abbrev pub nil_receiver_shows : List Event
+nil_receiver_shows = printed (codes "0,35") ++ Dealloc 1 1 ∷ []
+
+-- A message to super in a method of objects, and one to self in a method that is inherited (OPL, "Messages to self and super"); `alloc` and `init` make an object, which
+-- is no nil (OPL, "Allocating and Initializing Objects"). B is the class 2.
+abbrev pub object_methods : List ℕ
+object_methods = codes "@interface A : NSObject { @public int v; } - (int)get; - (int)twice; @end\n"
+    ++ codes "@implementation A - (int)get { return v; } - (int)twice { return [self get] * 2; } @end\n"
+    ++ codes "@interface B : A @end\n"
+    ++ codes "@implementation B - (int)get { return [super get] + 1; } @end\n"
+    ++ codes "int main(void) {\n"
+    ++ codes "    id b = [[B alloc] init];\n"
+    ++ codes "    ((B *)b)->v = 5;\n"
+    ++ codes "    printf(\"%d %d\", [b get], [b twice]);\n"
+    ++ codes "    if (b) printf(\"!\");\n"
+    ++ codes "    return b != nil;\n"
+    ++ codes "}\n"
+
+abbrev pub object_methods_show : List Event
+object_methods_show = printed (codes "6 12!") ++ Dealloc 1 2 ∷ []
+
+-- ---- the ends of objects
+
+-- An object ends with the scope of the variable that names it, or where that variable takes another (ARC, "Ownership qualification" and "Assignment"); the dealloc of
+-- its class runs before that of the superclass (ARC, "dealloc"). A is the class 1, B the class 2.
+abbrev pub ends : List ℕ
+ends = codes "@interface A : NSObject { @public int v; } @end\n"
+    ++ codes "@implementation A - (void)dealloc { printf(\"a%d\", v); } @end\n"
+    ++ codes "@interface B : A @end\n"
+    ++ codes "@implementation B - (void)dealloc { printf(\"b\"); } @end\n"
+    ++ codes "int main(void) {\n"
+    ++ codes "    A *a = [B new]; a->v = 1;\n"
+    ++ codes "    { A *c = [A new]; c->v = 2; printf(\"{\"); }\n"
+    ++ codes "    printf(\"}\");\n"
+    ++ codes "    a = [A new]; a->v = 3;\n"
+    ++ codes "    printf(\".\");\n"
+    ++ codes "}\n"
+
+abbrev pub ends_show : List Event
+ends_show = printed (codes "{") ++ Dealloc 2 1 ∷ printed (codes "a2}") ++ Dealloc 1 2 ∷ printed (codes "ba1.") ++ Dealloc 3 1 ∷ printed (codes "a3")
+
+-- A return computes its value, and then the variables are dropped, the last one first (ARC, "Ownership qualification"; the order is this project's own choice).
+abbrev pub early_return : List ℕ
+early_return = codes "@interface A : NSObject { @public int v; } @end\n"
+    ++ codes "@implementation A - (void)dealloc { printf(\"%d\", v); } @end\n"
+    ++ codes "int f(int n) {\n"
+    ++ codes "    A *a = [A new]; a->v = 7;\n"
+    ++ codes "    A *b = [A new]; b->v = 8;\n"
+    ++ codes "    if (n) { A *c = [A new]; c->v = 9; return printf(\"r\"); }\n"
+    ++ codes "    return 0;\n"
+    ++ codes "}\n"
+    ++ codes "int main(void) { return f(1) + printf(\"m\"); }\n"
+
+abbrev pub early_return_shows : List Event
+early_return_shows = printed (codes "r") ++ Dealloc 3 1 ∷ printed (codes "9") ++ Dealloc 2 1 ∷ printed (codes "8") ++ Dealloc 1 1 ∷ printed (codes "7m")
+
+-- An object that a message was sent to lives while the method runs, and one that is assigned to itself goes on to live (ARC, "Object liveness" and "Assignment").
+abbrev pub kept_alive : List ℕ
+kept_alive = codes "@interface A : NSObject - (void)f; @end\n"
+    ++ codes "@implementation A - (void)f { id b = self; b = nil; printf(\"f\"); } @end\n"
+    ++ codes "int main(void) { A *a = [A new]; a = a; [a f]; printf(\"x\"); [[A new] f]; printf(\"y\"); }\n"
+
+abbrev pub kept_alive_shows : List Event
+kept_alive_shows = printed (codes "fxf") ++ Dealloc 2 1 ∷ printed (codes "y") ++ Dealloc 1 1 ∷ []
+
+-- A variable of a loop's body ends with each turn (C99, section 6.8.5), and temporaries with their full-expression (ARC, "Object operands"), the last one first (this
+-- project's own choice).
+abbrev pub turns_and_temporaries : List ℕ
+turns_and_temporaries = codes "@interface A : NSObject @end\n"
+    ++ codes "@implementation A - (void)dealloc { printf(\"d\"); } @end\n"
+    ++ codes "int main(void) {\n"
+    ++ codes "    int i = 0;\n"
+    ++ codes "    while (i != 2) { A *a = [A new]; i = i + 1; printf(\"%d\", i); }\n"
+    ++ codes "    if ([A new] != [A new]) printf(\"x\");\n"
+    ++ codes "}\n"
+
+abbrev pub turns_and_temporaries_show : List Event
+turns_and_temporaries_show = printed (codes "1") ++ Dealloc 1 1 ∷ printed (codes "d2") ++ Dealloc 2 1 ∷ printed (codes "d") ++ Dealloc 4 1 ∷ printed (codes "d") ++ Dealloc 3 1 ∷ printed (codes "dx")
+
+-- ---- faults
+
+-- a division by 0 stops the program (this project's own choice, where C99, section 6.5.5, says nothing); printf evaluates all values before it prints
+abbrev pub division_by_zero : List ℕ
+division_by_zero = codes "int main(void) { printf(\"<%d>\", -8 / 3); printf(\"<%d>\", 1 / 0); }"
+
+-- and so does that of the least int by -1
+abbrev pub least_quotient : List ℕ
+least_quotient = codes "int main(void) { int a = -2147483647 - 1; printf(\"%d\", a); return a / -1; }"
+
+-- A message that the object's class has no method for; the first object ends where the variable takes the second.
+abbrev pub no_method : List ℕ
+no_method = codes "@interface A : NSObject - (void)f; @end\n"
+    ++ codes "@implementation A - (void)f { printf(\"f\"); } @end\n"
+    ++ codes "@interface B : NSObject @end\n"
+    ++ codes "@implementation B @end\n"
+    ++ codes "int main(void) { id a = [A new]; [a f]; a = [B new]; printf(\"x\"); [a f]; printf(\"y\"); }\n"
+
+abbrev pub no_method_shows : List Event
+no_method_shows = printed (codes "f") ++ Dealloc 1 1 ∷ printed (codes "x")
+
+-- a field of nil stops the program (this project's own choice)
+abbrev pub field_of_nil : List ℕ
+field_of_nil = codes "@interface A : NSObject { @public int v; } @end\n"
+    ++ codes "@implementation A @end\n"
+    ++ codes "int main(void) { A *a = nil; printf(\"x\"); return a->v; }\n"
+
+-- and so does a field of an object of another class, which a cast let through
+abbrev pub field_of_another_class : List ℕ
+field_of_another_class = codes "@interface A : NSObject { @public int v; } @end\n"
+    ++ codes "@implementation A @end\n"
+    ++ codes "@interface B : NSObject { @public int w; } @end\n"
+    ++ codes "@implementation B @end\n"
+    ++ codes "int main(void) { id b = [B new]; printf(\"x\"); return ((A *)b)->v; }\n"
+
+-- more calls within one another than there may be (this project's own limit)
+abbrev pub endless_calls : List ℕ
+endless_calls = codes "int f(void) { return f(); } int main(void) { return f(); }"
