@@ -1,11 +1,12 @@
 -- Trees without where they lie in memory.
 use Rattle.std.specs.Prelude.{ℕ, ℤ, List, [], ◌∷◌, Option, option_map}
-use Rattle.arc_ast.specs.declared.tree.Kind.{Kind}
 use Rattle.arc_ast.specs.declared.tree.BinaryOperator.{BinaryOperator}
 use Rattle.arc_ast.specs.declared.tree.Sign.{Sign}
 use Rattle.arc_ast.specs.declared.tree.Visibility.{Visibility}
 use Rattle.arc_ast.specs.declared.tree.TypeName.{TypeName}
 use Rattle.arc_ast.specs.declared.tree.TypeName.TheVariants as t
+use Rattle.arc_ast.specs.declared.tree.ResultType.{ResultType}
+use Rattle.arc_ast.specs.declared.tree.ResultType.TheVariants as r
 use Rattle.arc_ast.specs.declared.tree.Field.{Field}
 use Rattle.arc_ast.specs.declared.tree.Expr.{Expr, Row_of-Expr, end_of-Expr, more_of-Expr}
 use Rattle.arc_ast.specs.declared.tree.Expr.TheVariants as e
@@ -27,6 +28,11 @@ pub data TypeTree : Type 0 where
   Int : TypeTree
   Id : TypeTree
   Object : ℕ → List ℕ → TypeTree
+
+-- the type of a function's or a method's result, as it is written (C99, section 6.7.5.3; OPL, "Defining a Class")
+pub data ResultTree : Type 0 where
+  Void : ResultTree
+  Value : TypeTree → ResultTree
 
 mutual
   -- An expression, with the place of its first byte (C99, section 6.5). An assignment has that of its `=` too, a field that of its name, and a message that of
@@ -74,20 +80,22 @@ mutual
     no_stmts : StmtTrees
     and_stmt : StmtTree → StmtTrees → StmtTrees
 
--- an int that a function or a method takes, with the place of its name
+-- a parameter of a function or a method, with the place of its name (C99, section 6.7.5.3; OPL, "Defining a Class")
 pub record ParameterTree : Type 0 where
   pub at : ℕ
+  pub type : TypeTree
   pub name : List ℕ
 
+-- the parameters that are listed or, of `main`, a count and texts (C99, section 5.1.2.2.1)
 pub data ParametersTree : Type 0 where
-  Ints : List ParameterTree → ParametersTree
+  Listed : List ParameterTree → ParametersTree
   CountAndTexts : ParametersTree
 
 -- a function, with the place of its name (C99, section 6.9.1)
 pub record FunctionTree : Type 0 where
   pub at : ℕ
   pub name : List ℕ
-  pub result : Kind
+  pub result : ResultTree
   pub parameters : ParametersTree
   pub body : Option StmtTrees
 
@@ -96,16 +104,17 @@ pub record HeadTree : Type 0 where
   pub at : ℕ
   pub sign : Sign
   pub selector : List ℕ
-  pub result : Kind
+  pub result : ResultTree
   pub parameters : List ParameterTree
 
 pub record MethodTree : Type 0 where
   pub head : HeadTree
   pub body : StmtTrees
 
--- an int field, with the place of its name (OPL, "Instance Variables")
+-- a field, with the place of its name (OPL, "Instance Variables")
 pub record FieldTree : Type 0 where
   pub at : ℕ
+  pub type : TypeTree
   pub name : List ℕ
   pub visibility : Visibility
 
@@ -173,6 +182,10 @@ type_tree t.Int = Int
 type_tree t.Id = Id
 type_tree (t.Object at name) = Object at name.items
 
+abbrev pub result_tree : ResultType → ResultTree
+result_tree r.Void = Void
+result_tree (r.Value type) = Value (type_tree type)
+
 -- A constructor with a prime is one whose boxes and vectors stand in it as such: a row is a vector's elements, and `q` and `shape` say how they lie in memory, which
 -- a tree doesn't keep.
 abbrev mutual
@@ -227,24 +240,27 @@ abbrev pub stmt_trees : List Stmt → StmtTrees
 stmt_trees [] = no_stmts
 stmt_trees (a ∷ others) = and_stmt (stmt_tree a) (stmt_trees others)
 
+abbrev pub parameter_tree : Parameter → ParameterTree
+parameter_tree a = record { at = a.at; type = type_tree a.type_name; name = a.name.items }
+
 abbrev pub parameter_trees : List Parameter → List ParameterTree
 parameter_trees [] = []
-parameter_trees (a ∷ others) = record { at = a.at; name = a.name.items } ∷ parameter_trees others
+parameter_trees (a ∷ others) = parameter_tree a ∷ parameter_trees others
 
 abbrev pub parameters_tree : Parameters → ParametersTree
-parameters_tree (p.Ints all) = Ints (parameter_trees all.items)
+parameters_tree (p.Listed all) = Listed (parameter_trees all.items)
 parameters_tree p.CountAndTexts = CountAndTexts
 
 abbrev pub function_tree : Function → FunctionTree
 function_tree f =
-    record { at = f.at; name = f.name.items; result = f.result; parameters = parameters_tree f.parameters; body = option_map (λ b. stmt_trees b.items) f.body }
+    record { at = f.at; name = f.name.items; result = result_tree f.result; parameters = parameters_tree f.parameters; body = option_map (λ b. stmt_trees b.items) f.body }
 
 abbrev pub function_trees : List Function → List FunctionTree
 function_trees [] = []
 function_trees (f ∷ others) = function_tree f ∷ function_trees others
 
 abbrev pub head_tree : MethodHead → HeadTree
-head_tree h = record { at = h.at; sign = h.sign; selector = h.selector.items; result = h.result; parameters = parameter_trees h.parameters.items }
+head_tree h = record { at = h.at; sign = h.sign; selector = h.selector.items; result = result_tree h.result; parameters = parameter_trees h.parameters.items }
 
 abbrev pub head_trees : List MethodHead → List HeadTree
 head_trees [] = []
@@ -257,9 +273,12 @@ abbrev pub method_trees : List Method → List MethodTree
 method_trees [] = []
 method_trees (m ∷ others) = method_tree m ∷ method_trees others
 
+abbrev pub field_tree : Field → FieldTree
+field_tree f = record { at = f.at; type = type_tree f.type_name; name = f.name.items; visibility = f.visibility }
+
 abbrev pub field_trees : List Field → List FieldTree
 field_trees [] = []
-field_trees (f ∷ others) = record { at = f.at; name = f.name.items; visibility = f.visibility } ∷ field_trees others
+field_trees (f ∷ others) = field_tree f ∷ field_trees others
 
 abbrev pub interface_tree : Interface → InterfaceTree
 interface_tree i =

@@ -47,7 +47,7 @@ pub enum Visibility {
     Public,
 }
 
-/// A type, as it is written of a variable or in a cast.
+/// A type, as it is written in a declaration or in a cast.
 #[derive(Drop)]
 pub enum TypeName {
     Int,
@@ -55,6 +55,14 @@ pub enum TypeName {
     Id,
     /// A reference to an object of a class: the place of the class's name, and the name.
     Object(usize, Vec<u8>),
+}
+
+/// The type of a function's or a method's result, as it is written.
+#[derive(Drop)]
+pub enum ResultType {
+    /// No value.
+    Void,
+    Value(TypeName),
 }
 
 /// An expression, with the place of its first byte; a call has that of its function's name.
@@ -112,39 +120,38 @@ pub enum Stmt {
     While(usize, Expr, Box<Stmt>),
 }
 
-/// An `int` that a function or a method takes, with the place of its name.
+/// A parameter of a function or a method, with its type and the place of its name.
 #[derive(Drop)]
 pub struct Parameter {
     pub at: usize,
+    pub type_name: TypeName,
     pub name: Vec<u8>,
 }
 
-/// What a function takes: some numbers or, as `main` may, a count and the arguments' texts.
+/// What a function takes: the parameters that are listed or, as `main` may, a count and the arguments' texts.
 #[derive(Drop)]
 pub enum Parameters {
-    Ints(Vec<Parameter>),
+    Listed(Vec<Parameter>),
     CountAndTexts,
 }
 
-/// A declaration or, with a body, a definition of a function; the place is that of its name. The result
-/// is Int or Void.
+/// A declaration or, with a body, a definition of a function; the place is that of its name.
 #[derive(Drop)]
 pub struct Function {
     pub at: usize,
     pub name: Vec<u8>,
-    pub result: Kind,
+    pub result: ResultType,
     pub parameters: Parameters,
     pub body: Option<Vec<Stmt>>,
 }
 
-/// A method as it is declared, with the place of its `+` or `-` and its selector with all colons. The
-/// result is Int or Void.
+/// A method as it is declared, with the place of its `+` or `-` and its selector with all colons.
 #[derive(Drop)]
 pub struct MethodHead {
     pub at: usize,
     pub sign: Sign,
     pub selector: Vec<u8>,
-    pub result: Kind,
+    pub result: ResultType,
     pub parameters: Vec<Parameter>,
 }
 
@@ -155,10 +162,11 @@ pub struct Method {
     pub body: Vec<Stmt>,
 }
 
-/// An `int` field that each object of a class has, with the place of its name.
+/// A field that each object of a class has, with its type and the place of its name.
 #[derive(Drop)]
 pub struct Field {
     pub at: usize,
+    pub type_name: TypeName,
     pub name: Vec<u8>,
     pub visibility: Visibility,
 }

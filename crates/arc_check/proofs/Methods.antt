@@ -9,6 +9,7 @@ use Rattle.arc_ast.specs.declared.tree.Parameter.{Parameter}
 use Rattle.arc_ast.specs.declared.tree.Stmt.{Stmt}
 use Rattle.arc_ast.specs.Tree.{parameter_trees, stmt_trees, head_tree, head_trees, method_tree, method_trees, interface_trees, implementation_trees}
 use Rattle.arc_class.specs.Broken.{Broken, first, earlier_of}
+use Rattle.arc_class.specs.Classes.{result_of}
 use Rattle.arc_class.proofs.Firsts.{first_turn, first_both}
 use Rattle.arc_check.specs.Rules.{broken_parameters, broken_stmts, is_nothing, broken_head, broken_interface, broken_method, broken_implementation}
 use Rattle.arc_check.specs.Scopes.{Known, Scope, with_parameters, in_method}
@@ -26,13 +27,13 @@ interfaces_turn xs i x items so_far one now whole l e m o n w =
     (w ∙ ap (λ us. earlier_of so_far (first (flat_map broken_interface (interface_trees us)))) (drop_turn xs i x l e))
 
 -- a method's parameters and its body stand in Vecs
-pub method_is : (known : Known) (class : Option ℕ) (m : Method) (s : Scope) (gives_nothing : Bool) (named : List Parameter) (body : List Stmt) (own inside both : Option Broken) → own ≡ first (broken_head (head_tree m.head)) → s ≡ in_method known class m.head.sign → gives_nothing ≡ is_nothing (Some m.head.result)
+pub method_is : (known : Known) (class : Option ℕ) (m : Method) (s : Scope) (gives_nothing : Bool) (named : List Parameter) (body : List Stmt) (own inside both : Option Broken) → own ≡ first (broken_head (head_tree m.head)) → s ≡ in_method known class m.head.sign → gives_nothing ≡ is_nothing (Some (result_of (head_tree m.head)))
     → named ≡ m.head.parameters.items → body ≡ m.body.items → inside ≡ first (broken_parameters s (parameter_trees named) ++ broken_stmts gives_nothing (with_parameters s (parameter_trees named)) (stmt_trees body)) → both ≡ earlier_of own inside
     → both ≡ first (broken_method known class (method_tree m))
 method_is known class m s gives_nothing named body own inside both o p g n b h e =
     let start = in_method known class m.head.sign in
     let ps = parameter_trees m.head.parameters.items in
-    first_both (broken_head (head_tree m.head)) (broken_parameters start ps ++ broken_stmts (is_nothing (Some m.head.result)) (with_parameters start ps) (stmt_trees m.body.items)) own inside both o (h ∙ rw (p, g, n, b) refl) e
+    first_both (broken_head (head_tree m.head)) (broken_parameters start ps ++ broken_stmts (is_nothing (Some (result_of (head_tree m.head)))) (with_parameters start ps) (stmt_trees m.body.items)) own inside both o (h ∙ rw (p, g, n, b) refl) e
 
 pub methods_turn : (known : Known) (class : Option ℕ) (xs : List Method) (i : ℕ) (x : Method) (so_far one now whole : Option Broken) → i < length xs → x ≡ get_or xs i x → one ≡ first (broken_method known class (method_tree x)) → now ≡ earlier_of so_far one
     → whole ≡ earlier_of so_far (first (flat_map (broken_method known class) (method_trees (drop i xs)))) → whole ≡ earlier_of now (first (flat_map (broken_method known class) (method_trees (drop (i + 1) xs))))

@@ -58,7 +58,7 @@ local_turn xs i x name so_far now whole l e n w =
     let rest = local_in (drop (i + 1) xs) name in
     w ∙ ap (λ us. later so_far (local_in us name)) (drop_turn xs i x l e) ∙ later-assoc so_far (local_at x name) rest ∙ ap (λ a. later a rest) (sym n)
 
-pub parameters_turn : (xs : List Parameter) (i : ℕ) (x : Parameter) (old new whole : Scope) → i < length xs → x ≡ get_or xs i x → new ≡ declare x.name.items tree.Int old → whole ≡ with_parameters old (parameter_trees (drop i xs))
+pub parameters_turn : (xs : List Parameter) (i : ℕ) (x : Parameter) (old new whole : Scope) → i < length xs → x ≡ get_or xs i x → new ≡ declare x.name.items (tree.type_tree x.type_name) old → whole ≡ with_parameters old (parameter_trees (drop i xs))
     → whole ≡ with_parameters new (parameter_trees (drop (i + 1) xs))
 parameters_turn xs i x old new whole l e n w = w ∙ ap (λ us. with_parameters old (parameter_trees us)) (drop_turn xs i x l e) ∙ ap (λ s. with_parameters s (parameter_trees (drop (i + 1) xs))) (sym n)
 

@@ -5,7 +5,8 @@ use Rattle.arc_ast.specs.declared.tree.Kind.{Kind}
 use Rattle.arc_ast.specs.declared.tree.Kind.TheVariants as k
 use Rattle.arc_ast.specs.declared.tree.BinaryOperator.{BinaryOperator}
 use Rattle.arc_ast.specs.declared.tree.BinaryOperator.TheVariants as o
-use Rattle.arc_ast.specs.Tree as tree
+use Rattle.arc_ast.specs.Types.{type_kind}
+use Rattle.arc_ast.specs.Types as types
 use Rattle.arc_ast.specs.Tree.{TypeTree, ExprTree, ExprTrees, Integer, Text, Paren, Call, Nil, Itself, Name, Negate, Plus, Cast, Binary, Arrow, Assign, Send, SendSuper, no_exprs, and_expr, place, VariableTree, StmtTree, StmtTrees, Block, Empty, Simple, Return, Variables, If, IfElse, While, no_stmts, and_stmt, ParameterTree, FunctionTree, HeadTree, MethodTree, InterfaceTree, ImplementationTree, UnitTree}
 use Rattle.arc_class.specs.Broken.{broken_if, Broken}
 use Rattle.arc_sites.specs.Sites.{named_parameters}
@@ -261,11 +262,6 @@ broken_number s a = broken_whole s a ++ no_number (kind_of s a) (place a)
 abbrev pub broken_test : Scope → ExprTree → List Broken
 broken_test s a = broken_whole s a ++ no_value (kind_of s a) (place a)
 
--- the kind of what a variable of a type holds
-abbrev pub type_kind : TypeTree → Kind
-type_kind tree.Int = k.Int
-type_kind _ = k.Object
-
 abbrev pub broken_initial : Scope → TypeTree → Option ExprTree → List Broken
 broken_initial s type a = option_map_or (λ e. broken_whole s e ++ no_such (Some (type_kind type)) (kind_of s e) (place e)) a []
 
@@ -278,7 +274,7 @@ broken_variables type s (v ∷ others) =
 -- the same of parameters
 abbrev pub broken_parameters : Scope → List ParameterTree → List Broken
 broken_parameters s [] = []
-broken_parameters s (p ∷ others) = broken_if (is_full s) p.at 50 ++ broken_parameters (declare p.name tree.Int s) others
+broken_parameters s (p ∷ others) = broken_if (is_full s) p.at 50 ++ broken_parameters (declare p.name p.type s) others
 
 -- 43 KindMismatch too: a value that a function without a result returns, at the value (C99, section 6.8.6.4)
 abbrev pub broken_result : (gives_nothing : Bool) → Scope → Option ExprTree → List Broken
@@ -311,7 +307,7 @@ broken_body gives_nothing known parameters (Some body) =
 -- 45 ArgumentCount too: a function with more parameters than are allowed, at its name (this project's own choice)
 abbrev pub broken_function : Known → FunctionTree → List Broken
 broken_function known f =
-    broken_if (nat_lt MOST_PARAMETERS (length (named_parameters f.parameters))) f.at 45 ++ broken_body (is_nothing (Some f.result)) known (named_parameters f.parameters) f.body
+    broken_if (nat_lt MOST_PARAMETERS (length (named_parameters f.parameters))) f.at 45 ++ broken_body (is_nothing (Some (types.result_kind f.result))) known (named_parameters f.parameters) f.body
 
 -- 45 ArgumentCount too: a method with more parameters, declared or defined, at its sign
 abbrev pub broken_head : HeadTree → List Broken
@@ -323,7 +319,7 @@ broken_interface i = flat_map broken_head i.methods
 abbrev pub broken_method : Known → (class : Option ℕ) → MethodTree → List Broken
 broken_method known class m = broken_head m.head
     ++ (broken_parameters (in_method known class m.head.sign) m.head.parameters
-    ++ broken_stmts (is_nothing (Some m.head.result)) (with_parameters (in_method known class m.head.sign) m.head.parameters) m.body)
+    ++ broken_stmts (is_nothing (Some (types.result_kind m.head.result))) (with_parameters (in_method known class m.head.sign) m.head.parameters) m.body)
 
 abbrev pub broken_implementation : Known → ImplementationTree → List Broken
 broken_implementation known i = flat_map (broken_method known (known.class i.name)) i.methods

@@ -81,9 +81,8 @@ declare name type s = if has_place s then with_variable name type s else s
 abbrev pub with_variables : TypeTree → Scope → List VariableTree → Scope
 with_variables type = fold (λ s v. declare v.name type s)
 
--- parameters are ints
 abbrev pub with_parameters : Scope → List ParameterTree → Scope
-with_parameters = fold (λ s p. declare p.name tree.Int s)
+with_parameters = fold (λ s p. declare p.name p.type s)
 
 -- behind an inner scope (C99, section 6.2.1): the names mean what they meant before it, and the numbers that it gave aren't given again
 abbrev pub leave : (outer inner : Scope) → Scope

@@ -98,7 +98,7 @@ fn parameters<'a>(
     let mut fault = None;
     for parameter in all {
         fault = earlier(fault, place_fault(visible, parameter.at));
-        visible.declare_int(&parameter.name)?;
+        visible.declare(table, &parameter.type_name, &parameter.name)?;
     }
     Ok(fault)
 }
@@ -200,7 +200,7 @@ pub fn named_parameters(parameters: &Parameters) -> &[Parameter]
     ensures { parameter_trees result.now ≡ sites.named_parameters (parameters_tree parameters.now) }
 {
     match parameters {
-        Parameters::Ints(all) => all,
+        Parameters::Listed(all) => all,
         Parameters::CountAndTexts => &[],
     }
 }
@@ -269,7 +269,7 @@ fn function<'a>(
 {
     let named = named_parameters(&function.parameters);
     let own = count_fault(function.at, named.len());
-    let gives_nothing = is_void(function.result);
+    let gives_nothing = is_void(function.result.kind());
     let inside = body(alloc, table, gives_nothing, named, &function.body)?;
     Ok(earlier(own, inside))
 }

@@ -621,16 +621,6 @@ pub fn test_fault<'a>(
     earlier(judged.fault, no_value(judged.kind, place(expr)))
 }
 
-/// The kind of what a variable of the type holds.
-fn type_kind(type_name: &TypeName) -> Kind
-    ensures { result ≡ rules.type_kind (type_tree type_name.now) }
-{
-    match type_name {
-        TypeName::Int => Kind::Int,
-        TypeName::Id | TypeName::Object(_, _) => Kind::Object,
-    }
-}
-
 /// The first rule that is broken in what a variable of the type begins with.
 pub fn initial_fault<'a>(
     table: &ClassTable<'a>,
@@ -641,6 +631,6 @@ pub fn initial_fault<'a>(
     ensures { option_map told result ≡ first (rules.broken_initial (seen table.now visible.now) (type_tree type_name.now) (Some (expr_tree expr.now))) }
 {
     let judged = judge_whole(table, visible, expr);
-    let wanted = Some(type_kind(type_name));
+    let wanted = Some(type_name.kind());
     earlier(judged.fault, no_such(wanted, judged.kind, place(expr)))
 }

@@ -55,7 +55,7 @@ fn method<'a>(
     ensures { IfOk result (λ fault. option_map told fault
         ≡ first (broken_method (known_in table.now) (option_map number_of_class class) (method_tree method.now))) }
 {
-    let gives_nothing = is_void(method.head.result);
+    let gives_nothing = is_void(method.head.result.kind());
     let visible = Visible::in_method(alloc, class, method.head.sign);
     let inside = inside(
         table,

@@ -348,7 +348,7 @@ fn function<'a>(
     ensures { IfOk result (λ new. function_of new
         ≡ resolved_body (with_parameters (seen table.now visible.entry) (parameter_trees named.now)) (stmt_trees body.now)) }
 {
-    visible.declare_parameters(named)?;
+    visible.declare_parameters(table, named)?;
     let body = commands(alloc, table, &mut visible, body)?;
     Ok(CheckedFunction {
         slots: usize::from(visible.next),

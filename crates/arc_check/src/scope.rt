@@ -125,7 +125,7 @@ impl<'a> Visible<'a> {
     }
 
     /// An int more.
-    pub fn declare_int(&mut self, name: &'a [u8]) -> Result<(), AllocError>
+    fn declare_int(&mut self, name: &'a [u8]) -> Result<(), AllocError>
         ensures scope { OnOk result ((table : ClassTable) → seen table self.new ≡ scopes.declare name.now Int (seen table self.old)) }
         ensures keeps { OnOk result (take (length self.old.bound.items) self.new.bound.items ≡ self.old.bound.items) }
     {
@@ -173,11 +173,15 @@ impl<'a> Visible<'a> {
     }
 
     /// Some parameters more.
-    pub fn declare_parameters(&mut self, all: &'a [Parameter]) -> Result<(), AllocError>
-        ensures { OnOk result ((table : ClassTable) → seen table self.new ≡ scopes.with_parameters (seen table self.old) (parameter_trees all.now)) }
+    pub fn declare_parameters(
+        &mut self,
+        table: &ClassTable<'a>,
+        all: &'a [Parameter],
+    ) -> Result<(), AllocError>
+        ensures { OnOk result (seen table.now self.new ≡ scopes.with_parameters (seen table.now self.old) (parameter_trees all.now)) }
     {
         for parameter in all {
-            self.declare_int(&parameter.name)?;
+            self.declare(table, &parameter.type_name, &parameter.name)?;
         }
         Ok(())
     }

@@ -160,12 +160,12 @@ module _ (u : UnitTree) where
   parameters_are : (all : List ParameterTree) (m : Enclosing) (s : Scope) → first (broken_parameters (names_of s) all) ≡ found (parameter_sites m s all)
   parameters_are [] m s = refl
   parameters_are (p ∷ others) m s =
-      pair (broken_if (names_of s p.name) p.at 21) (broken_parameters (and_name p.name (names_of s)) others) (site m s (sites.Parameter p)) (parameter_sites m (sites.declare p.name t.Int s) others)
-      (alone 21 (names_of s p.name) p.at) (parameters_are others m (sites.declare p.name t.Int s))
+      pair (broken_if (names_of s p.name) p.at 21) (broken_parameters (and_name p.name (names_of s)) others) (site m s (sites.Parameter p)) (parameter_sites m (sites.declare p.name p.type s) others)
+      (alone 21 (names_of s p.name) p.at) (parameters_are others m (sites.declare p.name p.type s))
 
   with_parameters_is : (all : List ParameterTree) (s : Scope) → names_taken (names_of s) all ≡ names_of (with_parameters all s)
   with_parameters_is [] s = refl
-  with_parameters_is (p ∷ others) s = with_parameters_is others (sites.declare p.name t.Int s)
+  with_parameters_is (p ∷ others) s = with_parameters_is others (sites.declare p.name p.type s)
 
   body_is : (all : List ParameterTree) (o : Option StmtTrees) (m : Enclosing) → first (broken_body missing all o) ≡ found (body_sites m all o)
   body_is all None m = refl

@@ -3,8 +3,10 @@ use Rattle.std.proofs.Common.{◌≡◌, ℕ, zero, suc, ◌+◌, List, [], ◌�
 use Rattle.std.proofs.lemmas.List.{length-append}
 use Rattle.std.proofs.lemmas.Option.{slice_get-map}
 use Rattle.arc_ast.specs.declared.tree.Sign.{Sign}
+use Rattle.arc_ast.specs.Tree.{head_tree}
 use Rattle.arc_class.specs.declared.fields.ClassFields.{ClassFields}
 use Rattle.arc_class.specs.declared.table.Entry.{Entry}
+use Rattle.arc_class.specs.Classes.{result_of}
 use Rattle.arc_class.specs.Lookups.{at_name, head_at, superclass_among, superclass_of_entry, own_result_in, superclass_of_fields, own_field_in}
 use Rattle.arc_class.specs.Owners.{view_at, with_own, owner_by, entry_view}
 use Rattle.arc_class.proofs.Chains.{Follows, follows_root, follows_class}
@@ -54,7 +56,7 @@ module _ (entries : List Entry) (sign : Sign) where
   entry_turn (suc n) all new entry count there top f e =
       let P : List (Option (List ℕ → Option ℕ)) → Type 0 = λ vs. Follows (map superclass_of_entry entries) gives vs in
       let has : (name : List ℕ) → is_some (head_at entry.methods sign name) ≡ is_some (gives (length all) name) = λ name.
-      is_mapped (λ h. h.now.result) (head_at entry.methods sign name) ∙ sym (ap (λ o. is_some (own_result_in (suc n) o sign name)) there)
+      is_mapped (λ h. result_of (head_tree h.now)) (head_at entry.methods sign name) ∙ sym (ap (λ o. is_some (own_result_in (suc n) o sign name)) there)
       ∙ is_mapped (λ found. suc n) (own_result_in (suc n) (slice_get entries (suc n)) sign name) ∙ sym (ap (λ c. is_some (gives c name)) count) in
       let up : slice_get (map superclass_of_entry entries) (suc n) ≡ Some entry.superclass = slice_get-map superclass_of_entry entries (suc n) ∙ ap (option_map superclass_of_entry) there in
       let here : slice_get (map superclass_of_entry entries) (length all) ≡ Some entry.superclass = ap (slice_get (map superclass_of_entry entries)) count ∙ up in

@@ -85,7 +85,7 @@ before_kept n (i ∷ ims) name at = go (bytes_eq name i.name) (before_kept (n + 
 pub result_kept : (methods : Heads) (sign : Sign) (selector : List ℕ) → option_map result_of (head_in methods sign selector) ≡ result_at methods sign selector
 result_kept methods sign selector = go (head_at methods sign selector)
   where
-    go : (o : Option (Bor MethodHead)) → option_map result_of (option_map (λ h. head_tree h.now) o) ≡ option_map (λ h. h.now.result) o
+    go : (o : Option (Bor MethodHead)) → option_map result_of (option_map (λ h. head_tree h.now) o) ≡ option_map (λ h. result_of (head_tree h.now)) o
     go None = refl
     go (Some h) = refl
 
@@ -100,7 +100,7 @@ entry_is u i superclass methods e h =
 
 -- the root has no methods of its own
 pub root_is : (methods : Heads) → ((sign : Sign) (selector : List ℕ) → head_at methods sign selector ≡ None) → entry_tree (record { superclass = None; methods = methods }) ≡ root_entry
-root_is methods h = ap (entry_of None) (fun_ext (λ sign. fun_ext (λ selector. ap (option_map (λ h. h.now.result)) (h sign selector))))
+root_is methods h = ap (entry_of None) (fun_ext (λ sign. fun_ext (λ selector. ap (option_map (λ h. result_of (head_tree h.now))) (h sign selector))))
 
 abbrev class_made : Option ℕ → List Method → Option ℕ → ℕ → Class
 class_made superclass methods dealloc fields = record { superclass = superclass; methods = methods; dealloc = dealloc; fields = fields }

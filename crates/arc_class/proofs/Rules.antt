@@ -157,9 +157,6 @@ methods_held xs k x old new l e n h sign selector =
 
 -- ---- fields
 
-abbrev pub field_at : Field → FieldTree
-field_at f = record { at = f.at; name = f.name.items; visibility = f.visibility }
-
 pub fields_turn : (u : UnitTree) (above : Option ℕ) (all : List FieldTree) (xs : List Field) (k : ℕ) (x : Field) (so_far one now whole : Option Broken) → k < length xs → x ≡ get_or xs k x
     → one ≡ first (broken_field u above all x.at x.name.items) → now ≡ earlier_of so_far one
     → whole ≡ earlier_of so_far (first (broken_fields u above all (field_trees (drop k xs)))) → whole ≡ earlier_of now (first (broken_fields u above all (field_trees (drop (k + 1) xs))))

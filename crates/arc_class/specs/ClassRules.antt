@@ -12,7 +12,7 @@ use Rattle.arc_ast.specs.Tree.{FunctionTree, HeadTree, MethodTree, FieldTree, In
 use Rattle.arc_spec.specs.Classes.{same_sign, ancestry}
 use Rattle.arc_class.specs.Bodies.{broken_bodies}
 use Rattle.arc_class.specs.Broken.{Broken, broken_if}
-use Rattle.arc_class.specs.Classes.{is_root, interface_number, class_number, superclasses, first_head, built_in_result, or_else, declared, defined}
+use Rattle.arc_class.specs.Classes.{is_root, interface_number, class_number, superclasses, first_head, result_of, built_in_result, or_else, declared, defined}
 use Rattle.arc_class.specs.Fields.{own_fields, fields_declared, fields}
 use Rattle.arc_class.specs.Functions.{is_library, same_kind, duplicates, missing_main}
 use Rattle.arc_class.specs.Names.{first_named, number_of, is_main}
@@ -21,11 +21,11 @@ use Rattle.arc_class.specs.Names.{first_named, number_of, is_main}
 
 -- whether a method stands before another and gives another kind of value
 abbrev pub differs_before : Option HeadTree → HeadTree → Bool
-differs_before earlier h = option_map_or (λ e. nat_lt e.at h.at && not (same_kind e.result h.result)) earlier false
+differs_before earlier h = option_map_or (λ e. nat_lt e.at h.at && not (same_kind (result_of e) (result_of h))) earlier false
 
 -- whether a method that is built in gives another kind of value
 abbrev pub differs_from : Option Kind → HeadTree → Bool
-differs_from kind h = option_map_or (λ given. not (same_kind given h.result)) kind false
+differs_from kind h = option_map_or (λ given. not (same_kind given (result_of h))) kind false
 
 -- the selectors of the methods of the root that tell of an object's class (OPL, "Introspection")
 abbrev pub tells_class : List ℕ → Bool

@@ -6,6 +6,7 @@ use Rattle.arc_ast.specs.declared.tree.Kind.{Kind}
 use Rattle.arc_ast.specs.declared.tree.Kind.TheVariants as k
 use Rattle.arc_ast.specs.declared.tree.Sign.{Sign}
 use Rattle.arc_ast.specs.declared.tree.Sign.TheVariants as signs
+use Rattle.arc_ast.specs.Types.{result_kind}
 use Rattle.arc_ast.specs.Tree.{FunctionTree, HeadTree, MethodTree, InterfaceTree, ImplementationTree, UnitTree}
 use Rattle.arc_spec.specs.Classes.{same_sign, ancestry, first_that_has}
 pub use Rattle.arc_spec.specs.Classes.{or_else}
@@ -51,8 +52,9 @@ is_method sign selector h = same_sign sign h.sign && bytes_eq selector h.selecto
 abbrev pub first_head : Sign → List ℕ → List HeadTree → Option HeadTree
 first_head sign selector = find (is_method sign selector)
 
+-- what a method gives
 abbrev pub result_of : HeadTree → Kind
-result_of h = h.result
+result_of h = result_kind h.result
 
 -- what a class's own method with a selector gives: one that its interface declares, or else one that its implementation defines
 abbrev pub own_result : UnitTree → Sign → List ℕ → InterfaceTree → Option Kind

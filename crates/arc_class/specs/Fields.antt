@@ -3,9 +3,9 @@ use Rattle.std.specs.Prelude.{ℕ, zero, suc, Bool, false, List, [], ◌∷◌, 
 use Rattle.std.specs.Option.{option_and_then, option_map_or}
 use Rattle.std.specs.Str.{bytes_eq}
 use Rattle.arc_ast.specs.declared.tree.Kind.{Kind}
-use Rattle.arc_ast.specs.declared.tree.Kind.TheVariants as k
 use Rattle.arc_ast.specs.declared.tree.Qual.{Qual}
 use Rattle.arc_ast.specs.declared.tree.Visibility.{Visibility}
+use Rattle.arc_ast.specs.Types.{type_kind}
 use Rattle.arc_ast.specs.Tree.{FieldTree, InterfaceTree, ImplementationTree, UnitTree}
 use Rattle.arc_class.specs.declared.table.FoundField.{FoundField}
 use Rattle.arc_class.specs.Classes.{class_number, superclass, superclasses}
@@ -47,7 +47,7 @@ own_fields u zero = []
 own_fields u (suc n) = option_map_or (fields_declared u (suc n)) (slice_get u.interfaces n) []
 
 abbrev pub owned : (owner : ℕ) → FieldTree → ClassField
-owned owner f = record { name = f.name; kind = k.Int; qual = None; owner = owner; visibility = f.visibility }
+owned owner f = record { name = f.name; kind = type_kind f.type; qual = None; owner = owner; visibility = f.visibility }
 
 -- a superclass that stands before its class; another one is inherited from by nobody, since it is refused (rule 22, UnknownClass)
 abbrev pub if_before : (class : ℕ) → (superclass : Option ℕ) → Option ℕ

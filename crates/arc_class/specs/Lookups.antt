@@ -10,6 +10,7 @@ use Rattle.arc_ast.specs.declared.tree.Kind.{Kind}
 use Rattle.arc_ast.specs.declared.tree.MethodHead.{MethodHead}
 use Rattle.arc_ast.specs.declared.tree.Sign.{Sign}
 use Rattle.arc_ast.specs.declared.tree.Sign.TheVariants as signs
+use Rattle.arc_ast.specs.Tree.{head_tree}
 use Rattle.arc_spec.specs.Classes.{Class, superclasses, ancestry, first_that_has, own_dealloc}
 use Rattle.arc_class.specs.declared.fields.ClassFields.{ClassFields}
 use Rattle.arc_class.specs.declared.heads.Heads.{Heads}
@@ -21,7 +22,7 @@ use Rattle.arc_class.specs.declared.table.FoundField.{FoundField}
 use Rattle.arc_class.specs.declared.table.MethodId.{MethodId}
 use Rattle.arc_class.specs.declared.table.Place.{Place}
 use Rattle.arc_class.specs.declared.table.Sel.{Sel}
-use Rattle.arc_class.specs.Classes.{is_root, built_in_result}
+use Rattle.arc_class.specs.Classes.{is_root, result_of, built_in_result}
 use Rattle.arc_class.specs.Fields.{ClassField}
 use Rattle.arc_class.specs.Running.{classes}
 
@@ -49,7 +50,7 @@ head_at heads signs.Class selector = at_name heads.class_methods selector
 head_at heads signs.Instance selector = at_name heads.instance_methods selector
 
 abbrev pub result_at : Heads → Sign → List ℕ → Option Kind
-result_at heads sign selector = option_map (λ h. h.now.result) (head_at heads sign selector)
+result_at heads sign selector = option_map (λ h. result_of (head_tree h.now)) (head_at heads sign selector)
 
 -- what the method gives that a class itself has for a selector, by a table of the methods of each class; the root's are built in
 abbrev pub own_result_in : (class : ℕ) → Option Entry → Sign → List ℕ → Option Kind

@@ -4,21 +4,22 @@ use Rattle.std.specs.List.{find}
 use Rattle.std.specs.Str.{bytes_eq}
 use Rattle.arc_ast.specs.declared.tree.Kind.{Kind}
 use Rattle.arc_ast.specs.declared.tree.Kind.TheVariants as k
-use Rattle.arc_ast.specs.Tree.{FunctionTree, ParametersTree, Ints, CountAndTexts}
+use Rattle.arc_ast.specs.Types.{result_kind}
+use Rattle.arc_ast.specs.Tree.{FunctionTree, ParametersTree, Listed, CountAndTexts}
 use Rattle.arc_class.specs.declared.table.Signature.{Signature}
 use Rattle.arc_class.specs.declared.table.Declared.{Declared}
 
 abbrev pub has_body : FunctionTree → Bool
 has_body f = is_some f.body
 
--- how many numbers a function takes, and none for a count and texts
+-- how many parameters a function has that are listed, and none for a count and texts
 abbrev pub takes : ParametersTree → Option ℕ
-takes (Ints all) = Some (length all)
+takes (Listed all) = Some (length all)
 takes CountAndTexts = None
 
 -- what the declarations of a function have to agree in (C99, section 6.7.5.3)
 abbrev pub signature : FunctionTree → Signature
-signature f = record { result = f.result; takes = takes f.parameters }
+signature f = record { result = result_kind f.result; takes = takes f.parameters }
 
 abbrev pub is_named : List ℕ → FunctionTree → Bool
 is_named name f = bytes_eq name f.name
@@ -48,4 +49,4 @@ starts_program (Some (suc n)) = false
 
 -- The function that a program begins with gives an int, and takes nothing or a count and the arguments' texts (C99, section 5.1.2.2.1).
 abbrev pub is_main : FunctionTree → Bool
-is_main f = is_named (codes "main") f && (is_int f.result && starts_program (takes f.parameters))
+is_main f = is_named (codes "main") f && (is_int (result_kind f.result) && starts_program (takes f.parameters))

@@ -20,7 +20,7 @@ use crate::kept::Source;
 use crate::owners::Owners;
 use crate::table::{ClassId, Field, FoundField, at_name, class_number};
 use arc_ast::tree;
-use arc_ast::tree::{Interface, Kind};
+use arc_ast::tree::Interface;
 use arc_fault::class::ClassFault;
 use arc_sites::violation::earlier;
 use std::alloc::{AllocError, Global};
@@ -318,7 +318,7 @@ fn add_fields<'a>(
     for field in fields {
         all.push(Field {
             name: &field.name,
-            kind: Kind::Int,
+            kind: field.type_name.kind(),
             qual: None,
             owner,
             visibility: field.visibility,

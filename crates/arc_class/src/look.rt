@@ -60,12 +60,12 @@ pub(crate) fn is_library(name: &[u8]) -> bool
     name == b"printf".as_slice() || name == b"getchar".as_slice()
 }
 
-/// How many numbers a function with the parameters takes.
+/// How many parameters a function has, where they are listed.
 fn takes(parameters: &Parameters) -> Option<usize>
     ensures { result ≡ names.takes (parameters_tree parameters.now) }
 {
     match parameters {
-        Parameters::Ints(all) => {
+        Parameters::Listed(all) => {
             let all: &[Parameter] = all;
             Some(all.len())
         }
@@ -77,7 +77,7 @@ fn signature_of(function: &Function) -> Signature
     ensures { result ≡ names.signature (function_tree function.now) }
 {
     Signature {
-        result: function.result,
+        result: function.result.kind(),
         takes: takes(&function.parameters),
     }
 }
@@ -88,7 +88,7 @@ fn is_main(function: &Function) -> bool
 {
     let can_begin = matches!(takes(&function.parameters), None | Some(0));
     let name: &[u8] = &function.name;
-    b"main".as_slice() == name && matches!(function.result, Kind::Int) && can_begin
+    b"main".as_slice() == name && matches!(function.result.kind(), Kind::Int) && can_begin
 }
 
 /// Whether the function clashes with those of its name.

@@ -88,7 +88,7 @@ fn differs_before(earlier: Option<&MethodHead>, head: &MethodHead) -> bool
 {
     match earlier {
         None => false,
-        Some(earlier) => earlier.at < head.at && !same_kind(earlier.result, head.result),
+        Some(earlier) => earlier.at < head.at && !same_kind(earlier.result.kind(), head.result.kind()),
     }
 }
 
@@ -98,7 +98,7 @@ fn differs_from(built_in: Option<Kind>, head: &MethodHead) -> bool
 {
     match built_in {
         None => false,
-        Some(kind) => !same_kind(kind, head.result),
+        Some(kind) => !same_kind(kind, head.result.kind()),
     }
 }
 

@@ -187,7 +187,7 @@ fn result_at<'a>(heads: &Heads<'a>, sign: Sign, selector: &'a [u8]) -> Option<Ki
 {
     match heads.get(sign, selector) {
         None => None,
-        Some(head) => Some(head.result),
+        Some(head) => Some(head.result.kind()),
     }
 }
 

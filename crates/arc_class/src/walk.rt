@@ -255,7 +255,7 @@ fn named_parameters(parameters: &Parameters) -> &[Parameter]
     ensures { parameter_trees result.now ≡ sites.named_parameters (parameters_tree parameters.now) }
 {
     match parameters {
-        Parameters::Ints(all) => all,
+        Parameters::Listed(all) => all,
         Parameters::CountAndTexts => &[],
     }
 }

@@ -8,15 +8,13 @@ use Rattle.arc_lex.specs.declared.token.AtWord.{AtWord}
 use Rattle.arc_lex.specs.declared.token.AtWord.TheVariants as words
 use Rattle.arc_lex.specs.Tokens.{Tok, Sort}
 use Rattle.arc_lex.specs.Tokens as tokens
-use Rattle.arc_ast.specs.declared.tree.Kind.{Kind}
-use Rattle.arc_ast.specs.declared.tree.Kind.TheVariants as results
 use Rattle.arc_ast.specs.declared.tree.Sign.{Sign}
 use Rattle.arc_ast.specs.declared.tree.Sign.TheVariants as signs
 use Rattle.arc_ast.specs.declared.tree.Visibility.{Visibility}
 use Rattle.arc_ast.specs.declared.tree.Visibility.TheVariants as seen
 use Rattle.arc_ast.specs.declared.tree.BinaryOperator.{BinaryOperator}
 use Rattle.arc_ast.specs.declared.tree.BinaryOperator.TheVariants as operators
-use Rattle.arc_ast.specs.Tree.{TypeTree, ExprTree, ExprTrees, VariableTree, StmtTree, StmtTrees, ParameterTree, ParametersTree, FunctionTree, HeadTree, MethodTree, FieldTree, InterfaceTree, ImplementationTree, UnitTree, Int, Id, Object, Integer, Text, Paren, Call, Nil, Itself, Name, Negate, Plus, Cast, Binary, Arrow, Assign, Send, SendSuper, no_exprs, and_expr, Block, Empty, Simple, Return, Variables, If, IfElse, While, no_stmts, and_stmt, Ints, CountAndTexts, begins}
+use Rattle.arc_ast.specs.Tree.{TypeTree, ResultTree, ExprTree, ExprTrees, VariableTree, StmtTree, StmtTrees, ParameterTree, ParametersTree, FunctionTree, HeadTree, MethodTree, FieldTree, InterfaceTree, ImplementationTree, UnitTree, Int, Id, Object, Void, Value, Integer, Text, Paren, Call, Nil, Itself, Name, Negate, Plus, Cast, Binary, Arrow, Assign, Send, SendSuper, no_exprs, and_expr, Block, Empty, Simple, Return, Variables, If, IfElse, While, no_stmts, and_stmt, Listed, CountAndTexts, begins}
 use Rattle.arc_grammar.specs.declared.limits.TheConstants.{DEEPEST, MOST_TOKENS}
 use Rattle.arc_form.specs.Kinds.{Kinds, ◌∪◌, mark, word, at, name, main, other_name, integer, text}
 use Rattle.arc_form.specs.Reader.{Reader, ◌>>=◌, ret, from}
@@ -358,11 +356,11 @@ statement d = choose (mark m.OpenBrace) (block d) (choose (mark m.Semicolon) emp
 -- ---- functions (C99, section 6.9.1; those of `main`, 5.1.2.2.1)
 
 -- `int` or `void`
-unfoldable pub result_kind : Part Kind
-result_kind = choose (word w.Void) (map (λ void. results.Void) (key w.Void)) (map (λ int. results.Int) (key w.Int))
+unfoldable pub result_type : Part ResultTree
+result_type = choose (word w.Void) (map (λ void. Void) (key w.Void)) (map (λ int. Value Int) (key w.Int))
 
 unfoldable pub parameter : Part ParameterTree
-parameter = map (λ (int, n). record { at = n.0; name = n.1 }) (key w.Int ⨾ called)
+parameter = map (λ (int, n). record { at = n.0; type = Int; name = n.1 }) (key w.Int ⨾ called)
 
 unfoldable pub next_parameter : Part ParameterTree
 next_parameter = map (λ (comma, p). p) (the m.Comma ⨾ parameter)
@@ -371,13 +369,13 @@ unfoldable pub more_parameters : Part (List ParameterTree)
 more_parameters = many (mark m.Comma) next_parameter
 
 unfoldable pub void_parameters : Part ParametersTree
-void_parameters = map (λ void. Ints []) (key w.Void)
+void_parameters = map (λ void. Listed []) (key w.Void)
 
 unfoldable pub some_parameters : Part ParametersTree
-some_parameters = map (λ (p, others). Ints (p ∷ others)) (parameter ⨾ more_parameters)
+some_parameters = map (λ (p, others). Listed (p ∷ others)) (parameter ⨾ more_parameters)
 
 unfoldable pub parameters : Part ParametersTree
-parameters = choose (word w.Void) void_parameters (choose (word w.Int) some_parameters (give (Ints [])))
+parameters = choose (word w.Void) void_parameters (choose (word w.Int) some_parameters (give (Listed [])))
 
 -- `name[]` or `*name`
 unfoldable pub texts_name : Part (Unit {0})
@@ -391,17 +389,17 @@ unfoldable pub texts : Part (ParameterTree → ParametersTree)
 texts = map (λ _ count. CountAndTexts) (perhaps_const ⨾ key w.Char ⨾ the m.Star ⨾ texts_name)
 
 unfoldable pub further_parameters : Part (ParameterTree → ParametersTree)
-further_parameters = map (λ (q, others) p. Ints (p ∷ q ∷ others)) (parameter ⨾ more_parameters)
+further_parameters = map (λ (q, others) p. Listed (p ∷ q ∷ others)) (parameter ⨾ more_parameters)
 
 -- what is after the first parameter of `main` and a comma
 unfoldable pub second : Part (ParameterTree → ParametersTree)
 second = map (λ (comma, make). make) (the m.Comma ⨾ choose (word w.Const ∪ word w.Char) texts further_parameters)
 
 unfoldable pub some_of_main : Part ParametersTree
-some_of_main = map (λ (p, make). make p) (parameter ⨾ choose (mark m.Comma) second (give (λ p. Ints (p ∷ []))))
+some_of_main = map (λ (p, make). make p) (parameter ⨾ choose (mark m.Comma) second (give (λ p. Listed (p ∷ []))))
 
 unfoldable pub parameters_of_main : Part ParametersTree
-parameters_of_main = choose (word w.Void) void_parameters (choose (word w.Int) some_of_main (give (Ints [])))
+parameters_of_main = choose (word w.Void) void_parameters (choose (word w.Int) some_of_main (give (Listed [])))
 
 abbrev pub Signature : Type 0
 Signature = (ℕ × List ℕ) × ParametersTree
@@ -423,13 +421,13 @@ unfoldable pub function_body : Part (Option StmtTrees)
 function_body = choose (mark m.Semicolon) (map (λ end. None) (the m.Semicolon)) (map Some braces)
 
 unfoldable pub function : Part FunctionTree
-function = map (λ (kind, (s, b)). record { at = s.0.0; name = s.0.1; result = kind; parameters = s.1; body = b }) (result_kind ⨾ signature ⨾ function_body)
+function = map (λ (type, (s, b)). record { at = s.0.0; name = s.0.1; result = type; parameters = s.1; body = b }) (result_type ⨾ signature ⨾ function_body)
 
 -- ---- methods (OPL, "Defining a Class")
 
 -- a colon, `int` in parentheses and the parameter's name
 unfoldable pub typed : Part ParameterTree
-typed = map (λ (colon, (start, (int, (end, n)))). record { at = n.0; name = n.1 }) (the m.Colon ⨾ the m.OpenParen ⨾ key w.Int ⨾ the m.CloseParen ⨾ called)
+typed = map (λ (colon, (start, (int, (end, n)))). record { at = n.0; type = Int; name = n.1 }) (the m.Colon ⨾ the m.OpenParen ⨾ key w.Int ⨾ the m.CloseParen ⨾ called)
 
 unfoldable pub next_typed : Part (List ℕ × ParameterTree)
 next_typed = map (λ (n, p). (n.1, p)) (called ⨾ typed)
@@ -448,8 +446,8 @@ unfoldable pub sign : Part (ℕ × Sign)
 sign = choose (mark m.Plus) (map (λ at. (at, signs.Class)) (the m.Plus)) (map (λ at. (at, signs.Instance)) (the m.Minus))
 
 unfoldable pub method_head : Part HeadTree
-method_head = map (λ (s, (start, (kind, (end, all)))). record { at = s.0; sign = s.1; selector = all.0; result = kind; parameters = all.1 })
-    (sign ⨾ the m.OpenParen ⨾ result_kind ⨾ the m.CloseParen ⨾ selector)
+method_head = map (λ (s, (start, (type, (end, all)))). record { at = s.0; sign = s.1; selector = all.0; result = type; parameters = all.1 })
+    (sign ⨾ the m.OpenParen ⨾ result_type ⨾ the m.CloseParen ⨾ selector)
 
 abbrev pub begins_method : Kinds
 begins_method = mark m.Plus ∪ mark m.Minus
@@ -472,21 +470,21 @@ methods = many begins_method method
 
 -- ---- fields (OPL, "Instance Variables")
 
--- what stands among the fields of a class: a word on those after it, or some names of fields, each with its place
+-- what stands among the fields of a class: a word on those after it, or names of fields of one type, each with its place
 pub data FieldGroup : Type 0 where
   OfWord : Visibility → FieldGroup
-  OfInts : List (ℕ × List ℕ) → FieldGroup
+  OfType : TypeTree → List (ℕ × List ℕ) → FieldGroup
 
--- fields of these names that are visible so, and then others
-abbrev pub named_fields : Visibility → List (ℕ × List ℕ) → List FieldTree → List FieldTree
-named_fields v [] others = others
-named_fields v (n ∷ names) others = record { at = n.0; name = n.1; visibility = v } ∷ named_fields v names others
+-- fields of this type and these names that are visible so, and then others
+abbrev pub named_fields : Visibility → TypeTree → List (ℕ × List ℕ) → List FieldTree → List FieldTree
+named_fields v type [] others = others
+named_fields v type (n ∷ names) others = record { at = n.0; type = type; name = n.1; visibility = v } ∷ named_fields v type names others
 
 -- the fields of these groups, of which those before a word are visible so
 abbrev pub fields_of : Visibility → List FieldGroup → List FieldTree
 fields_of v [] = []
 fields_of v (OfWord other ∷ groups) = fields_of other groups
-fields_of v (OfInts names ∷ groups) = named_fields v names (fields_of v groups)
+fields_of v (OfType type names ∷ groups) = named_fields v type names (fields_of v groups)
 
 abbrev pub visibility_of : Sort → Visibility
 visibility_of (tokens.At words.Private) = seen.Private
@@ -503,7 +501,7 @@ unfoldable pub more_names : Part (List (ℕ × List ℕ))
 more_names = many (mark m.Comma) next_name
 
 unfoldable pub group : Part FieldGroup
-group = choose (word w.Int) (map (λ (int, (n, (others, end))). OfInts (n ∷ others)) (key w.Int ⨾ called ⨾ more_names ⨾ the m.Semicolon))
+group = choose (word w.Int) (map (λ (int, (n, (others, end))). OfType Int (n ∷ others)) (key w.Int ⨾ called ⨾ more_names ⨾ the m.Semicolon))
     (map OfWord (token begins_visibility (λ t. visibility_of t.sort)))
 
 unfoldable pub groups : Part (List FieldGroup)

@@ -1,7 +1,6 @@
 -- What a walk through sites finds.
 use Rattle.std.specs.Prelude.{List, [], ◌∷◌, flat_map, Option, option_map}
-use Rattle.arc_ast.specs.Tree.{expr_tree, variable_tree, stmt_tree, type_tree, function_tree, head_tree, ParameterTree}
-use Rattle.arc_ast.specs.declared.tree.Parameter as tree
+use Rattle.arc_ast.specs.Tree.{expr_tree, variable_tree, stmt_tree, type_tree, parameter_tree, function_tree, head_tree}
 use Rattle.arc_sites.specs.declared.violation.Violation.{Violation}
 use Rattle.arc_sites.specs.declared.message.Message as code_message
 use Rattle.arc_sites.specs.declared.node.Enclosing as code_enclosing
@@ -18,9 +17,6 @@ abbrev pub enclosing_of : code_enclosing.Enclosing → Enclosing
 enclosing_of (e.Function f) = InFunction (function_tree f.now)
 enclosing_of (e.Method class head) = InMethod class.now.name.items (head_tree head.now)
 enclosing_of (e.Interface class) = InInterface class.now.name.items
-
-abbrev pub parameter_tree : tree.Parameter → ParameterTree
-parameter_tree p = record { at = p.at; name = p.name.items }
 
 abbrev pub node_of : code_node.Node → Node
 node_of (n.Value a) = Value (expr_tree a.now)

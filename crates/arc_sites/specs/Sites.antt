@@ -3,8 +3,7 @@ use Rattle.std.specs.Prelude.{ℕ, Bool, true, false, ◌||◌, List, [], ◌∷
 use Rattle.std.specs.Option.{option_map_or}
 use Rattle.arc_ast.specs.declared.tree.BinaryOperator.{BinaryOperator}
 use Rattle.arc_ast.specs.declared.tree.BinaryOperator.TheVariants as o
-use Rattle.arc_ast.specs.Tree as t
-use Rattle.arc_ast.specs.Tree.{TypeTree, ExprTree, ExprTrees, Paren, Call, Negate, Plus, Cast, Binary, Arrow, Assign, Send, SendSuper, no_exprs, and_expr, VariableTree, StmtTree, StmtTrees, Block, Empty, Simple, Return, Variables, If, IfElse, While, no_stmts, and_stmt, ParameterTree, ParametersTree, Ints, CountAndTexts, FunctionTree, HeadTree, MethodTree, InterfaceTree, ImplementationTree, UnitTree}
+use Rattle.arc_ast.specs.Tree.{TypeTree, ExprTree, ExprTrees, Paren, Call, Negate, Plus, Cast, Binary, Arrow, Assign, Send, SendSuper, no_exprs, and_expr, VariableTree, StmtTree, StmtTrees, Block, Empty, Simple, Return, Variables, If, IfElse, While, no_stmts, and_stmt, ParameterTree, ParametersTree, Listed, CountAndTexts, FunctionTree, HeadTree, MethodTree, InterfaceTree, ImplementationTree, UnitTree}
 
 -- ---- what surrounds a node
 
@@ -88,9 +87,8 @@ after s _ = s
 abbrev pub outermost : Scope
 outermost = record { own = []; outer = []; in_loop = false }
 
--- parameters are ints
 abbrev pub with_parameters : List ParameterTree → Scope → Scope
-with_parameters all s = fold (λ s p. declare p.name t.Int s) s all
+with_parameters all s = fold (λ s p. declare p.name p.type s) s all
 
 -- ---- expressions
 
@@ -165,11 +163,11 @@ stmt_sites m s a = site m s (Statement a) ++ within m s a
 
 abbrev pub parameter_sites : Enclosing → Scope → List ParameterTree → List Site
 parameter_sites m s [] = []
-parameter_sites m s (p ∷ others) = site m s (Parameter p) ++ parameter_sites m (declare p.name t.Int s) others
+parameter_sites m s (p ∷ others) = site m s (Parameter p) ++ parameter_sites m (declare p.name p.type s) others
 
 -- the parameters that have names in a body
 abbrev pub named_parameters : ParametersTree → List ParameterTree
-named_parameters (Ints all) = all
+named_parameters (Listed all) = all
 named_parameters CountAndTexts = []
 
 -- the sites of a body, if there is one, with its parameters

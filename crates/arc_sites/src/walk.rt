@@ -164,7 +164,7 @@ fn named_parameters(all: &Parameters) -> &[Parameter]
     ensures { parameter_trees result.now ≡ sites.named_parameters (parameters_tree all.now) }
 {
     match all {
-        Parameters::Ints(all) => all,
+        Parameters::Listed(all) => all,
         Parameters::CountAndTexts => &[],
     }
 }

@@ -2,6 +2,8 @@
 #![tactic(auto)]
 
 #[cfg(test)]
+mod ast;
+#[cfg(test)]
 mod check;
 #[cfg(test)]
 mod class;

@@ -16,7 +16,7 @@ fn reads(rt: HostRuntime) {
     let interface = unit.interfaces.first().expect(&rt, "no interface");
     assert_eq!(rt; (interface.at, interface.superclass_at), (44, 48));
     let main = unit.functions.first().expect(&rt, "no function");
-    assert_eq!(rt; (main.at, main.result), (4, Kind::Int));
+    assert_eq!(rt; (main.at, main.result.kind()), (4, Kind::Int));
     let body = main.body.as_ref().expect(&rt, "no body");
     assert!(rt;
         matches!(

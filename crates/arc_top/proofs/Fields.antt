@@ -6,16 +6,16 @@ use Rattle.arc_lex.specs.declared.token.Word.TheVariants as w
 use Rattle.arc_lex.specs.declared.token.AtWord.TheVariants as words
 use Rattle.arc_ast.specs.declared.tree.Visibility.{Visibility}
 use Rattle.arc_ast.specs.declared.tree.Field.{Field}
-use Rattle.arc_ast.specs.Tree.{FieldTree, field_trees}
+use Rattle.arc_ast.specs.Tree.{TypeTree, Int, FieldTree, field_tree, field_trees}
 use Rattle.arc_form.specs.Kinds.{mark, word, at, name}
 use Rattle.arc_form.specs.Form.{map}
 use Rattle.arc_form.specs.Operators.{fold}
 use Rattle.arc_form.specs.Reader.{Read, Reader, bind, ◌>>=◌, ret, sees, if_sees, take_one, from, named}
 use Rattle.arc_form.proofs.Local.{Local}
-use Rattle.arc_grammar.specs.Grammar.{FieldGroup, OfWord, OfInts, reads, next_name, more_names, group, groups, fields, fields_of, named_fields, visibility_of, begins_visibility, class_names}
+use Rattle.arc_grammar.specs.Grammar.{FieldGroup, OfWord, OfType, reads, next_name, more_names, group, groups, fields, fields_of, named_fields, visibility_of, begins_visibility, class_names}
 use Rattle.arc_top.proofs.Rests.{front}
 use Rattle.arc_form.specs.Joining.{joining}
-use Rattle.arc_top.specs.Fields.{begins_group, field_tree, add_field, add_group, ints_on, group_on, names_skipped}
+use Rattle.arc_top.specs.Fields.{begins_group, add_field, add_group, ints_on, group_on, names_skipped}
 
 pub name_front : (j : ℕ) → Local ⊥ 1 j (reads next_name) (reads next_name)
 unfolding next_name
@@ -44,13 +44,13 @@ module _ (v : Visibility) (made : List FieldTree) where
   All = ℕ × Begun
 
   abbrev to_group : Read All → Read (Visibility × List FieldTree)
-  to_group x = bind {A = FieldGroup} (bind {A = All} x (λ p. ret (OfInts (p.1.0 ∷ p.1.1.0)))) (λ g. ret (add_group (v, made) g))
+  to_group x = bind {A = FieldGroup} (bind {A = All} x (λ p. ret (OfType Int (p.1.0 ∷ p.1.1.0)))) (λ g. ret (add_group (v, made) g))
 
   abbrev to_state : Read (List FieldTree) → Read (Visibility × List FieldTree)
   to_state x = bind x (λ all. ret (v, all))
 
   semicolon : (int : ℕ) (n : Named) (others : List Named) (x : Read ℕ)
-      → to_group (bind {A = Begun} (bind {A = Ended} (bind x (λ end. ret (others, end))) (λ p. ret (n, p))) (λ p. ret (int, p))) ≡ to_state (bind x (λ end. ret (fold (add_field v) (add_field v made n) others)))
+      → to_group (bind {A = Begun} (bind {A = Ended} (bind x (λ end. ret (others, end))) (λ p. ret (n, p))) (λ p. ret (int, p))) ≡ to_state (bind x (λ end. ret (fold (add_field v Int) (add_field v Int made n) others)))
   semicolon int n others (Ok x) = refl
   semicolon int n others (Err x) = refl
 
@@ -61,7 +61,7 @@ module _ (v : Visibility) (made : List FieldTree) where
   ended x = bind x (λ others. end >>= (λ e. ret (others, e)))
 
   abbrev ended_on : Named → Read (List Named) → Read (List FieldTree)
-  ended_on n x = bind (bind x (λ others. ret (fold (add_field v) (add_field v made n) others))) (λ all. end >>= (λ e. ret all))
+  ended_on n x = bind (bind x (λ others. ret (fold (add_field v Int) (add_field v Int made n) others))) (λ all. end >>= (λ e. ret all))
 
   further : (int : ℕ) (n : Named) (x : Read (List Named)) → to_group (bind {A = Begun} (bind {A = Ended} (ended x) (λ p. ret (n, p))) (λ p. ret (int, p))) ≡ to_state (ended_on n x)
   further int n (Ok x) = semicolon int n x.0 (end x.1)
@@ -82,7 +82,7 @@ module _ (v : Visibility) (made : List FieldTree) where
   of_word (Ok x) = refl
   of_word (Err x) = refl
 
-  choice : (b : Bool) (ts : List Tok) → bind {A = FieldGroup} (cond b (bind {A = All} (bind (take_one (word w.Int) from ts) (λ int us. bind {A = Begun} (begun (take_one name named us)) (λ p. ret (int, p)))) (λ p. ret (OfInts (p.1.0 ∷ p.1.1.0)))) (bind (take_one begins_visibility (λ t. visibility_of t.sort) ts) (λ a. ret (OfWord a)))) (λ g. ret (add_group (v, made) g))
+  choice : (b : Bool) (ts : List Tok) → bind {A = FieldGroup} (cond b (bind {A = All} (bind (take_one (word w.Int) from ts) (λ int us. bind {A = Begun} (begun (take_one name named us)) (λ p. ret (int, p)))) (λ p. ret (OfType Int (p.1.0 ∷ p.1.1.0)))) (bind (take_one begins_visibility (λ t. visibility_of t.sort) ts) (λ a. ret (OfWord a)))) (λ g. ret (add_group (v, made) g))
       ≡ cond b (to_state (bind (take_one (word w.Int) from ts) (λ int us. bind (take_one name named us) (λ n vs. ended_on n (reads more_names vs))))) (bind (take_one begins_visibility (λ t. visibility_of t.sort) ts) (λ next. ret (next, made)))
   choice true ts = of_ints (take_one (word w.Int) from ts)
   choice false ts = of_word (take_one begins_visibility (λ t. visibility_of t.sort) ts)
@@ -93,15 +93,15 @@ module _ (v : Visibility) (made : List FieldTree) where
 
 -- ---- the fields of a class
 
--- the names of one `int`
-names_fold : (v : Visibility) (made : List FieldTree) (names : List (ℕ × List ℕ)) (others : List FieldTree) → fold (add_field v) made names ++ others ≡ made ++ named_fields v names others
-names_fold v made [] others = refl
-names_fold v made (n ∷ names) others = names_fold v (add_field v made n) names others ∙ append_assoc made (record { at = n.0; name = n.1; visibility = v } ∷ []) (named_fields v names others)
+-- the names of one type
+names_fold : (v : Visibility) (type : TypeTree) (made : List FieldTree) (names : List (ℕ × List ℕ)) (others : List FieldTree) → fold (add_field v type) made names ++ others ≡ made ++ named_fields v type names others
+names_fold v type made [] others = refl
+names_fold v type made (n ∷ names) others = names_fold v type (add_field v type made n) names others ∙ append_assoc made (record { at = n.0; type = type; name = n.1; visibility = v } ∷ []) (named_fields v type names others)
 
 groups_fold : (s : Visibility × List FieldTree) (all : List FieldGroup) → (fold add_group s all).1 ≡ s.1 ++ fields_of s.0 all
 groups_fold s [] = sym (append-nil s.1)
 groups_fold s (OfWord v ∷ all) = groups_fold (v, s.1) all
-groups_fold s (OfInts names ∷ all) = groups_fold (s.0, fold (add_field s.0) s.1 names) all ∙ names_fold s.0 s.1 names (fields_of s.0 all)
+groups_fold s (OfType type names ∷ all) = groups_fold (s.0, fold (add_field s.0 type) s.1 names) all ∙ names_fold s.0 type s.1 names (fields_of s.0 all)
 
 pub groups_start : (v : Visibility) (ts : List Tok) → reads (map (fields_of v) groups) ts ≡ groups_on (v, []) ts
 unfolding groups

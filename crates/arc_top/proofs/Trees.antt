@@ -3,9 +3,8 @@ use Rattle.std.proofs.Common.{◌≡◌, List, [], ◌∷◌, refl, ap}
 use Rattle.arc_ast.specs.declared.tree.Parameter.{Parameter}
 use Rattle.arc_ast.specs.declared.tree.MethodHead.{MethodHead}
 use Rattle.arc_ast.specs.declared.tree.Method.{Method}
-use Rattle.arc_ast.specs.Tree.{parameter_trees, head_tree, head_trees, method_tree, method_trees}
+use Rattle.arc_ast.specs.Tree.{parameter_tree, parameter_trees, head_tree, head_trees, method_tree, method_trees}
 use Rattle.arc_form.specs.Views.{all}
-use Rattle.arc_top.specs.Signatures.{parameter_tree}
 
 pub parameters_is : (l : List Parameter) → parameter_trees l ≡ all parameter_tree l
 parameters_is [] = refl

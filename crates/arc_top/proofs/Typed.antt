@@ -2,7 +2,7 @@
 use Rattle.std.proofs.Common.{◌≡◌, ℕ, List, [], ◌∷◌, ◌++◌, append_assoc, append-nil, true, false, Ok, Err, refl, sym, ap, ap₂, ◌∙◌}
 use Rattle.arc_lex.specs.Tokens.{Tok, toks}
 use Rattle.arc_ast.specs.declared.tree.Parameter.{Parameter}
-use Rattle.arc_ast.specs.Tree.{ParameterTree}
+use Rattle.arc_ast.specs.Tree.{ParameterTree, parameter_tree}
 use Rattle.arc_form.specs.declared.fail.Fail.{Fail}
 use Rattle.arc_form.specs.declared.fail.Fail.TheVariants.{Memory, Unexpected, TooDeep}
 use Rattle.arc_form.specs.Kinds.{name}
@@ -12,7 +12,7 @@ use Rattle.arc_form.proofs.FormBegins.{loop_end}
 use Rattle.arc_form.proofs.FormComplete.{loop_more}
 use Rattle.arc_expr.proofs.Fix.{all_push}
 use Rattle.arc_grammar.specs.Grammar.{Typed, reads, typed, next_typed, typed_parts, and_part, selector_of, seconds}
-use Rattle.arc_top.specs.Signatures.{parameter_tree, reads_after, more_typed}
+use Rattle.arc_top.specs.Signatures.{reads_after, more_typed}
 use Rattle.arc_top.proofs.Rests.{typed_front}
 
 -- parts of a selector with their parameters

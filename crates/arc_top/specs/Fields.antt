@@ -3,38 +3,33 @@ use Rattle.std.specs.Prelude.{ℕ, List, [], ◌∷◌, ◌++◌}
 use Rattle.arc_lex.specs.declared.token.Mark.TheVariants as m
 use Rattle.arc_lex.specs.declared.token.Word.TheVariants as w
 use Rattle.arc_ast.specs.declared.tree.Visibility.{Visibility}
-use Rattle.arc_ast.specs.declared.tree.Field.{Field}
-use Rattle.arc_ast.specs.Tree.{FieldTree}
+use Rattle.arc_ast.specs.Tree.{TypeTree, Int, FieldTree}
 use Rattle.arc_form.specs.Kinds.{Kinds, ◌∪◌, mark, word, name}
 use Rattle.arc_form.specs.Operators.{fold}
 use Rattle.arc_form.specs.Reader.{Reader, ◌>>=◌, ret, take_one, from, named}
-use Rattle.arc_grammar.specs.Grammar.{FieldGroup, OfWord, OfInts, reads, next_name, group, begins_visibility}
+use Rattle.arc_grammar.specs.Grammar.{FieldGroup, OfWord, OfType, reads, next_name, group, begins_visibility}
 use Rattle.arc_form.specs.Joining.{joining}
 
 -- what a group of fields begins with
 abbrev pub begins_group : Kinds
 begins_group = word w.Int ∪ begins_visibility
 
--- a field without where it lies in memory
-abbrev pub field_tree : Field → FieldTree
-field_tree f = record { at = f.at; name = f.name.items; visibility = f.visibility }
-
--- fields, and after them one of this name that is visible so
-abbrev pub add_field : Visibility → List FieldTree → ℕ × List ℕ → List FieldTree
-add_field v made n = made ++ record { at = n.0; name = n.1; visibility = v } ∷ []
+-- fields, and after them one of this type and this name that is visible so
+abbrev pub add_field : Visibility → TypeTree → List FieldTree → ℕ × List ℕ → List FieldTree
+add_field v type made n = made ++ record { at = n.0; type = type; name = n.1; visibility = v } ∷ []
 
 -- how fields are visible after a group, and the fields up to its end
 abbrev pub add_group : Visibility × List FieldTree → FieldGroup → Visibility × List FieldTree
 add_group s (OfWord v) = (v, s.1)
-add_group s (OfInts names) = (s.0, fold (add_field s.0) s.1 names)
+add_group s (OfType type names) = (s.0, fold (add_field s.0 type) s.1 names)
 
--- these fields and further ones of one `int`
-abbrev pub names_on : Visibility → List FieldTree → Reader (List FieldTree)
-names_on v = joining (mark m.Comma) (reads next_name) (add_field v)
+-- these fields and further ones of this type
+abbrev pub names_on : Visibility → TypeTree → List FieldTree → Reader (List FieldTree)
+names_on v type = joining (mark m.Comma) (reads next_name) (add_field v type)
 
 -- these fields, and those of `int`, one name or more and `;`
 abbrev pub ints_on : Visibility → List FieldTree → Reader (List FieldTree)
-ints_on v made = take_one (word w.Int) from >>= (λ int. take_one name named >>= (λ n. names_on v (add_field v made n) >>= (λ all. take_one (mark m.Semicolon) from >>= (λ end. ret all))))
+ints_on v made = take_one (word w.Int) from >>= (λ int. take_one name named >>= (λ n. names_on v Int (add_field v Int made n) >>= (λ all. take_one (mark m.Semicolon) from >>= (λ end. ret all))))
 
 -- these fields and those of a group
 abbrev pub group_on : Visibility × List FieldTree → Reader (Visibility × List FieldTree)

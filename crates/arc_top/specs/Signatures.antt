@@ -1,16 +1,11 @@
 -- What functions promise that read a part of a function's or a method's signature.
 use Rattle.std.specs.Prelude.{ℕ, List, ◌++◌, Bool, true, false, bytes_eq}
 use Rattle.arc_lex.specs.declared.token.Mark.TheVariants as m
-use Rattle.arc_ast.specs.declared.tree.Parameter.{Parameter}
-use Rattle.arc_ast.specs.Tree.{ParameterTree, ParametersTree}
+use Rattle.arc_ast.specs.Tree.{ParametersTree}
 use Rattle.arc_form.specs.Kinds.{main_bytes, name}
 use Rattle.arc_form.specs.Form.{map, ◌⨾◌, many}
 use Rattle.arc_form.specs.Reader.{Reader, ◌>>=◌, ret}
 use Rattle.arc_grammar.specs.Grammar.{Part, Typed, the, reads, parameters, parameters_of_main, next_typed, selector_of, seconds}
-
--- a parameter without where it lies in memory
-abbrev pub parameter_tree : Parameter → ParameterTree
-parameter_tree p = record { at = p.at; name = p.name.items }
 
 -- what reads a rest that makes a value of one that is there
 abbrev pub reads_after : {A B : Type 0} → Part (A → B) → A → Reader B

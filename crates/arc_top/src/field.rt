@@ -1,15 +1,15 @@
 //! Reads the fields of classes.
 ghost use Rattle.std.specs.Prelude.{◌≡◌, ◌<◌, ◌≤◌, length, IfOk};
 ghost use Rattle.arc_lex.specs.Tokens.{toks};
-ghost use Rattle.arc_ast.specs.Tree.{field_trees};
+ghost use Rattle.arc_ast.specs.Tree.{type_tree, field_tree, field_trees};
 ghost use Rattle.arc_form.specs.Form.{map};
 ghost use Rattle.arc_form.specs.Reader.{Gives, sees, take_one};
 ghost use Rattle.arc_grammar.specs.Grammar.{reads};
 ghost use Rattle.arc_grammar.specs.Grammar as grammar;
-ghost use Rattle.arc_top.specs.Fields.{begins_group, field_tree, names_on, ints_on, group_on};
+ghost use Rattle.arc_top.specs.Fields.{begins_group, names_on, ints_on, group_on};
 
 use crate::name::next_name;
-use arc_ast::tree::{Field, Visibility};
+use arc_ast::tree::{Field, TypeName, Visibility};
 use arc_form::fail::{Fail, Read};
 use arc_form::step::{expect, keyword, name, sees_at, sees_mark, sees_word};
 use arc_lex::token::{AtWord, Mark, Token, TokenKind, Word};
@@ -127,44 +127,48 @@ fn ints<'a>(
 {
     let (_, rest) = keyword(Word::Int, tokens)?;
     let ((at, called), rest) = name(rest)?;
+    let type_name = TypeName::Int;
     let mut all = before;
-    all.push(field(alloc, visibility, at, called)?)?;
-    let (all, rest) = more_fields(alloc, visibility, all, rest)?;
+    all.push(field(alloc, visibility, &type_name, at, called)?)?;
+    let (all, rest) = more_fields(alloc, visibility, &type_name, all, rest)?;
     let (_, rest) = expect(Mark::Semicolon, rest)?;
     Ok((all, rest))
 }
 
-/// These fields and the further ones, each of which is after a comma.
+/// These fields and the further ones of this type, each of which is after a comma.
 fn more_fields<'a>(
     alloc: Global,
     visibility: Visibility,
+    type_name: &TypeName,
     before: Vec<Field>,
     tokens: &'a [Token],
 ) -> Read<'a, Vec<Field>>
-    ensures gives { Gives (λ x. (field_trees x.0.items, toks x.1.now)) result (names_on visibility (field_trees before.items) (toks tokens.now)) }
+    ensures gives { Gives (λ x. (field_trees x.0.items, toks x.1.now)) result (names_on visibility (type_tree type_name.now) (field_trees before.items) (toks tokens.now)) }
     ensures shorter { IfOk result (λ x. length x.1.now ≤ length tokens.now) }
 {
     let mut all = before;
     let mut rest = tokens;
     'fields: while sees_mark(Mark::Comma, rest) {
         let ((at, called), after) = next_name(rest)?;
-        all.push(field(alloc, visibility, at, called)?)?;
+        all.push(field(alloc, visibility, type_name, at, called)?)?;
         rest = after;
     }
     Ok((all, rest))
 }
 
-/// A field of this name, which is at this place.
+/// A field of this type and this name, which is at this place.
 fn field(
     alloc: Global,
     visibility: Visibility,
+    type_name: &TypeName,
     at: usize,
     called: &[u8],
 ) -> Result<Field, AllocError>
-    ensures { IfOk result (λ f. field_tree f ≡ record { at = at; name = called.now; visibility = visibility }) }
+    ensures { IfOk result (λ f. field_tree f ≡ record { at = at; type = type_tree type_name.now; name = called.now; visibility = visibility }) }
 {
     Ok(Field {
         at,
+        type_name: type_name.copy(alloc)?,
         name: Vec::from_slice(alloc, called)?,
         visibility,
     })

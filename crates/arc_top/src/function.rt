@@ -1,7 +1,7 @@
 //! Reads functions.
 ghost use Rattle.std.specs.Prelude.{◌≡◌, ◌<◌, ◌≤◌, length, IfOk, bytes_eq, option_map};
 ghost use Rattle.arc_lex.specs.Tokens.{toks};
-ghost use Rattle.arc_ast.specs.Tree.{stmt_trees, parameters_tree, function_tree};
+ghost use Rattle.arc_ast.specs.Tree.{stmt_trees, parameters_tree, function_tree, result_tree};
 ghost use Rattle.arc_form.specs.Kinds.{main_bytes};
 ghost use Rattle.arc_form.specs.Reader.{Gives};
 ghost use Rattle.arc_grammar.specs.Grammar.{reads};
@@ -9,7 +9,7 @@ ghost use Rattle.arc_grammar.specs.Grammar as grammar;
 ghost use Rattle.arc_top.specs.Signatures as signatures;
 
 use crate::parameter::{parameters, parameters_of_main};
-use arc_ast::tree::{Function, Kind, Parameters, Stmt};
+use arc_ast::tree::{Function, Parameters, ResultType, Stmt, TypeName};
 use arc_form::fail::Read;
 use arc_form::step::{expect, keyword, name, sees_mark, sees_word};
 use arc_lex::token::{Mark, Token, Word};
@@ -22,7 +22,7 @@ pub fn function<'a>(alloc: Global, tokens: &'a [Token]) -> Read<'a, Function>
     ensures gives { Gives (λ x. (function_tree x.0, toks x.1.now)) result (reads grammar.function (toks tokens.now)) }
     ensures shorter { IfOk result (λ x. length x.1.now < length tokens.now) }
 {
-    let (result, rest) = result_kind(tokens)?;
+    let (result, rest) = result_type(tokens)?;
     let (((at, called), parameters), rest) = signature(alloc, rest)?;
     let name = Vec::from_slice(alloc, called)?;
     let (body, rest) = function_body(alloc, rest)?;
@@ -39,17 +39,17 @@ pub fn function<'a>(alloc: Global, tokens: &'a [Token]) -> Read<'a, Function>
 }
 
 /// `int` or `void`
-#[tactic(auto, unfolding(arc_grammar::specs::Grammar::result_kind))]
-pub fn result_kind(tokens: &[Token]) -> Read<'_, Kind>
-    ensures gives { Gives (λ x. (x.0, toks x.1.now)) result (reads grammar.result_kind (toks tokens.now)) }
+#[tactic(auto, unfolding(arc_grammar::specs::Grammar::result_type))]
+pub fn result_type(tokens: &[Token]) -> Read<'_, ResultType>
+    ensures gives { Gives (λ x. (result_tree x.0, toks x.1.now)) result (reads grammar.result_type (toks tokens.now)) }
     ensures shorter { IfOk result (λ x. length x.1.now < length tokens.now) }
 {
     if sees_word(Word::Void, tokens) {
         let (_, rest) = keyword(Word::Void, tokens)?;
-        return Ok((Kind::Void, rest));
+        return Ok((ResultType::Void, rest));
     }
     let (_, rest) = keyword(Word::Int, tokens)?;
-    Ok((Kind::Int, rest))
+    Ok((ResultType::Value(TypeName::Int), rest))
 }
 
 /// A function's name with its place, and what the function takes.

@@ -1,16 +1,16 @@
 //! Reads methods.
 ghost use Rattle.std.specs.Prelude.{◌≡◌, ◌<◌, ◌≤◌, length, IfOk};
 ghost use Rattle.arc_lex.specs.Tokens.{toks};
-ghost use Rattle.arc_ast.specs.Tree.{head_tree, head_trees, method_tree, method_trees};
+ghost use Rattle.arc_ast.specs.Tree.{parameter_tree, head_tree, head_trees, method_tree, method_trees};
 ghost use Rattle.arc_form.specs.Reader.{Gives, sees};
 ghost use Rattle.arc_form.specs.Views.{all};
 ghost use Rattle.arc_grammar.specs.Grammar.{reads};
 ghost use Rattle.arc_grammar.specs.Grammar as grammar;
-ghost use Rattle.arc_top.specs.Signatures.{parameter_tree, reads_after};
+ghost use Rattle.arc_top.specs.Signatures.{reads_after};
 ghost use Rattle.arc_top.specs.Signatures as signatures;
 
-use crate::function::{braces, result_kind};
-use arc_ast::tree::{Method, MethodHead, Parameter, Sign};
+use crate::function::{braces, result_type};
+use arc_ast::tree::{Method, MethodHead, Parameter, Sign, TypeName};
 use arc_form::fail::Read;
 use arc_form::step::{expect, keyword, name, sees_mark, sees_name};
 use arc_lex::token::{Mark, Token, Word};
@@ -90,7 +90,7 @@ fn perhaps_semicolon(tokens: &[Token]) -> Read<'_, ()>
     Ok(((), rest))
 }
 
-/// `+` or `-`, the kind of the result in parentheses, and the selector with the parameters
+/// `+` or `-`, the type of the result in parentheses, and the selector with the parameters
 #[tactic(auto, using(crate::proofs::Trees::parameters_is), unfolding(arc_grammar::specs::Grammar::method_head))]
 fn method_head<'a>(alloc: Global, tokens: &'a [Token]) -> Read<'a, MethodHead>
     ensures gives { Gives (λ x. (head_tree x.0, toks x.1.now)) result (reads grammar.method_head (toks tokens.now)) }
@@ -98,7 +98,7 @@ fn method_head<'a>(alloc: Global, tokens: &'a [Token]) -> Read<'a, MethodHead>
 {
     let ((at, sign), rest) = sign(tokens)?;
     let (_, rest) = expect(Mark::OpenParen, rest)?;
-    let (result, rest) = result_kind(rest)?;
+    let (result, rest) = result_type(rest)?;
     let (_, rest) = expect(Mark::CloseParen, rest)?;
     let ((selector, parameters), rest) = selector(alloc, rest)?;
     Ok((
@@ -206,6 +206,7 @@ fn typed<'a>(alloc: Global, tokens: &'a [Token]) -> Read<'a, Parameter>
     Ok((
         Parameter {
             at,
+            type_name: TypeName::Int,
             name: Vec::from_slice(alloc, called)?,
         },
         rest,

@@ -1,7 +1,7 @@
 //! Reads what functions take.
 ghost use Rattle.std.specs.Prelude.{◌≡◌, ◌<◌, ◌≤◌, length, IfOk};
 ghost use Rattle.arc_lex.specs.Tokens.{toks};
-ghost use Rattle.arc_ast.specs.Tree.{ParameterTree, parameters_tree};
+ghost use Rattle.arc_ast.specs.Tree.{ParameterTree, parameter_tree, parameters_tree};
 ghost use Rattle.arc_lex.specs.declared.token.Word.TheVariants as w;
 ghost use Rattle.arc_form.specs.Kinds.{◌∪◌};
 ghost use Rattle.arc_form.specs.Kinds as kinds;
@@ -9,9 +9,9 @@ ghost use Rattle.arc_form.specs.Reader.{Gives, sees};
 ghost use Rattle.arc_form.specs.Views.{all, with_row};
 ghost use Rattle.arc_grammar.specs.Grammar.{reads};
 ghost use Rattle.arc_grammar.specs.Grammar as grammar;
-ghost use Rattle.arc_top.specs.Signatures.{parameter_tree, reads_after};
+ghost use Rattle.arc_top.specs.Signatures.{reads_after};
 
-use arc_ast::tree::{Parameter, Parameters};
+use arc_ast::tree::{Parameter, Parameters, TypeName};
 use arc_form::fail::Read;
 use arc_form::step::{expect, keyword, name, sees_mark, sees_word};
 use arc_lex::token::{Mark, Token, Word};
@@ -28,7 +28,7 @@ pub fn parameters<'a>(alloc: Global, tokens: &'a [Token]) -> Read<'a, Parameters
     } else if sees_word(Word::Int, tokens) {
         some_parameters(alloc, tokens)
     } else {
-        Ok((Parameters::Ints(Vec::new(alloc)), tokens))
+        Ok((Parameters::Listed(Vec::new(alloc)), tokens))
     }
 }
 
@@ -43,7 +43,7 @@ pub fn parameters_of_main<'a>(alloc: Global, tokens: &'a [Token]) -> Read<'a, Pa
     } else if sees_word(Word::Int, tokens) {
         some_of_main(alloc, tokens)
     } else {
-        Ok((Parameters::Ints(Vec::new(alloc)), tokens))
+        Ok((Parameters::Listed(Vec::new(alloc)), tokens))
     }
 }
 
@@ -54,7 +54,7 @@ fn void_parameters<'a>(alloc: Global, tokens: &'a [Token]) -> Read<'a, Parameter
     ensures shorter { IfOk result (λ x. length x.1.now < length tokens.now) }
 {
     let (_, rest) = keyword(Word::Void, tokens)?;
-    Ok((Parameters::Ints(Vec::new(alloc)), rest))
+    Ok((Parameters::Listed(Vec::new(alloc)), rest))
 }
 
 /// One parameter or more.
@@ -67,7 +67,7 @@ fn some_parameters<'a>(alloc: Global, tokens: &'a [Token]) -> Read<'a, Parameter
     let mut all = Vec::new(alloc);
     all.push(first)?;
     let (all, rest) = more_parameters(alloc, all, rest)?;
-    Ok((Parameters::Ints(all), rest))
+    Ok((Parameters::Listed(all), rest))
 }
 
 /// `int` and a name
@@ -81,6 +81,7 @@ fn parameter<'a>(alloc: Global, tokens: &'a [Token]) -> Read<'a, Parameter>
     Ok((
         Parameter {
             at,
+            type_name: TypeName::Int,
             name: Vec::from_slice(alloc, called)?,
         },
         rest,
@@ -128,7 +129,7 @@ fn some_of_main<'a>(alloc: Global, tokens: &'a [Token]) -> Read<'a, Parameters>
     }
     let mut all = Vec::new(alloc);
     all.push(first)?;
-    Ok((Parameters::Ints(all), rest))
+    Ok((Parameters::Listed(all), rest))
 }
 
 /// The first parameter of `main`, and what is after it: a comma, and texts or further parameters.
@@ -168,7 +169,7 @@ fn further_parameters<'a>(
     all.push(first)?;
     all.push(next)?;
     let (all, rest) = more_parameters(alloc, all, rest)?;
-    Ok((Parameters::Ints(all), rest))
+    Ok((Parameters::Listed(all), rest))
 }
 
 /// The texts that `main` takes after their count.

@@ -1,5 +1,5 @@
 use Rattle.std.proofs.Common.{◌≡◌, ap, ◌∙◌, option_map}
-use Rattle.arc_ast.specs.Tree as tree
+use Rattle.arc_ast.specs.Tree.{type_tree}
 use Rattle.arc_check.specs.Fault.{told}
 use Rattle.arc_check.specs.Scopes.{declare}
 use Rattle.arc_check.specs.private.Views.{seen}
@@ -14,8 +14,9 @@ loop-parameter-preserved c =
     let i = c.loop-parameter.parameter-index in
     let x = c.parameter-item.result in
     let s = seen table c.loop-parameter.visible in
-    let new = seen table c.declare_int.new.self in
-    let after : new ≡ declare x.name.items tree.Int s = c.in_ok-declare_int.ensures.scope table ∙ ap (λ n. declare n tree.Int s) c.deref.ensures.value in
+    let new = seen table c.declare.new.self in
+    let type = type_tree x.type_name in
+    let after : new ≡ declare x.name.items type s = c.in_ok-declare.ensures.scope ∙ ap (λ n. declare n type s) c.deref.ensures.value in
     record {
       fault = told_turn s new xs i x (option_map told c.loop-parameter.fault) (option_map told c.place_fault.result) (option_map told c.earlier-fault.result) _ c.loop-parameter-test.true c.parameter-item.is (c.place_fault.ensures table) after c.earlier-fault.ensures c.loop-parameter.invariant.fault;
       scope = parameters_turn xs i x s new _ c.loop-parameter-test.true c.parameter-item.is after c.loop-parameter.invariant.scope;

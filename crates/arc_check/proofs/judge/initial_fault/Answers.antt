@@ -1,8 +1,9 @@
 use Rattle.std.proofs.Common.{Some, ap, ◌∙◌, option_map}
 use Rattle.arc_ast.specs.Tree.{expr_tree, type_tree}
+use Rattle.arc_ast.specs.Types.{type_kind}
 use Rattle.arc_class.specs.Broken.{first, earlier_of}
 use Rattle.arc_check.specs.Fault.{told}
-use Rattle.arc_check.specs.Rules.{no_such, broken_whole, type_kind}
+use Rattle.arc_check.specs.Rules.{no_such, broken_whole}
 use Rattle.arc_check.specs.private.Views.{seen}
 use Rattle.arc_check.proofs.Judgements.{with_rule}
 use Rattle.arc_check.proofs.judge.initial_fault.Goals as goal
@@ -13,4 +14,4 @@ returns c =
     let a = expr_tree c.args.expr.now in
     let j = c.judge_whole-judged.result in
     with_rule s (broken_whole s a) a (no_such (Some (type_kind (type_tree c.args.type_name.now)))) (option_map told j.fault) (option_map told c.earlier.result) j.kind c.place.result c.judge_whole-judged.ensures.fault c.judge_whole-judged.ensures.kind c.place.ensures
-    (c.earlier.ensures ∙ ap (earlier_of (option_map told j.fault)) (c.no_such.ensures ∙ ap (λ k. first (no_such (Some k) j.kind c.place.result)) c.type_kind.ensures))
+    (c.earlier.ensures ∙ ap (earlier_of (option_map told j.fault)) (c.no_such.ensures ∙ ap (λ k. first (no_such (Some k) j.kind c.place.result)) c.kind.ensures))

@@ -1,6 +1,7 @@
-use Rattle.std.proofs.Common.{option_map}
+use Rattle.std.proofs.Common.{Some, option_map, ap, ◌∙◌}
 use Rattle.arc_class.specs.Table.{number_of_class}
 use Rattle.arc_check.specs.Fault.{told}
+use Rattle.arc_check.specs.Rules.{is_nothing}
 use Rattle.arc_check.specs.private.Views.{known_in, seen}
 use Rattle.arc_check.proofs.Methods.{method_is}
 use Rattle.arc_check.proofs.method.method.Goals as goal
@@ -9,4 +10,4 @@ pub returns : goal.returns
 returns c =
     let table = c.args.table.now in
     method_is (known_in table) (option_map number_of_class c.args.class) c.args.method.now (seen table c.in_method-visible.result) c.is_void-gives_nothing.result c.deref.result.now c.deref-2.result.now (option_map told c.head.result) (option_map told c.in_ok-inside.inside) (option_map told c.earlier.result)
-    c.head.ensures (c.in_method-visible.ensures table) c.is_void-gives_nothing.ensures c.deref.ensures.value c.deref-2.ensures.value c.in_ok-inside.ensures c.earlier.ensures
+    c.head.ensures (c.in_method-visible.ensures table) (c.is_void-gives_nothing.ensures ∙ ap (λ k. is_nothing (Some k)) c.kind.ensures) c.deref.ensures.value c.deref-2.ensures.value c.in_ok-inside.ensures c.earlier.ensures

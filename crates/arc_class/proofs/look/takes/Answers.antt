@@ -4,5 +4,5 @@ use Rattle.arc_class.specs.Names.{takes}
 use Rattle.arc_ast.proofs.Trees.{length-parameter_trees}
 use Rattle.arc_class.proofs.look.takes.Goals as goal
 
-pub returns-in-Ints : goal.returns-in-Ints
-returns-in-Ints c = ap Some (ap length c.deref-all.ensures.value ∙ sym (length-parameter_trees c.in-Ints.all.items)) ∙ sym (ap (λ p. takes (parameters_tree p)) c.in-Ints.is)
+pub returns-in-Listed : goal.returns-in-Listed
+returns-in-Listed c = ap Some (ap length c.deref-all.ensures.value ∙ sym (length-parameter_trees c.in-Listed.all.items)) ∙ sym (ap (λ p. takes (parameters_tree p)) c.in-Listed.is)

@@ -1,7 +1,7 @@
 use Rattle.std.proofs.Common.{◌+◌, drop, refl}
-use Rattle.arc_ast.specs.Tree.{Int, parameter_trees}
+use Rattle.arc_ast.specs.Tree.{type_tree, parameter_tree, parameter_trees}
 use Rattle.arc_sites.specs.Sites.{Anything, Parameter, declare, site, parameter_sites}
-use Rattle.arc_sites.specs.Finding.{enclosing_of, parameter_tree}
+use Rattle.arc_sites.specs.Finding.{enclosing_of}
 use Rattle.arc_sites.proofs.Found.{turn, ended}
 use Rattle.arc_sites.proofs.walk.parameters.Goals as goal
 
@@ -10,7 +10,7 @@ loop-parameter-preserved g c = λ scope.
     let m = enclosing_of c.args.enclosing in
     let before = c.loop-parameter.invariant scope in
     let p = c.parameter-item.result in
-    let now = declare p.name.items Int before.0 in
+    let now = declare p.name.items (type_tree p.type_name) before.0 in
     let rest = drop (c.loop-parameter.parameter-index + 1) c.args.all.now in (
       now,
       turn g.V.Visitor.violations (λ xs. parameter_sites m before.0 (parameter_trees xs)) (site m before.0 (Parameter (parameter_tree p))) (parameter_sites m now (parameter_trees rest))

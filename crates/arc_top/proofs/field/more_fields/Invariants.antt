@@ -1,6 +1,6 @@
 use Rattle.std.proofs.Common.{◌≡◌, ◌≤◌, length}
 use Rattle.arc_lex.specs.Tokens.{toks}
-use Rattle.arc_ast.specs.Tree.{field_trees}
+use Rattle.arc_ast.specs.Tree.{type_tree, field_trees}
 use Rattle.arc_top.specs.Fields.{names_on}
 use Rattle.arc_top.proofs.field.more_fields.Given as goal
 
@@ -8,7 +8,7 @@ use Rattle.arc_top.proofs.field.more_fields.Given as goal
 abbrev pub invariant-fields : goal.invariant-fields
 invariant-fields l = record {
   rest : length l.rest ≤ length l.tokens;
-  all : names_on l.visibility (field_trees l.fn.before.items) (toks l.tokens) ≡ names_on l.visibility (field_trees l.all.items) (toks l.rest);
+  all : names_on l.visibility (type_tree l.type_name) (field_trees l.fn.before.items) (toks l.tokens) ≡ names_on l.visibility (type_tree l.type_name) (field_trees l.all.items) (toks l.rest);
 }
 
 abbrev pub decreases-fields : goal.decreases-fields

@@ -2,7 +2,8 @@ use Rattle.std.proofs.Common.{sym, ◌∙◌, arith}
 use Rattle.std.proofs.lemmas.Result.{err_from_is_err_and}
 use Rattle.arc_lex.specs.Tokens.{toks}
 use Rattle.arc_form.specs.Views.{all}
-use Rattle.arc_top.specs.Signatures.{parameter_tree, reads_after, more_typed}
+use Rattle.arc_ast.specs.Tree.{parameter_tree}
+use Rattle.arc_top.specs.Signatures.{reads_after, more_typed}
 use Rattle.arc_top.proofs.Typed.{typed_more, typed_end, typed_fails}
 use Rattle.arc_top.proofs.method.more_typed.Goals as goal
 

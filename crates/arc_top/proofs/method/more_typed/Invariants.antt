@@ -1,7 +1,8 @@
 use Rattle.std.proofs.Common.{◌≡◌, ◌≤◌, length}
 use Rattle.arc_lex.specs.Tokens.{toks}
 use Rattle.arc_form.specs.Views.{all}
-use Rattle.arc_top.specs.Signatures.{parameter_tree, reads_after, more_typed}
+use Rattle.arc_ast.specs.Tree.{parameter_tree}
+use Rattle.arc_top.specs.Signatures.{reads_after, more_typed}
 use Rattle.arc_top.proofs.method.more_typed.Given as goal
 
 -- the parts so far and those to come are all

@@ -5,7 +5,7 @@ use Rattle.arc_lex.specs.declared.token.Mark.TheVariants as m
 use Rattle.arc_form.specs.Kinds.{mark}
 use Rattle.arc_form.specs.Views.{with_row}
 use Rattle.arc_form.proofs.Rows.{row_more, row_end, row_fails}
-use Rattle.arc_top.specs.Signatures.{parameter_tree}
+use Rattle.arc_ast.specs.Tree.{parameter_tree}
 use Rattle.arc_top.proofs.Rests.{parameter_front}
 use Rattle.arc_grammar.specs.Grammar.{reads}
 use Rattle.arc_grammar.specs.Grammar as grammar

@@ -1,7 +1,7 @@
 use Rattle.std.proofs.Common.{◌≡◌, ◌≤◌, length}
 use Rattle.arc_lex.specs.Tokens.{toks}
 use Rattle.arc_form.specs.Views.{with_row}
-use Rattle.arc_top.specs.Signatures.{parameter_tree}
+use Rattle.arc_ast.specs.Tree.{parameter_tree}
 use Rattle.arc_grammar.specs.Grammar.{reads}
 use Rattle.arc_grammar.specs.Grammar as grammar
 use Rattle.arc_top.proofs.parameter.more_parameters.Given as goal

@@ -1,8 +1,7 @@
 use Rattle.std.proofs.Common.{sym, subst, ◌∙◌}
 use Rattle.arc_lex.specs.Tokens.{toks}
-use Rattle.arc_ast.specs.Tree.{parameters_tree}
+use Rattle.arc_ast.specs.Tree.{parameter_tree, parameters_tree}
 use Rattle.arc_form.specs.Reader.{Gives}
-use Rattle.arc_top.specs.Signatures.{parameter_tree}
 use Rattle.arc_top.proofs.Rests.{second_texts}
 use Rattle.arc_top.proofs.parameter.second.Goals as goal
 

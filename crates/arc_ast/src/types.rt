@@ -1,0 +1,44 @@
+//! Types as they are written.
+ghost use Rattle.std.specs.Prelude.{◌≡◌, IfOk};
+ghost use Rattle.arc_ast.specs.Tree.{type_tree, result_tree};
+ghost use Rattle.arc_ast.specs.Types.{type_kind, result_kind};
+
+use crate::tree::{Kind, ResultType, TypeName};
+use std::alloc::{AllocError, Global};
+
+impl TypeName {
+    /// Returns the kind of a value of this type (C99, section 6.2.5): `Int` of `int`, `Object` of `id` and of
+    /// a reference to a class's objects (OPL, "Object Identifiers" and "Static Typing").
+    pub fn kind(&self) -> Kind
+        ensures { result ≡ type_kind (type_tree self.now) }
+    {
+        match self {
+            TypeName::Int => Kind::Int,
+            TypeName::Id | TypeName::Object(_, _) => Kind::Object,
+        }
+    }
+
+    /// Returns this type again, with the place and the bytes of a class's name; an `Err` where there is no
+    /// memory for them.
+    pub fn copy(&self, alloc: Global) -> Result<TypeName, AllocError>
+        ensures { IfOk result (λ type_name. type_tree type_name ≡ type_tree self.now) }
+    {
+        match self {
+            TypeName::Int => Ok(TypeName::Int),
+            TypeName::Id => Ok(TypeName::Id),
+            TypeName::Object(at, name) => Ok(TypeName::Object(*at, Vec::from_slice(alloc, name)?)),
+        }
+    }
+}
+
+impl ResultType {
+    /// Returns the kind of a result of this type: `Void` where there is no value, and else that of the value.
+    pub fn kind(&self) -> Kind
+        ensures { result ≡ result_kind (result_tree self.now) }
+    {
+        match self {
+            ResultType::Void => Kind::Void,
+            ResultType::Value(type_name) => type_name.kind(),
+        }
+    }
+}
