@@ -21,7 +21,7 @@ pub fn literal(alloc: Global, tokens: &[Token]) -> Read<'_, Expr>
         Some(
             (
                 Token {
-                    kind: TokenKind::Integer(value),
+                    kind: TokenKind::Integer(value, false),
                     span,
                 },
                 rest,

@@ -73,7 +73,7 @@ module _ {O : Type 0} where
   is_operator : (rows : List (Row O)) → distinct rows ≡ true → (l : ℕ) (s : Sort) → has (marks_at l rows) (kind s) ≡ is_at l (entry_of rows s)
   is_operator rows d l (Sign m) = mark_has rows d l m
   is_operator rows d l (Name b) = other_has rows l 0 _ refl
-  is_operator rows d l (Integer v) = other_has rows l 1 _ refl
+  is_operator rows d l (Integer v s) = other_has rows l 1 _ refl
   is_operator rows d l (Text b) = other_has rows l 2 _ refl
   is_operator rows d l (Key w) = other_has rows l 3 _ refl
   is_operator rows d l (At w) = other_has rows l 4 _ refl
@@ -98,7 +98,7 @@ module _ {O : Type 0} where
       go : (s : Sort) → t.sort ≡ s → entry_of rows s ≡ Some e → operator_of other rows t ≡ e.1
       go (Sign m) s q = row rows m s q
       go (Name b) s q = cc
-      go (Integer v) s q = cc
+      go (Integer v suffixed) s q = cc
       go (Text b) s q = cc
       go (Key w) s q = cc
       go (At w) s q = cc

@@ -1,43 +1,38 @@
 -- Where no rule is broken.
-use Rattle.std.proofs.Common.{◌≡◌, ◌⊎◌, inl, inr, ℕ, List, [], ◌∷◌, ◌++◌, true, refl, sym, subst, ◌∙◌, arith}
-use Rattle.std.proofs.lemmas.Bool.{and_parts, true≢false}
-use Rattle.arc_lex.specs.declared.bytes.Class.TheVariants as c
+use Rattle.std.proofs.Common.{◌≡◌, ◌⊎◌, inl, inr, ℕ, List, [], ◌∷◌, ◌++◌, Bool, true, sym, subst, ◌∙◌}
+use Rattle.std.proofs.lemmas.Bool.{true≢false}
 use Rattle.arc_lex.specs.declared.piece.Rule.TheVariants as rules
-use Rattle.arc_lex.specs.Bytes.{all_in, is_digit, is_blank}
-use Rattle.arc_lex.specs.Source.{IsToken, NothingBegins, IsDigits, IsComment, IsHexadecimal, IsSuffixed, IsOpenText, IsWrongText, IsWrongInteger, IsOtherDirective, Faultless}
+use Rattle.arc_lex.specs.Bytes.{is_digit, is_blank}
+use Rattle.arc_lex.specs.Source.{IsToken, NothingBegins, IsOpenComment, IsComment, IsOpenQuoted, IsWrongText, IsWrongCharacter, IsWrongInteger, IsOtherDirective, IsOtherLine, Faultless}
 use Rattle.arc_lex.specs.Tokens.{Sort}
 use Rattle.arc_lex.proofs.Firsts.{head_is}
-
--- digits at the front begin with a digit
-pub digits_first : (b : ℕ) (bs digits rest : List ℕ) → b ∷ bs ≡ digits ++ rest → IsDigits digits → is_digit b ≡ true
-digits_first b bs [] rest e (some, all) = absurd (omega arith)
-digits_first b bs (d ∷ ds) rest e (some, all) = subst (λ u. is_digit u ≡ true) (sym (head_is b d bs (ds ++ rest) e)) (and_parts (is_digit d) (all_in c.Digit ds) all).0
-
-pub hexadecimal_first : (b : ℕ) (bs : List ℕ) → IsHexadecimal (b ∷ bs) → is_digit b ≡ true
-hexadecimal_first b bs (x, rest, e, which) = subst (λ u. is_digit u ≡ true) (sym (head_is b 48 bs (x ∷ rest) e)) refl
-
-pub suffixed_first : (b : ℕ) (bs : List ℕ) → IsSuffixed (b ∷ bs) → is_digit b ≡ true
-suffixed_first b bs h = digits_first b bs h.digits (h.suffix ++ h.rest) h.splits h.integer.0
 
 pub comment_first : (b : ℕ) (bs : List ℕ) → IsComment (b ∷ bs) → b ≡ 47
 comment_first b bs (x, rest, e, which) = head_is b 47 bs (x ∷ rest) e
 
+pub wrong_first : (b : ℕ) (bs : List ℕ) → IsWrongInteger (b ∷ bs) → is_digit b ≡ true
+wrong_first b bs ([], rest, e, (digit, all), ends, none) = cc
+wrong_first b bs (x ∷ xs, rest, e, (digit, all), ends, none) = subst (λ u. is_digit u ≡ true) (sym (head_is b x bs (xs ++ rest) e)) digit
+
 -- Something begins with the byte.
 abbrev pub Begun : ℕ → Type 0
-Begun b = (is_blank b ≡ true) ⊎ ((ys : List ℕ) × (o : Sort) × IsToken (b ∷ ys) o)
+Begun b = (is_blank b ≡ true) ⊎ (((ys : List ℕ) × (o : Sort) × IsToken (b ∷ ys) o) ⊎ (b ≡ 35))
 
-begun_first : (b : ℕ) (bs : List ℕ) → Begun b → NothingBegins (b ∷ bs) → ⊥
+pub begun_first : (b : ℕ) (bs : List ℕ) → Begun b → NothingBegins (b ∷ bs) → ⊥
 begun_first b bs (inl blank) h = true≢false (sym (subst (λ u. is_blank u ≡ true) (head_is b h.first bs h.others h.splits) blank) ∙ h.no_blank)
-begun_first b bs (inr (ys, o, t)) h = h.no_token ys o (subst (λ u. IsToken (u ∷ ys) o) (head_is b h.first bs h.others h.splits) t)
+begun_first b bs (inr (inl (ys, o, t))) h = h.no_token ys o (subst (λ u. IsToken (u ∷ ys) o) (head_is b h.first bs h.others h.splits) t)
+begun_first b bs (inr (inr e)) h = h.no_line (sym (head_is b h.first bs h.others h.splits) ∙ e)
 
 -- Each rule is broken only by what begins with certain bytes.
-pub faultless : (b : ℕ) (bs : List ℕ) → Begun b → (IsComment (b ∷ bs) → ⊥) → (is_digit b ≡ true → (IsHexadecimal (b ∷ bs) → ⊥) × (IsSuffixed (b ∷ bs) → ⊥) × (IsWrongInteger (b ∷ bs) → ⊥))
-    → (b ≡ 34 → (IsOpenText (b ∷ bs) → ⊥) × (IsWrongText (b ∷ bs) → ⊥)) → (b ≡ 64 → IsOtherDirective (b ∷ bs) → ⊥) → Faultless (b ∷ bs)
-faultless b bs begun comment digit quote at rules.BadByte (inl h) = begun_first b bs begun h
-faultless b bs begun comment digit quote at rules.BadByte (inr (inl h)) = comment h
-faultless b bs begun comment digit quote at rules.BadByte (inr (inr (inl h))) = (digit (hexadecimal_first b bs h)).0 h
-faultless b bs begun comment digit quote at rules.BadByte (inr (inr (inr h))) = (digit (suffixed_first b bs h)).1 h
-faultless b bs begun comment digit quote at rules.OpenLiteral (rest, e, closed) = (quote (head_is b 34 bs rest e)).0 (rest, e, closed)
-faultless b bs begun comment digit quote at rules.Literal (inl (parts, after, e, on, wrong)) = (quote (head_is b 34 bs _ e)).1 (parts, after, e, on, wrong)
-faultless b bs begun comment digit quote at rules.Literal (inr (h, now)) = (digit (digits_first b bs h.digits h.rest h.splits h.some)).2 h
-faultless b bs begun comment digit quote at rules.Directive (rest, e, other) = at (head_is b 64 bs rest e) (rest, e, other)
+pub faultless : (starts : Bool) (b : ℕ) (bs : List ℕ) → Begun b → (b ≡ 47 → IsOpenComment (b ∷ bs) → ⊥) → (is_digit b ≡ true → IsWrongInteger (b ∷ bs) → ⊥)
+    → (b ≡ 34 → (IsOpenQuoted 34 (b ∷ bs) → ⊥) × (IsWrongText (b ∷ bs) → ⊥)) → (b ≡ 39 → (IsOpenQuoted 39 (b ∷ bs) → ⊥) × (IsWrongCharacter (b ∷ bs) → ⊥))
+    → (b ≡ 64 → IsOtherDirective (b ∷ bs) → ⊥) → (b ≡ 35 → IsOtherLine starts (b ∷ bs) → ⊥) → Faultless starts (b ∷ bs)
+faultless starts b bs begun comment digit quote apostrophe at line rules.BadByte h = begun_first b bs begun h
+faultless starts b bs begun comment digit quote apostrophe at line rules.OpenComment (rest, e, unclosed) = comment (head_is b 47 bs (42 ∷ rest) e) (rest, e, unclosed)
+faultless starts b bs begun comment digit quote apostrophe at line rules.OpenLiteral (inl (rest, e, closed)) = (quote (head_is b 34 bs rest e)).0 (rest, e, closed)
+faultless starts b bs begun comment digit quote apostrophe at line rules.OpenLiteral (inr (rest, e, closed)) = (apostrophe (head_is b 39 bs rest e)).0 (rest, e, closed)
+faultless starts b bs begun comment digit quote apostrophe at line rules.Literal (inl (parts, (after, e, on), wrong)) = (quote (head_is b 34 bs _ e)).1 (parts, (after, e, on), wrong)
+faultless starts b bs begun comment digit quote apostrophe at line rules.Literal (inr (inl (parts, (after, e, on), wrong))) = (apostrophe (head_is b 39 bs _ e)).1 (parts, (after, e, on), wrong)
+faultless starts b bs begun comment digit quote apostrophe at line rules.Literal (inr (inr h)) = digit (wrong_first b bs h) h
+faultless starts b bs begun comment digit quote apostrophe at line rules.Directive (inl (rest, e, other)) = at (head_is b 64 bs rest e) (rest, e, other)
+faultless starts b bs begun comment digit quote apostrophe at line rules.Directive (inr (rest, e, other)) = line (head_is b 35 bs rest e) (rest, e, other)

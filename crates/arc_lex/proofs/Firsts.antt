@@ -1,5 +1,5 @@
 -- The first byte of a token tells its sort.
-use Rattle.std.proofs.Common.{◌≡◌, ◌⊎◌, inl, inr, ℕ, ℤ, List, [], ◌∷◌, true, false, ◌&&◌, refl, sym, subst, arith}
+use Rattle.std.proofs.Common.{◌≡◌, ◌⊎◌, inl, inr, ℕ, ℤ, List, [], ◌∷◌, Bool, true, false, ◌&&◌, refl, sym, subst, arith}
 use Rattle.std.proofs.lemmas.Bool.{and_parts, eqb-true}
 use Rattle.std.proofs.lemmas.Bool.Decides.{nat_tests}
 use Rattle.arc_lex.specs.declared.bytes.Class.TheVariants as c
@@ -21,7 +21,7 @@ tail_is b d xs ys e = cc
 abbrev pub opens : Sort → ℕ → Type 0
 opens (Name bytes) b = is_letter b ≡ true
 opens (Key word) b = is_letter b ≡ true
-opens (Integer value) b = is_digit b ≡ true
+opens (Integer value suffixed) b = (is_digit b ≡ true) ⊎ (b ≡ 39)
 opens (Text bytes) b = b ≡ 34
 opens (At word) b = b ≡ 64
 opens (Sign mark) b = opens_mark b ≡ true
@@ -30,7 +30,8 @@ pub first_opens : (o : Sort) (b : ℕ) (ys : List ℕ) → IsToken (b ∷ ys) o 
 first_opens (Name bytes) b ys (e, (d, ds, f, letter, others), h) = subst (λ u. is_letter u ≡ true) (sym (head_is b d ys ds f)) letter
 first_opens (Key word) b ys h =
     (and_parts (begins c.Letter (b ∷ ys)) (all_in c.InName (b ∷ ys)) (subst (λ us. (begins c.Letter us && all_in c.InName us) ≡ true) (sym h) (word_opens word))).0
-first_opens (Integer value) b ys (((some, digits), lead, small), v) = (and_parts (is_digit b) (all_in c.Digit ys) digits).0
+first_opens (Integer value suffixed) b ys (inl ((digit, all), e)) = inl digit
+first_opens (Integer value suffixed) b ys (inr (n, (parts, e, v), value_is, bare)) = inr (head_is b 39 ys _ e)
 first_opens (Text bytes) b ys (parts, e, v) = head_is b 34 ys _ e
 first_opens (At word) b ys h = eqb-true b 64 (subst (λ us. opens_with 64 us ≡ true) (sym h) (at_opens word))
 first_opens (Sign mark) b ys h = subst (λ us. opens_with_mark us ≡ true) (sym h) (mark_opens mark)
@@ -39,7 +40,8 @@ first_opens (Sign mark) b ys h = subst (λ us. opens_with_mark us ≡ true) (sym
 pub not_empty : (o : Sort) → IsToken [] o → ⊥
 not_empty (Name bytes) (e, (d, ds, f, letter, others), h) = cc
 not_empty (Key word) h = let k : (begins c.Letter [] && all_in c.InName []) ≡ true = subst (λ us. (begins c.Letter us && all_in c.InName us) ≡ true) (sym h) (word_opens word) in cc
-not_empty (Integer value) (((some, digits), lead, small), v) = omega arith
+not_empty (Integer value suffixed) (inl ((digit, all), e)) = cc
+not_empty (Integer value suffixed) (inr (n, (parts, e, v), value_is, bare)) = cc
 not_empty (Text bytes) (parts, e, v) = cc
 not_empty (At word) h = let k : opens_with 64 [] ≡ true = subst (λ us. opens_with 64 us ≡ true) (sym h) (at_opens word) in cc
 not_empty (Sign mark) h = let k : opens_with_mark [] ≡ true = subst (λ us. opens_with_mark us ≡ true) (sym h) (mark_opens mark) in cc
@@ -79,15 +81,16 @@ mark_not b n h k e = cc
 pub by_letter : (o : Sort) (b : ℕ) → is_letter b ≡ true → opens o b → ((bytes : List ℕ) × (o ≡ Name bytes)) ⊎ ((word : Word) × (o ≡ Key word))
 by_letter (Name bytes) b e h = inl (bytes, refl)
 by_letter (Key word) b e h = inr (word, refl)
-by_letter (Integer value) b e h = absurd (letter_not_digit b e h)
+by_letter (Integer value suffixed) b e (inl h) = absurd (letter_not_digit b e h)
+by_letter (Integer value suffixed) b e (inr h) = absurd (letter_not b 39 e refl h)
 by_letter (Text bytes) b e h = absurd (letter_not b 34 e refl h)
 by_letter (At word) b e h = absurd (letter_not b 64 e refl h)
 by_letter (Sign mark) b e h = absurd (mark_not_letter b h e)
 
-pub by_digit : (o : Sort) (b : ℕ) → is_digit b ≡ true → opens o b → (value : ℤ) × (o ≡ Integer value)
+pub by_digit : (o : Sort) (b : ℕ) → is_digit b ≡ true → opens o b → (value : ℤ) × (suffixed : Bool) × (o ≡ Integer value suffixed)
 by_digit (Name bytes) b e h = absurd (letter_not_digit b h e)
 by_digit (Key word) b e h = absurd (letter_not_digit b h e)
-by_digit (Integer value) b e h = (value, refl)
+by_digit (Integer value suffixed) b e h = (value, suffixed, refl)
 by_digit (Text bytes) b e h = absurd (digit_not b 34 e refl h)
 by_digit (At word) b e h = absurd (digit_not b 64 e refl h)
 by_digit (Sign mark) b e h = absurd (mark_not_digit b h e)
@@ -95,33 +98,55 @@ by_digit (Sign mark) b e h = absurd (mark_not_digit b h e)
 pub by_quote : (o : Sort) (b : ℕ) → b ≡ 34 → opens o b → (bytes : List ℕ) × (o ≡ Text bytes)
 by_quote (Name bytes) b e h = absurd (letter_not b 34 h refl e)
 by_quote (Key word) b e h = absurd (letter_not b 34 h refl e)
-by_quote (Integer value) b e h = absurd (digit_not b 34 h refl e)
+by_quote (Integer value suffixed) b e (inl h) = absurd (digit_not b 34 h refl e)
+by_quote (Integer value suffixed) b e (inr h) = absurd (omega (arith, e, h))
 by_quote (Text bytes) b e h = (bytes, refl)
 by_quote (At word) b e h = absurd (omega (arith, e, h))
 by_quote (Sign mark) b e h = absurd (mark_not b 34 h refl e)
 
+pub by_apostrophe : (o : Sort) (b : ℕ) → b ≡ 39 → opens o b → (value : ℤ) × (suffixed : Bool) × (o ≡ Integer value suffixed)
+by_apostrophe (Name bytes) b e h = absurd (letter_not b 39 h refl e)
+by_apostrophe (Key word) b e h = absurd (letter_not b 39 h refl e)
+by_apostrophe (Integer value suffixed) b e h = (value, suffixed, refl)
+by_apostrophe (Text bytes) b e h = absurd (omega (arith, e, h))
+by_apostrophe (At word) b e h = absurd (omega (arith, e, h))
+by_apostrophe (Sign mark) b e h = absurd (mark_not b 39 h refl e)
+
 pub by_at : (o : Sort) (b : ℕ) → b ≡ 64 → opens o b → (word : AtWord) × (o ≡ At word)
 by_at (Name bytes) b e h = absurd (letter_not b 64 h refl e)
 by_at (Key word) b e h = absurd (letter_not b 64 h refl e)
-by_at (Integer value) b e h = absurd (digit_not b 64 h refl e)
+by_at (Integer value suffixed) b e (inl h) = absurd (digit_not b 64 h refl e)
+by_at (Integer value suffixed) b e (inr h) = absurd (omega (arith, e, h))
 by_at (Text bytes) b e h = absurd (omega (arith, e, h))
 by_at (At word) b e h = (word, refl)
 by_at (Sign mark) b e h = absurd (mark_not b 64 h refl e)
 
 -- what begins with none of those is a mark
-pub by_mark : (o : Sort) (b : ℕ) → (is_letter b ≡ true → ⊥) → (is_digit b ≡ true → ⊥) → (b ≡ 34 → ⊥) → (b ≡ 64 → ⊥) → opens o b → (mark : Mark) × (o ≡ Sign mark)
-by_mark (Name bytes) b l d q a h = absurd (l h)
-by_mark (Key word) b l d q a h = absurd (l h)
-by_mark (Integer value) b l d q a h = absurd (d h)
-by_mark (Text bytes) b l d q a h = absurd (q h)
-by_mark (At word) b l d q a h = absurd (a h)
-by_mark (Sign mark) b l d q a h = (mark, refl)
+pub by_mark : (o : Sort) (b : ℕ) → (is_letter b ≡ true → ⊥) → (is_digit b ≡ true → ⊥) → (b ≡ 34 → ⊥) → (b ≡ 39 → ⊥) → (b ≡ 64 → ⊥) → opens o b → (mark : Mark) × (o ≡ Sign mark)
+by_mark (Name bytes) b l d q c a h = absurd (l h)
+by_mark (Key word) b l d q c a h = absurd (l h)
+by_mark (Integer value suffixed) b l d q c a (inl h) = absurd (d h)
+by_mark (Integer value suffixed) b l d q c a (inr h) = absurd (c h)
+by_mark (Text bytes) b l d q c a h = absurd (q h)
+by_mark (At word) b l d q c a h = absurd (a h)
+by_mark (Sign mark) b l d q c a h = (mark, refl)
 
 -- no token begins with a blank
 pub blank_opens_none : (o : Sort) (b : ℕ) → is_blank b ≡ true → opens o b → ⊥
 blank_opens_none (Name bytes) b e h = blank_not_letter b e h
 blank_opens_none (Key word) b e h = blank_not_letter b e h
-blank_opens_none (Integer value) b e h = blank_not_digit b e h
+blank_opens_none (Integer value suffixed) b e (inl h) = blank_not_digit b e h
+blank_opens_none (Integer value suffixed) b e (inr h) = blank_not b 39 e refl h
 blank_opens_none (Text bytes) b e h = blank_not b 34 e refl h
 blank_opens_none (At word) b e h = blank_not b 64 e refl h
 blank_opens_none (Sign mark) b e h = mark_not_blank b h e
+
+-- no token begins with a `#`
+pub line_opens_none : (o : Sort) (b : ℕ) → b ≡ 35 → opens o b → ⊥
+line_opens_none (Name bytes) b e h = letter_not b 35 h refl e
+line_opens_none (Key word) b e h = letter_not b 35 h refl e
+line_opens_none (Integer value suffixed) b e (inl h) = digit_not b 35 h refl e
+line_opens_none (Integer value suffixed) b e (inr h) = omega (arith, e, h)
+line_opens_none (Text bytes) b e h = omega (arith, e, h)
+line_opens_none (At word) b e h = omega (arith, e, h)
+line_opens_none (Sign mark) b e h = mark_not b 35 h refl e

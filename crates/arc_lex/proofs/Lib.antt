@@ -1,4 +1,5 @@
 pub mod Alike
+pub mod Closes
 pub mod Faultless
 pub mod Firsts
 pub mod Law
@@ -12,6 +13,7 @@ pub mod OneRule
 pub mod OneSort
 pub mod ReadTexts
 pub mod Runs
+pub mod SkipLaw
 pub mod Spans
 pub mod Tables
 pub mod TextLaw

@@ -134,7 +134,7 @@ at_words_descend = refl
 
 -- a byte with which no other token and no blank begins
 abbrev pub opens_mark : ℕ → Bool
-opens_mark b = (not (is_letter b) && not (is_digit b)) && ((not (nat_eq b 34) && not (nat_eq b 64)) && not (is_blank b))
+opens_mark b = (not (is_letter b) && not (is_digit b)) && (((not (nat_eq b 34) && not (nat_eq b 64)) && (not (nat_eq b 39) && not (nat_eq b 35))) && not (is_blank b))
 
 -- whether the first byte opens a mark
 abbrev pub opens_with_mark : List ℕ → Bool

@@ -1,5 +1,5 @@
 -- The piece where a letter stands.
-use Rattle.std.proofs.Common.{◌≡◌, ◌≤◌, ◌⊎◌, inl, inr, ℕ, List, [], ◌∷◌, ◌++◌, length, take, drop, true, add-one, Option, Some, None, refl, sym, ap, subst, ◌∙◌, arith}
+use Rattle.std.proofs.Common.{◌≡◌, ◌≤◌, ◌⊎◌, inl, inr, ℕ, List, [], ◌∷◌, ◌++◌, length, take, drop, Bool, true, add-one, Option, Some, None, refl, sym, ap, subst, ◌∙◌, arith}
 use Rattle.std.proofs.lemmas.Bool.{and_parts, and_from, or_left}
 use Rattle.arc_lex.specs.declared.bytes.Class.TheVariants as c
 use Rattle.arc_lex.specs.declared.spelling.TheConstants.{WORDS}
@@ -24,7 +24,7 @@ all_of o ys (inr (word, e)) h =
     let same = subst (IsToken ys) e h in
     subst (λ us. all_in c.InName us ≡ true) (sym same) (and_parts (begins c.Letter (word_bytes word)) (all_in c.InName (word_bytes word)) (word_opens word)).1
 
-module _ (b : ℕ) (bs : List ℕ) (letter : is_letter b ≡ true) where
+module _ (starts : Bool) (b : ℕ) (bs : List ℕ) (letter : is_letter b ≡ true) where
   abbrev name : List ℕ
   name = b ∷ take (run c.InName bs) bs
 
@@ -51,17 +51,18 @@ module _ (b : ℕ) (bs : List ℕ) (letter : is_letter b ≡ true) where
       let full : length name ≡ run c.InName (b ∷ bs) = ap length (sym run_name) ∙ length_run c.InName (b ∷ bs) in
       omega (arith, short, full)
 
-  clean : (o : Sort) → IsToken name o → Faultless (name ++ rest)
-  clean o t = faultless b (take (run c.InName bs) bs ++ rest) (inr (take (run c.InName bs) bs, o, t)) (λ h. letter_not b 47 letter refl (comment_first b _ h))
-      (λ digit. absurd (letter_not_digit b letter digit)) (λ e. absurd (letter_not b 34 letter refl e)) (λ e h. letter_not b 64 letter refl e)
+  clean : (o : Sort) → IsToken name o → Faultless starts (name ++ rest)
+  clean o t = faultless starts b (take (run c.InName bs) bs ++ rest) (inr (inl (take (run c.InName bs) bs, o, t))) (λ e. absurd (letter_not b 47 letter refl e))
+      (λ digit. absurd (letter_not_digit b letter digit)) (λ e. absurd (letter_not b 34 letter refl e)) (λ e. absurd (letter_not b 39 letter refl e))
+      (λ e h. letter_not b 64 letter refl e) (λ e h. letter_not b 35 letter refl e)
 
-  law_of : (o : Sort) → IsToken name o → Law (b ∷ bs) (Whole o (length name))
-  law_of o t = (name, rest, ap (λ us. b ∷ us) (run_cut c.InName bs), refl, omega arith, record { token = t; longest = no_longer }, clean o t)
+  law_of : (o : Sort) → IsToken name o → Law starts (b ∷ bs) (Whole o (length name))
+  law_of o t = (name, rest, ap (λ us. b ∷ us) (run_cut c.InName bs), refl, omega arith, record { token = t; longest = no_longer }, λ h. letter_not b 47 letter refl (comment_first b _ h), clean o t)
 
-  found : (w : Option Word) → first_equal word_bytes WORDS name ≡ w → Law (b ∷ bs) (word_or_name w name)
+  found : (w : Option Word) → first_equal word_bytes WORDS name ≡ w → Law starts (b ∷ bs) (word_or_name w name)
   found (Some word) e = law_of (Key word) (sym (equal_sound word_bytes WORDS name word e))
   found None e = law_of (Name name) (refl, word_like, λ word same. equal_found word_bytes WORDS (word_stands word).0 name word (word_stands word).1 same e)
 
-  pub name_law : Law (b ∷ bs) (name_piece (b ∷ bs))
+  pub name_law : Law starts (b ∷ bs) (name_piece (b ∷ bs))
   unfolding name_piece
   name_law = rw run_name (found (first_equal word_bytes WORDS name) refl)

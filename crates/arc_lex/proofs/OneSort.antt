@@ -1,14 +1,20 @@
 -- Bytes are a token of one sort, and one token stands at a place.
-use Rattle.std.proofs.Common.{◌≡◌, ◌⊎◌, inl, inr, ℕ, List, [], ◌∷◌, ◌++◌, length, take, drop, false, Some, refl, sym, ap, subst, ◌∙◌, arith}
+use Rattle.std.proofs.Common.{◌≡◌, ◌⊎◌, inl, inr, ℕ, ℤ, pos, List, [], ◌∷◌, ◌++◌, length, take, drop, Bool, true, false, Option, Some, refl, sym, ap, subst, ◌∙◌, arith}
 use Rattle.std.proofs.lemmas.List.{take_at, drop_at}
 use Rattle.arc_lex.specs.declared.token.Word.{Word}
+use Rattle.arc_lex.specs.Bytes.{is_digit}
 use Rattle.arc_lex.specs.private.Pieces.{scan}
-use Rattle.arc_lex.specs.Source.{IsToken, Longest}
+use Rattle.arc_lex.specs.Source.{IsToken, IsQuoted, Longest}
 use Rattle.arc_lex.specs.Texts.{parts_bytes, parts_value}
 use Rattle.arc_lex.specs.Tokens.{Sort, Name, Integer, Text, Key, At, Sign}
-use Rattle.arc_lex.proofs.Firsts.{tail_is, first_opens, not_empty, opens, by_letter, by_digit, by_quote, by_at, by_mark, mark_not_letter, mark_not_digit, mark_not}
+use Rattle.arc_lex.proofs.Firsts.{head_is, tail_is, first_opens, not_empty, opens, digit_not, by_letter, by_digit, by_quote, by_apostrophe, by_at, by_mark, mark_not_letter, mark_not_digit, mark_not}
 use Rattle.arc_lex.proofs.Marks.{one_mark, one_word, one_at_word}
-use Rattle.arc_lex.proofs.TextLaw.{parts_go_on, scan_closed}
+use Rattle.arc_lex.proofs.TextLaw.{IsQuote, parts_go_on, scan_closed}
+
+same_integer : (v u : ℤ) (s o : Bool) → ◌≡◌ {A = Option (ℤ × Bool)} (Some (v, s)) (Some (u, o)) → Integer v s ≡ Integer u o
+same_integer v u s o e =
+    let k : ◌≡◌ {A = ℤ × Bool} (v, s) (u, o) = cc in
+    ap (λ (p : ℤ × Bool). Integer p.0 p.1) k
 
 module _ (b : ℕ) (bs : List ℕ) where
   named : (n : List ℕ) (o : Sort) → IsToken (b ∷ bs) (Name n) → IsToken (b ∷ bs) o → ((m : List ℕ) × (o ≡ Name m)) ⊎ ((word : Word) × (o ≡ Key word)) → Name n ≡ o
@@ -19,27 +25,37 @@ module _ (b : ℕ) (bs : List ℕ) where
   keyed w o h k (inl (m, e)) = let other = subst (IsToken (b ∷ bs)) e k in absurd (other.2 w h)
   keyed w o h k (inr (word, e)) = let other = subst (IsToken (b ∷ bs)) e k in ap Key (one_word w word (sym h ∙ other)) ∙ sym e
 
-  quoted : (t u : List ℕ) → IsToken (b ∷ bs) (Text t) → IsToken (b ∷ bs) (Text u) → t ≡ u
-  quoted t u (ps, e, v) (qs, f, w) =
-      let same : parts_bytes ps ++ 34 ∷ [] ≡ parts_bytes qs ++ 34 ∷ [] = tail_is 34 34 _ _ (sym e ∙ f) in
-      let one : scan false [] (parts_bytes ps ++ 34 ∷ []) ≡ Some ps = scan_closed [] ps [] (parts_go_on ps t v) in
-      let two : scan false [] (parts_bytes qs ++ 34 ∷ []) ≡ Some qs = scan_closed [] qs [] (parts_go_on qs u w) in
-      let equal : Some ps ≡ Some qs = sym one ∙ (ap (scan false []) same ∙ two) in
+  quoted : (q : ℕ) → IsQuote q → (t u : List ℕ) → IsQuoted q (b ∷ bs) t → IsQuoted q (b ∷ bs) u → t ≡ u
+  quoted q line t u (ps, e, v) (qs, f, w) =
+      let same : parts_bytes ps ++ q ∷ [] ≡ parts_bytes qs ++ q ∷ [] = tail_is q q _ _ (sym e ∙ f) in
+      let one : scan q false [] (parts_bytes ps ++ q ∷ []) ≡ Some ps = scan_closed q line [] ps [] (parts_go_on q ps t v) in
+      let two : scan q false [] (parts_bytes qs ++ q ∷ []) ≡ Some qs = scan_closed q line [] qs [] (parts_go_on q qs u w) in
+      let equal : Some ps ≡ Some qs = sym one ∙ (ap (scan q false []) same ∙ two) in
       let parts : ps ≡ qs = cc in
-      let values : Some t ≡ Some u = sym v ∙ (ap parts_value parts ∙ w) in
+      let values : Some t ≡ Some u = sym v ∙ (ap (parts_value q) parts ∙ w) in
       cc
+
+  number_or_character : is_digit b ≡ true → (bytes : List ℕ) → IsQuoted 39 (b ∷ bs) bytes → ⊥
+  number_or_character digit bytes (ps, e, v) = digit_not b 39 digit refl (head_is b 39 bs _ e)
+
+  -- a number or a character has one value
+  valued : (v u : ℤ) (s o : Bool) → IsToken (b ∷ bs) (Integer v s) → IsToken (b ∷ bs) (Integer u o) → Integer v s ≡ Integer u o
+  valued v u s o (inl (like, e)) (inl (also, f)) = same_integer v u s o (sym e ∙ f)
+  valued v u s o (inl (like, e)) (inr (n, is, value_is, bare)) = absurd (number_or_character like.0 (n ∷ []) is)
+  valued v u s o (inr (n, is, value_is, bare)) (inl (like, f)) = absurd (number_or_character like.0 (n ∷ []) is)
+  valued v u s o (inr (n, is, e, f)) (inr (k, also, g, h)) =
+      let one : n ≡ k = head_is n k [] [] (quoted 39 (refl, refl) (n ∷ []) (k ∷ []) is also) in
+      ap (λ w. Integer w s) (e ∙ ap pos one ∙ sym g) ∙ ap (Integer u) (f ∙ sym h)
 
   by_first : (s o : Sort) → IsToken (b ∷ bs) s → IsToken (b ∷ bs) o → opens s b → opens o b → s ≡ o
   by_first (Name n) o h k first other = named n o h k (by_letter o b first other)
   by_first (Key w) o h k first other = keyed w o h k (by_letter o b first other)
-  by_first (Integer v) o h k first other =
-      let (u, e) = by_digit o b first other in
-      let that = subst (IsToken (b ∷ bs)) e k in
-      ap Integer (h.1 ∙ sym that.1) ∙ sym e
-  by_first (Text t) o h k first other = let (u, e) = by_quote o b first other in ap Text (quoted t u h (subst (IsToken (b ∷ bs)) e k)) ∙ sym e
+  by_first (Integer v s) o h k (inl digit) other = let (u, t, e) = by_digit o b digit other in valued v u s t h (subst (IsToken (b ∷ bs)) e k) ∙ sym e
+  by_first (Integer v s) o h k (inr quote) other = let (u, t, e) = by_apostrophe o b quote other in valued v u s t h (subst (IsToken (b ∷ bs)) e k) ∙ sym e
+  by_first (Text t) o h k first other = let (u, e) = by_quote o b first other in ap Text (quoted 34 (refl, refl) t u h (subst (IsToken (b ∷ bs)) e k)) ∙ sym e
   by_first (At w) o h k first other = let (u, e) = by_at o b first other in let that = subst (IsToken (b ∷ bs)) e k in ap At (one_at_word w u (sym h ∙ that)) ∙ sym e
   by_first (Sign m) o h k first other =
-      let (u, e) = by_mark o b (mark_not_letter b first) (mark_not_digit b first) (mark_not b 34 first refl) (mark_not b 64 first refl) other in
+      let (u, e) = by_mark o b (mark_not_letter b first) (mark_not_digit b first) (mark_not b 34 first refl) (mark_not b 39 first refl) (mark_not b 64 first refl) other in
       let that = subst (IsToken (b ∷ bs)) e k in
       ap Sign (one_mark m u (sym h ∙ that)) ∙ sym e
 

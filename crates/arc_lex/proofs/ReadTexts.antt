@@ -1,16 +1,16 @@
 -- What is known of a text that was read up to a place.
-use Rattle.std.proofs.Common.{◌≡◌, ℕ, ◌+◌, List, [], ◌∷◌, ◌++◌, length, Bool, true, false, cond, Option, Some, None, refl, ap, sym, subst, ◌∙◌, length-append, append_assoc, arith}
+use Rattle.std.proofs.Common.{◌≡◌, ℕ, ◌+◌, List, [], ◌∷◌, ◌++◌, length, Bool, true, false, cond, nat_eq, Option, Some, None, refl, ap, sym, subst, ◌∙◌, length-append, append_assoc, arith}
 use Rattle.std.proofs.lemmas.List.{append-nil}
 use Rattle.std.proofs.lemmas.Bool.{ne_eqb}
 use Rattle.arc_lex.specs.Texts.{Part, Plain, Escape, part_bytes, parts_bytes, part_value, parts_value, put_front, is_plain, escape_value}
 use Rattle.arc_lex.specs.private.Pieces.{scan}
 
 -- the parts read so far, and a lone backslash behind them where escaped
-pub record ReadSoFar (right escaped : Bool) (items : List ℕ) (at : ℕ) (rest all : List ℕ) : Type 0 where
+pub record ReadSoFar (quote : ℕ) (right escaped : Bool) (items : List ℕ) (at : ℕ) (rest all : List ℕ) : Type 0 where
   pub parts : List Part
   pub at_is : at ≡ length (parts_bytes parts) + cond escaped 1 0
-  pub value_is : parts_value parts ≡ cond right (Some items) None
-  pub scanned : scan escaped parts rest ≡ scan false [] all
+  pub value_is : parts_value quote parts ≡ cond right (Some items) None
+  pub scanned : scan quote escaped parts rest ≡ scan quote false [] all
 
 pub parts_push : (ps : List Part) (p : Part) → parts_bytes (ps ++ p ∷ []) ≡ parts_bytes ps ++ part_bytes p
 parts_push [] p = append-nil (part_bytes p)
@@ -32,9 +32,9 @@ one_value : (a : Option ℕ) → put_front a (Some []) ≡ put_back (Some []) a
 one_value None = refl
 one_value (Some a) = refl
 
-value_push : (ps : List Part) (p : Part) → parts_value (ps ++ p ∷ []) ≡ put_back (parts_value ps) (part_value p)
-value_push [] p = one_value (part_value p)
-value_push (q ∷ qs) p = ap (put_front (part_value q)) (value_push qs p) ∙ front_back (part_value q) (parts_value qs) (part_value p)
+value_push : (quote : ℕ) (ps : List Part) (p : Part) → parts_value quote (ps ++ p ∷ []) ≡ put_back (parts_value quote ps) (part_value quote p)
+value_push quote [] p = one_value (part_value quote p)
+value_push quote (q ∷ qs) p = ap (put_front (part_value quote q)) (value_push quote qs p) ∙ front_back (part_value quote q) (parts_value quote qs) (part_value quote p)
 
 right_value : (right : Bool) (items : List ℕ) (v : ℕ) (o : Option ℕ) → o ≡ Some v → put_back (cond right (Some items) None) o ≡ cond right (Some (items ++ v ∷ [])) None
 right_value true items v o e = ap (put_back (Some items)) e
@@ -44,45 +44,47 @@ wrong_value : (right : Bool) (items : List ℕ) (o : Option ℕ) → o ≡ None 
 wrong_value true items o e = ap (put_back (Some items)) e
 wrong_value false items o e = refl
 
-module _ (right : Bool) (items : List ℕ) (at b : ℕ) (rest all : List ℕ) where
+module _ (quote : ℕ) (right : Bool) (items : List ℕ) (at b : ℕ) (rest all : List ℕ) where
   -- one part more
-  more : (escaped right' : Bool) (items' : List ℕ) (p : Part) (r : ReadSoFar right escaped items at (b ∷ rest) all)
-      → cond escaped 1 0 + 1 ≡ length (part_bytes p) → put_back (cond right (Some items) None) (part_value p) ≡ cond right' (Some items') None
-      → scan false (r.parts ++ p ∷ []) rest ≡ scan escaped r.parts (b ∷ rest) → ReadSoFar right' false items' (at + 1) rest all
+  more : (escaped right' : Bool) (items' : List ℕ) (p : Part) (r : ReadSoFar quote right escaped items at (b ∷ rest) all)
+      → cond escaped 1 0 + 1 ≡ length (part_bytes p) → put_back (cond right (Some items) None) (part_value quote p) ≡ cond right' (Some items') None
+      → scan quote false (r.parts ++ p ∷ []) rest ≡ scan quote escaped r.parts (b ∷ rest) → ReadSoFar quote right' false items' (at + 1) rest all
   more escaped right' items' p r size value on = record {
     parts = r.parts ++ p ∷ [];
     at_is = omega (arith, r.at_is, size, ap length (parts_push r.parts p), length-append (parts_bytes r.parts) (part_bytes p));
-    value_is = value_push r.parts p ∙ (ap (λ v. put_back v (part_value p)) r.value_is ∙ value);
+    value_is = value_push quote r.parts p ∙ (ap (λ v. put_back v (part_value quote p)) r.value_is ∙ value);
     scanned = on ∙ r.scanned;
   }
 
-  pub right_plain : (b ≡ 10 → ⊥) → (b ≡ 34 → ⊥) → (b ≡ 92 → ⊥) → is_plain b ≡ true → ReadSoFar right false items at (b ∷ rest) all
-      → ReadSoFar right false (items ++ b ∷ []) (at + 1) rest all
-  right_plain n q s plain r = more false right (items ++ b ∷ []) (Plain b) r refl (right_value right items b (part_value (Plain b)) (ap (λ t. cond t (Some b) None) plain))
-      (let e10 = ne_eqb b 10 n in let e34 = ne_eqb b 34 q in let e92 = ne_eqb b 92 s in rw (e10, e34, e92) refl)
+  pub right_plain : (b ≡ 10 → ⊥) → (b ≡ quote → ⊥) → (b ≡ 92 → ⊥) → is_plain quote b ≡ true → ReadSoFar quote right false items at (b ∷ rest) all
+      → ReadSoFar quote right false (items ++ b ∷ []) (at + 1) rest all
+  right_plain n q s plain r = more false right (items ++ b ∷ []) (Plain b) r refl (right_value right items b (part_value quote (Plain b)) (ap (λ t. cond t (Some b) None) plain))
+      (let e10 = ne_eqb b 10 n in let e_quote = ne_eqb b quote q in let e92 = ne_eqb b 92 s in rw (e10, e_quote, e92) refl)
 
-  pub wrong_plain : (b ≡ 10 → ⊥) → (b ≡ 34 → ⊥) → (b ≡ 92 → ⊥) → is_plain b ≡ false → ReadSoFar right false items at (b ∷ rest) all
-      → ReadSoFar false false items (at + 1) rest all
-  wrong_plain n q s plain r = more false false items (Plain b) r refl (wrong_value right items (part_value (Plain b)) (ap (λ t. cond t (Some b) None) plain))
-      (let e10 = ne_eqb b 10 n in let e34 = ne_eqb b 34 q in let e92 = ne_eqb b 92 s in rw (e10, e34, e92) refl)
+  pub wrong_plain : (b ≡ 10 → ⊥) → (b ≡ quote → ⊥) → (b ≡ 92 → ⊥) → is_plain quote b ≡ false → ReadSoFar quote right false items at (b ∷ rest) all
+      → ReadSoFar quote false false items (at + 1) rest all
+  wrong_plain n q s plain r = more false false items (Plain b) r refl (wrong_value right items (part_value quote (Plain b)) (ap (λ t. cond t (Some b) None) plain))
+      (let e10 = ne_eqb b 10 n in let e_quote = ne_eqb b quote q in let e92 = ne_eqb b 92 s in rw (e10, e_quote, e92) refl)
 
-  pub right_escape : (v : ℕ) → (b ≡ 10 → ⊥) → escape_value b ≡ Some v → ReadSoFar right true items at (b ∷ rest) all
-      → ReadSoFar right false (items ++ v ∷ []) (at + 1) rest all
+  pub right_escape : (v : ℕ) → (b ≡ 10 → ⊥) → escape_value b ≡ Some v → ReadSoFar quote right true items at (b ∷ rest) all
+      → ReadSoFar quote right false (items ++ v ∷ []) (at + 1) rest all
   right_escape v n value r = more true right (items ++ v ∷ []) (Escape b) r refl (right_value right items v (escape_value b) value) (let e10 = ne_eqb b 10 n in rw e10 refl)
 
-  pub wrong_escape : (b ≡ 10 → ⊥) → escape_value b ≡ None → ReadSoFar right true items at (b ∷ rest) all
-      → ReadSoFar false false items (at + 1) rest all
+  pub wrong_escape : (b ≡ 10 → ⊥) → escape_value b ≡ None → ReadSoFar quote right true items at (b ∷ rest) all
+      → ReadSoFar quote false false items (at + 1) rest all
   wrong_escape n value r = more true false items (Escape b) r refl (wrong_value right items (escape_value b) value) (let e10 = ne_eqb b 10 n in rw e10 refl)
 
-  pub backslash : b ≡ 92 → ReadSoFar right false items at (b ∷ rest) all → ReadSoFar right true items (at + 1) rest all
-  backslash s r = record {
+  pub backslash : (b ≡ quote → ⊥) → b ≡ 92 → ReadSoFar quote right false items at (b ∷ rest) all → ReadSoFar quote right true items (at + 1) rest all
+  backslash q s r = record {
     parts = r.parts;
     at_is = omega (arith, r.at_is);
     value_is = r.value_is;
-    scanned = ap (λ d. scan false r.parts (d ∷ rest)) (sym s) ∙ r.scanned;
+    scanned = (let e_quote = ne_eqb b quote q in
+        let e10 : nat_eq b 10 ≡ false = rw s refl in
+        let e92 : nat_eq b 92 ≡ true = rw s refl in rw (e10, e_quote, e92) refl) ∙ r.scanned;
   }
 
-pub same : (r r' e e' : Bool) (items items' : List ℕ) (at : ℕ) (rest all : List ℕ) → r ≡ r' → e ≡ e' → items ≡ items' → ReadSoFar r' e' items' at rest all
-    → ReadSoFar r e items at rest all
-same r r' e e' items items' at rest all x y z h =
-    subst (λ u. ReadSoFar u e items at rest all) (sym x) (subst (λ u. ReadSoFar r' u items at rest all) (sym y) (subst (λ u. ReadSoFar r' e' u at rest all) (sym z) h))
+pub same : (quote : ℕ) (r r' e e' : Bool) (items items' : List ℕ) (at : ℕ) (rest all : List ℕ) → r ≡ r' → e ≡ e' → items ≡ items' → ReadSoFar quote r' e' items' at rest all
+    → ReadSoFar quote r e items at rest all
+same quote r r' e e' items items' at rest all x y z h =
+    subst (λ u. ReadSoFar quote u e items at rest all) (sym x) (subst (λ u. ReadSoFar quote r' u items at rest all) (sym y) (subst (λ u. ReadSoFar quote r' e' u at rest all) (sym z) h))

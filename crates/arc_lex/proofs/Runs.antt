@@ -42,7 +42,7 @@ length_run class (b ∷ bs) = go (has class b) (length_run class bs)
     go false k = refl
 
 -- a run is what is in the class, up to what is not
-run_is : (class : Class) (ys r : List ℕ) → all_in class ys ≡ true → begins class r ≡ false → run class (ys ++ r) ≡ length ys
+pub run_is : (class : Class) (ys r : List ℕ) → all_in class ys ≡ true → begins class r ≡ false → run class (ys ++ r) ≡ length ys
 run_is class [] [] h e = refl
 run_is class [] (b ∷ r) h e = rw e refl
 run_is class (y ∷ ys) r h e =

@@ -1,5 +1,5 @@
 -- What an answer of the lexer that is no list of tokens says.
-use Rattle.std.specs.Prelude.{◌≡◌, ◌⊎◌, ℕ, ◌≤◌, ◌<◌, List, length, codes}
+use Rattle.std.specs.Prelude.{◌≡◌, ◌⊎◌, ℕ, ◌≤◌, ◌<◌, List, length, true, codes}
 use Rattle.arc_lex.specs.declared.fault.LexFault.{LexFault}
 use Rattle.arc_lex.specs.declared.fault.LexFault.TheVariants as f
 use Rattle.arc_lex.specs.declared.piece.Rule.{Rule}
@@ -10,6 +10,7 @@ use Rattle.arc_lex.specs.Tokens.{Tok}
 -- the number of a fault, under which the compiler's users know it
 abbrev pub fault_number : LexFault → ℕ
 fault_number (f.BadByte at) = 1
+fault_number (f.OpenComment at) = 2
 fault_number (f.OpenLiteral at) = 3
 fault_number (f.Literal at) = 4
 fault_number (f.Directive at) = 5
@@ -18,6 +19,7 @@ fault_number f.Memory = 7
 
 abbrev pub fault_name : LexFault → List ℕ
 fault_name (f.BadByte at) = codes "BadByte"
+fault_name (f.OpenComment at) = codes "OpenComment"
 fault_name (f.OpenLiteral at) = codes "OpenLiteral"
 fault_name (f.Literal at) = codes "Literal"
 fault_name (f.Directive at) = codes "Directive"
@@ -27,6 +29,7 @@ fault_name f.Memory = codes "Memory"
 -- the byte that a fault names, counted from 0
 abbrev pub fault_at : LexFault → ℕ
 fault_at (f.BadByte at) = at
+fault_at (f.OpenComment at) = at
 fault_at (f.OpenLiteral at) = at
 fault_at (f.Literal at) = at
 fault_at (f.Directive at) = at
@@ -36,17 +39,19 @@ fault_at f.Memory = 0
 -- the fault of a broken rule at a place
 abbrev pub fault_of : Rule → ℕ → LexFault
 fault_of rules.BadByte at = f.BadByte at
+fault_of rules.OpenComment at = f.OpenComment at
 fault_of rules.OpenLiteral at = f.OpenLiteral at
 fault_of rules.Literal at = f.Literal at
 fault_of rules.Directive at = f.Directive at
 
 -- the source is not too long, and this is the first place where a rule is broken, and the rule
 abbrev pub IsFirst : List ℕ → ℕ → Rule → Type 0
-IsFirst source at rule = (length source ≤ most_bytes) × FaultAt 0 source at rule
+IsFirst source at rule = (length source ≤ most_bytes) × FaultAt 0 true source at rule
 
 -- when each fault is answered. Want of memory may come at any source
 abbrev pub IsLexFault : List ℕ → LexFault → Type 0
 IsLexFault source (f.BadByte at) = IsFirst source at rules.BadByte
+IsLexFault source (f.OpenComment at) = IsFirst source at rules.OpenComment
 IsLexFault source (f.OpenLiteral at) = IsFirst source at rules.OpenLiteral
 IsLexFault source (f.Literal at) = IsFirst source at rules.Literal
 IsLexFault source (f.Directive at) = IsFirst source at rules.Directive

@@ -1,33 +1,40 @@
 -- What the tokens of a source are, and where a source has none.
-use Rattle.std.specs.Prelude.{◌≡◌, ◌≤◌, ◌<◌, ◌⊎◌, ℕ, ◌+◌, pos, List, [], ◌∷◌, ◌++◌, length, slice_range, true, false, Some, None}
+use Rattle.std.specs.Prelude.{◌≡◌, ◌≤◌, ◌⊎◌, ℕ, ◌+◌, ℤ, pos, List, [], ◌∷◌, ◌++◌, length, slice_range, drop, codes, Bool, true, false, ◌&&◌, ◌||◌, nat_eq, if◌then◌else◌, Option, Some, None}
+use Rattle.std.specs.List.{starts_with}
 use Rattle.arc_lex.specs.declared.token.Word.{Word}
 use Rattle.arc_lex.specs.declared.token.AtWord.{AtWord}
 use Rattle.arc_lex.specs.declared.bytes.Class.TheVariants as c
 use Rattle.arc_lex.specs.declared.piece.Rule.{Rule}
 use Rattle.arc_lex.specs.declared.piece.Rule.TheVariants as rules
 use Rattle.arc_lex.specs.declared.lex.TheConstants.{MOST_BYTES}
-use Rattle.arc_lex.specs.Bytes.{has, all_in, begins, is_blank}
+use Rattle.arc_lex.specs.Bytes.{has, all_in, begins, is_blank, behind}
 use Rattle.arc_lex.specs.Spellings.{mark_bytes, word_bytes, at_bytes}
-use Rattle.arc_lex.specs.Texts.{Part, parts_bytes, parts_value, all_go_on, number, largest, leads_with_zero, is_suffix}
+use Rattle.arc_lex.specs.Texts.{Part, parts_bytes, parts_value, all_go_on, integer}
 use Rattle.arc_lex.specs.Tokens.{Sort, Name, Integer, Text, Key, At, Sign, Tok}
+
+-- ---- tokens
 
 -- a letter or `_`, and letters, `_` and digits behind it (C99, section 6.4.2.1)
 abbrev pub IsWordLike : List ℕ → Type 0
 IsWordLike xs = (b : ℕ) × (bs : List ℕ) × (xs ≡ b ∷ bs) × (has c.Letter b ≡ true) × (all_in c.InName bs ≡ true)
 
--- some digits
-abbrev pub IsDigits : List ℕ → Type 0
-IsDigits xs = (0 < length xs) × (all_in c.Digit xs ≡ true)
+-- a digit, and letters, `_` and digits behind it
+abbrev pub IsNumberLike : List ℕ → Type 0
+IsNumberLike xs = (begins c.Digit xs ≡ true) × (all_in c.InName xs ≡ true)
 
--- 0, or decimal digits of which the first is not 0, up to the largest integer (C99, section 6.4.4.1; the range is this project's choice)
-abbrev pub IsInteger : List ℕ → Type 0
-IsInteger xs = IsDigits xs × (leads_with_zero xs ≡ false) × (number xs ≤ largest)
+-- between two such quotes, right parts that stand for these bytes
+abbrev pub IsQuoted : ℕ → List ℕ → List ℕ → Type 0
+IsQuoted quote xs bytes = (parts : List Part) × (xs ≡ quote ∷ (parts_bytes parts ++ quote ∷ [])) × (parts_value quote parts ≡ Some bytes)
+
+-- one byte between two `'` (C99, section 6.4.4.4)
+abbrev pub IsCharacter : List ℕ → ℤ → Bool → Type 0
+IsCharacter xs value suffixed = (b : ℕ) × IsQuoted 39 xs (b ∷ []) × (value ≡ pos b) × (suffixed ≡ false)
 
 -- bytes that are a token of this sort (C99, section 6.4)
 abbrev pub IsToken : List ℕ → Sort → Type 0
 IsToken xs (Name bytes) = (xs ≡ bytes) × IsWordLike xs × ((word : Word) → xs ≡ word_bytes word → ⊥)
-IsToken xs (Integer value) = IsInteger xs × (value ≡ pos (number xs))
-IsToken xs (Text bytes) = (parts : List Part) × (xs ≡ 34 ∷ (parts_bytes parts ++ 34 ∷ [])) × (parts_value parts ≡ Some bytes)
+IsToken xs (Integer value suffixed) = (IsNumberLike xs × (integer xs ≡ Some (value, suffixed))) ⊎ IsCharacter xs value suffixed
+IsToken xs (Text bytes) = IsQuoted 34 xs bytes
 IsToken xs (Key word) = xs ≡ word_bytes word
 IsToken xs (At word) = xs ≡ at_bytes word
 IsToken xs (Sign mark) = xs ≡ mark_bytes mark
@@ -37,84 +44,128 @@ pub record Longest (xs : List ℕ) (s : Sort) (rest : List ℕ) : Type 0 where
   pub token : IsToken xs s
   pub longest : (ys r : List ℕ) (o : Sort) → xs ++ rest ≡ ys ++ r → IsToken ys o → length ys ≤ length xs
 
--- Neither a blank nor a token begins with the byte that stands there.
+-- ---- comments and skipped lines
+
+-- `//` or `/*` stands there (C99, section 6.4.9).
+abbrev pub IsComment : List ℕ → Type 0
+IsComment bytes = (b : ℕ) × (rest : List ℕ) × (bytes ≡ 47 ∷ b ∷ rest) × ((b ≡ 47) ⊎ (b ≡ 42))
+
+-- one more, if there is a number
+abbrev pub one_more : Option ℕ → Option ℕ
+one_more None = None
+one_more (Some n) = Some (n + 1)
+
+-- how many bytes there are up to the first `*/` and with it, if there is one. `star` says whether a `*` stands right in front of the bytes
+abbrev pub to_close : Bool → List ℕ → Option ℕ
+to_close star [] = None
+to_close star (b ∷ bs) = if star && nat_eq b 47 then Some 1 else one_more (to_close (nat_eq b 42) bs)
+
+-- `//`, and all up to the end of the line
+abbrev pub IsLineComment : List ℕ → List ℕ → Type 0
+IsLineComment xs rest = (body : List ℕ) × (xs ≡ 47 ∷ 47 ∷ body) × (all_in c.InLine body ≡ true) × (begins c.InLine rest ≡ false)
+
+-- `/*`, and all up to the first `*/` and with it
+abbrev pub IsBlockComment : List ℕ → List ℕ → Type 0
+IsBlockComment xs rest = (body : List ℕ) × (xs ≡ 47 ∷ 42 ∷ body) × (to_close false (body ++ rest) ≡ Some (length body))
+
+-- `mark`, behind some spaces
+abbrev pub is_mark : List ℕ → Bool
+is_mark bytes = begins c.Space bytes && starts_with nat_eq (behind c.Space bytes) (codes "mark")
+
+-- behind a `#` and spaces: `import`, `include` or `pragma mark`
+abbrev pub is_skipped : List ℕ → Bool
+is_skipped bytes =
+    starts_with nat_eq (behind c.Space bytes) (codes "import") || (starts_with nat_eq (behind c.Space bytes) (codes "include")
+    || (starts_with nat_eq (behind c.Space bytes) (codes "pragma") && is_mark (drop 6 (behind c.Space bytes))))
+
+-- the line of such a `#`, with only blanks in front of it on its line (this project has no preprocessor)
+abbrev pub IsSkippedLine : Bool → List ℕ → List ℕ → Type 0
+IsSkippedLine starts xs rest =
+    (body : List ℕ) × (xs ≡ 35 ∷ body) × ((starts && is_skipped (body ++ rest)) ≡ true) × (all_in c.InLine body ≡ true) × (begins c.InLine rest ≡ false)
+
+-- no token, and no rule is broken. `starts` says whether only blanks stand in front on the line
+abbrev pub Skipped : Bool → List ℕ → List ℕ → Type 0
+Skipped starts xs rest = IsLineComment xs rest ⊎ (IsBlockComment xs rest ⊎ IsSkippedLine starts xs rest)
+
+-- ---- broken rules
+
+-- Neither a blank nor a token begins with the byte that stands there, and it is no `#`.
 pub record NothingBegins (bytes : List ℕ) : Type 0 where
   pub first : ℕ
   pub others : List ℕ
   pub splits : bytes ≡ first ∷ others
   pub no_blank : is_blank first ≡ false
+  pub no_line : first ≡ 35 → ⊥
   pub no_token : (ys : List ℕ) (o : Sort) → IsToken (first ∷ ys) o → ⊥
 
--- `//` or `/*` stands there.
-abbrev pub IsComment : List ℕ → Type 0
-IsComment bytes = (b : ℕ) × (rest : List ℕ) × (bytes ≡ 47 ∷ b ∷ rest) × ((b ≡ 47) ⊎ (b ≡ 42))
+-- A `/*` without `*/` stands there.
+abbrev pub IsOpenComment : List ℕ → Type 0
+IsOpenComment bytes = (rest : List ℕ) × (bytes ≡ 47 ∷ 42 ∷ rest) × (to_close false rest ≡ None)
 
--- `0x` or `0X` stands there.
-abbrev pub IsHexadecimal : List ℕ → Type 0
-IsHexadecimal bytes = (b : ℕ) × (rest : List ℕ) × (bytes ≡ 48 ∷ b ∷ rest) × ((b ≡ 120) ⊎ (b ≡ 88))
+-- A literal with such quotes begins there that is not closed on its line.
+abbrev pub IsOpenQuoted : ℕ → List ℕ → Type 0
+IsOpenQuoted quote bytes = (rest : List ℕ) × (bytes ≡ quote ∷ rest)
+    × ((parts : List Part) (after : List ℕ) → rest ≡ parts_bytes parts ++ quote ∷ after → all_go_on quote parts ≡ true → ⊥)
 
--- A right integer stands there, with a right suffix and no letter, `_` or digit behind it.
-pub record IsSuffixed (bytes : List ℕ) : Type 0 where
-  pub digits : List ℕ
-  pub suffix : List ℕ
-  pub rest : List ℕ
-  pub splits : bytes ≡ digits ++ (suffix ++ rest)
-  pub integer : IsInteger digits
-  pub right : is_suffix suffix ≡ true
-  pub ends : begins c.InName rest ≡ false
+-- A literal with such quotes stands there that is closed on its line, of these parts.
+abbrev pub IsClosed : ℕ → List ℕ → List Part → Type 0
+IsClosed quote bytes parts = (after : List ℕ) × (bytes ≡ quote ∷ (parts_bytes parts ++ quote ∷ after)) × (all_go_on quote parts ≡ true)
 
--- what C and Objective-C have and this compiler has not yet: comments, hexadecimal integers and suffixes
-abbrev pub ComesLater : List ℕ → Type 0
-ComesLater bytes = IsComment bytes ⊎ (IsHexadecimal bytes ⊎ IsSuffixed bytes)
-
--- A text begins there that is not closed on its line.
-abbrev pub IsOpenText : List ℕ → Type 0
-IsOpenText bytes = (rest : List ℕ) × (bytes ≡ 34 ∷ rest)
-    × ((parts : List Part) (after : List ℕ) → rest ≡ parts_bytes parts ++ 34 ∷ after → all_go_on parts ≡ true → ⊥)
-
--- A text stands there that is closed on its line, and one of its parts is an unknown escape or a byte that no text has.
+-- a closed text with an unknown escape or a byte that no text has
 abbrev pub IsWrongText : List ℕ → Type 0
-IsWrongText bytes = (parts : List Part) × (after : List ℕ) × (bytes ≡ 34 ∷ (parts_bytes parts ++ 34 ∷ after)) × (all_go_on parts ≡ true)
-    × (parts_value parts ≡ None)
+IsWrongText bytes = (parts : List Part) × IsClosed 34 bytes parts × (parts_value 34 parts ≡ None)
 
--- All the digits that stand there are above the largest integer, or are a 0 and more, or have a letter or `_` right behind them.
-pub record IsWrongInteger (bytes : List ℕ) : Type 0 where
-  pub digits : List ℕ
-  pub rest : List ℕ
-  pub splits : bytes ≡ digits ++ rest
-  pub some : IsDigits digits
-  pub ends : begins c.Digit rest ≡ false
-  pub wrong : (largest < number digits) ⊎ ((leads_with_zero digits ≡ true) ⊎ (begins c.Letter rest ≡ true))
+-- a closed literal between two `'` that does not stand for one byte
+abbrev pub IsWrongCharacter : List ℕ → Type 0
+IsWrongCharacter bytes = (parts : List Part) × IsClosed 39 bytes parts × ((b : ℕ) → parts_value 39 parts ≡ Some (b ∷ []) → ⊥)
+
+-- A digit stands there, and it with all letters, `_` and digits behind it is no integer.
+abbrev pub IsWrongInteger : List ℕ → Type 0
+IsWrongInteger bytes = (xs : List ℕ) × (rest : List ℕ) × (bytes ≡ xs ++ rest) × IsNumberLike xs × (begins c.InName rest ≡ false) × (integer xs ≡ None)
 
 -- An `@` stands there, and none of the words behind `@`.
 abbrev pub IsOtherDirective : List ℕ → Type 0
 IsOtherDirective bytes = (rest : List ℕ) × (bytes ≡ 64 ∷ rest) × ((word : AtWord) (r : List ℕ) → bytes ≡ at_bytes word ++ r → ⊥)
 
--- the rule is broken where these bytes stand. An integer that comes later is not a wrong one
-abbrev pub Breaks : Rule → List ℕ → Type 0
-Breaks rules.BadByte bytes = NothingBegins bytes ⊎ ComesLater bytes
-Breaks rules.OpenLiteral bytes = IsOpenText bytes
-Breaks rules.Literal bytes = IsWrongText bytes ⊎ (IsWrongInteger bytes × (ComesLater bytes → ⊥))
-Breaks rules.Directive bytes = IsOtherDirective bytes
+-- A `#` stands there whose line is not skipped.
+abbrev pub IsOtherLine : Bool → List ℕ → Type 0
+IsOtherLine starts bytes = (rest : List ℕ) × (bytes ≡ 35 ∷ rest) × ((starts && is_skipped rest) ≡ false)
+
+-- the rule is broken where these bytes stand
+abbrev pub Breaks : Bool → Rule → List ℕ → Type 0
+Breaks starts rules.BadByte bytes = NothingBegins bytes
+Breaks starts rules.OpenComment bytes = IsOpenComment bytes
+Breaks starts rules.OpenLiteral bytes = IsOpenQuoted 34 bytes ⊎ IsOpenQuoted 39 bytes
+Breaks starts rules.Literal bytes = IsWrongText bytes ⊎ (IsWrongCharacter bytes ⊎ IsWrongInteger bytes)
+Breaks starts rules.Directive bytes = IsOtherDirective bytes ⊎ IsOtherLine starts bytes
 
 -- no rule is broken where these bytes stand
-abbrev pub Faultless : List ℕ → Type 0
-Faultless bytes = (rule : Rule) → Breaks rule bytes → ⊥
+abbrev pub Faultless : Bool → List ℕ → Type 0
+Faultless starts bytes = (rule : Rule) → Breaks starts rule bytes → ⊥
 
--- From this place on the bytes are cut into these tokens: at each place stands a blank or the longest token, no rule is broken there, and
--- the next place is right behind it.
-pub data Cuts : ℕ → List ℕ → List Tok → Type 0 where
-  done : (at : ℕ) → Cuts at [] []
-  blank : (at b : ℕ) (rest : List ℕ) (ts : List Tok) → is_blank b ≡ true → Faultless (b ∷ rest) → Cuts (at + 1) rest ts → Cuts at (b ∷ rest) ts
-  token : (at : ℕ) (xs : List ℕ) (s : Sort) (rest : List ℕ) (ts : List Tok) → Longest xs s rest → Faultless (xs ++ rest) → Cuts (at + length xs) rest ts
-      → Cuts at (xs ++ rest) (record { sort = s; from = at; to = at + length xs } ∷ ts)
+-- ---- sources
+
+-- From this place on the bytes are cut into these tokens: at each place stands a blank, a comment, a skipped line or, where no comment
+-- stands, the longest token, no rule is broken there, and the next place is right behind it. `starts` says whether only blanks stand in
+-- front on the line.
+pub data Cuts : ℕ → Bool → List ℕ → List Tok → Type 0 where
+  done : (at : ℕ) (starts : Bool) → Cuts at starts [] []
+  blank : (at : ℕ) (starts : Bool) (b : ℕ) (rest : List ℕ) (ts : List Tok) → is_blank b ≡ true → Faultless starts (b ∷ rest) → Cuts (at + 1) (nat_eq b 10 || starts) rest ts
+      → Cuts at starts (b ∷ rest) ts
+  skipped : (at : ℕ) (starts : Bool) (xs rest : List ℕ) (ts : List Tok) → Skipped starts xs rest → Faultless starts (xs ++ rest) → Cuts (at + length xs) false rest ts
+      → Cuts at starts (xs ++ rest) ts
+  token : (at : ℕ) (starts : Bool) (xs : List ℕ) (s : Sort) (rest : List ℕ) (ts : List Tok) → Longest xs s rest → (IsComment (xs ++ rest) → ⊥) → Faultless starts (xs ++ rest)
+      → Cuts (at + length xs) false rest ts → Cuts at starts (xs ++ rest) (record { sort = s; from = at; to = at + length xs } ∷ ts)
 
 -- From a place on, p is the first place where a rule is broken, and this is the rule.
-pub data FaultAt : ℕ → List ℕ → ℕ → Rule → Type 0 where
-  here : (at : ℕ) (bytes : List ℕ) (rule : Rule) → Breaks rule bytes → FaultAt at bytes at rule
-  behind_blank : (at b : ℕ) (rest : List ℕ) (p : ℕ) (rule : Rule) → is_blank b ≡ true → Faultless (b ∷ rest) → FaultAt (at + 1) rest p rule → FaultAt at (b ∷ rest) p rule
-  behind_token : (at : ℕ) (xs : List ℕ) (s : Sort) (rest : List ℕ) (p : ℕ) (rule : Rule) → Longest xs s rest → Faultless (xs ++ rest) → FaultAt (at + length xs) rest p rule
-      → FaultAt at (xs ++ rest) p rule
+pub data FaultAt : ℕ → Bool → List ℕ → ℕ → Rule → Type 0 where
+  here : (at : ℕ) (starts : Bool) (bytes : List ℕ) (rule : Rule) → Breaks starts rule bytes → FaultAt at starts bytes at rule
+  behind_blank : (at : ℕ) (starts : Bool) (b : ℕ) (rest : List ℕ) (p : ℕ) (rule : Rule) → is_blank b ≡ true → Faultless starts (b ∷ rest)
+      → FaultAt (at + 1) (nat_eq b 10 || starts) rest p rule → FaultAt at starts (b ∷ rest) p rule
+  behind_skipped : (at : ℕ) (starts : Bool) (xs rest : List ℕ) (p : ℕ) (rule : Rule) → Skipped starts xs rest → Faultless starts (xs ++ rest)
+      → FaultAt (at + length xs) false rest p rule → FaultAt at starts (xs ++ rest) p rule
+  behind_token : (at : ℕ) (starts : Bool) (xs : List ℕ) (s : Sort) (rest : List ℕ) (p : ℕ) (rule : Rule) → Longest xs s rest → (IsComment (xs ++ rest) → ⊥)
+      → Faultless starts (xs ++ rest) → FaultAt (at + length xs) false rest p rule → FaultAt at starts (xs ++ rest) p rule
 
 -- the most bytes that a source has (the choice of this project)
 abbrev pub most_bytes : ℕ
@@ -122,7 +173,7 @@ most_bytes = MOST_BYTES
 
 -- the tokens of a source
 abbrev pub Tokens : List ℕ → List Tok → Type 0
-Tokens source ts = (length source ≤ most_bytes) × Cuts 0 source ts
+Tokens source ts = (length source ≤ most_bytes) × Cuts 0 true source ts
 
 -- the bytes of each token's span are that token
 abbrev pub SpansSpell : List ℕ → List Tok → Type 0

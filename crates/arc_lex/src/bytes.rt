@@ -1,6 +1,6 @@
 //! Sets of bytes, and runs of them.
 ghost use Rattle.std.specs.Prelude.{◌≡◌, length, ◌≤◌};
-ghost use Rattle.arc_lex.specs.Bytes.{has, run, begins, is_letter, is_digit, is_blank};
+ghost use Rattle.arc_lex.specs.Bytes.{has, run, begins, is_letter, is_digit, is_hexadecimal, is_blank};
 
 /// A set of bytes.
 #[derive(Clone, Copy)]
@@ -8,8 +8,14 @@ pub enum Class {
     /// A letter or `_`.
     Letter,
     Digit,
+    /// A hexadecimal digit.
+    Hexadecimal,
     /// What may follow in a name: a letter, `_` or a digit.
     InName,
+    /// A blank that doesn't end the line.
+    Space,
+    /// Any byte but a newline.
+    InLine,
 }
 
 fn is_letter(b: u8) -> bool
@@ -22,6 +28,12 @@ fn is_digit(b: u8) -> bool
     ensures { result ≡ is_digit b }
 {
     b >= b'0' && b <= b'9'
+}
+
+fn is_hexadecimal(b: u8) -> bool
+    ensures { result ≡ is_hexadecimal b }
+{
+    is_digit(b) || b >= b'a' && b <= b'f' || b >= b'A' && b <= b'F'
 }
 
 /// Whether the byte is a space, a tab, a newline, a form feed or a carriage return.
@@ -38,7 +50,10 @@ pub fn has(class: Class, b: u8) -> bool
     match class {
         Class::Letter => is_letter(b),
         Class::Digit => is_digit(b),
+        Class::Hexadecimal => is_hexadecimal(b),
         Class::InName => is_letter(b) || is_digit(b),
+        Class::Space => is_blank(b) && b != b'\n',
+        Class::InLine => b != b'\n',
     }
 }
 

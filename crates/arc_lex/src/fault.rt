@@ -9,18 +9,20 @@ use thiserror::Error;
 /// Why a source has no tokens. A fault names the first byte that the rule speaks of, counted from 0.
 #[derive(Clone, Copy, Debug, Drop, PartialEq, Eq, Error)]
 pub enum LexFault {
-    /// No token begins with this byte, or with it begins what this compiler does not have yet: a comment, a hexadecimal integer or a
-    /// suffix.
+    /// No token begins with this byte.
     #[error("no token begins with the byte at {0}")]
     BadByte(usize),
-    /// A text is not closed on its line.
-    #[error("the text at {0} is not closed on its line")]
+    /// A `/*` has no `*/`.
+    #[error("the comment at {0} is not closed")]
+    OpenComment(usize),
+    /// A character or a text is not closed on its line.
+    #[error("the character or text at {0} is not closed on its line")]
     OpenLiteral(usize),
-    /// An integer or a text is wrong.
-    #[error("the integer or text at {0} is wrong")]
+    /// An integer, a character or a text is wrong.
+    #[error("the integer, character or text at {0} is wrong")]
     Literal(usize),
-    /// No known word stands behind an `@`.
-    #[error("no known word stands behind the @ at {0}")]
+    /// No known word stands behind an `@`, or a `#` begins no line that is skipped.
+    #[error("no known word stands behind the @ or # at {0}")]
     Directive(usize),
     /// The source has over 1,048,576 bytes.
     #[error("the source has over 1048576 bytes")]
@@ -37,6 +39,7 @@ impl LexFault {
     {
         match self {
             LexFault::BadByte(_) => 1,
+            LexFault::OpenComment(_) => 2,
             LexFault::OpenLiteral(_) => 3,
             LexFault::Literal(_) => 4,
             LexFault::Directive(_) => 5,
@@ -51,6 +54,7 @@ impl LexFault {
     {
         match self {
             LexFault::BadByte(_) => "BadByte",
+            LexFault::OpenComment(_) => "OpenComment",
             LexFault::OpenLiteral(_) => "OpenLiteral",
             LexFault::Literal(_) => "Literal",
             LexFault::Directive(_) => "Directive",
@@ -66,6 +70,7 @@ impl LexFault {
     {
         match self {
             LexFault::BadByte(at) => *at,
+            LexFault::OpenComment(at) => *at,
             LexFault::OpenLiteral(at) => *at,
             LexFault::Literal(at) => *at,
             LexFault::Directive(at) => *at,

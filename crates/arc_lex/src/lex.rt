@@ -18,6 +18,7 @@ fn fault_of(rule: Rule, at: usize) -> LexFault
 {
     match rule {
         Rule::BadByte => LexFault::BadByte(at),
+        Rule::OpenComment => LexFault::OpenComment(at),
         Rule::OpenLiteral => LexFault::OpenLiteral(at),
         Rule::Literal => LexFault::Literal(at),
         Rule::Directive => LexFault::Directive(at),
@@ -40,12 +41,19 @@ pub fn lex(alloc: Global, source: &[u8]) -> Result<Vec<Token>, LexFault>
     }
     let mut tokens = Vec::new(alloc);
     let mut at = 0;
+    let mut starts = true;
     let mut rest = source;
     'pieces: while at < source.len() {
-        match lawful_piece(alloc, rest)? {
-            Piece::Blank => {
+        match lawful_piece(alloc, starts, rest)? {
+            Piece::Blank(newline) => {
+                starts = newline | starts;
                 at += 1;
                 rest = rest.split_at(1).1;
+            }
+            Piece::Skip(n) => {
+                starts = false;
+                at += n;
+                rest = rest.split_at(n).1;
             }
             Piece::Whole(kind, n) => {
                 let span = Span {
@@ -53,6 +61,7 @@ pub fn lex(alloc: Global, source: &[u8]) -> Result<Vec<Token>, LexFault>
                     to: at + n,
                 };
                 tokens.push(Token { kind, span })?;
+                starts = false;
                 at += n;
                 rest = rest.split_at(n).1;
             }

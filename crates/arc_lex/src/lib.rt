@@ -6,6 +6,7 @@ pub mod fault;
 pub mod lex;
 mod number;
 mod piece;
+mod skipped;
 mod spelling;
 mod text;
 pub mod token;

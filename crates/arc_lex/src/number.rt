@@ -1,41 +1,134 @@
 //! Integers.
-ghost use Rattle.std.specs.Prelude.{◌≡◌, nat_le, pos, if◌then◌else◌};
-ghost use Rattle.arc_lex.specs.Texts.{number, largest, leads_with_zero, is_suffix};
+ghost use Rattle.std.specs.Prelude.{◌≡◌, ◌*◌, ◌≤◌, nat_le, pos, if◌then◌else◌};
+ghost use Rattle.arc_lex.specs.Texts.{number, largest, leads_with_zero, leads_with_x, may_follow, digits_of, factor, digit_value, integer_of, integer};
+
+use crate::bytes::{Class, begins, run};
 
 /// The largest integer.
 const LARGEST: u64 = 9223372036854775807;
 
-/// The number that decimal digits are, if it is no larger than the largest integer.
-pub fn value(digits: &[u8]) -> Option<i64>
-    ensures { result ≡ (if nat_le (number digits.now) largest then Some (pos (number digits.now)) else None) }
+/// The base in which an integer is written.
+#[derive(Clone, Copy)]
+pub enum Base {
+    Ten,
+    Sixteen,
+}
+
+/// The digits of a base.
+fn digits_of(base: Base) -> Class
+    ensures { result ≡ digits_of base }
+{
+    match base {
+        Base::Ten => Class::Digit,
+        Base::Sixteen => Class::Hexadecimal,
+    }
+}
+
+/// The value of a digit.
+fn digit_value(digit: u8) -> u8
+    ensures { result ≡ digit_value digit }
+{
+    if digit <= b'9' {
+        digit.saturating_sub(b'0')
+    } else if digit <= b'F' {
+        digit - 55
+    } else {
+        digit.saturating_sub(87)
+    }
+}
+
+/// A number with one digit 0 more, if that is no larger than the largest integer.
+fn shifted(base: Base, n: u64) -> Option<u64>
+    ensures { result ≡ (if nat_le (n * factor base) largest then Some (n * factor base) else None) }
+{
+    match base {
+        Base::Ten => {
+            if n <= LARGEST / 10 {
+                Some(n * 10)
+            } else {
+                None
+            }
+        }
+        Base::Sixteen => {
+            if n <= LARGEST / 16 {
+                Some(n * 16)
+            } else {
+                None
+            }
+        }
+    }
+}
+
+/// The number that digits are, if it is no larger than the largest integer.
+fn value(base: Base, digits: &[u8]) -> Option<i64>
+    ensures { result ≡ (if nat_le (number base digits.now) largest then Some (pos (number base digits.now)) else None) }
 {
     let mut n: u64 = 0;
     for digit in digits {
-        if n > LARGEST / 10 {
-            return None;
+        match shifted(base, n) {
+            None => return None,
+            Some(more) => n = more + u64::from(digit_value(*digit)),
         }
-        n = n * 10 + u64::from(digit.saturating_sub(b'0'));
     }
     if n > LARGEST { None } else { Some(n as i64) }
 }
 
-/// Whether the digits are a 0 and more.
-pub fn leads_with_zero(digits: &[u8]) -> bool
-    ensures { result ≡ leads_with_zero digits.now }
+/// Whether a 0 stands in front of a digit.
+fn leads_with_zero(bytes: &[u8]) -> bool
+    ensures { result ≡ leads_with_zero bytes.now }
 {
-    match digits {
-        [first, _, ..] => *first == b'0',
+    match bytes {
+        [first, second, ..] => *first == b'0' && second.is_ascii_digit(),
         _ => false,
     }
 }
 
-/// Whether the bytes are a suffix of an integer: `l`, `L`, `ll` or `LL`.
-pub fn is_suffix(bytes: &[u8]) -> bool
-    ensures { result ≡ is_suffix bytes.now }
+/// Whether `0x` or `0X` stands there.
+fn leads_with_x(bytes: &[u8]) -> bool
+    ensures { result ≡ leads_with_x bytes.now }
 {
     match bytes {
+        [first, second, ..] => *first == b'0' && (*second == b'x' || *second == b'X'),
+        _ => false,
+    }
+}
+
+/// Whether the bytes may follow an integer's digits: nothing, or the suffix `l`, `L`, `ll` or `LL`.
+fn may_follow(bytes: &[u8]) -> bool
+    ensures { result ≡ may_follow bytes.now }
+{
+    match bytes {
+        [] => true,
         [b] => *b == b'l' || *b == b'L',
         [b, c] => *b == b'l' && *c == b'l' || *b == b'L' && *c == b'L',
         _ => false,
+    }
+}
+
+/// The integer of a base that is written so behind `0x`, and whether it has a suffix.
+fn integer_of(base: Base, bytes: &[u8]) -> Option<(i64, bool)>
+    ensures { result ≡ integer_of base bytes.now }
+{
+    let class = digits_of(base);
+    let (digits, suffix) = bytes.split_at(run(class, bytes));
+    if !begins(class, bytes) || !may_follow(suffix) {
+        return None;
+    }
+    match value(base, digits) {
+        None => None,
+        Some(value) => Some((value, !suffix.is_empty())),
+    }
+}
+
+/// The integer that is written so, and whether it has a suffix.
+pub fn integer(bytes: &[u8]) -> Option<(i64, bool)>
+    ensures { result ≡ integer bytes.now }
+{
+    if leads_with_x(bytes) {
+        integer_of(Base::Sixteen, bytes.split_at(2).1)
+    } else if leads_with_zero(bytes) {
+        None
+    } else {
+        integer_of(Base::Ten, bytes)
     }
 }

@@ -1,11 +1,13 @@
-//! The piece at the front of bytes: a blank, a token, or a broken rule.
+//! The piece at the front of bytes: a blank, a comment, a skipped line, a token, or a broken rule.
 ghost use Rattle.std.specs.Prelude.{◌≡◌, ◌∷◌, ◌<◌, ◌≤◌, ◌+◌, ℕ, length, IfOk, List};
 ghost use Rattle.arc_lex.specs.private.Pieces as spec;
+ghost use Rattle.arc_lex.specs.private.Scans.{seen_value};
 
-use crate::bytes::{Class, begins, has, is_blank, run};
-use crate::number::{is_suffix, leads_with_zero, value};
+use crate::bytes::{Class, has, is_blank, run};
+use crate::number::integer;
+use crate::skipped::{is_skipped, to_close};
 use crate::spelling::{at_text, at_word_at, mark_at, mark_text, word_of};
-use crate::text::{Scan, read_text};
+use crate::text::{Scan, read_quoted};
 use crate::token::TokenKind;
 use std::alloc::{AllocError, Global};
 
@@ -13,6 +15,7 @@ use std::alloc::{AllocError, Global};
 #[derive(Clone, Copy)]
 pub enum Rule {
     BadByte,
+    OpenComment,
     OpenLiteral,
     Literal,
     Directive,
@@ -21,7 +24,10 @@ pub enum Rule {
 /// What stands at the front of bytes.
 #[derive(Drop)]
 pub enum Piece {
-    Blank,
+    /// A blank, and whether it is a newline.
+    Blank(bool),
+    /// A comment or a skipped line, and how many bytes it takes.
+    Skip(usize),
     /// A token, and how many bytes it takes.
     Whole(TokenKind, usize),
     Broken(Rule),
@@ -40,48 +46,17 @@ fn name_piece(alloc: Global, bytes: &[u8]) -> Result<Piece, AllocError>
     }
 }
 
-/// Whether `0x` or `0X` stands there.
-fn is_hexadecimal(bytes: &[u8]) -> bool
-    ensures { result ≡ spec.is_hexadecimal bytes.now }
-{
-    match bytes {
-        [b, x, ..] => *b == b'0' && (*x == b'x' || *x == b'X'),
-        _ => false,
-    }
-}
-
-/// The piece of digits, by what is behind them.
-fn digits_piece(digits: &[u8], rest: &[u8]) -> Piece
-    ensures { spec.seen result ≡ spec.digits_piece digits.now rest.now }
-{
-    if leads_with_zero(digits) {
-        return Piece::Broken(Rule::Literal);
-    }
-    match value(digits) {
-        None => Piece::Broken(Rule::Literal),
-        Some(integer) => {
-            if !begins(Class::Letter, rest) {
-                Piece::Whole(TokenKind::Integer(integer), digits.len())
-            } else if is_suffix(rest.split_at(run(Class::InName, rest)).0) {
-                Piece::Broken(Rule::BadByte)
-            } else {
-                Piece::Broken(Rule::Literal)
-            }
-        }
-    }
-}
-
-/// An integer.
+/// An integer: the letters, `_` and digits that stand there.
 #[tactic(auto, unfolding(crate::specs::private::Pieces::number_piece))]
 fn number_piece(bytes: &[u8]) -> Piece
     ensures { spec.seen result ≡ spec.number_piece bytes.now }
 {
-    if is_hexadecimal(bytes) {
-        return Piece::Broken(Rule::BadByte);
+    let n = run(Class::InName, bytes);
+    let (word, _) = bytes.split_at(n);
+    match integer(word) {
+        None => Piece::Broken(Rule::Literal),
+        Some((value, suffixed)) => Piece::Whole(TokenKind::Integer(value, suffixed), word.len()),
     }
-    let n = run(Class::Digit, bytes);
-    let (digits, rest) = bytes.split_at(n);
-    digits_piece(digits, rest)
 }
 
 /// A text, behind its opening quote.
@@ -89,7 +64,7 @@ fn number_piece(bytes: &[u8]) -> Piece
 fn text_piece(alloc: Global, bytes: &[u8]) -> Result<Piece, AllocError>
     ensures { IfOk result (λ p. (b : ℕ) → spec.seen p ≡ spec.text_piece (b ∷ bytes.now)) }
 {
-    match read_text(alloc, bytes)? {
+    match read_quoted(alloc, b'"', bytes)? {
         None => Ok(Piece::Broken(Rule::OpenLiteral)),
         Some(Scan { value: None, .. }) => Ok(Piece::Broken(Rule::Literal)),
         Some(
@@ -98,6 +73,30 @@ fn text_piece(alloc: Global, bytes: &[u8]) -> Result<Piece, AllocError>
                 value: Some(text),
             },
         ) => Ok(Piece::Whole(TokenKind::Text(text), len + 2)),
+    }
+}
+
+/// The piece of what stands between two `'`, if it is right.
+fn character_value(value: Option<Vec<u8>>, n: usize) -> Piece
+    ensures { spec.seen result ≡ spec.character_value (seen_value value) n }
+{
+    match value {
+        None => Piece::Broken(Rule::Literal),
+        Some(bytes) => match bytes.as_slice() {
+            [b] => Piece::Whole(TokenKind::Integer(i64::from(*b), false), n),
+            _ => Piece::Broken(Rule::Literal),
+        },
+    }
+}
+
+/// A character, behind its opening quote.
+#[tactic(auto, unfolding(crate::specs::private::Pieces::character_piece))]
+fn character_piece(alloc: Global, bytes: &[u8]) -> Result<Piece, AllocError>
+    ensures { IfOk result (λ p. (b : ℕ) → spec.seen p ≡ spec.character_piece (b ∷ bytes.now)) }
+{
+    match read_quoted(alloc, b'\'', bytes)? {
+        None => Ok(Piece::Broken(Rule::OpenLiteral)),
+        Some(Scan { len, value }) => Ok(character_value(value, len + 2)),
     }
 }
 
@@ -123,21 +122,38 @@ fn mark_piece(bytes: &[u8]) -> Piece
     }
 }
 
-/// Whether `//` or `/*` stands there.
-fn is_comment(bytes: &[u8]) -> bool
-    ensures { result ≡ spec.is_comment bytes.now }
+/// A `#`, by what is behind it.
+#[tactic(auto, unfolding(crate::specs::private::Pieces::line_piece))]
+fn line_piece(starts: bool, bytes: &[u8]) -> Piece
+    ensures { spec.seen result ≡ spec.line_piece starts bytes.now }
 {
-    match bytes {
-        [b, c, ..] => *b == b'/' && (*c == b'/' || *c == b'*'),
-        _ => false,
+    if starts && is_skipped(bytes) {
+        Piece::Skip(run(Class::InLine, bytes) + 1)
+    } else {
+        Piece::Broken(Rule::Directive)
     }
 }
 
-/// The piece at the front of the bytes.
+/// A comment or a mark.
+#[tactic(auto, unfolding(crate::specs::private::Pieces::slash_piece))]
+fn slash_piece(bytes: &[u8]) -> Piece
+    ensures { spec.seen result ≡ spec.slash_piece bytes.now }
+{
+    match bytes {
+        [b'/', b'/', line @ ..] => Piece::Skip(run(Class::InLine, line) + 2),
+        [b'/', b'*', comment @ ..] => match to_close(comment) {
+            None => Piece::Broken(Rule::OpenComment),
+            Some(n) => Piece::Skip(n + 2),
+        },
+        _ => mark_piece(bytes),
+    }
+}
+
+/// The piece at the front of the bytes. `starts` says whether only blanks stand in front on the line.
 #[tactic(auto, unfolding(crate::specs::private::Pieces::piece))]
-fn next_piece(alloc: Global, bytes: &[u8]) -> Result<Piece, AllocError>
+fn next_piece(alloc: Global, starts: bool, bytes: &[u8]) -> Result<Piece, AllocError>
     requires { 0 < length bytes.now }
-    ensures value { IfOk result (λ p. spec.seen p ≡ spec.piece bytes.now) }
+    ensures value { IfOk result (λ p. spec.seen p ≡ spec.piece starts bytes.now) }
 {
     let b = bytes[0];
     if has(Class::Letter, b) {
@@ -146,22 +162,24 @@ fn next_piece(alloc: Global, bytes: &[u8]) -> Result<Piece, AllocError>
         Ok(number_piece(bytes))
     } else if b == b'"' {
         text_piece(alloc, &bytes[1..])
+    } else if b == b'\'' {
+        character_piece(alloc, &bytes[1..])
     } else if b == b'@' {
         Ok(at_piece(bytes))
+    } else if b == b'#' {
+        Ok(line_piece(starts, &bytes[1..]))
     } else if is_blank(b) {
-        Ok(Piece::Blank)
-    } else if is_comment(bytes) {
-        Ok(Piece::Broken(Rule::BadByte))
+        Ok(Piece::Blank(b == b'\n'))
     } else {
-        Ok(mark_piece(bytes))
+        Ok(slash_piece(bytes))
     }
 }
 
 /// The same, with what the definition says of it.
-pub fn lawful_piece(alloc: Global, bytes: &[u8]) -> Result<Piece, AllocError>
+pub fn lawful_piece(alloc: Global, starts: bool, bytes: &[u8]) -> Result<Piece, AllocError>
     requires { 0 < length bytes.now }
-    ensures law { IfOk result (λ p. spec.Law bytes.now (spec.seen p)) }
+    ensures law { IfOk result (λ p. spec.Law starts bytes.now (spec.seen p)) }
     ensures fits { IfOk result (λ p. spec.Fits (spec.seen p) (length bytes.now)) }
 {
-    next_piece(alloc, bytes)
+    next_piece(alloc, starts, bytes)
 }

@@ -1,4 +1,4 @@
-//! What stands between the quotes of a text.
+//! What stands between the quotes of a text or a character.
 ghost use Rattle.std.specs.Prelude.{◌≡◌, ◌<◌, length, IfOk, IfSome, false, [], Option};
 ghost use Rattle.arc_lex.specs.Texts.{is_plain, escape_value};
 ghost use Rattle.arc_lex.specs.private.Scans.{seen, seen_parts};
@@ -6,7 +6,7 @@ ghost use Rattle.arc_lex.specs.private.Pieces.{scan};
 
 use std::alloc::{AllocError, Global};
 
-/// A text that is closed on its line.
+/// A literal that is closed on its line.
 #[derive(Drop)]
 pub struct Scan {
     /// How many bytes stand in front of the closing quote.
@@ -15,11 +15,11 @@ pub struct Scan {
     pub value: Option<Vec<u8>>,
 }
 
-/// Whether the byte stands for itself in a text.
-fn is_plain(b: u8) -> bool
-    ensures { result ≡ is_plain b }
+/// Whether the byte stands for itself between such quotes.
+fn is_plain(quote: u8, b: u8) -> bool
+    ensures { result ≡ is_plain quote b }
 {
-    b == b'\t' || b >= 32 && b <= 126 && b != b'"' && b != b'\\' || b >= 128
+    b >= 32 && b <= 126 && b != quote && b != b'\\' || quote == b'"' && (b == b'\t' || b >= 128)
 }
 
 /// The byte that a backslash and this byte stand for.
@@ -38,9 +38,9 @@ fn escape_value(b: u8) -> Option<u8>
     }
 }
 
-/// Reads a text behind its opening quote. `None`: it is not closed on its line.
-pub fn read_text(alloc: Global, bytes: &[u8]) -> Result<Option<Scan>, AllocError>
-    ensures value { IfOk result (λ found. seen found ≡ seen_parts (scan false [] bytes.now)) }
+/// Reads a literal behind its opening quote. `None`: it is not closed on its line.
+pub fn read_quoted(alloc: Global, quote: u8, bytes: &[u8]) -> Result<Option<Scan>, AllocError>
+    ensures value { IfOk result (λ found. seen found ≡ seen_parts quote (scan quote false [] bytes.now)) }
     ensures within { IfOk result (λ found. IfSome found (λ s. s.len < length bytes.now)) }
 {
     let mut value = Vec::new(alloc);
@@ -56,12 +56,12 @@ pub fn read_text(alloc: Global, bytes: &[u8]) -> Result<Option<Scan>, AllocError
                 Some(byte) => value.push(byte)?,
                 None => right = false,
             }
-        } else if *b == b'"' {
+        } else if *b == quote {
             let value = right.then_some(value);
             return Ok(Some(Scan { len, value }));
         } else if *b == b'\\' {
             escaped = true;
-        } else if is_plain(*b) {
+        } else if is_plain(quote, *b) {
             value.push(*b)?;
         } else {
             right = false;

@@ -129,11 +129,12 @@ pub enum AtWord {
     AutoreleasePool,
 }
 
-/// What a token is. A name holds its bytes, an integer its value, and a text the bytes that it stands for.
+/// What a token is. A name holds its bytes, an integer or a character its value and whether it has a suffix, and a text the bytes that
+/// it stands for.
 #[derive(Debug, Drop)]
 pub enum TokenKind {
     Name(Vec<u8>),
-    Integer(i64),
+    Integer(i64, bool),
     Text(Vec<u8>),
     Word(Word),
     At(AtWord),

@@ -21,7 +21,7 @@ fn cuts_a_main_function(rt: HostRuntime) -> Result<(), Fail> {
     }
     assert!(rt; matches!(tokens[0].kind, TokenKind::Word(Word::Int)));
     assert!(rt; matches!(tokens[5].kind, TokenKind::Mark(Mark::OpenBrace)));
-    assert!(rt; matches!(tokens[12].kind, TokenKind::Integer(7)));
+    assert!(rt; matches!(tokens[12].kind, TokenKind::Integer(7, false)));
     Ok(())
 }
 
@@ -33,7 +33,7 @@ fn answer(rt: &HostRuntime, source: &[u8]) -> Result<String, Fail> {
 
 #[test]
 fn answers_small_sources(rt: HostRuntime) -> Result<(), Fail> {
-    let rows: [(&str, &str); 30] = [
+    let rows: [(&str, &str); 34] = [
         ("", "Ok([])"),
         (
             "x",
@@ -69,11 +69,11 @@ fn answers_small_sources(rt: HostRuntime) -> Result<(), Fail> {
         ),
         (
             "9223372036854775807",
-            "Ok([Token { kind: Integer(9223372036854775807), span: Span { from: 0, to: 19 } }])",
+            "Ok([Token { kind: Integer(9223372036854775807, false), span: Span { from: 0, to: 19 } }])",
         ),
         (
             "0",
-            "Ok([Token { kind: Integer(0), span: Span { from: 0, to: 1 } }])",
+            "Ok([Token { kind: Integer(0, false), span: Span { from: 0, to: 1 } }])",
         ),
         ("9223372036854775808", "Err(Literal(0))"),
         ("99999999999999999999999", "Err(Literal(0))"),
@@ -83,11 +83,27 @@ fn answers_small_sources(rt: HostRuntime) -> Result<(), Fail> {
         ("1_", "Err(Literal(0))"),
         ("1lL", "Err(Literal(0))"),
         ("1l2", "Err(Literal(0))"),
-        ("1l", "Err(BadByte(0))"),
-        ("1 0LL;", "Err(BadByte(2))"),
-        ("0x1", "Err(BadByte(0))"),
-        ("a // b", "Err(BadByte(2))"),
-        ("a /* b", "Err(BadByte(2))"),
+        (
+            "0xfFl",
+            "Ok([Token { kind: Integer(255, true), span: Span { from: 0, to: 5 } }])",
+        ),
+        (
+            "'\\n'",
+            "Ok([Token { kind: Integer(10, false), span: Span { from: 0, to: 4 } }])",
+        ),
+        (
+            "1LL// 2",
+            "Ok([Token { kind: Integer(1, true), span: Span { from: 0, to: 3 } }])",
+        ),
+        ("/**/ 0 #", "Err(Directive(7))"),
+        (
+            " #import\n0",
+            "Ok([Token { kind: Integer(0, false), span: Span { from: 9, to: 10 } }])",
+        ),
+        ("a /* b", "Err(OpenComment(2))"),
+        ("''", "Err(Literal(0))"),
+        ("'ab'", "Err(Literal(0))"),
+        ("'\\'", "Err(OpenLiteral(0))"),
         ("@foo", "Err(Directive(0))"),
         ("\"abc", "Err(OpenLiteral(0))"),
         ("\"abc\n\"", "Err(OpenLiteral(0))"),
@@ -108,8 +124,8 @@ fn answers_each_byte(rt: HostRuntime) -> Result<(), Fail> {
         let source = [b];
         let want = match b {
             b' ' | b'\t' | b'\n' | b'\r' | 12 => "blank",
-            b'"' => "open",
-            b'@' => "directive",
+            b'"' | b'\'' => "open",
+            b'@' | b'#' => "directive",
             b'a'..=b'z' | b'A'..=b'Z' | b'_' | b'0'..=b'9' => "token",
             b'{'
             | b'}'
@@ -153,6 +169,7 @@ fn refuses_a_long_source(rt: HostRuntime) -> Result<(), Fail> {
 #[test]
 fn names_faults(rt: HostRuntime) {
     assert_eq!(rt; LexFault::BadByte(5).number(), 1);
+    assert_eq!(rt; LexFault::OpenComment(5).number(), 2);
     assert_eq!(rt; LexFault::Directive(5).name(), "Directive");
     assert_eq!(rt; LexFault::Literal(5).at(), 5);
     assert_eq!(rt; LexFault::TooLong.at(), 1048576);

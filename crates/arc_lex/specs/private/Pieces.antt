@@ -1,5 +1,5 @@
 -- The piece at the front of bytes, as the code finds it.
-use Rattle.std.specs.Prelude.{◌≡◌, ◌≤◌, ◌<◌, ◌++◌, length, ℕ, ◌+◌, pos, List, [], ◌∷◌, take, drop, Bool, true, false, not, ◌||◌, ◌&&◌, nat_eq, nat_le, if◌then◌else◌, Option, Some, None}
+use Rattle.std.specs.Prelude.{◌≡◌, ◌≤◌, ◌<◌, ◌++◌, length, ℕ, ◌+◌, ℤ, pos, List, [], ◌∷◌, take, Bool, true, false, ◌&&◌, nat_eq, if◌then◌else◌, Option, Some, None}
 use Rattle.std.specs.List.{starts_with}
 use Rattle.std.specs.Cmp.Lexicographic.{pointwise}
 use Rattle.arc_lex.specs.declared.token.Mark.{Mark}
@@ -11,14 +11,15 @@ use Rattle.arc_lex.specs.declared.piece.Rule.TheVariants as rules
 use Rattle.arc_lex.specs.declared.piece.Piece as lex
 use Rattle.arc_lex.specs.declared.piece.Piece.TheVariants as pieces
 use Rattle.arc_lex.specs.declared.spelling.TheConstants.{MARKS, WORDS, AT_WORDS}
-use Rattle.arc_lex.specs.Bytes.{has, run, begins, is_blank}
+use Rattle.arc_lex.specs.Bytes.{has, run, is_blank}
 use Rattle.arc_lex.specs.Spellings.{mark_bytes, word_bytes, at_bytes}
-use Rattle.arc_lex.specs.Texts.{Part, Plain, Escape, parts_bytes, parts_value, number, largest, leads_with_zero, is_suffix}
+use Rattle.arc_lex.specs.Texts.{Part, Plain, Escape, parts_bytes, parts_value, integer}
 use Rattle.arc_lex.specs.Tokens.{Sort, Name, Integer, Text, Key, At, Sign, sort_of}
-use Rattle.arc_lex.specs.Source.{Longest, Faultless, Breaks}
+use Rattle.arc_lex.specs.Source.{Longest, IsComment, Skipped, is_skipped, to_close, Faultless, Breaks}
 
 pub data Piece : Type 0 where
-  Blank : Piece
+  Blank : Bool → Piece
+  Skip : ℕ → Piece
   Whole : Sort → ℕ → Piece
   Broken : Rule → Piece
 
@@ -39,50 +40,47 @@ word_or_name (Some word) xs = Whole (Key word) (length xs)
 unfoldable pub name_piece : List ℕ → Piece
 name_piece bytes = word_or_name (first_equal word_bytes WORDS (take (run c.InName bytes) bytes)) (take (run c.InName bytes) bytes)
 
--- whether an `x` or `X` is behind the first byte
-abbrev pub x_behind : List ℕ → Bool
-x_behind [] = false
-x_behind (b ∷ []) = false
-x_behind (b ∷ d ∷ bs) = nat_eq d 120 || nat_eq d 88
-
-abbrev pub is_hexadecimal : List ℕ → Bool
-is_hexadecimal [] = false
-is_hexadecimal (b ∷ bs) = nat_eq b 48 && x_behind (b ∷ bs)
-
--- digits, and what is behind them
-abbrev pub digits_piece : List ℕ → List ℕ → Piece
-digits_piece ds rest =
-    if leads_with_zero ds || not (nat_le (number ds) largest) then Broken rules.Literal
-    else if begins c.Letter rest then (if is_suffix (take (run c.InName rest) rest) then Broken rules.BadByte else Broken rules.Literal)
-    else Whole (Integer (pos (number ds))) (length ds)
+abbrev pub integer_found : Option (ℤ × Bool) → ℕ → Piece
+integer_found None n = Broken rules.Literal
+integer_found (Some i) n = Whole (Integer i.0 i.1) n
 
 unfoldable pub number_piece : List ℕ → Piece
-number_piece bytes =
-    if is_hexadecimal bytes then Broken rules.BadByte
-    else digits_piece (take (run c.Digit bytes) bytes) (drop (run c.Digit bytes) bytes)
+number_piece bytes = integer_found (integer (take (run c.InName bytes) bytes)) (length (take (run c.InName bytes) bytes))
 
--- the parts of a text up to its closing quote, behind those that were found, if it is closed on its line. `escaped` says whether a
+-- the parts of a literal up to its closing quote, behind those that were found, if it is closed on its line. `escaped` says whether a
 -- backslash stands in front
-abbrev pub scan : Bool → List Part → List ℕ → Option (List Part)
-scan escaped ps [] = None
-scan true ps (b ∷ bs) = if nat_eq b 10 then None else scan false (ps ++ Escape b ∷ []) bs
-scan false ps (b ∷ bs) =
+abbrev pub scan : ℕ → Bool → List Part → List ℕ → Option (List Part)
+scan quote escaped ps [] = None
+scan quote true ps (b ∷ bs) = if nat_eq b 10 then None else scan quote false (ps ++ Escape b ∷ []) bs
+scan quote false ps (b ∷ bs) =
     if nat_eq b 10 then None
-    else if nat_eq b 34 then Some ps
-    else if nat_eq b 92 then scan true ps bs
-    else scan false (ps ++ Plain b ∷ []) bs
+    else if nat_eq b quote then Some ps
+    else if nat_eq b 92 then scan quote true ps bs
+    else scan quote false (ps ++ Plain b ∷ []) bs
 
-abbrev pub value_piece : Option (List ℕ) → ℕ → Piece
-value_piece None n = Broken rules.Literal
-value_piece (Some bytes) n = Whole (Text bytes) n
+abbrev pub text_value : Option (List ℕ) → ℕ → Piece
+text_value None n = Broken rules.Literal
+text_value (Some bytes) n = Whole (Text bytes) n
 
-abbrev pub parts_piece : Option (List Part) → Piece
-parts_piece None = Broken rules.OpenLiteral
-parts_piece (Some ps) = value_piece (parts_value ps) (length (parts_bytes ps) + 2)
+abbrev pub text_found : Option (List Part) → Piece
+text_found None = Broken rules.OpenLiteral
+text_found (Some ps) = text_value (parts_value 34 ps) (length (parts_bytes ps) + 2)
 
 unfoldable pub text_piece : List ℕ → Piece
 text_piece [] = Broken rules.OpenLiteral
-text_piece (b ∷ bs) = parts_piece (scan false [] bs)
+text_piece (b ∷ bs) = text_found (scan 34 false [] bs)
+
+abbrev pub character_value : Option (List ℕ) → ℕ → Piece
+character_value (Some (b ∷ [])) n = Whole (Integer (pos b) false) n
+character_value _ n = Broken rules.Literal
+
+abbrev pub character_found : Option (List Part) → Piece
+character_found None = Broken rules.OpenLiteral
+character_found (Some ps) = character_value (parts_value 39 ps) (length (parts_bytes ps) + 2)
+
+unfoldable pub character_piece : List ℕ → Piece
+character_piece [] = Broken rules.OpenLiteral
+character_piece (b ∷ bs) = character_found (scan 39 false [] bs)
 
 abbrev pub at_found : Option AtWord → Piece
 at_found None = Broken rules.Directive
@@ -98,44 +96,63 @@ mark_found (Some mark) = Whole (Sign mark) (length (mark_bytes mark))
 unfoldable pub mark_piece : List ℕ → Piece
 mark_piece bytes = mark_found (first_front mark_bytes MARKS bytes)
 
--- whether `//` or `/*` stands there
-abbrev pub is_comment : List ℕ → Bool
-is_comment [] = false
-is_comment (b ∷ []) = false
-is_comment (b ∷ d ∷ bs) = nat_eq b 47 && (nat_eq d 47 || nat_eq d 42)
+-- a `#`, and what is behind it
+unfoldable pub line_piece : Bool → List ℕ → Piece
+line_piece starts bytes = if starts && is_skipped bytes then Skip (run c.InLine bytes + 1) else Broken rules.Directive
 
-abbrev pub not_blank : ℕ → List ℕ → Piece
-not_blank b bs = if is_comment (b ∷ bs) then Broken rules.BadByte else mark_piece (b ∷ bs)
+-- a `/*` with its `*/`, if there is one
+abbrev pub closed_piece : Option ℕ → Piece
+closed_piece None = Broken rules.OpenComment
+closed_piece (Some n) = Skip (n + 2)
 
-abbrev pub not_at : ℕ → List ℕ → Piece
-not_at b bs = if is_blank b then Blank else not_blank b bs
+-- what is no blank
+unfoldable pub slash_piece : List ℕ → Piece
+slash_piece [] = mark_piece []
+slash_piece (b ∷ []) = mark_piece (b ∷ [])
+slash_piece (b ∷ d ∷ bs) =
+    if nat_eq b 47 && nat_eq d 47 then Skip (run c.InLine bs + 2)
+    else if nat_eq b 47 && nat_eq d 42 then closed_piece (to_close false bs)
+    else mark_piece (b ∷ d ∷ bs)
 
-abbrev pub not_text : ℕ → List ℕ → Piece
-not_text b bs = if nat_eq b 64 then at_piece (b ∷ bs) else not_at b bs
+abbrev pub not_line : Bool → ℕ → List ℕ → Piece
+not_line starts b bs = if is_blank b then Blank (nat_eq b 10) else slash_piece (b ∷ bs)
 
-abbrev pub not_number : ℕ → List ℕ → Piece
-not_number b bs = if nat_eq b 34 then text_piece (b ∷ bs) else not_text b bs
+abbrev pub not_at : Bool → ℕ → List ℕ → Piece
+not_at starts b bs = if nat_eq b 35 then line_piece starts bs else not_line starts b bs
 
-abbrev pub not_name : ℕ → List ℕ → Piece
-not_name b bs = if has c.Digit b then number_piece (b ∷ bs) else not_number b bs
+abbrev pub not_character : Bool → ℕ → List ℕ → Piece
+not_character starts b bs = if nat_eq b 64 then at_piece (b ∷ bs) else not_at starts b bs
 
-unfoldable pub piece : List ℕ → Piece
-piece [] = Broken rules.BadByte
-piece (b ∷ bs) = if has c.Letter b then name_piece (b ∷ bs) else not_name b bs
+abbrev pub not_text : Bool → ℕ → List ℕ → Piece
+not_text starts b bs = if nat_eq b 39 then character_piece (b ∷ bs) else not_character starts b bs
+
+abbrev pub not_number : Bool → ℕ → List ℕ → Piece
+not_number starts b bs = if nat_eq b 34 then text_piece (b ∷ bs) else not_text starts b bs
+
+abbrev pub not_name : Bool → ℕ → List ℕ → Piece
+not_name starts b bs = if has c.Digit b then number_piece (b ∷ bs) else not_number starts b bs
+
+unfoldable pub piece : Bool → List ℕ → Piece
+piece starts [] = Broken rules.BadByte
+piece starts (b ∷ bs) = if has c.Letter b then name_piece (b ∷ bs) else not_name starts b bs
 
 abbrev pub seen : lex.Piece → Piece
-seen pieces.Blank = Blank
+seen (pieces.Blank newline) = Blank newline
+seen (pieces.Skip n) = Skip n
 seen (pieces.Whole kind n) = Whole (sort_of kind) n
 seen (pieces.Broken rule) = Broken rule
 
 -- what a piece is by the definition
-abbrev pub Law : List ℕ → Piece → Type 0
-Law bytes Blank = (b : ℕ) × (rest : List ℕ) × (bytes ≡ b ∷ rest) × (is_blank b ≡ true) × Faultless (b ∷ rest)
-Law bytes (Whole s n) = (xs : List ℕ) × (rest : List ℕ) × (bytes ≡ xs ++ rest) × (length xs ≡ n) × (0 < n) × Longest xs s rest × Faultless (xs ++ rest)
-Law bytes (Broken rule) = Breaks rule bytes
+abbrev pub Law : Bool → List ℕ → Piece → Type 0
+Law starts bytes (Blank newline) = (b : ℕ) × (rest : List ℕ) × (bytes ≡ b ∷ rest) × (is_blank b ≡ true) × (newline ≡ nat_eq b 10) × Faultless starts (b ∷ rest)
+Law starts bytes (Skip n) = (xs : List ℕ) × (rest : List ℕ) × (bytes ≡ xs ++ rest) × (length xs ≡ n) × (0 < n) × Skipped starts xs rest × Faultless starts (xs ++ rest)
+Law starts bytes (Whole s n) =
+    (xs : List ℕ) × (rest : List ℕ) × (bytes ≡ xs ++ rest) × (length xs ≡ n) × (0 < n) × Longest xs s rest × (IsComment (xs ++ rest) → ⊥) × Faultless starts (xs ++ rest)
+Law starts bytes (Broken rule) = Breaks starts rule bytes
 
 -- a piece is no longer than the bytes
 abbrev pub Fits : Piece → ℕ → Type 0
-Fits Blank most = 0 < most
+Fits (Blank newline) most = 0 < most
+Fits (Skip n) most = (0 < n) × (n ≤ most)
 Fits (Whole s n) most = (0 < n) × (n ≤ most)
 Fits (Broken rule) most = Unit {0}

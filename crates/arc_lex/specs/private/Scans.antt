@@ -1,4 +1,4 @@
--- What was read of a text.
+-- What was read of a text or a character.
 use Rattle.std.specs.Prelude.{ℕ, List, Vec, length, Option, Some, None}
 use Rattle.arc_lex.specs.declared.text.Scan.{Scan}
 use Rattle.arc_lex.specs.Texts.{Part, parts_bytes, parts_value}
@@ -15,6 +15,6 @@ abbrev pub seen : Option Scan → Option Seen
 seen None = None
 seen (Some s) = Some (record { len = s.len; value = seen_value s.value })
 
-abbrev pub seen_parts : Option (List Part) → Option Seen
-seen_parts None = None
-seen_parts (Some ps) = Some (record { len = length (parts_bytes ps); value = parts_value ps })
+abbrev pub seen_parts : ℕ → Option (List Part) → Option Seen
+seen_parts quote None = None
+seen_parts quote (Some ps) = Some (record { len = length (parts_bytes ps); value = parts_value quote ps })

@@ -1,7 +1,7 @@
-use Rattle.std.proofs.Common.{◌≡◌, ◌∷◌, ◌+◌, ◌≤◌, ℕ, length, List, [], ◌++◌, refl, sym, ap, subst, ◌∙◌, arith}
+use Rattle.std.proofs.Common.{◌≡◌, ◌∷◌, ◌+◌, ◌≤◌, ℕ, length, List, [], ◌++◌, true, false, ◌||◌, refl, sym, ap, subst, ◌∙◌, arith}
 use Rattle.std.proofs.lemmas.List.{append-nil}
 use Rattle.arc_lex.specs.Faults.{fault_of, IsLexFault}
-use Rattle.arc_lex.specs.private.Pieces.{Law, Blank, Whole, Broken}
+use Rattle.arc_lex.specs.private.Pieces.{Law, Blank, Skip, Whole, Broken}
 use Rattle.arc_lex.specs.Source.{Cuts, FaultAt, done, here, most_bytes}
 use Rattle.arc_lex.specs.Tokens.{tok, toks, sort_of}
 use Rattle.arc_lex.specs.declared.piece.Rule.{Rule}
@@ -10,51 +10,69 @@ use Rattle.arc_lex.specs.declared.token.Span.{Span}
 use Rattle.arc_lex.specs.declared.token.Token.{Token}
 use Rattle.arc_lex.proofs.OneAnswer.{only_tokens, only_fault}
 use Rattle.arc_lex.proofs.Spans.{spans_spell}
-use Rattle.arc_lex.proofs.Walks.{blank_cuts, token_cuts, blank_fault, token_fault, toks_push}
+use Rattle.arc_lex.proofs.Walks.{blank_cuts, skip_cuts, token_cuts, blank_fault, skip_fault, token_fault, toks_push}
 use Rattle.arc_lex.proofs.lex.lex.Goals as goal
 
 pub pieces-preserved-in-Blank : goal.pieces-preserved-in-Blank
 pieces-preserved-in-Blank c =
     let at = c.pieces.at in
+    let starts = c.pieces.starts in
+    let newline = c.in-Blank.newline in
     let rest = c.pieces.rest.now in
-    let law : Law rest Blank = rw c.in-Blank.is at c.in_ok-lawful_piece.ensures.law in
+    let law : Law starts rest (Blank newline) = rw c.in-Blank.is at c.in_ok-newline.ensures.law in
     let back = c.split_at.ensures.back in
     record {
       short = c.pieces.invariant.short;
       count = omega (arith, c.split_at.ensures.back_len, c.pieces.invariant.count);
-      cut = λ ts h. c.pieces.invariant.cut ts (blank_cuts at rest ts law (subst (λ us. Cuts (at + 1) us ts) back h));
-      fault = λ p rule h. c.pieces.invariant.fault p rule (blank_fault at rest p rule law (subst (λ us. FaultAt (at + 1) us p rule) back h));
+      cut = λ ts h. c.pieces.invariant.cut ts (blank_cuts starts newline at rest law ts (subst (λ us. Cuts (at + 1) (newline || starts) us ts) back h));
+      fault = λ p rule h. c.pieces.invariant.fault p rule (blank_fault starts newline at rest law p rule (subst (λ us. FaultAt (at + 1) (newline || starts) us p rule) back h));
+    }
+
+pub pieces-preserved-in-Skip : goal.pieces-preserved-in-Skip
+pieces-preserved-in-Skip c =
+    let at = c.pieces.at in
+    let n = c.in-Skip.n in
+    let rest = c.pieces.rest.now in
+    let law : Law c.pieces.starts rest (Skip n) = rw c.in-Skip.is at c.in_ok-newline.ensures.law in
+    let back = c.split_at-in-Skip.ensures.back in
+    record {
+      short = c.pieces.invariant.short;
+      count = omega (arith, c.split_at-in-Skip.ensures.back_len, c.pieces.invariant.count);
+      cut = λ ts h. c.pieces.invariant.cut ts (skip_cuts c.pieces.starts at n rest law ts (subst (λ us. Cuts (at + n) false us ts) back h));
+      fault = λ p rule h. c.pieces.invariant.fault p rule (skip_fault c.pieces.starts at n rest law p rule (subst (λ us. FaultAt (at + n) false us p rule) back h));
     }
 
 pub pieces-preserved : goal.pieces-preserved
 pieces-preserved c =
     let at = c.pieces.at in
+    let starts = c.pieces.starts in
     let n = c.in-Whole.n in
     let kind = c.in-Whole.kind in
     let rest = c.pieces.rest.now in
-    let law : Law rest (Whole (sort_of kind) n) = rw c.in-Whole.is at c.in_ok-lawful_piece.ensures.law in
+    let law : Law starts rest (Whole (sort_of kind) n) = rw c.in-Whole.is at c.in_ok-newline.ensures.law in
     let back = c.split_at-in-Whole.ensures.back in
     let span : Span = record { from = at; to = at + n } in
     let t : Token = record { kind = kind; span = span } in
     record {
       short = c.pieces.invariant.short;
       count = omega (arith, c.split_at-in-Whole.ensures.back_len, c.pieces.invariant.count);
-      cut = λ ts h. subst (Cuts 0 c.args.source.now) (sym (ap (λ us. toks us ++ ts) c.in_ok-push-in-Whole.ensures.items ∙ toks_push c.pieces.tokens.items t ts))
-          (c.pieces.invariant.cut (tok t ∷ ts) (token_cuts at n (sort_of kind) rest ts law (subst (λ us. Cuts (at + n) us ts) back h)));
-      fault = λ p rule h. c.pieces.invariant.fault p rule (token_fault at n (sort_of kind) rest p rule law (subst (λ us. FaultAt (at + n) us p rule) back h));
+      cut = λ ts h. subst (Cuts 0 true c.args.source.now) (sym (ap (λ us. toks us ++ ts) c.in_ok-push-in-Whole.ensures.items ∙ toks_push c.pieces.tokens.items t ts))
+          (c.pieces.invariant.cut (tok t ∷ ts) (token_cuts starts at n (sort_of kind) rest law ts (subst (λ us. Cuts (at + n) false us ts) back h)));
+      fault = λ p rule h. c.pieces.invariant.fault p rule (token_fault starts at n (sort_of kind) rest law p rule (subst (λ us. FaultAt (at + n) false us p rule) back h));
     }
 
-first_fault : (source : List ℕ) (at : ℕ) (rule : Rule) → length source ≤ most_bytes → FaultAt 0 source at rule → IsLexFault source (fault_of rule at)
+first_fault : (source : List ℕ) (at : ℕ) (rule : Rule) → length source ≤ most_bytes → FaultAt 0 true source at rule → IsLexFault source (fault_of rule at)
 first_fault source at rules.BadByte short h = (short, h)
+first_fault source at rules.OpenComment short h = (short, h)
 first_fault source at rules.OpenLiteral short h = (short, h)
 first_fault source at rules.Literal short h = (short, h)
 first_fault source at rules.Directive short h = (short, h)
 
 pub returns-in-Broken-clause-fault : goal.returns-in-Broken-clause-fault
 returns-in-Broken-clause-fault c =
-    let law : Law c.pieces.rest.now (Broken c.in-Broken.rule) = rw c.in-Broken.is at c.in_ok-lawful_piece.ensures.law in
+    let law : Law c.pieces.starts c.pieces.rest.now (Broken c.in-Broken.rule) = rw c.in-Broken.is at c.in_ok-newline.ensures.law in
     subst (IsLexFault c.args.source.now) (sym c.fault_of.ensures)
-    (first_fault c.args.source.now c.pieces.at c.in-Broken.rule c.pieces.invariant.short (c.pieces.invariant.fault _ _ (here c.pieces.at c.pieces.rest.now c.in-Broken.rule law)))
+    (first_fault c.args.source.now c.pieces.at c.in-Broken.rule c.pieces.invariant.short (c.pieces.invariant.fault _ _ (here c.pieces.at c.pieces.starts c.pieces.rest.now c.in-Broken.rule law)))
 
 empty : (rest : List ℕ) → length rest ≡ 0 → rest ≡ []
 empty [] e = refl
@@ -64,8 +82,8 @@ pub returns-clause-tokens : goal.returns-clause-tokens
 returns-clause-tokens c =
     let none : c.pieces.rest.now ≡ [] = empty c.pieces.rest.now (omega (arith, c.pieces.invariant.count)) in (
       c.pieces.invariant.short,
-      subst (Cuts 0 c.args.source.now) (append-nil (toks c.pieces.tokens.items))
-          (c.pieces.invariant.cut [] (subst (λ us. Cuts c.pieces.at us []) (sym none) (done c.pieces.at))),
+      subst (Cuts 0 true c.args.source.now) (append-nil (toks c.pieces.tokens.items))
+          (c.pieces.invariant.cut [] (subst (λ us. Cuts c.pieces.at c.pieces.starts us []) (sym none) (done c.pieces.at c.pieces.starts))),
     )
 
 pub returns-in-Broken-clause-only_fault : goal.returns-in-Broken-clause-only_fault

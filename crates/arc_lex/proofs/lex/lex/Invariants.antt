@@ -1,4 +1,4 @@
-use Rattle.std.proofs.Common.{◌≡◌, ◌≤◌, ◌+◌, ◌++◌, ℕ, List, length}
+use Rattle.std.proofs.Common.{◌≡◌, ◌≤◌, ◌+◌, ◌++◌, ℕ, List, length, true}
 use Rattle.arc_lex.specs.Source.{Cuts, FaultAt, most_bytes}
 use Rattle.arc_lex.specs.Tokens.{Tok, toks}
 use Rattle.arc_lex.specs.declared.piece.Rule.{Rule}
@@ -9,8 +9,8 @@ abbrev pub invariant-pieces : goal.invariant-pieces
 invariant-pieces l = record {
   short : length l.source ≤ most_bytes;
   count : l.at + length l.rest ≡ length l.source;
-  cut : (ts : List Tok) → Cuts l.at l.rest ts → Cuts 0 l.source (toks l.tokens.items ++ ts);
-  fault : (p : ℕ) (rule : Rule) → FaultAt l.at l.rest p rule → FaultAt 0 l.source p rule;
+  cut : (ts : List Tok) → Cuts l.at l.starts l.rest ts → Cuts 0 true l.source (toks l.tokens.items ++ ts);
+  fault : (p : ℕ) (rule : Rule) → FaultAt l.at l.starts l.rest p rule → FaultAt 0 true l.source p rule;
 }
 
 abbrev pub decreases-pieces : goal.decreases-pieces
