@@ -6,7 +6,7 @@ use Rattle.arc_lex.specs.declared.piece.Rule.{Rule}
 use Rattle.arc_lex.specs.Faults.{fault_number, fault_of}
 use Rattle.arc_lex.specs.Source.{Tokens, most_bytes}
 use Rattle.arc_lex.specs.Tokens.{Tok}
-use Rattle.arc_lex.specs.private.Pieces.{piece, name_piece, number_piece, text_piece, at_piece, mark_piece}
+use Rattle.arc_lex.specs.private.Pieces.{piece, name_piece, number_piece, text_piece, character_piece, at_piece, line_piece, slash_piece, mark_piece}
 use Rattle.arc_ast.specs.Tree.{UnitTree}
 use Rattle.arc_form.specs.Form.{read, deep}
 use Rattle.arc_form.specs.Reader.{Read, misfit, too_deep, loop, nested, up_to}
@@ -30,7 +30,7 @@ use Rattle.arc_known.proofs.Cutting.{tokens_of, cuts, fault_in, breaks}
 
 -- `unfolding reading` opens what the computing of a tree and its meaning calls
 unfoldable pub reading : Unit {0}
-unfolding lines read deep read_whole loop nested up_to piece name_piece number_piece text_piece at_piece mark_piece digits
+unfolding lines read deep read_whole loop nested up_to piece name_piece number_piece text_piece character_piece at_piece line_piece slash_piece mark_piece digits
 reading = tt
 
 abbrev pub tree_read : Read UnitTree → Option UnitTree
@@ -43,20 +43,20 @@ tree_in (Some ts) = tree_read (read_whole body these unit ts)
 
 -- the tree that a source spells
 abbrev pub tree_of : List ℕ → Option UnitTree
-tree_of source = tree_in (tokens_of (suc (length source)) 0 source)
+tree_of source = tree_in (tokens_of (suc (length source)) 0 true source)
 
 spelled : (source : List ℕ) (tree : UnitTree) → nat_le (length source) most_bytes ≡ true → tree_of source ≡ Some tree → Spelled source tree
-spelled source tree short e = from_tokens (tokens_of (suc (length source)) 0 source) refl e
+spelled source tree short e = from_tokens (tokens_of (suc (length source)) 0 true source) refl e
   where
     from_tree : (ts : List Tok) (x : Read UnitTree) → read_whole body these unit ts ≡ x → tree_read x ≡ Some tree → (r : List Tok) × (read_whole body these unit ts ≡ Ok (tree, r))
     from_tree ts (Ok x) k f = let same : x.0 ≡ tree = cc in (x.1, k ∙ ap (λ u. Ok (u, x.1)) same)
     from_tree ts (Err x) k f = cc
 
-    from_tokens : (found : Option (List Tok)) → tokens_of (suc (length source)) 0 source ≡ found → tree_in found ≡ Some tree → Spelled source tree
+    from_tokens : (found : Option (List Tok)) → tokens_of (suc (length source)) 0 true source ≡ found → tree_in found ≡ Some tree → Spelled source tree
     from_tokens None k f = cc
     from_tokens (Some ts) k f =
         let whole = from_tree ts (read_whole body these unit ts) refl f in
-        record { tokens = ts; cut = (leb-true (length source) most_bytes short, cuts (suc (length source)) 0 source ts k); spelled = within ts tree whole.0 whole.1 }
+        record { tokens = ts; cut = (leb-true (length source) most_bytes short, cuts (suc (length source)) 0 true source ts k); spelled = within ts tree whole.0 whole.1 }
 
 -- what is seen of a tree's meaning, where it breaks no rule
 abbrev pub unless_broken : (declared checked owned : List Violation) → Sight → Option Sight
@@ -99,12 +99,12 @@ of_tokens None = None
 of_tokens (Some ts) = of_read ts (read_whole body these unit ts)
 
 abbrev pub of_fault : List ℕ → Option (ℕ × Rule) → Option Violation
-of_fault source None = of_tokens (tokens_of (suc (length source)) 0 source)
+of_fault source None = of_tokens (tokens_of (suc (length source)) 0 true source)
 of_fault source (Some f) = told (fault_number (fault_of f.1 f.0)) f.0
 
 -- the rule by which a source is refused, and the position
 abbrev pub refusal : List ℕ → Option Violation
-refusal source = of_fault source (fault_in (suc (length source)) 0 source)
+refusal source = of_fault source (fault_in (suc (length source)) 0 true source)
 
 abbrev number_in : Option Violation → ℕ
 number_in None = 0
@@ -115,8 +115,8 @@ at_in None = 0
 at_in (Some v) = v.at
 
 module _ (source : List ℕ) (number at : ℕ) (short : length source ≤ most_bytes) where
-  by_fault : (p : ℕ) (rule : Rule) → fault_in (suc (length source)) 0 source ≡ Some (p, rule) → told (fault_number (fault_of rule p)) p ≡ told number at → IsRefused source number at
-  by_fault p rule k e = subst (IsRefused source number) (ap at_in e) (in_tokens rule (short, breaks (suc (length source)) 0 source p rule k) (ap number_in e))
+  by_fault : (p : ℕ) (rule : Rule) → fault_in (suc (length source)) 0 true source ≡ Some (p, rule) → told (fault_number (fault_of rule p)) p ≡ told number at → IsRefused source number at
+  by_fault p rule k e = subst (IsRefused source number) (ap at_in e) (in_tokens rule (short, breaks (suc (length source)) 0 true source p rule k) (ap number_in e))
 
   by_misfit : (ts rest : List Tok) → Tokens source ts → read_whole body these unit ts ≡ Err (misfit, rest) → told (report (Unexpected 0)).number (place_of ts rest) ≡ told number at
       → IsRefused source number at
@@ -131,13 +131,13 @@ module _ (source : List ℕ) (number at : ℕ) (short : length source ≤ most_b
   by_read ts cut (Err (misfit, rest)) k e = by_misfit ts rest cut k e
   by_read ts cut (Err (too_deep, rest)) k e = by_depth ts rest cut k e
 
-  by_tokens : (found : Option (List Tok)) → tokens_of (suc (length source)) 0 source ≡ found → of_tokens found ≡ told number at → IsRefused source number at
+  by_tokens : (found : Option (List Tok)) → tokens_of (suc (length source)) 0 true source ≡ found → of_tokens found ≡ told number at → IsRefused source number at
   by_tokens None k e = cc
-  by_tokens (Some ts) k e = by_read ts (short, cuts (suc (length source)) 0 source ts k) (read_whole body these unit ts) refl e
+  by_tokens (Some ts) k e = by_read ts (short, cuts (suc (length source)) 0 true source ts k) (read_whole body these unit ts) refl e
 
-  by_any : (found : Option (ℕ × Rule)) → fault_in (suc (length source)) 0 source ≡ found → of_fault source found ≡ told number at → IsRefused source number at
-  by_any None k e = by_tokens (tokens_of (suc (length source)) 0 source) refl e
+  by_any : (found : Option (ℕ × Rule)) → fault_in (suc (length source)) 0 true source ≡ found → of_fault source found ≡ told number at → IsRefused source number at
+  by_any None k e = by_tokens (tokens_of (suc (length source)) 0 true source) refl e
   by_any (Some f) k e = by_fault f.0 f.1 k e
 
 pub refused : (source : List ℕ) (number at : ℕ) → nat_le (length source) most_bytes ≡ true → refusal source ≡ told number at → IsRefused source number at
-refused source number at short e = by_any source number at (leb-true (length source) most_bytes short) (fault_in (suc (length source)) 0 source) refl e
+refused source number at short e = by_any source number at (leb-true (length source) most_bytes short) (fault_in (suc (length source)) 0 true source) refl e

@@ -25,6 +25,14 @@ conversions = codes "int main(void) {\n"
     ++ codes "    return printf(\"%d %i|%c%%|%ld\\n\", 2 + 3 * 4, -7 / 2, 65 + 256, 2147483648 * 2);\n"
     ++ codes "}\n"
 
+-- Comments are blanks (C99, section 6.4.9), a line with `#import` is skipped (this project's own choice), a character is an int (6.4.4.4), and `0x` begins a hexadecimal
+-- integer (6.4.4.1).
+abbrev pub tokens : List ℕ
+tokens = codes "#import <stdio.h>\n"
+    ++ codes "int main(void) { /* one ** line */\n"
+    ++ codes "    return printf(\"%c%d%c\", 'A', 0x2a, '\\n'); // \"end\n"
+    ++ codes "}\n"
+
 -- a sum of ints wraps (this project's own choice, where C99, section 6.5, says nothing)
 abbrev pub wrapped_sum : List ℕ
 wrapped_sum = codes "int main(void) { return printf(\"%d\", 2147483647 + 1); }"

@@ -2,9 +2,13 @@
 use Rattle.std.specs.Prelude.{ℕ, List, ◌++◌, codes}
 use Rattle.arc_known.specs.Programs.{repeated}
 
--- a comment, which this compiler doesn't have yet
-abbrev pub comment : List ℕ
-comment = codes "int main(void) { } // end"
+-- no token begins with the byte (C99, section 6.4)
+abbrev pub bad_byte : List ℕ
+bad_byte = codes "int main(void) { $ }"
+
+-- a comment without its end (C99, section 6.4.9)
+abbrev pub open_comment : List ℕ
+open_comment = codes "int main(void) { } /* end"
 
 -- a text that isn't closed on its line (C99, section 6.4.5)
 abbrev pub open_text : List ℕ
@@ -17,6 +21,10 @@ octal = codes "int main(void) { return 07; }"
 -- no known word stands after the `@`
 abbrev pub directive : List ℕ
 directive = codes "int main(void) { } @interfac"
+
+-- an integer with a suffix, which no line of the grammar has yet
+abbrev pub suffixed : List ℕ
+suffixed = codes "int main(void) { return 1L; }"
 
 -- a statement without its `;` (C99, section 6.8.6)
 abbrev pub no_semicolon : List ℕ

@@ -11,6 +11,7 @@ ghost use Rattle.arc_known.specs.RefusedSources as refused;
 pub fn numbers()
     ensures forty_two { HasTrace program.forty_two [] 0 (printed (codes "42")) (Ends (pos 7)) }
     ensures conversions { HasTrace program.conversions [] 0 (printed (codes "14 -3|A%|4294967296\n")) (Ends (pos 20)) }
+    ensures tokens { HasTrace program.tokens [] 0 (printed (codes "A42\n")) (Ends (pos 4)) }
     ensures wrapped_sum { HasTrace program.wrapped_sum [] 0 (printed (codes "-2147483648")) (Ends (pos 11)) }
     ensures factorials { HasTrace program.factorials [] 0 (printed (codes "120")) (Ends (pos 1932053504)) }
 {}
@@ -50,10 +51,12 @@ pub fn faults()
 
 /// Sources that are refused: the number of the rule, and the position.
 pub fn refusals()
-    ensures comment { IsRefused refused.comment 1 19 }
+    ensures bad_byte { IsRefused refused.bad_byte 1 17 }
+    ensures open_comment { IsRefused refused.open_comment 2 19 }
     ensures open_text { IsRefused refused.open_text 3 24 }
     ensures octal { IsRefused refused.octal 4 24 }
     ensures directive { IsRefused refused.directive 5 19 }
+    ensures suffixed { IsRefused refused.suffixed 11 24 }
     ensures no_semicolon { IsRefused refused.no_semicolon 11 26 }
     ensures no_brace { IsRefused refused.no_brace 11 26 }
     ensures too_deep { IsRefused refused.too_deep 12 215 }

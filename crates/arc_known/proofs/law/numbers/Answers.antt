@@ -13,6 +13,10 @@ pub returns-clause-conversions : goal.returns-clause-conversions
 unfolding reading
 returns-clause-conversions c = known program.conversions [] 0 (printed (codes "14 -3|A%|4294967296\n")) (Ends (pos 20)) refl refl
 
+pub returns-clause-tokens : goal.returns-clause-tokens
+unfolding reading
+returns-clause-tokens c = known program.tokens [] 0 (printed (codes "A42\n")) (Ends (pos 4)) refl refl
+
 pub returns-clause-wrapped_sum : goal.returns-clause-wrapped_sum
 unfolding reading
 returns-clause-wrapped_sum c = known program.wrapped_sum [] 0 (printed (codes "-2147483648")) (Ends (pos 11)) refl refl

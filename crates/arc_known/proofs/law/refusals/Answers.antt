@@ -4,9 +4,13 @@ use Rattle.arc_known.proofs.Reading as by
 use Rattle.arc_known.proofs.Reading.{reading}
 use Rattle.arc_known.proofs.law.refusals.Goals as goal
 
-pub returns-clause-comment : goal.returns-clause-comment
+pub returns-clause-bad_byte : goal.returns-clause-bad_byte
 unfolding reading
-returns-clause-comment c = by.refused refused.comment 1 19 refl refl
+returns-clause-bad_byte c = by.refused refused.bad_byte 1 17 refl refl
+
+pub returns-clause-open_comment : goal.returns-clause-open_comment
+unfolding reading
+returns-clause-open_comment c = by.refused refused.open_comment 2 19 refl refl
 
 pub returns-clause-open_text : goal.returns-clause-open_text
 unfolding reading
@@ -19,6 +23,10 @@ returns-clause-octal c = by.refused refused.octal 4 24 refl refl
 pub returns-clause-directive : goal.returns-clause-directive
 unfolding reading
 returns-clause-directive c = by.refused refused.directive 5 19 refl refl
+
+pub returns-clause-suffixed : goal.returns-clause-suffixed
+unfolding reading
+returns-clause-suffixed c = by.refused refused.suffixed 11 24 refl refl
 
 pub returns-clause-no_semicolon : goal.returns-clause-no_semicolon
 unfolding reading
