@@ -88,7 +88,8 @@ fn differs_before(earlier: Option<&MethodHead>, head: &MethodHead) -> bool
 {
     match earlier {
         None => false,
-        Some(earlier) => earlier.at < head.at && !same_kind(earlier.result.kind(), head.result.kind()),
+        Some(earlier) => earlier.at < head.at
+            && !same_kind(earlier.result.kind(), head.result.kind()),
     }
 }
 
