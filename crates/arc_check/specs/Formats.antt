@@ -29,7 +29,7 @@ abbrev pub before : Reading → (Begun → List Part) → List Part
 before (Goes begun) others = others begun
 before (Gives part) others = part ∷ others Nothing
 
--- the parts of a format, behind what has begun
+-- the parts of a format, after what has begun
 abbrev pub parts : Begun → List ℕ → List Part
 parts begun [] = unfinished begun
 parts begun (byte ∷ bytes) = before (reading begun byte) (λ next. parts next bytes)

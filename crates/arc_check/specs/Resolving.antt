@@ -205,8 +205,8 @@ put n a = Evaluate (Assigned n a)
 abbrev pub initialized : Scope → (n : ℕ) → Option ExprTree → Commands → Commands
 initialized s n a others = option_map_or (λ e. and_command (put n (as_int s e)) others) a others
 
--- An int begins anew, with 0, each time that its declaration runs (this project's own choice); then it takes its value. It is in scope where that is written, and
--- is 0 there (C99, section 6.2.1).
+-- An int begins anew, with 0, each time that its declaration runs (this project's own choice); then it takes its value. It is in scope where that is written,
+-- and is 0 there (C99, section 6.2.1).
 abbrev pub begun_int : Scope → (n : ℕ) → Option ExprTree → Commands → Commands
 begun_int s n a others = and_command (put n (Number (pos 0))) (initialized s n a others)
 
@@ -215,7 +215,7 @@ begun_int s n a others = and_command (put n (Number (pos 0))) (initialized s n a
 abbrev pub begun_object : Scope → (n : ℕ) → Option ExprTree → Commands → Commands
 begun_object s n a others = option_map_or (λ e. and_command (Begin n (object_in (resolved s e))) others) a others
 
--- a declared variable, from the scope before it and the one behind it
+-- a declared variable, from the scope before it and the one after it
 abbrev pub declared : TypeTree → (before after : Scope) → Option ExprTree → Commands → Commands
 declared tree.Int before after a others = begun_int after before.next a others
 declared _ before after a others = begun_object after before.names a others

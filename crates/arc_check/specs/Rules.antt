@@ -141,7 +141,7 @@ no_object kind at = broken_if (is_some kind && not (is_object kind)) at 43
 abbrev pub no_such : (wanted given : Option Kind) → ℕ → List Broken
 no_such wanted given at = if is_none wanted then [] else if is_object wanted then no_object given at else no_number given at
 
--- An operator computes with numbers; `!=` compares two numbers or two objects, and tells an object and a number at the second (C99, section 6.5.9).
+-- An operator computes with numbers; `!=` compares two numbers or two objects, and reports an object and a number at the second (C99, section 6.5.9).
 abbrev pub no_left : BinaryOperator → Option Kind → ℕ → List Broken
 no_left o.NotEqual a at = no_value a at
 no_left _ a at = no_number a at
@@ -174,8 +174,9 @@ abbrev pub no_method : Scope → (class : Option ℕ) → Option Kind → (stati
 no_method s class kind static selector part =
     broken_if ((is_some class || is_object kind) && is_none (sent_kind s.known class static selector)) part 42
 
--- All that is wrong with an expression but for the number of objects that it takes. 43 KindMismatch: a text stands anywhere but as the first argument of printf (this project's own choice).
--- 44 NotAssignable, at the `=`: the left side is no variable, no field and not `self` (C99, section 6.5.16). A receiver is a class or has to be an object.
+-- All that is wrong with an expression but for the number of objects that it takes. 43 KindMismatch: a text stands anywhere but as the first argument of printf
+-- (this project's own choice). 44 NotAssignable, at the `=`: the left side is no variable, no field and not `self` (C99, section 6.5.16). A receiver is a class
+-- or has to be an object.
 abbrev mutual
   pub broken : Scope → ExprTree → List Broken
   broken s (Text at bytes) = record { at = at; number = 43 } ∷ []
@@ -223,8 +224,9 @@ is_unread s (Itself at) = true
 is_unread s (Name at name) = is_some (s.variables name)
 is_unread s _ = false
 
--- The places at which an expression takes an object, in the order of the source: each read of a variable that names objects, and of `self` (by `super` and by the
--- name of a field too), each message that gives an object, at its selector's first part, and each assignment of one, at its `=` (this project's own choice).
+-- The places at which an expression takes an object, in the order of the source: each read of a variable that names objects, and of `self` (by `super` and by
+-- the name of a field too), each message that gives an object, at its selector's first part, and each assignment of one, at its `=` (this project's own
+-- choice).
 abbrev mutual
   pub taken : Scope → ExprTree → List ℕ
   taken s (Paren at a) = taken s a
@@ -247,8 +249,8 @@ abbrev mutual
   all_taken s no_exprs = []
   all_taken s (and_expr a others) = taken s a ++ all_taken s others
 
--- All that is wrong with a full-expression (C99, section 6.8). 50 TooManyLocals, at the place at which it takes one object more than is allowed (this project's own
--- choice).
+-- All that is wrong with a full-expression (C99, section 6.8). 50 TooManyLocals, at the place at which it takes one object more than is allowed (this project's
+-- own choice).
 abbrev pub broken_whole : Scope → ExprTree → List Broken
 broken_whole s a = broken s a ++ violates 50 (slice_get (taken s a) MOST_TAKEN)
 

@@ -30,14 +30,14 @@ pub record Known : Type 0 where
   pub selector : List ℕ → Option ℕ
   pub field : Option ℕ → List ℕ → Option FoundField
 
--- A variable: an int, by its number among the ints of its function, or one that names objects, by its number among those, and with its static class, of which `id`
--- has none (OPL, "Static Typing").
+-- A variable: an int, by its number among the ints of its function, or one that names objects, by its number among those, and with its static class, of which
+-- `id` has none (OPL, "Static Typing").
 pub data Local : Type 0 where
   Int : ℕ → Local
   Object : ℕ → (class : Option ℕ) → Local
 
--- What names mean at a place: what is known of the source; the class in whose method the place is, if it is in one, and the method's sign; how many ints come before
--- all others, which is one in a class method, `self`; the variables in scope; and the numbers that the next int and the next name of objects get.
+-- What names mean at a place: what is known of the source; the class in whose method the place is, if it is in one, and the method's sign; how many ints come
+-- before all others, which is one in a class method, `self`; the variables in scope; and the numbers that the next int and the next name of objects get.
 pub record Scope : Type 0 where
   pub known : Known
   pub class : Option ℕ
@@ -84,11 +84,11 @@ with_variables type = fold (λ s v. declare v.name type s)
 abbrev pub with_parameters : Scope → List ParameterTree → Scope
 with_parameters = fold (λ s p. declare p.name p.type s)
 
--- behind an inner scope (C99, section 6.2.1): the names mean what they meant before it, and the numbers that it gave aren't given again
+-- after an inner scope (C99, section 6.2.1): the names mean what they meant before it, and the numbers that it gave aren't given again
 abbrev pub leave : (outer inner : Scope) → Scope
 leave outer inner = record outer { next = inner.next; names = inner.names }
 
--- what names mean behind a statement
+-- what names mean after a statement
 abbrev mutual
   pub behind : Scope → StmtTree → Scope
   behind s (Block at all) = leave s (behind_all s all)
@@ -123,7 +123,8 @@ in_method known class sign =
 abbrev pub callee_known : Option Declared → Callee
 callee_known f = unwrap_or (option_and_then (λ d. option_map (λ count. Defined d.signature.result count d.body) d.signature.takes) f) Unknown
 
--- The function that a name calls: the two of the library, or one of the source. Variables aren't looked at, and no program calls `main` (both are this project's own choice).
+-- The function that a name calls: the two of the library, or one of the source. Variables aren't looked at, and no program calls `main` (both are this
+-- project's own choice).
 abbrev pub callee : Known → List ℕ → Callee
 callee known name =
     if bytes_eq name (codes "printf") then Printf else (if bytes_eq name (codes "getchar") then GetChar else (if bytes_eq name (codes "main") then Unknown else callee_known (known.function name)))
@@ -173,8 +174,8 @@ itself_in s (Paren at a) = itself_in s a
 itself_in s (Itself at) = class_itself s
 itself_in s _ = None
 
--- The class that a receiver is, where it is one: a name that means no variable and no field (OPL, "Class Names in Source Code"), or `self` in a class method, also
--- in parentheses.
+-- The class that a receiver is, where it is one: a name that means no variable and no field (OPL, "Class Names in Source Code"), or `self` in a class method,
+-- also in parentheses.
 abbrev pub class_receiver : Scope → ExprTree → Option ℕ
 class_receiver s (Name at name) = if is_variable s name then None else s.known.class name
 class_receiver s (Paren at a) = itself_in s a

@@ -35,7 +35,7 @@ fn judge_unit<'a>(
     Ok(earlier(functions, earlier(interfaces, implementations)))
 }
 
-/// The resolved functions and, behind them, the methods of the source. The table is one of the unit.
+/// The resolved functions and, after them, the methods of the source. The table is one of the unit.
 fn resolve_unit<'a>(
     alloc: Global,
     unit: &'a TranslationUnit,
@@ -49,7 +49,7 @@ fn resolve_unit<'a>(
     Ok(all)
 }
 
-/// The resolved program of the source, where it breaks no rule, or the fault that tells the first rule that is broken: the one at the earliest
+/// The resolved program of the source, where it breaks no rule, or the fault that reports the first rule that is broken: the one at the earliest
 /// place, and there the one with the lowest number. The fault names a byte of the source. The table is one of the unit.
 pub fn check<'a>(
     alloc: Global,

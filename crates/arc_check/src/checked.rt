@@ -21,7 +21,7 @@ pub enum Value {
     Number(i64),
     /// A call of `getchar`.
     ReadByte,
-    /// A call of `printf`, with its format and the values behind it.
+    /// A call of `printf`, with its format and the values after it.
     Print(Vec<Piece>, Vec<Value>),
     Negated(Kind, Box<Value>),
     Combined(BinaryOperator, Kind, Box<Value>, Box<Value>),

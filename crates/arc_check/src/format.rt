@@ -56,7 +56,7 @@ fn read(begun: Begun, byte: u8) -> Reading
     }
 }
 
-/// The first conversion of a format, and what stands behind it.
+/// The first conversion of a format, and what stands after it.
 pub fn next_conversion(format: &[u8]) -> Option<(Part, &[u8])>
     ensures { MatchOption result (wanted format.now ≡ []) (λ x. wanted format.now ≡ x.0 ∷ wanted x.1.now) }
 {
@@ -74,7 +74,7 @@ pub fn next_conversion(format: &[u8]) -> Option<(Part, &[u8])>
     }
 }
 
-/// Whether the first conversion of a format may print a value of the kind, or one that has none, and what stands behind it.
+/// Whether the first conversion of a format may print a value of the kind, or one that has none, and what stands after it.
 pub fn take_conversion(format: &[u8], kind: Option<Kind>) -> (bool, &[u8])
     ensures { (kinds : List (Option Kind)) → fits (wanted format.now) (kind ∷ kinds) ≡ (result.0 && fits (wanted result.1.now) kinds) }
 {
@@ -107,7 +107,7 @@ fn suits(wanted: Kind, kind: Kind) -> bool
     )
 }
 
-/// What is printed so far, and the plain bytes behind it.
+/// What is printed so far, and the plain bytes after it.
 #[derive(Drop)]
 struct Printed {
     pieces: Vec<Piece>,

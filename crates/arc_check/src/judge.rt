@@ -31,8 +31,8 @@ use arc_class::table::{ClassId, ClassTable, FoundField};
 use arc_fault::check::CheckFault;
 use arc_sites::violation::earlier;
 
-/// What is told of an expression: its kind, where it has one, its static class, the first rule that is broken in it, and how many objects the full-expression has
-/// taken behind it.
+/// The judgement on an expression: its kind, where it has one, its static class, the first rule that is broken in it, and how many objects the
+/// full-expression has taken after it.
 #[derive(Clone, Copy)]
 pub struct Judged {
     pub kind: Option<Kind>,
@@ -41,8 +41,8 @@ pub struct Judged {
     pub taken: Taken,
 }
 
-/// What is told of a call's arguments: whether they suit a format, the first rule that is broken in them, and how many objects the full-expression has taken
-/// behind them.
+/// The judgement on a call's arguments: whether they suit a format, the first rule that is broken in them, and how many objects the full-expression has taken
+/// after them.
 #[derive(Clone, Copy)]
 pub struct Arguments {
     pub fit: bool,
@@ -74,7 +74,7 @@ fn object(class: Option<ClassId>, fault: Option<CheckFault>, taken: Taken) -> Ju
     }
 }
 
-/// What is told of an operator's expression, from its operands and their places.
+/// The judgement on an operator's expression, from its operands and their places.
 fn combined(
     operator: BinaryOperator,
     left: Judged,
@@ -101,7 +101,7 @@ fn combined(
     )
 }
 
-/// What is told of a call, from its function's kind, the rule that it breaks at its name, if it breaks one, and what is told of its arguments.
+/// The judgement on a call, from its function's kind, the rule that it breaks at its name, if it breaks one, and the judgement on its arguments.
 fn called(kind: Kind, own: Option<CheckFault>, inside: Arguments) -> Judged
     ensures kind { result.kind ≡ kind_if (is_none own) kind }
     ensures class { result.class ≡ None }
@@ -112,7 +112,7 @@ fn called(kind: Kind, own: Option<CheckFault>, inside: Arguments) -> Judged
     number(kind, earlier(own, inside.fault), inside.taken)
 }
 
-/// What is told of `self`, which isn't sent a message as a class.
+/// The judgement on `self`, which isn't sent a message as a class.
 fn judge_itself(visible: &Visible, before: Taken, at: usize) -> Judged
     ensures { (table : ClassTable) → Judges (seen table visible.now) before (Itself at) result }
 {
@@ -126,7 +126,7 @@ fn judge_itself(visible: &Visible, before: Taken, at: usize) -> Judged
     }
 }
 
-/// What is told of a name that means no variable.
+/// The judgement on a name that means no variable.
 fn judge_own_field(
     table: &ClassTable,
     visible: &Visible,
@@ -146,7 +146,7 @@ fn judge_own_field(
     )
 }
 
-/// What is told of a name.
+/// The judgement on a name.
 fn judge_name<'a>(
     table: &ClassTable<'a>,
     visible: &Visible<'a>,
@@ -163,7 +163,7 @@ fn judge_name<'a>(
     }
 }
 
-/// What is told of an expression.
+/// The judgement on an expression.
 #[cycle(judge)]
 pub fn judge<'a>(
     table: &ClassTable<'a>,
@@ -206,7 +206,7 @@ pub fn judge<'a>(
     }
 }
 
-/// What is told of a unary `+` or `-`, from its operand.
+/// The judgement on a unary `+` or `-`, from its operand.
 #[cycle(judge)]
 fn judge_signed<'a>(
     table: &ClassTable<'a>,
@@ -225,7 +225,7 @@ fn judge_signed<'a>(
     )
 }
 
-/// What is told of a cast, from its type and its operand.
+/// The judgement on a cast, from its type and its operand.
 #[cycle(judge)]
 fn judge_cast<'a>(
     table: &ClassTable<'a>,
@@ -244,7 +244,7 @@ fn judge_cast<'a>(
     )
 }
 
-/// What is told of a field, from the expression that gives its object.
+/// The judgement on a field, from the expression that gives its object.
 fn field_of(
     table: &ClassTable,
     visible: &Visible,
@@ -270,7 +270,7 @@ fn field_of(
     }
 }
 
-/// What is told of a field of an object.
+/// The judgement on a field of an object.
 #[cycle(judge)]
 fn judge_arrow<'a>(
     table: &ClassTable<'a>,
@@ -287,7 +287,7 @@ fn judge_arrow<'a>(
     field_of(table, visible, judged, place(base), found, name_at)
 }
 
-/// What an assignment has taken behind its `=`, from what its left side tells.
+/// What an assignment has taken after its `=`, from the judgement on its left side.
 fn taken_by_left(
     visible: &Visible,
     before: Taken,
@@ -306,7 +306,7 @@ fn taken_by_left(
     read.one_if(is_object(judged.kind), sign)
 }
 
-/// What is told of an assignment, from its sides.
+/// The judgement on an assignment, from its sides.
 fn assigned(
     is_assignable: bool,
     sign: usize,
@@ -336,7 +336,7 @@ fn assigned(
     }
 }
 
-/// What is told of an assignment.
+/// The judgement on an assignment.
 #[cycle(judge)]
 fn judge_assignment<'a>(
     table: &ClassTable<'a>,
@@ -354,7 +354,7 @@ fn judge_assignment<'a>(
     assigned(is_assignable(left), sign, first, second, place(right))
 }
 
-/// The kind of a message to the class or, with none, to what this is told of.
+/// The kind of a message to the class or, with none, to what this judgement is on.
 fn message_kind<'a>(
     table: &ClassTable<'a>,
     class: Option<ClassId>,
@@ -371,7 +371,7 @@ fn message_kind<'a>(
     }
 }
 
-/// The rule that a receiver breaks which is the class or, with none, of which this is told.
+/// The rule that a receiver breaks which is the class or, with none, on which this is the judgement.
 fn receiver_fault(class: Option<ClassId>, receiver: Judged, at: usize) -> Option<CheckFault>
     ensures { option_map told result
         ≡ (if is_some (option_map number_of_class class) then None else earlier_of (option_map told receiver.fault) (first (rules.no_object receiver.kind at))) }
@@ -392,7 +392,7 @@ fn unknown_method(kind: Option<Kind>, part: usize) -> Option<CheckFault>
     }
 }
 
-/// The rule that a message breaks for which no method is known: to the class or, with none, to what this is told of.
+/// The rule that a message breaks for which no method is known: to the class or, with none, to what this judgement is on.
 fn method_fault<'a>(
     table: &ClassTable<'a>,
     class: Option<ClassId>,
@@ -409,7 +409,7 @@ fn method_fault<'a>(
     unknown_method(sent_kind(table, class, receiver.class, selector), part)
 }
 
-/// What is told of a message.
+/// The judgement on a message.
 #[cycle(judge)]
 fn judge_send<'a>(
     table: &ClassTable<'a>,
@@ -437,7 +437,7 @@ fn judge_send<'a>(
     }
 }
 
-/// What a message to `super` has taken behind its selector's first part.
+/// What a message to `super` has taken after its selector's first part.
 fn taken_by_super(
     visible: &Visible,
     before: Taken,
@@ -452,7 +452,7 @@ fn taken_by_super(
     read.one_if(is_object(kind), part)
 }
 
-/// What is told of a message to `super`.
+/// The judgement on a message to `super`.
 #[cycle(judge)]
 fn judge_super<'a>(
     table: &ClassTable<'a>,
@@ -476,7 +476,7 @@ fn judge_super<'a>(
     }
 }
 
-/// What is told of a call.
+/// The judgement on a call.
 #[cycle(judge)]
 fn judge_call<'a>(
     table: &ClassTable<'a>,
@@ -499,7 +499,7 @@ fn judge_call<'a>(
     }
 }
 
-/// What is told of a call of printf.
+/// The judgement on a call of printf.
 #[cycle(judge)]
 fn judge_print<'a>(
     table: &ClassTable<'a>,
@@ -527,7 +527,7 @@ fn judge_print<'a>(
     }
 }
 
-/// What is told of an argument: printf's may be of any kind here.
+/// The judgement on an argument: printf's may be of any kind here.
 #[cycle(judge)]
 fn judge_argument<'a>(
     table: &ClassTable<'a>,
@@ -552,7 +552,7 @@ fn judge_argument<'a>(
     )
 }
 
-/// What is told of arguments behind a format.
+/// The judgement on arguments after a format.
 #[cycle(judge)]
 fn judge_arguments<'a>(
     table: &ClassTable<'a>,
@@ -586,7 +586,7 @@ fn judge_arguments<'a>(
     }
 }
 
-/// What is told of a full-expression.
+/// The judgement on a full-expression.
 pub fn judge_whole<'a>(table: &ClassTable<'a>, visible: &Visible<'a>, expr: &'a Expr) -> Judged
     ensures { JudgesWhole (seen table.now visible.now) (expr_tree expr.now) result }
 {

@@ -1,4 +1,4 @@
-//! The rules that expressions break, from what is told of their parts.
+//! The rules that expressions break, from the judgements on their parts.
 ghost use Rattle.std.specs.Prelude.{◌≡◌, option_map};
 ghost use Rattle.arc_ast.specs.Tree as tree;
 ghost use Rattle.arc_ast.specs.Tree.{expr_tree};
@@ -40,7 +40,7 @@ pub fn wider(a: Kind, b: Kind) -> Kind
     }
 }
 
-/// The place at which an expression is told: an assignment's `=`, a field's name, a message's first selector part, and else
+/// The place at which an expression that breaks a rule is reported: an assignment's `=`, a field's name, a message's first selector part, and else
 /// the first byte.
 pub fn place(expr: &Expr) -> usize
     ensures { result ≡ tree.place (expr_tree expr.now) }

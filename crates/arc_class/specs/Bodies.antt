@@ -1,5 +1,5 @@
--- The rules for the bodies of a source: names of variables, classes of types, and calls of functions that have no body. Each is a predicate on a site: the place at
--- which the site breaks it, if it does.
+-- The rules for the bodies of a source: names of variables, classes of types, and calls of functions that have no body. Each is a predicate on a site: the
+-- place at which the site breaks it, if it does.
 use Rattle.std.specs.Prelude.{ℕ, Bool, false, List, ◌++◌, Option, None, is_none}
 use Rattle.std.specs.List.{list_any}
 use Rattle.std.specs.Option.{option_map_or}

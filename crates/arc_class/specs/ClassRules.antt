@@ -27,7 +27,7 @@ differs_before earlier h = option_map_or (λ e. nat_lt e.at h.at && not (same_ki
 abbrev pub differs_from : Option Kind → HeadTree → Bool
 differs_from kind h = option_map_or (λ given. not (same_kind given (result_of h))) kind false
 
--- the selectors of the methods of the root that tell of an object's class (OPL, "Introspection")
+-- the selectors of the methods of the root that say what an object's class is or has (OPL, "Introspection")
 abbrev pub tells_class : List ℕ → Bool
 tells_class selector = bytes_eq selector (codes "isKindOfClass:") || (bytes_eq selector (codes "isMemberOfClass:")
     || (bytes_eq selector (codes "respondsToSelector:") || bytes_eq selector (codes "conformsToProtocol:")))
@@ -47,7 +47,8 @@ changes_kind u h = differs_before (first_head h.sign h.selector (declared u.inte
     || (differs_before (first_head h.sign h.selector (defined u.implementations)) h || differs_from (built_in_kind h.sign h.selector) h)
 
 -- 28 HookMethod: a class method that would change how classes are loaded or objects are made (Runtime Reference, "+load" and "+initialize"; OPL, "Allocating
--- and Initializing Objects"), a method of objects that tells of their class, or one of either sign that gives the class, at its `+` or `-` (this project's own choice)
+-- and Initializing Objects"), a method of objects that says what their class is or has, or one of either sign that gives the class, at its `+` or `-` (this
+-- project's own choice)
 abbrev pub is_class_hook : List ℕ → Bool
 is_class_hook selector = bytes_eq selector (codes "load") || (bytes_eq selector (codes "initialize") || bytes_eq selector (codes "alloc"))
 
@@ -78,12 +79,12 @@ field_place name (f ∷ others) = if bytes_eq name f.name then Some f.at else fi
 abbrev pub is_earlier : Option ℕ → ℕ → Bool
 is_earlier other at = option_map_or (λ o. nat_lt o at) other false
 
--- two fields with one name, told at the second by position
+-- two fields with one name, reported at the second by position
 abbrev pub broken_pair : Option ℕ → ℕ → List Broken
 broken_pair other at = option_map_or (λ o. record { at = if nat_lt at o then o else at; number = 21 } ∷ []) other []
 
--- 21 Duplicate: of two fields with one name, of one class or of a class and one above it, the second by position, at its name (OPL, "Instance Variables"). These
--- are a field's, where its class declares all of these.
+-- 21 Duplicate: of two fields with one name, of one class or of a class and one above it, the second by position, at its name (OPL, "Instance Variables").
+-- `at` and `name` are those of a field, whose class declares the fields `all`.
 abbrev pub broken_field : UnitTree → (above : Option ℕ) → (all : List FieldTree) → (at : ℕ) → (name : List ℕ) → List Broken
 broken_field u above all at name = broken_if (is_earlier (field_place name all) at) at 21
     ++ flat_map (λ class. broken_pair (field_place name (own_fields u class)) at) (ancestry (superclasses u.interfaces) above)
@@ -131,7 +132,7 @@ abbrev pub broken_own_names : UnitTree → (before : List ImplementationTree) �
 broken_own_names u before i =
     broken_if (is_root i.name || is_implemented before i.name) i.at 21 ++ broken_if (is_none (class_number u.interfaces i.name)) i.at 22
 
--- the fields of an implementation are told with those of its class's interface
+-- the fields of an implementation are looked at with those of its class's interface (`broken_own_fields`)
 abbrev pub broken_implementation : UnitTree → (before : List ImplementationTree) → ImplementationTree → List Broken
 broken_implementation u before i = broken_own_names u before i ++ broken_methods u [] i.methods
 

@@ -21,8 +21,8 @@ abbrev pub interface_number : List InterfaceTree → List ℕ → Option ℕ
 interface_number [] name = None
 interface_number (i ∷ others) name = if bytes_eq name i.name then Some 0 else option_map (λ n. suc n) (interface_number others name)
 
--- Classes are numbered: the root is 0, and then each class is, in the order of the interfaces (this project's own choice). This is the number of the class with a
--- name.
+-- Classes are numbered: the root is 0, and then each class is, in the order of the interfaces (this project's own choice). This is the number of the class with
+-- a name.
 abbrev pub class_number : List InterfaceTree → List ℕ → Option ℕ
 class_number interfaces name = if is_root name then Some 0 else option_map (λ n. suc n) (interface_number interfaces name)
 
@@ -94,8 +94,8 @@ declared = flat_map (λ i. i.methods)
 abbrev pub defined : List ImplementationTree → List HeadTree
 defined = flat_map (λ i. heads i.methods)
 
--- What a message to an object gives of which no class is known (OPL, "Dynamic Typing"): where it counts owners as that is known, and else as the first method of
--- objects does that is declared, or else defined, or built in. All of these give the same.
+-- What a message to an object gives of which no class is known (OPL, "Dynamic Typing"): where it counts owners as that is known, and else as the first method
+-- of objects does that is declared, or else defined, or built in. All of these give the same.
 abbrev pub source_result : UnitTree → List ℕ → Option Kind
 source_result u selector = or_else (option_map result_of (first_head signs.Instance selector (declared u.interfaces)))
     (or_else (option_map result_of (first_head signs.Instance selector (defined u.implementations))) (built_in_result signs.Instance selector))
@@ -161,7 +161,8 @@ abbrev pub bodies : List FunctionTree → ℕ
 bodies [] = 0
 bodies (f ∷ others) = if has_body f then suc (bodies others) else bodies others
 
--- Functions are numbered: first those with a body, and then the methods, in the order of the implementations. This is how many there are behind some.
+-- Functions are numbered: first those with a body, and then the methods, in the order of the implementations. This is how many there are once those of these
+-- implementations are counted too.
 abbrev pub numbers_after : (first : ℕ) → List ImplementationTree → ℕ
 numbers_after = fold (λ number i. number + length i.methods)
 

@@ -5,11 +5,11 @@ use Rattle.arc_fault.specs.declared.class.ClassFault.TheVariants as f
 use Rattle.arc_class.specs.Broken.{Broken, first}
 use Rattle.arc_fault.specs.Class.{report}
 
--- the broken rule that a fault tells
+-- the broken rule that a fault reports
 abbrev pub told : ClassFault → Broken
 told f = record { at = (report f).at; number = (report f).number }
 
--- when each fault is answered: it tells the first of all broken rules. Want of memory may come at any source
+-- When each fault is answered: it reports the first of all broken rules; want of memory may come at any source.
 abbrev pub Refuses : List Broken → ClassFault → Type 0
 Refuses all f.Memory = Unit {0}
 Refuses all fault = first all ≡ Some (told fault)

@@ -11,7 +11,8 @@ use Rattle.arc_class.specs.declared.table.FoundField.{FoundField}
 use Rattle.arc_class.specs.Classes.{class_number, superclass, superclasses}
 use Rattle.arc_spec.specs.Classes.{ancestry, first_that_has}
 
--- a field that the objects of a class have, with what it is, how it holds an object, if it is one (ARC, "Ownership qualification"), and the class that declares it
+-- a field that the objects of a class have, with what it is, how it holds an object, if it is one (ARC, "Ownership qualification"), and the class that declares
+-- it
 pub record ClassField : Type 0 where
   pub name : List ℕ
   pub kind : Kind

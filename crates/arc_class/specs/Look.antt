@@ -30,7 +30,7 @@ abbrev pub joined : Option Declared → ℕ → FunctionTree → Declared
 joined None number f = record { signature = signature f; body = or_number None (has_body f) number }
 joined (Some d) number f = record { signature = d.signature; body = or_number d.body (has_body f) number }
 
--- the fault that is told, once a function is seen too
+-- the fault that is reported, once a function is seen too
 abbrev pub fault_with : Option ClassFault → Option Declared → FunctionTree → Option Broken
 fault_with fault earlier f =
     if is_library f.name || clashes earlier f then earlier_of (option_map told fault) (Some (record { at = f.at; number = 21 })) else option_map told fault

@@ -147,6 +147,6 @@ built_in_at b signs.Instance selector = if bytes_eq selector (codes "init") then
 abbrev pub names_of : List (Bor (List ℕ)) → List (List ℕ)
 names_of = map (λ key. key.now)
 
--- the numbers of the built-in methods stand behind those of all functions
+-- the numbers of the built-in methods come after those of all functions
 abbrev pub built_in_from : (first : ℕ) → BuiltIn
 built_in_from first = record { alloc_method = first; new_method = first + 1; init_method = first + 2; dealloc_method = first + 3 }

@@ -37,7 +37,7 @@ unfoldable pub IsWithin : (levels : ℕ) → List Node → (first : Option ℕ) 
 IsWithin zero nodes first = Unit {0}
 IsWithin (suc n) nodes first = IsThere nodes first × IsWithin n nodes (node_at nodes first).even × IsWithin n nodes (node_at nodes first).odd
 
--- parts are added behind others
+-- parts are added after others
 pub record Extends (old new : List Node) : Type 0 where
   pub more : List Node
   pub is : new ≡ old ++ more

@@ -90,13 +90,13 @@ own_of own (Some class) = own class
 abbrev pub owner_by : {X : Type 0} → (own : ℕ → List ℕ → Option X) → (class : ℕ) → List ℕ → Option ℕ
 owner_by own class name = option_map (λ found. class) (own class name)
 
--- Where a class's map is known, it says which class has the nearest of a name. A map may name a class that has nothing of the name, as those of methods name the
--- root for all selectors: so what the named class has is asked for (`own_of`).
+-- Where a class's map is known, it says which class has the nearest of a name. A map may name a class that has nothing of the name, as those of methods name
+-- the root for all selectors: so what the named class has is asked for (`own_of`).
 abbrev pub Tells : {X : Type 0} → (superclasses : List (Option ℕ)) → (own : ℕ → List ℕ → Option X) → List (Option (List ℕ → Option ℕ)) → Type 0
 Tells superclasses own all = (class : ℕ) (view : List ℕ → Option ℕ) → slice_get all class ≡ Some (Some view) → (name : List ℕ)
     → first_that_has (λ c. own c name) (ancestry superclasses (Some class)) ≡ own_of (λ c. own c name) (view name)
 
--- what is known of a class behind others by its methods of a sign; the root, which is the first, has all
+-- what is known of a class after others by its methods of a sign; the root, which is the first, has all
 abbrev pub entry_view : (class : ℕ) → Entry → Sign → List (Option (List ℕ → Option ℕ)) → Option (List ℕ → Option ℕ)
 entry_view zero e sign all = Some (λ name. Some 0)
 entry_view (suc n) e sign all = with_own (λ name. is_some (head_at e.methods sign name)) (suc n) (view_at all e.superclass)

@@ -97,7 +97,7 @@ pub record IsSameTable (old new : ClassTable) : Type 0 where
   pub declared : KeepsDeclared old new
   pub selectors : selector_names new ≡ selector_names old
 
--- The name is a selector's from now on, and this is its number. A new one stands behind the others, whose numbers stay (Runtime Reference,
+-- The name is a selector's from now on, and this is its number. A new one stands after the others, whose numbers stay (Runtime Reference,
 -- `sel_registerName`).
 pub record Registers (old : ClassTable) (name : List ℕ) (new : ClassTable) (number : ℕ) : Type 0 where
   pub declared : KeepsDeclared old new

@@ -69,7 +69,7 @@ abbrev pub names_with : (List ℕ → Bool) → List VariableTree → List ℕ �
 names_with names [] = names
 names_with names (v ∷ others) = names_with (and_name v.name names) others
 
--- the names of a scope behind a statement
+-- the names of a scope after a statement
 abbrev pub names_after : (List ℕ → Bool) → StmtTree → List ℕ → Bool
 names_after names (Variables at type all) = names_with names all
 names_after names _ = names

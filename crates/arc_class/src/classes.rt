@@ -76,7 +76,7 @@ impl<'a> Source<'a> {
         fault
     }
 
-    /// Whether an interface's name is taken, behind interfaces whose names stand in `before`.
+    /// Whether an interface's name is taken, after interfaces whose names stand in `before`.
     fn is_taken(&self, before: &Scope<'a>, interface: &'a Interface) -> bool
         requires { Knows (unit_tree self.now.unit.now) self.now }
         ensures { (earlier : List InterfaceTree) → ((name : List ℕ) → holds before.now name ≡ is_some (interface_number earlier name))
@@ -89,7 +89,7 @@ impl<'a> Source<'a> {
             || stands_before(at_name(&self.functions, name), interface.at)
     }
 
-    /// The first rule that the names of an interface break, behind those whose names stand in `before`.
+    /// The first rule that the names of an interface break, after those whose names stand in `before`.
     fn names_fault(&self, before: &Scope<'a>, interface: &'a Interface) -> Option<ClassFault>
         requires { Knows (unit_tree self.now.unit.now) self.now }
         ensures { (earlier : List InterfaceTree) → ((name : List ℕ) → holds before.now name ≡ is_some (interface_number earlier name))
@@ -175,7 +175,7 @@ impl<'a> Source<'a> {
         Ok(fault)
     }
 
-    /// The first rule that the names of an implementation break, behind those whose names stand in `before`.
+    /// The first rule that the names of an implementation break, after those whose names stand in `before`.
     fn own_names_fault(
         &self,
         before: &Scope<'a>,

@@ -74,7 +74,7 @@ pub fn field_places<'a>(alloc: Global, own: &OwnFields<'a>) -> Result<FieldPlace
 }
 
 /// Keeps the first of the fields with each name, which are numbered from this number on, and gives
-/// the number behind them. Memory: there was none, or so many fields have no numbers.
+/// the number after them. Memory: there was none, or so many fields have no numbers.
 fn keep_fields<'a>(
     named: &mut BTreeMap<&'a [u8], FoundField>,
     owner: ClassId,
@@ -238,7 +238,7 @@ fn least_from<'a>(
 }
 
 /// The first by position of the fields with the name that the class and those above it declare. Most
-/// names have none, which the owners tell at once.
+/// names have none, which the owners say at once.
 fn inherited_place<'a>(
     classes: &[ClassFields<'a>],
     owners: &Owners<'a>,

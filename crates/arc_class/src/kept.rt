@@ -86,7 +86,7 @@ fn first_functions<'a>(
     Ok(map)
 }
 
-/// The first interface of each name. Their classes are numbered from 1, behind the root.
+/// The first interface of each name. Their classes are numbered from 1, after the root.
 fn class_places<'a>(alloc: Global, interfaces: &'a [Interface]) -> Result<Names<'a>, AllocError>
     ensures { IfOk result (λ map. (sought : List ℕ) → at_name map sought ≡ places 1 (interface_trees interfaces.now) sought) }
 {
@@ -130,7 +130,7 @@ fn first_implementations<'a>(
     Ok(map)
 }
 
-/// How many functions there are with those that methods run, behind so many. Memory: they have no
+/// How many functions there are with those that methods run, after so many. Memory: they have no
 /// numbers.
 fn numbers_after(first: usize, implementations: &[Implementation]) -> Result<usize, ClassFault>
     ensures counted { IfOk result (λ count. count ≡ classes.numbers_after first (implementation_trees implementations.now)) }

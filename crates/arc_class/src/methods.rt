@@ -28,7 +28,7 @@ fn is_class_hook(selector: &[u8]) -> bool
         || selector == b"alloc".as_slice()
 }
 
-/// Whether a method of the root with the selector tells of an object's class.
+/// Whether a method of the root with the selector says what an object's class is or has.
 fn tells_class(selector: &[u8]) -> bool
     ensures { result ≡ rules.tells_class selector.now }
 {
@@ -38,7 +38,7 @@ fn tells_class(selector: &[u8]) -> bool
         || selector == b"conformsToProtocol:".as_slice()
 }
 
-/// The kind of what a method of the root gives that tells of an object's class.
+/// The kind of what a method of the root gives that says what an object's class is or has.
 fn told_kind(sign: Sign, selector: &[u8]) -> Option<Kind>
     ensures { result ≡ rules.told_kind sign selector.now }
 {
@@ -64,7 +64,7 @@ fn built_in_kind(sign: Sign, selector: &[u8]) -> Option<Kind>
     }
 }
 
-/// Whether a method of the sign with the selector would change how classes work, or tells of them.
+/// Whether a method of the sign with the selector would change how classes work, or says what they are or have.
 fn is_hook_of(sign: Sign, selector: &[u8]) -> bool
     ensures { result ≡ rules.is_hook_of sign selector.now }
 {

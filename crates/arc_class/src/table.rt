@@ -517,7 +517,7 @@ impl<'a> ClassTable<'a> {
         })
     }
 
-    /// The table of a source whose declarations break no rule, or the fault that tells the first rule that is broken: the one at the
+    /// The table of a source whose declarations break no rule, or the fault that reports the first rule that is broken: the one at the
     /// earliest place, and there the one with the lowest number. The fault names a byte of the source.
     pub fn build(alloc: Global, unit: &'a TranslationUnit) -> Result<ClassTable<'a>, ClassFault>
         ensures unbroken { IfOk result (λ table. broken (unit_tree unit.now) ≡ []) }

@@ -127,7 +127,7 @@ pub fn stands<'a>(scope: &Scope<'a>, name: &'a [u8]) -> bool
     scope.get(&name).is_some()
 }
 
-/// Puts the name at the place into the scope, and tells the rule that this breaks.
+/// Puts the name at the place into the scope, and gives the rule that this breaks.
 fn declare<'a>(
     scope: &mut Scope<'a>,
     at: usize,

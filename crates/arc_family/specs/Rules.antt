@@ -1,4 +1,5 @@
--- The rules of ownership: what a program can't say, since the compiler counts references for it. Each is a predicate on a site: the place at which the site breaks it, if it does.
+-- The rules of ownership: what a program can't say, since the compiler counts references for it. Each is a predicate on a site: the place at which the site
+-- breaks it, if it does.
 use Rattle.std.specs.Prelude.{ℕ, Bool, false, ◌||◌, ◌&&◌, List, ◌++◌, Option, None, codes}
 use Rattle.std.specs.Str.{bytes_eq}
 use Rattle.arc_ast.specs.declared.tree.Sign.TheVariants as signs
@@ -20,8 +21,8 @@ abbrev pub is_manual : List ℕ → Bool
 is_manual selector =
     bytes_eq selector (codes "retain") || (bytes_eq selector (codes "release") || (bytes_eq selector (codes "autorelease") || bytes_eq selector (codes "retainCount")))
 
--- 61 ManualMemory: such a method is declared or defined, at its `+` or `-`, or is sent, at the first part of the selector. ARC, "Memory management methods", refuses
--- a definition and a message; that a declaration is refused too is this project's own choice.
+-- 61 ManualMemory: such a method is declared or defined, at its `+` or `-`, or is sent, at the first part of the selector. ARC, "Memory management methods",
+-- refuses a definition and a message; that a declaration is refused too is this project's own choice.
 abbrev pub rule_61 : Around → Node → Option ℕ
 rule_61 s (Declared h) = at_if (is_manual h.selector) h.at
 rule_61 s (Defined h) = at_if (is_manual h.selector) h.at

@@ -1,4 +1,4 @@
-//! Checks the rules of ownership, and tells the families of methods.
+//! Checks the rules of ownership, and finds the families of methods.
 #![tactic(auto)]
 
 pub mod family;

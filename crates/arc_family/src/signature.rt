@@ -1,4 +1,4 @@
-//! What a method's family depends on beside its selector, and the families.
+//! What a method's family depends on in addition to its selector, and the families.
 use arc_ast::tree::Kind;
 
 /// The family of a method, which says who owns what it takes and returns.

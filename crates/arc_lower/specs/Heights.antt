@@ -1,4 +1,5 @@
--- How many numbers and places of the running function there are at most before each action of a program, by the effects of those before it; and the greatest of them.
+-- How many numbers and places of the running function there are at most before each action of a program, by the effects of those before it; and the greatest of
+-- them. All of it is this project's own choice.
 use Rattle.std.specs.Prelude.{ℕ, suc, ◌+◌, ◌-◌, max, List, [], ◌∷◌, ◌++◌, length, get_or, Option, Some, None}
 use Rattle.arc_spec.specs.Resolved.{Function, Program}
 use Rattle.arc_spec.specs.declared.class.Method.{Method}
@@ -25,7 +26,7 @@ numbers_taken P x = (effect x).numbers_taken
 abbrev pub after_effect : Height → (taken : ℕ) → Effect → Height
 after_effect h taken e = height (h.numbers - taken + e.numbers_given) (h.places - e.places_taken + e.places_given)
 
--- The height before the next action. What stands behind a jump is reached from elsewhere, between two statements, and what stands behind a return is where the
+-- The height before the next action. What stands after a jump is reached from elsewhere, between two statements, and what stands after a return is where the
 -- function is entered.
 abbrev pub next_height : Program → (base : Height) → Order → Height → Height
 next_height P base (Jump to) h = base
@@ -37,7 +38,7 @@ abbrev pub heights : Program → (base : Height) → Height → List Order → L
 heights P base h [] = []
 heights P base h (x ∷ xs) = h ∷ heights P base (next_height P base x h) xs
 
--- the height behind all of them
+-- the height after all of them
 abbrev pub last_height : Program → (base : Height) → Height → List Order → Height
 last_height P base h [] = h
 last_height P base h (x ∷ xs) = last_height P base (next_height P base x h) xs
@@ -91,7 +92,7 @@ room_of P = room_for (greatest_height P).numbers
 abbrev pub places_of : Program → ℕ
 places_of P = room_for (greatest_height P).places
 
--- the heights of a program as tables; there are none behind its actions
+-- the heights of a program as tables; there are none after its actions
 abbrev pub height_at : Program → ℕ → Height
 height_at P pc = get_or (lowered_heights P) pc (height 0 0)
 

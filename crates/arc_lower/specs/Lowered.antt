@@ -1,6 +1,6 @@
--- Which actions a checked program becomes. A function's variables lie on the stack, the first one deepest, and its operands above them. An expression leaves one
--- number more on the stack, and a statement leaves the stack as it was. Its variables that name objects are its first strong places, the first one last, and the
--- temporaries of the full-expression stand above them.
+-- Which actions a checked program becomes, all of which is this project's own choice. A function's variables lie on the stack, the first one deepest, and its
+-- operands above them. An expression leaves one number more on the stack, and a statement leaves the stack as it was. Its variables that name objects are its
+-- first strong places, the first one last, and the temporaries of the full-expression stand above them.
 use Rattle.std.specs.Prelude.{ℕ, zero, suc, pred, ◌+◌, ◌-◌, ◌/◌, nat_lt, if◌then◌else◌, pos, List, [], ◌∷◌, ◌++◌, length, take, drop, slice_index_or, Option, Some, None}
 use Rattle.arc_ast.specs.declared.tree.Kind.TheVariants as k
 use Rattle.arc_spec.specs.Resolved.{Piece, Bytes, Decimal, Character, Value, Number, ReadByte, Print, Negated, Combined, Converted, Local, Assigned, Invoked, Sent, SentSuper, SentTo, SentToSuper, Field, FieldAssigned, Reference, Itself, Variable, Stored, Made, Initialized, Values, no_values, and_value, Command, Sequence, Evaluate, EvaluateReference, Begin, Choose, Repeat, Commands, no_commands, and_command, Function, Program}
@@ -71,7 +71,7 @@ piece_orders (Bytes bytes) left = text_orders bytes
 piece_orders Decimal left = conversion_orders (Plain PrintNum) left
 piece_orders Character left = conversion_orders (Plain PrintByte) left
 
--- how many values aren't printed yet behind a piece
+-- how many values aren't printed yet after a piece
 abbrev pub left_behind : Piece → (left : ℕ) → ℕ
 left_behind (Bytes bytes) left = left
 left_behind Decimal left = pred left
@@ -91,7 +91,7 @@ abbrev pub keep_orders : ℕ → List Order
 keep_orders zero = []
 keep_orders (suc n) = Plain (Set n) ∷ pop_orders n
 
--- prints a format behind its values, and leaves the count of bytes alone, as an int
+-- prints a format after its values, and leaves the count of bytes alone, as an int
 abbrev pub print_orders : List Piece → (values : ℕ) → List Order
 print_orders pieces n = Plain (Num (pos 0)) ∷ [] ++ (format_orders pieces n ++ (Plain (Narrow k.Int) ∷ [] ++ keep_orders n))
 
@@ -139,7 +139,7 @@ abbrev pub all_empty_orders : (names first count : ℕ) → List Order
 all_empty_orders names first zero = []
 all_empty_orders names first (suc n) = empty_orders names (first + n) ++ all_empty_orders names first n
 
--- a function that gives 0, which stands behind the others: one that there isn't is called as this one
+-- a function that gives 0, which stands after the others: one that there isn't is called as this one
 abbrev pub nothing : Function
 nothing = record { slots = 0; names = 0; body = no_commands }
 
@@ -277,7 +277,7 @@ entry_of place f = place + length (leave_orders f.slots f.names)
 abbrev pub function_orders : Program → (place : ℕ) → Function → List Order
 function_orders P place f = leave_orders f.slots f.names ++ flat place (body_block P f)
 
--- functions, one behind the other
+-- functions, one after another
 abbrev pub functions_orders : Program → (place : ℕ) → List Function → List Order
 functions_orders P place [] = []
 functions_orders P place (f ∷ others) =
@@ -289,7 +289,7 @@ abbrev pub entries_from : Program → (place : ℕ) → List Function → List �
 entries_from P place [] = []
 entries_from P place (f ∷ others) = entry_of place f ∷ entries_from P (place + length (function_orders P place f)) others
 
--- where a program begins: main's variables, a call of main, and the end; and behind it where the ends of objects go on
+-- where a program begins: main's variables, a call of main, and the end; and after it where the ends of objects go on
 abbrev pub start_orders : Program → List Order
 start_orders P = zero_orders (slots_of P P.main) ++ (Call (number_of P P.main) ∷ [] ++ (Return ∷ [] ++ EndStep ∷ []))
 
@@ -304,7 +304,7 @@ entries_of P = entries_from P (length (start_orders P)) (all_functions P)
 abbrev pub stub_orders : Program → (entries : List ℕ) → (values f : ℕ) → List Order
 stub_orders P entries values f = fit_orders values (slots_of P f) ++ Jump (At (slice_index_or entries (number_of P f) 0)) ∷ []
 
--- the stubs of methods, one behind the other
+-- the stubs of methods, one after another
 abbrev pub methods_orders : Program → (entries : List ℕ) → List Method → List Order
 methods_orders P entries [] = []
 methods_orders P entries (m ∷ others) = stub_orders P entries (passes m.sign m.takes) m.runs ++ methods_orders P entries others

@@ -23,7 +23,7 @@ pub(crate) fn slots_of(program: &Checked, function: usize) -> usize
     }
 }
 
-/// The number by which a function is called; one that there isn't has the number behind the last.
+/// The number by which a function is called; one that there isn't has the number after the last.
 pub(crate) fn number_of(program: &Checked, function: usize) -> usize
     ensures { result ≡ number_of (program_of program.now) function }
 {

@@ -25,7 +25,7 @@ pub(crate) fn append(actions: &mut Vec<Action>, action: Action) -> Result<(), No
     Ok(())
 }
 
-/// Appends one action, behind which there are so many temporaries. Gives their number.
+/// Appends one action, after which there are so many temporaries. Gives their number.
 fn append_counted(
     actions: &mut Vec<Action>,
     action: Action,
@@ -48,7 +48,7 @@ fn append_local(actions: &mut Vec<Action>, frame: Frame, index: usize) -> Result
 }
 
 /// Appends the actions of an expression that gives a number. Gives how many temporaries there are
-/// behind it.
+/// after it.
 #[cycle(expression)]
 pub(crate) fn append_value(
     alloc: Global,
@@ -148,7 +148,7 @@ fn append_printed(
     Ok(there)
 }
 
-/// Appends the actions of an expression that gives a number, and this action behind them.
+/// Appends the actions of an expression that gives a number, and this action after them.
 #[cycle(expression)]
 fn append_value_then(
     alloc: Global,
@@ -165,7 +165,7 @@ fn append_value_then(
     append_counted(actions, action, there)
 }
 
-/// Appends the actions of an expression that gives an object or nil, and this action behind them.
+/// Appends the actions of an expression that gives an object or nil, and this action after them.
 #[cycle(expression)]
 fn append_reference_then(
     alloc: Global,
@@ -183,7 +183,7 @@ fn append_reference_then(
 }
 
 /// Appends the actions of two expressions that give numbers, the left one's first, and this action
-/// behind them.
+/// after them.
 #[cycle(expression)]
 fn append_both(
     alloc: Global,
@@ -409,7 +409,7 @@ fn append_differ(
 }
 
 /// Appends the actions of an expression that gives an object or nil, which its last temporary then
-/// names. Gives how many temporaries there are behind it.
+/// names. Gives how many temporaries there are after it.
 #[cycle(expression)]
 pub(crate) fn append_reference(
     alloc: Global,
@@ -460,7 +460,7 @@ pub(crate) fn append_reference(
 }
 
 /// Appends the actions of expressions, in their order, each of which adds an operand. Gives how many
-/// temporaries there are behind them.
+/// temporaries there are after them.
 #[cycle(expression)]
 fn append_values(
     alloc: Global,

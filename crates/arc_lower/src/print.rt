@@ -13,7 +13,7 @@ use arc_ir::action::{Action, TextPart};
 use arc_spec::event::NoMemory;
 use std::alloc::Global;
 
-/// Appends the actions that print a format behind its values, of which there are `count`, and
+/// Appends the actions that print a format after its values, of which there are `count`, and
 /// leave the number of bytes in their place.
 pub(crate) fn append_print(
     alloc: Global,

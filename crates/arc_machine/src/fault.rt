@@ -4,7 +4,7 @@ ghost use Rattle.arc_machine.specs.Told.{number_of, name_of};
 
 use arc_spec::event::Fault;
 
-/// The number by which the fault is told.
+/// The number by which the fault is reported.
 pub fn fault_number(fault: Fault) -> u8
     ensures { result ≡ number_of fault }
 {
@@ -18,7 +18,7 @@ pub fn fault_number(fault: Fault) -> u8
     }
 }
 
-/// The name by which the fault is told.
+/// The name by which the fault is reported.
 pub fn fault_name(fault: Fault) -> &'static str
     ensures { result.now ≡ name_of fault }
 {

@@ -60,7 +60,7 @@ impl<S: Store + Drop> Machine<S> {
         self.engine.events()
     }
 
-    /// Makes at most so many steps, and tells whether the program goes on: `Ended` and `Fault` say
+    /// Makes at most so many steps, and says whether the program goes on: `Ended` and `Fault` say
     /// that it is over, and `StepsUsed` that all steps were made, or 2^64 - 1 of them in all. The
     /// error is a reader's or a writer's failure, in a step that is then not made; nor is it made where
     /// the store was asked for the block of a new object and has none, which `NoHeap` says. Once a run

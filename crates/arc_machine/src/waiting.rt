@@ -1,6 +1,6 @@
 //! What waits for the running function.
 
-/// A call, or the end of an object, behind which the running function goes on at the instruction
+/// A call, or the end of an object, after which the running function goes on at the instruction
 /// `back` with its `receiver`, which is the place of a block, or 0 for nil.
 #[derive(Clone, Copy)]
 pub enum Waiting {

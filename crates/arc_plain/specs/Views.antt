@@ -80,14 +80,14 @@ flow_of (Returned n) = meaning.Returned n
 abbrev pub nothing_of : Unit {0} → Finished
 nothing_of u = finished
 
--- what an answer tells of a meaning, and of the world behind it; a want of memory tells nothing
+-- what an answer says of a meaning, and of the world after it; a want of memory says nothing
 abbrev pub Tells : {A B : Type 0} → (A → B) → Result A Halt → Outcome B → World → Type 0
 Tells view (Ok a) outcome w = outcome ≡ Done (view a) w
 Tells view (Err (Stopped fault)) outcome w = outcome ≡ Faulted fault w
 Tells view (Err halt.Cut) outcome w = outcome ≡ Cut w
 Tells view (Err Memory) outcome w = Unit {0}
 
--- what one piece of a format writes behind a text, and the values that it leaves
+-- what one piece of a format writes after a text, and the values that it leaves
 abbrev pub WritesPiece : Piece → List ℤ → (old new : List ℕ) → (rest : List ℤ) → Type 0
 WritesPiece piece values old new rest =
     (others : List Piece) → old ++ formatted (piece ∷ others) values ≡ new ++ formatted others rest
@@ -109,6 +109,6 @@ seen answer = record { trace = answer.trace.items; stop = stop_of answer.stop }
 abbrev pub as_int : Outcome ℤ → Outcome ℤ
 as_int outcome = then_do outcome (λ v w. Done (converted k.Int v) w)
 
--- how a program stops, whatever it means, of whose main this is told
+-- how a program stops, whatever it means, of whose main this is the answer
 abbrev pub Stops : Result ℤ Halt → PlainStop → Type 0
 Stops left stop = (outcome : Outcome ℤ) (w : World) → Tells (λ n. n) left outcome w → meaning_seen (as_int outcome) ≡ record { trace = w.trace; stop = stop_of stop }

@@ -1,4 +1,4 @@
-//! What a running function is given beside the program's progress.
+//! What a running function is given in addition to the program's progress.
 
 use arc_check::checked::Checked;
 

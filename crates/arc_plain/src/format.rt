@@ -22,7 +22,7 @@ pub fn format(alloc: Global, pieces: &[Piece], values: &[i64]) -> Result<Vec<u8>
     Ok(text)
 }
 
-/// Writes a piece behind the text, and gives the values that it left.
+/// Writes a piece after the text, and gives the values that it left.
 fn format_piece<'a>(
     text: &mut Vec<u8>,
     piece: &Piece,

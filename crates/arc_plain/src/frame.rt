@@ -62,7 +62,7 @@ fn begin_locals(alloc: Global, slots: usize, arguments: &[i64]) -> Result<Vec<i6
     Ok(locals)
 }
 
-/// The first of the numbers, and those behind it; where there is none, it counts as 0.
+/// The first of the numbers, and those after it; where there is none, it counts as 0.
 fn take_number(numbers: &[i64]) -> (i64, &[i64])
     ensures { (slots : ℕ) → first_locals (suc slots) numbers.now ≡ result.0 ∷ first_locals slots result.1.now }
 {

@@ -50,7 +50,7 @@ pub fn store(progress: &mut Progress, slot: usize, object: usize) -> usize
     }
 }
 
-/// The variable so far behind the first one names nothing from now on, and what it named is given.
+/// The variable so far after the first one names nothing from now on, and what it named is given.
 pub fn clear(progress: &mut Progress, first: usize, offset: usize) -> usize
     ensures before { result ≡ name_at (world progress.old).frame.strong (first + offset) }
     ensures after { world progress.new ≡ stores (first + offset) 0 (world progress.old) }
@@ -115,7 +115,7 @@ fn wait(alloc: Global, frame: &Frame, waiting: &mut Vec<usize>) -> Result<(), No
     Ok(())
 }
 
-/// The running function is left, and the one with this frame runs again, behind whom so many places wait.
+/// The running function is left, and the one with this frame runs again, after which so many places wait.
 pub fn pop_frame(progress: &mut Progress, frame: Frame, waiting: usize)
     ensures { world progress.new ≡ left_at (frame_of frame) (take waiting progress.old.waiting.items) (world progress.old) }
 {

@@ -54,7 +54,7 @@ pub fn print(progress: &mut Progress, bytes: &[u8]) -> Result<(), NoMemory>
     show(&mut progress.trace, bytes)
 }
 
-/// Writes bytes behind the events.
+/// Writes bytes after the events.
 fn show(trace: &mut Vec<Event>, bytes: &[u8]) -> Result<(), NoMemory>
     ensures { OnOk result (trace.new.items ≡ trace.old.items ++ map Byte bytes.now) }
 {

@@ -22,7 +22,7 @@ use arc_spec::event::Fault;
 use arc_spec::number::{combine, convert, negate};
 use std::alloc::Global;
 
-/// How a statement was left: behind it, or by a return with a value.
+/// How a statement was left: at its end, or by a return with a value.
 #[derive(Drop)]
 pub enum Flow {
     Normal,
@@ -562,7 +562,7 @@ pub fn call(
     enter(alloc, &inner, progress, function, itself, arguments)
 }
 
-/// Runs a function with variables of its own, which are dropped at its end. Behind it the caller's are there
+/// Runs a function with variables of its own, which are dropped at its end. After it the caller's are there
 /// again. A function that there isn't does nothing.
 #[cycle(running)]
 fn enter(

@@ -1,4 +1,4 @@
--- The sites of a source: each node of its tree, with what surrounds it.
+-- The sites of a source: each node of its tree, with what surrounds it. They are this project's own words for the rules of later stages.
 use Rattle.std.specs.Prelude.{ℕ, Bool, true, false, ◌||◌, List, [], ◌∷◌, ◌++◌, flat_map, fold, Option, Some, None}
 use Rattle.std.specs.Option.{option_map_or}
 use Rattle.arc_ast.specs.declared.tree.BinaryOperator.{BinaryOperator}
@@ -23,11 +23,11 @@ pub record Bound : Type 0 where
 pub record Scope : Type 0 where
   pub own : List Bound
   pub outer : List Bound
-  pub in_loop : Bool  -- in the body of a `while`; its test is an expression, in which nothing asks this
+  pub in_loop : Bool  -- in the body of a `while`; not in its test, where no rule asks for it
 
--- What an expression is needed for: nothing more, a test or the left side of `!=`, a number, an object, what goes with another expression (the right side of `=`
--- and of `!=`), the first value of a variable of a type, what the function or the method returns, what a message is sent to, and the first argument or another one
--- of a function with a name. An expression in parentheses is needed for what they are needed for.
+-- What an expression is needed for: nothing more, a test or the left side of `!=`, a number, an object, what goes with another expression (the right side of
+-- `=` and of `!=`), the first value of a variable of a type, what the function or the method returns, what a message is sent to, and the first argument or
+-- another one of a function with a name. An expression in parentheses is needed for what they are needed for.
 pub data Need : Type 0 where
   Anything : Need
   AValue : Need

@@ -1,4 +1,5 @@
--- The text of a trace, which is this project's own choice: a line for the bytes that are printed between two deallocs, one for each dealloc, and one for how the run stopped.
+-- The text of a trace, which is this project's own choice: a line for the bytes that are printed between two deallocs, one for each dealloc, and one for how
+-- the run stopped.
 use Rattle.std.specs.Prelude.{ℕ, ◌/◌, ◌%◌, Bool, true, false, List, [], ◌∷◌, ◌++◌, get_or, codes}
 use Rattle.std.specs.Fmt.{signed_decimal}
 use Rattle.arc_spec.specs.declared.event.Event.{Event}
@@ -53,7 +54,8 @@ abbrev pub lines_text : List (List ℕ) → List Line → List ℕ
 lines_text names [] = []
 lines_text names (l ∷ others) = line_text names l ++ lines_text names others
 
--- how a run was left: the number with which it ended, why it was stopped, that there was no room for an object, that its steps are used, or that the reader failed
+-- how a run was left: the number with which it ended, why it was stopped, that there was no room for an object, that its steps are used, or that the reader
+-- failed
 abbrev pub left_text : Left → List ℕ
 left_text (Stopped (stop.Ended n)) = codes "end " ++ signed_decimal n
 left_text (Stopped (stop.Fault f)) = named (codes "fault ") (stopped.number_of f) (stopped.name_of f)
@@ -82,12 +84,12 @@ abbrev pub event_text : List (List ℕ) → (begun : Bool) → Event → List �
 event_text names begun (Byte b) = opening begun ++ two_digits b
 event_text names begun (Dealloc object class) = closing begun ++ line_text names (Ended object class)
 
--- whether a line of printed bytes is open behind an event
+-- whether a line of printed bytes is open after an event
 abbrev pub leaves_open : Event → Bool
 leaves_open (Byte b) = true
 leaves_open (Dealloc object class) = false
 
--- what events add one after another, and whether a line of printed bytes is open behind them
+-- what events add one after another, and whether a line of printed bytes is open after them
 abbrev pub events_text : List (List ℕ) → (begun : Bool) → List Event → List ℕ
 events_text names begun [] = []
 events_text names begun (e ∷ events) = event_text names begun e ++ events_text names (leaves_open e) events

@@ -16,7 +16,7 @@ rest_of (Ended n i t) = i
 rest_of (Faulted f i t) = i
 rest_of (Wedged i t) = i
 
--- In so many steps it has taken exactly these bytes: of an input that begins with them, what is behind them is left.
+-- In so many steps it has taken exactly these bytes: of an input that begins with them, what comes after them is left.
 abbrev pub Takes : Program → (made : ℕ) → (taken rest : List ℕ) → Type 0
 Takes p made taken rest = rest_of (run_of p (taken ++ rest) made) ≡ rest
 

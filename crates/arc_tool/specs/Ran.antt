@@ -21,8 +21,9 @@ use Rattle.arc_tool.specs.Told.{Names}
 abbrev pub Starts : (a b : List ℕ) → Type 0
 Starts a b = (later : List ℕ) × (b ≡ a ++ later)
 
--- What was written is what the code prints in the steps made on this input, and the stop is its stop. Where an object had no room, the code goes on with one, and where the
--- reader failed, with an instruction that reads; then fewer steps were made than were allowed. A step that the writer broke may have written some of its bytes.
+-- What was written is what the code prints in the steps made on this input, and the stop is its stop. Where an object had no room, the code goes on with one,
+-- and where the reader failed, with an instruction that reads; then fewer steps were made than were allowed. A step that the writer broke may have written some
+-- of its bytes.
 abbrev pub Shown : Result Stop IoFault → Program → (input : List ℕ) → (most made : ℕ) → (written : List ℕ) → Type 0
 Shown (Ok (Ended n)) p input most made written = (bytes_of (seen p input made).trace ≡ written) × ((seen p input made).stop ≡ Some (Ends n))
 Shown (Ok (Fault f)) p input most made written = (bytes_of (seen p input made).trace ≡ written) × ((seen p input made).stop ≡ Some (Faults f))
@@ -31,7 +32,8 @@ Shown (Ok NoHeap) p input most made written = (bytes_of (seen p input made).trac
 Shown (Err Read) p input most made written = (bytes_of (seen p input made).trace ≡ written) × ReadsByte p (run_of p input made) × (made < most)
 Shown (Err Write) p input most made written = Starts (bytes_of (seen p input made).trace) written × Starts written (bytes_of (seen p input (suc made)).trace)
 
--- What was written is what the program means to print, and the stop is the one that it means; of a program that goes on, or was left where there was no room for an object, it is the first part.
+-- What was written is what the program means to print, and the stop is the one that it means; of a program that goes on, or was left where there was no room
+-- for an object, it is the first part.
 abbrev pub Meant : Result Stop IoFault → (written : List ℕ) → Sight → Type 0
 Meant (Ok (Ended n)) written m = (bytes_of m.trace ≡ written) × (m.stop ≡ Some (Ends n))
 Meant (Ok (Fault f)) written m = (bytes_of m.trace ≡ written) × (m.stop ≡ Some (Faults f))
@@ -40,7 +42,7 @@ Meant (Ok NoHeap) written m = Starts written (bytes_of m.trace)
 Meant (Err f) written m = Starts written (bytes_of m.trace)
 
 -- A run of the code, of at most so many steps. It took some first bytes of the reader's known ones, and added what it wrote to the writer's known ones;
--- and whatever is behind the bytes that it took, the code takes exactly these, and shows what was written.
+-- and whatever comes after the bytes that it took, the code takes exactly these, and shows what was written.
 pub record RanCode (code : Program) (steps : ℕ) (answer : Result Stop IoFault) (in0 in1 out0 out1 : Option (List ℕ)) : Type 0 where
   pub made : ℕ
   pub within : made ≤ steps
@@ -84,6 +86,6 @@ Caused (Err (Refused r)) r0 r1 w0 w1 reader writer = (r1 ≡ r0) × (w1 ≡ w0)
 Caused (Err Memory) r0 r1 w0 w1 reader writer = (r1 ≡ r0) × (w1 ≡ w0)
 Caused (Ok stop) r0 r1 w0 w1 reader writer = (r1 ≡ r0) × (w1 ≡ w0)
 
--- what a refusal becomes: a want of memory is told as one
+-- what a refusal becomes: a want of memory is reported as one
 abbrev pub Becomes : Refusal → ToolFault → Type 0
 Becomes r f = (Names (codes "Memory") r × (f ≡ Memory)) ⊎ ((Names (codes "Memory") r → ⊥) × (f ≡ Refused r))

@@ -31,7 +31,8 @@ use Rattle.arc_tool.specs.Told.{Tells}
 abbrev pub IsTooLarge : resolved.Program → Type 0
 IsTooLarge P = most_instrs < length (lowered P)
 
--- The refusal tells the fault of a stage, all stages before which have nothing to refuse. A stage to which memory is refused has a fault of its own for that, which says no more of the source.
+-- The refusal reports the fault of a stage, all stages before which have nothing to refuse. A stage to which memory is refused has a fault of its own for that,
+-- which says no more of the source.
 pub data IsRefusal (source : List ℕ) (r : Refusal) : Type 0 where
   in_lexing : (f : LexFault) → lexing.IsLexFault source f → Tells (lexing.fault_number f) (lexing.fault_name f) (lexing.fault_at f) r → IsRefusal source r
   in_parsing : (f : ParseFault) (tokens : List Tok) → Tokens source tokens → parsing.IsRefused tokens f

@@ -48,7 +48,8 @@ Lists contents failed source (Err (Refused r)) o0 o1 = IsRefusal source r × (o1
 Lists contents failed source (Err Memory) o0 o1 = o1 ≡ o0
 Lists contents failed source (Err _) o0 o1 = ⊥
 
--- `run` and `trace` answer what `run_text` and `trace_text` do, with the low 8 bits of the number with which the program ends as the status; where nothing was run, all devices are as they were
+-- `run` and `trace` answer what `run_text` and `trace_text` do, with the low 8 bits of the number with which the program ends as the status; where nothing was
+-- run, all devices are as they were
 abbrev pub RunsTo : List ℕ → Result ℕ Trouble → (answered : Result Stop ToolFault → Type 0) → (kept : Type 0) → Type 0
 RunsTo source (Ok s) answered kept = (n : ℤ) × (s ≡ low_byte n) × answered (Ok (stop.Ended n))
 RunsTo source (Err (Fault f)) answered kept = answered (Ok (stop.Fault f))
@@ -115,7 +116,7 @@ WriterBlamed (Err (Io Write)) w0 w1 writer = (w1 ≡ w0 + 1) × writer
 WriterBlamed (Err _) w0 w1 writer = w1 ≡ w0
 WriterBlamed (Ok s) w0 w1 writer = w1 ≡ w0
 
--- the status, and what is told: nothing, or trouble in one line, of which a failing device may take some first bytes alone
+-- the status, and what is written on standard error: nothing, or trouble in one line, of which a failing device may take some first bytes alone
 abbrev pub Reported : {E : Type 0} → (contents : E → Option (List ℕ)) → (teller_failed : Type 0) → Result ℕ Trouble → (status : ℕ) → (e0 e1 : Counted E) → Type 0
 Reported contents failed (Ok s) status e0 e1 = (status ≡ s) × (e1 ≡ e0)
 Reported contents failed (Err t) status e0 e1 = (status ≡ status_of t) × ((answer : Result (Unit {0}) IoFault) × Prints contents failed answer (line_of t) e0 e1)

@@ -1,4 +1,4 @@
--- The status with which the program ends, and the line that it tells, which are this project's own choice.
+-- The status with which the program ends, and the line that it writes on standard error, which are this project's own choice.
 use Rattle.std.specs.Prelude.{◌≡◌, ◌⊎◌, ℕ, List, ◌++◌, codes, decimal}
 use Rattle.arc_code.specs.Faulty as faulty
 use Rattle.arc_machine.specs.Told as stopped
@@ -36,7 +36,7 @@ message_of File = named (codes "io ") 93 (codes "File")
 abbrev pub line_of : Trouble → List ℕ
 line_of trouble = codes "arcc: " ++ message_of trouble ++ codes "\n"
 
--- what a refusal becomes: a want of memory is told as one
+-- what a refusal becomes: a want of memory is reported as one
 abbrev pub BecomesTrouble : Refusal → Trouble → Type 0
 BecomesTrouble r t = (Names (codes "Memory") r × (t ≡ Memory)) ⊎ ((Names (codes "Memory") r → ⊥) × (t ≡ Refused r))
 

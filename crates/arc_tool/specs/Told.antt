@@ -1,4 +1,4 @@
--- How a refusal is told, which is this project's own choice.
+-- How a refusal is reported, which is this project's own choice.
 use Rattle.std.specs.Prelude.{◌≡◌, ℕ, List}
 use Rattle.arc_tool.specs.declared.refusal.Refusal.{Refusal}
 

@@ -36,7 +36,8 @@ stop_seen (Stopped StepsUsed) = None
 stop_seen (Stopped NoHeap) = None
 stop_seen Unread = None
 
--- how many of the steps that were allowed a run made that was left so: all, where they are used, and fewer where the next one had no room for an object or broke
+-- how many of the steps that were allowed a run made that was left so: all, where they are used, and fewer where the next one had no room for an object or
+-- broke
 abbrev pub Within : Left → (made steps : ℕ) → Type 0
 Within (Stopped (Ended n)) made steps = made ≤ steps
 Within (Stopped (Fault f)) made steps = made ≤ steps
@@ -50,7 +51,8 @@ GoesOn (Stopped NoHeap) p r = MakesObject p r
 GoesOn Unread p r = ReadsByte p r
 GoesOn _ p r = ⊤
 
--- A run of so many steps of the code, which took some first bytes of the reader's known ones: whatever is behind these, it takes exactly these, shows these events, and is over where it was left so.
+-- A run of so many steps of the code, which took some first bytes of the reader's known ones: whatever comes after these, it takes exactly these, shows these
+-- events, and is over where it was left so.
 pub record Follows (code : Program) (made : ℕ) (left : Left) (in0 in1 : Option (List ℕ)) (events : List Event) : Type 0 where
   pub taken : List ℕ
   pub reads : Consumes in0 in1 taken
@@ -73,8 +75,8 @@ pub record Followed (code : Program) (names : List (List ℕ)) (steps : ℕ) (le
   pub written : Written (Ok tt) (events_text names false events) out0 out1 writes0 writes1 ⊤
   pub reader : Reads left reads0 reads1 reader_failed
 
--- Such a run, in which the writer failed within the lines of the last step's events: those of the steps before it were written whole, and some first bytes of its own.
--- No further step was made.
+-- Such a run, in which the writer failed within the lines of the last step's events: those of the steps before it were written whole, and some first bytes of
+-- its own. No further step was made.
 pub record Interrupted (code : Program) (names : List (List ℕ)) (steps : ℕ) (fault : IoFault) (in0 in1 out0 out1 : Option (List ℕ)) (writes0 writes1 : ℕ) (writer_failed : Type 0) : Type 0 where
   pub made : ℕ
   pub left : Left
@@ -96,7 +98,8 @@ Means (Stopped StepsUsed) events m = IsPrefix events m.trace
 Means (Stopped NoHeap) events m = IsPrefix events m.trace
 Means Unread events m = IsPrefix events m.trace
 
--- A run of the source's code, of so many steps, that was left so; whatever is behind the bytes that it took, its events and its stop are those of the program's meaning on that input, or the first ones. This is the text of them.
+-- A run of the source's code, of so many steps, that was left so; whatever comes after the bytes that it took, its events and its stop are those of the
+-- program's meaning on that input, or the first ones. This is the text of them.
 pub record Traced (source : List ℕ) (made : ℕ) (left : Left) (in0 in1 : Option (List ℕ)) (text : List ℕ) : Type 0 where
   pub code : Program
   pub compiled : Compiles source code
@@ -116,14 +119,16 @@ pub record BrokenOff (source : List ℕ) (steps : ℕ) (in0 in1 out0 out1 : Opti
 abbrev pub Tells : List ℕ → (out0 out1 : Option (List ℕ)) → (writes0 writes1 : ℕ) → (writer_failed : Type 0) → Type 0
 Tells text o0 o1 w0 w1 failed = (answer : Result (Unit {0}) IoFault) × Written answer text o0 o1 w0 w1 failed
 
--- The end of a text was written and passed on, and the answer is the run's; or the writer failed, and some first bytes of it were written. Where the reader failed before, that is the answer, whatever the writer does.
+-- The end of a text was written and passed on, and the answer is the run's; or the writer failed, and some first bytes of it were written. Where the reader
+-- failed before, that is the answer, whatever the writer does.
 abbrev pub EndsTrace : Left → (begun : Bool) → Result Stop ToolFault → (out0 out1 : Option (List ℕ)) → (writes0 writes1 : ℕ) → (writer_failed : Type 0) → Type 0
 EndsTrace (Stopped stop) begun (Ok answer) o0 o1 w0 w1 failed = (answer ≡ stop) × Written (Ok tt) (end_text begun (Stopped stop)) o0 o1 w0 w1 failed
 EndsTrace (Stopped stop) begun (Err (Io f)) o0 o1 w0 w1 failed = Written (Err f) (end_text begun (Stopped stop)) o0 o1 w0 w1 failed
 EndsTrace Unread begun (Err (Io Read)) o0 o1 w0 w1 failed = Tells (end_text begun Unread) o0 o1 w0 w1 failed
 EndsTrace _ begun _ o0 o1 w0 w1 failed = ⊥
 
--- What each answer says. The writer failed within the lines of the last step's events; or after the last step, with the text of a run that had stopped, or had made all the steps that were allowed.
+-- What each answer says. The writer failed within the lines of the last step's events; or after the last step, with the text of a run that had stopped, or had
+-- made all the steps that were allowed.
 abbrev pub AnsweredTrace : List ℕ → (steps : ℕ) → Result Stop ToolFault → (in0 in1 out0 out1 : Option (List ℕ)) → (writes0 writes1 : ℕ) → (writer_failed : Type 0) → Type 0
 AnsweredTrace source steps (Err (Refused r)) i0 i1 o0 o1 w0 w1 failed = IsRefusal source r × (Names (codes "Memory") r → ⊥)
 AnsweredTrace source steps (Err Memory) i0 i1 o0 o1 w0 w1 failed = Unit {0}

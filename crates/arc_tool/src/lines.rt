@@ -47,7 +47,7 @@ pub fn put_events<W: Output>(
     Ok(())
 }
 
-/// Whether a line of printed bytes is open behind the events.
+/// Whether a line of printed bytes is open after the events.
 pub fn open_after(begun: bool, events: &[Event]) -> bool
     ensures { result ≡ open_after begun events.now }
 {
@@ -58,7 +58,7 @@ pub fn open_after(begun: bool, events: &[Event]) -> bool
     line_is_open
 }
 
-/// Whether a line of printed bytes is open behind the event.
+/// Whether a line of printed bytes is open after the event.
 fn leaves_open(event: &Event) -> bool
     ensures { result ≡ leaves_open event.now }
 {

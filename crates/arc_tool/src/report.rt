@@ -1,4 +1,4 @@
-//! What is told on standard error, and the status with which the program ends.
+//! What is written on standard error, and the status with which the program ends.
 ghost use Rattle.std.specs.Prelude.{◌≡◌, ◌+◌, ◌-◌, ◌^◌, ◌<◌, ◌++◌, codes, decimal, IfErr, OnOk, OnErr};
 ghost use Rattle.std.specs.Io.KnownBytes.{Keeps};
 ghost use Rattle.arc_code.specs.Attempts.{HasFailedToWrite};
@@ -93,7 +93,7 @@ pub fn status(trouble: &Trouble) -> u8
     }
 }
 
-/// Tells the trouble in one line. The error is a failure of the writer; then some of the first bytes are written.
+/// Writes the trouble in one line. The error is a failure of the writer; then some of the first bytes are written.
 pub fn tell<E: Output>(trouble: &Trouble, errors: &mut Counted<E>) -> Result<(), IoFault>
     requires { failures_of errors.old < 2 ^ 64 - 1 }
     ensures { Written result (line_of trouble.now)

@@ -26,7 +26,7 @@ pub enum FileFault {
 }
 
 /// Does what the words ask for with the bytes of their file, which aren't looked at where the words were refused, and gives the status
-/// with which the program ends. Trouble is told in one line on `errors`, whose failures are ignored.
+/// with which the program ends. Trouble is written in one line on `errors`, whose failures are ignored.
 pub fn serve<R: Input, W: Output, E: Output>(
     alloc: Global,
     words: Result<Words, WordsFault>,
@@ -52,7 +52,7 @@ pub fn serve<R: Input, W: Output, E: Output>(
     }
 }
 
-/// Tells the trouble, and gives its status.
+/// Writes the trouble, and gives its status.
 fn report<E: Output>(trouble: &Trouble, errors: &mut Counted<E>) -> u8
     requires { failures_of errors.old < 2 ^ 64 - 1 }
     ensures { Reported E.contents (HasFailedToWrite E.writes E.flushes (inner_of errors.new))

@@ -1,4 +1,4 @@
--- What is told of expressions, statements and functions.
+-- The judgements on expressions: kinds, first broken rules, and how many objects are taken.
 use Rattle.std.specs.Prelude.{◌≡◌, ℕ, zero, suc, Bool, List, [], ◌∷◌, ◌++◌, Option, Some, None, false, is_none, option_map, nat_eq}
 use Rattle.arc_ast.specs.Tree.{ExprTree, ExprTrees}
 use Rattle.arc_class.specs.Broken.{first}
@@ -43,7 +43,7 @@ other_rule GetChar arguments = unless_so (nat_eq arguments 0) 45
 other_rule (Defined result wanted body) arguments = unless_so (nat_eq arguments wanted) 45
 other_rule Unknown arguments = Some 41
 
--- an expression's kind, where it has one, its static class, the first rule that is broken in it, and how many objects are taken behind it
+-- an expression's kind, where it has one, its static class, the first rule that is broken in it, and how many objects are taken after it
 pub record Judges (s : Scope) (before : Taken) (a : ExprTree) (judged : Judged) : Type 0 where
   pub kind : judged.kind ≡ kind_of s a
   pub class : option_map number_of_class judged.class ≡ class_of s a
@@ -55,7 +55,7 @@ pub record JudgesWhole (s : Scope) (a : ExprTree) (judged : Judged) : Type 0 whe
   pub kind : judged.kind ≡ kind_of s a
   pub fault : option_map told judged.fault ≡ first (broken_whole s a)
 
--- whether arguments suit these conversions, the first rule that is broken in them, where none may be a text, and how many objects are taken behind them
+-- whether arguments suit these conversions, the first rule that is broken in them, where none may be a text, and how many objects are taken after them
 pub record JudgesAll (s : Scope) (before : Taken) (printed : Bool) (wanted : List Part) (all : ExprTrees) (judged : Arguments) : Type 0 where
   pub fit : judged.fit ≡ fits wanted (kinds s all)
   pub fault : option_map told judged.fault ≡ first (broken_arguments s printed false all)
