@@ -35,8 +35,9 @@ pub data ResultTree : Type 0 where
   Value : TypeTree → ResultTree
 
 mutual
-  -- An expression, with the place of its first byte (C99, section 6.5). An integer has its value, and whether it has a suffix. An assignment has that of its `=` too, a field that of its name, and a message that of
-  -- its selector's first part, and to `super` that of `super`; a selector is written with all its colons.
+  -- An expression, with the place of its first byte (C99, section 6.5). An integer has its value, and whether it is written with a suffix. An assignment has the
+  -- place of its `=` too, a field that of its name, and a message that of its selector's first part, and to `super` that of `super`; a selector is written with
+  -- all its colons.
   pub data ExprTree : Type 0 where
     Integer : ℕ → ℤ → Bool → ExprTree
     Text : ℕ → List ℕ → ExprTree
