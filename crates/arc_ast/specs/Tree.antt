@@ -1,5 +1,5 @@
 -- Trees without where they lie in memory.
-use Rattle.std.specs.Prelude.{ℕ, ℤ, List, [], ◌∷◌, Option, option_map}
+use Rattle.std.specs.Prelude.{ℕ, ℤ, List, [], ◌∷◌, Bool, Option, option_map}
 use Rattle.arc_ast.specs.declared.tree.BinaryOperator.{BinaryOperator}
 use Rattle.arc_ast.specs.declared.tree.Sign.{Sign}
 use Rattle.arc_ast.specs.declared.tree.Visibility.{Visibility}
@@ -35,10 +35,11 @@ pub data ResultTree : Type 0 where
   Value : TypeTree → ResultTree
 
 mutual
-  -- An expression, with the place of its first byte (C99, section 6.5). An assignment has that of its `=` too, a field that of its name, and a message that of
-  -- its selector's first part, and to `super` that of `super`; a selector is written with all its colons.
+  -- An expression, with the place of its first byte (C99, section 6.5). An integer has its value, and whether it is written with a suffix. An assignment has the
+  -- place of its `=` too, a field that of its name, and a message that of its selector's first part, and to `super` that of `super`; a selector is written with
+  -- all its colons.
   pub data ExprTree : Type 0 where
-    Integer : ℕ → ℤ → ExprTree
+    Integer : ℕ → ℤ → Bool → ExprTree
     Text : ℕ → List ℕ → ExprTree
     Paren : ℕ → ExprTree → ExprTree
     Call : ℕ → List ℕ → ExprTrees → ExprTree
@@ -142,7 +143,7 @@ pub record UnitTree : Type 0 where
 
 -- the place of an expression's first byte
 abbrev pub begins : ExprTree → ℕ
-begins (Integer at _) = at
+begins (Integer at _ _) = at
 begins (Text at _) = at
 begins (Paren at _) = at
 begins (Call at _ _) = at
@@ -161,7 +162,7 @@ begins (SendSuper at _ _ _ _) = at
 -- the place at which an expression is told that breaks a rule: an assignment's `=`, a field's name, a message's first selector part, and else the first byte
 -- (this project's own choice)
 abbrev pub place : ExprTree → ℕ
-place (Integer at _) = at
+place (Integer at _ _) = at
 place (Text at _) = at
 place (Paren at _) = at
 place (Call at _ _) = at
@@ -190,7 +191,7 @@ result_tree (r.Value type) = Value (type_tree type)
 -- a tree doesn't keep.
 abbrev mutual
   pub expr_tree : Expr → ExprTree
-  expr_tree (e.Integer at value) = Integer at value
+  expr_tree (e.Integer at value suffixed) = Integer at value suffixed
   expr_tree (e.Text at bytes) = Text at bytes.items
   expr_tree (e.Paren' at q a) = Paren at (expr_tree a)
   expr_tree (e.Call' at name shape args) = Call at name.items (row_exprs args)

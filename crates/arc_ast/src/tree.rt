@@ -68,7 +68,8 @@ pub enum ResultType {
 /// An expression, with the place of its first byte; a call has that of its function's name.
 #[derive(Drop)]
 pub enum Expr {
-    Integer(usize, i64),
+    /// The value, and whether it was written with a suffix, which makes it long.
+    Integer(usize, i64, bool),
     /// The bytes that a text literal stands for.
     Text(usize, Vec<u8>),
     Paren(usize, Box<Expr>),

@@ -1,14 +1,14 @@
 -- Kinds of numbers.
-use Rattle.std.specs.Prelude.{ℤ, int_le, if◌then◌else◌}
+use Rattle.std.specs.Prelude.{ℤ, Bool, not, ◌&&◌, int_le, if◌then◌else◌}
 use Rattle.arc_ast.specs.declared.tree.Kind.{Kind}
 use Rattle.arc_ast.specs.declared.tree.Kind.TheVariants as k
 use Rattle.arc_ast.specs.declared.tree.BinaryOperator.{BinaryOperator}
 use Rattle.arc_ast.specs.declared.tree.BinaryOperator.TheVariants as o
 use Rattle.arc_check.specs.declared.rule.TheConstants.{LARGEST_INT}
 
--- a decimal integer is an int, where an int can hold it, and else a long (C99, section 6.4.4.1)
-abbrev pub literal_kind : ℤ → Kind
-literal_kind n = if int_le n LARGEST_INT then k.Int else k.Long
+-- an integer without a suffix is an int, where an int can hold it, and any other a long (C99, section 6.4.4.1; there are no unsigned kinds)
+abbrev pub literal_kind : ℤ → Bool → Kind
+literal_kind n suffixed = if int_le n LARGEST_INT && not suffixed then k.Int else k.Long
 
 -- the kind in which an operator computes: long, where an operand is long, and else int (C99, section 6.3.1.8)
 abbrev pub wider : Kind → Kind → Kind

@@ -155,7 +155,7 @@ sent_super s name all = to_super s.sign (super_kind s name) (unwrap_or (option_a
 -- section 6.5.3.3): an int or a long, which the promotions leave as it is (section 6.3.1.1).
 abbrev mutual
   pub resolved : Scope → ExprTree → Resolution
-  resolved s (Integer at n) = Gives (literal_kind n) (Number n)
+  resolved s (Integer at n suffixed) = Gives (literal_kind n suffixed) (Number n)
   resolved s (Text at bytes) = Gives k.Int (Number (pos 0))
   resolved s (Paren at a) = resolved s a
   resolved s (Call at name arguments) =

@@ -100,7 +100,7 @@ is_assignable _ = false
 -- kind (C99, section 6.5.16), and unary `+` and `-` that of their operand, a number (section 6.5.3.3).
 abbrev mutual
   pub kind_of : Scope → ExprTree → Option Kind
-  kind_of s (Integer at n) = Some (literal_kind n)
+  kind_of s (Integer at n suffixed) = Some (literal_kind n suffixed)
   kind_of s (Text at bytes) = None
   kind_of s (Paren at a) = kind_of s a
   kind_of s (Call at name arguments) = kind_if (is_none (call_rule (callee s.known name) arguments (kinds s arguments))) (result_kind (callee s.known name))

@@ -174,7 +174,9 @@ pub fn judge<'a>(
     ensures { Judges (seen table.now visible.now) before (expr_tree expr.now) result }
 {
     match expr {
-        Expr::Integer(_, value) => number(Some(literal_kind(*value)), None, before),
+        Expr::Integer(_, value, suffixed) => {
+            number(Some(literal_kind(*value, *suffixed)), None, before)
+        }
         Expr::Text(at, _) => number(None, Some(CheckFault::KindMismatch(*at)), before),
         Expr::Paren(_, inside) => judge(table, visible, before, inside),
         Expr::Call(at, name, arguments) => judge_call(table, visible, before, *at, name, arguments),

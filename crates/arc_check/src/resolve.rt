@@ -29,10 +29,10 @@ use arc_class::table::{ClassId, ClassTable};
 use std::alloc::{AllocError, Global};
 
 /// A resolved integer.
-fn integer(alloc: Global, number: &i64) -> Result<Typed, AllocError>
-    ensures { IfOk result (λ typed. (s : scopes.Scope) (at : ℕ) → Resolves s (Integer at number.now) typed) }
+fn integer(alloc: Global, number: &i64, suffixed: bool) -> Result<Typed, AllocError>
+    ensures { IfOk result (λ typed. (s : scopes.Scope) (at : ℕ) → Resolves s (Integer at number.now suffixed) typed) }
 {
-    let value = given(alloc, literal_kind(*number), Value::Number(*number))?;
+    let value = given(alloc, literal_kind(*number, suffixed), Value::Number(*number))?;
     Ok(Typed { class: None, value })
 }
 
@@ -72,7 +72,7 @@ pub fn expression<'a>(
     ensures { IfOk result (λ typed. Resolves (seen table.now visible.now) (expr_tree expr.now) typed) }
 {
     match expr {
-        Expr::Integer(_, number) => integer(alloc, number),
+        Expr::Integer(_, number, suffixed) => integer(alloc, number, *suffixed),
         Expr::Text(_, _) => text(alloc),
         Expr::Paren(_, inside) => expression(alloc, table, visible, inside),
         Expr::Call(_, name, arguments) => call(alloc, table, visible, name, arguments),

@@ -19,11 +19,11 @@ use arc_fault::check::CheckFault;
 /// The largest int.
 const LARGEST_INT: i64 = 2_147_483_647;
 
-/// The kind of an integer literal.
-pub fn literal_kind(number: i64) -> Kind
-    ensures { result ≡ kinds.literal_kind number }
+/// The kind of an integer literal, which may have a suffix.
+pub fn literal_kind(number: i64, suffixed: bool) -> Kind
+    ensures { result ≡ kinds.literal_kind number suffixed }
 {
-    if number <= LARGEST_INT {
+    if number <= LARGEST_INT && !suffixed {
         Kind::Int
     } else {
         Kind::Long
@@ -46,7 +46,7 @@ pub fn place(expr: &Expr) -> usize
     ensures { result ≡ tree.place (expr_tree expr.now) }
 {
     match expr {
-        Expr::Integer(at, _)
+        Expr::Integer(at, _, _)
         | Expr::Text(at, _)
         | Expr::Paren(at, _)
         | Expr::Call(at, _, _)

@@ -62,7 +62,7 @@ module _ (u : UnitTree) where
 
   mutual
     expr_is : (e : ExprTree) (m : Enclosing) (s : Scope) (need : Need) → first (broken_expr missing e) ≡ found (sites.sites m s need e)
-    expr_is (Integer at n) m s need = refl
+    expr_is (Integer at n suffixed) m s need = refl
     expr_is (Text at bytes) m s need = refl
     expr_is (Nil at) m s need = refl
     expr_is (Itself at) m s need = refl

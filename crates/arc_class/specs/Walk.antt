@@ -28,7 +28,7 @@ broken_type missing (t.Object at name) = broken_if (missing.classes name) at 22
 -- 30 UndefinedFunction: a call of a function that is declared and has no body, at its name (C99, section 6.9)
 abbrev mutual
   pub broken_expr : Missing → ExprTree → List Broken
-  broken_expr missing (Integer at n) = []
+  broken_expr missing (Integer at n _) = []
   broken_expr missing (Text at bytes) = []
   broken_expr missing (Paren at a) = broken_expr missing a
   broken_expr missing (Call at name arguments) = broken_if (missing.bodies name) at 30 ++ broken_exprs missing arguments

@@ -50,7 +50,7 @@ fn expression<'a>(source: &Source<'a>, expr: &'a Expr) -> Option<ClassFault>
     ensures { option_map told result ≡ first (broken_expr (missing_in source.now) (expr_tree expr.now)) }
 {
     match expr {
-        Expr::Integer(_, _)
+        Expr::Integer(_, _, _)
         | Expr::Text(_, _)
         | Expr::Nil(_)
         | Expr::Itself(_)

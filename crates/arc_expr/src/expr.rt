@@ -22,7 +22,7 @@ fn place_of(expr: &Expr) -> usize
     ensures { result ≡ begins (expr_tree expr.now) }
 {
     match expr {
-        Expr::Integer(at, _)
+        Expr::Integer(at, _, _)
         | Expr::Text(at, _)
         | Expr::Paren(at, _)
         | Expr::Call(at, _, _)

@@ -21,12 +21,12 @@ pub fn literal(alloc: Global, tokens: &[Token]) -> Read<'_, Expr>
         Some(
             (
                 Token {
-                    kind: TokenKind::Integer(value, false),
+                    kind: TokenKind::Integer(value, suffixed),
                     span,
                 },
                 rest,
             ),
-        ) => Ok((Expr::Integer(span.from, *value), rest)),
+        ) => Ok((Expr::Integer(span.from, *value, *suffixed), rest)),
         Some(
             (
                 Token {

@@ -1,5 +1,5 @@
 -- A token of each set of kinds.
-use Rattle.std.proofs.Common.{pos, true, false, List, [], ◌∷◌, if◌then◌else◌}
+use Rattle.std.proofs.Common.{pos, false, List, [], ◌∷◌, if◌then◌else◌}
 use Rattle.arc_lex.specs.declared.token.Mark.TheVariants as m
 use Rattle.arc_lex.specs.declared.token.Word.TheVariants as w
 use Rattle.arc_lex.specs.declared.token.AtWord.TheVariants as ats
@@ -9,7 +9,7 @@ use Rattle.arc_form.specs.Kinds.{Kind, Kinds, main_bytes, none, one, ◌∪◌, 
 -- one of each kind
 abbrev sorts : List Sort
 sorts =
-    Name [] ∷ Name main_bytes ∷ Integer (pos 0) false ∷ Integer (pos 0) true ∷ Text [] ∷ Key w.Bool ∷ Key w.No ∷ Key w.NsInteger ∷ Key w.Null ∷ Key w.Yes ∷
+    Name [] ∷ Name main_bytes ∷ Integer (pos 0) false ∷ Text [] ∷ Key w.Bool ∷ Key w.No ∷ Key w.NsInteger ∷ Key w.Null ∷ Key w.Yes ∷
     Key w.Auto ∷ Key w.Break ∷ Key w.Case ∷ Key w.Char ∷ Key w.Const ∷ Key w.Continue ∷ Key w.Default ∷
     Key w.Do ∷ Key w.Double ∷ Key w.Else ∷ Key w.Enum ∷ Key w.Extern ∷ Key w.Float ∷ Key w.For ∷ Key w.Goto ∷
     Key w.Id ∷ Key w.If ∷ Key w.Inline ∷ Key w.InstanceType ∷ Key w.Int ∷ Key w.Long ∷ Key w.Nil ∷

@@ -15,18 +15,13 @@ abbrev pub main_or_none : Bool → List ℕ
 main_or_none true = main_bytes
 main_or_none false = []
 
--- what a grammar knows of an integer: whether it has a suffix
-abbrev pub suffix_or_none : Bool → List ℕ
-suffix_or_none true = codes "L"
-suffix_or_none false = []
-
 -- The kind of a token: what a grammar tells apart. A word and a mark go by how they are written, an integer, a text and a name but `main` by what they are alone.
 abbrev pub Kind : Type 0
 Kind = ℕ × List ℕ
 
 abbrev pub kind : Sort → Kind
 kind (Name bytes) = (0, main_or_none (bytes_eq bytes main_bytes))
-kind (Integer value suffixed) = (1, suffix_or_none suffixed)
+kind (Integer value suffixed) = (1, [])
 kind (Text bytes) = (2, [])
 kind (Key word) = (3, word_bytes word)
 kind (At word) = (4, at_bytes word)

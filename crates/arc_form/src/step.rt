@@ -97,14 +97,14 @@ pub fn sees_reference(tokens: &[Token]) -> bool
     }
 }
 
-/// Whether the first token is an integer without a suffix, or a character.
+/// Whether the first token is an integer or a character.
 pub fn sees_integer(tokens: &[Token]) -> bool
     ensures { result ≡ sees kinds.integer (toks tokens.now) }
 {
     matches!(
         tokens.first(),
         Some(Token {
-            kind: TokenKind::Integer(_, false),
+            kind: TokenKind::Integer(_, _),
             ..
         })
     )

@@ -86,7 +86,7 @@ continued = map (λ (products, (sums, tests)) left. tests (sums (products left))
 -- ---- expressions (C99, section 6.5)
 
 abbrev pub literal_of : ℕ → Sort → ExprTree
-literal_of at (tokens.Integer value suffixed) = Integer at value
+literal_of at (tokens.Integer value suffixed) = Integer at value suffixed
 literal_of at (tokens.Text bytes) = Text at bytes
 literal_of at (tokens.Key w.SelfWord) = Itself at
 literal_of at _ = Nil at

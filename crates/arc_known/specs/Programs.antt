@@ -18,11 +18,11 @@ repeated (suc n) text = text ++ repeated n text
 abbrev pub forty_two : List ℕ
 forty_two = codes "int main(void) { printf(\"42\"); return 7; }"
 
--- Products before sums (C99, section 6.5, note 74), a quotient is cut off towards 0 (6.5.5), `%c` prints the low byte (7.19.6.1), an integer past the ints is a Long
+-- Products before sums (C99, section 6.5, note 74), a quotient is cut off towards 0 (6.5.5), `%c` prints the low byte (7.19.6.1), an integer with a suffix is a Long
 -- (6.4.4.1), and printf gives the number of its bytes (7.19.6.3).
 abbrev pub conversions : List ℕ
 conversions = codes "int main(void) {\n"
-    ++ codes "    return printf(\"%d %i|%c%%|%ld\\n\", 2 + 3 * 4, -7 / 2, 65 + 256, 2147483648 * 2);\n"
+    ++ codes "    return printf(\"%d %i|%c%%|%ld\\n\", 2 + 3 * 4, -7 / 2, 65 + 256, 2147483647L * 2 + 2);\n"
     ++ codes "}\n"
 
 -- Comments are blanks (C99, section 6.4.9), a line with `#import` is skipped (this project's own choice), a character is an int (6.4.4.4), and `0x` begins a hexadecimal

@@ -22,10 +22,6 @@ octal = codes "int main(void) { return 07; }"
 abbrev pub directive : List ℕ
 directive = codes "int main(void) { } @interfac"
 
--- an integer with a suffix, which no line of the grammar has yet
-abbrev pub suffixed : List ℕ
-suffixed = codes "int main(void) { return 1L; }"
-
 -- a statement without its `;` (C99, section 6.8.6)
 abbrev pub no_semicolon : List ℕ
 no_semicolon = codes "int main(void) { return 1 }"

@@ -56,7 +56,6 @@ pub fn refusals()
     ensures open_text { IsRefused refused.open_text 3 24 }
     ensures octal { IsRefused refused.octal 4 24 }
     ensures directive { IsRefused refused.directive 5 19 }
-    ensures suffixed { IsRefused refused.suffixed 11 24 }
     ensures no_semicolon { IsRefused refused.no_semicolon 11 26 }
     ensures no_brace { IsRefused refused.no_brace 11 26 }
     ensures too_deep { IsRefused refused.too_deep 12 215 }

@@ -43,7 +43,7 @@ fn inside<V: Visitor>(visitor: &mut V, enclosing: Enclosing, expr: &Expr)
     ensures { (scope : Scope) (need : Need) → V.found visitor.new ≡ found_from V.violations (V.found visitor.old) (sites.inside (enclosing_of enclosing.entry) scope need (expr_tree expr.now)) }
 {
     match expr {
-        Expr::Integer(_, _)
+        Expr::Integer(_, _, _)
         | Expr::Text(_, _)
         | Expr::Nil(_)
         | Expr::Itself(_)

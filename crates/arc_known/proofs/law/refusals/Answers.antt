@@ -24,10 +24,6 @@ pub returns-clause-directive : goal.returns-clause-directive
 unfolding reading
 returns-clause-directive c = by.refused refused.directive 5 19 refl refl
 
-pub returns-clause-suffixed : goal.returns-clause-suffixed
-unfolding reading
-returns-clause-suffixed c = by.refused refused.suffixed 11 24 refl refl
-
 pub returns-clause-no_semicolon : goal.returns-clause-no_semicolon
 unfolding reading
 returns-clause-no_semicolon c = by.refused refused.no_semicolon 11 26 refl refl
