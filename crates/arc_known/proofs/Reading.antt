@@ -25,7 +25,8 @@ use Rattle.arc_family.specs.Rules as ownership
 use Rattle.arc_spec.specs.declared.event.Event.{Event}
 use Rattle.arc_spec.specs.Correct.{Sight, Stop, meaning_seen}
 use Rattle.arc_spec.specs.Meaning.{mean}
-use Rattle.arc_known.specs.Known.{Spelled, HasTrace, IsRefused, in_tokens, in_tree, in_depth, in_rules, reported}
+use Rattle.arc_source.specs.Accepted.{Spelled}
+use Rattle.arc_known.specs.Known.{HasTrace, IsRefused, in_tokens, in_tree, in_depth, in_rules, reported}
 use Rattle.arc_known.proofs.Cutting.{tokens_of, cuts, fault_in, breaks}
 
 -- `unfolding reading` opens what the computing of a tree and its meaning calls
@@ -82,7 +83,7 @@ known source input turns events stop short e = go (tree_of source) refl e
     go None k f = cc
     go (Some tree) k f =
         let clear = unbroken (broken tree) (broken_unit tree) (ownership.broken tree) (meaning_seen (mean (resolved_unit tree) input turns)) _ f in
-        record { tree = tree; spelled = spelled source tree short k; declared = clear.0; checked = clear.1; owned = clear.2; shows = clear.3 }
+        record { program = record { tree = tree; spelled = spelled source tree short k; declared = clear.0; checked = clear.1; owned = clear.2 }; shows = clear.3 }
 
 -- ---- sources that are refused
 

@@ -1,39 +1,27 @@
 -- What a source shows when it runs, and why one is refused, from its bytes on.
-use Rattle.std.specs.Prelude.{◌≡◌, ℕ, List, [], Option, Some}
+use Rattle.std.specs.Prelude.{◌≡◌, ℕ, List, Option, Some}
 use Rattle.arc_lex.specs.Tokens.{Tok}
 use Rattle.arc_lex.specs.Source.{Tokens}
 use Rattle.arc_lex.specs.Faults.{fault_number, fault_of, IsFirst}
 use Rattle.arc_lex.specs.declared.piece.Rule.{Rule}
 use Rattle.arc_ast.specs.Tree.{UnitTree}
-use Rattle.arc_grammar.specs.Grammar.{these}
 use Rattle.arc_fault.specs.declared.parse.ParseFault.TheVariants.{Unexpected, TooDeep}
 use Rattle.arc_fault.specs.Parse.{report}
-use Rattle.arc_parse.specs.Refusal.{SpellsUnit, FitsNoneAt, TooDeepAt}
+use Rattle.arc_parse.specs.Refusal.{FitsNoneAt, TooDeepAt}
 use Rattle.arc_sites.specs.declared.violation.Violation.{Violation}
 use Rattle.arc_class.specs.Broken.{first}
 use Rattle.arc_class.specs.Classes.{or_else}
 use Rattle.arc_class.specs.ClassRules.{broken}
 use Rattle.arc_check.specs.Rules.{broken_unit}
-use Rattle.arc_check.specs.Resolving.{resolved_unit}
 use Rattle.arc_family.specs.Rules as ownership
 use Rattle.arc_spec.specs.declared.event.Event.{Event}
-use Rattle.arc_spec.specs.Correct.{Stop, meaning_seen}
-use Rattle.arc_spec.specs.Meaning.{mean}
+use Rattle.arc_spec.specs.Correct.{Stop}
+use Rattle.arc_source.specs.Accepted.{Spelled, Accepted, meant}
 
--- the source has tokens, which spell this tree within the limits
-pub record Spelled (source : List ℕ) (tree : UnitTree) : Type 0 where
-  pub tokens : List Tok
-  pub cut : Tokens source tokens
-  pub spelled : SpellsUnit these tree tokens
-
--- The source spells a tree that breaks no rule, and with so many turns of each loop its meaning on this input shows these events, and then stops so.
+-- The source is a program, and with so many turns of each loop its meaning on this input shows these events, and then stops so.
 pub record HasTrace (source input : List ℕ) (turns : ℕ) (events : List Event) (stop : Stop) : Type 0 where
-  pub tree : UnitTree
-  pub spelled : Spelled source tree
-  pub declared : broken tree ≡ []
-  pub checked : broken_unit tree ≡ []
-  pub owned : ownership.broken tree ≡ []
-  pub shows : meaning_seen (mean (resolved_unit tree) input turns) ≡ record { trace = events; stop = Some stop }
+  pub program : Accepted source
+  pub shows : meant program input turns ≡ record { trace = events; stop = Some stop }
 
 -- the violation that is reported: the first of those of the first stage that has some
 abbrev pub reported : UnitTree → Option Violation

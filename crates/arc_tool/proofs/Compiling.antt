@@ -26,7 +26,8 @@ use Rattle.arc_emit.specs.Faults as emitting
 use Rattle.arc_emit.specs.Emitted.{IsLarge}
 use Rattle.arc_code.specs.Running.{Program, seen, IsSound}
 use Rattle.arc_tool.specs.declared.refusal.Refusal.{Refusal}
-use Rattle.arc_tool.specs.Accepted.{Spelled, Accepted, program_meant, meant, Compiles, CompilesNamed, class_names}
+use Rattle.arc_source.specs.Accepted.{Spelled, Accepted, program_meant, meant}
+use Rattle.arc_tool.specs.Compiled.{Compiles, CompilesNamed, class_names}
 use Rattle.arc_tool.specs.Refused.{IsTooLarge, IsRefusal, too_large, no_memory}
 use Rattle.arc_tool.specs.Told.{Tells}
 

@@ -4,7 +4,7 @@ use Rattle.std.specs.Global.{Global}
 use Rattle.std.proofs.lemmas.List.{drop_more, map-append}
 use Rattle.arc_ast.specs.declared.tree.Interface.{Interface}
 use Rattle.arc_ast.specs.Tree.{interface_trees}
-use Rattle.arc_tool.specs.Accepted.{bytes_of_name}
+use Rattle.arc_tool.specs.Compiled.{bytes_of_name}
 
 -- one name more
 pub names_turn : (xs : List Interface) (k : ℕ) (x : Interface) (old new : List (Vec ℕ Global)) (name : Vec ℕ Global) (whole : List (List ℕ)) → k < length xs → x ≡ get_or xs k x → name.items ≡ x.name.items → new ≡ old ++ name ∷ []

@@ -26,7 +26,8 @@ use Rattle.arc_machine.specs.Runs.{Leaves, Writes, Moves, IsAsking, Runs, Lacks,
 use Rattle.arc_machine.specs.Steps.{bytes_of}
 use Rattle.arc_machine.proofs.Farther.{bytes_of-append}
 use Rattle.arc_tool.specs.declared.run.ToolFault.{ToolFault}
-use Rattle.arc_tool.specs.Accepted.{Compiles, meant}
+use Rattle.arc_source.specs.Accepted.{meant}
+use Rattle.arc_tool.specs.Compiled.{Compiles}
 use Rattle.arc_tool.specs.declared.refusal.Refusal.{Refusal}
 use Rattle.arc_tool.specs.Refused.{IsRefusal}
 use Rattle.arc_tool.specs.Progress.{run_of, MakesObject, ReadsByte}

@@ -17,7 +17,8 @@ use Rattle.arc_tool.specs.declared.lines.Left.TheVariants.{Stopped, Unread}
 use Rattle.arc_tool.specs.declared.refusal.Refusal.{Refusal}
 use Rattle.arc_tool.specs.declared.run.ToolFault.{ToolFault}
 use Rattle.arc_tool.specs.declared.run.ToolFault.TheVariants.{Refused, Memory, Io}
-use Rattle.arc_tool.specs.Accepted.{Compiles, CompilesNamed, class_names, meant}
+use Rattle.arc_source.specs.Accepted.{meant}
+use Rattle.arc_tool.specs.Compiled.{Compiles, CompilesNamed, class_names}
 use Rattle.arc_tool.specs.Lines.{trace_text, events_text, end_text}
 use Rattle.arc_tool.specs.Ran.{Becomes, Untouched}
 use Rattle.arc_tool.specs.Refused.{IsRefusal}

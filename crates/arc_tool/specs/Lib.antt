@@ -1,5 +1,5 @@
 pub mod Told
-pub mod Accepted
+pub mod Compiled
 pub mod Refused
 pub mod Progress
 pub mod Ran

@@ -24,7 +24,7 @@ use Rattle.arc_spec.specs.Resolved as resolved
 use Rattle.arc_lower.specs.Lowered.{lowered}
 use Rattle.arc_emit.specs.Emitted.{most_instrs}
 use Rattle.arc_tool.specs.declared.refusal.Refusal.{Refusal}
-use Rattle.arc_tool.specs.Accepted.{Spelled, Accepted, program_meant}
+use Rattle.arc_source.specs.Accepted.{Spelled, Accepted, program_meant}
 use Rattle.arc_tool.specs.Told.{Tells}
 
 -- the program becomes more actions than code may have instructions

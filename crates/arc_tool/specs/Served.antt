@@ -22,7 +22,8 @@ use Rattle.arc_tool.specs.declared.run.ToolFault.{ToolFault}
 use Rattle.arc_tool.specs.declared.run.ToolFault.TheVariants as tool_fault
 use Rattle.arc_tool.specs.declared.report.Trouble.{Trouble}
 use Rattle.arc_tool.specs.declared.report.Trouble.TheVariants.{Usage, Refused, Memory, Fault, NoHeap, StepsUsed, Io, File}
-use Rattle.arc_tool.specs.Accepted.{Accepted, Compiles}
+use Rattle.arc_source.specs.Accepted.{Accepted}
+use Rattle.arc_tool.specs.Compiled.{Compiles}
 use Rattle.arc_tool.specs.Refused.{IsRefusal}
 use Rattle.arc_tool.specs.Ran.{Answered}
 use Rattle.arc_tool.specs.Traced.{AnsweredTrace}

@@ -18,7 +18,8 @@ use Rattle.arc_tool.specs.declared.lines.Left.{Left}
 use Rattle.arc_tool.specs.declared.lines.Left.TheVariants.{Stopped, Unread}
 use Rattle.arc_tool.specs.declared.run.ToolFault.{ToolFault}
 use Rattle.arc_tool.specs.declared.run.ToolFault.TheVariants.{Refused, Memory, Io}
-use Rattle.arc_tool.specs.Accepted.{Compiles, class_names, meant}
+use Rattle.arc_source.specs.Accepted.{meant}
+use Rattle.arc_tool.specs.Compiled.{Compiles, class_names}
 use Rattle.arc_tool.specs.Lines.{trace_text, events_text, end_text, open_after}
 use Rattle.arc_tool.specs.Progress.{run_of, Takes, MakesObject, ReadsByte}
 use Rattle.arc_tool.specs.Refused.{IsRefusal}

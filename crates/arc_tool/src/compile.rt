@@ -2,7 +2,8 @@
 ghost use Rattle.std.specs.Prelude.{◌≡◌, ℕ, List, map, IfOk, IfErr};
 ghost use Rattle.arc_ast.specs.Tree.{unit_tree};
 ghost use Rattle.arc_code.specs.Running.{IsSound, program_of};
-ghost use Rattle.arc_tool.specs.Accepted.{Spelled, Compiles, CompilesNamed, class_names, bytes_of_name};
+ghost use Rattle.arc_source.specs.Accepted.{Spelled};
+ghost use Rattle.arc_tool.specs.Compiled.{Compiles, CompilesNamed, class_names, bytes_of_name};
 ghost use Rattle.arc_tool.specs.Refused.{IsRefusal};
 
 use crate::refusal::Refusal;

@@ -4,7 +4,7 @@ ghost use Rattle.std.specs.Fmt.{signed_decimal};
 ghost use Rattle.arc_code.specs.Attempts.{HasFailedToWrite};
 ghost use Rattle.arc_code.specs.Counting.{failures_of, inner_of, held_by};
 ghost use Rattle.arc_code.specs.Written.{Written};
-ghost use Rattle.arc_tool.specs.Accepted.{bytes_of_name};
+ghost use Rattle.arc_tool.specs.Compiled.{bytes_of_name};
 ghost use Rattle.arc_tool.specs.Lines.{Ended, digit, two_digits, name_at, line_text, left_text, opening, closing, event_text, leaves_open, events_text, open_after, end_text};
 
 use crate::report::{put, put_broken, put_fault, put_named};

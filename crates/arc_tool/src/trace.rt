@@ -7,7 +7,7 @@ ghost use Rattle.arc_code.specs.Written.{Written};
 ghost use Rattle.arc_machine.specs.Runs.{Lacks};
 ghost use Rattle.arc_machine.specs.Views.{fresh};
 ghost use Rattle.arc_machine.specs.declared.stop.Stop.TheVariants.{NoHeap};
-ghost use Rattle.arc_tool.specs.Accepted.{bytes_of_name};
+ghost use Rattle.arc_tool.specs.Compiled.{bytes_of_name};
 ghost use Rattle.arc_tool.specs.Ran.{Untouched};
 ghost use Rattle.arc_tool.specs.declared.lines.Left.TheVariants.{Stopped};
 ghost use Rattle.arc_tool.specs.Lines.{events_text, open_after};

@@ -1,7 +1,7 @@
 use Rattle.std.proofs.Common.{map}
 use Rattle.std.proofs.lemmas.Result.{err_from_is_err_and}
 use Rattle.arc_code.proofs.Parts.{wider, then_written}
-use Rattle.arc_tool.specs.Accepted.{bytes_of_name}
+use Rattle.arc_tool.specs.Compiled.{bytes_of_name}
 use Rattle.arc_tool.specs.Lines.{Ended, line_text, closing}
 use Rattle.arc_tool.proofs.lines.put_event.Goals as goal
 

@@ -1,7 +1,7 @@
 use Rattle.std.proofs.Common.{◌≡◌, ◌++◌, ℕ, List, drop, map, Ok}
 use Rattle.arc_code.specs.Counting.{failures_of, held_by}
 use Rattle.arc_code.specs.Written.{Written}
-use Rattle.arc_tool.specs.Accepted.{bytes_of_name}
+use Rattle.arc_tool.specs.Compiled.{bytes_of_name}
 use Rattle.arc_tool.specs.Lines.{events_text}
 use Rattle.arc_tool.proofs.lines.put_events.Given as goal
 

@@ -1,7 +1,7 @@
 use Rattle.std.proofs.Common.{sym, subst, ap}
 use Rattle.std.proofs.lemmas.Result.{err_from_is_err_and}
 use Rattle.arc_code.specs.Running.{Program}
-use Rattle.arc_tool.specs.Accepted.{Compiles}
+use Rattle.arc_tool.specs.Compiled.{Compiles}
 use Rattle.arc_tool.proofs.Running.{ran_source, refused_so}
 use Rattle.arc_tool.proofs.run.run_text.Goals as goal
 

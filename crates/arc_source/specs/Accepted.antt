@@ -1,6 +1,5 @@
--- When a source is a program, what it means, and when code does that.
-use Rattle.std.specs.Prelude.{◌≡◌, ℕ, List, [], ◌∷◌, map, codes, Vec}
-use Rattle.std.specs.Global.{Global}
+-- When a source is a program, and what it means.
+use Rattle.std.specs.Prelude.{◌≡◌, ℕ, List, []}
 use Rattle.arc_lex.specs.Tokens.{Tok}
 use Rattle.arc_lex.specs.Source.{Tokens}
 use Rattle.arc_ast.specs.Tree.{UnitTree}
@@ -12,8 +11,7 @@ use Rattle.arc_check.specs.Resolving.{resolved_unit}
 use Rattle.arc_family.specs.Rules as ownership
 use Rattle.arc_spec.specs.Resolved as resolved
 use Rattle.arc_spec.specs.Meaning.{mean}
-use Rattle.arc_spec.specs.Correct.{Behaves, Steady, Sight, meaning_seen}
-use Rattle.arc_code.specs.Running.{Program, seen, IsSound}
+use Rattle.arc_spec.specs.Correct.{Sight, meaning_seen}
 
 -- The source has tokens, which spell this tree within the limits.
 pub record Spelled (source : List ℕ) (tree : UnitTree) : Type 0 where
@@ -36,23 +34,3 @@ program_meant p = resolved_unit p.tree
 -- what is seen of its meaning on an input, with a bound on the turns of each loop
 abbrev pub meant : {source : List ℕ} → Accepted source → List ℕ → (bound : ℕ) → Sight
 meant p input bound = meaning_seen (mean (program_meant p) input bound)
-
--- The source is a program, and the code does what it means, on each input, and is never without what it needs.
-pub record Compiles (source : List ℕ) (code : Program) : Type 0 where
-  pub program : Accepted source
-  pub behaves : Behaves (meant program) (seen code)
-  pub steady : Steady (seen code)
-  pub sound : IsSound code
-
--- the names of the classes of a source, in the order of their numbers: the root's, which is built in, and then those of the interfaces
-abbrev pub class_names : UnitTree → List (List ℕ)
-class_names u = codes "NSObject" ∷ map (λ i. i.name) u.interfaces
-
--- a name, without where it lies in memory
-abbrev pub bytes_of_name : Vec ℕ Global → List ℕ
-bytes_of_name name = name.items
-
--- the same code, and the names of the source's classes
-pub record CompilesNamed (source : List ℕ) (code : Program) (names : List (List ℕ)) : Type 0 where
-  pub compiled : Compiles source code
-  pub named : names ≡ class_names compiled.program.tree

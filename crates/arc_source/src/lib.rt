@@ -1,0 +1,2 @@
+//! When a source is a program, and what it means: definitions alone.
+#![tactic(auto)]
