@@ -5,7 +5,7 @@ use Rattle.arc_spec.specs.Classes.{Class, class_at}
 use Rattle.arc_spec.specs.Number.{combined}
 use Rattle.arc_spec.specs.Holding.{Held}
 use Rattle.arc_code.specs.declared.instr.Op.{Op}
-use Rattle.arc_code.specs.declared.instr.Op.TheVariants.{Num, Bin, Un, Narrow, Pop, Get, Set, PrintNum, PrintByte, GetChar, Nil, HoldSelf, Hold, Forget, Alloc, GetField, SetField, Differ, IsObject}
+use Rattle.arc_code.specs.declared.instr.Op.TheVariants.{Num, Bin, Un, Narrow, Pop, Get, Set, PrintNum, PrintByte, GetChar, Declare, Nil, ReadSelf, ReadRef, Hold, Forget, Alloc, GetField, SetField, Differ, IsObject}
 use Rattle.arc_code.specs.Instructions.{State, or_fault, allocates, operates}
 use Rattle.arc_code.specs.Effects.{Effect, operation_effect, Follows, After}
 use Rattle.arc_code.proofs.Outcomes.{top_after, found_after, place_after, field_after, holds_after, forgets_after}

@@ -11,7 +11,7 @@ use Rattle.arc_spec.specs.Meaning.{most_levels}
 use Rattle.arc_spec.specs.Stepping.{Next, Goes, Asks, Ends, Faults, Stuck, Safe, Sound, Reached, Running, Ended, Faulted, Wedged, fed, follow, further, after_steps}
 use Rattle.arc_spec.specs.Holding.{Held, Frame, Calling, Ending, Counted, with_things, lowered}
 use Rattle.arc_code.specs.declared.instr.Instr.{Instr}
-use Rattle.arc_code.specs.declared.instr.Instr.TheVariants.{Plain, PrintText, Jump, JumpZero, Call, Send, SendSuper, SendTo, SendToSuper, Return, StoreStrong, Drop, Empty, EndStep}
+use Rattle.arc_code.specs.declared.instr.Instr.TheVariants.{Plain, PrintText, Jump, JumpZero, Call, Send, SendSuper, SendTo, SendToSuper, StoreStrong, Empty, DropAll, Return, EndStep}
 use Rattle.arc_code.specs.Instructions.{Program, State, start, has_level, enters, answers, operates, sends, sends_up, begins_end, releases, ends_object, runs_dealloc, ends_class, end_goes_on, leaves, executes, step, Fits, IsSound}
 use Rattle.arc_code.specs.Effects.{Effect, effect, operation_effect, FitsBetween, FitsAt, Follows, After, HeightsFit, room_for, HasAtMost, NeverHasMore}
 use Rattle.arc_code.proofs.Outcomes.{along_both, after_map, top_after, taken_after, found_after, chosen_after, if_after, object_after, place_after, holds_after}
