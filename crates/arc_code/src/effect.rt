@@ -103,7 +103,9 @@ pub fn instr_effect<J, F, T>(instr: &Instr<J, F, T>) -> Option<Effect>
     match instr {
         Instr::Plain(operation) => Some(operation_effect(*operation)),
         Instr::PrintText(_) => Some(on_numbers(1, 1)),
-        Instr::Jump(_) | Instr::Empty(_) | Instr::DropAll | Instr::EndStep => Some(on_numbers(0, 0)),
+        Instr::Jump(_) | Instr::Empty(_) | Instr::DropAll | Instr::EndStep => Some(on_numbers(
+            0, 0,
+        )),
         Instr::JumpZero(_) | Instr::Return => Some(on_numbers(1, 0)),
         Instr::Call(_) => Some(on_numbers(0, 1)),
         Instr::Send(_, takes) | Instr::SendSuper(_, _, takes) => {
