@@ -112,7 +112,7 @@ module _ (p : Program) (frames : List Frame) (bound : ℕ) (R : resolved.Program
   still_held may r w w1 h b = held_on may w.frame.temporaries w1.frame.temporaries r b.1 h
 
   -- and is there
-  is_used : (r : ℕ) (w : World) → Good w → IsHeld r w.frame.temporaries → IsThere w.objects r
+  pub is_used : (r : ℕ) (w : World) → Good w → IsHeld r w.frame.temporaries → IsThere w.objects r
   is_used r w g h = held_there w.objects w.frame.temporaries w.frame.strong w.waiting r h g.fine.there
 
   or_fault_runs : (good : ℤ → World → Type 0) (o : Option ℤ) (rs : List ℕ) (pc : ℕ) (all operands : List ℤ) (w : World) → ((v : ℤ) → good v w) → Runs (moves p) good bound (follow (recount (acting.or_fault o (at frames pc all (held_of rs w)) (framed operands w))) w.input w.trace) (above operands rs (pc + 1)) (or_fault o w)
