@@ -181,3 +181,10 @@ apart_dies objects k x (suc j) ne d = (d.0, set_other objects k j x (λ e. ne (a
 pub apart_dying : (objects : List Object) (k : ℕ) (x : Object) (all : List ℕ) → IsApart (suc k) all → AllDying objects all → AllDying (slice_set objects k x) all
 apart_dying objects k x [] apart d = tt
 apart_dying objects k x (o ∷ others) apart d = (apart_dies objects k x o apart.0 d.0, apart_dying objects k x others apart.1 d.1)
+
+-- nil doesn't end
+pub no_nil : (objects : List Object) → IsDying objects 0 → ⊥
+no_nil objects d = none d.1
+  where
+    none : None ≡ Some d.0 → ⊥
+    none e = cc
