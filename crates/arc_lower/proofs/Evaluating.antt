@@ -230,9 +230,9 @@ module _ (p : Program) (frames : List Frame) (bound : ℕ) (R : resolved.Program
   -- an order that gives a reference, which a temporary takes
   gives_segment : (x : Order) (may : Bool) (r : ℕ) (operands : List ℤ) (before rs : List ℕ) (w0 w : World) → IsThere w.objects r → Behind may w0 w → ((pc : ℕ) → recount (does p x (at frames pc (framed operands w) (held_of before w))) ≡ Goes (at frames (pc + 1) (framed operands w) (held_of (r ∷ rs) (takes r w))) []) → Segment p frames bound before (Referred true w0) (x ∷ []) (framed operands w) w (beside operands rs) (Done r (takes r w))
   gives_segment x may r operands before rs w0 w there h e = one_segment p frames bound before (Referred true w0) x (framed operands w) w (beside operands rs) (Done r (takes r w)) (λ pc. (
-      taken_behind may r w0 w there h,
-      subst (λ n. Leads (moves p) (follow n w.input w.trace) (running frames (r ∷ rs) (pc + 1) (framed operands w) (takes r w))) (sym (e pc)) (quiet p frames bound (r ∷ rs) (pc + 1) (framed operands w) (takes r w)),
-    ))
+    taken_behind may r w0 w there h,
+    subst (λ n. Leads (moves p) (follow n w.input w.trace) (running frames (r ∷ rs) (pc + 1) (framed operands w) (takes r w))) (sym (e pc)) (quiet p frames bound (r ∷ rs) (pc + 1) (framed operands w) (takes r w)),
+  ))
 
   nil_segment : (operands : List ℤ) (rs : List ℕ) (w : World) → Good w → Segment p frames bound rs (Referred false w) (Plain Nil ∷ []) (framed operands w) w (beside operands rs) (Done 0 w)
   nil_segment operands rs w g = one_segment p frames bound rs (Referred false w) (Plain Nil) (framed operands w) w (beside operands rs) (Done 0 w) (λ pc. ((g, nothing_taken false w, tt), quiet p frames bound (0 ∷ rs) (pc + 1) (framed operands w) w))

@@ -277,10 +277,7 @@ fn append_sent_to_super(
 {
     append(actions, Instr::Plain(Op::ReadSelf))?;
     append_values(alloc, actions, program, frame, arguments)?;
-    append(
-        actions,
-        Instr::SendToSuper(from, selector, arguments.len()),
-    )
+    append(actions, Instr::SendToSuper(from, selector, arguments.len()))
 }
 
 /// Appends the actions of an assignment to a field of an object, which is found first.
