@@ -22,7 +22,7 @@ use Rattle.arc_code.specs.declared.instr.Op.TheVariants.{Num, Bin, Un, Narrow, G
 use Rattle.arc_code.specs.declared.instr.Instr.TheVariants.{Plain, Call, Send, SendSuper, SendTo, SendToSuper}
 use Rattle.arc_code.specs.Effects.{passes}
 use Rattle.arc_lower.specs.Order.{Order}
-use Rattle.arc_lower.specs.Lowered.{value_count, value_takes, reference_takes, values_take, print_orders, get_orders, set_orders, fit_orders, read_orders, store_orders, number_of, slots_of, call_orders, value_orders, reference_orders, all_value_orders}
+use Rattle.arc_lower.specs.Lowered.{value_count, print_orders, get_orders, set_orders, fit_orders, read_orders, store_orders, number_of, slots_of, call_orders, value_orders, reference_orders, all_value_orders}
 use Rattle.arc_lower.proofs.CountsThere.{IsThere, AllThere, taken_there, changed_there, made_there, object_goes, named_goes, holds_goes}
 use Rattle.arc_lower.proofs.Leading.{Leads, leads_same, leads_step, Runs, leads_runs, then_runs, better_runs}
 use Rattle.arc_lower.proofs.Recounting.{fresh, recount, moves, at, held_of}
@@ -32,6 +32,7 @@ use Rattle.arc_lower.proofs.Stacking.{onto, Peels, peels_onto, get_onto, get_loc
 use Rattle.arc_lower.proofs.Printing.{print_passes}
 use Rattle.arc_lower.proofs.Fitting.{fit_passes}
 use Rattle.arc_lower.proofs.Standing.{ending, Fine, Alive, nil_alive, last_there, IsFramed, Kept, kept_framed, Took, took_none, took_both, took_more, IsHeld, last_held, held_on, held_there, get_front, made_dying, changed_dying}
+use Rattle.arc_lower.proofs.Taking.{value_takes, reference_takes, values_take}
 use Rattle.arc_lower.proofs.Releasing.{Ends, stays, variable_there, store_segment}
 
 read_next : (frames : List Frame) (rs : List ℕ) (pc : ℕ) (stack : List ℤ) (w : World) (i : List ℕ) (t : List Event) → fed (λ answer. fresh (onward (at frames pc stack (held_of rs w)) (byte_or_end answer ∷ stack))) i t ≡ running frames rs (pc + 1) (next_number i ∷ stack) (record w { input = after_next i; trace = t })

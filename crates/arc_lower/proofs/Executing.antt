@@ -17,7 +17,7 @@ use Rattle.arc_ir.specs.Acting as acting
 use Rattle.arc_code.specs.declared.instr.Op.TheVariants.{Num, Pop, Declare, Forget}
 use Rattle.arc_code.specs.declared.instr.Instr.TheVariants.{Plain, Jump, JumpZero, Return}
 use Rattle.arc_lower.specs.Order.{Order}
-use Rattle.arc_lower.specs.Lowered.{value_takes, reference_takes, keep_orders, declare_orders, store_orders, drop_orders, all_empty_orders, value_orders, reference_orders, whole_orders, whole_reference_orders, begin_orders, leave_orders, flat, command_block, commands_block, body_block}
+use Rattle.arc_lower.specs.Lowered.{keep_orders, declare_orders, store_orders, drop_orders, all_empty_orders, value_orders, reference_orders, whole_orders, whole_reference_orders, begin_orders, leave_orders, flat, command_block, commands_block, body_block}
 use Rattle.arc_lower.proofs.CountsThere.{AllThere, taken_there}
 use Rattle.arc_lower.proofs.Leading.{Leads, leads_same, leads_trans, leads_step, Runs, leads_runs, later_runs, fewer_runs, then_runs, better_runs}
 use Rattle.arc_lower.proofs.Recounting.{recount, moves, at, held_of}
@@ -26,6 +26,7 @@ use Rattle.arc_lower.proofs.Segments.{running, then_at, then_segment, one_segmen
 use Rattle.arc_lower.proofs.Stacking.{onto}
 use Rattle.arc_lower.proofs.Printing.{keep_passes}
 use Rattle.arc_lower.proofs.Standing.{last_there, Fine, Alive, IsFramed, Kept, Took}
+use Rattle.arc_lower.proofs.Taking.{value_takes, reference_takes, take_some, value_some, reference_some}
 use Rattle.arc_lower.proofs.Releasing.{stays, empties, emptied, store_segment, dropped_segment, empties_segment}
 use Rattle.arc_lower.proofs.Evaluating.{Deep, value_segment, reference_segment, above, beside, Behind, Referred, is_used}
 
@@ -97,19 +98,19 @@ module _ (p : Program) (frames : List Frame) (bound : ℕ) (R : resolved.Program
   whole_runs a w pc g has =
       let n = value_takes a in
       let xs = value_orders R slots names 0 a in
-      then_segment p frames bound rs (λ v w1. Behind p frames bound R slots names self (places before) below D deep alive n w w1) Good xs (drop_orders n) (vars w) w (above p frames bound R slots names self (places before) below D deep alive [] rs) valued (evaluated D a w) (λ v w1. then_do (all_dropped D w1) (λ _ w2. Done v w2)) (value_segment p frames bound R slots names self (places before) below D deep alive a [] rs w g.0) (λ v w1 h q has1.
+      then_segment p frames bound rs (λ v w1. Behind p frames bound R slots names self (places before) below D deep alive n w w1) Good xs (drop_orders xs) (vars w) w (above p frames bound R slots names self (places before) below D deep alive [] rs) valued (evaluated D a w) (λ v w1. then_do (all_dropped D w1) (λ _ w2. Done v w2)) (value_segment p frames bound R slots names self (places before) below D deep alive a [] rs w g.0) (λ v w1 h q has1.
       let stack = v ∷ vars w1 in
-      let end = q + length (drop_orders n) in
-      then_runs (moves p) (λ (done : Finished) w2. Kept frames (with_temporaries w1 []) w2) Good bound (running frames rs q stack w1) (stays p frames bound rs D deep.ends stack end) (valued end) (all_dropped D w1) (λ _ w2. Done v w2) (dropped_segment p frames bound rs D deep.ends n stack w1 (none_taken n w w1 g h.1) h.0.fine q has1) (λ done w2 k.
+      let end = q + length (drop_orders xs) in
+      then_runs (moves p) (λ (done : Finished) w2. Kept frames (with_temporaries w1 []) w2) Good bound (running frames rs q stack w1) (stays p frames bound rs D deep.ends stack end) (valued end) (all_dropped D w1) (λ _ w2. Done v w2) (dropped_segment p frames bound rs D deep.ends (take_some xs) stack w1 (λ e. none_taken n w w1 g h.1 (sym (value_some R slots names a 0) ∙ e)) h.0.fine q has1) (λ done w2 k.
       (dropped_calm w1 w2 h.0 k, leads_same (moves p) _ _ (ap (λ (f : world.Frame). running frames rs end (v ∷ onto f.locals below) w2) (sym k.frame))))) pc has
 
   -- a reference isn't used any more, and the temporaries are dropped, where there are some
-  drops_runs : (r : ℕ) (may : Bool) (w w1 : World) (q : ℕ) → Calm w → IsFramed frames slots names self (places before) w1.frame w1.waiting w1.objects → Took may w.frame.temporaries w1.frame.temporaries → HasAt p q (Plain Forget ∷ drop_orders may) → Runs (moves p) Good bound (running frames (r ∷ rs) q (vars w1) w1) (passed (q + length (Plain Forget ∷ drop_orders may))) (all_dropped D w1)
-  drops_runs r may w w1 q g h took has =
-      let end = q + 1 + length (drop_orders may) in
-      let e : end ≡ q + length (Plain Forget ∷ drop_orders may) = omega arith in
+  drops_runs : (r : ℕ) (xs : List Order) (may : Bool) (w w1 : World) (q : ℕ) → take_some xs ≡ may → Calm w → IsFramed frames slots names self (places before) w1.frame w1.waiting w1.objects → Took may w.frame.temporaries w1.frame.temporaries → HasAt p q (Plain Forget ∷ drop_orders xs) → Runs (moves p) Good bound (running frames (r ∷ rs) q (vars w1) w1) (passed (q + length (Plain Forget ∷ drop_orders xs))) (all_dropped D w1)
+  drops_runs r xs may w w1 q same g h took has =
+      let end = q + 1 + length (drop_orders xs) in
+      let e : end ≡ q + length (Plain Forget ∷ drop_orders xs) = omega arith in
       let dropped = better_runs (moves p) (λ (done : Finished) w2. Kept frames (with_temporaries w1 []) w2) Good bound (running frames rs (q + 1) (vars w1) w1) (stays p frames bound rs D deep.ends (vars w1) end) (passed end) (all_dropped D w1) (λ done w2 k.
-      (dropped_calm w1 w2 h k, ap (λ (f : world.Frame). running frames rs end (onto f.locals below) w2) (sym k.frame))) (dropped_segment p frames bound rs D deep.ends may (vars w1) w1 (none_taken may w w1 g took) h.fine (q + 1) has.1) in
+      (dropped_calm w1 w2 h k, ap (λ (f : world.Frame). running frames rs end (onto f.locals below) w2) (sym k.frame))) (dropped_segment p frames bound rs D deep.ends (take_some xs) (vars w1) w1 (λ e. none_taken may w w1 g took (sym same ∙ e)) h.fine (q + 1) has.1) in
       let s = at frames q (vars w1) (held_of (r ∷ rs) w1) in
       let next = Goes (at frames (q + 1) (vars w1) (held_of rs w1)) [] in
       let forgotten = leads_trans (moves p) (running frames (r ∷ rs) q (vars w1) w1) (follow next w1.input w1.trace) (running frames rs (q + 1) (vars w1) w1) (leads_step (moves p) s w1.input w1.trace next (ap recount (has.0 frames (vars w1) (held_of (r ∷ rs) w1)))) (quiet p frames bound rs (q + 1) (vars w1) w1) in
@@ -120,8 +121,8 @@ module _ (p : Program) (frames : List Frame) (bound : ℕ) (R : resolved.Program
   reference_runs a w pc g has =
       let n = reference_takes a in
       let xs = reference_orders R slots names 0 a in
-      then_segment p frames bound rs (Referred p frames bound R slots names self (places before) below D deep alive n w) Good xs (Plain Forget ∷ drop_orders n) (vars w) w (beside p frames bound R slots names self (places before) below D deep alive [] rs) passed (referred D a w) (λ _ w1. all_dropped D w1) (reference_segment p frames bound R slots names self (places before) below D deep alive a [] rs w g.0) (λ r w1 h q has1.
-      drops_runs r n w w1 q g h.0 h.1 has1) pc has
+      then_segment p frames bound rs (Referred p frames bound R slots names self (places before) below D deep alive n w) Good xs (Plain Forget ∷ drop_orders xs) (vars w) w (beside p frames bound R slots names self (places before) below D deep alive [] rs) passed (referred D a w) (λ _ w1. all_dropped D w1) (reference_segment p frames bound R slots names self (places before) below D deep alive a [] rs w g.0) (λ r w1 h q has1.
+      drops_runs r xs n w w1 q (reference_some R slots names a 0) g h.0 h.1 has1) pc has
 
   -- a variable begins
   begin_runs : (i : ℕ) (a : Reference) (w : World) (pc : ℕ) → Calm w → HasAt p pc (begin_orders R slots names i a) → Runs (moves p) Good bound (running frames rs pc (vars w) w) (passed (pc + length (begin_orders R slots names i a))) (begun D i a w)
@@ -129,7 +130,7 @@ module _ (p : Program) (frames : List Frame) (bound : ℕ) (R : resolved.Program
       let n = reference_takes a in
       let xs = reference_orders R slots names 0 a in
       let ys = store_orders names i in
-      let zs = Plain Forget ∷ drop_orders n in
+      let zs = Plain Forget ∷ drop_orders xs in
       then_segment p frames bound rs (Referred p frames bound R slots names self (places before) below D deep alive n w) Good xs (ys ++ zs) (vars w) w (beside p frames bound R slots names self (places before) below D deep alive [] rs) passed (referred D a w) (λ r w1. then_do (assigned D i r w1) (λ _ w2. all_dropped D w2)) (reference_segment p frames bound R slots names self (places before) below D deep alive a [] rs w g.0) (λ r w1 h q has1.
       let there = is_used p frames bound R slots names self (places before) below D deep alive r w1 h.0 h.2 in
       then_segment p frames bound (r ∷ rs) (λ (done : Finished) w2. Kept frames (stores i r w1) w2) Good ys zs (vars w1) w1 (stays p frames bound (r ∷ rs) D deep.ends (vars w1)) passed (assigned D i r w1) (λ _ w2. all_dropped D w2) (store_segment p frames bound rs D deep.ends r names i (vars w1) w1 h.0.strong there h.0.fine) (λ done w2 k q2 has2.
@@ -142,7 +143,7 @@ module _ (p : Program) (frames : List Frame) (bound : ℕ) (R : resolved.Program
         fine = k.fine;
       } in
       let took2 = subst (λ (f : world.Frame). Took n w.frame.temporaries f.temporaries) (sym k.frame) h.1 in
-      subst (λ s. Runs (moves p) Good bound (running frames (r ∷ rs) q2 s w2) (passed (q2 + length zs)) (all_dropped D w2)) same (drops_runs r n w w2 q2 g framed2 took2 has2)) q has1) pc has
+      subst (λ s. Runs (moves p) Good bound (running frames (r ∷ rs) q2 s w2) (passed (q2 + length zs)) (all_dropped D w2)) same (drops_runs r xs n w w2 q2 (reference_some R slots names a 0) g framed2 took2 has2)) q has1) pc has
 
   -- a jump leads there
   abbrev moved : Target → List ℤ → World → ℕ → Reached State

@@ -4,6 +4,7 @@ mod CountsThere
 mod CountsKept
 mod Recounting
 mod Standing
+mod Taking
 mod Releasing
 mod Rows
 mod Weights

@@ -11,7 +11,7 @@ use Rattle.arc_spec.specs.Stepping.{Next, Reached, on_found, follow}
 use Rattle.arc_code.specs.Instructions as instructions
 use Rattle.arc_ir.specs.Acting.{Program, State, keeps, has_level, begins_end, releases}
 use Rattle.arc_code.specs.declared.instr.Instr.TheVariants.{DropAll, StoreStrong, Empty}
-use Rattle.arc_lower.specs.Lowered.{drop_orders, store_orders, empty_orders, all_empty_orders}
+use Rattle.arc_lower.specs.Lowered.{store_orders, empty_orders, all_empty_orders}
 use Rattle.arc_lower.proofs.CountsPlaces.{tally, one_more_if, one_less_if, tally_nil, tally_same, holders_head, holders_append, holders_set, holders_nil, last_one}
 use Rattle.arc_lower.proofs.CountsThere.{IsThere, AllThere, fewer_there, rest_there, taken_there, place_there, object_goes, named_goes}
 use Rattle.arc_lower.proofs.Leading.{leads_same, leads_step, Runs, leads_runs, then_runs, better_runs}
@@ -168,7 +168,7 @@ module _ (p : Program) (frames : List Frame) (bound : ℕ) (rs : List ℕ) (D : 
       (drop_by k others ob less h0 stack w pc has (drops_run others stack pc has) there.1 (λ j. less_count c (suc k) j (places w1) (count j)) rest test refl)
 
   -- all temporaries, where there are some
-  pub dropped_segment : (takes : Bool) (stack : List ℤ) (w : World) → (takes ≡ false → w.frame.temporaries ≡ []) → Fine frames w.objects (places w) → Segment p frames bound rs (λ (done : Finished) w2. Kept frames (with_temporaries w []) w2) (drop_orders takes) stack w (stays stack) (all_dropped D w)
+  pub dropped_segment : (takes : Bool) (stack : List ℤ) (w : World) → (takes ≡ false → w.frame.temporaries ≡ []) → Fine frames w.objects (places w) → Segment p frames bound rs (λ (done : Finished) w2. Kept frames (with_temporaries w []) w2) (if takes then DropAll ∷ [] else []) stack w (stays stack) (all_dropped D w)
   dropped_segment true stack w none fine pc has = met_again w.frame.temporaries stack pc w has (drops_run w.frame.temporaries stack pc has) refl fine
   dropped_segment false stack w none fine pc has =
       let e : pc ≡ pc + 0 = omega arith in

@@ -1,7 +1,8 @@
 -- Which actions a checked program becomes. A function's variables lie on the stack, the first one deepest, and its operands above them. An expression leaves one
 -- number more on the stack, or one reference more, and a statement leaves both as they were. Temporaries hold what references name, and are dropped together, at
 -- the end of the full-expression.
-use Rattle.std.specs.Prelude.{ℕ, zero, suc, pred, ◌+◌, ◌-◌, ◌/◌, Bool, true, false, ◌||◌, nat_lt, if◌then◌else◌, pos, List, [], ◌∷◌, ◌++◌, length, take, drop, slice_index_or, Option, Some, None}
+use Rattle.std.specs.Prelude.{ℕ, zero, suc, pred, ◌+◌, ◌-◌, ◌/◌, Bool, nat_lt, if◌then◌else◌, pos, List, [], ◌∷◌, ◌++◌, length, take, drop, slice_index_or, Option, Some, None}
+use Rattle.std.specs.List.{list_any}
 use Rattle.arc_ast.specs.declared.tree.Kind.TheVariants as k
 use Rattle.arc_spec.specs.Resolved.{Piece, Bytes, Decimal, Character, Value, Number, ReadByte, Print, Negated, Combined, Converted, Local, Assigned, Invoked, Sent, SentSuper, SentTo, SentToSuper, Field, FieldAssigned, Reference, Itself, Variable, Stored, Made, Initialized, Values, no_values, and_value, Command, Sequence, Evaluate, EvaluateReference, Begin, Choose, Repeat, Commands, no_commands, and_command, Function, Program}
 use Rattle.arc_spec.specs.Resolved as resolved
@@ -10,42 +11,13 @@ use Rattle.arc_spec.specs.Classes.{Class}
 use Rattle.arc_spec.specs.Meaning.{function_at}
 use Rattle.arc_code.specs.declared.instr.Op.TheVariants.{Num, Bin, Un, Narrow, Pop, Get, Set, PrintNum, PrintByte, GetChar, Declare, Nil, ReadSelf, ReadRef, Hold, Forget, Alloc, GetField, SetField, Differ, IsObject}
 use Rattle.arc_code.specs.declared.instr.Instr.TheVariants.{Plain, PrintText, Jump, JumpZero, Call, Send, SendSuper, SendTo, SendToSuper, StoreStrong, Empty, DropAll, Return, EndStep}
-use Rattle.arc_code.specs.Effects.{passes}
+use Rattle.arc_code.specs.Effects.{effect, passes}
 use Rattle.arc_ir.specs.declared.action.Target.TheVariants.{Skip, Back, At}
 use Rattle.arc_lower.specs.Order.{Order}
 
 abbrev pub value_count : Values → ℕ
 value_count no_values = 0
 value_count (and_value a others) = suc (value_count others)
-
--- whether a temporary may be taken by an expression
-abbrev mutual
-  pub value_takes : Value → Bool
-  value_takes (Number n) = false
-  value_takes ReadByte = false
-  value_takes (Print pieces arguments) = values_take arguments
-  value_takes (Negated kind a) = value_takes a
-  value_takes (Combined operator kind a b) = value_takes a || value_takes b
-  value_takes (Converted kind a) = value_takes a
-  value_takes (Local i) = false
-  value_takes (Assigned i a) = value_takes a
-  value_takes (Invoked f arguments) = values_take arguments
-  value_takes (Sent a selector arguments) = value_takes a || values_take arguments
-  value_takes (SentSuper from selector arguments) = values_take arguments
-  value_takes (SentTo a selector arguments) = reference_takes a || values_take arguments
-  value_takes (SentToSuper from selector arguments) = true
-  value_takes (Field a class index) = reference_takes a
-  value_takes (FieldAssigned a class index b) = reference_takes a || value_takes b
-  value_takes (resolved.Differ a b) = reference_takes a || reference_takes b
-  value_takes (resolved.IsObject a) = reference_takes a
-
-  pub reference_takes : Reference → Bool
-  reference_takes resolved.Nil = false
-  reference_takes _ = true
-
-  pub values_take : Values → Bool
-  values_take no_values = false
-  values_take (and_value a others) = value_takes a || values_take others
 
 -- prints the first of so many values that lie below the count of bytes, the first one deepest; nothing where there is none
 abbrev pub conversion_orders : Order → (left : ℕ) → List Order
@@ -121,9 +93,13 @@ read_orders names i = if nat_lt i names then Plain (ReadRef i) ∷ [] else Plain
 abbrev pub store_orders : (names i : ℕ) → List Order
 store_orders names i = if nat_lt i names then StoreStrong i ∷ [] else []
 
--- drops the temporaries, where some may have been taken
-abbrev pub drop_orders : (takes : Bool) → List Order
-drop_orders takes = if takes then DropAll ∷ [] else []
+-- whether an order has a temporary take an object
+abbrev pub order_takes : Order → Bool
+order_takes x = nat_lt 0 (effect x).temporaries
+
+-- drops the temporaries behind orders that take some
+abbrev pub drop_orders : List Order → List Order
+drop_orders xs = if list_any order_takes xs then DropAll ∷ [] else []
 
 -- empties a variable, where there is one
 abbrev pub empty_orders : (names i : ℕ) → List Order
@@ -195,14 +171,20 @@ abbrev mutual
 
 -- full-expressions, whose temporaries are dropped at their end
 abbrev pub whole_orders : Program → (slots names : ℕ) → Value → List Order
-whole_orders P slots names a = value_orders P slots names 0 a ++ drop_orders (value_takes a)
+whole_orders P slots names a =
+    let xs = value_orders P slots names 0 a in
+    xs ++ drop_orders xs
 
 abbrev pub whole_reference_orders : Program → (slots names : ℕ) → Reference → List Order
-whole_reference_orders P slots names a = reference_orders P slots names 0 a ++ (Plain Forget ∷ [] ++ drop_orders (reference_takes a))
+whole_reference_orders P slots names a =
+    let xs = reference_orders P slots names 0 a in
+    xs ++ (Plain Forget ∷ [] ++ drop_orders xs)
 
 -- a variable begins with an object
 abbrev pub begin_orders : Program → (slots names i : ℕ) → Reference → List Order
-begin_orders P slots names i a = reference_orders P slots names 0 a ++ (store_orders names i ++ (Plain Forget ∷ [] ++ drop_orders (reference_takes a)))
+begin_orders P slots names i a =
+    let xs = reference_orders P slots names 0 a in
+    xs ++ (store_orders names i ++ (Plain Forget ∷ [] ++ drop_orders xs))
 
 -- leaves a function with so many variables of each kind: those that name objects are emptied, and its result, on top, is put in the place of the others
 abbrev pub leave_orders : (slots names : ℕ) → List Order

@@ -11,5 +11,4 @@ mod place;
 mod print;
 mod statement;
 mod stub;
-mod takes;
 mod variable;

@@ -1,9 +1,10 @@
 //! Actions for variables that name objects, for references and for temporaries.
-ghost use Rattle.std.specs.Prelude.{◌≡◌, ◌++◌, [], ◌∷◌, OnOk};
+ghost use Rattle.std.specs.Prelude.{◌≡◌, ◌++◌, [], ◌∷◌, OnOk, if◌then◌else◌};
+ghost use Rattle.std.specs.List.{list_any};
 ghost use Rattle.arc_code.specs.declared.instr.Op.TheVariants.{Forget};
-ghost use Rattle.arc_code.specs.declared.instr.Instr.TheVariants.{Plain};
-ghost use Rattle.arc_lower.specs.Order.{orders};
-ghost use Rattle.arc_lower.specs.Lowered.{declare_orders, read_orders, store_orders, drop_orders, empty_orders, all_empty_orders};
+ghost use Rattle.arc_code.specs.declared.instr.Instr.TheVariants.{Plain, DropAll};
+ghost use Rattle.arc_lower.specs.Order.{order, orders};
+ghost use Rattle.arc_lower.specs.Lowered.{declare_orders, read_orders, store_orders, order_takes, empty_orders, all_empty_orders};
 
 use crate::expression::append;
 use crate::variable::add_operands;
@@ -52,11 +53,33 @@ pub(crate) fn append_store(
     }
 }
 
-/// Appends the action that drops the temporaries, where some may have been taken.
-pub(crate) fn append_drops(actions: &mut Vec<Action>, takes: bool) -> Result<(), NoMemory>
-    ensures { OnOk result (orders actions.new.items ≡ orders actions.old.items ++ drop_orders takes) }
+/// Whether an action has a temporary take an object.
+fn takes(action: &Action) -> bool
+    ensures { result ≡ order_takes (order action.now) }
 {
-    if takes {
+    match action {
+        Instr::Plain(Op::ReadSelf | Op::ReadRef(_) | Op::Hold | Op::Alloc) => true,
+        _ => false,
+    }
+}
+
+/// Whether one of these actions has a temporary take an object.
+pub(crate) fn take_some(actions: &[Action]) -> bool
+    ensures { result ≡ list_any order_takes (orders actions.now) }
+{
+    for action in actions {
+        if takes(action) {
+            return true;
+        }
+    }
+    false
+}
+
+/// Appends the action that drops the temporaries, where some were taken.
+pub(crate) fn append_drops(actions: &mut Vec<Action>, taken: bool) -> Result<(), NoMemory>
+    ensures { OnOk result (orders actions.new.items ≡ orders actions.old.items ++ (if taken then DropAll ∷ [] else [])) }
+{
+    if taken {
         append(actions, Instr::DropAll)
     } else {
         Ok(())
@@ -64,12 +87,12 @@ pub(crate) fn append_drops(actions: &mut Vec<Action>, takes: bool) -> Result<(),
 }
 
 /// Appends the actions by which the last reference isn't used any more, and the temporaries are
-/// dropped, where some may have been taken.
-pub(crate) fn append_forget(actions: &mut Vec<Action>, takes: bool) -> Result<(), NoMemory>
-    ensures { OnOk result (orders actions.new.items ≡ orders actions.old.items ++ (Plain Forget ∷ [] ++ drop_orders takes)) }
+/// dropped, where some were taken.
+pub(crate) fn append_forget(actions: &mut Vec<Action>, taken: bool) -> Result<(), NoMemory>
+    ensures { OnOk result (orders actions.new.items ≡ orders actions.old.items ++ (Plain Forget ∷ [] ++ (if taken then DropAll ∷ [] else []))) }
 {
     append(actions, Instr::Plain(Op::Forget))?;
-    append_drops(actions, takes)
+    append_drops(actions, taken)
 }
 
 /// Appends the action that empties a variable, where there is one with this number.

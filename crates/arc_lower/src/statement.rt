@@ -7,8 +7,7 @@ ghost use Rattle.arc_lower.specs.Lowered.{whole_orders, whole_reference_orders, 
 
 use crate::expression::{append, append_reference, append_value};
 use crate::frame::{Body, Frame};
-use crate::place::{append_all_empty, append_drops, append_forget, append_store};
-use crate::takes::{reference_takes, value_takes};
+use crate::place::{append_all_empty, append_drops, append_forget, append_store, take_some};
 use arc_check::checked::{Checked, Command, Reference, Value};
 use arc_code::instr::{Instr, Op};
 use arc_ir::action::{Action, Target};
@@ -30,8 +29,10 @@ fn append_whole(
         names: body.names,
         operands: 0,
     };
+    let begin = actions.len();
     append_value(alloc, actions, program, frame, expression)?;
-    append_drops(actions, value_takes(expression))
+    let taken = take_some(&actions[begin..]);
+    append_drops(actions, taken)
 }
 
 /// Appends the actions of a full-expression that gives an object or nil.
@@ -49,8 +50,10 @@ fn append_whole_reference(
         names: body.names,
         operands: 0,
     };
+    let begin = actions.len();
     append_reference(alloc, actions, program, frame, expression)?;
-    append_forget(actions, reference_takes(expression))
+    let taken = take_some(&actions[begin..]);
+    append_forget(actions, taken)
 }
 
 /// Appends the actions by which a variable begins with an object or nil.
@@ -69,9 +72,11 @@ fn append_begin(
         names: body.names,
         operands: 0,
     };
+    let begin = actions.len();
     append_reference(alloc, actions, program, frame, expression)?;
+    let taken = take_some(&actions[begin..]);
     append_store(actions, body.names, index)?;
-    append_forget(actions, reference_takes(expression))
+    append_forget(actions, taken)
 }
 
 /// Appends the actions of a statement in a function.
