@@ -1,6 +1,7 @@
 //! Actions for variables that name objects, for references and for temporaries.
-ghost use Rattle.std.specs.Prelude.{◌≡◌, ◌++◌, [], ◌∷◌, OnOk, if◌then◌else◌};
+ghost use Rattle.std.specs.Prelude.{◌≡◌, ◌++◌, [], ◌∷◌, OnOk, nat_lt, if◌then◌else◌};
 ghost use Rattle.std.specs.List.{list_any};
+ghost use Rattle.arc_code.specs.Effects.{operation_effect};
 ghost use Rattle.arc_code.specs.declared.instr.Op.TheVariants.{Forget};
 ghost use Rattle.arc_code.specs.declared.instr.Instr.TheVariants.{Plain, DropAll};
 ghost use Rattle.arc_lower.specs.Order.{order, orders};
@@ -53,13 +54,28 @@ pub(crate) fn append_store(
     }
 }
 
+/// Whether an operation has a temporary take an object.
+fn operation_takes(operation: Op) -> bool
+    ensures { result ≡ nat_lt 0 (operation_effect operation).temporaries }
+{
+    match operation {
+        Op::ReadSelf | Op::ReadRef(_) | Op::Hold | Op::Alloc => true,
+        Op::Num(_) | Op::Bin(_, _) | Op::Un(_) | Op::Narrow(_) | Op::Pop | Op::Get(_) => false,
+        Op::Set(_) | Op::PrintNum | Op::PrintByte | Op::GetChar | Op::Declare | Op::Nil => false,
+        Op::Forget | Op::GetField(_, _) | Op::SetField(_, _) | Op::Differ | Op::IsObject => false,
+    }
+}
+
 /// Whether an action has a temporary take an object.
 fn takes(action: &Action) -> bool
     ensures { result ≡ order_takes (order action.now) }
 {
     match action {
-        Instr::Plain(Op::ReadSelf | Op::ReadRef(_) | Op::Hold | Op::Alloc) => true,
-        _ => false,
+        Instr::Plain(operation) => operation_takes(*operation),
+        Instr::PrintText(_) | Instr::Jump(_) | Instr::JumpZero(_) | Instr::Call(_) => false,
+        Instr::Send(_, _) | Instr::SendSuper(_, _, _) | Instr::SendTo(_, _) => false,
+        Instr::SendToSuper(_, _, _) | Instr::StoreStrong(_) | Instr::Empty(_) => false,
+        Instr::DropAll | Instr::Return | Instr::EndStep => false,
     }
 }
 
