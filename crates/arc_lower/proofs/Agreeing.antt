@@ -1,5 +1,5 @@
 -- A step shows the same and leads to the same, whatever is counted for nil, where each count is the number of places.
-use Rattle.std.proofs.Common.{◌≡◌, ℕ, zero, suc, ◌+◌, ◌-◌, Bool, true, false, ◌&&◌, nat_eq, if◌then◌else◌, ℤ, pos, List, [], ◌∷◌, Option, Some, None, slice_get, slice_set, refl, sym, ap, ◌∙◌}
+use Rattle.std.proofs.Common.{◌≡◌, ℕ, zero, suc, ◌+◌, ◌-◌, Bool, true, false, ◌&&◌, nat_eq, if◌then◌else◌, ℤ, List, [], ◌∷◌, Option, Some, None, slice_get, slice_set, refl, ap, ◌∙◌}
 use Rattle.arc_ast.specs.declared.tree.Sign.TheVariants as signs
 use Rattle.arc_spec.specs.declared.event.Fault.TheVariants.{Resurrected}
 use Rattle.arc_spec.specs.Classes.{Class, class_at, lookup, descends}
@@ -7,7 +7,7 @@ use Rattle.arc_spec.specs.Number.{combined, is_zero}
 use Rattle.arc_spec.specs.Meaning.{chosen}
 use Rattle.arc_spec.specs.Objects.{Object, Dying, object_at, with_object, in_phase, is_live}
 use Rattle.arc_spec.specs.Stepping.{Next, Goes, Faults, on_top, on_two, on_found, only_if}
-use Rattle.arc_spec.specs.Holding.{Held, Frame, Calling, Ending, Waiter, Counted, holders, all_places, is_there, all_nil, with_things, with_temporaries, with_variables, on_object, on_named, on_reference, taken_by, named, holds, declares, lets_go, on_left, on_field, with_names, resumed, gone_in}
+use Rattle.arc_spec.specs.Holding.{Held, Frame, Calling, Ending, Waiter, Counted, holders, all_places, is_there, all_nil, with_things, with_temporaries, with_variables, on_object, on_named, on_reference, named, declares, lets_go, on_left, on_field, with_names, resumed, gone_in}
 use Rattle.arc_ir.specs.Acting.{Action}
 use Rattle.arc_code.specs.declared.instr.Op.TheVariants.{Num, Bin, Un, Narrow, Pop, Get, Set, PrintNum, PrintByte, GetChar, Declare, Nil, ReadSelf, ReadRef, Hold, Forget, Alloc, GetField, SetField, Differ, IsObject}
 use Rattle.arc_code.specs.declared.instr.Instr.TheVariants.{Plain, PrintText, Jump, JumpZero, Call, Send, SendSuper, SendTo, SendToSuper, StoreStrong, Empty, DropAll, Return, EndStep}

@@ -12,8 +12,8 @@ use Rattle.arc_code.specs.Instructions as instructions
 use Rattle.arc_ir.specs.Acting.{Program, State, keeps, has_level, begins_end, releases}
 use Rattle.arc_code.specs.declared.instr.Instr.TheVariants.{DropAll, StoreStrong, Empty}
 use Rattle.arc_lower.specs.Lowered.{store_orders, empty_orders, all_empty_orders}
-use Rattle.arc_lower.proofs.CountsPlaces.{tally, one_more_if, one_less_if, tally_nil, tally_same, holders_head, holders_append, holders_set, holders_nil, last_one}
-use Rattle.arc_lower.proofs.CountsThere.{IsThere, AllThere, fewer_there, rest_there, taken_there, place_there, object_goes, named_goes}
+use Rattle.arc_lower.proofs.CountsPlaces.{tally, one_more_if, one_less_if, tally_nil, tally_same, holders_head, holders_append, holders_set, last_one}
+use Rattle.arc_lower.proofs.CountsThere.{IsThere, fewer_there, rest_there, taken_there, place_there, object_goes, named_goes}
 use Rattle.arc_lower.proofs.Leading.{leads_same, leads_step, Runs, leads_runs, then_runs, better_runs}
 use Rattle.arc_lower.proofs.Recounting.{recount, moves, at, counting, held_of}
 use Rattle.arc_lower.proofs.Doing.{bare, does, HasAt}

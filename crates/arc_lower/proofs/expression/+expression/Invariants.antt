@@ -1,7 +1,7 @@
 use Rattle.std.proofs.Common.{◌≡◌, suc, ◌+◌, ◌++◌, drop}
 use Rattle.arc_check.specs.Checked.{value, reference, values, program_of}
 use Rattle.arc_lower.specs.Order.{orders}
-use Rattle.arc_lower.specs.Lowered.{values_take, all_value_orders}
+use Rattle.arc_lower.specs.Lowered.{all_value_orders}
 use Rattle.arc_lower.proofs.Weights.{value_weight, reference_weight, values_weight}
 use Rattle.arc_lower.proofs.expression.+expression.Given as goal
 
