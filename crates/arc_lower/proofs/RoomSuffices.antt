@@ -11,7 +11,7 @@ use Rattle.arc_lower.proofs.HeightsFit.{heights_fit}
 use Rattle.arc_lower.proofs.Safety.{lowered_never_stuck}
 
 module _ (p : Program) (R : resolved.Program) (is : orders p.actions ≡ lowered R) (entries : p.entries ≡ entries_of R) (classes : p.classes ≡ classes_linked R) where
-  -- no run has more than the greatest heights on all levels
+  -- no run has more numbers, references and places than the greatest heights on all levels
   pub lowered_bounded : NeverHasMore (linked p) (room_for (greatest_height R).numbers) (room_for (greatest_height R).names) (room_for (places_in (greatest_height R)))
   lowered_bounded = never_more (linked p) (height_at R) (greatest_height R).numbers (greatest_height R).names (places_in (greatest_height R)) (heights_fit p R is entries classes)
 
