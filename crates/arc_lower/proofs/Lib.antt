@@ -31,5 +31,6 @@ mod Programs
 mod HeightsFit
 mod Safety
 mod RoomSuffices
+mod Agreeing
 mod Transferring
 mod Whole

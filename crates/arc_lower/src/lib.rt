@@ -11,4 +11,5 @@ mod place;
 mod print;
 mod statement;
 mod stub;
+mod takes;
 mod variable;

@@ -7,7 +7,8 @@ ghost use Rattle.arc_lower.specs.Lowered.{whole_orders, whole_reference_orders, 
 
 use crate::expression::{append, append_reference, append_value};
 use crate::frame::{Body, Frame};
-use crate::place::{append_all_empty, append_drops, append_store};
+use crate::place::{append_all_empty, append_drops, append_forget, append_store};
+use crate::takes::{reference_takes, value_takes};
 use arc_check::checked::{Checked, Command, Reference, Value};
 use arc_code::instr::{Instr, Op};
 use arc_ir::action::{Action, Target};
@@ -28,10 +29,9 @@ fn append_whole(
         slots: body.slots,
         names: body.names,
         operands: 0,
-        temporaries: 0,
     };
-    let taken = append_value(alloc, actions, program, frame, expression)?;
-    append_drops(actions, taken)
+    append_value(alloc, actions, program, frame, expression)?;
+    append_drops(actions, value_takes(expression))
 }
 
 /// Appends the actions of a full-expression that gives an object or nil.
@@ -48,10 +48,9 @@ fn append_whole_reference(
         slots: body.slots,
         names: body.names,
         operands: 0,
-        temporaries: 0,
     };
-    let taken = append_reference(alloc, actions, program, frame, expression)?;
-    append_drops(actions, taken)
+    append_reference(alloc, actions, program, frame, expression)?;
+    append_forget(actions, reference_takes(expression))
 }
 
 /// Appends the actions by which a variable begins with an object or nil.
@@ -69,11 +68,10 @@ fn append_begin(
         slots: body.slots,
         names: body.names,
         operands: 0,
-        temporaries: 0,
     };
-    let taken = append_reference(alloc, actions, program, frame, expression)?;
-    append_store(actions, body.names, taken.saturating_sub(1), index)?;
-    append_drops(actions, taken)
+    append_reference(alloc, actions, program, frame, expression)?;
+    append_store(actions, body.names, index)?;
+    append_forget(actions, reference_takes(expression))
 }
 
 /// Appends the actions of a statement in a function.
