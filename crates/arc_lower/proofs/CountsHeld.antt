@@ -15,12 +15,6 @@ pub record Counting (places : List ℕ) (h : Held) : Type 0 where
 abbrev pub Dropped : ℕ → Held → Type 0
 Dropped r h = Counting (r ∷ all_places h) h
 
-pub counted_all : (h : Held) → Counting (all_places h) h → Counted h
-counted_all h c = record { counted = c.counted; held = c.held }
-
-pub all_counted : (h : Held) → Counted h → Counting (all_places h) h
-all_counted h c = record { counted = c.counted; held = c.held }
-
 -- how many of all places name an object
 pub all_holders : (k : ℕ) (h : Held) → holders k (all_places h) ≡ holders k h.temporaries + holders k h.variables + holders k h.places
 all_holders k h = omega (arith, holders_append k (h.temporaries ++ h.variables) h.places, holders_append k h.temporaries h.variables)

@@ -62,8 +62,8 @@ module _ (p : Program) (R : resolved.Program) where
   own h e = fits h _ e (omega arith) (omega arith) (omega arith) (omega arith)
 
   -- a number is behind what gives one
-  gives_one : (pc : ℕ) (g : Height) (n : ℕ) → slice_get (table R) pc ≡ Some g → g.numbers ≡ n + 1 → 1 ≤ (height_at R pc).numbers
-  gives_one pc g n next e = let same = ap (λ (x : Height). x.numbers) (there pc g next) in omega (arith, same, e)
+  gives_one : (pc : ℕ) (g : Height) → slice_get (table R) pc ≡ Some g → 1 ≤ g.numbers → 1 ≤ (height_at R pc).numbers
+  gives_one pc g next some = let same = ap (λ (x : Height). x.numbers) (there pc g next) in omega (arith, same, some)
 
   module _ (begun : (f : ℕ) → slots_of R f ≤ (height_at R (entry p f)).numbers) where
     order_fits : (pc : ℕ) (h : Height) (x : Order) → slice_get (table R) pc ≡ Some h → Steps R (all R) (table R) h pc x → FitsAt (bare p) (height_at R) pc x
@@ -74,11 +74,11 @@ module _ (p : Program) (R : resolved.Program) where
     order_fits pc h (Call f) now s = λ to found.
         let most : slots_of R f ≤ (height_at R to).numbers = subst (λ (q : ℕ). slots_of R f ≤ (height_at R q).numbers) (some_same (entry p f) to found) (begun f) in
         let e = on_numbers (height_at R to).numbers 1 in
-        (within pc (pc + 1) h (left R (Call f) h) e now s.1.0.height (fits h (left R (Call f) h) e (omega (arith, most)) (omega arith) (omega arith) (omega arith)), gives_one (pc + 1) _ _ s.1.0.height refl)
-    order_fits pc h (Send selector takes) now s = (within pc (pc + 1) h _ (order_effect (Send selector takes)) now s.1.0.height (own h (order_effect (Send selector takes))), gives_one (pc + 1) _ _ s.1.0.height refl)
-    order_fits pc h (SendSuper from selector takes) now s = (within pc (pc + 1) h _ (order_effect (SendSuper from selector takes)) now s.1.0.height (own h (order_effect (SendSuper from selector takes))), gives_one (pc + 1) _ _ s.1.0.height refl)
-    order_fits pc h (SendTo selector takes) now s = (within pc (pc + 1) h _ (order_effect (SendTo selector takes)) now s.1.0.height (own h (order_effect (SendTo selector takes))), gives_one (pc + 1) _ _ s.1.0.height refl)
-    order_fits pc h (SendToSuper from selector takes) now s = (within pc (pc + 1) h _ (order_effect (SendToSuper from selector takes)) now s.1.0.height (own h (order_effect (SendToSuper from selector takes))), gives_one (pc + 1) _ _ s.1.0.height refl)
+        (within pc (pc + 1) h (left R (Call f) h) e now s.1.0.height (fits h (left R (Call f) h) e (omega (arith, most)) (omega arith) (omega arith) (omega arith)), gives_one (pc + 1) (left R (Call f) h) s.1.0.height (omega arith))
+    order_fits pc h (Send selector takes) now s = (within pc (pc + 1) h _ (order_effect (Send selector takes)) now s.1.0.height (own h (order_effect (Send selector takes))), gives_one (pc + 1) (left R (Send selector takes) h) s.1.0.height (omega arith))
+    order_fits pc h (SendSuper from selector takes) now s = (within pc (pc + 1) h _ (order_effect (SendSuper from selector takes)) now s.1.0.height (own h (order_effect (SendSuper from selector takes))), gives_one (pc + 1) (left R (SendSuper from selector takes) h) s.1.0.height (omega arith))
+    order_fits pc h (SendTo selector takes) now s = (within pc (pc + 1) h _ (order_effect (SendTo selector takes)) now s.1.0.height (own h (order_effect (SendTo selector takes))), gives_one (pc + 1) (left R (SendTo selector takes) h) s.1.0.height (omega arith))
+    order_fits pc h (SendToSuper from selector takes) now s = (within pc (pc + 1) h _ (order_effect (SendToSuper from selector takes)) now s.1.0.height (own h (order_effect (SendToSuper from selector takes))), gives_one (pc + 1) (left R (SendToSuper from selector takes) h) s.1.0.height (omega arith))
     order_fits pc h (StoreStrong i) now s = within pc (pc + 1) h _ (order_effect (StoreStrong i)) now s.1.0.height (own h (order_effect (StoreStrong i)))
     order_fits pc h (Empty i) now s = within pc (pc + 1) h _ (order_effect (Empty i)) now s.1.height (own h (order_effect (Empty i)))
     order_fits pc h DropAll now s =

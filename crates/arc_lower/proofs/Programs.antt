@@ -8,7 +8,7 @@ use Rattle.arc_spec.specs.Resolved.{Function, Commands}
 use Rattle.arc_spec.specs.Resolved as resolved
 use Rattle.arc_spec.specs.Meaning.{function_at}
 use Rattle.arc_code.specs.declared.effect.Height.{Height}
-use Rattle.arc_code.specs.declared.instr.Op.TheVariants.{Num, Pop, Set}
+use Rattle.arc_code.specs.declared.instr.Op.TheVariants.{Num}
 use Rattle.arc_code.specs.declared.instr.Instr.TheVariants.{Plain, Jump, Call, Return, Empty, EndStep}
 use Rattle.arc_code.specs.Effects.{passes}
 use Rattle.arc_ir.specs.declared.action.Target.TheVariants.{At}

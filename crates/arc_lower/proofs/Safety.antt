@@ -14,12 +14,13 @@ use Rattle.arc_spec.specs.Objects.{Object, Dying, Gone, object_at, with_object, 
 use Rattle.arc_spec.specs.Resolved as resolved
 use Rattle.arc_spec.specs.Holding.{Held, Frame, Calling, Ending, Waiter, Counted, holders, is_there, all_places, with_temporaries, with_variables, with_names, with_things, lowered, raised, named, taken_by, gone_in, on_named, on_reference, on_field, declares, lets_go, entered, resumed, all_nil, on_left, makes, with_field}
 use Rattle.arc_spec.specs.Stepping.{Next, Goes, Asks, Ends, Faults, Stuck, Along, Safe, Sound, on_top, on_found, only_if}
-use Rattle.arc_ir.specs.Acting.{Action, Program, State, lands, start, step, entry, keeps, goes, or_fault, has_level, enters, answers, taken, sends, allocates, difference, operates, begins_end, releases, drops_all, ends_object, runs_dealloc, ends_class, end_goes_on, leaves, executes}
+use Rattle.arc_ir.specs.Acting.{Action, Program, State, lands, start, step, entry, keeps, goes, or_fault, has_level, enters, answers, taken, sends, allocates, difference, operates, begins_end, releases, runs_dealloc, ends_class, end_goes_on, leaves, executes}
 use Rattle.arc_code.specs.declared.effect.Height.{Height}
 use Rattle.arc_code.specs.declared.instr.Op.{Op}
 use Rattle.arc_code.specs.declared.instr.Op.TheVariants.{Num, Bin, Un, Narrow, Pop, Get, Set, PrintNum, PrintByte, GetChar, Declare, Nil, ReadSelf, ReadRef, Hold, Forget, Alloc, GetField, SetField, Differ, IsObject}
 use Rattle.arc_code.specs.declared.instr.Instr.TheVariants.{Plain, PrintText, Jump, JumpZero, Call, Send, SendSuper, SendTo, SendToSuper, StoreStrong, Empty, DropAll, Return, EndStep}
 use Rattle.arc_code.specs.Effects.{passes}
+use Rattle.arc_code.specs.Instructions as instructions
 use Rattle.arc_lower.specs.Order.{Order, order, orders}
 use Rattle.arc_lower.specs.Lowered.{slots_of, entries_of, end_step_of, lowered as lowered_orders, classes_linked}
 use Rattle.arc_lower.specs.Heights.{height}
@@ -28,7 +29,7 @@ use Rattle.arc_lower.proofs.CountsKept.{Sane, Drops, nothing_sane, sane_moved, s
 use Rattle.arc_lower.proofs.CountsHeld.{all_holders}
 use Rattle.arc_lower.proofs.CountsPlaces.{holders_head, holders_nil}
 use Rattle.arc_lower.proofs.Recounting.{at}
-use Rattle.arc_lower.proofs.Doing.{does, acts_does}
+use Rattle.arc_lower.proofs.Doing.{bare, does, acts_does}
 use Rattle.arc_lower.proofs.Standing.{ending, AllDying, IsDying, Alive, nil_alive, ending_alive, IsHeld, last_held, held_there, made_dying, changed_dying, IsApart, live_apart, apart_dying}
 use Rattle.arc_lower.proofs.Typing.{left, Reaches}
 use Rattle.arc_lower.proofs.Stepping.{some_same, Clears, opens_clears, Stands, Onward, Steps}
@@ -363,7 +364,7 @@ module _ (p : Program) (R : resolved.Program) where
 
     -- the temporaries are dropped, where there is no reference
     drops_lead : (temporaries : List ℕ) (pc : ℕ) (h : Height) (stack : List ℤ) (before held : Held) → held.temporaries ≡ temporaries → Stands R (all R) (table R) pc h → Goes_to (pc + 1) (record h { temporaries = 0 }) → ((k : ℕ) → Clear k pc → NilFrom k held.variables) → length stack ≡ h.numbers + below → 0 ≡ h.names → length temporaries ≤ h.temporaries → length held.variables ≡ h.variables → Owns [] held
-        → Leads (drops_all p (at frames pc stack before) temporaries held)
+        → Leads (instructions.drops_all (bare p) (at frames pc stack before) temporaries held)
     drops_lead [] pc h stack before held is stands g nil count size few many o = go_on (pc + 1) (record h { temporaries = 0 }) g stack held [] count size (let none = ap length is in omega (arith, none)) many o
     drops_lead (r ∷ others) pc h stack before held is stands g nil count size few many o =
         let held1 = with_temporaries held others in
@@ -401,8 +402,8 @@ module _ (p : Program) (R : resolved.Program) where
       -- behind an operation that leaves the variables as they are
       next : (nil : (k : ℕ) → Clear k pc → NilFrom k held.variables) (g : Height) → Onward R (all R) (table R) pc (pc + 1) g → (stack1 : List ℤ) (held1 : Held) (own1 : List ℕ) → held1.variables ≡ held.variables → length stack1 ≡ g.numbers + below → length own1 ≡ g.names → length held1.temporaries ≤ g.temporaries → h.variables ≡ g.variables → Owns own1 held1 → Good (at frames (pc + 1) stack1 held1)
       next nil g on stack1 held1 own1 same count1 size1 few1 many1 o1 =
-          let all = ap length same in
-          run_on (pc + 1) stack1 held1 own1 o1 (back (pc + 1) g on.0 (length stack1) own1 held1 (λ k c. subst (NilFrom k) (sym same) (⊎_elim (λ before. nil k before) (λ le. nil_from_end held.variables k (omega (arith, many, many1, le))) (on.1 k c))) count1 size1 few1 (omega (arith, all, many, many1)) o1.keeps)
+          let every = ap length same in
+          run_on (pc + 1) stack1 held1 own1 o1 (back (pc + 1) g on.0 (length stack1) own1 held1 (λ k c. subst (NilFrom k) (sym same) (⊎_elim (λ before. nil k before) (λ le. nil_from_end held.variables k (omega (arith, many, many1, le))) (on.1 k c))) count1 size1 few1 (omega (arith, every, many, many1)) o1.keeps)
 
       module _ (nil : (k : ℕ) → Clear k pc → NilFrom k held.variables) (x : Op) (g : Onward R (all R) (table R) pc (pc + 1) (left R (Plain x) h)) where
         abbrev to : Height
@@ -555,9 +556,9 @@ module _ (p : Program) (R : resolved.Program) where
           reference_leads r held.names (f.1 ++ deeper) _ (top_is r f.1 f.2) (found_leads held.variables i _ (omega (arith, many, st.0.1)) (λ old found. named_leads r held _ there
           (let held1 = raised r (with_variables held (slice_set held.variables i r)) in
           let long = length-set held.variables i r in
-          let all : length held1.variables ≡ (left R (StoreStrong i) h).variables = omega (arith, many, long) in
+          let every : length held1.variables ≡ (left R (StoreStrong i) h).variables = omega (arith, many, long) in
           releases_lead old pc stack held held1 own o.is o.places o.itself o.keeps (variable_there held i old found o.sane) o.dying (sane_store held i old r found there o.sane)
-          (subst (λ l. Resumes (pc + 1) self frames (length stack) below l deeper held.temporaries held1.variables waiting) (sym o.is) (back (pc + 1) (left R (StoreStrong i) h) st.1.0 (length stack) own held1 (goes_nil (pc + 1) (left R (StoreStrong i) h) st.1 held1.variables all) (omega (arith, count)) (omega (arith, size, st.0.0)) (omega (arith, few)) all o.keeps)))))
+          (subst (λ l. Resumes (pc + 1) self frames (length stack) below l deeper held.temporaries held1.variables waiting) (sym o.is) (back (pc + 1) (left R (StoreStrong i) h) st.1.0 (length stack) own held1 (goes_nil (pc + 1) (left R (StoreStrong i) h) st.1 held1.variables every) (omega (arith, count)) (omega (arith, size, st.0.0)) (omega (arith, few)) every o.keeps)))))
       order_leads (Empty i) is stands no_end nil st = found_leads held.variables i _ (omega (arith, many, st.0)) (λ r found.
           let held1 = raised 0 (with_variables held (slice_set held.variables i 0)) in
           let long = length-set held.variables i 0 in
