@@ -1,20 +1,20 @@
--- No run has more numbers or places than tables of heights that fit the program allow.
-use Rattle.std.proofs.Common.{◌≡◌, ℕ, zero, suc, ◌+◌, ◌-◌, ◌*◌, ◌≤◌, Bool, true, false, ◌&&◌, nat_eq, ℤ, List, [], ◌∷◌, length, Option, Some, None, refl, sym, ap, subst, arith, slice_get}
+-- No run has more numbers, references or places than a table of heights that fits the program allows.
+use Rattle.std.proofs.Common.{◌≡◌, ℕ, zero, suc, ◌+◌, ◌-◌, ◌*◌, ◌≤◌, Bool, true, false, nat_eq, ℤ, List, [], ◌∷◌, ◌++◌, length, drop, Option, Some, None, refl, sym, ap, subst, arith, slice_get, length-append, length-take, length-drop}
 use Rattle.std.proofs.lemmas.Bool.{ltb-true}
 use Rattle.std.proofs.lemmas.List.{length-set}
 use Rattle.arc_ast.specs.declared.tree.Sign.TheVariants as signs
 use Rattle.arc_spec.specs.declared.event.Event.{Event}
 use Rattle.arc_spec.specs.Classes.{Class, class_at, lookup}
-use Rattle.arc_spec.specs.Objects.{Dying, object_at, with_object, in_phase, is_live}
+use Rattle.arc_spec.specs.Objects.{Object, object_at}
 use Rattle.arc_spec.specs.Number.{is_zero}
 use Rattle.arc_spec.specs.Meaning.{most_levels}
 use Rattle.arc_spec.specs.Stepping.{Next, Goes, Asks, Ends, Faults, Stuck, Safe, Sound, Reached, Running, Ended, Faulted, Wedged, fed, follow, further, after_steps}
-use Rattle.arc_spec.specs.Holding.{Held, Frame, Calling, Ending, Counted, with_things, lowered}
+use Rattle.arc_spec.specs.Holding.{Held, Frame, Calling, Ending, Waiter, Counted, all_places, with_temporaries, with_names, lowered, resumed}
 use Rattle.arc_code.specs.declared.instr.Instr.{Instr}
-use Rattle.arc_code.specs.declared.instr.Instr.TheVariants.{Plain, PrintText, Jump, JumpZero, Call, Send, SendSuper, SendTo, SendToSuper, Return, StoreStrong, Drop, Empty, EndStep}
-use Rattle.arc_code.specs.Instructions.{Program, State, start, has_level, enters, answers, operates, sends, sends_up, begins_end, releases, ends_object, runs_dealloc, ends_class, end_goes_on, leaves, executes, step, Fits, IsSound}
-use Rattle.arc_code.specs.Effects.{Effect, effect, operation_effect, FitsBetween, FitsAt, Follows, After, HeightsFit, room_for, HasAtMost, NeverHasMore}
-use Rattle.arc_code.proofs.Outcomes.{along_both, after_map, top_after, taken_after, found_after, chosen_after, if_after, object_after, place_after, holds_after}
+use Rattle.arc_code.specs.declared.instr.Instr.TheVariants.{Plain, PrintText, Jump, JumpZero, Call, Send, SendSuper, SendTo, SendToSuper, StoreStrong, Empty, DropAll, Return, EndStep}
+use Rattle.arc_code.specs.Instructions.{Program, State, start, moved, has_level, enters, answers, operates, sends, begins_end, releases, drops_all, ends_object, runs_dealloc, ends_class, end_goes_on, leaves, executes, step, Fits, IsSound}
+use Rattle.arc_code.specs.Effects.{Effect, Height, of_names, on_numbers, operation_effect, no_height, FitsBetween, FitsCall, Follows, After, HeightsFit, room_for, HasAtMost, NeverHasMore}
+use Rattle.arc_code.proofs.Outcomes.{along_both, after_map, top_after, taken_after, found_after, chosen_after, if_after, object_after, named_after, reference_after, left_after, lets_go_after}
 use Rattle.arc_code.proofs.EffectsFollowed.{operation_follows}
 
 times_more : (n m : ℕ) → suc n * m ≡ m + n * m
@@ -25,189 +25,243 @@ times_rise zero k n le = omega arith
 times_rise (suc j) zero n le = absurd (omega (arith, le))
 times_rise (suc j) (suc k) n le = let h = times_rise j k n (omega (arith, le)) in let a = times_more j n in let b = times_more k n in omega (arith, h, a, b)
 
-module _ {J F T : Type 0} (p : Program J F T) (numbers places : ℕ → ℕ) (most_numbers most_places : ℕ) (fits : HeightsFit p numbers places most_numbers most_places) where
-  abbrev effect_of : Instr J F T → Effect
-  effect_of x = effect x
+-- what runs and what waits have together no more than the room
+below_room : (most own rest frames : ℕ) → own ≤ most → rest ≤ frames * most → frames ≤ most_levels → own + rest ≤ room_for most
+below_room most own rest frames few waits levels = omega (arith, few, waits, times_rise frames most_levels most levels, times_more most_levels most)
 
-  -- the numbers of what waits, and its places; a call gives a number, which isn't there yet
-  abbrev numbers_waiting : List Frame → ℕ
-  numbers_waiting [] = 0
-  numbers_waiting (Calling back self ∷ others) = numbers back - 1 + numbers_waiting others
-  numbers_waiting (Ending back self o next left ∷ others) = numbers back + numbers_waiting others
+all_length : (h : Held) → length (all_places h) ≡ length h.temporaries + length h.variables + length h.places
+all_length h = omega (arith, length-append (h.temporaries ++ h.variables) h.places, length-append h.temporaries h.variables)
 
-  abbrev places_waiting : List Frame → ℕ
-  places_waiting [] = 0
-  places_waiting (Calling back self ∷ others) = places back + places_waiting others
-  places_waiting (Ending back self o next left ∷ others) = places back + places_waiting others
+module _ {J F T : Type 0} (p : Program J F T) (height : ℕ → Height) (most_numbers most_names most_places : ℕ) (fits : HeightsFit p height most_numbers most_names most_places) where
+  -- the numbers, references and places of what waits; a call gives a number, which isn't there yet
+  abbrev numbers_of : Frame → ℕ
+  numbers_of (Calling back w) = (height back).numbers - 1
+  numbers_of (Ending back w o next left) = (height back).numbers
 
-  -- each call that waits has room for its number
-  abbrev HaveRoom : List Frame → Type 0
-  HaveRoom [] = Unit {0}
-  HaveRoom (Calling back self ∷ others) = (1 ≤ numbers back) × HaveRoom others
-  HaveRoom (Ending back self o next left ∷ others) = HaveRoom others
+  abbrev names_of : Frame → ℕ
+  names_of (Calling back w) = (height back).names
+  names_of (Ending back w o next left) = (height back).names
 
-  -- a state within the tables
+  abbrev places_of : Frame → ℕ
+  places_of (Calling back w) = w.temporaries + w.variables
+  places_of (Ending back w o next left) = w.temporaries + w.variables
+
+  abbrev waiting : (Frame → ℕ) → List Frame → ℕ
+  waiting f [] = 0
+  waiting f (x ∷ others) = f x + waiting f others
+
+  -- a function that waits goes on with no more places than it may have; each call that waits has room for its number
+  abbrev GoesOn : Height → Waiter → Type 0
+  GoesOn h w = (w.temporaries ≤ h.temporaries) × (w.variables ≤ h.variables)
+
+  abbrev Waits : Frame → Type 0
+  Waits (Calling back w) = (1 ≤ (height back).numbers) × GoesOn (height back) w
+  Waits (Ending back w o next left) = GoesOn (height back) w
+
+  abbrev AllWait : List Frame → Type 0
+  AllWait [] = Unit {0}
+  AllWait (x ∷ others) = Waits x × AllWait others
+
+  -- the running function has no more than this, above what waits
+  abbrev Above : Height → List Frame → List ℤ → Held → Type 0
+  Above h frames stack held =
+      (length stack ≤ h.numbers + waiting numbers_of frames) × (length held.names ≤ h.names + waiting names_of frames) × (length held.temporaries ≤ h.temporaries) × (length held.variables ≤ h.variables)
+      × (length held.places ≤ waiting places_of frames)
+
+  -- a state within the table
   pub record Within (s : State) : Type 0 where
-    pub numbers_within : length s.stack ≤ numbers s.at + numbers_waiting s.frames
-    pub places_within : length s.held.places ≤ places s.at + places_waiting s.frames
+    pub above : Above (height s.at) s.frames s.stack s.held
     pub levels : length s.frames ≤ most_levels
-    pub room : HaveRoom s.frames
+    pub waits : AllWait s.frames
 
   pub start_within : Within start
-  start_within = record { numbers_within = omega arith; places_within = omega arith; levels = omega arith; room = tt }
+  start_within = record { above = (omega arith, omega arith, omega arith, omega arith, omega arith); levels = omega arith; waits = tt }
+
+  -- what a function that waited has when it runs again
+  resumed_above : (h : Height) (w : Waiter) (held : Held) (stack : List ℤ) (others : List Frame) → length stack ≤ h.numbers + waiting numbers_of others → length held.names ≤ h.names + waiting names_of others
+      → length held.places ≤ w.temporaries + w.variables + waiting places_of others → GoesOn h w → Above h others stack (resumed w held)
+  resumed_above h w held stack others n r l g = (
+    n,
+    r,
+    omega (arith, g.0, length-take w.temporaries held.places),
+    omega (arith, g.1, length-take w.variables (drop w.temporaries held.places)),
+    omega (arith, l, length-drop w.temporaries held.places, length-drop w.variables (drop w.temporaries held.places)),
+  )
 
   -- ---- one step
 
   module _ (s : State) (w : Within s) where
     -- what follows an effect that fits
-    follows_within : (e : Effect) → FitsBetween p numbers places s.at (s.at + 1) e → (t : State) → Follows e s t → Within t
+    follows_within : (e : Effect) → FitsBetween (height s.at) (height (s.at + 1)) e → (t : State) → Follows e s t → Within t
     follows_within e fit t f =
-        let at = ap numbers f.at in
-        let at_place = ap places f.at in
-        let waiting = ap numbers_waiting f.frames in
-        let waiting_places = ap places_waiting f.frames in
-        let levels = ap length f.frames in
+        let above : Above (height (s.at + 1)) s.frames t.stack t.held = (
+          omega (arith, w.above.0, f.numbers, fit.numbers),
+          omega (arith, w.above.1, f.names, fit.names),
+          omega (arith, w.above.2, f.temporaries, fit.temporaries),
+          omega (arith, w.above.3, f.variables, fit.variables),
+          omega (arith, w.above.4, ap length f.places),
+        ) in
         record {
-          numbers_within = omega (arith, w.numbers_within, f.numbers, fit.0, at, waiting);
-          places_within = omega (arith, w.places_within, f.places, fit.1, at_place, waiting_places);
-          levels = omega (arith, w.levels, levels);
-          room = subst HaveRoom (sym f.frames) w.room;
+          above = subst (λ h. Above h t.frames t.stack t.held) (sym (ap height f.at)) (subst (λ frames. Above (height (s.at + 1)) frames t.stack t.held) (sym f.frames) above);
+          levels = omega (arith, w.levels, ap length f.frames);
+          waits = subst AllWait (sym f.frames) w.waits;
         }
 
-    -- at another instruction of the running function, with so many numbers and places
-    moved_within : (to : ℕ) (stack : List ℤ) (held : Held) (e : Effect) → FitsBetween p numbers places s.at to e → length stack + e.numbers_taken ≡ length s.stack + e.numbers_given → length held.places + e.places_taken ≡ length s.held.places + e.places_given → Within (record { at = to; stack = stack; frames = s.frames; held = held })
-    moved_within to stack held e fit n m = record { numbers_within = omega (arith, w.numbers_within, n, fit.0); places_within = omega (arith, w.places_within, m, fit.1); levels = w.levels; room = w.room }
+    -- at another instruction of the running function, with so many numbers
+    moved_within : (to : ℕ) (stack : List ℤ) (numbers_taken numbers_given : ℕ) → FitsBetween (height s.at) (height to) (on_numbers numbers_taken numbers_given) → length stack + numbers_taken ≡ length s.stack + numbers_given → Within (moved s to stack)
+    moved_within to stack numbers_taken numbers_given fit n = record {
+      above = (omega (arith, w.above.0, fit.numbers, n), omega (arith, w.above.1, fit.names), omega (arith, w.above.2, fit.temporaries), omega (arith, w.above.3, fit.variables), w.above.4);
+      levels = w.levels;
+      waits = w.waits;
+    }
 
-    -- a call of what begins with at least as many numbers as are passed
-    enters_within : (to self passed : ℕ) (b : Bool) → has_level s ≡ b → passed ≤ numbers to → numbers s.at + 1 ≤ numbers (s.at + 1) + passed → 1 ≤ numbers (s.at + 1) → places s.at ≤ places (s.at + 1) → After Within (enters s to self b)
-    enters_within to self passed false is begins fit room rest = tt
-    enters_within to self passed true is begins fit room rest =
-        let more = ltb-true (length s.frames) most_levels is in
-        record { numbers_within = omega (arith, w.numbers_within, begins, fit, room); places_within = omega (arith, w.places_within, rest); levels = omega (arith, more); room = (room, w.room) }
+    -- a call of what begins with at least as many numbers as are passed, where so many references are taken
+    module _ (names : List ℕ) (passed dropped : ℕ) (fit : FitsCall p height s.at (of_names passed 1 dropped)) (e : length names + dropped ≡ length s.held.names) where
+      enters_within : (to self : ℕ) (b : Bool) → has_level s ≡ b → passed ≤ (height to).numbers → After Within (enters (record s { held = with_names s.held names }) to self b)
+      enters_within to self false is begins = tt
+      enters_within to self true is begins = record {
+        above = (omega (arith, w.above.0, begins, fit.0.numbers, fit.1), omega (arith, w.above.1, e, fit.0.names), omega arith, omega arith, omega (arith, w.above.4, all_length s.held));
+        levels = let more = ltb-true (length s.frames) most_levels is in omega (arith, more);
+        waits = ((fit.1, (omega (arith, w.above.2, fit.0.temporaries), omega (arith, w.above.3, fit.0.variables))), w.waits);
+      }
 
-    answers_within : (self passed : ℕ) (found : Option ℕ) → ((to : ℕ) → found ≡ Some to → passed ≤ numbers to) → numbers s.at + 1 ≤ numbers (s.at + 1) + passed → 1 ≤ numbers (s.at + 1) → places s.at ≤ places (s.at + 1) → After Within (answers s self found)
-    answers_within self passed None begins fit room rest = tt
-    answers_within self passed (Some to) begins fit room rest = enters_within to self passed (has_level s) refl (begins to refl) fit room rest
+      answers_within : (self : ℕ) (found : Option ℕ) → ((to : ℕ) → found ≡ Some to → passed ≤ (height to).numbers) → After Within (answers (record s { held = with_names s.held names }) self found)
+      answers_within self None begins = tt
+      answers_within self (Some to) begins = enters_within to self (has_level s) refl (begins to refl)
 
-    sends_within : (self selector takes depth : ℕ) → FitsAt p numbers places s.at (SendTo depth selector takes) → After Within (sends p s self selector takes)
-    sends_within zero selector takes depth fit = taken_after Within takes s.stack _ (λ rest e. moved_within (s.at + 1) _ s.held (effect_of (SendTo depth selector takes)) fit.0 (omega (arith, e)) (omega arith))
-    sends_within (suc k) selector takes depth fit = object_after Within (object_at s.held.objects (suc k)) _ (λ o.
-        answers_within (suc k) takes (lookup p.classes (Some o.class) signs.Instance selector takes) (λ to found. fits.methods (Some o.class) signs.Instance selector takes to found) (omega (arith, fit.0.0)) fit.1 (omega (arith, fit.0.1)))
+    sends_within : (from : Object → ℕ) (self selector takes : ℕ) (names : List ℕ) → FitsCall p height s.at (of_names takes 1 1) → length s.held.names ≡ suc (length names) → After Within (sends p s from self selector takes names)
+    sends_within from zero selector takes names fit e = taken_after Within takes s.stack _ (λ rest m.
+        follows_within (of_names takes 1 1) fit.0 _ (record { numbers = omega (arith, m); names = omega (arith, e); temporaries = omega arith; variables = omega arith; places = refl; at = refl; frames = refl }))
+    sends_within from (suc k) selector takes names fit e = object_after Within (object_at s.held.objects (suc k)) _ (λ o.
+        answers_within names takes 1 fit (omega (arith, e)) (suc k) (lookup p.classes (Some (from o)) signs.Instance selector takes) (λ to found. fits.methods (Some (from o)) signs.Instance selector takes to found))
 
-    sends_up_within : (from self selector takes : ℕ) → FitsAt p numbers places s.at (SendToSuper from selector takes) → After Within (sends_up p s from self selector takes)
-    sends_up_within from zero selector takes fit = taken_after Within takes s.stack _ (λ rest e. moved_within (s.at + 1) _ s.held (effect_of (SendToSuper from selector takes)) fit.0 (omega (arith, e)) (omega arith))
-    sends_up_within from (suc k) selector takes fit =
-        answers_within (suc k) takes (lookup p.classes (Some from) signs.Instance selector takes) (λ to found. fits.methods (Some from) signs.Instance selector takes to found) (omega (arith, fit.0.0)) fit.1 (omega (arith, fit.0.1))
-
-    begins_end_within : (o class : ℕ) (h : Held) (b : Bool) → has_level s ≡ b → numbers s.at ≤ numbers (s.at + 1) → length h.places ≤ places (s.at + 1) + places_waiting s.frames → After Within (begins_end p s o class h b)
-    begins_end_within o class h false is n m = tt
-    begins_end_within o class h true is n m =
-        let more = ltb-true (length s.frames) most_levels is in
-        record { numbers_within = omega (arith, w.numbers_within, n); places_within = omega (arith, m); levels = omega (arith, more); room = w.room }
+    -- the end of an object begins, behind which the function goes on here
+    begins_end_within : (back o class : ℕ) (h : Held) (b : Bool) → has_level s ≡ b → Above (height back) s.frames s.stack h → After Within (begins_end p s back o class h b)
+    begins_end_within back o class h false is a = tt
+    begins_end_within back o class h true is a = record {
+      above = (omega (arith, a.0), omega (arith, a.1), omega arith, omega arith, omega (arith, a.4, all_length h));
+      levels = let more = ltb-true (length s.frames) most_levels is in omega (arith, more);
+      waits = ((a.2, a.3), w.waits);
+    }
 
     -- a place lets go of what it named
-    releases_within : (r : ℕ) (h : Held) → numbers s.at ≤ numbers (s.at + 1) → length h.places ≤ places (s.at + 1) + places_waiting s.frames → After Within (releases p s r h)
-    releases_within zero h n m = record { numbers_within = omega (arith, w.numbers_within, n); places_within = m; levels = w.levels; room = w.room }
-    releases_within (suc k) h n m = object_after Within (object_at h.objects (suc k)) _ (λ o.
-        if_after Within (is_live (Some o) && nat_eq (h.counts (suc k)) 1) _ _
-        (begins_end_within (suc k) o.class (with_things (lowered (suc k) h) (with_object h.objects (suc k) (in_phase Dying o))) (has_level s) refl n m)
-        (record { numbers_within = omega (arith, w.numbers_within, n); places_within = m; levels = w.levels; room = w.room }))
+    releases_within : (r : ℕ) (h : Held) → Above (height (s.at + 1)) s.frames s.stack h → After Within (releases p s r h)
+    releases_within r h a = lets_go_after Within r h _ _ (record { above = a; levels = w.levels; waits = w.waits }) (λ o. begins_end_within (s.at + 1) r o.class _ (has_level s) refl a)
 
-  -- what an end or a return does, where nothing of the running function is left but for so many numbers
+    -- the temporaries are dropped
+    drops_within : (temporaries : List ℕ) (h : Held) → h.temporaries ≡ temporaries → Above (height s.at) s.frames s.stack h → FitsBetween (record (height s.at) { temporaries = 0 }) (height (s.at + 1)) (on_numbers 0 0) → After Within (drops_all p s temporaries h)
+    drops_within [] h is a fit = record {
+      above = (omega (arith, a.0, fit.numbers), omega (arith, a.1, fit.names), omega (arith, ap length is), omega (arith, a.3, fit.variables), a.4);
+      levels = w.levels;
+      waits = w.waits;
+    }
+    drops_within (r ∷ others) h is a fit =
+        let fewer : Above (height s.at) s.frames s.stack (with_temporaries h others) = (a.0, a.1, omega (arith, ap length is, a.2), a.3, a.4) in
+        lets_go_after Within r (with_temporaries h others) _ _ (drops_within others (lowered r (with_temporaries h others)) refl fewer fit) (λ o. begins_end_within s.at r o.class _ (has_level s) refl fewer)
+
+  -- what an end or a return does, where nothing of the running function is left
   module _ (s : State) where
-    ends_object_within : (back self o : ℕ) (others : List Frame) → length s.stack ≤ numbers back + numbers_waiting others → length s.held.places ≤ places back + places_waiting others → suc (length others) ≤ most_levels → HaveRoom others → After Within (ends_object s back self o others)
-    ends_object_within back self o others n m l r = if_after Within (nat_eq (s.held.counts o) 0) _ _ (record { numbers_within = n; places_within = m; levels = omega (arith, l); room = r }) tt
+    abbrev Stands : List Frame → Type 0
+    Stands frames = Above no_height frames s.stack s.held × (length frames ≤ most_levels) × AllWait frames
 
-    runs_dealloc_within : (to : Option ℕ) (frames : List Frame) → numbers s.at ≤ 0 → places s.at ≤ 0 → length s.stack ≤ numbers_waiting frames → length s.held.places ≤ places_waiting frames → length frames ≤ most_levels → HaveRoom frames → After Within (runs_dealloc to s frames)
-    runs_dealloc_within None frames none no_place n m l r = record { numbers_within = omega (arith, n); places_within = omega (arith, m); levels = l; room = r }
-    runs_dealloc_within (Some to) frames none no_place n m l r = record { numbers_within = omega (arith, n); places_within = omega (arith, m); levels = l; room = r }
+    ends_object_within : (back : ℕ) (w : Waiter) (o : ℕ) (others : List Frame) → Stands (Ending back w o None 0 ∷ others) → After Within (ends_object s back w o others)
+    ends_object_within back w o others h = if_after Within (nat_eq (s.held.counts o) 0) _ _
+        (left_after Within s.held.temporaries s.held _ (λ _. record { above = resumed_above (height back) w s.held s.stack others (omega (arith, h.0.0)) (omega (arith, h.0.1)) (omega (arith, h.0.4)) h.2.0; levels = omega (arith, h.1); waits = h.2.1 })) tt
 
-    ends_class_within : (back self o : ℕ) (class : Option Class) (left : ℕ) (others : List Frame) → numbers s.at ≤ 0 → places s.at ≤ 0 → length s.stack ≤ numbers back + numbers_waiting others → length s.held.places ≤ places back + places_waiting others → suc (length others) ≤ most_levels → HaveRoom others → After Within (ends_class p s back self o class left others)
-    ends_class_within back self o None left others none no_place n m l r = ends_object_within back self o others n m l r
-    ends_class_within back self o (Some c) left others none no_place n m l r = runs_dealloc_within c.dealloc _ none no_place n m l r
+    runs_dealloc_within : (to : Option ℕ) (frames : List Frame) → Stands frames → After Within (runs_dealloc to s frames)
+    runs_dealloc_within None frames h = record { above = (omega (arith, h.0.0), omega (arith, h.0.1), omega (arith, h.0.2), omega (arith, h.0.3), h.0.4); levels = h.1; waits = h.2 }
+    runs_dealloc_within (Some to) frames h = record { above = (omega (arith, h.0.0), omega (arith, h.0.1), omega (arith, h.0.2), omega (arith, h.0.3), h.0.4); levels = h.1; waits = h.2 }
 
-    end_goes_on_within : (frames : List Frame) → numbers s.at ≤ 0 → places s.at ≤ 0 → length s.stack ≤ numbers s.at + numbers_waiting frames → length s.held.places ≤ places s.at + places_waiting frames → length frames ≤ most_levels → HaveRoom frames → After Within (end_goes_on p s frames)
-    end_goes_on_within [] none no_place n m l r = tt
-    end_goes_on_within (Calling back self ∷ others) none no_place n m l r = tt
-    end_goes_on_within (Ending back self o None left ∷ others) none no_place n m l r = ends_object_within back self o others (omega (arith, n, none)) (omega (arith, m, no_place)) l r
-    end_goes_on_within (Ending back self o (Some c) zero ∷ others) none no_place n m l r = ends_object_within back self o others (omega (arith, n, none)) (omega (arith, m, no_place)) l r
-    end_goes_on_within (Ending back self o (Some c) (suc left) ∷ others) none no_place n m l r =
-        ends_class_within back self o (slice_get p.classes c) left others none no_place (omega (arith, n, none)) (omega (arith, m, no_place)) l r
+    ends_class_within : (back : ℕ) (w : Waiter) (o : ℕ) (class : Option Class) (left : ℕ) (others : List Frame) → Stands (Ending back w o None 0 ∷ others) → After Within (ends_class p s back w o class left others)
+    ends_class_within back w o None left others h = ends_object_within back w o others h
+    ends_class_within back w o (Some c) left others h = runs_dealloc_within c.dealloc (Ending back w o c.superclass left ∷ others) h
 
-    leaves_within : (frames : List Frame) (v : ℤ) (rest : List ℤ) → s.frames ≡ frames → length s.stack ≡ suc (length rest) → numbers s.at ≤ 1 → places s.at ≤ 0 → length s.stack ≤ numbers s.at + numbers_waiting frames → length s.held.places ≤ places s.at + places_waiting frames → length frames ≤ most_levels → HaveRoom frames → After Within (leaves p s frames v rest)
-    leaves_within [] v rest is e one no_place n m l r = tt
-    leaves_within (Calling back self ∷ others) v rest is e one no_place n m l r = record { numbers_within = omega (arith, n, one, r.0); places_within = omega (arith, m, no_place); levels = omega (arith, l); room = r.1 }
-    leaves_within (Ending back self o next left ∷ others) v rest is e one no_place n m l r =
-        let waiting = ap numbers_waiting is in
-        let waiting_places = ap places_waiting is in
-        let size = ap length is in
-        record {
-          numbers_within = omega (arith, n, e, one, waiting);
-          places_within = omega (arith, m, no_place, waiting_places);
-          levels = omega (arith, l, size);
-          room = subst HaveRoom (sym is) r;
-        }
+    end_goes_on_within : (frames : List Frame) → Stands frames → After Within (end_goes_on p s frames)
+    end_goes_on_within [] h = tt
+    end_goes_on_within (Calling back w ∷ others) h = tt
+    end_goes_on_within (Ending back w o None left ∷ others) h = ends_object_within back w o others h
+    end_goes_on_within (Ending back w o (Some c) zero ∷ others) h = ends_object_within back w o others h
+    end_goes_on_within (Ending back w o (Some c) (suc left) ∷ others) h = ends_class_within back w o (slice_get p.classes c) left others h
+
+    leaves_within : (frames : List Frame) (v : ℤ) (rest : List ℤ) → Within s → s.frames ≡ frames → length s.stack ≡ suc (length rest) → s.held.temporaries ≡ [] → FitsBetween (record (height s.at) { variables = 0 }) no_height (on_numbers 1 0)
+        → After Within (leaves p s frames v rest (record s.held { variables = [] }))
+    leaves_within [] v rest within is e none fit = tt
+    leaves_within (Calling back w ∷ others) v rest within is e none fit =
+        let a = subst (λ frames. Above (height s.at) frames s.stack s.held) is within.above in
+        let waits = subst AllWait is within.waits in
+        record { above = resumed_above (height back) w s.held s.stack others (omega (arith, a.0, fit.numbers, waits.0.0)) (omega (arith, a.1, fit.names)) a.4 waits.0.1; levels = omega (arith, within.levels, ap length is); waits = waits.1 }
+    leaves_within (Ending back w o next left ∷ others) v rest within is e none fit = record {
+      above = (omega (arith, within.above.0, fit.numbers, e), omega (arith, within.above.1, fit.names), omega (arith, ap length none), omega arith, within.above.4);
+      levels = within.levels;
+      waits = within.waits;
+    }
 
   executes_within : (x : Option (Instr J F T)) (s : State) → slice_get p.instrs s.at ≡ x → Within s → After Within (executes p x s)
   executes_within None s is w = tt
   executes_within (Some (Plain o)) s is w = after_map _ Within (follows_within s w (operation_effect o) (fits.at s.at (Plain o) is)) (operates p.classes o s) (operation_follows p.classes s o)
-  executes_within (Some (PrintText t)) s is w = found_after Within (p.text t) _ (λ bytes _. top_after Within s.stack _ (λ count rest e. moved_within s w (s.at + 1) _ s.held (effect_of (PrintText t)) (fits.at s.at (PrintText t) is) (omega (arith, e)) (omega arith)))
-  executes_within (Some (Jump j)) s is w = moved_within s w (p.lands s.at j) s.stack s.held (effect_of (Jump j)) (fits.at s.at (Jump j) is) (omega arith) (omega arith)
+  executes_within (Some (PrintText t)) s is w = found_after Within (p.text t) _ (λ bytes _. top_after Within s.stack _ (λ count rest e. moved_within s w (s.at + 1) _ 1 1 (fits.at s.at (PrintText t) is) (omega (arith, e))))
+  executes_within (Some (Jump j)) s is w = moved_within s w (p.lands s.at j) s.stack 0 0 (fits.at s.at (Jump j) is) refl
   executes_within (Some (JumpZero j)) s is w =
       let fit = fits.at s.at (JumpZero j) is in
-      top_after Within s.stack _ (λ v rest e. chosen_after Within (is_zero v) _ _
-      (moved_within s w (s.at + 1) rest s.held (effect_of (JumpZero j)) fit.0 (omega (arith, e)) (omega arith))
-      (moved_within s w (p.lands s.at j) rest s.held (effect_of (JumpZero j)) fit.1 (omega (arith, e)) (omega arith)))
+      top_after Within s.stack _ (λ v rest e. chosen_after Within (is_zero v) _ _ (moved_within s w (s.at + 1) rest 1 0 fit.0 (omega (arith, e))) (moved_within s w (p.lands s.at j) rest 1 0 fit.1 (omega (arith, e))))
   executes_within (Some (Call f)) s is w =
-      let fit = fits.at s.at (Call f) is in
-      found_after Within (p.entry f) _ (λ to found. enters_within s w to 0 (numbers to) (has_level s) refl (omega arith) (fit.2 to found) fit.0 fit.1)
+      found_after Within (p.entry f) _ (λ to found. enters_within s w s.held.names (height to).numbers 0 (fits.at s.at (Call f) is to found) (omega arith) to 0 (has_level s) refl (omega arith))
   executes_within (Some (Send selector takes)) s is w =
-      let fit = fits.at s.at (Send selector takes) is in
-      found_after Within (slice_get s.stack takes) _ (λ self _. answers_within s w 0 (suc takes) (lookup p.classes (class_at self) signs.Class selector takes) (λ to found. fits.methods (class_at self) signs.Class selector takes to found) (omega (arith, fit.0.0)) fit.1 (omega (arith, fit.0.1)))
+      found_after Within (slice_get s.stack takes) _ (λ self _. answers_within s w s.held.names (suc takes) 0 (fits.at s.at (Send selector takes) is) (omega arith) 0 (lookup p.classes (class_at self) signs.Class selector takes) (λ to found. fits.methods (class_at self) signs.Class selector takes to found))
   executes_within (Some (SendSuper from selector takes)) s is w =
-      let fit = fits.at s.at (SendSuper from selector takes) is in
-      answers_within s w 0 (suc takes) (lookup p.classes (Some from) signs.Class selector takes) (λ to found. fits.methods (Some from) signs.Class selector takes to found) (omega (arith, fit.0.0)) fit.1 (omega (arith, fit.0.1))
-  executes_within (Some (SendTo depth selector takes)) s is w = found_after Within (slice_get s.held.places depth) _ (λ r _. sends_within s w r selector takes depth (fits.at s.at (SendTo depth selector takes) is))
-  executes_within (Some (SendToSuper from selector takes)) s is w = sends_up_within s w from s.held.self selector takes (fits.at s.at (SendToSuper from selector takes) is)
+      answers_within s w s.held.names (suc takes) 0 (fits.at s.at (SendSuper from selector takes) is) (omega arith) 0 (lookup p.classes (Some from) signs.Class selector takes) (λ to found. fits.methods (Some from) signs.Class selector takes to found)
+  executes_within (Some (SendTo selector takes)) s is w = reference_after Within s.held.names _ (λ r rest e. sends_within s w (λ o. o.class) r selector takes rest (fits.at s.at (SendTo selector takes) is) e)
+  executes_within (Some (SendToSuper from selector takes)) s is w = reference_after Within s.held.names _ (λ r rest e. sends_within s w (λ o. from) r selector takes rest (fits.at s.at (SendToSuper from selector takes) is) e)
+  executes_within (Some (StoreStrong i)) s is w =
+      let fit = fits.at s.at (StoreStrong i) is in
+      reference_after Within s.held.names _ (λ r rest e. found_after Within (slice_get s.held.variables i) _ (λ old _. named_after Within r s.held _ (releases_within s w old _
+      (omega (arith, w.above.0, fit.numbers), omega (arith, w.above.1, fit.names), omega (arith, w.above.2, fit.temporaries), omega (arith, w.above.3, fit.variables, length-set s.held.variables i r), w.above.4))))
+  executes_within (Some (Empty i)) s is w =
+      let fit = fits.at s.at (Empty i) is in
+      found_after Within (slice_get s.held.variables i) _ (λ r _. releases_within s w r _
+      (omega (arith, w.above.0, fit.numbers), omega (arith, w.above.1, fit.names), omega (arith, w.above.2, fit.temporaries), omega (arith, w.above.3, fit.variables, length-set s.held.variables i 0), w.above.4))
+  executes_within (Some DropAll) s is w = drops_within s w s.held.temporaries s.held refl w.above (fits.at s.at DropAll is)
   executes_within (Some Return) s is w =
-      let fit = fits.at s.at Return is in
-      top_after Within s.stack _ (λ v rest e. leaves_within s s.frames v rest refl e fit.0 fit.1 w.numbers_within w.places_within w.levels w.room)
-  executes_within (Some (StoreStrong depth)) s is w =
-      let fit = fits.at s.at (StoreStrong depth) is in
-      place_after Within s.held.places _ (λ r rest e. found_after Within (slice_get rest depth) _ (λ old _. holds_after Within r s.held _ (let same = length-set rest depth r in
-      releases_within s w old _ (omega (arith, fit.0)) (omega (arith, w.places_within, e, same, fit.1)))))
-  executes_within (Some Drop) s is w =
-      let fit = fits.at s.at Drop is in
-      place_after Within s.held.places _ (λ r rest e. releases_within s w r _ (omega (arith, fit.0)) (omega (arith, w.places_within, e, fit.1)))
-  executes_within (Some (Empty depth)) s is w =
-      let fit = fits.at s.at (Empty depth) is in
-      let same = length-set s.held.places depth 0 in
-      found_after Within (slice_get s.held.places depth) _ (λ r _. releases_within s w r _ (omega (arith, fit.0)) (omega (arith, w.places_within, same, fit.1)))
+      top_after Within s.stack _ (λ v rest e. left_after Within s.held.temporaries s.held _ (λ none. leaves_within s s.frames v rest w refl e none (fits.at s.at Return is)))
   executes_within (Some EndStep) s is w =
       let fit = fits.at s.at EndStep is in
-      end_goes_on_within s s.frames fit.0 fit.1 w.numbers_within w.places_within w.levels w.room
+      end_goes_on_within s s.frames
+      ((omega (arith, w.above.0, fit.numbers), omega (arith, w.above.1, fit.names), omega (arith, w.above.2, fit.temporaries), omega (arith, w.above.3, fit.variables), w.above.4), w.levels, w.waits)
 
   pub step_within : (s : State) → Within s → After Within (step p s)
   step_within s w = executes_within (slice_get p.instrs s.at) s refl w
 
   -- ---- the room
 
-  numbers_most : (frames : List Frame) → numbers_waiting frames ≤ length frames * most_numbers
-  numbers_most [] = omega arith
-  numbers_most (Calling back self ∷ others) = let rest = numbers_most others in let one = fits.numbers_most back in let more = times_more (length others) most_numbers in omega (arith, rest, one, more)
-  numbers_most (Ending back self o next left ∷ others) = let rest = numbers_most others in let one = fits.numbers_most back in let more = times_more (length others) most_numbers in omega (arith, rest, one, more)
+  waiting_most : (f : Frame → ℕ) (most : ℕ) → ((x : Frame) → Waits x → f x ≤ most) → (frames : List Frame) → AllWait frames → waiting f frames ≤ length frames * most
+  waiting_most f most each [] waits = omega arith
+  waiting_most f most each (x ∷ others) waits = omega (arith, each x waits.0, waiting_most f most each others waits.1, times_more (length others) most)
 
-  places_most : (frames : List Frame) → places_waiting frames ≤ length frames * most_places
-  places_most [] = omega arith
-  places_most (Calling back self ∷ others) = let rest = places_most others in let one = fits.places_most back in let more = times_more (length others) most_places in omega (arith, rest, one, more)
-  places_most (Ending back self o next left ∷ others) = let rest = places_most others in let one = fits.places_most back in let more = times_more (length others) most_places in omega (arith, rest, one, more)
+  numbers_few : (x : Frame) → Waits x → numbers_of x ≤ most_numbers
+  numbers_few (Calling back w) waits = omega (arith, fits.numbers_most back)
+  numbers_few (Ending back w o next left) waits = fits.numbers_most back
+
+  names_few : (x : Frame) → Waits x → names_of x ≤ most_names
+  names_few (Calling back w) waits = fits.names_most back
+  names_few (Ending back w o next left) waits = fits.names_most back
+
+  places_few : (x : Frame) → Waits x → places_of x ≤ most_places
+  places_few (Calling back w) waits = omega (arith, waits.1.0, waits.1.1, fits.places_most back)
+  places_few (Ending back w o next left) waits = omega (arith, waits.0, waits.1, fits.places_most back)
 
   -- all levels together have no more than the room
-  pub numbers_fit : (s : State) → Within s → length s.stack ≤ room_for most_numbers
-  numbers_fit s w = let all = numbers_most s.frames in let one = fits.numbers_most s.at in let few = times_rise (length s.frames) most_levels most_numbers w.levels in let more = times_more most_levels most_numbers in omega (arith, w.numbers_within, all, one, few, more)
+  module _ (s : State) (w : Within s) where
+    together : (f : Frame → ℕ) (most own : ℕ) → ((x : Frame) → Waits x → f x ≤ most) → own ≤ most → own + waiting f s.frames ≤ room_for most
+    together f most own each few = below_room most own (waiting f s.frames) (length s.frames) few (waiting_most f most each s.frames w.waits) w.levels
 
-  pub places_fit : (s : State) → Within s → length s.held.places ≤ room_for most_places
-  places_fit s w = let all = places_most s.frames in let one = fits.places_most s.at in let few = times_rise (length s.frames) most_levels most_places w.levels in let more = times_more most_levels most_places in omega (arith, w.places_within, all, one, few, more)
+    numbers_fit : length s.stack ≤ room_for most_numbers
+    numbers_fit = let all = together numbers_of most_numbers (height s.at).numbers numbers_few (fits.numbers_most s.at) in omega (arith, w.above.0, all)
+
+    names_fit : length s.held.names ≤ room_for most_names
+    names_fit = let all = together names_of most_names (height s.at).names names_few (fits.names_most s.at) in omega (arith, w.above.1, all)
+
+    places_fit : length (all_places s.held) ≤ room_for most_places
+    places_fit = let all = together places_of most_places ((height s.at).temporaries + (height s.at).variables) places_few (fits.places_most s.at) in omega (arith, w.above.2, w.above.3, w.above.4, all_length s.held, all)
 
   -- ---- runs
 
@@ -238,25 +292,23 @@ module _ {J F T : Type 0} (p : Program J F T) (numbers places : ℕ → ℕ) (mo
   steps_within zero r h = h
   steps_within (suc n) r h = further_within (after_steps (step p) n r) (steps_within n r h)
 
-  within_room : (r : Reached State) → RunsWithin r → HasAtMost (room_for most_numbers) (room_for most_places) r
-  within_room (Running s input trace) h = (numbers_fit s h, places_fit s h)
+  within_room : (r : Reached State) → RunsWithin r → HasAtMost (room_for most_numbers) (room_for most_names) (room_for most_places) r
+  within_room (Running s input trace) h = (numbers_fit s h, names_fit s h, places_fit s h)
   within_room (Ended n input trace) h = tt
   within_room (Faulted f input trace) h = tt
   within_room (Wedged input trace) h = tt
 
   -- no run has more than the room
-  pub never_more : NeverHasMore p (room_for most_numbers) (room_for most_places)
+  pub never_more : NeverHasMore p (room_for most_numbers) (room_for most_names) (room_for most_places)
   never_more input n = within_room (after_steps (step p) n (Running start input [])) (steps_within n (Running start input []) start_within)
 
   -- ---- soundness
 
-  safe_within : room_for most_numbers ≤ p.room → room_for most_places ≤ p.places → (n : ℕ) (s : State) → Within s → Safe (step p) (λ t. Counted t.held) n s → Safe (step p) (Fits p) n s
-  safe_within numbers_room places_room zero s w counts =
-      let n = numbers_fit s w in
-      let m = places_fit s w in
-      record { numbers = omega (arith, n, numbers_room); places = omega (arith, m, places_room); counts = counts }
-  safe_within numbers_room places_room (suc n) s w safe = along_both (Safe (step p) (λ t. Counted t.held) n) Within (Safe (step p) (Fits p) n) (λ t counts within. safe_within numbers_room places_room n t within counts) (step p s) safe (step_within s w)
+  module _ (numbers_room : room_for most_numbers ≤ p.room) (names_room : room_for most_names ≤ p.names) (places_room : room_for most_places ≤ p.places) where
+    safe_within : (n : ℕ) (s : State) → Within s → Safe (step p) (λ t. Counted t.held) n s → Safe (step p) (Fits p) n s
+    safe_within zero s w counts = record { numbers = omega (arith, numbers_fit s w, numbers_room); names = omega (arith, names_fit s w, names_room); places = omega (arith, places_fit s w, places_room); counts = counts }
+    safe_within (suc n) s w safe = along_both (Safe (step p) (λ t. Counted t.held) n) Within (Safe (step p) (Fits p) n) (λ t counts within. safe_within n t within counts) (step p s) safe (step_within s w)
 
-  -- a program that never is stuck, and whose counts are right, is sound with the room that its heights ask for
-  pub sound_with_room : room_for most_numbers ≤ p.room → room_for most_places ≤ p.places → Sound (step p) (λ t. Counted t.held) start → IsSound p
-  sound_with_room numbers_room places_room sound = record { safe = λ n. safe_within numbers_room places_room n start start_within (sound.safe n) }
+    -- a program that never is stuck, and whose counts are right, is sound with the room that its heights ask for
+    pub sound_with_room : Sound (step p) (λ t. Counted t.held) start → IsSound p
+    sound_with_room sound = record { safe = λ n. safe_within n start start_within (sound.safe n) }

@@ -1,4 +1,4 @@
--- How many numbers and strong places each instruction takes and gives; what a table of heights says of the instructions of a program, so that no run has more.
+-- How many numbers, references and strong places each instruction takes and gives; what a table of heights says of the instructions of a program, so that no run has more.
 use Rattle.std.specs.Prelude.{◌≡◌, ◌≤◌, ℕ, suc, ◌+◌, ◌*◌, List, [], length, Option, Some, slice_get}
 use Rattle.arc_ast.specs.declared.tree.Sign.{Sign}
 use Rattle.arc_ast.specs.declared.tree.Sign.TheVariants as signs
@@ -6,19 +6,25 @@ use Rattle.arc_spec.specs.Classes.{lookup}
 use Rattle.arc_spec.specs.Meaning.{most_levels}
 use Rattle.arc_spec.specs.Stepping.{Next, Goes, Asks, Ends, Faults, Stuck, Reached, Running, Ended, Faulted, Wedged, after_steps}
 use Rattle.arc_code.specs.declared.instr.Op.{Op}
-use Rattle.arc_code.specs.declared.instr.Op.TheVariants.{Num, Bin, Un, Narrow, Pop, Get, Set, PrintNum, PrintByte, GetChar, Nil, HoldSelf, Hold, Forget, Alloc, GetField, SetField, Differ, IsObject}
+use Rattle.arc_code.specs.declared.instr.Op.TheVariants.{Num, Bin, Un, Narrow, Pop, Get, Set, PrintNum, PrintByte, GetChar, Declare, Nil, ReadSelf, ReadRef, Hold, Forget, Alloc, GetField, SetField, Differ, IsObject}
 use Rattle.arc_code.specs.declared.instr.Instr.{Instr}
-use Rattle.arc_code.specs.declared.instr.Instr.TheVariants.{Plain, PrintText, Jump, JumpZero, Call, Send, SendSuper, SendTo, SendToSuper, Return, StoreStrong, Drop, Empty, EndStep}
+use Rattle.arc_code.specs.declared.instr.Instr.TheVariants.{Plain, PrintText, Jump, JumpZero, Call, Send, SendSuper, SendTo, SendToSuper, StoreStrong, Empty, DropAll, Return, EndStep}
+use Rattle.arc_spec.specs.Holding.{all_places}
 use Rattle.arc_code.specs.Instructions.{Program, State, start, step}
 pub use Rattle.arc_code.specs.declared.effect.Effect.{Effect}
+pub use Rattle.arc_code.specs.declared.effect.Height.{Height}
 
--- what leaves the places as they are
+-- what takes references and gives numbers
+abbrev pub of_names : (taken given names : ℕ) → Effect
+of_names taken given names = record { numbers_taken = taken; numbers_given = given; names_taken = names; names_given = 0; temporaries = 0; variables = 0 }
+
+-- what leaves the references and places as they are
 abbrev pub on_numbers : (taken given : ℕ) → Effect
-on_numbers taken given = record { numbers_taken = taken; numbers_given = given; places_taken = 0; places_given = 0 }
+on_numbers taken given = of_names taken given 0
 
--- what leaves the numbers as they are
-abbrev pub on_places : (taken given : ℕ) → Effect
-on_places taken given = record { numbers_taken = 0; numbers_given = 0; places_taken = taken; places_given = given }
+-- what takes references, gives references, and has temporaries take objects
+abbrev pub on_names : (taken given temporaries : ℕ) → Effect
+on_names taken given temporaries = record { numbers_taken = 0; numbers_given = 0; names_taken = taken; names_given = given; temporaries = temporaries; variables = 0 }
 
 abbrev pub operation_effect : Op → Effect
 operation_effect (Num n) = on_numbers 0 1
@@ -31,15 +37,17 @@ operation_effect (Set depth) = on_numbers 1 0
 operation_effect PrintNum = on_numbers 2 1
 operation_effect PrintByte = on_numbers 2 1
 operation_effect GetChar = on_numbers 0 1
-operation_effect Nil = on_places 0 1
-operation_effect HoldSelf = on_places 0 1
-operation_effect (Hold depth) = on_places 0 1
-operation_effect (Forget count) = on_places count 0
-operation_effect Alloc = record { numbers_taken = 1; numbers_given = 0; places_taken = 0; places_given = 1 }
-operation_effect (GetField class index) = on_numbers 0 1
-operation_effect (SetField depth class index) = on_numbers 1 1
-operation_effect (Differ depth) = on_numbers 0 1
-operation_effect IsObject = on_numbers 0 1
+operation_effect Declare = record (on_numbers 0 0) { variables = 1 }
+operation_effect Nil = on_names 0 1 0
+operation_effect ReadSelf = on_names 0 1 1
+operation_effect (ReadRef i) = on_names 0 1 1
+operation_effect Hold = on_names 1 1 1
+operation_effect Forget = on_names 1 0 0
+operation_effect Alloc = record (on_names 0 1 1) { numbers_taken = 1 }
+operation_effect (GetField class index) = of_names 0 1 1
+operation_effect (SetField class index) = of_names 1 1 1
+operation_effect Differ = of_names 0 1 2
+operation_effect IsObject = of_names 0 1 1
 
 -- how many numbers a message with so many arguments passes: one to a class passes the class, too
 abbrev pub passes : Sign → (takes : ℕ) → ℕ
@@ -56,18 +64,21 @@ effect (JumpZero j) = on_numbers 1 0
 effect (Call f) = on_numbers 0 1
 effect (Send selector takes) = on_numbers (passes signs.Class takes) 1
 effect (SendSuper from selector takes) = on_numbers (passes signs.Class takes) 1
-effect (SendTo depth selector takes) = on_numbers (passes signs.Instance takes) 1
-effect (SendToSuper from selector takes) = on_numbers (passes signs.Instance takes) 1
+effect (SendTo selector takes) = of_names (passes signs.Instance takes) 1 1
+effect (SendToSuper from selector takes) = of_names (passes signs.Instance takes) 1 1
+effect (StoreStrong i) = on_names 1 1 0
+effect (Empty i) = on_names 0 0 0
+effect DropAll = on_numbers 0 0
 effect Return = on_numbers 1 0
-effect (StoreStrong depth) = on_places 0 0
-effect Drop = on_places 1 0
-effect (Empty depth) = on_places 0 0
 effect EndStep = on_numbers 0 0
 
--- from one state to another, at the next instruction of the running function, there are as many numbers and places more or less as an effect says
+-- from one state to another, at the next instruction of the running function, there are as many numbers, references and places more or less as an effect says
 pub record Follows (e : Effect) (s t : State) : Type 0 where
   pub numbers : length t.stack + e.numbers_taken ≡ length s.stack + e.numbers_given
-  pub places : length t.held.places + e.places_taken ≡ length s.held.places + e.places_given
+  pub names : length t.held.names + e.names_taken ≡ length s.held.names + e.names_given
+  pub temporaries : length t.held.temporaries ≡ length s.held.temporaries + e.temporaries
+  pub variables : length t.held.variables ≡ length s.held.variables + e.variables
+  pub places : t.held.places ≡ s.held.places
   pub at : t.at ≡ s.at + 1
   pub frames : t.frames ≡ s.frames
 
@@ -79,55 +90,71 @@ After P (Ends n) = Unit {0}
 After P (Faults f) = Unit {0}
 After P Stuck = Unit {0}
 
--- Two tables say how many numbers and places of the running function there are at most before the instruction with a number.
-module _ {J F T : Type 0} (p : Program J F T) (numbers places : ℕ → ℕ) where
-  -- what an effect leaves of those before one instruction is within the tables before the other
-  abbrev pub FitsBetween : (pc to : ℕ) → Effect → Type 0
-  FitsBetween pc to e = (numbers pc + e.numbers_given ≤ numbers to + e.numbers_taken) × (places pc + e.places_given ≤ places to + e.places_taken)
+-- a function that has nothing yet
+abbrev pub no_height : Height
+no_height = record { numbers = 0; names = 0; temporaries = 0; variables = 0 }
 
-  -- the same of what an instruction leaves
+-- what an effect leaves of the one height is within the other
+pub record FitsBetween (before behind : Height) (e : Effect) : Type 0 where
+  pub numbers : before.numbers + e.numbers_given ≤ behind.numbers + e.numbers_taken
+  pub names : before.names + e.names_given ≤ behind.names + e.names_taken
+  pub temporaries : before.temporaries + e.temporaries ≤ behind.temporaries
+  pub variables : before.variables + e.variables ≤ behind.variables
+
+-- A table says how many numbers, references and places the running function has at most before the instruction with a number.
+module _ {J F T : Type 0} (p : Program J F T) (height : ℕ → Height) where
+  -- what an instruction leaves of the one height is within the other
+  abbrev pub FitsFrom : (before behind : Height) → Instr J F T → Type 0
+  FitsFrom before behind x = FitsBetween before behind (effect x)
+
+  -- what an instruction leaves is within the table there
   abbrev pub FitsTo : (pc to : ℕ) → Instr J F T → Type 0
-  FitsTo pc to x = FitsBetween pc to (effect x)
+  FitsTo pc to x = FitsFrom (height pc) (height to) x
 
   -- the same at the next instruction, where a call has given a number
-  abbrev pub FitsCall : (pc : ℕ) → Instr J F T → Type 0
-  FitsCall pc x = FitsTo pc (pc + 1) x × (1 ≤ numbers (pc + 1))
+  abbrev pub FitsCall : (pc : ℕ) → Effect → Type 0
+  FitsCall pc e = FitsBetween (height pc) (height (pc + 1)) e × (1 ≤ (height (pc + 1)).numbers)
 
-  -- what the tables say of the instruction with a number; where a function is left there is its result and no more
+  abbrev pub FitsMessage : (pc : ℕ) → Instr J F T → Type 0
+  FitsMessage pc x = FitsCall pc (effect x)
+
+  -- What the table says of the instruction with a number. A call takes the variables with which the function begins. Where a function is left there is its result,
+  -- and its variables that name objects, and no more.
   abbrev pub FitsAt : (pc : ℕ) → Instr J F T → Type 0
   FitsAt pc (Plain o) = FitsTo pc (pc + 1) (Plain o)
   FitsAt pc (PrintText t) = FitsTo pc (pc + 1) (PrintText t)
   FitsAt pc (Jump j) = FitsTo pc (p.lands pc j) (Jump j)
   FitsAt pc (JumpZero j) = FitsTo pc (pc + 1) (JumpZero j) × FitsTo pc (p.lands pc j) (JumpZero j)
-  FitsAt pc (Call f) = (1 ≤ numbers (pc + 1)) × (places pc ≤ places (pc + 1)) × ((to : ℕ) → p.entry f ≡ Some to → numbers pc + 1 ≤ numbers (pc + 1) + numbers to)
-  FitsAt pc (Send selector takes) = FitsCall pc (Send selector takes)
-  FitsAt pc (SendSuper from selector takes) = FitsCall pc (SendSuper from selector takes)
-  FitsAt pc (SendTo depth selector takes) = FitsCall pc (SendTo depth selector takes)
-  FitsAt pc (SendToSuper from selector takes) = FitsCall pc (SendToSuper from selector takes)
-  FitsAt pc Return = (numbers pc ≤ 1) × (places pc ≤ 0)
-  FitsAt pc (StoreStrong depth) = FitsTo pc (pc + 1) (StoreStrong depth)
-  FitsAt pc Drop = FitsTo pc (pc + 1) Drop
-  FitsAt pc (Empty depth) = FitsTo pc (pc + 1) (Empty depth)
-  FitsAt pc EndStep = (numbers pc ≤ 0) × (places pc ≤ 0)
+  FitsAt pc (Call f) = (to : ℕ) → p.entry f ≡ Some to → FitsCall pc (on_numbers (height to).numbers 1)
+  FitsAt pc (Send selector takes) = FitsMessage pc (Send selector takes)
+  FitsAt pc (SendSuper from selector takes) = FitsMessage pc (SendSuper from selector takes)
+  FitsAt pc (SendTo selector takes) = FitsMessage pc (SendTo selector takes)
+  FitsAt pc (SendToSuper from selector takes) = FitsMessage pc (SendToSuper from selector takes)
+  FitsAt pc (StoreStrong i) = FitsTo pc (pc + 1) (StoreStrong i)
+  FitsAt pc (Empty i) = FitsTo pc (pc + 1) (Empty i)
+  FitsAt pc DropAll = FitsFrom (record (height pc) { temporaries = 0 }) (height (pc + 1)) DropAll
+  FitsAt pc Return = FitsFrom (record (height pc) { variables = 0 }) no_height Return
+  FitsAt pc EndStep = FitsFrom (height pc) no_height EndStep
 
-  -- tables that fit a program, whose greatest heights these are
-  pub record HeightsFit (most_numbers most_places : ℕ) : Type 0 where
+  -- a table that fits a program, whose greatest heights these are
+  pub record HeightsFit (most_numbers most_names most_places : ℕ) : Type 0 where
     pub at : (pc : ℕ) (x : Instr J F T) → slice_get p.instrs pc ≡ Some x → FitsAt pc x
-    pub methods : (from : Option ℕ) (sign : Sign) (selector takes to : ℕ) → lookup p.classes from sign selector takes ≡ Some to → passes sign takes ≤ numbers to
-    pub numbers_most : (pc : ℕ) → numbers pc ≤ most_numbers
-    pub places_most : (pc : ℕ) → places pc ≤ most_places
+    pub methods : (from : Option ℕ) (sign : Sign) (selector takes to : ℕ) → lookup p.classes from sign selector takes ≡ Some to → passes sign takes ≤ (height to).numbers
+    pub numbers_most : (pc : ℕ) → (height pc).numbers ≤ most_numbers
+    pub names_most : (pc : ℕ) → (height pc).names ≤ most_names
+    pub places_most : (pc : ℕ) → (height pc).temporaries + (height pc).variables ≤ most_places
 
 -- the room for what runs on all levels and for the program's start, each of which has at most so many
 abbrev pub room_for : (most : ℕ) → ℕ
 room_for most = suc most_levels * most
 
--- where a run is, there are at most so many numbers and places
-abbrev pub HasAtMost : (numbers places : ℕ) → Reached State → Type 0
-HasAtMost numbers places (Running s input trace) = (length s.stack ≤ numbers) × (length s.held.places ≤ places)
-HasAtMost numbers places (Ended n input trace) = Unit {0}
-HasAtMost numbers places (Faulted f input trace) = Unit {0}
-HasAtMost numbers places (Wedged input trace) = Unit {0}
+-- where a run is, there are at most so many numbers, references and places
+abbrev pub HasAtMost : (numbers names places : ℕ) → Reached State → Type 0
+HasAtMost numbers names places (Running s input trace) = (length s.stack ≤ numbers) × (length s.held.names ≤ names) × (length (all_places s.held) ≤ places)
+HasAtMost numbers names places (Ended n input trace) = Unit {0}
+HasAtMost numbers names places (Faulted f input trace) = Unit {0}
+HasAtMost numbers names places (Wedged input trace) = Unit {0}
 
--- on each input there are at most so many numbers and places after any number of steps
-abbrev pub NeverHasMore : {J F T : Type 0} → Program J F T → (numbers places : ℕ) → Type 0
-NeverHasMore p numbers places = (input : List ℕ) (n : ℕ) → HasAtMost numbers places (after_steps (step p) n (Running start input []))
+-- on each input there are at most so many numbers, references and places after any number of steps
+abbrev pub NeverHasMore : {J F T : Type 0} → Program J F T → (numbers names places : ℕ) → Type 0
+NeverHasMore p numbers names places = (input : List ℕ) (n : ℕ) → HasAtMost numbers names places (after_steps (step p) n (Running start input []))

@@ -6,8 +6,8 @@ use Rattle.arc_ast.specs.declared.tree.Kind.TheVariants as k
 use Rattle.arc_ast.specs.declared.tree.BinaryOperator.{BinaryOperator}
 use Rattle.arc_ast.specs.declared.tree.BinaryOperator.TheVariants as o
 use Rattle.arc_code.specs.declared.instr.Op.{Op}
-use Rattle.arc_code.specs.declared.instr.Op.TheVariants.{Num, Bin, Un, Narrow, Pop, Get, Set, PrintNum, PrintByte, GetChar, Nil, HoldSelf, Hold, Forget, Alloc, GetField, SetField, Differ, IsObject}
-use Rattle.arc_code.specs.declared.instr.Instr.TheVariants.{Plain, PrintText, Jump, JumpZero, Call, Send, SendSuper, SendTo, SendToSuper, Return, StoreStrong, Drop, Empty, EndStep}
+use Rattle.arc_code.specs.declared.instr.Op.TheVariants.{Num, Bin, Un, Narrow, Pop, Get, Set, PrintNum, PrintByte, GetChar, Declare, Nil, ReadSelf, ReadRef, Hold, Forget, Alloc, GetField, SetField, Differ, IsObject}
+use Rattle.arc_code.specs.declared.instr.Instr.TheVariants.{Plain, PrintText, Jump, JumpZero, Call, Send, SendSuper, SendTo, SendToSuper, StoreStrong, Empty, DropAll, Return, EndStep}
 use Rattle.arc_code.specs.Running.{Instruction}
 
 abbrev pub operator_number : BinaryOperator → ℕ
@@ -35,14 +35,16 @@ op_name (Set depth) = codes "Set"
 op_name PrintNum = codes "PrintNum"
 op_name PrintByte = codes "PrintByte"
 op_name GetChar = codes "GetChar"
+op_name Declare = codes "Declare"
 op_name Nil = codes "Nil"
-op_name HoldSelf = codes "HoldSelf"
-op_name (Hold depth) = codes "Hold"
-op_name (Forget count) = codes "Forget"
+op_name ReadSelf = codes "ReadSelf"
+op_name (ReadRef i) = codes "ReadRef"
+op_name Hold = codes "Hold"
+op_name Forget = codes "Forget"
 op_name Alloc = codes "Alloc"
 op_name (GetField class index) = codes "GetField"
-op_name (SetField depth class index) = codes "SetField"
-op_name (Differ depth) = codes "Differ"
+op_name (SetField class index) = codes "SetField"
+op_name Differ = codes "Differ"
 op_name IsObject = codes "IsObject"
 
 abbrev pub name : Instruction → List ℕ
@@ -53,12 +55,12 @@ name (JumpZero to) = codes "JumpZero"
 name (Call to) = codes "Call"
 name (Send selector takes) = codes "Send"
 name (SendSuper from selector takes) = codes "SendSuper"
-name (SendTo depth selector takes) = codes "SendTo"
+name (SendTo selector takes) = codes "SendTo"
 name (SendToSuper from selector takes) = codes "SendToSuper"
+name (StoreStrong i) = codes "StoreStrong"
+name (Empty i) = codes "Empty"
+name DropAll = codes "DropAll"
 name Return = codes "Return"
-name (StoreStrong depth) = codes "StoreStrong"
-name Drop = codes "Drop"
-name (Empty depth) = codes "Empty"
 name EndStep = codes "EndStep"
 
 -- a space, and a number
@@ -72,11 +74,9 @@ op_operands (Un kind) = operand (kind_number kind)
 op_operands (Narrow kind) = operand (kind_number kind)
 op_operands (Get depth) = operand depth
 op_operands (Set depth) = operand depth
-op_operands (Hold depth) = operand depth
-op_operands (Forget count) = operand count
+op_operands (ReadRef i) = operand i
 op_operands (GetField class index) = operand class ++ operand index
-op_operands (SetField depth class index) = operand depth ++ (operand class ++ operand index)
-op_operands (Differ depth) = operand depth
+op_operands (SetField class index) = operand class ++ operand index
 op_operands _ = []
 
 abbrev pub operands : Instruction → List ℕ
@@ -87,10 +87,10 @@ operands (JumpZero to) = operand to
 operands (Call to) = operand to
 operands (Send selector takes) = operand selector ++ operand takes
 operands (SendSuper from selector takes) = operand from ++ (operand selector ++ operand takes)
-operands (SendTo depth selector takes) = operand depth ++ (operand selector ++ operand takes)
+operands (SendTo selector takes) = operand selector ++ operand takes
 operands (SendToSuper from selector takes) = operand from ++ (operand selector ++ operand takes)
-operands (StoreStrong depth) = operand depth
-operands (Empty depth) = operand depth
+operands (StoreStrong i) = operand i
+operands (Empty i) = operand i
 operands _ = []
 
 -- the instruction with this number

@@ -1,7 +1,7 @@
 -- Instructions with other names for where jumps go, for functions and for texts.
 use Rattle.std.specs.Prelude.{ℕ, List, Option}
 use Rattle.arc_code.specs.declared.instr.Instr.{Instr}
-use Rattle.arc_code.specs.declared.instr.Instr.TheVariants.{Plain, PrintText, Jump, JumpZero, Call, Send, SendSuper, SendTo, SendToSuper, Return, StoreStrong, Drop, Empty, EndStep}
+use Rattle.arc_code.specs.declared.instr.Instr.TheVariants.{Plain, PrintText, Jump, JumpZero, Call, Send, SendSuper, SendTo, SendToSuper, StoreStrong, Empty, DropAll, Return, EndStep}
 use Rattle.arc_code.specs.Instructions.{Program}
 
 module _ {J F T K G U : Type 0} (jump : J → K) (call : F → G) (text : T → U) where
@@ -13,12 +13,12 @@ module _ {J F T K G U : Type 0} (jump : J → K) (call : F → G) (text : T → 
   renamed (Call f) = Call (call f)
   renamed (Send selector takes) = Send selector takes
   renamed (SendSuper from selector takes) = SendSuper from selector takes
-  renamed (SendTo depth selector takes) = SendTo depth selector takes
+  renamed (SendTo selector takes) = SendTo selector takes
   renamed (SendToSuper from selector takes) = SendToSuper from selector takes
+  renamed (StoreStrong i) = StoreStrong i
+  renamed (Empty i) = Empty i
+  renamed DropAll = DropAll
   renamed Return = Return
-  renamed (StoreStrong depth) = StoreStrong depth
-  renamed Drop = Drop
-  renamed (Empty depth) = Empty depth
   renamed EndStep = EndStep
 
 -- a program whose instructions name what these say
@@ -30,6 +30,7 @@ relinked p instrs lands entry text = record {
   text = text;
   end_step = p.end_step;
   room = p.room;
+  names = p.names;
   places = p.places;
   classes = p.classes;
 }

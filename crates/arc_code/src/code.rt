@@ -15,14 +15,15 @@ pub struct Piece {
 pub type Instruction = Instr<usize, usize, Piece>;
 
 /// The instructions, the bytes of all texts, where the ends of objects go on, the most numbers that the
-/// stack comes to hold, the most strong places that there come to be, and the classes, whose methods and
-/// deallocs run the instruction with a number.
+/// stack comes to hold, the most references and the most strong places that there come to be, and the
+/// classes, whose methods and deallocs run the instruction with a number.
 #[derive(Drop)]
 pub struct Code {
     pub instrs: Vec<Instruction>,
     pub texts: Vec<u8>,
     pub end_step: usize,
     pub room: usize,
+    pub names: usize,
     pub places: usize,
     pub classes: Vec<Class>,
 }

@@ -1,40 +1,62 @@
-//! How many numbers and strong places each instruction takes and gives.
+//! How many numbers, references and strong places each instruction takes and gives.
 ghost use Rattle.std.specs.Prelude.{◌≡◌, suc, IfSome};
-ghost use Rattle.arc_code.specs.Effects.{on_numbers, on_places, operation_effect, effect};
+ghost use Rattle.arc_code.specs.Effects.{on_numbers, of_names, on_names, operation_effect, effect};
 
 use crate::instr::{Instr, Op};
 
-/// How many numbers are taken from the stack and then put on it, and how many of the last places
-/// are forgotten and then made.
+/// How many numbers are taken from the stack and then put on it, how many references are taken and then given, and
+/// how many more temporaries and variables that name objects there are.
 #[derive(Clone, Copy)]
 pub struct Effect {
     pub numbers_taken: usize,
     pub numbers_given: usize,
-    pub places_taken: usize,
-    pub places_given: usize,
+    pub names_taken: usize,
+    pub names_given: usize,
+    pub temporaries: usize,
+    pub variables: usize,
 }
 
-/// The effect of what leaves the places as they are.
-fn on_numbers(taken: usize, given: usize) -> Effect
-    ensures { result ≡ on_numbers taken given }
+/// How many numbers, references, temporaries and variables that name objects a function has.
+#[derive(Clone, Copy)]
+pub struct Height {
+    pub numbers: usize,
+    pub names: usize,
+    pub temporaries: usize,
+    pub variables: usize,
+}
+
+/// The effect of what takes references and gives numbers.
+fn of_names(taken: usize, given: usize, names: usize) -> Effect
+    ensures { result ≡ of_names taken given names }
 {
     Effect {
         numbers_taken: taken,
         numbers_given: given,
-        places_taken: 0,
-        places_given: 0,
+        names_taken: names,
+        names_given: 0,
+        temporaries: 0,
+        variables: 0,
     }
 }
 
-/// The effect of what leaves the numbers as they are.
-fn on_places(taken: usize, given: usize) -> Effect
-    ensures { result ≡ on_places taken given }
+/// The effect of what leaves the references and places as they are.
+fn on_numbers(taken: usize, given: usize) -> Effect
+    ensures { result ≡ on_numbers taken given }
+{
+    of_names(taken, given, 0)
+}
+
+/// The effect of what takes references, gives references, and has temporaries take objects.
+fn on_names(taken: usize, given: usize, temporaries: usize) -> Effect
+    ensures { result ≡ on_names taken given temporaries }
 {
     Effect {
         numbers_taken: 0,
         numbers_given: 0,
-        places_taken: taken,
-        places_given: given,
+        names_taken: taken,
+        names_given: given,
+        temporaries,
+        variables: 0,
     }
 }
 
@@ -44,18 +66,24 @@ fn operation_effect(operation: Op) -> Effect
 {
     match operation {
         Op::Num(_) | Op::Get(_) | Op::GetChar => on_numbers(0, 1),
-        Op::GetField(_, _) | Op::Differ(_) | Op::IsObject => on_numbers(0, 1),
         Op::Bin(_, _) | Op::PrintNum | Op::PrintByte => on_numbers(2, 1),
-        Op::Un(_) | Op::Narrow(_) | Op::SetField(_, _, _) => on_numbers(1, 1),
+        Op::Un(_) | Op::Narrow(_) => on_numbers(1, 1),
         Op::Pop | Op::Set(_) => on_numbers(1, 0),
-        Op::Nil | Op::HoldSelf | Op::Hold(_) => on_places(0, 1),
-        Op::Forget(count) => on_places(count, 0),
+        Op::Declare => Effect {
+            variables: 1,
+            ..on_numbers(0, 0)
+        },
+        Op::Nil => on_names(0, 1, 0),
+        Op::ReadSelf | Op::ReadRef(_) => on_names(0, 1, 1),
+        Op::Hold => on_names(1, 1, 1),
+        Op::Forget => on_names(1, 0, 0),
         Op::Alloc => Effect {
             numbers_taken: 1,
-            numbers_given: 0,
-            places_taken: 0,
-            places_given: 1,
+            ..on_names(0, 1, 1)
         },
+        Op::GetField(_, _) | Op::IsObject => of_names(0, 1, 1),
+        Op::SetField(_, _) => of_names(1, 1, 1),
+        Op::Differ => of_names(0, 1, 2),
     }
 }
 
@@ -75,16 +103,16 @@ pub fn instr_effect<J, F, T>(instr: &Instr<J, F, T>) -> Option<Effect>
     match instr {
         Instr::Plain(operation) => Some(operation_effect(*operation)),
         Instr::PrintText(_) => Some(on_numbers(1, 1)),
-        Instr::Jump(_) | Instr::StoreStrong(_) | Instr::Empty(_) | Instr::EndStep => {
-            Some(on_numbers(0, 0))
-        }
+        Instr::Jump(_) | Instr::Empty(_) | Instr::DropAll | Instr::EndStep => Some(on_numbers(
+            0, 0,
+        )),
         Instr::JumpZero(_) | Instr::Return => Some(on_numbers(1, 0)),
         Instr::Call(_) => Some(on_numbers(0, 1)),
         Instr::Send(_, takes) | Instr::SendSuper(_, _, takes) => {
             let taken = one_more(*takes)?;
             Some(on_numbers(taken, 1))
         }
-        Instr::SendTo(_, _, takes) | Instr::SendToSuper(_, _, takes) => Some(on_numbers(*takes, 1)),
-        Instr::Drop => Some(on_places(1, 0)),
+        Instr::SendTo(_, takes) | Instr::SendToSuper(_, _, takes) => Some(of_names(*takes, 1, 1)),
+        Instr::StoreStrong(_) => Some(on_names(1, 1, 0)),
     }
 }

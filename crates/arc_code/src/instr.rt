@@ -1,10 +1,11 @@
-//! Instructions, of actions and of code alike: they take numbers from a stack and put numbers on it, and keep
-//! strong places, which name objects.
+//! Instructions, of actions and of code alike: they take numbers from a stack and put numbers on it, take references
+//! and give references, and keep strong places, which name objects.
 
 use arc_ast::tree::{BinaryOperator, Kind};
 
-/// What works on the stack, the places and the objects, and goes on with the next instruction. A depth counts
-/// the numbers above the one that is meant, or the places.
+/// What works on the numbers, the references, the places and the objects, and goes on with the next instruction. A
+/// depth counts the numbers above the one that is meant. A reference names an object or nil, and holds nothing; a
+/// temporary holds what it names until the end of the full-expression; a variable goes by its number.
 #[derive(Clone, Copy)]
 pub enum Op {
     /// Puts a number on the stack.
@@ -27,30 +28,33 @@ pub enum Op {
     PrintByte,
     /// Reads a byte, and puts it on the stack, or -1 at the end of the input.
     GetChar,
-    /// A further strong place, which is nil.
+    /// A further variable that names objects, which is nil. It gets the number 0, and those of the others rise by 1.
+    Declare,
+    /// Gives nil, as a reference.
     Nil,
-    /// A further strong place takes `self`.
-    HoldSelf,
-    /// A further strong place takes what the place at this depth names.
-    Hold(usize),
-    /// Forgets so many last places, which are nil.
-    Forget(usize),
-    /// Takes the number of a class, and makes an object of it, which a further place takes.
+    /// Gives `self`, which a temporary takes.
+    ReadSelf,
+    /// Gives what the variable with this number names, which a temporary takes.
+    ReadRef(usize),
+    /// A temporary takes what the last reference names; the reference stays.
+    Hold,
+    /// Takes the last reference.
+    Forget,
+    /// Takes the number of a class, and makes an object of it, which a temporary takes. Gives the object.
     Alloc,
-    /// Puts the field with this number of the last place's object on the stack; the class, which comes
-    /// first, is the one whose own field it is.
+    /// Takes the last reference, and puts the field with this number of its object on the stack; the class, which
+    /// comes first, is the one whose own field it is.
     GetField(usize, usize),
-    /// Puts the top number into the field of the object of the place at a depth; the depth comes first,
-    /// and then the class and the field's number.
-    SetField(usize, usize, usize),
-    /// Puts 1 on the stack where the last place and the one at this depth below it differ, and else 0.
-    Differ(usize),
-    /// Puts 1 on the stack where the last place isn't nil, and else 0.
+    /// Takes the last reference, and puts the top number, which stays, into the field of its object; the class comes
+    /// first, and then the field's number.
+    SetField(usize, usize),
+    /// Takes the last two references, and puts 1 on the stack where they differ, and else 0.
+    Differ,
+    /// Takes the last reference, and puts 1 on the stack where it isn't nil, and else 0.
     IsObject,
 }
 
-/// One instruction. A jump names where it goes on by a `J`, a call names a function by an `F`, and `T` is a
-/// text. A depth counts as that of an operation does.
+/// One instruction. A jump names where it goes on by a `J`, a call names a function by an `F`, and `T` is a text.
 #[derive(Clone, Copy, Drop)]
 pub enum Instr<J, F, T> {
     /// An operation, which goes on with the next instruction.
@@ -68,23 +72,23 @@ pub enum Instr<J, F, T> {
     Send(usize, usize),
     /// The same, with the number of the class from which the method is looked up before the selector.
     SendSuper(usize, usize, usize),
-    /// A message to the object of the place at a depth, with a selector and so many arguments, which
-    /// stand on the stack: calls the method that is looked up from the object's class. To nil it takes
-    /// the arguments and puts 0.
-    SendTo(usize, usize, usize),
-    /// A message to `self`, whose method is looked up from a class; then the selector and how many
-    /// arguments it has.
+    /// A message with this selector and so many arguments, which stand on the stack, to the object of the
+    /// last reference, which is taken: calls the method that is looked up from the object's class. To nil
+    /// it takes the arguments and puts 0.
+    SendTo(usize, usize),
+    /// The same, with the number of the class from which the method is looked up before the selector.
     SendToSuper(usize, usize, usize),
-    /// Goes back to the instruction after the last call; with no call it takes the top number, with which
-    /// the program ends.
-    Return,
-    /// The place at this depth below the last one takes what that one names, and lets go of what it
-    /// named; where that was its last holder, its end begins.
+    /// The variable with this number takes what the last reference names, and lets go of what it named;
+    /// where that was its last holder, its end begins. The reference stays.
     StoreStrong(usize),
-    /// The last place lets go of what it named, and is gone.
-    Drop,
-    /// The place at this depth lets go of what it named, and is nil.
+    /// The variable with this number lets go of what it named, and is nil.
     Empty(usize),
+    /// Drops the temporaries, the last one first, until an object's end begins, behind which this instruction
+    /// is met again, or none is left.
+    DropAll,
+    /// Leaves the function, which has no temporary, with its variables, all of them nil: goes back to the
+    /// instruction after the last call; with no call it takes the top number, with which the program ends.
+    Return,
     /// The end of an object goes on: with the dealloc of the next class, or to its last step, in which
     /// the object is gone.
     EndStep,

@@ -58,14 +58,14 @@ fn put_operands<W: Output>(instr: Instruction, writer: &mut Counted<W>) -> Resul
         Instr::Plain(op) => put_op_operands(op, writer),
         Instr::PrintText(piece) => put_pair(u64::from(piece.from), u64::from(piece.len), writer),
         Instr::Jump(to) | Instr::JumpZero(to) | Instr::Call(to) => put_operand(to as u64, writer),
-        Instr::StoreStrong(depth) | Instr::Empty(depth) => put_operand(depth as u64, writer),
-        Instr::Send(selector, takes) => put_pair(selector as u64, takes as u64, writer),
-        Instr::SendSuper(first, second, third)
-        | Instr::SendTo(first, second, third)
-        | Instr::SendToSuper(first, second, third) => {
+        Instr::StoreStrong(number) | Instr::Empty(number) => put_operand(number as u64, writer),
+        Instr::Send(selector, takes) | Instr::SendTo(selector, takes) => {
+            put_pair(selector as u64, takes as u64, writer)
+        }
+        Instr::SendSuper(first, second, third) | Instr::SendToSuper(first, second, third) => {
             put_three(first as u64, second as u64, third as u64, writer)
         }
-        Instr::Return | Instr::Drop | Instr::EndStep => put(b"", writer),
+        Instr::DropAll | Instr::Return | Instr::EndStep => put(b"", writer),
     }
 }
 
@@ -85,14 +85,13 @@ fn put_op_operands<W: Output>(op: Op, writer: &mut Counted<W>) -> Result<(), IoF
         ),
         Op::Un(kind) | Op::Narrow(kind) => put_operand(number_of_kind(kind), writer),
         Op::Get(depth) | Op::Set(depth) => put_operand(depth as u64, writer),
-        Op::Hold(depth) | Op::Differ(depth) => put_operand(depth as u64, writer),
-        Op::Forget(count) => put_operand(count as u64, writer),
-        Op::GetField(class, index) => put_pair(class as u64, index as u64, writer),
-        Op::SetField(depth, class, index) => {
-            put_three(depth as u64, class as u64, index as u64, writer)
+        Op::ReadRef(number) => put_operand(number as u64, writer),
+        Op::GetField(class, index) | Op::SetField(class, index) => {
+            put_pair(class as u64, index as u64, writer)
         }
         Op::Pop | Op::PrintNum | Op::PrintByte | Op::GetChar => put(b"", writer),
-        Op::Nil | Op::HoldSelf | Op::Alloc | Op::IsObject => put(b"", writer),
+        Op::Declare | Op::Nil | Op::ReadSelf | Op::Hold | Op::Forget => put(b"", writer),
+        Op::Alloc | Op::Differ | Op::IsObject => put(b"", writer),
     }
 }
 
@@ -199,12 +198,12 @@ fn name_of(instr: Instruction) -> &'static str
         Instr::Call(_) => "Call",
         Instr::Send(_, _) => "Send",
         Instr::SendSuper(_, _, _) => "SendSuper",
-        Instr::SendTo(_, _, _) => "SendTo",
+        Instr::SendTo(_, _) => "SendTo",
         Instr::SendToSuper(_, _, _) => "SendToSuper",
-        Instr::Return => "Return",
         Instr::StoreStrong(_) => "StoreStrong",
-        Instr::Drop => "Drop",
         Instr::Empty(_) => "Empty",
+        Instr::DropAll => "DropAll",
+        Instr::Return => "Return",
         Instr::EndStep => "EndStep",
     }
 }
@@ -223,14 +222,16 @@ fn name_of_op(op: Op) -> &'static str
         Op::PrintNum => "PrintNum",
         Op::PrintByte => "PrintByte",
         Op::GetChar => "GetChar",
+        Op::Declare => "Declare",
         Op::Nil => "Nil",
-        Op::HoldSelf => "HoldSelf",
-        Op::Hold(_) => "Hold",
-        Op::Forget(_) => "Forget",
+        Op::ReadSelf => "ReadSelf",
+        Op::ReadRef(_) => "ReadRef",
+        Op::Hold => "Hold",
+        Op::Forget => "Forget",
         Op::Alloc => "Alloc",
         Op::GetField(_, _) => "GetField",
-        Op::SetField(_, _, _) => "SetField",
-        Op::Differ(_) => "Differ",
+        Op::SetField(_, _) => "SetField",
+        Op::Differ => "Differ",
         Op::IsObject => "IsObject",
     }
 }

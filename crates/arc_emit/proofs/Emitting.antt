@@ -79,7 +79,7 @@ module _ (p : acting.Program) where
   steps_same (suc n) r = ap (further (running.step code)) (steps_same n r) ∙ further_same (after_steps (acting.step p) n r)
 
   code_safe : (n : ℕ) (s : State) → Safe (acting.step p) (acting.Fits p) n s → Safe (running.step code) (running.Fits code) n s
-  code_safe zero s fit = record { numbers = fit.numbers; places = fit.places; counts = fit.counts }
+  code_safe zero s fit = record { numbers = fit.numbers; names = fit.names; places = fit.places; counts = fit.counts }
   code_safe (suc n) s h =
       let Later = Safe (running.step code) (running.Fits code) n in
       subst (Along Later) (sym (step_same s)) (along_by (Safe (acting.step p) (acting.Fits p) n) Later (code_safe n) (acting.step p s) h)

@@ -39,6 +39,7 @@ code_of p = record {
   texts = texts_of p.actions;
   end_step = p.end_step;
   room = p.room;
+  names = p.names;
   places = p.places;
   classes = p.classes;
 }

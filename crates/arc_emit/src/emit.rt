@@ -54,6 +54,7 @@ fn write_code(alloc: Global, ir: &Ir) -> Result<Code, EmitFault>
         texts,
         end_step: ir.end_step,
         room: ir.room,
+        names: ir.names,
         places: ir.places,
         classes,
     })

@@ -23,12 +23,12 @@ pub fn instr_of(ir: &Ir, at: u32, from: u32, action: &Action) -> Instruction
         Instr::Call(function) => Instr::Call(entry(ir, *function)),
         Instr::Send(selector, takes) => Instr::Send(*selector, *takes),
         Instr::SendSuper(from, selector, takes) => Instr::SendSuper(*from, *selector, *takes),
-        Instr::SendTo(depth, selector, takes) => Instr::SendTo(*depth, *selector, *takes),
+        Instr::SendTo(selector, takes) => Instr::SendTo(*selector, *takes),
         Instr::SendToSuper(from, selector, takes) => Instr::SendToSuper(*from, *selector, *takes),
+        Instr::StoreStrong(number) => Instr::StoreStrong(*number),
+        Instr::Empty(number) => Instr::Empty(*number),
+        Instr::DropAll => Instr::DropAll,
         Instr::Return => Instr::Return,
-        Instr::StoreStrong(depth) => Instr::StoreStrong(*depth),
-        Instr::Drop => Instr::Drop,
-        Instr::Empty(depth) => Instr::Empty(*depth),
         Instr::EndStep => Instr::EndStep,
     }
 }

@@ -27,14 +27,16 @@ pub enum Target {
 pub type Action = Instr<Target, usize, TextPart>;
 
 /// A program: all actions, of which the first is where it begins; where each function begins; where
-/// the ends of objects go on; the most numbers that the stack comes to hold, and the most strong places
-/// that there come to be; and the classes, whose methods and deallocs run the action with a number.
+/// the ends of objects go on; the most numbers that the stack comes to hold, the most references and the
+/// most strong places that there come to be; and the classes, whose methods and deallocs run the action
+/// with a number.
 #[derive(Drop)]
 pub struct Ir {
     pub actions: Vec<Action>,
     pub entries: Vec<usize>,
     pub end_step: usize,
     pub room: usize,
+    pub names: usize,
     pub places: usize,
     pub classes: Vec<Class>,
 }

@@ -2,13 +2,22 @@
 use Rattle.std.proofs.Common.{◌≡◌, ℕ, zero, suc, ◌+◌, ◌-◌, ◌<◌, true, false, ◌&&◌, nat_eq, List, [], ◌∷◌, ◌++◌, length, Option, Some, None, slice_get, slice_set, refl, sym, ap, ◌∙◌, subst, ⊎_elim, arith}
 use Rattle.std.proofs.lemmas.Bool.{cases_eq, eq-eqb, and_from, false≢true}
 use Rattle.arc_spec.specs.Objects.{Object, Live, Dying, Gone, object_at, with_object, in_phase, with_fields, is_live, new_object}
-use Rattle.arc_spec.specs.Holding.{Held, nothing_held, holders, Counted, with_places, with_self, with_things, raised, lowered, placed, makes, gone_in, count_of}
+use Rattle.arc_spec.specs.Holding.{Held, nothing_held, holders, Counted, all_places, with_temporaries, with_variables, with_things, raised, lowered, taken_by, makes, gone_in, count_of}
 use Rattle.arc_spec.specs.Classes.{Class}
-use Rattle.arc_lower.proofs.CountsPlaces.{tally, one_more_if, one_less_if, tally_nil, tally_same, tally_other, holders_head, holders_nil, holders_set}
+use Rattle.arc_lower.proofs.CountsPlaces.{tally, one_more_if, one_less_if, tally_nil, tally_same, tally_other, holders_head, holders_append, holders_nil, holders_set}
+
+-- the counts are right where these places, and no others, are there
+pub record Counting (places : List ℕ) (h : Held) : Type 0 where
+  pub counted : (k : ℕ) → h.counts (suc k) ≡ holders (suc k) places
+  pub held : (k : ℕ) (o : Object) → object_at h.objects (suc k) ≡ Some o → o.phase ≡ Live → 0 < h.counts (suc k)
 
 -- the counts are right but for a place that named this, and is dropped
 abbrev pub Dropped : ℕ → Held → Type 0
-Dropped r h = Counted (with_places h (r ∷ h.places))
+Dropped r h = Counting (r ∷ all_places h) h
+
+-- how many of all places name an object
+pub all_holders : (k : ℕ) (h : Held) → holders k (all_places h) ≡ holders k h.temporaries + holders k h.variables + holders k h.places
+all_holders k h = omega (arith, holders_append k (h.temporaries ++ h.variables) h.places, holders_append k h.temporaries h.variables)
 
 -- an object whose dealloc hasn't begun has a holder
 abbrev pub Covered : List Object → (ℕ → ℕ) → Type 0
@@ -25,26 +34,43 @@ nothing_counted = record { counted = λ k. refl; held = λ k o e live. cc }
 
 -- ---- places
 
-pub same_places : (h : Held) (old new : List ℕ) → ((k : ℕ) → holders (suc k) old ≡ holders (suc k) new) → Counted (with_places h old) → Counted (with_places h new)
-same_places h old new same c = record { counted = λ k. c.counted k ∙ same k; held = c.held }
-
-pub forgets_nil : (h : Held) (rest : List ℕ) → Counted (with_places h (0 ∷ rest)) → Counted (with_places h rest)
-forgets_nil h rest c = same_places h (0 ∷ rest) rest (λ k. holders_nil k rest) c
-
-pub self_counted : (h : Held) (self : ℕ) → Counted h → Counted (with_self h self)
-self_counted h self c = record { counted = c.counted; held = c.held }
-
-pub placed_counted : (r : ℕ) (h : Held) → Counted h → Counted (placed r h)
-placed_counted r h c = record {
-  counted = λ k. omega (arith, raised_count r h (suc k), holders_head (suc k) r h.places, c.counted k);
+-- a temporary takes this
+pub taken_counted : (r : ℕ) (h : Held) → Counted h → Counted (taken_by r h)
+taken_counted r h c = record {
+  counted = λ k. omega (arith, raised_count r h (suc k), holders_head (suc k) r (all_places h), c.counted k);
   held = λ k o found live. omega (arith, raised_count r h (suc k), c.held k o found live);
 }
 
--- a place names another object, which has one holder more, and what it named is dropped
-pub stored_dropped : (h : Held) (depth old r : ℕ) → slice_get h.places depth ≡ Some old → Counted h → Dropped old (raised r (with_places h (slice_set h.places depth r)))
-stored_dropped h depth old r e c = record {
-  counted = λ k. omega (arith, raised_count r h (suc k), holders_head (suc k) old (slice_set h.places depth r), holders_set (suc k) depth old r h.places e, c.counted k);
+-- a further variable is nil
+pub declared_counted : (h : Held) → Counted h → Counted (raised 0 (with_variables h (0 ∷ h.variables)))
+declared_counted h c = record {
+  counted = λ k. omega (arith, raised_count 0 h (suc k), tally_nil k, all_holders (suc k) (with_variables h (0 ∷ h.variables)), all_holders (suc k) h, holders_nil k h.variables, c.counted k);
+  held = λ k o found live. omega (arith, raised_count 0 h (suc k), c.held k o found live);
+}
+
+-- a variable names another object, which has one holder more, and what it named is dropped
+pub stored_dropped : (h : Held) (i old r : ℕ) → slice_get h.variables i ≡ Some old → Counted h → Dropped old (raised r (with_variables h (slice_set h.variables i r)))
+stored_dropped h i old r e c = record {
+  counted = λ k.
+      let h1 = with_variables h (slice_set h.variables i r) in
+      omega (arith, raised_count r h1 (suc k), holders_head (suc k) old (all_places h1), all_holders (suc k) h1, all_holders (suc k) h, holders_set (suc k) i old r h.variables e, c.counted k);
   held = λ k o found live. omega (arith, raised_count r h (suc k), c.held k o found live);
+}
+
+-- the last temporary is dropped
+pub last_temporary : (h : Held) (r : ℕ) (others : List ℕ) → h.temporaries ≡ r ∷ others → Counted h → Dropped r (with_temporaries h others)
+last_temporary h r others e c = record {
+  counted = λ k.
+      let h1 = with_temporaries h others in
+      omega (arith, holders_head (suc k) r (all_places h1), all_holders (suc k) h1, all_holders (suc k) h, ap (holders (suc k)) e, holders_head (suc k) r others, c.counted k);
+  held = c.held;
+}
+
+-- the same places, of another function
+pub moved_counted : (h h1 : Held) → h1.objects ≡ h.objects → h1.counts ≡ h.counts → ((k : ℕ) → holders (suc k) (all_places h1) ≡ holders (suc k) (all_places h)) → Counted h → Counted h1
+moved_counted h h1 objects counts same c = record {
+  counted = λ k. ap (λ f. f (suc k)) counts ∙ c.counted k ∙ sym (same k);
+  held = λ k o found live. subst (λ f. 0 < f (suc k)) (sym counts) (c.held k o (ap (λ l. object_at l (suc k)) (sym objects) ∙ found) live);
 }
 
 -- ---- objects
@@ -83,13 +109,13 @@ live_seen o live = subst (λ phase. is_live (Some (in_phase phase o)) ≡ true) 
 
 pub nil_dropped : (h : Held) → Dropped 0 h → Counted (lowered 0 h)
 nil_dropped h d = record {
-  counted = λ k. omega (arith, lowered_count 0 h (suc k), tally_nil k, holders_nil k h.places, d.counted k);
+  counted = λ k. omega (arith, lowered_count 0 h (suc k), tally_nil k, holders_nil k (all_places h), d.counted k);
   held = λ k o found live. omega (arith, lowered_count 0 h (suc k), tally_nil k, d.held k o found live);
 }
 
 -- once the count of what was dropped is lowered, all counts are right
-pub lowered_counted : (r : ℕ) (h : Held) → Dropped r h → (k : ℕ) → (lowered r h).counts (suc k) ≡ holders (suc k) h.places
-lowered_counted r h d k = omega (arith, lowered_count r h (suc k), holders_head (suc k) r h.places, d.counted k)
+pub lowered_counted : (r : ℕ) (h : Held) → Dropped r h → (k : ℕ) → (lowered r h).counts (suc k) ≡ holders (suc k) (all_places h)
+lowered_counted r h d k = omega (arith, lowered_count r h (suc k), holders_head (suc k) r (all_places h), d.counted k)
 
 lowered_others : (r : ℕ) (h : Held) → Dropped (suc r) h → (k : ℕ) (o : Object) → (k ≡ r → ⊥) → object_at h.objects (suc k) ≡ Some o → o.phase ≡ Live → 0 < (lowered (suc r) h).counts (suc k)
 lowered_others r h d k o ne found live = omega (arith, lowered_count (suc r) h (suc k), tally_other (suc k) (suc r) (λ e. ne (omega (arith, e))), d.held k o found live)
@@ -133,7 +159,7 @@ made_covered h x r e c k o found live = ⊎_elim new_one old_one (cases_eq k r)
 -- an object is made, and a place takes it
 pub makes_counted : (classes : List Class) (class : ℕ) (h : Held) → Counted h → Counted (makes classes class h)
 makes_counted classes class h c = record {
-  counted = λ k. omega (arith, raised_count (suc (length h.objects)) h (suc k), holders_head (suc k) (suc (length h.objects)) h.places, c.counted k);
+  counted = λ k. omega (arith, raised_count (suc (length h.objects)) h (suc k), holders_head (suc k) (suc (length h.objects)) (all_places h), c.counted k);
   held = made_covered h (new_object class (count_of (slice_get classes class))) (length h.objects) refl c.held;
 }
 
@@ -150,5 +176,5 @@ gone_covered objects counts (suc o) None e c = rw e c
 gone_covered objects counts (suc o) (Some ob) e c = rw e (changed_covered objects counts o (in_phase Gone ob) (λ k other ne. c k other) (λ live. cc))
 
 -- an object is gone
-pub gone_counted : (h : Held) (o self : ℕ) → Counted h → Counted (with_self (with_things h (gone_in h.objects o)) self)
-gone_counted h o self c = record { counted = c.counted; held = gone_covered h.objects h.counts o (object_at h.objects o) refl c.held }
+pub gone_counted : (h : Held) (o : ℕ) → Counted h → Counted (with_things h (gone_in h.objects o))
+gone_counted h o c = record { counted = c.counted; held = gone_covered h.objects h.counts o (object_at h.objects o) refl c.held }

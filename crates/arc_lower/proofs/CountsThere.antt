@@ -3,7 +3,7 @@ use Rattle.std.proofs.Common.{◌≡◌, ℕ, zero, suc, ◌<◌, true, List, []
 use Rattle.std.proofs.lemmas.Bool.{cases_eq}
 use Rattle.arc_spec.specs.Objects.{Object, Gone, object_at, in_phase}
 use Rattle.arc_spec.specs.Stepping.{Next, only_if}
-use Rattle.arc_spec.specs.Holding.{Held, holders, is_there, gone_in, placed, on_object, holds}
+use Rattle.arc_spec.specs.Holding.{Held, holders, is_there, gone_in, taken_by, on_object, on_named, holds}
 use Rattle.arc_lower.proofs.CountsPlaces.{tally_nil, tally_same, tally_other, holders_head, holders_set, holders_nil}
 use Rattle.arc_lower.proofs.CountsHeld.{set_other}
 
@@ -25,9 +25,9 @@ fewer_there objects old new less all k some = all k (less k some)
 pub rest_there : (objects : List Object) (r : ℕ) (rest : List ℕ) → AllThere objects (r ∷ rest) → AllThere objects rest
 rest_there objects r rest = fewer_there objects (r ∷ rest) rest (λ k some. omega (arith, holders_head (suc k) r rest, some))
 
-pub placed_there : (objects : List Object) (r : ℕ) (places : List ℕ) → IsThere objects r → AllThere objects places → AllThere objects (r ∷ places)
-placed_there objects zero places there all k some = all k (omega (arith, holders_nil k places, some))
-placed_there objects (suc j) places there all k some = ⊎_elim (λ same. subst (λ i. IsThere objects (suc i)) (sym same) there) (λ ne. others ne) (cases_eq k j)
+pub taken_there : (objects : List Object) (r : ℕ) (places : List ℕ) → IsThere objects r → AllThere objects places → AllThere objects (r ∷ places)
+taken_there objects zero places there all k some = all k (omega (arith, holders_nil k places, some))
+taken_there objects (suc j) places there all k some = ⊎_elim (λ same. subst (λ i. IsThere objects (suc i)) (sym same) there) (λ ne. others ne) (cases_eq k j)
   where
     others : (k ≡ j → ⊥) → IsThere objects (suc k)
     others ne = all k (omega (arith, holders_head (suc k) (suc j) places, tally_other (suc k) (suc j) (λ e. ne (omega (arith, e))), some))
@@ -36,7 +36,7 @@ placed_there objects (suc j) places there all k some = ⊎_elim (λ same. subst 
 pub stored_there : (objects : List Object) (depth old r : ℕ) (places : List ℕ) → slice_get places depth ≡ Some old → IsThere objects r → AllThere objects places → AllThere objects (old ∷ slice_set places depth r)
 stored_there objects depth old r places found there all =
     fewer_there objects (r ∷ places) (old ∷ slice_set places depth r) (λ k some. omega (arith, holders_head (suc k) old (slice_set places depth r), holders_set (suc k) depth old r places found, holders_head (suc k) r places, some))
-    (placed_there objects r places there all)
+    (taken_there objects r places there all)
 
 -- what a place names
 pub place_there : (objects : List Object) (depth r : ℕ) (places : List ℕ) → slice_get places depth ≡ Some r → AllThere objects places → IsThere objects r
@@ -75,7 +75,7 @@ changed_there objects places j x there all k some = ⊎_elim this (λ ne. other 
 -- an object is made, and a place takes it
 pub made_there : (objects : List Object) (places : List ℕ) (x : Object) → is_there x.phase ≡ true → AllThere objects places → AllThere (objects ++ x ∷ []) (suc (length objects) ∷ places)
 made_there objects places x there all =
-    placed_there (objects ++ x ∷ []) (suc (length objects)) places (x, get_new objects x, there) (λ k some. before k (all k some))
+    taken_there (objects ++ x ∷ []) (suc (length objects)) places (x, get_new objects x, there) (λ k some. before k (all k some))
   where
     before : (k : ℕ) → IsThere objects (suc k) → IsThere (objects ++ x ∷ []) (suc k)
     before k found = (found.0, get_first objects k x found.0 found.1, found.2)
@@ -94,7 +94,10 @@ gone_there objects places j none all = gone_found objects places j (object_at ob
 pub object_goes : {S : Type 0} (found : Option Object) (o : Object) (go : Object → Next S) → found ≡ Some o → is_there o.phase ≡ true → on_object found go ≡ go o
 object_goes found o go e there = ap (λ f. on_object f go) e ∙ ap (λ b. only_if b (go o)) there
 
--- what is there can be held
-pub holds_goes : {S : Type 0} (r : ℕ) (h : Held) (go : Held → Next S) → IsThere h.objects r → holds r h go ≡ go (placed r h)
-holds_goes zero h go there = refl
-holds_goes (suc k) h go there = object_goes (object_at h.objects (suc k)) there.0 _ there.1 there.2
+-- what is there can be used, and can be held
+pub named_goes : {S : Type 0} (r : ℕ) (h : Held) (next : Next S) → IsThere h.objects r → on_named r h next ≡ next
+named_goes zero h next there = refl
+named_goes (suc k) h next there = object_goes (object_at h.objects (suc k)) there.0 (λ _. next) there.1 there.2
+
+pub holds_goes : {S : Type 0} (r : ℕ) (h : Held) (go : Held → Next S) → IsThere h.objects r → holds r h go ≡ go (taken_by r h)
+holds_goes r h go there = named_goes r h (go (taken_by r h)) there

@@ -3,7 +3,7 @@ use Rattle.std.proofs.Common.{◌≡◌, ℕ, ◌+◌, List, [], ◌∷◌, ◌+
 use Rattle.arc_spec.specs.Resolved.{Function, Program}
 use Rattle.arc_lower.specs.Order.{Order}
 use Rattle.arc_lower.specs.Lowered.{entry_of, function_orders, functions_orders, entries_from}
-use Rattle.arc_lower.specs.declared.height.Height.{Height}
+use Rattle.arc_code.specs.declared.effect.Height.{Height}
 use Rattle.arc_lower.specs.Heights.{highest, greatest, function_heights, functions_heights}
 
 pub greatest_append : (a b : List Height) (most : Height) → greatest (a ++ b) most ≡ greatest b (greatest a most)

@@ -4,6 +4,7 @@ mod CountsThere
 mod CountsKept
 mod Recounting
 mod Standing
+mod Taking
 mod Releasing
 mod Rows
 mod Weights
@@ -31,5 +32,6 @@ mod Programs
 mod HeightsFit
 mod Safety
 mod RoomSuffices
+mod Agreeing
 mod Transferring
 mod Whole

@@ -1,5 +1,5 @@
 -- Each order of a lowered program has what it needs, with the heights before it.
-use Rattle.std.proofs.Common.{◌≡◌, inl, ℕ, zero, suc, ◌+◌, ◌≤◌, pos, Bool, true, false, if◌then◌else◌, nat_lt, List, [], ◌∷◌, ◌++◌, length, Option, Some, None, refl, sym, ap, ◌∙◌, subst, arith, length-append, slice_get, slice_index_or}
+use Rattle.std.proofs.Common.{◌≡◌, inl, inr, ℕ, zero, suc, ◌+◌, ◌≤◌, pos, Bool, true, false, if◌then◌else◌, nat_lt, List, [], ◌∷◌, ◌++◌, length, Option, Some, None, refl, sym, ap, ◌∙◌, subst, arith, length-append, slice_get, slice_index_or}
 use Rattle.std.proofs.lemmas.Bool.{ltb-false}
 use Rattle.arc_ast.specs.declared.tree.Sign.{Sign}
 use Rattle.arc_spec.specs.declared.class.Method.{Method}
@@ -7,24 +7,28 @@ use Rattle.arc_spec.specs.Classes.{Class, answers, found, own_methods, or_else, 
 use Rattle.arc_spec.specs.Resolved.{Function, Commands}
 use Rattle.arc_spec.specs.Resolved as resolved
 use Rattle.arc_spec.specs.Meaning.{function_at}
-use Rattle.arc_code.specs.declared.instr.Op.TheVariants.{Num, Forget}
+use Rattle.arc_code.specs.declared.effect.Height.{Height}
+use Rattle.arc_code.specs.declared.instr.Op.TheVariants.{Num}
 use Rattle.arc_code.specs.declared.instr.Instr.TheVariants.{Plain, Jump, Call, Return, Empty, EndStep}
 use Rattle.arc_code.specs.Effects.{passes}
 use Rattle.arc_ir.specs.declared.action.Target.TheVariants.{At}
 use Rattle.arc_lower.specs.Order.{Order}
-use Rattle.arc_lower.specs.Lowered.{all_functions, number_of, slots_of, zero_orders, fit_orders, nil_orders, keep_orders, all_empty_orders, commands_block, flat, function_orders, functions_orders, entries_from, start_orders, end_step_of, entry_of, entries_of, stub_orders, methods_orders, dealloc_orders, class_orders, classes_orders, linked_methods, linked_dealloc, linked_classes, running_orders, lowered, classes_linked}
-use Rattle.arc_lower.specs.declared.height.Height.{Height}
-use Rattle.arc_lower.specs.Heights.{height, next_height, last_height, heights, start_heights, function_heights, functions_heights, stub_heights, methods_heights, dealloc_heights, class_heights, classes_heights, lowered_heights}
+use Rattle.arc_lower.specs.Lowered.{all_functions, number_of, slots_of, zero_orders, fit_orders, declare_orders, pop_orders, keep_orders, all_empty_orders, commands_block, flat, function_orders, functions_orders, entries_from, start_orders, end_step_of, entry_of, entries_of, stub_orders, methods_orders, dealloc_orders, class_orders, classes_orders, linked_methods, linked_dealloc, linked_classes, running_orders, lowered, classes_linked}
+use Rattle.arc_lower.specs.Heights.{height, between, next_height, last_height, heights, start_heights, function_heights, functions_heights, stub_heights, methods_heights, dealloc_heights, class_heights, classes_heights, lowered_heights}
 use Rattle.arc_lower.proofs.Rows.{zeros_length}
 use Rattle.arc_lower.proofs.Linking.{numbered}
 use Rattle.arc_lower.proofs.Finding.{passes_same}
-use Rattle.arc_lower.proofs.Typing.{heights_same, slots_same, number_there, Types, types_same, types_last, keep_types, zeros_type, fit_types, nils_type, commands_type}
+use Rattle.arc_lower.proofs.Typing.{heights_same, slots_same, number_there, Types, types_same, types_last, tested, left, keep_types, zeros_type, fit_types, declare_types, commands_type}
 use Rattle.arc_lower.proofs.HeightsEnd.{last_append, block_ends}
-use Rattle.arc_lower.proofs.Stepping.{some_same, HasPart, part_front, part_back, has_whole, types_ordinary, Clears, Stands, Goes, left, StepsAt, AllStep, step_then, opens_goes, Row, row_of, row_prefix, row_front, row_back, Follows, goes_here, typed_steps, block_ordinary, block_steps}
+use Rattle.arc_lower.proofs.Stepping.{some_same, HasPart, part_front, part_back, has_whole, types_ordinary, Takes, Clears, Stands, Goes, StepsAt, AllStep, step_then, IsReturn, opens_goes, none_goes, Row, row_of, row_prefix, row_front, row_back, Follows, goes_here, typed_steps, AllTake, takes_stand, takes_step, block_ordinary, block_steps}
 
 heights_length : (R : resolved.Program) (base h : Height) (xs : List Order) → length (heights R base h xs) ≡ length xs
 heights_length R base h [] = refl
 heights_length R base h (x ∷ xs) = ap suc (heights_length R base (next_height R base x h) xs)
+
+abbrev NoReturn : Order → Type 0
+NoReturn Return = ⊥
+NoReturn _ = Unit {0}
 
 -- an order that isn't the last step of an object's end
 abbrev NoEnd : Order → Type 0
@@ -58,29 +62,33 @@ module _ (R : resolved.Program) where
 
   module _ (place slots names : ℕ) (cs : Commands) where
     abbrev base : Height
-    base = height slots names
+    base = between slots names
 
     -- where it is left
     abbrev leaving : Height
-    leaving = height (suc slots) names
+    leaving = tested slots names
 
     abbrev emptied : ℕ → List Order
     emptied n = all_empty_orders names 0 n
 
-    abbrev forgotten : List Order
-    forgotten = Plain (Forget names) ∷ keep_orders slots
+    abbrev keep : List Order
+    keep = keep_orders slots
 
     abbrev leave : List Order
-    leave = emptied names ++ (forgotten ++ Return ∷ [])
+    leave = emptied names ++ (keep ++ Return ∷ [])
 
     abbrev entered : ℕ
     entered = place + length leave
 
-    abbrev nils : List Order
-    nils = nil_orders names
+    -- where it is entered
+    abbrev begun : Height
+    begun = height slots 0 0 0
+
+    abbrev declared : List Order
+    declared = declare_orders names
 
     abbrev start : ℕ
-    start = entered + length nils
+    start = entered + length declared
 
     abbrev statements : List Order
     statements = flat place (commands_block R slots names cs)
@@ -89,16 +97,40 @@ module _ (R : resolved.Program) where
     end = Plain (Num (pos 0)) ∷ Jump (At place) ∷ []
 
     abbrev body : List Order
-    body = nils ++ (statements ++ end)
+    body = declared ++ (statements ++ end)
 
     abbrev Rows : ℕ → Height → List Order → Type 0
     Rows = Row R all table base
 
     statements_end : last_height R base base statements ≡ base
-    statements_end = block_ends R slots names place (commands_block R slots names cs) slots names slots names (commands_type R slots names cs)
+    statements_end = block_ends R slots names place (commands_block R slots names cs) base base (commands_type R slots names cs)
 
-    leave_ends : last_height R base leaving leave ≡ height slots 0
-    leave_ends = last_append R base leaving (emptied names) (forgotten ++ Return ∷ []) ∙ last_append R base (last_height R base leaving (emptied names)) forgotten (Return ∷ [])
+    empty_stays : (i : ℕ) → left R (Empty i) leaving ≡ leaving
+    empty_stays i = heights_same _ _ _ _ (suc slots) 0 0 names (omega arith) (omega arith) (omega arith) (omega arith)
+
+    empty_ends : (b : Bool) (i : ℕ) → last_height R base leaving (if b then Empty i ∷ [] else []) ≡ leaving
+    empty_ends true i = empty_stays i
+    empty_ends false i = refl
+
+    emptied_ends : (n : ℕ) → last_height R base leaving (emptied n) ≡ leaving
+    emptied_ends zero = refl
+    emptied_ends (suc n) = last_append R base leaving (if nat_lt (0 + n) names then Empty (0 + n) ∷ [] else []) (emptied n) ∙ ap (λ h. last_height R base h (emptied n)) (empty_ends (nat_lt (0 + n) names) (0 + n)) ∙ emptied_ends n
+
+    pops_take : (n : ℕ) → AllTake R all table base (pop_orders n)
+    pops_take zero = tt
+    pops_take (suc n) = (tt, pops_take n)
+
+    keep_takes : (n : ℕ) → AllTake R all table base (keep_orders n)
+    keep_takes zero = tt
+    keep_takes (suc n) = (tt, pops_take n)
+
+    keep_typed : Types R 0 0 leaving keep (height 1 0 0 names)
+    keep_typed = subst (λ h. Types R 0 0 h keep (height 1 0 0 names)) (heights_same (suc (slots + 0)) 0 0 names (suc slots) 0 0 names (omega arith) refl refl refl) (keep_types R 0 0 0 0 names slots 0)
+
+    leave_ends : last_height R base leaving leave ≡ begun
+    leave_ends =
+        last_append R base leaving (emptied names) (keep ++ Return ∷ [])
+        ∙ last_append R base (last_height R base leaving (emptied names)) keep (Return ∷ [])
 
     -- before so many variables are emptied the others are nil
     abbrev Emptying : ℕ → ℕ → Type 0
@@ -107,27 +139,26 @@ module _ (R : resolved.Program) where
     same_place : (i j : ℕ) (x y : Order) → x ≡ Empty i → y ≡ Empty j → x ≡ y → i ≡ j
     same_place i j x y e f same = cc
 
-    other_order : (i count : ℕ) (x y : Order) → x ≡ Empty i → y ≡ Plain (Forget count) → x ≡ y → ⊥
-    other_order i count x y e f same = cc
+    other_order : (i : ℕ) (x y : Order) → Takes y → x ≡ Empty i → x ≡ y → ⊥
+    other_order i x y takes e same = subst Takes (sym same ∙ e) takes
 
-    emptying : (n pc : ℕ) (ys : List Order) → n ≤ names → Rows pc leaving (emptied n ++ Plain (Forget names) ∷ ys) → Emptying n pc
-    emptying zero pc ys le f = (tt, record { height = f.0; order = Plain (Forget names); is = f.1; no_end = λ same. subst NoEnd same tt }, only f.1)
-      where
-        only : slice_get all pc ≡ Some (Plain (Forget names)) → (k : ℕ) → Clears R all table k pc → k ≡ 0
-        only is zero c = refl
-        only is (suc j) c = absurd (other_order j names (Empty j) (Plain (Forget names)) refl refl (some_same {A = Order} (Empty j) (Plain (Forget names)) (sym c.0 ∙ is)))
-    emptying (suc n) pc ys le f = by (nat_lt (0 + n) names) refl (λ rest. emptying n (pc + 1) ys (omega (arith, le)) rest) f
+    other_return : (i : ℕ) (x y : Order) → x ≡ Empty i → y ≡ Return → x ≡ y → ⊥
+    other_return i x y e f same = subst NoReturn (sym e ∙ same ∙ f) tt
+
+    emptying : (n pc : ℕ) → n ≤ names → Rows pc leaving (emptied n ++ (keep ++ Return ∷ [])) → Emptying n pc
+    emptying zero pc le f = let there = takes_stand R all table base pc leaving keep (keep_takes slots) f in (tt, there.0, there.1)
+    emptying (suc n) pc le f = by (nat_lt (0 + n) names) refl (λ rest. emptying n (pc + 1) (omega (arith, le)) rest) f
       where
         only : slice_get all pc ≡ Some (Empty (0 + n)) → (k : ℕ) → Clears R all table k pc → k ≡ suc n
-        only is zero c = absurd (other_order (0 + n) c.0 (Empty (0 + n)) (Plain (Forget c.0)) refl refl (some_same {A = Order} (Empty (0 + n)) (Plain (Forget c.0)) (sym is ∙ c.1)))
+        only is zero (zero, e) = absurd (other_return (0 + n) (Empty (0 + n)) Return refl refl (some_same {A = Order} (Empty (0 + n)) Return (sym is ∙ e)))
+        only is zero (suc m, y) = absurd (other_order (0 + n) (Empty (0 + n)) y.0 y.2 refl (some_same {A = Order} (Empty (0 + n)) y.0 (sym is ∙ y.1)))
         only is (suc j) c = let i = same_place j (0 + n) (Empty j) (Empty (0 + n)) refl refl (some_same {A = Order} (Empty j) (Empty (0 + n)) (sym c.0 ∙ is)) in omega (arith, i)
 
-        by : (b : Bool) → nat_lt (0 + n) names ≡ b → (Rows (pc + 1) leaving (emptied n ++ Plain (Forget names) ∷ ys) → Emptying n (pc + 1)) → Rows pc leaving (((if b then Empty (0 + n) ∷ [] else []) ++ emptied n) ++ Plain (Forget names) ∷ ys) → Step_all pc ((if b then Empty (0 + n) ∷ [] else []) ++ emptied n) × Stands R all table pc leaving × ((k : ℕ) → Clears R all table k pc → k ≡ suc n)
+        by : (b : Bool) → nat_lt (0 + n) names ≡ b → (Rows (pc + 1) leaving (emptied n ++ (keep ++ Return ∷ [])) → Emptying n (pc + 1)) → Rows pc leaving (((if b then Empty (0 + n) ∷ [] else []) ++ emptied n) ++ (keep ++ Return ∷ [])) → Step_all pc ((if b then Empty (0 + n) ∷ [] else []) ++ emptied n) × Stands R all table pc leaving × ((k : ℕ) → Clears R all table k pc → k ≡ suc n)
         by false e others f = let ge = ltb-false (0 + n) names e in absurd (omega (arith, le, ge))
         by true e others f =
-            let same : left R all table leaving (Empty (0 + n)) ≡ leaving = heights_same _ _ (suc slots) names (omega arith) (omega arith) in
-            let rest = others (subst (λ h. Rows (pc + 1) h (emptied n ++ Plain (Forget names) ∷ ys)) same f.2) in (
-              ((leaving, f.0, (omega (arith, le), subst (Stands R all table (pc + 1)) (sym same) rest.1, λ k c. let is = rest.2 k c in inl (omega (arith, is)))), rest.0),
+            let rest = others (subst (λ h. Rows (pc + 1) h (emptied n ++ (keep ++ Return ∷ []))) (empty_stays (0 + n)) f.2) in (
+              ((leaving, f.0, (omega (arith, le), subst (Stands R all table (pc + 1)) (sym (empty_stays (0 + n))) rest.1, λ k c. let is = rest.2 k c in inl (omega (arith, is)))), rest.0),
               record { height = f.0; order = Empty (0 + n); is = f.1; no_end = λ same. subst NoEnd same tt },
               only f.1,
             )
@@ -137,19 +168,19 @@ module _ (R : resolved.Program) where
       leave_row = row_prefix R all table base place leaving leave body has
 
       exit : Emptying names place
-      exit = emptying names place (keep_orders slots ++ Return ∷ []) (omega arith) leave_row
+      exit = emptying names place (omega arith) leave_row
 
       exit_goes : Goes_to place leaving
       exit_goes = (exit.1, λ k c. let e = exit.2 k c in omega (arith, e))
 
-      body_row : Rows entered (height slots 0) body
+      body_row : Rows entered begun body
       body_row = subst (λ h. Rows entered h body) leave_ends (row_back R all table base place leaving leave body has)
 
-      nils_typed : Types R 0 0 slots 0 nils slots names
-      nils_typed = types_same R 0 0 slots 0 nils slots (names + 0) slots names refl (omega arith) (nils_type R 0 0 names slots 0)
+      declared_typed : Types R 0 0 begun declared base
+      declared_typed = types_same R 0 0 begun declared (height slots 0 0 (names + 0)) base (heights_same _ _ _ _ slots 0 0 names refl refl refl (omega arith)) (declare_types R 0 0 names slots 0)
 
       rows : Rows start base (statements ++ end)
-      rows = subst (λ h. Rows start h (statements ++ end)) (types_last R 0 0 base slots 0 nils slots names nils_typed) (row_back R all table base entered (height slots 0) nils (statements ++ end) body_row)
+      rows = subst (λ h. Rows start h (statements ++ end)) (types_last R 0 0 base begun declared base declared_typed) (row_back R all table base entered begun declared (statements ++ end) body_row)
 
       last : Rows (start + length statements) base end
       last = subst (λ h. Rows (start + length statements) h end) statements_end (row_back R all table base start base statements end rows)
@@ -157,46 +188,29 @@ module _ (R : resolved.Program) where
       statements_follow : Follows R all table base start base statements
       statements_follow = row_front R all table base start base statements end (subst (Goes_to (start + length statements)) (sym statements_end) (opens_goes R all table (start + length statements) base (Plain (Num (pos 0))) tt last.0 last.1)) rows
 
-      nils_follow : Follows R all table base entered (height slots 0) nils
-      nils_follow = row_front R all table base entered (height slots 0) nils (statements ++ end) (subst (Goes_to start) (sym (types_last R 0 0 base slots 0 nils slots names nils_typed)) (goes_here R all table base start base statements (block_ordinary R all table slots names place (commands_block R slots names cs) slots names slots names (commands_type R slots names cs)) statements_follow)) body_row
+      declared_follow : Follows R all table base entered begun declared
+      declared_follow = row_front R all table base entered begun declared (statements ++ end) (subst (Goes_to start) (sym (types_last R 0 0 base begun declared base declared_typed)) (goes_here R all table base start base statements (block_ordinary R all table slots names place (commands_block R slots names cs) base base (commands_type R slots names cs)) statements_follow)) body_row
 
-      pub entry_goes : Goes_to entered (height slots 0)
-      entry_goes = goes_here R all table base entered (height slots 0) nils (types_ordinary R 0 0 slots 0 nils slots names nils_typed) nils_follow
+      pub entry_goes : Goes_to entered begun
+      entry_goes = goes_here R all table base entered begun declared (types_ordinary R begun declared base declared_typed) declared_follow
 
       leave_steps : Step_all place leave
       leave_steps =
           let q = place + length (emptied names) in
-          let keep = keep_orders slots in
-          let emptied_same = types_emptied in
-          let behind = subst (λ h. Rows q h (forgotten ++ Return ∷ [])) emptied_same (row_back R all table base place leaving (emptied names) (forgotten ++ Return ∷ []) leave_row) in
-          let low : left R all table leaving (Plain (Forget names)) ≡ height (suc (slots + 0)) 0 = heights_same _ _ (suc (slots + 0)) 0 (omega arith) (omega arith) in
-          let kept = subst (λ h. Rows (q + 1) h (keep ++ Return ∷ [])) low behind.2 in
-          let typed = keep_types R 0 0 slots 0 0 in
-          let one = subst (λ h. Rows (q + 1 + length keep) h (Return ∷ [])) (types_last R 0 0 base (suc (slots + 0)) 0 keep 1 0 typed) (row_back R all table base (q + 1) (height (suc (slots + 0)) 0) keep (Return ∷ []) kept) in
-          let keeps = row_front R all table base (q + 1) (height (suc (slots + 0)) 0) keep (Return ∷ []) (subst (Goes_to (q + 1 + length keep)) (sym (types_last R 0 0 base (suc (slots + 0)) 0 keep 1 0 typed)) (opens_goes R all table (q + 1 + length keep) (height 1 0) Return tt one.0 one.1)) kept in
-          let next = goes_here R all table base (q + 1) (height (suc (slots + 0)) 0) keep (types_ordinary R 0 0 _ _ keep 1 0 typed) keeps in
-          step_then R all table place (emptied names) (forgotten ++ Return ∷ []) exit.0
-          ((leaving, behind.0, (refl, subst (Goes_to (q + 1)) (sym low) next)), step_then R all table (q + 1) keep (Return ∷ []) (typed_steps R all table base (q + 1) (suc (slots + 0)) 0 keep 1 0 typed keeps) ((height 1 0, one.0, (refl, refl)), tt))
-        where
-          types_emptied : last_height R base leaving (emptied names) ≡ leaving
-          types_emptied = emptied_ends names
-            where
-              empty_ends : (b : Bool) (i : ℕ) → last_height R base leaving (if b then Empty i ∷ [] else []) ≡ leaving
-              empty_ends true i = heights_same _ _ (suc slots) names (omega arith) (omega arith)
-              empty_ends false i = refl
-
-              emptied_ends : (n : ℕ) → last_height R base leaving (emptied n) ≡ leaving
-              emptied_ends zero = refl
-              emptied_ends (suc n) = last_append R base leaving (if nat_lt (0 + n) names then Empty (0 + n) ∷ [] else []) (emptied n) ∙ ap (λ h. last_height R base h (emptied n)) (empty_ends (nat_lt (0 + n) names) (0 + n)) ∙ emptied_ends n
+          let behind = subst (λ h. Rows q h (keep ++ Return ∷ [])) (emptied_ends names) (row_back R all table base place leaving (emptied names) (keep ++ Return ∷ []) leave_row) in
+          let one = subst (λ h. Rows (q + length keep) h (Return ∷ [])) (types_last R 0 0 base leaving keep (height 1 0 0 names) keep_typed) (row_back R all table base q leaving keep (Return ∷ []) behind) in
+          step_then R all table place (emptied names) (keep ++ Return ∷ []) exit.0
+          (step_then R all table q keep (Return ∷ []) (takes_step R all table base q leaving keep (height 1 0 0 names) (keep_takes slots) keep_typed behind) ((height 1 0 0 names, one.0, (refl, refl, refl)), tt))
 
       pub function_steps : Step_all place (leave ++ body)
       function_steps =
-          let up : next_height R base (Plain (Num (pos 0))) base ≡ leaving = heights_same _ _ (suc slots) names (omega arith) (omega arith) in
+          let up : next_height R base (Plain (Num (pos 0))) base ≡ leaving = heights_same _ _ _ _ (suc slots) 0 0 names (omega arith) (omega arith) (omega arith) (omega arith) in
           let q = start + length statements in
+          let jump = opens_goes R all table (q + 1) _ (Jump (At place)) tt last.2.0 last.2.1 in
           step_then R all table place leave body leave_steps
-          (step_then R all table entered nils (statements ++ end) (typed_steps R all table base entered slots 0 nils slots names nils_typed nils_follow)
-          (step_then R all table start statements end (block_steps R all table slots names place exit_goes (commands_block R slots names cs) slots names slots names start (commands_type R slots names cs) statements_follow)
-          ((base, last.0, (tt, opens_goes R all table (q + 1) _ (Jump (At place)) tt last.2.0 last.2.1)), ((leaving, last.2.0 ∙ ap Some up, exit_goes), tt))))
+          (step_then R all table entered declared (statements ++ end) (typed_steps R all table base entered begun declared base declared_typed declared_follow)
+          (step_then R all table start statements end (block_steps R all table slots names place exit_goes (commands_block R slots names cs) base base start (commands_type R slots names cs) statements_follow)
+          ((base, last.0, (tt, (jump.0, λ k c. inr (jump.1 k c)))), ((leaving, last.2.0 ∙ ap Some up, exit_goes), tt))))
 
   -- ---- all functions
 
@@ -209,7 +223,7 @@ module _ (R : resolved.Program) where
   pub record Entered (entries : List ℕ) (n slots : ℕ) : Type 0 where
     pub at : ℕ
     pub is : slice_get entries n ≡ Some at
-    pub goes : Goes R all table at (height slots 0)
+    pub goes : Goes R all table at (height slots 0 0 0)
 
   functions_begin : (fs : List Function) (place n : ℕ) (f : Function) → Both place (functions_heights R place fs) (functions_orders R place fs) → slice_get fs n ≡ Some f → Entered (entries_from R place fs) n f.slots
   functions_begin [] place n f has e = cc
@@ -217,7 +231,7 @@ module _ (R : resolved.Program) where
       let same : g ≡ f = cc in
       let xs = function_orders R place g in
       let here = both_front place (function_heights R place g) (functions_heights R (place + length xs) fs) xs _ (function_length place g) has in
-      record { at = entry_of place g; is = refl; goes = subst (λ (h : Function). Goes_to (entry_of place g) (height h.slots 0)) same (entry_goes place g.slots g.names g.body (row (height g.slots g.names) (height (suc g.slots) g.names) place xs here)) }
+      record { at = entry_of place g; is = refl; goes = subst (λ (h : Function). Goes_to (entry_of place g) (height h.slots 0 0 0)) same (entry_goes place g.slots g.names g.body (row (height g.slots 0 0 g.names) (height (suc g.slots) 0 0 g.names) place xs here)) }
   functions_begin (g ∷ fs) place (suc n) f has e =
       let xs = function_orders R place g in
       let there = functions_begin fs (place + length xs) n f (both_back place (function_heights R place g) (functions_heights R (place + length xs) fs) xs _ (function_length place g) has) e in
@@ -228,7 +242,7 @@ module _ (R : resolved.Program) where
   functions_step (g ∷ fs) place has =
       let xs = function_orders R place g in
       let rest = functions_heights R (place + length xs) fs in
-      step_then R all table place xs (functions_orders R (place + length xs) fs) (function_steps place g.slots g.names g.body (row (height g.slots g.names) (height (suc g.slots) g.names) place xs (both_front place (function_heights R place g) rest xs _ (function_length place g) has)))
+      step_then R all table place xs (functions_orders R (place + length xs) fs) (function_steps place g.slots g.names g.body (row (height g.slots 0 0 g.names) (height (suc g.slots) 0 0 g.names) place xs (both_front place (function_heights R place g) rest xs _ (function_length place g) has)))
       (functions_step fs (place + length xs) (both_back place (function_heights R place g) rest xs _ (function_length place g) has))
 
   functions_length : (fs : List Function) (place : ℕ) → length (functions_heights R place fs) ≡ length (functions_orders R place fs)
@@ -240,19 +254,19 @@ module _ (R : resolved.Program) where
   -- ---- stubs
 
   abbrev zeroed : Height
-  zeroed = height 0 0
+  zeroed = height 0 0 0 0
 
   abbrev stub : (values f : ℕ) → List Order
   stub values f = stub_orders R (entries_of R) values f
 
   stub_length : (values f : ℕ) → length (stub_heights R (entries_of R) values f) ≡ length (stub values f)
-  stub_length values f = heights_length R zeroed (height values 0) (stub values f)
+  stub_length values f = heights_length R zeroed (height values 0 0 0) (stub values f)
 
-  fit_typed : (values slots : ℕ) → Types R 0 0 values 0 (fit_orders values slots) slots 0
+  fit_typed : (values slots : ℕ) → Types R 0 0 (height values 0 0 0) (fit_orders values slots) (height slots 0 0 0)
   fit_typed values slots =
       let v : values + 0 ≡ values = omega arith in
       let s : slots + 0 ≡ slots = omega arith in
-      subst (λ n. Types R 0 0 n 0 (fit_orders values slots) slots 0) v (subst (λ m. Types R 0 0 (values + 0) 0 (fit_orders values slots) m 0) s (fit_types R 0 0 values slots 0 0))
+      subst (λ n. Types R 0 0 (height n 0 0 0) (fit_orders values slots) (height slots 0 0 0)) v (subst (λ m. Types R 0 0 (height (values + 0) 0 0 0) (fit_orders values slots) (height m 0 0 0)) s (fit_types R 0 0 0 0 0 values slots 0))
 
   module _ (values f place : ℕ) (has : Both place (stub_heights R (entries_of R) values f) (stub values f)) where
     abbrev fit : List Order
@@ -261,20 +275,20 @@ module _ (R : resolved.Program) where
     abbrev to : ℕ
     to = slice_index_or (entries_of R) (number_of R f) 0
 
-    stub_row : Row R all table zeroed place (height values 0) (stub values f)
-    stub_row = row zeroed (height values 0) place (stub values f) has
+    stub_row : Row R all table zeroed place (height values 0 0 0) (stub values f)
+    stub_row = row zeroed (height values 0 0 0) place (stub values f) has
 
-    stub_last : Row R all table zeroed (place + length fit) (height (slots_of R f) 0) (Jump (At to) ∷ [])
-    stub_last = subst (λ h. Row R all table zeroed (place + length fit) h (Jump (At to) ∷ [])) (types_last R 0 0 zeroed values 0 fit (slots_of R f) 0 (fit_typed values (slots_of R f))) (row_back R all table zeroed place (height values 0) fit (Jump (At to) ∷ []) stub_row)
+    stub_last : Row R all table zeroed (place + length fit) (height (slots_of R f) 0 0 0) (Jump (At to) ∷ [])
+    stub_last = subst (λ h. Row R all table zeroed (place + length fit) h (Jump (At to) ∷ [])) (types_last R 0 0 zeroed (height values 0 0 0) fit (height (slots_of R f) 0 0 0) (fit_typed values (slots_of R f))) (row_back R all table zeroed place (height values 0 0 0) fit (Jump (At to) ∷ []) stub_row)
 
-    stub_follows : Follows R all table zeroed place (height values 0) fit
-    stub_follows = row_front R all table zeroed place (height values 0) fit (Jump (At to) ∷ []) (subst (Goes_to (place + length fit)) (sym (types_last R 0 0 zeroed values 0 fit (slots_of R f) 0 (fit_typed values (slots_of R f)))) (opens_goes R all table (place + length fit) (height (slots_of R f) 0) (Jump (At to)) tt stub_last.0 stub_last.1)) stub_row
+    stub_follows : Follows R all table zeroed place (height values 0 0 0) fit
+    stub_follows = row_front R all table zeroed place (height values 0 0 0) fit (Jump (At to) ∷ []) (subst (Goes_to (place + length fit)) (sym (types_last R 0 0 zeroed (height values 0 0 0) fit (height (slots_of R f) 0 0 0) (fit_typed values (slots_of R f)))) (opens_goes R all table (place + length fit) (height (slots_of R f) 0 0 0) (Jump (At to)) tt stub_last.0 stub_last.1)) stub_row
 
-    pub stub_goes : Goes_to place (height values 0)
-    stub_goes = goes_here R all table zeroed place (height values 0) fit (types_ordinary R 0 0 values 0 fit (slots_of R f) 0 (fit_typed values (slots_of R f))) stub_follows
+    pub stub_goes : Goes_to place (height values 0 0 0)
+    stub_goes = goes_here R all table zeroed place (height values 0 0 0) fit (types_ordinary R (height values 0 0 0) fit (height (slots_of R f) 0 0 0) (fit_typed values (slots_of R f))) stub_follows
 
-    stub_steps : Goes_to to (height (slots_of R f) 0) → Step_all place (stub values f)
-    stub_steps goes = step_then R all table place fit (Jump (At to) ∷ []) (typed_steps R all table zeroed place values 0 fit (slots_of R f) 0 (fit_typed values (slots_of R f)) stub_follows) ((height (slots_of R f) 0, stub_last.0, goes), tt)
+    stub_steps : Goes_to to (height (slots_of R f) 0 0 0) → Step_all place (stub values f)
+    stub_steps goes = step_then R all table place fit (Jump (At to) ∷ []) (typed_steps R all table zeroed place (height values 0 0 0) fit (height (slots_of R f) 0 0 0) (fit_typed values (slots_of R f)) stub_follows) ((height (slots_of R f) 0 0 0, stub_last.0, goes), tt)
 
   methods_length : (ms : List Method) → length (methods_heights R (entries_of R) ms) ≡ length (methods_orders R (entries_of R) ms)
   methods_length [] = refl
@@ -314,7 +328,7 @@ module _ (R : resolved.Program) where
   class_methods : (place : ℕ) (c : Class) → Both place (class_heights R (entries_of R) c) (class_orders R (entries_of R) c) → Methods (place + length (dealloc_orders R (entries_of R) c.dealloc)) c.methods
   class_methods place c has = both_back place (dealloc_heights R (entries_of R) c.dealloc) _ (dealloc_orders R (entries_of R) c.dealloc) _ (dealloc_length c.dealloc) has
 
-  module _ (target : (f : ℕ) → Goes_to (slice_index_or (entries_of R) (number_of R f) 0) (height (slots_of R f) 0)) where
+  module _ (target : (f : ℕ) → Goes_to (slice_index_or (entries_of R) (number_of R f) 0) (height (slots_of R f) 0 0 0)) where
     methods_step : (ms : List Method) (place : ℕ) → Methods place ms → Step_all place (methods_orders R (entries_of R) ms)
     methods_step [] place has = tt
     methods_step (m ∷ others) place has =
@@ -336,21 +350,21 @@ module _ (R : resolved.Program) where
 
   -- ---- what messages and ends of objects find
 
-  found_goes : (ms : List Method) (place : ℕ) → Methods place ms → (sign : Sign) (selector takes to : ℕ) → found sign selector takes (linked_methods R (entries_of R) place ms) ≡ Some to → Goes_to to (height (passes sign takes) 0)
+  found_goes : (ms : List Method) (place : ℕ) → Methods place ms → (sign : Sign) (selector takes to : ℕ) → found sign selector takes (linked_methods R (entries_of R) place ms) ≡ Some to → Goes_to to (height (passes sign takes) 0 0 0)
   found_goes [] place has sign selector takes to e = cc
   found_goes (m ∷ others) place has sign selector takes to e =
       by (found_goes others (place + length (stub (passes m.sign m.takes) m.runs)) (other_methods place m others has) sign selector takes to)
       (stub_goes (passes m.sign m.takes) m.runs place (first_method place m others has)) (answers sign selector takes m) refl e
     where
-      by : (found sign selector takes (linked_methods R (entries_of R) (place + length (stub (passes m.sign m.takes) m.runs)) others) ≡ Some to → Goes_to to (height (passes sign takes) 0)) → Goes_to place (height (passes m.sign m.takes) 0) → (t : Bool) → answers sign selector takes m ≡ t
-          → (if t then Some place else found sign selector takes (linked_methods R (entries_of R) (place + length (stub (passes m.sign m.takes) m.runs)) others)) ≡ Some to → Goes_to to (height (passes sign takes) 0)
-      by rest here true is e = subst (λ n. Goes_to n (height (passes sign takes) 0)) (some_same place to e) (subst (λ n. Goes_to place (height n 0)) (passes_same sign selector takes m is) here)
+      by : (found sign selector takes (linked_methods R (entries_of R) (place + length (stub (passes m.sign m.takes) m.runs)) others) ≡ Some to → Goes_to to (height (passes sign takes) 0 0 0)) → Goes_to place (height (passes m.sign m.takes) 0 0 0) → (t : Bool) → answers sign selector takes m ≡ t
+          → (if t then Some place else found sign selector takes (linked_methods R (entries_of R) (place + length (stub (passes m.sign m.takes) m.runs)) others)) ≡ Some to → Goes_to to (height (passes sign takes) 0 0 0)
+      by rest here true is e = subst (λ n. Goes_to n (height (passes sign takes) 0 0 0)) (some_same place to e) (subst (λ n. Goes_to place (height n 0 0 0)) (passes_same sign selector takes m is) here)
       by rest here false is e = rest e
 
   -- the classes of a program, with their stubs
   record Finds (d : Class) : Type 0 where
-    methods : (sign : Sign) (selector takes to : ℕ) → found sign selector takes d.methods ≡ Some to → Goes R all table to (height (passes sign takes) 0)
-    dealloc : (to : ℕ) → d.dealloc ≡ Some to → Goes R all table to (height 0 0)
+    methods : (sign : Sign) (selector takes to : ℕ) → found sign selector takes d.methods ≡ Some to → Goes R all table to (height (passes sign takes) 0 0 0)
+    dealloc : (to : ℕ) → d.dealloc ≡ Some to → Goes R all table to (height 0 0 0 0)
 
   stub_found : (d : Option ℕ) (place to : ℕ) → Both place (dealloc_heights R (entries_of R) d) (dealloc_orders R (entries_of R) d) → linked_dealloc place d ≡ Some to → Goes_to to zeroed
   stub_found None place to has e = cc
@@ -364,7 +378,7 @@ module _ (R : resolved.Program) where
       subst Finds (some_same _ d e) (record { methods = λ sign selector takes to e. found_goes c.methods q (class_methods place c here) sign selector takes to e; dealloc = λ to e. stub_found c.dealloc place to (class_dealloc place c here) e })
   class_finds (c ∷ others) place (suc i) d has e = class_finds others (place + length (class_orders R (entries_of R) c)) i d (other_classes place c others has) e
 
-  own_goes : (o : Option Class) → ((d : Class) → o ≡ Some d → Finds d) → (sign : Sign) (selector takes to : ℕ) → found sign selector takes (own_methods o) ≡ Some to → Goes_to to (height (passes sign takes) 0)
+  own_goes : (o : Option Class) → ((d : Class) → o ≡ Some d → Finds d) → (sign : Sign) (selector takes to : ℕ) → found sign selector takes (own_methods o) ≡ Some to → Goes_to to (height (passes sign takes) 0 0 0)
   own_goes None finds sign selector takes to e = cc
   own_goes (Some d) finds sign selector takes to e = (finds d refl).methods sign selector takes to e
 
@@ -424,15 +438,15 @@ module _ (R : resolved.Program) where
   get_index (y ∷ list) zero x e = cc
   get_index (y ∷ list) (suc n) x e = get_index list n x e
 
-  target : (f : ℕ) → Goes_to (slice_index_or (entries_of R) (number_of R f) 0) (height (slots_of R f) 0)
-  target f = let e = entered_at f in subst (λ n. Goes_to n (height (slots_of R f) 0)) (sym (get_index (entries_of R) (number_of R f) e.at e.is)) e.goes
+  target : (f : ℕ) → Goes_to (slice_index_or (entries_of R) (number_of R f) 0) (height (slots_of R f) 0 0 0)
+  target f = let e = entered_at f in subst (λ n. Goes_to n (height (slots_of R f) 0 0 0)) (sym (get_index (entries_of R) (number_of R f) e.at e.is)) e.goes
 
-  pub methods_go : (from : Option ℕ) (sign : Sign) (selector takes to : ℕ) → lookup (classes_linked R) from sign selector takes ≡ Some to → Goes_to to (height (passes sign takes) 0)
+  pub methods_go : (from : Option ℕ) (sign : Sign) (selector takes to : ℕ) → lookup (classes_linked R) from sign selector takes ≡ Some to → Goes_to to (height (passes sign takes) 0 0 0)
   methods_go from sign selector takes to e =
-      first_of (Goes_to to (height (passes sign takes) 0)) (λ c. found sign selector takes (own_methods (slice_get (classes_linked R) c))) to (λ c f.
+      first_of (Goes_to to (height (passes sign takes) 0 0 0)) (λ c. found sign selector takes (own_methods (slice_get (classes_linked R) c))) to (λ c f.
       own_goes (slice_get (classes_linked R) c) (λ d is. class_finds R.classes (length (running_orders R)) c d has_stubs is) sign selector takes to f) (ancestry (superclasses (classes_linked R)) from) e
 
-  pub dealloc_goes : (i : ℕ) (d : Class) (to : ℕ) → slice_get (classes_linked R) i ≡ Some d → d.dealloc ≡ Some to → Goes_to to (height 0 0)
+  pub dealloc_goes : (i : ℕ) (d : Class) (to : ℕ) → slice_get (classes_linked R) i ≡ Some d → d.dealloc ≡ Some to → Goes_to to (height 0 0 0 0)
   dealloc_goes i d to is e = (class_finds R.classes (length (running_orders R)) i d has_stubs is).dealloc to e
 
   abbrev zeros : List Order
@@ -441,20 +455,20 @@ module _ (R : resolved.Program) where
   abbrev call : List Order
   call = Call (number_of R R.main) ∷ (Return ∷ (EndStep ∷ []))
 
-  zeros_typed : Types R 0 0 0 0 zeros (slots_of R R.main) 0
-  zeros_typed = types_same R 0 0 0 0 zeros (slots_of R R.main + 0) 0 (slots_of R R.main) 0 (omega arith) refl (zeros_type R 0 0 (slots_of R R.main) 0 0)
+  zeros_typed : Types R 0 0 zeroed zeros (height (slots_of R R.main) 0 0 0)
+  zeros_typed = types_same R 0 0 zeroed zeros (height (slots_of R R.main + 0) 0 0 0) (height (slots_of R R.main) 0 0 0) (heights_same _ _ _ _ (slots_of R R.main) 0 0 0 (omega arith) refl refl refl) (zeros_type R 0 0 0 0 0 (slots_of R R.main) 0)
 
   start_row : Row R all table zeroed 0 zeroed (start_orders R)
   start_row = row zeroed zeroed 0 (start_orders R) has_start
 
-  call_row : Row R all table zeroed (0 + length zeros) (height (slots_of R R.main) 0) call
-  call_row = subst (λ h. Row R all table zeroed (0 + length zeros) h call) (types_last R 0 0 zeroed 0 0 zeros (slots_of R R.main) 0 zeros_typed) (row_back R all table zeroed 0 zeroed zeros call start_row)
+  call_row : Row R all table zeroed (0 + length zeros) (height (slots_of R R.main) 0 0 0) call
+  call_row = subst (λ h. Row R all table zeroed (0 + length zeros) h call) (types_last R 0 0 zeroed zeroed zeros (height (slots_of R R.main) 0 0 0) zeros_typed) (row_back R all table zeroed 0 zeroed zeros call start_row)
 
   zeros_follow : Follows R all table zeroed 0 zeroed zeros
-  zeros_follow = row_front R all table zeroed 0 zeroed zeros call (subst (Goes_to (0 + length zeros)) (sym (types_last R 0 0 zeroed 0 0 zeros (slots_of R R.main) 0 zeros_typed)) (opens_goes R all table (0 + length zeros) (height (slots_of R R.main) 0) (Call (number_of R R.main)) tt call_row.0 call_row.1)) start_row
+  zeros_follow = row_front R all table zeroed 0 zeroed zeros call (subst (Goes_to (0 + length zeros)) (sym (types_last R 0 0 zeroed zeroed zeros (height (slots_of R R.main) 0 0 0) zeros_typed)) (opens_goes R all table (0 + length zeros) (height (slots_of R R.main) 0 0 0) (Call (number_of R R.main)) tt call_row.0 call_row.1)) start_row
 
   pub start_goes : Goes_to 0 zeroed
-  start_goes = goes_here R all table zeroed 0 zeroed zeros (types_ordinary R 0 0 0 0 zeros (slots_of R R.main) 0 zeros_typed) zeros_follow
+  start_goes = goes_here R all table zeroed 0 zeroed zeros (types_ordinary R zeroed zeros (height (slots_of R R.main) 0 0 0) zeros_typed) zeros_follow
 
   -- the order at which the ends of objects go on
   pub end_is : slice_get all (end_step_of R) ≡ Some EndStep
@@ -467,11 +481,12 @@ module _ (R : resolved.Program) where
       let q = 0 + length zeros in
       let s = slots_of R R.main in
       let rest = call_row.2 in
-      let called : next_height R zeroed (Call (number_of R R.main)) (height s 0) ≡ height 1 0 = heights_same _ _ 1 0 (omega (arith, slots_same R R.main)) (omega arith) in
+      let called : next_height R zeroed (Call (number_of R R.main)) (height s 0 0 0) ≡ height 1 0 0 0 = heights_same _ _ _ _ 1 0 0 0 (omega (arith, slots_same R R.main)) (omega arith) (omega arith) (omega arith) in
       let one = rest.0 ∙ ap Some called in
-      step_then R all table 0 zeros call (typed_steps R all table zeroed 0 0 0 zeros s 0 zeros_typed zeros_follow) (
-        (height s 0, call_row.0, ((omega (arith, slots_same R R.main), number_there R R.main), opens_goes R all table (q + 1) _ Return tt rest.0 rest.1)),
-        ((height 1 0, one, (refl, refl)), ((height 0 0, rest.2.0, (refl, refl)), tt)),
+      let home : Stands R all table (q + 1) (height 1 0 0 0) = record { height = one; order = Return; is = rest.1; no_end = λ same. subst IsReturn same tt } in
+      step_then R all table 0 zeros call (typed_steps R all table zeroed 0 zeroed zeros (height s 0 0 0) zeros_typed zeros_follow) (
+        (height s 0 0 0, call_row.0, ((omega (arith, slots_same R R.main), number_there R R.main), subst (Goes_to (q + 1)) (sym called) (none_goes R all table (q + 1) (height 1 0 0 0) home refl))),
+        ((height 1 0 0 0, one, (refl, refl, refl)), ((zeroed, rest.2.0, (refl, refl, refl, refl)), tt)),
       )
 
   program_steps : Step_all 0 (lowered R)

@@ -2,11 +2,11 @@
 use Rattle.std.proofs.Common.{ℕ, ℤ, List}
 use Rattle.arc_spec.specs.Stepping.{Next, Goes, Asks, Ends, Faults, Stuck}
 use Rattle.arc_spec.specs.World.{World, places}
-use Rattle.arc_spec.specs.Holding.{Held, Frame, holders}
+use Rattle.arc_spec.specs.Holding.{Held, Frame, all_places, holders}
 use Rattle.arc_ir.specs.Acting.{Program, State, step}
 
 abbrev pub recounted : Held → Held
-recounted h = record { places = h.places; self = h.self; objects = h.objects; counts = λ k. holders k h.places }
+recounted h = record h { counts = λ k. holders k (all_places h) }
 
 abbrev pub fresh : State → State
 fresh s = record { at = s.at; stack = s.stack; frames = s.frames; held = recounted s.held }
@@ -24,6 +24,10 @@ moves p s = recount (step p s)
 abbrev pub at : List Frame → ℕ → List ℤ → Held → State
 at frames pc stack held = record { at = pc; stack = stack; frames = frames; held = held }
 
--- what a world holds
-abbrev pub held_of : World → Held
-held_of w = record { places = places w; self = w.frame.self; objects = w.objects; counts = λ k. holders k (places w) }
+-- what a world holds with these references, and with these counts
+abbrev pub counting : List ℕ → World → (ℕ → ℕ) → Held
+counting rs w c = record { temporaries = w.frame.temporaries; variables = w.frame.strong; self = w.frame.self; places = w.waiting; names = rs; objects = w.objects; counts = c }
+
+-- the same, with the counts of its places
+abbrev pub held_of : List ℕ → World → Held
+held_of rs w = counting rs w (λ k. holders k (places w))

@@ -3,9 +3,9 @@ use Rattle.std.proofs.Common.{◌≡◌, ℕ, zero, suc, ◌+◌, ◌-◌, ◌/�
 use Rattle.arc_check.specs.declared.checked.Value.{Value}
 use Rattle.arc_check.specs.declared.checked.CheckedFunction.{CheckedFunction}
 use Rattle.arc_check.specs.Checked.{values, functions}
-use Rattle.arc_code.specs.declared.instr.Op.TheVariants.{Num, Pop, Nil}
-use Rattle.arc_code.specs.declared.instr.Instr.TheVariants.{Plain, PrintText, Drop}
-use Rattle.arc_lower.specs.Lowered.{part_orders, text_orders, pop_orders, zero_orders, nil_orders, drop_orders, empty_orders, all_empty_orders, value_count}
+use Rattle.arc_code.specs.declared.instr.Op.TheVariants.{Num, Pop, Declare}
+use Rattle.arc_code.specs.declared.instr.Instr.TheVariants.{Plain, PrintText}
+use Rattle.arc_lower.specs.Lowered.{part_orders, text_orders, pop_orders, zero_orders, declare_orders, empty_orders, all_empty_orders, value_count}
 
 pub values_counted : (all : List Value) → value_count (values all) ≡ length all
 values_counted [] = refl
@@ -31,19 +31,12 @@ zeros_snoc (suc n) = ap (λ l. Plain (Num (pos 0)) ∷ l) (zeros_snoc n)
 pub zeros_more : (n : ℕ) → zero_orders (n + 1) ≡ zero_orders n ++ Plain (Num (pos 0)) ∷ []
 zeros_more n = rw add-one (zeros_snoc n)
 
-nils_snoc : (n : ℕ) → nil_orders (suc n) ≡ nil_orders n ++ Plain Nil ∷ []
-nils_snoc zero = refl
-nils_snoc (suc n) = ap (λ l. Plain Nil ∷ l) (nils_snoc n)
+declares_snoc : (n : ℕ) → declare_orders (suc n) ≡ declare_orders n ++ Plain Declare ∷ []
+declares_snoc zero = refl
+declares_snoc (suc n) = ap (λ l. Plain Declare ∷ l) (declares_snoc n)
 
-pub nils_more : (n : ℕ) → nil_orders (n + 1) ≡ nil_orders n ++ Plain Nil ∷ []
-nils_more n = rw add-one (nils_snoc n)
-
-drops_snoc : (n : ℕ) → drop_orders (suc n) ≡ drop_orders n ++ Drop ∷ []
-drops_snoc zero = refl
-drops_snoc (suc n) = ap (λ l. Drop ∷ l) (drops_snoc n)
-
-pub drops_more : (n : ℕ) → drop_orders (n + 1) ≡ drop_orders n ++ Drop ∷ []
-drops_more n = rw add-one (drops_snoc n)
+pub declares_more : (n : ℕ) → declare_orders (n + 1) ≡ declare_orders n ++ Plain Declare ∷ []
+declares_more n = rw add-one (declares_snoc n)
 
 -- one variable less is to be emptied
 pub emptied_more : (names first count passed : ℕ) → passed < count → all_empty_orders names first (count - passed) ≡ empty_orders names (first + (count - 1 - passed)) ++ all_empty_orders names first (count - (passed + 1))

@@ -1,19 +1,20 @@
 -- What a running program keeps: what places name is there, and an object whose end is running stays as it is.
-use Rattle.std.proofs.Common.{◌≡◌, ℕ, zero, suc, ◌+◌, ◌<◌, Bool, true, false, List, [], ◌∷◌, ◌++◌, length, Some, None, ⊎_elim, slice_get, slice_set, refl, sym, ap, ◌∙◌, subst, arith, append_assoc, length-append}
+use Rattle.std.proofs.Common.{◌≡◌, ℕ, zero, suc, ◌+◌, ◌<◌, Bool, true, false, ◌||◌, true≢false, List, [], ◌∷◌, ◌++◌, length, Some, None, ⊎_elim, slice_get, slice_set, refl, sym, ap, ◌∙◌, subst, arith, append_assoc}
 use Rattle.std.proofs.lemmas.Bool.{cases_eq, false≢true}
+use Rattle.std.proofs.lemmas.List.{append-nil}
 use Rattle.arc_spec.specs.Objects.{Object, Phase, Dying, object_at, object_live, is_live}
 use Rattle.arc_spec.specs.World as world
 use Rattle.arc_spec.specs.World.{World, frame_places, places}
-use Rattle.arc_spec.specs.Holding.{Frame, Calling, Ending, is_there}
-use Rattle.arc_lower.proofs.CountsPlaces.{holders_append}
+use Rattle.arc_spec.specs.Holding.{Frame, Calling, Ending, Waiter, holders, is_there}
+use Rattle.arc_lower.proofs.CountsPlaces.{tally_same, holders_head, holders_append}
 use Rattle.arc_lower.proofs.CountsHeld.{set_other}
 use Rattle.arc_lower.proofs.CountsThere.{IsThere, AllThere, fewer_there, set_here, get_first}
 
 -- the objects whose ends are running
 abbrev pub ending : List Frame → List ℕ
 ending [] = []
-ending (Calling back self ∷ others) = ending others
-ending (Ending back self o next left ∷ others) = o ∷ ending others
+ending (Calling back waits ∷ others) = ending others
+ending (Ending back waits o next left ∷ others) = o ∷ ending others
 
 abbrev pub IsDying : List Object → ℕ → Type 0
 IsDying objects o = (ob : Object) × (object_at objects o ≡ Some ob) × (ob.phase ≡ Dying)
@@ -38,8 +39,8 @@ pub dying_there : (objects : List Object) (o : ℕ) → IsDying objects o → Is
 dying_there objects zero d = tt
 dying_there objects (suc k) d = (d.0, d.1, ap is_there d.2)
 
-pub ending_alive : (frames : List Frame) (back self o : ℕ) (next : _) (left : ℕ) (held : List ℕ) → Alive (Ending back self o next left ∷ frames) held o
-ending_alive frames back self o next left held objects there dying = dying_there objects o dying.0
+pub ending_alive : (frames : List Frame) (back : ℕ) (waits : Waiter) (o : ℕ) (next : _) (left : ℕ) (held : List ℕ) → Alive (Ending back waits o next left ∷ frames) held o
+ending_alive frames back waits o next left held objects there dying = dying_there objects o dying.0
 
 -- the last of some places
 pub last_there : (objects : List Object) (first last : List ℕ) → AllThere objects (first ++ last) → AllThere objects last
@@ -68,81 +69,61 @@ kept_framed frames slots names self waiting w w1 g k = record {
   fine = k.fine;
 }
 
--- so many temporaries more
-pub record Took (n : ℕ) (old new : List ℕ) : Type 0 where
+-- temporaries more, which there are only where some may be taken
+pub record Took (takes : Bool) (old new : List ℕ) : Type 0 where
   pub taken : List ℕ
   pub is : new ≡ taken ++ old
-  pub count : length taken ≡ n
+  pub none : takes ≡ false → taken ≡ []
 
-pub took_none : (n : ℕ) (old new : List ℕ) → n ≡ 0 → new ≡ old → Took n old new
-took_none n old new none same = record { taken = []; is = same; count = sym none }
+pub took_none : (takes : Bool) (old new : List ℕ) → new ≡ old → Took takes old new
+took_none takes old new same = record { taken = []; is = same; none = λ _. refl }
 
-pub took_more : (n m : ℕ) (a b c : List ℕ) → Took n a b → Took m b c → Took (n + m) a c
-took_more n m a b c first next = record {
+none_or : (a b : Bool) (first next : List ℕ) → (a ≡ false → first ≡ []) → (b ≡ false → next ≡ []) → (a || b) ≡ false → next ++ first ≡ []
+none_or false b first next one two e = ap (λ l. next ++ l) (one refl) ∙ append-nil next ∙ two e
+none_or true b first next one two e = absurd (true≢false e)
+
+pub took_both : (a b : Bool) (t0 t1 t2 : List ℕ) → Took a t0 t1 → Took b t1 t2 → Took (a || b) t0 t2
+took_both a b t0 t1 t2 first next = record {
   taken = next.taken ++ first.taken;
-  is = next.is ∙ ap (λ l. next.taken ++ l) first.is ∙ sym (append_assoc next.taken first.taken a);
-  count = omega (arith, length-append next.taken first.taken, first.count, next.count);
+  is = next.is ∙ ap (λ l. next.taken ++ l) first.is ∙ sym (append_assoc next.taken first.taken t0);
+  none = λ e. none_or a b first.taken next.taken first.none next.none e;
 }
 
-pub took_suc : (n : ℕ) (r : ℕ) (a b : List ℕ) → Took n a b → Took (suc n) a (r ∷ b)
-took_suc n r a b first = record { taken = r ∷ first.taken; is = ap (λ l. r ∷ l) first.is; count = ap suc first.count }
+pub took_more : (a : Bool) (r : ℕ) (old new : List ℕ) → Took a old new → Took true old (r ∷ new)
+took_more a r old new first = record { taken = r ∷ first.taken; is = ap (λ l. r ∷ l) first.is; none = λ e. absurd (true≢false e) }
 
--- how many there are then
-pub took_length : (n t : ℕ) (a b : List ℕ) → Took n a b → t ≡ length a → t + n ≡ length b
-took_length n t a b took e =
-    let h = ap length took.is ∙ length-append took.taken a in
-    omega (arith, h, took.count, e)
+pub took_may : (a b : Bool) (old new : List ℕ) → (b ≡ false → a ≡ false) → Took a old new → Took b old new
+took_may a b old new less first = record { taken = first.taken; is = first.is; none = λ e. first.none (less e) }
 
--- ---- places one behind the other
+-- nil, or what one of these names
+abbrev pub IsHeld : ℕ → List ℕ → Type 0
+IsHeld zero temporaries = Unit {0}
+IsHeld (suc k) temporaries = 0 < holders (suc k) temporaries
 
-pub get_behind : (front behind : List ℕ) (n : ℕ) → slice_get (front ++ behind) (length front + n) ≡ slice_get behind n
-get_behind [] behind n = let e : 0 + n ≡ n = omega arith in ap (slice_get behind) e
-get_behind (r ∷ front) behind n =
-    let e : length (r ∷ front) + n ≡ suc (length front + n) = omega arith in
-    ap (slice_get (r ∷ front ++ behind)) e ∙ get_behind front behind n
+-- the last one holds what it names
+pub last_held : (r : ℕ) (others : List ℕ) → IsHeld r (r ∷ others)
+last_held zero others = tt
+last_held (suc k) others = omega (arith, holders_head (suc k) (suc k) others, tally_same (suc k))
 
-pub set_behind : (front behind : List ℕ) (n r : ℕ) → slice_set (front ++ behind) (length front + n) r ≡ front ++ slice_set behind n r
-set_behind [] behind n r = let e : 0 + n ≡ n = omega arith in ap (λ m. slice_set behind m r) e
-set_behind (q ∷ front) behind n r =
-    let e : length (q ∷ front) + n ≡ suc (length front + n) = omega arith in
-    ap (λ m. slice_set (q ∷ front ++ behind) m r) e ∙ ap (λ l. q ∷ l) (set_behind front behind n r)
+-- what is held is held when more are taken
+pub held_more : (taken old : List ℕ) (r : ℕ) → IsHeld r old → IsHeld r (taken ++ old)
+held_more taken old zero h = tt
+held_more taken old (suc k) h = omega (arith, holders_append (suc k) taken old, h)
 
-pub get_front : (strong behind : List ℕ) (i : ℕ) → i < length strong → slice_get (strong ++ behind) i ≡ Some (world.name_at strong i)
-get_front [] behind i lt = absurd (omega (arith, lt))
-get_front (r ∷ strong) behind zero lt = refl
-get_front (r ∷ strong) behind (suc i) lt = get_front strong behind i (omega (arith, lt))
+pub held_on : (a : Bool) (old new : List ℕ) (r : ℕ) → Took a old new → IsHeld r old → IsHeld r new
+held_on a old new r took h = subst (IsHeld r) (sym took.is) (held_more took.taken old r h)
 
-pub set_front : (strong behind : List ℕ) (i r : ℕ) → i < length strong → slice_set (strong ++ behind) i r ≡ slice_set strong i r ++ behind
-set_front [] behind i r lt = absurd (omega (arith, lt))
-set_front (q ∷ strong) behind zero r lt = refl
-set_front (q ∷ strong) behind (suc i) r lt = ap (λ l. q ∷ l) (set_front strong behind i r (omega (arith, lt)))
+-- what a temporary holds is there
+pub held_there : (objects : List Object) (temporaries strong waiting : List ℕ) (r : ℕ) → IsHeld r temporaries → AllThere objects ((temporaries ++ strong) ++ waiting) → IsThere objects r
+held_there objects temporaries strong waiting zero h there = tt
+held_there objects temporaries strong waiting (suc k) h there = there k (omega (arith, holders_append (suc k) (temporaries ++ strong) waiting, holders_append (suc k) temporaries strong, h))
 
--- a variable below so many temporaries
-pub get_variable : (temporaries strong waiting : List ℕ) (n i : ℕ) → n ≡ length temporaries → i < length strong → slice_get ((temporaries ++ strong) ++ waiting) (n + i) ≡ Some (world.name_at strong i)
-get_variable temporaries strong waiting n i e lt =
-    ap (λ m. slice_get ((temporaries ++ strong) ++ waiting) (m + i)) e
-    ∙ ap (λ l. slice_get l (length temporaries + i)) (append_assoc temporaries strong waiting)
-    ∙ get_behind temporaries (strong ++ waiting) i
-    ∙ get_front strong waiting i lt
+-- ---- variables
 
-pub set_variable : (temporaries strong waiting : List ℕ) (n i r : ℕ) → n ≡ length temporaries → i < length strong → slice_set ((temporaries ++ strong) ++ waiting) (n + i) r ≡ (temporaries ++ slice_set strong i r) ++ waiting
-set_variable temporaries strong waiting n i r e lt =
-    ap (λ m. slice_set ((temporaries ++ strong) ++ waiting) (m + i) r) e
-    ∙ ap (λ l. slice_set l (length temporaries + i) r) (append_assoc temporaries strong waiting)
-    ∙ set_behind temporaries (strong ++ waiting) i r
-    ∙ ap (λ l. temporaries ++ l) (set_front strong waiting i r lt)
-    ∙ sym (append_assoc temporaries (slice_set strong i r) waiting)
-
--- the place of what the last temporary named, before so many more were taken
-deep_place : (taken rest strong waiting : List ℕ) (r : ℕ) → slice_get (((taken ++ r ∷ rest) ++ strong) ++ waiting) (length taken) ≡ Some r
-deep_place [] rest strong waiting r = refl
-deep_place (q ∷ taken) rest strong waiting r = deep_place taken rest strong waiting r
-
-pub place_named : (n r : ℕ) (rest strong waiting old new : List ℕ) → old ≡ r ∷ rest → Took n old new → slice_get ((new ++ strong) ++ waiting) n ≡ Some r
-place_named n r rest strong waiting old new top took =
-    ap (λ l. slice_get ((l ++ strong) ++ waiting) n) (took.is ∙ ap (λ l. took.taken ++ l) top)
-    ∙ ap (slice_get (((took.taken ++ r ∷ rest) ++ strong) ++ waiting)) (sym took.count)
-    ∙ deep_place took.taken rest strong waiting r
+pub get_front : (strong : List ℕ) (i : ℕ) → i < length strong → slice_get strong i ≡ Some (world.name_at strong i)
+get_front [] i lt = absurd (omega (arith, lt))
+get_front (r ∷ strong) zero lt = refl
+get_front (r ∷ strong) (suc i) lt = get_front strong i (omega (arith, lt))
 
 -- ---- objects that are ending
 
@@ -200,3 +181,10 @@ apart_dies objects k x (suc j) ne d = (d.0, set_other objects k j x (λ e. ne (a
 pub apart_dying : (objects : List Object) (k : ℕ) (x : Object) (all : List ℕ) → IsApart (suc k) all → AllDying objects all → AllDying (slice_set objects k x) all
 apart_dying objects k x [] apart d = tt
 apart_dying objects k x (o ∷ others) apart d = (apart_dies objects k x o apart.0 d.0, apart_dying objects k x others apart.1 d.1)
+
+-- nil doesn't end
+pub no_nil : (objects : List Object) → IsDying objects 0 → ⊥
+no_nil objects d = none d.1
+  where
+    none : None ≡ Some d.0 → ⊥
+    none e = cc

@@ -1,16 +1,17 @@
 -- Where orders stand with their heights, each has what it needs, and goes on where the heights are those that it leaves.
-use Rattle.std.proofs.Common.{◌≡◌, ◌⊎◌, inr, ℕ, zero, suc, ◌+◌, ◌-◌, ◌<◌, ◌≤◌, List, [], ◌∷◌, ◌++◌, length, get_or, Some, slice_get, refl, sym, ap, ◌∙◌, subst, arith, append_assoc, length-append}
+use Rattle.std.proofs.Common.{◌≡◌, ◌⊎◌, inl, inr, ℕ, zero, suc, ◌+◌, ◌-◌, ◌<◌, ◌≤◌, List, [], ◌∷◌, ◌++◌, length, get_or, Some, slice_get, refl, sym, ap, ◌∙◌, subst, arith, append_assoc, length-append}
 use Rattle.arc_spec.specs.Resolved as resolved
-use Rattle.arc_code.specs.declared.instr.Op.TheVariants.{Forget}
+use Rattle.arc_code.specs.declared.effect.Height.{Height}
+use Rattle.arc_code.specs.declared.instr.Op.TheVariants.{Pop, Set}
 use Rattle.arc_code.specs.declared.instr.Instr.TheVariants.{Plain, Jump, JumpZero, Return, Empty, EndStep}
+use Rattle.arc_ir.specs.declared.action.Target.{Target}
 use Rattle.arc_ir.specs.declared.action.Target.TheVariants.{Skip, Back}
 use Rattle.arc_ir.specs.Acting.{lands}
 use Rattle.arc_lower.specs.Order.{Order}
 use Rattle.arc_lower.specs.Lowered.{Block, Straight, Then, Fork, Loop, Leave, flat}
-use Rattle.arc_lower.specs.declared.height.Height.{Height}
-use Rattle.arc_lower.specs.Heights.{height, next_height, heights, last_height}
-use Rattle.arc_lower.proofs.Typing.{heights_same, Reaches, Keeps, Needs, numbers_left, places_left, Types, next_same, BlockTypes}
-use Rattle.arc_lower.proofs.HeightsEnd.{between, block_ends}
+use Rattle.arc_lower.specs.Heights.{between, next_height, heights, last_height}
+use Rattle.arc_lower.proofs.Typing.{tested, left, over, over_none, Reaches, Needs, Types, next_same, BlockTypes}
+use Rattle.arc_lower.proofs.HeightsEnd.{chosen_same, block_ends}
 
 pub some_same : {A : Type 0} (a b : A) → Some a ≡ Some b → a ≡ b
 some_same a b e = cc
@@ -50,11 +51,11 @@ get_there [] n x none e = cc
 get_there (y ∷ all) zero x none e = cc
 get_there (y ∷ all) (suc n) x none e = get_there all n x none e
 
--- ---- orders before which a run may forget places only where it has emptied them
+-- ---- orders before which a run leaves its function, where it has emptied its variables
 
--- an order that isn't the last step of an object's end, and forgets no places
+-- an order that keeps its place in a function, and isn't the last step of an object's end
 abbrev pub Ordinary : Order → Type 0
-Ordinary (Plain o) = Keeps o
+Ordinary Return = ⊥
 Ordinary EndStep = ⊥
 Ordinary _ = Unit {0}
 
@@ -66,26 +67,48 @@ pub ordinary_then : (xs ys : List Order) → AllOrdinary xs → AllOrdinary ys �
 ordinary_then [] ys first next = next
 ordinary_then (x ∷ xs) ys first next = (first.0, ordinary_then xs ys first.1 next)
 
--- an order that empties no place, either
+-- an order that takes numbers before a function is left
+abbrev pub Takes : Order → Type 0
+Takes (Plain Pop) = Unit {0}
+Takes (Plain (Set depth)) = Unit {0}
+Takes _ = ⊥
+
+abbrev pub IsReturn : Order → Type 0
+IsReturn Return = Unit {0}
+IsReturn _ = ⊥
+
+-- an order that doesn't, and empties no variable
 abbrev pub Opens : Order → Type 0
-Opens (Plain o) = Keeps o
-Opens EndStep = ⊥
+Opens (Plain Pop) = ⊥
+Opens (Plain (Set depth)) = ⊥
 Opens (Empty i) = ⊥
+Opens Return = ⊥
+Opens EndStep = ⊥
 Opens _ = Unit {0}
 
-needs_ordinary : (P : resolved.Program) (x : Order) (a b : ℕ) → Needs P x a b → Ordinary x
-needs_ordinary P (Plain o) a b needs = needs.1
-needs_ordinary P EndStep a b needs = needs
-needs_ordinary P _ a b needs = tt
+opens_none : (x : Order) → Opens x → Takes x → ⊥
+opens_none (Plain Pop) opens takes = opens
+opens_none (Plain (Set depth)) opens takes = opens
+opens_none _ opens takes = takes
 
-pub types_ordinary : (P : resolved.Program) (r s a b : ℕ) (xs : List Order) (n m : ℕ) → Types P r s a b xs n m → AllOrdinary xs
-types_ordinary P r s a b [] n m t = tt
-types_ordinary P r s a b (x ∷ xs) n m t = (needs_ordinary P x (a + r) (b + s) t.0, types_ordinary P r s (numbers_left P x a) (places_left P x b) xs n m t.1)
+needs_ordinary : (P : resolved.Program) (x : Order) (h : Height) → Needs P x h → Ordinary x
+needs_ordinary P Return h needs = needs
+needs_ordinary P EndStep h needs = needs
+needs_ordinary P _ h needs = tt
+
+pub types_ordinary : (P : resolved.Program) (h : Height) (xs : List Order) (g : Height) → Types P 0 0 h xs g → AllOrdinary xs
+types_ordinary P h [] g t = tt
+types_ordinary P h (x ∷ xs) g t = (needs_ordinary P x (over 0 0 h) t.0, types_ordinary P (left P x h) xs g t.1)
 
 module _ (R : resolved.Program) (all : List Order) (table : List Height) where
-  -- the next k orders empty places, the last one the first place, and then all are forgotten
+  -- the next n orders take numbers, and then the function is left
+  abbrev pub Leaving : ℕ → ℕ → Type 0
+  Leaving zero pc = slice_get all pc ≡ Some Return
+  Leaving (suc n) pc = (x : Order) × (slice_get all pc ≡ Some x) × Takes x × Leaving n (pc + 1)
+
+  -- the next k orders empty variables, the last one the first variable, and then the function is left
   abbrev pub Clears : ℕ → ℕ → Type 0
-  Clears zero pc = (count : ℕ) × (slice_get all pc ≡ Some (Plain (Forget count)))
+  Clears zero pc = (n : ℕ) × Leaving n pc
   Clears (suc k) pc = (slice_get all pc ≡ Some (Empty k)) × Clears k (pc + 1)
 
   -- an order stands there with this height, which isn't the last step of an object's end
@@ -95,22 +118,23 @@ module _ (R : resolved.Program) (all : List Order) (table : List Height) where
     pub is : slice_get all pc ≡ Some order
     pub no_end : order ≡ EndStep → ⊥
 
-  -- a run may go there with any places: none is forgotten before it is emptied
+  -- a run may go there with any variables: the function isn't left before they are emptied
   abbrev pub Goes : ℕ → Height → Type 0
-  Goes pc h = Stands pc h × ((k : ℕ) → Clears k pc → h.places ≤ k)
+  Goes pc h = Stands pc h × ((k : ℕ) → Clears k pc → h.variables ≤ k)
 
-  abbrev pub left : Height → Order → Height
-  left h x = height (numbers_left R x h.numbers) (places_left R x h.places)
+  -- or with those that are emptied where it comes from
+  abbrev pub Onward : (pc to : ℕ) → Height → Type 0
+  Onward pc to h = Stands to h × ((k : ℕ) → Clears k to → Clears k pc ⊎ (h.variables ≤ k))
 
-  -- with this height an order has what it needs, and goes on with what it leaves
+  -- at this height an order has what it needs, and goes on with what it leaves
   abbrev pub Steps : Height → ℕ → Order → Type 0
-  Steps h pc (Plain o) = Reaches o h.numbers h.places × Goes (pc + 1) (left h (Plain o))
+  Steps h pc (Plain o) = Reaches o h × Onward pc (pc + 1) (left R (Plain o) h)
   Steps h pc (Jump to) = Goes (lands pc to) h
-  Steps h pc (JumpZero to) = (1 ≤ h.numbers) × Goes (pc + 1) (height (h.numbers - 1) h.places) × Goes (lands pc to) (height (h.numbers - 1) h.places)
-  Steps h pc Return = (h.numbers ≡ 1) × (h.places ≡ 0)
-  Steps h pc EndStep = (h.numbers ≡ 0) × (h.places ≡ 0)
-  Steps h pc (Empty i) = (i < h.places) × Stands (pc + 1) (left h (Empty i)) × ((k : ℕ) → Clears k (pc + 1) → (k ≡ i) ⊎ (h.places ≤ k))
-  Steps h pc x = Needs R x h.numbers h.places × Goes (pc + 1) (left h x)
+  Steps h pc (JumpZero to) = (1 ≤ h.numbers) × Goes (pc + 1) (left R (JumpZero to) h) × Goes (lands pc to) (left R (JumpZero to) h)
+  Steps h pc Return = (h.numbers ≡ 1) × (h.names ≡ 0) × (h.temporaries ≡ 0)
+  Steps h pc EndStep = (h.numbers ≡ 0) × (h.names ≡ 0) × (h.temporaries ≡ 0) × (h.variables ≡ 0)
+  Steps h pc (Empty i) = (i < h.variables) × Stands (pc + 1) (left R (Empty i) h) × ((k : ℕ) → Clears k (pc + 1) → (k ≡ i) ⊎ (h.variables ≤ k))
+  Steps h pc x = Needs R x h × Goes (pc + 1) (left R x h)
 
   abbrev pub StepsAt : ℕ → Order → Type 0
   StepsAt pc x = (h : Height) × (slice_get table pc ≡ Some h) × Steps h pc x
@@ -125,22 +149,28 @@ module _ (R : resolved.Program) (all : List Order) (table : List Height) where
       let e : pc + length (x ∷ xs) ≡ pc + 1 + length xs = omega arith in
       (first.0, step_then (pc + 1) xs ys first.1 (subst (λ n. AllStep n ys) e next))
 
+  -- before such an order no function is left
+  pub opens_clears : (pc : ℕ) (x : Order) → Opens x → slice_get all pc ≡ Some x → (k : ℕ) → Clears k pc → ⊥
+  opens_clears pc x opens is zero (zero, e) = subst Opens (some_same x Return (sym is ∙ e)) opens
+  opens_clears pc x opens is zero (suc n, y) = opens_none y.0 (subst Opens (some_same x y.0 (sym is ∙ y.1)) opens) y.2
+  opens_clears pc x opens is (suc k) c = subst Opens (some_same x (Empty k) (sym is ∙ c.0)) opens
+
   pub opens_goes : (pc : ℕ) (h : Height) (x : Order) → Opens x → slice_get table pc ≡ Some h → slice_get all pc ≡ Some x → Goes pc h
-  opens_goes pc h x opens e is = (record { height = e; order = x; is = is; no_end = λ same. subst Opens same opens }, none)
-    where
-      none : (k : ℕ) → Clears k pc → h.places ≤ k
-      none zero c = absurd (subst Opens (some_same x (Plain (Forget c.0)) (sym is ∙ c.1)) opens)
-      none (suc k) c = absurd (subst Opens (some_same x (Empty k) (sym is ∙ c.0)) opens)
+  opens_goes pc h x opens e is = (record { height = e; order = x; is = is; no_end = λ same. subst Opens same opens }, λ k c. absurd (opens_clears pc x opens is k c))
+
+  -- a function without variables may be left
+  pub none_goes : (pc : ℕ) (h : Height) → Stands pc h → h.variables ≡ 0 → Goes pc h
+  none_goes pc h stands none = (stands, λ k c. omega (arith, none))
 
   -- an order has what it needs, where a run may go on with the next one
-  pub order_steps : (x : Order) (pc a b : ℕ) → Needs R x a b → Goes (pc + 1) (left (height a b) x) → Steps (height a b) pc x
-  order_steps (Plain o) pc a b needs goes = (needs.0, goes)
-  order_steps (Empty i) pc a b needs goes = (needs, goes.0, λ k c. let le = goes.1 k c in inr (omega (arith, le)))
-  order_steps (Jump to) pc a b needs goes = absurd needs
-  order_steps (JumpZero to) pc a b needs goes = absurd needs
-  order_steps Return pc a b needs goes = absurd needs
-  order_steps EndStep pc a b needs goes = absurd needs
-  order_steps _ pc a b needs goes = (needs, goes)
+  pub order_steps : (x : Order) (pc : ℕ) (h : Height) → Needs R x h → Goes (pc + 1) (left R x h) → Steps h pc x
+  order_steps (Plain o) pc h needs goes = (needs, (goes.0, λ k c. inr (goes.1 k c)))
+  order_steps (Empty i) pc h needs goes = (needs, goes.0, λ k c. let le = goes.1 k c in inr (omega (arith, le)))
+  order_steps (Jump to) pc h needs goes = absurd needs
+  order_steps (JumpZero to) pc h needs goes = absurd needs
+  order_steps Return pc h needs goes = absurd needs
+  order_steps EndStep pc h needs goes = absurd needs
+  order_steps _ pc h needs goes = (needs, goes)
 
   module _ (base : Height) where
     -- orders with their heights
@@ -173,17 +203,26 @@ module _ (R : resolved.Program) (all : List Order) (table : List Height) where
         let e : pc + 1 + length xs ≡ pc + length (x ∷ xs) = omega arith in
         subst (λ n. Row n (last_height R base (next_height R base x h) xs) ys) e (row_back (pc + 1) (next_height R base x h) xs ys f.2)
 
+    taken_same : (x : Order) (h : Height) → Takes x → (next_height R base x h).variables ≡ h.variables
+    taken_same (Plain Pop) h takes = omega arith
+    taken_same (Plain (Set depth)) h takes = omega arith
+    taken_same _ h takes = absurd takes
+
     pub goes_here : (pc : ℕ) (h : Height) (xs : List Order) → AllOrdinary xs → Follows pc h xs → Goes pc h
     goes_here pc h [] o f = f
     goes_here pc h (x ∷ xs) o f = (record { height = f.0; order = x; is = f.1; no_end = λ same. subst Ordinary same o.0 }, none (goes_here (pc + 1) (next_height R base x h) xs o.1 f.2).1)
       where
-        none : ((k : ℕ) → Clears k (pc + 1) → (next_height R base x h).places ≤ k) → (k : ℕ) → Clears k pc → h.places ≤ k
-        none next zero c = absurd (subst Ordinary (some_same x (Plain (Forget c.0)) (sym f.1 ∙ c.1)) o.0)
+        none : ((k : ℕ) → Clears k (pc + 1) → (next_height R base x h).variables ≤ k) → (k : ℕ) → Clears k pc → h.variables ≤ k
+        none next zero (zero, e) = absurd (subst Ordinary (some_same x Return (sym f.1 ∙ e)) o.0)
+        none next zero (suc n, y) =
+            let same = taken_same x h (subst Takes (some_same y.0 x (sym y.1 ∙ f.1)) y.2) in
+            let le = next zero (n, y.3) in
+            omega (arith, same, le)
         none next (suc k) c =
             let same : x ≡ Empty k = some_same x (Empty k) (sym f.1 ∙ c.0) in
-            let places : (next_height R base x h).places ≡ h.places - 0 + 0 = ap (λ y. (next_height R base y h).places) same in
+            let variables : (next_height R base x h).variables ≡ h.variables + 0 = ap (λ y. (next_height R base y h).variables) same in
             let le = next k c.1 in
-            omega (arith, places, le)
+            omega (arith, variables, le)
 
     pub ends_with : (pc : ℕ) (h : Height) (xs : List Order) → Follows pc h xs → Goes (pc + length xs) (last_height R base h xs)
     ends_with pc h [] f = let e : pc ≡ pc + 0 = omega arith in subst (λ n. Goes n h) e f
@@ -202,77 +241,117 @@ module _ (R : resolved.Program) (all : List Order) (table : List Height) where
         subst (λ n. Follows n (last_height R base (next_height R base x h) xs) ys) e (back (pc + 1) (next_height R base x h) xs ys f.2)
 
     -- orders that go on with the next one each
-    pub typed_steps : (pc a b : ℕ) (xs : List Order) (n m : ℕ) → Types R 0 0 a b xs n m → Follows pc (height a b) xs → AllStep pc xs
-    typed_steps pc a b [] n m t f = tt
-    typed_steps pc a b (x ∷ xs) n m t f =
-        let ea : a + 0 ≡ a = omega arith in
-        let eb : b + 0 ≡ b = omega arith in
-        let needs : Needs R x a b = subst (λ i. Needs R x i b) ea (subst (λ j. Needs R x (a + 0) j) eb t.0) in
-        let rest : Follows (pc + 1) (left (height a b) x) xs = subst (λ h. Follows (pc + 1) h xs) (next_same R 0 0 base x a b a b needs) f.2 in
-        let goes = goes_here (pc + 1) (left (height a b) x) xs (types_ordinary R 0 0 _ _ xs n m t.1) rest in
-        ((height a b, f.0, order_steps x pc a b needs goes), typed_steps (pc + 1) (numbers_left R x a) (places_left R x b) xs n m t.1 rest)
+    pub typed_steps : (pc : ℕ) (h : Height) (xs : List Order) (g : Height) → Types R 0 0 h xs g → Follows pc h xs → AllStep pc xs
+    typed_steps pc h [] g t f = tt
+    typed_steps pc h (x ∷ xs) g t f =
+        let needs : Needs R x h = subst (Needs R x) (over_none h) t.0 in
+        let rest : Follows (pc + 1) (left R x h) xs = subst (λ i. Follows (pc + 1) i xs) (next_same R base x h h needs) f.2 in
+        let goes = goes_here (pc + 1) (left R x h) xs (types_ordinary R (left R x h) xs g t.1) rest in
+        ((h, f.0, order_steps x pc h needs goes), typed_steps (pc + 1) (left R x h) xs g t.1 rest)
+
+    -- ---- orders that take numbers before a function is left
+
+    abbrev pub AllTake : List Order → Type 0
+    AllTake [] = Unit {0}
+    AllTake (x ∷ xs) = Takes x × AllTake xs
+
+    -- where they begin the variables are empty
+    pub takes_stand : (pc : ℕ) (h : Height) (xs : List Order) → AllTake xs → Row pc h (xs ++ Return ∷ []) → Stands pc h × ((k : ℕ) → Clears k pc → k ≡ 0)
+    takes_stand pc h [] takes f = (record { height = f.0; order = Return; is = f.1; no_end = λ same. subst IsReturn same tt }, only)
+      where
+        only : (k : ℕ) → Clears k pc → k ≡ 0
+        only zero c = refl
+        only (suc k) c = absurd (subst IsReturn (some_same Return (Empty k) (sym f.1 ∙ c.0)) tt)
+    takes_stand pc h (x ∷ xs) takes f = (record { height = f.0; order = x; is = f.1; no_end = λ same. subst Takes same takes.0 }, only)
+      where
+        only : (k : ℕ) → Clears k pc → k ≡ 0
+        only zero c = refl
+        only (suc k) c = absurd (subst Takes (some_same x (Empty k) (sym f.1 ∙ c.0)) takes.0)
+
+    pub takes_step : (pc : ℕ) (h : Height) (xs : List Order) (g : Height) → AllTake xs → Types R 0 0 h xs g → Row pc h (xs ++ Return ∷ []) → AllStep pc xs
+    takes_step pc h [] g takes t f = tt
+    takes_step pc h (x ∷ xs) g takes t f =
+        let needs : Needs R x h = subst (Needs R x) (over_none h) t.0 in
+        let rest : Row (pc + 1) (left R x h) (xs ++ Return ∷ []) = subst (λ i. Row (pc + 1) i (xs ++ Return ∷ [])) (next_same R base x h h needs) f.2 in
+        let there = takes_stand (pc + 1) (left R x h) xs takes.1 rest in
+        ((h, f.0, by x takes.0 needs f.1 there), takes_step (pc + 1) (left R x h) xs g takes.1 t.1 rest)
+      where
+        again : (y : Order) → Takes y → slice_get all pc ≡ Some y → (k : ℕ) → k ≡ 0 → Clears k (pc + 1) → Clears k pc
+        again y keeps is zero none c = (suc c.0, (y, is, keeps, c.1))
+        again y keeps is (suc k) none c = absurd (omega (arith, none))
+
+        by : (y : Order) → Takes y → Needs R y h → slice_get all pc ≡ Some y → Stands (pc + 1) (left R y h) × ((k : ℕ) → Clears k (pc + 1) → k ≡ 0) → Steps h pc y
+        by (Plain Pop) keeps needs is there = (needs, (there.0, λ k c. inl (again (Plain Pop) keeps is k (there.1 k c) c)))
+        by (Plain (Set depth)) keeps needs is there = (needs, (there.0, λ k c. inl (again (Plain (Set depth)) keeps is k (there.1 k c) c)))
+        by _ keeps needs is there = absurd keeps
 
   -- ---- blocks, in a function that is left from a place
 
   module _ (slots names exit : ℕ) where
     abbrev base : Height
-    base = between R slots names exit
+    base = between slots names
 
-    pub block_ordinary : (x : Block) (a b n m : ℕ) → BlockTypes R slots names a b x n m → AllOrdinary (flat exit x)
-    block_ordinary (Straight xs) a b n m t = types_ordinary R 0 0 a b xs n m t
-    block_ordinary (Then x y) a b n m t = ordinary_then (flat exit x) (flat exit y) (block_ordinary x a b t.0 t.1 t.2) (block_ordinary y t.0 t.1 n m t.3)
-    block_ordinary (Fork x y) a b n m t = (tt, ordinary_then (flat exit x) _ (block_ordinary x slots names n m t.2) (tt, block_ordinary y slots names n m t.3))
-    block_ordinary (Loop test x) a b n m t = ordinary_then (flat exit test) _ (block_ordinary test a b (suc slots) names t.0) (tt, ordinary_then (flat exit x) _ (block_ordinary x slots names a b t.1) (tt, tt))
-    block_ordinary Leave a b n m t = (tt, tt)
+    abbrev test : Height
+    test = tested slots names
 
-    module _ (leaves : Goes exit (height (suc slots) names)) where
+    pub block_ordinary : (x : Block) (h g : Height) → BlockTypes R slots names h x g → AllOrdinary (flat exit x)
+    block_ordinary (Straight xs) h g t = types_ordinary R h xs g t
+    block_ordinary (Then x y) h g t = ordinary_then (flat exit x) (flat exit y) (block_ordinary x h t.0 t.1) (block_ordinary y t.0 g t.2)
+    block_ordinary (Fork x y) h g t = (tt, ordinary_then (flat exit x) _ (block_ordinary x base g t.1) (tt, block_ordinary y base g t.2))
+    block_ordinary (Loop x y) h g t = ordinary_then (flat exit x) _ (block_ordinary x h test t.0) (tt, ordinary_then (flat exit y) _ (block_ordinary y base h t.1) (tt, tt))
+    block_ordinary Leave h g t = (tt, tt)
+
+    module _ (leaves : Goes exit test) where
       -- what is behind a block
-      behind : (x : Block) (a b n m pc : ℕ) (ys : List Order) → BlockTypes R slots names a b x n m → Follows base pc (height a b) (flat exit x ++ ys) → Follows base (pc + length (flat exit x)) (height n m) ys
-      behind x a b n m pc ys t f = subst (λ h. Follows base (pc + length (flat exit x)) h ys) (block_ends R slots names exit x a b n m t) (back base pc (height a b) (flat exit x) ys f)
+      behind : (x : Block) (h g : Height) (pc : ℕ) (ys : List Order) → BlockTypes R slots names h x g → Follows base pc h (flat exit x ++ ys) → Follows base (pc + length (flat exit x)) g ys
+      behind x h g pc ys t f = subst (λ i. Follows base (pc + length (flat exit x)) i ys) (block_ends R slots names exit x h g t) (back base pc h (flat exit x) ys f)
 
-      pub block_steps : (x : Block) (a b n m pc : ℕ) → BlockTypes R slots names a b x n m → Follows base pc (height a b) (flat exit x) → AllStep pc (flat exit x)
-      block_steps (Straight xs) a b n m pc t f = typed_steps base pc a b xs n m t f
-      block_steps (Then x y) a b n m pc t f =
+      -- a choice, behind which both go on between two statements
+      chooses : (to : Target) (pc : ℕ) → Goes (pc + 1) base → Goes (lands pc to) base → Steps test pc (JumpZero to)
+      chooses to pc first second = (omega arith, subst (Goes (pc + 1)) (sym (chosen_same R slots names exit to)) first, subst (Goes (lands pc to)) (sym (chosen_same R slots names exit to)) second)
+
+      pub block_steps : (x : Block) (h g : Height) (pc : ℕ) → BlockTypes R slots names h x g → Follows base pc h (flat exit x) → AllStep pc (flat exit x)
+      block_steps (Straight xs) h g pc t f = typed_steps base pc h xs g t f
+      block_steps (Then x y) h g pc t f =
           let xs = flat exit x in
           let ys = flat exit y in
-          step_then pc xs ys (block_steps x a b t.0 t.1 pc t.2 (front base pc (height a b) xs ys (block_ordinary y t.0 t.1 n m t.3) f)) (block_steps y t.0 t.1 n m (pc + length xs) t.3 (behind x a b t.0 t.1 pc ys t.2 f))
-      block_steps (Fork x y) a b n m pc t f =
+          step_then pc xs ys (block_steps x h t.0 pc t.1 (front base pc h xs ys (block_ordinary y t.0 g t.2) f)) (block_steps y t.0 g (pc + length xs) t.2 (behind x h t.0 pc ys t.1 f))
+      block_steps (Fork x y) h g pc t f =
           let xs = flat exit x in
           let ys = flat exit y in
+          let to = Skip (suc (length xs)) in
           let one = pc + 1 in
           let two = one + length xs + 1 in
           let rest : List Order = Jump (Skip (length ys)) ∷ ys in
-          let low : next_height R base (JumpZero (Skip (suc (length xs)))) (height a b) ≡ base = heights_same _ _ slots names (omega (arith, t.0)) (omega (arith, t.1)) in
-          let less : base ≡ height (a - 1) b = heights_same slots names (a - 1) b (omega (arith, t.0)) (sym t.1) in
-          let there : two ≡ lands pc (Skip (suc (length xs))) = omega arith in
-          let o : AllOrdinary rest = (tt, block_ordinary y slots names n m t.3) in
-          let inside = subst (λ h. Follows base one h (xs ++ rest)) low f.2 in
-          let after = behind x slots names n m one rest t.2 inside in
-          let first = goes_here base one base (xs ++ rest) (ordinary_then xs rest (block_ordinary x slots names n m t.2) o) inside in
-          let second = goes_here base two base ys (block_ordinary y slots names n m t.3) after.2 in
-          let last = subst (Goes (two + length ys)) (block_ends R slots names exit y slots names n m t.3) (ends_with base two base ys after.2) in (
-            (height a b, f.0, (omega (arith, t.0), subst (Goes one) less first, subst (λ q. Goes q (height (a - 1) b)) there (subst (Goes two) less second))),
-            step_then one xs rest (block_steps x slots names n m one t.2 (front base one base xs rest o inside)) ((height n m, after.0, last), block_steps y slots names n m two t.3 after.2),
+          let low : next_height R base (JumpZero to) h ≡ base = ap (next_height R base (JumpZero to)) t.0 ∙ chosen_same R slots names exit to in
+          let there : two ≡ lands pc to = omega arith in
+          let o : AllOrdinary rest = (tt, block_ordinary y base g t.2) in
+          let inside = subst (λ i. Follows base one i (xs ++ rest)) low f.2 in
+          let after = behind x base g one rest t.1 inside in
+          let first = goes_here base one base (xs ++ rest) (ordinary_then xs rest (block_ordinary x base g t.1) o) inside in
+          let second = goes_here base two base ys (block_ordinary y base g t.2) after.2 in
+          let last = subst (Goes (two + length ys)) (block_ends R slots names exit y base g t.2) (ends_with base two base ys after.2) in (
+            (test, subst (λ i. slice_get table pc ≡ Some i) t.0 f.0, chooses to pc first (subst (λ q. Goes q base) there second)),
+            step_then one xs rest (block_steps x base g one t.1 (front base one base xs rest o inside)) ((g, after.0, last), block_steps y base g two t.2 after.2),
           )
-      block_steps (Loop test x) a b n m pc t f =
-          let ts = flat exit test in
-          let xs = flat exit x in
+      block_steps (Loop x y) h g pc t f =
+          let ts = flat exit x in
+          let xs = flat exit y in
+          let to = Skip (suc (length xs)) in
           let q = pc + length ts in
           let one = q + 1 in
           let end = one + length xs + 1 in
           let again : List Order = Jump (Back (suc (length ts + length xs))) ∷ [] in
-          let out : Order = JumpZero (Skip (suc (length xs))) in
-          let low : next_height R base out (height (suc slots) names) ≡ base = heights_same _ _ slots names (omega arith) (omega arith) in
-          let less : base ≡ height (suc slots - 1) names = heights_same slots names (suc slots - 1) names (omega arith) refl in
-          let there : end ≡ lands q (Skip (suc (length xs))) = omega arith in
+          let out : Order = JumpZero to in
+          let there : end ≡ lands q to = omega arith in
           let begin : pc ≡ lands (one + length xs) (Back (suc (length ts + length xs))) = omega arith in
-          let o : AllOrdinary (xs ++ again) = ordinary_then xs again (block_ordinary x slots names a b t.1) (tt, tt) in
-          let tested = behind test a b (suc slots) names pc (out ∷ (xs ++ again)) t.0 f in
-          let inside = subst (λ h. Follows base one h (xs ++ again)) low tested.2 in
-          let after = behind x slots names a b one again t.1 inside in
-          let first = goes_here base pc (height a b) (ts ++ (out ∷ (xs ++ again))) (block_ordinary (Loop test x) a b n m t) f in
-          step_then pc ts (out ∷ (xs ++ again)) (block_steps test a b (suc slots) names pc t.0 (front base pc (height a b) ts (out ∷ (xs ++ again)) (tt, o) f)) (
-            (height (suc slots) names, tested.0, (omega arith, subst (Goes one) less (goes_here base one base (xs ++ again) o inside), subst (λ q. Goes q (height (suc slots - 1) names)) there (subst (Goes end) less after.2))),
-            step_then one xs again (block_steps x slots names a b one t.1 (front base one base xs again (tt, tt) inside)) ((height a b, after.0, subst (λ q. Goes q (height a b)) begin first), tt),
+          let o : AllOrdinary (xs ++ again) = ordinary_then xs again (block_ordinary y base h t.1) (tt, tt) in
+          let chosen = behind x h test pc (out ∷ (xs ++ again)) t.0 f in
+          let inside = subst (λ i. Follows base one i (xs ++ again)) (chosen_same R slots names exit to) chosen.2 in
+          let after = behind y base h one again t.1 inside in
+          let first = goes_here base pc h (ts ++ (out ∷ (xs ++ again))) (block_ordinary (Loop x y) h g t) f in
+          step_then pc ts (out ∷ (xs ++ again)) (block_steps x h test pc t.0 (front base pc h ts (out ∷ (xs ++ again)) (tt, o) f)) (
+            (test, chosen.0, chooses to q (goes_here base one base (xs ++ again) o inside) (subst (λ n. Goes n base) there after.2)),
+            step_then one xs again (block_steps y base h one t.1 (front base one base xs again (tt, tt) inside)) ((h, after.0, subst (λ n. Goes n h) begin first), tt),
           )
-      block_steps Leave a b n m pc t f = ((height a b, f.0, subst (Goes exit) (heights_same (suc slots) names a b (sym t.0) (sym t.1)) leaves), tt)
+      block_steps Leave h g pc t f = ((h, f.0, subst (Goes exit) (sym t.0) leaves), tt)

@@ -6,7 +6,7 @@ use Rattle.arc_spec.specs.Resolved.{Program}
 use Rattle.arc_code.specs.Effects.{passes}
 use Rattle.arc_lower.specs.Order.{Order}
 use Rattle.arc_lower.specs.Lowered.{stub_orders, methods_orders, class_orders, classes_orders, linked_methods, linked_class, linked_classes}
-use Rattle.arc_lower.specs.declared.height.Height.{Height}
+use Rattle.arc_code.specs.declared.effect.Height.{Height}
 use Rattle.arc_lower.specs.Heights.{greatest, stub_heights, methods_heights, class_heights, classes_heights}
 use Rattle.arc_lower.proofs.Laying.{greatest_append}
 

@@ -1,19 +1,21 @@
--- Orders that go on with the next one each: how many numbers and places of their function there are behind them, where each of them has as many as it needs.
-use Rattle.std.proofs.Common.{◌≡◌, ℕ, zero, suc, pred, ◌+◌, ◌-◌, ◌/◌, ◌<◌, ◌≤◌, Bool, true, false, if◌then◌else◌, nat_lt, List, [], ◌∷◌, ◌++◌, length, take, drop, Some, None, refl, sym, ap, ◌∙◌, subst, arith, pos}
+-- Orders that go on with the next one each: how many numbers, references, temporaries and variables there are behind them, where each of them has as many as it needs.
+use Rattle.std.proofs.Common.{◌≡◌, ℕ, zero, suc, pred, ◌+◌, ◌-◌, ◌/◌, ◌<◌, ◌≤◌, Bool, true, false, ◌||◌, true≢false, if◌then◌else◌, nat_lt, List, [], ◌∷◌, ◌++◌, length, take, drop, Some, None, refl, sym, ap, ◌∙◌, subst, arith, pos}
 use Rattle.std.proofs.lemmas.Bool.{ltb-true, ltb-false}
 use Rattle.arc_ast.specs.declared.tree.Kind.TheVariants as k
 use Rattle.arc_ast.specs.declared.tree.Sign.TheVariants as signs
 use Rattle.arc_spec.specs.Resolved.{Piece, Bytes, Decimal, Character, Value, Number, ReadByte, Print, Negated, Combined, Converted, Local, Assigned, Invoked, Sent, SentSuper, SentTo, SentToSuper, Field, FieldAssigned, Reference, Itself, Variable, Stored, Made, Initialized, Values, no_values, and_value, Command, Sequence, Evaluate, EvaluateReference, Begin, Choose, Repeat, Commands, no_commands, and_command, Function, Program}
 use Rattle.arc_spec.specs.Resolved as resolved
 use Rattle.arc_code.specs.declared.instr.Op.{Op}
-use Rattle.arc_code.specs.declared.instr.Op.TheVariants.{Num, Bin, Un, Narrow, Pop, Get, Set, PrintNum, PrintByte, GetChar, Nil, HoldSelf, Hold, Forget, Alloc, GetField, SetField, Differ, IsObject}
-use Rattle.arc_code.specs.declared.instr.Instr.TheVariants.{Plain, PrintText, Jump, Return, Empty, Call, Send, SendSuper, SendTo, SendToSuper, StoreStrong, Drop}
-use Rattle.arc_code.specs.Effects.{effect, passes}
+use Rattle.arc_code.specs.declared.instr.Op.TheVariants.{Num, Bin, Un, Narrow, Pop, Get, Set, PrintNum, PrintByte, GetChar, Declare, Nil, ReadSelf, ReadRef, Hold, Forget, Alloc, GetField, SetField, Differ, IsObject}
+use Rattle.arc_code.specs.declared.instr.Instr.TheVariants.{Plain, PrintText, Jump, Call, Send, SendSuper, SendTo, SendToSuper, StoreStrong, Empty, DropAll, Return}
+use Rattle.arc_code.specs.declared.effect.Effect.{Effect}
+use Rattle.arc_code.specs.declared.effect.Height.{Height}
+use Rattle.arc_code.specs.Effects.{on_numbers, operation_effect, effect, passes}
 use Rattle.arc_lower.specs.Order.{Order}
-use Rattle.arc_lower.specs.Lowered.{value_count, value_takes, reference_takes, values_take, conversion_orders, part_orders, piece_orders, left_behind, format_orders, pop_orders, keep_orders, print_orders, get_orders, set_orders, zero_orders, fit_orders, nil_orders, hold_orders, store_orders, drop_orders, empty_orders, all_empty_orders, number_of, slots_of, call_orders, value_orders, reference_orders, all_value_orders, whole_orders, whole_reference_orders, begin_orders, Block, Straight, Then, Fork, Loop, Leave, command_block, commands_block}
+use Rattle.arc_lower.specs.Lowered.{value_count, conversion_orders, part_orders, piece_orders, left_behind, format_orders, pop_orders, keep_orders, print_orders, get_orders, set_orders, zero_orders, fit_orders, declare_orders, read_orders, store_orders, drop_orders, empty_orders, all_empty_orders, number_of, slots_of, call_orders, value_orders, reference_orders, all_value_orders, whole_orders, whole_reference_orders, begin_orders, Block, Straight, Then, Fork, Loop, Leave, command_block, commands_block}
+use Rattle.arc_lower.specs.Heights.{height, between, numbers_taken, after_effect, next_height, last_height}
 use Rattle.arc_lower.proofs.Linking.{out_of_list}
-use Rattle.arc_lower.specs.declared.height.Height.{Height}
-use Rattle.arc_lower.specs.Heights.{height, numbers_taken, next_height, last_height}
+use Rattle.arc_lower.proofs.Taking.{value_takes, reference_takes, values_take, take_some, value_some, reference_some}
 
 slots_by : (P : Program) (f : ℕ) (b : Bool) → nat_lt f (length P.functions) ≡ b → slots_of P (if b then f else length P.functions) ≡ slots_of P f
 slots_by P f true e = refl
@@ -33,323 +35,396 @@ number_by P f false e = omega arith
 pub number_there : (P : Program) (f : ℕ) → number_of P f ≤ length P.functions
 number_there P f = number_by P f (nat_lt f (length P.functions)) refl
 
-pub heights_same : (a b n m : ℕ) → a ≡ n → b ≡ m → height a b ≡ height n m
-heights_same a b n m e f = ap (λ x. height x b) e ∙ ap (height n) f
+pub heights_same : (a b c d n m t v : ℕ) → a ≡ n → b ≡ m → c ≡ t → d ≡ v → height a b c d ≡ height n m t v
+heights_same a b c d n m t v e f g h = ap (λ x. height x b c d) e ∙ ap (λ x. height n x c d) f ∙ ap (λ x. height n m x d) g ∙ ap (height n m t) h
 
 pred_less : (n : ℕ) → pred n ≤ n
 pred_less zero = omega arith
 pred_less (suc n) = omega arith
 
--- with so many numbers and places an operation finds what it works on; what it forgets are all of its function's places
-abbrev pub Reaches : Op → (numbers places : ℕ) → Type 0
-Reaches (Bin operator kind) a b = 2 ≤ a
-Reaches (Un kind) a b = 1 ≤ a
-Reaches (Narrow kind) a b = 1 ≤ a
-Reaches Pop a b = 1 ≤ a
-Reaches (Get depth) a b = depth < a
-Reaches (Set depth) a b = suc depth < a
-Reaches PrintNum a b = 2 ≤ a
-Reaches PrintByte a b = 2 ≤ a
-Reaches (Hold depth) a b = depth < b
-Reaches (Forget count) a b = count ≡ b
-Reaches Alloc a b = 1 ≤ a
-Reaches (GetField class index) a b = 1 ≤ b
-Reaches (SetField depth class index) a b = (1 ≤ a) × (depth < b)
-Reaches (Differ depth) a b = suc depth < b
-Reaches IsObject a b = 1 ≤ b
-Reaches _ a b = Unit {0}
+-- a test leaves a number above the variables
+abbrev pub tested : (slots names : ℕ) → Height
+tested slots names = between (suc slots) names
 
--- an operation that forgets no places
-abbrev pub Keeps : Op → Type 0
-Keeps (Forget count) = ⊥
-Keeps _ = Unit {0}
+-- the height behind an order that goes on with the next one
+abbrev pub left : Program → Order → Height → Height
+left P DropAll h = record h { temporaries = 0 }
+left P x h = after_effect h (numbers_taken P x) (effect x)
+
+-- the same with so many numbers and variables more below
+abbrev pub over : (r s : ℕ) → Height → Height
+over r s h = height (h.numbers + r) h.names h.temporaries (h.variables + s)
+
+pub over_none : (h : Height) → over 0 0 h ≡ h
+over_none h = heights_same (h.numbers + 0) h.names h.temporaries (h.variables + 0) h.numbers h.names h.temporaries h.variables (omega arith) refl refl (omega arith)
+
+-- at this height an operation finds what it works on; a function with temporaries declares no variable
+abbrev pub Reaches : Op → Height → Type 0
+Reaches (Bin operator kind) h = 2 ≤ h.numbers
+Reaches (Un kind) h = 1 ≤ h.numbers
+Reaches (Narrow kind) h = 1 ≤ h.numbers
+Reaches Pop h = 1 ≤ h.numbers
+Reaches (Get depth) h = depth < h.numbers
+Reaches (Set depth) h = suc depth < h.numbers
+Reaches PrintNum h = 2 ≤ h.numbers
+Reaches PrintByte h = 2 ≤ h.numbers
+Reaches Declare h = h.temporaries ≡ 0
+Reaches (ReadRef i) h = i < h.variables
+Reaches Hold h = 1 ≤ h.names
+Reaches Forget h = 1 ≤ h.names
+Reaches Alloc h = 1 ≤ h.numbers
+Reaches (GetField class index) h = 1 ≤ h.names
+Reaches (SetField class index) h = (1 ≤ h.numbers) × (1 ≤ h.names)
+Reaches Differ h = 2 ≤ h.names
+Reaches IsObject h = 1 ≤ h.names
+Reaches _ h = Unit {0}
 
 module _ (P : Program) where
-  -- the same of an order that goes on with the next one
-  abbrev pub Needs : Order → (numbers places : ℕ) → Type 0
-  Needs (Plain o) a b = Reaches o a b × Keeps o
-  Needs (PrintText t) a b = 1 ≤ a
-  Needs (Call f) a b = (slots_of P f ≤ a) × (f ≤ length P.functions)
-  Needs (Send selector takes) a b = passes signs.Class takes ≤ a
-  Needs (SendSuper from selector takes) a b = passes signs.Class takes ≤ a
-  Needs (SendTo depth selector takes) a b = (takes ≤ a) × (depth < b)
-  Needs (SendToSuper from selector takes) a b = takes ≤ a
-  Needs (StoreStrong depth) a b = suc depth < b
-  Needs Drop a b = 1 ≤ b
-  Needs (Empty i) a b = i < b
-  Needs _ a b = ⊥
+  -- the same of an order that goes on with the next one; no reference outlives the temporaries
+  abbrev pub Needs : Order → Height → Type 0
+  Needs (Plain o) h = Reaches o h
+  Needs (PrintText t) h = 1 ≤ h.numbers
+  Needs (Call f) h = (slots_of P f ≤ h.numbers) × (f ≤ length P.functions)
+  Needs (Send selector takes) h = passes signs.Class takes ≤ h.numbers
+  Needs (SendSuper from selector takes) h = passes signs.Class takes ≤ h.numbers
+  Needs (SendTo selector takes) h = (takes ≤ h.numbers) × (1 ≤ h.names)
+  Needs (SendToSuper from selector takes) h = (takes ≤ h.numbers) × (1 ≤ h.names)
+  Needs (StoreStrong i) h = (1 ≤ h.names) × (i < h.variables)
+  Needs (Empty i) h = i < h.variables
+  Needs DropAll h = h.names ≡ 0
+  Needs _ h = ⊥
 
-  abbrev pub numbers_left : Order → ℕ → ℕ
-  numbers_left x a = a - numbers_taken P x + (effect x).numbers_given
-
-  abbrev pub places_left : Order → ℕ → ℕ
-  places_left x b = b - (effect x).places_taken + (effect x).places_given
+pub next_same : (P : Program) (base : Height) (x : Order) (h u : Height) → Needs P x u → next_height P base x h ≡ left P x h
+next_same P base (Jump to) h u needs = absurd needs
+next_same P base Return h u needs = absurd needs
+next_same P base _ h u needs = refl
 
 module _ (P : Program) (r s : ℕ) where
-  abbrev numbers_behind : Order → ℕ → ℕ
-  numbers_behind = numbers_left P
+  -- from one height, below which so many numbers and variables more lie, these orders come to the other, and each has what it needs
+  abbrev pub Types : Height → List Order → Height → Type 0
+  Types h [] g = h ≡ g
+  Types h (x ∷ xs) g = Needs P x (over r s h) × Types (left P x h) xs g
 
-  abbrev places_behind : Order → ℕ → ℕ
-  places_behind = places_left P
+  pub types_then : (h : Height) (xs : List Order) (g : Height) (ys : List Order) (i : Height) → Types h xs g → Types g ys i → Types h (xs ++ ys) i
+  types_then h [] g ys i first next = subst (λ x. Types x ys i) (sym first) next
+  types_then h (x ∷ xs) g ys i first next = (first.0, types_then (left P x h) xs g ys i first.1 next)
 
-  -- from so many numbers and places, below which so many more lie, these orders come to so many, and each has what it needs
-  abbrev pub Types : (a b : ℕ) → List Order → (n m : ℕ) → Type 0
-  Types a b [] n m = (a ≡ n) × (b ≡ m)
-  Types a b (x ∷ xs) n m = Needs P x (a + r) (b + s) × Types (numbers_behind x a) (places_behind x b) xs n m
+  pub types_same : (h : Height) (xs : List Order) (g i : Height) → g ≡ i → Types h xs g → Types h xs i
+  types_same h xs g i e t = subst (Types h xs) e t
 
-  pub types_then : (a b : ℕ) (xs : List Order) (n m : ℕ) (ys : List Order) (u v : ℕ) → Types a b xs n m → Types n m ys u v → Types a b (xs ++ ys) u v
-  types_then a b [] n m ys u v first next = subst (λ i. Types i b ys u v) (sym first.0) (subst (λ j. Types n j ys u v) (sym first.1) next)
-  types_then a b (x ∷ xs) n m ys u v first next = (first.0, types_then (numbers_behind x a) (places_behind x b) xs n m ys u v first.1 next)
+  -- ---- numbers alone
 
-  pub types_same : (a b : ℕ) (xs : List Order) (n m u v : ℕ) → n ≡ u → m ≡ v → Types a b xs n m → Types a b xs u v
-  types_same a b xs n m u v e f h = subst (λ j. Types a b xs u j) f (subst (λ i. Types a b xs i m) e h)
+  module _ (b c d : ℕ) where
+    numbers_same : (taken given a n : ℕ) → a - taken + given ≡ n → height (a - taken + given) (b - 0 + 0) (c + 0) (d + 0) ≡ height n b c d
+    numbers_same taken given a n e = heights_same _ _ _ _ n b c d e (omega arith) (omega arith) (omega arith)
 
-  -- one operation, and an operation before others
-  pub one : (a b : ℕ) (o : Op) (n m : ℕ) → Reaches o (a + r) (b + s) × Keeps o → numbers_behind (Plain o) a ≡ n → places_behind (Plain o) b ≡ m → Types a b (Plain o ∷ []) n m
-  one a b o n m needs e f = (needs, (e, f))
+    abbrev pub Counts : (a : ℕ) → List Order → (n : ℕ) → Type 0
+    Counts a xs n = Types (height a b c d) xs (height n b c d)
 
-  pub step : (a b : ℕ) (o : Op) (xs : List Order) (n m u v : ℕ) → Reaches o (a + r) (b + s) × Keeps o → numbers_behind (Plain o) a ≡ n → places_behind (Plain o) b ≡ m → Types n m xs u v → Types a b (Plain o ∷ xs) u v
-  step a b o xs n m u v needs e f next = types_then a b (Plain o ∷ []) n m xs u v (needs, (e, f)) next
+    pub counts_then : (a : ℕ) (xs : List Order) (n : ℕ) (ys : List Order) (u : ℕ) → Counts a xs n → Counts n ys u → Counts a (xs ++ ys) u
+    counts_then a xs n ys u first next = types_then (height a b c d) xs (height n b c d) ys (height u b c d) first next
 
-  -- ---- parts
+    pub counts_same : (a : ℕ) (xs : List Order) (n u : ℕ) → n ≡ u → Counts a xs n → Counts a xs u
+    counts_same a xs n u e t = subst (λ m. Counts a xs m) e t
 
-  pub pops_type : (n a b : ℕ) → Types (n + a) b (pop_orders n) a b
-  pops_type zero a b = (omega arith, refl)
-  pops_type (suc n) a b = step (suc n + a) b Pop (pop_orders n) (n + a) b a b (omega arith, tt) (omega arith) (omega arith) (pops_type n a b)
+    -- an operation before others, and an operation alone
+    pub op : (taken given a : ℕ) (o : Op) (xs : List Order) (n u : ℕ) → operation_effect o ≡ on_numbers taken given → Reaches o (height (a + r) b c (d + s)) → a - taken + given ≡ n → Counts n xs u → Counts a (Plain o ∷ xs) u
+    op taken given a o xs n u e needs count next =
+        (needs, subst (λ h. Types h xs (height u b c d)) (sym (ap (λ (f : Effect). after_effect (height a b c d) f.numbers_taken f) e ∙ numbers_same taken given a n count)) next)
 
-  pub keep_types : (n a b : ℕ) → Types (suc (n + a)) b (keep_orders n) (suc a) b
-  keep_types zero a b = (omega arith, refl)
-  keep_types (suc n) a b = step (suc (suc n + a)) b (Set n) (pop_orders n) (n + suc a) b (suc a) b (omega arith, tt) (omega arith) (omega arith) (pops_type n (suc a) b)
+    pub one : (taken given a : ℕ) (o : Op) (n : ℕ) → operation_effect o ≡ on_numbers taken given → Reaches o (height (a + r) b c (d + s)) → a - taken + given ≡ n → Counts a (Plain o ∷ []) n
+    one taken given a o n e needs count = op taken given a o [] n n e needs count refl
 
-  pub zeros_type : (n a b : ℕ) → Types a b (zero_orders n) (n + a) b
-  zeros_type zero a b = (omega arith, refl)
-  zeros_type (suc n) a b = step a b (Num (pos 0)) (zero_orders n) (suc a) b (suc n + a) b (tt, tt) (omega arith) (omega arith) (types_same (suc a) b (zero_orders n) (n + suc a) b (suc n + a) b (omega arith) refl (zeros_type n (suc a) b))
+    pub pops_type : (n a : ℕ) → Counts (n + a) (pop_orders n) a
+    pops_type zero a = ap (λ x. height x b c d) (omega arith)
+    pops_type (suc n) a = op 1 0 (suc n + a) Pop (pop_orders n) (n + a) a refl (omega arith) (omega arith) (pops_type n a)
 
-  fit_by : (values slots a b pops zeros : ℕ) → pops ≡ values - slots → zeros ≡ slots - values → Types (values + a) b (pop_orders pops ++ zero_orders zeros) (slots + a) b
-  fit_by values slots a b pops zeros e f =
-      let left = values + a - pops in
-      let begin : pops + left ≡ values + a = omega (arith, e) in
-      types_then (values + a) b (pop_orders pops) left b (zero_orders zeros) (slots + a) b
-      (subst (λ n. Types n b (pop_orders pops) left b) begin (pops_type pops left b))
-      (types_same left b (zero_orders zeros) (zeros + left) b (slots + a) b (omega (arith, e, f)) refl (zeros_type zeros left b))
+    pub keep_types : (n a : ℕ) → Counts (suc (n + a)) (keep_orders n) (suc a)
+    keep_types zero a = ap (λ x. height x b c d) (omega arith)
+    keep_types (suc n) a = op 1 0 (suc (suc n + a)) (Set n) (pop_orders n) (n + suc a) (suc a) refl (omega arith) (omega arith) (pops_type n (suc a))
 
-  pub fit_types : (values slots a b : ℕ) → Types (values + a) b (fit_orders values slots) (slots + a) b
-  fit_types values slots a b = fit_by values slots a b (values - slots) (slots - values) refl refl
+    pub zeros_type : (n a : ℕ) → Counts a (zero_orders n) (n + a)
+    zeros_type zero a = ap (λ x. height x b c d) (omega arith)
+    zeros_type (suc n) a = op 0 1 a (Num (pos 0)) (zero_orders n) (suc a) (suc n + a) refl tt (omega arith) (counts_same (suc a) (zero_orders n) (n + suc a) (suc n + a) (omega arith) (zeros_type n (suc a)))
 
-  pub nils_type : (n a b : ℕ) → Types a b (nil_orders n) a (n + b)
-  nils_type zero a b = (refl, omega arith)
-  nils_type (suc n) a b = step a b Nil (nil_orders n) a (suc b) a (suc n + b) (tt, tt) (omega arith) (omega arith) (types_same a (suc b) (nil_orders n) a (n + suc b) a (suc n + b) refl (omega arith) (nils_type n a (suc b)))
+    fit_by : (values slots a pops zeros : ℕ) → pops ≡ values - slots → zeros ≡ slots - values → Counts (values + a) (pop_orders pops ++ zero_orders zeros) (slots + a)
+    fit_by values slots a pops zeros e f =
+        let rest = values + a - pops in
+        let begin : pops + rest ≡ values + a = omega (arith, e) in
+        counts_then (values + a) (pop_orders pops) rest (zero_orders zeros) (slots + a)
+        (subst (λ n. Counts n (pop_orders pops) rest) begin (pops_type pops rest))
+        (counts_same rest (zero_orders zeros) (zeros + rest) (slots + a) (omega (arith, e, f)) (zeros_type zeros rest))
 
-  pub drops_type : (n a b : ℕ) → Types a (n + b) (drop_orders n) a b
-  drops_type zero a b = (refl, omega arith)
-  drops_type (suc n) a b = types_then a (suc n + b) (Drop ∷ []) a (n + b) (drop_orders n) a b (omega arith, (omega arith, omega arith)) (drops_type n a b)
+    pub fit_types : (values slots a : ℕ) → Counts (values + a) (fit_orders values slots) (slots + a)
+    fit_types values slots a = fit_by values slots a (values - slots) (slots - values) refl refl
 
-  empty_types : (names i a b : ℕ) → names ≤ b + s → Types a b (empty_orders names i) a b
-  empty_types names i a b le = by (nat_lt i names) refl
-    where
-      by : (t : Bool) → nat_lt i names ≡ t → Types a b (if t then Empty i ∷ [] else []) a b
-      by true e = let lt = ltb-true i names e in (omega (arith, lt, le), (omega arith, omega arith))
-      by false e = (refl, refl)
+    -- ---- formats, above the count of bytes
 
-  pub all_empty_type : (names first count a b : ℕ) → names ≤ b + s → Types a b (all_empty_orders names first count) a b
-  all_empty_type names first zero a b le = (refl, refl)
-  all_empty_type names first (suc n) a b le = types_then a b (empty_orders names (first + n)) a b (all_empty_orders names first n) a b (empty_types names (first + n) a b le) (all_empty_type names first n a b le)
+    print_one : (bytes : List ℕ) (a : ℕ) → Counts (suc a) (PrintText bytes ∷ []) (suc a)
+    print_one bytes a = (omega arith, numbers_same 1 1 (suc a) (suc a) (omega arith))
 
-  -- ---- formats, above the count of bytes
+    parts_type : (full : ℕ) (bytes : List ℕ) (a : ℕ) → Counts (suc a) (part_orders full bytes) (suc a)
+    parts_type zero bytes a = print_one bytes a
+    parts_type (suc full) bytes a = counts_then (suc a) (PrintText (take 16 bytes) ∷ []) (suc a) (part_orders full (drop 16 bytes)) (suc a) (print_one (take 16 bytes) a) (parts_type full (drop 16 bytes) a)
 
-  parts_type : (full : ℕ) (bytes : List ℕ) (a b : ℕ) → Types (suc a) b (part_orders full bytes) (suc a) b
-  parts_type zero bytes a b = (omega arith, (omega arith, omega arith))
-  parts_type (suc full) bytes a b = types_then (suc a) b (PrintText (take 16 bytes) ∷ []) (suc a) b (part_orders full (drop 16 bytes)) (suc a) b (omega arith, (omega arith, omega arith)) (parts_type full (drop 16 bytes) a b)
+    -- the first of the values that aren't printed yet, which lie below the count
+    conversion_types : (o : Op) (rest a : ℕ) → rest ≤ a → operation_effect o ≡ on_numbers 2 1 → Reaches o (height (suc (suc a) + r) b c (d + s)) → Counts (suc a) (conversion_orders (Plain o) rest) (suc a)
+    conversion_types o zero a le e needs = refl
+    conversion_types o (suc rest) a le e needs = op 0 1 (suc a) (Get (suc rest)) (Plain o ∷ []) (suc (suc a)) (suc a) refl (omega (arith, le)) (omega arith) (one 2 1 (suc (suc a)) o (suc a) e needs (omega arith))
 
-  -- the first of the values that aren't printed yet, which lie below the count
-  conversion_types : (o : Op) (left a b : ℕ) → left ≤ a → Types (suc (suc a)) b (Plain o ∷ []) (suc a) b → Types (suc a) b (conversion_orders (Plain o) left) (suc a) b
-  conversion_types o zero a b le printed = (refl, refl)
-  conversion_types o (suc left) a b le printed = step (suc a) b (Get (suc left)) (Plain o ∷ []) (suc (suc a)) b (suc a) b (omega (arith, le), tt) (omega arith) (omega arith) printed
+    format_types : (pieces : List Piece) (rest a : ℕ) → rest ≤ a → Counts (suc a) (format_orders pieces rest) (suc a)
+    format_types [] rest a le = refl
+    format_types (Bytes bytes ∷ others) rest a le = counts_then (suc a) (piece_orders (Bytes bytes) rest) (suc a) (format_orders others rest) (suc a) (parts_type ((length bytes - 1) / 16) bytes a) (format_types others rest a le)
+    format_types (Decimal ∷ others) rest a le =
+        counts_then (suc a) (piece_orders Decimal rest) (suc a) (format_orders others (left_behind Decimal rest)) (suc a) (conversion_types PrintNum rest a le refl (omega arith)) (format_types others (left_behind Decimal rest) a (omega (arith, le, pred_less rest)))
+    format_types (Character ∷ others) rest a le =
+        counts_then (suc a) (piece_orders Character rest) (suc a) (format_orders others (left_behind Character rest)) (suc a) (conversion_types PrintByte rest a le refl (omega arith)) (format_types others (left_behind Character rest) a (omega (arith, le, pred_less rest)))
 
-  format_types : (pieces : List Piece) (left a b : ℕ) → left ≤ a → Types (suc a) b (format_orders pieces left) (suc a) b
-  format_types [] left a b le = (refl, refl)
-  format_types (Bytes bytes ∷ others) left a b le = types_then (suc a) b (piece_orders (Bytes bytes) left) (suc a) b (format_orders others left) (suc a) b (parts_type ((length bytes - 1) / 16) bytes a b) (format_types others left a b le)
-  format_types (Decimal ∷ others) left a b le =
-      types_then (suc a) b (piece_orders Decimal left) (suc a) b (format_orders others (left_behind Decimal left)) (suc a) b (conversion_types PrintNum left a b le (one (suc (suc a)) b PrintNum (suc a) b (omega arith, tt) (omega arith) (omega arith)))
-      (format_types others (left_behind Decimal left) a b (omega (arith, le, pred_less left)))
-  format_types (Character ∷ others) left a b le =
-      types_then (suc a) b (piece_orders Character left) (suc a) b (format_orders others (left_behind Character left)) (suc a) b (conversion_types PrintByte left a b le (one (suc (suc a)) b PrintByte (suc a) b (omega arith, tt) (omega arith) (omega arith)))
-      (format_types others (left_behind Character left) a b (omega (arith, le, pred_less left)))
+    pub print_types : (pieces : List Piece) (n a : ℕ) → Counts (n + a) (print_orders pieces n) (suc a)
+    print_types pieces n a =
+        op 0 1 (n + a) (Num (pos 0)) _ (suc (n + a)) (suc a) refl tt (omega arith)
+        (counts_then (suc (n + a)) (format_orders pieces n) (suc (n + a)) (Plain (Narrow k.Int) ∷ [] ++ keep_orders n) (suc a) (format_types pieces n (n + a) (omega arith))
+        (op 1 1 (suc (n + a)) (Narrow k.Int) (keep_orders n) (suc (n + a)) (suc a) refl (omega arith) (omega arith) (keep_types n a)))
 
-  print_types : (pieces : List Piece) (n a b : ℕ) → Types (n + a) b (print_orders pieces n) (suc a) b
-  print_types pieces n a b =
-      step (n + a) b (Num (pos 0)) (format_orders pieces n ++ (Plain (Narrow k.Int) ∷ [] ++ keep_orders n)) (suc (n + a)) b (suc a) b (tt, tt) (omega arith) (omega arith)
-      (types_then (suc (n + a)) b (format_orders pieces n) (suc (n + a)) b (Plain (Narrow k.Int) ∷ keep_orders n) (suc a) b (format_types pieces n (n + a) b (omega arith))
-      (step (suc (n + a)) b (Narrow k.Int) (keep_orders n) (suc (n + a)) b (suc a) b (omega arith, tt) (omega arith) (omega arith) (keep_types n a b)))
+    -- ---- variables that hold numbers, and calls
 
-  -- ---- variables, in a function that has so many of them
+    pub get_types : (slots depth i a : ℕ) → depth + slots ≤ a + r → Counts a (get_orders slots depth i) (suc a)
+    get_types slots depth i a h = by (nat_lt i slots) refl
+      where
+        by : (t : Bool) → nat_lt i slots ≡ t → Counts a (if t then Plain (Get (depth + (slots - suc i))) ∷ [] else Plain (Num (pos 0)) ∷ []) (suc a)
+        by true e = let lt = ltb-true i slots e in one 0 1 a (Get (depth + (slots - suc i))) (suc a) refl (omega (arith, lt, h)) (omega arith)
+        by false e = one 0 1 a (Num (pos 0)) (suc a) refl tt (omega arith)
 
-  get_types : (slots depth i a b : ℕ) → depth + slots ≤ a + r → Types a b (get_orders slots depth i) (suc a) b
-  get_types slots depth i a b le = by (nat_lt i slots) refl
-    where
-      by : (t : Bool) → nat_lt i slots ≡ t → Types a b (if t then Plain (Get (depth + (slots - suc i))) ∷ [] else Plain (Num (pos 0)) ∷ []) (suc a) b
-      by true e = let lt = ltb-true i slots e in one a b (Get (depth + (slots - suc i))) (suc a) b (omega (arith, lt, le), tt) (omega arith) (omega arith)
-      by false e = one a b (Num (pos 0)) (suc a) b (tt, tt) (omega arith) (omega arith)
+    pub set_types : (slots depth i a : ℕ) → depth + slots ≤ a + r → Counts (suc a) (set_orders slots depth i) (suc a)
+    set_types slots depth i a h = by (nat_lt i slots) refl
+      where
+        by : (t : Bool) → nat_lt i slots ≡ t → Counts (suc a) (if t then Plain (Get 0) ∷ Plain (Set (suc depth + (slots - suc i))) ∷ [] else []) (suc a)
+        by true e =
+            let lt = ltb-true i slots e in
+            let set = suc depth + (slots - suc i) in
+            op 0 1 (suc a) (Get 0) (Plain (Set set) ∷ []) (suc (suc a)) (suc a) refl (omega arith) (omega arith) (one 1 0 (suc (suc a)) (Set set) (suc a) refl (omega (arith, lt, h)) (omega arith))
+        by false e = refl
 
-  set_types : (slots depth i a b : ℕ) → depth + slots ≤ a + r → Types (suc a) b (set_orders slots depth i) (suc a) b
-  set_types slots depth i a b le = by (nat_lt i slots) refl
-    where
-      by : (t : Bool) → nat_lt i slots ≡ t → Types (suc a) b (if t then Plain (Get 0) ∷ Plain (Set (suc depth + (slots - suc i))) ∷ [] else []) (suc a) b
-      by true e =
-          let lt = ltb-true i slots e in
-          step (suc a) b (Get 0) (Plain (Set (suc depth + (slots - suc i))) ∷ []) (suc (suc a)) b (suc a) b (omega arith, tt) (omega arith) (omega arith) (one (suc (suc a)) b (Set (suc depth + (slots - suc i))) (suc a) b (omega (arith, lt, le), tt) (omega arith) (omega arith))
-      by false e = (refl, refl)
+    pub call_types : (f values a : ℕ) → Counts (values + a) (call_orders P f values) (suc a)
+    call_types f values a =
+        let same = slots_same P f in
+        counts_then (values + a) (fit_orders values (slots_of P f)) (slots_of P f + a) (Call (number_of P f) ∷ []) (suc a) (fit_types values (slots_of P f) a)
+        ((omega (arith, same), number_there P f), numbers_same (slots_of P (number_of P f)) 1 (slots_of P f + a) (suc a) (omega (arith, same)))
 
-  hold_types : (names taken i a b : ℕ) → taken + names ≤ b + s → Types a b (hold_orders names taken i) a (suc b)
-  hold_types names taken i a b le = by (nat_lt i names) refl
-    where
-      by : (t : Bool) → nat_lt i names ≡ t → Types a b (if t then Plain (Hold (taken + i)) ∷ [] else Plain Nil ∷ []) a (suc b)
-      by true e = let lt = ltb-true i names e in one a b (Hold (taken + i)) a (suc b) (omega (arith, lt, le), tt) (omega arith) (omega arith)
-      by false e = one a b Nil a (suc b) (tt, tt) (omega arith) (omega arith)
+  -- ---- variables that name objects
 
-  store_types : (names taken i a b : ℕ) → taken + names < b + s → Types a b (store_orders names taken i) a b
-  store_types names taken i a b below = by (nat_lt i names) refl
-    where
-      by : (t : Bool) → nat_lt i names ≡ t → Types a b (if t then StoreStrong (taken + i) ∷ [] else []) a b
-      by true e = let lt = ltb-true i names e in (omega (arith, lt, below), (omega arith, omega arith))
-      by false e = (refl, refl)
+  pub declare_types : (n a d : ℕ) → Types (height a 0 0 d) (declare_orders n) (height a 0 0 (n + d))
+  declare_types zero a d = heights_same _ _ _ _ a 0 0 (0 + d) refl refl refl (omega arith)
+  declare_types (suc n) a d =
+      (refl, subst (λ h. Types h (declare_orders n) (height a 0 0 (suc n + d))) (heights_same a 0 0 (d + 1) _ _ _ _ (omega arith) (omega arith) (omega arith) (omega arith)) (types_same (height a 0 0 (d + 1)) (declare_orders n) (height a 0 0 (n + (d + 1))) (height a 0 0 (suc n + d)) (heights_same _ _ _ _ a 0 0 (suc n + d) refl refl refl (omega arith)) (declare_types n a (d + 1))))
 
-  -- a call takes the variables of the function, which those that it is given are made
-  call_types : (f values a b : ℕ) → slots_of P (number_of P f) ≡ slots_of P f → Types (values + a) b (call_orders P f values) (suc a) b
-  call_types f values a b same = types_then (values + a) b (fit_orders values (slots_of P f)) (slots_of P f + a) b (Call (number_of P f) ∷ []) (suc a) b (fit_types values (slots_of P f) a b) ((omega (arith, same), number_there P f), (omega (arith, same), omega arith))
+  module _ (names a b c d : ℕ) (room : names ≤ d + s) where
+    abbrev stays : Height
+    stays = height a b c d
 
-  pub positive : (e : Reference) → 1 ≤ reference_takes e
-  positive resolved.Nil = omega arith
-  positive Itself = omega arith
-  positive (Variable i) = omega arith
-  positive (Stored i a) = omega arith
-  positive (Made a) = omega arith
-  positive (Initialized a) = omega arith
+    empty_types : (i : ℕ) → Types stays (empty_orders names i) stays
+    empty_types i = by (nat_lt i names) refl
+      where
+        by : (t : Bool) → nat_lt i names ≡ t → Types stays (if t then Empty i ∷ [] else []) stays
+        by true e = let lt = ltb-true i names e in (omega (arith, lt, room), heights_same _ _ _ _ a b c d (omega arith) (omega arith) (omega arith) (omega arith))
+        by false e = refl
+
+    pub all_empty_type : (first count : ℕ) → Types stays (all_empty_orders names first count) stays
+    all_empty_type first zero = refl
+    all_empty_type first (suc n) = types_then stays (empty_orders names (first + n)) stays (all_empty_orders names first n) stays (empty_types (first + n)) (all_empty_type first n)
+
+    pub store_types : (i : ℕ) → 1 ≤ b → Types stays (store_orders names i) stays
+    store_types i some = by (nat_lt i names) refl
+      where
+        by : (t : Bool) → nat_lt i names ≡ t → Types stays (if t then StoreStrong i ∷ [] else []) stays
+        by true e = let lt = ltb-true i names e in ((some, omega (arith, lt, room)), heights_same _ _ _ _ a b c d (omega arith) (omega (arith, some)) (omega arith) (omega arith))
+        by false e = refl
 
   -- ---- expressions
 
-  module _ (slots names : ℕ) where
+  module _ (slots names d : ℕ) (room : names ≤ d + s) where
+    -- from so many numbers, references and temporaries these orders come to so many numbers and references; only where some may be taken are there other temporaries then
+    record Comes (takes : Bool) (a b c : ℕ) (xs : List Order) (n m : ℕ) : Type 0 where
+      more : ℕ
+      types : Types (height a b c d) xs (height n m more d)
+      none : takes ≡ false → more ≡ c
+
+    abbrev plain : (takes : Bool) (a b c : ℕ) (xs : List Order) (n m : ℕ) → Types (height a b c d) xs (height n m c d) → Comes takes a b c xs n m
+    plain takes a b c xs n m t = record { more = c; types = t; none = λ _. refl }
+
+    abbrev taking : (a b c : ℕ) (xs : List Order) (n m more : ℕ) → Types (height a b c d) xs (height n m more d) → Comes true a b c xs n m
+    taking a b c xs n m more t = record { more = more; types = t; none = λ e. absurd (true≢false e) }
+
+    or_left : (x y : Bool) → (x || y) ≡ false → x ≡ false
+    or_left true y e = e
+    or_left false y e = refl
+
+    or_right : (x y : Bool) → (x || y) ≡ false → y ≡ false
+    or_right true y e = absurd (true≢false e)
+    or_right false y e = e
+
+    both : (x y : Bool) (a b c : ℕ) (xs : List Order) (n m : ℕ) (ys : List Order) (u v : ℕ) (first : Comes x a b c xs n m) → Comes y n m first.more ys u v → Comes (x || y) a b c (xs ++ ys) u v
+    both x y a b c xs n m ys u v first next = record {
+      more = next.more;
+      types = types_then (height a b c d) xs (height n m first.more d) ys (height u v next.more d) first.types next.types;
+      none = λ e. next.none (or_right x y e) ∙ first.none (or_left x y e);
+    }
+
+    -- orders behind, which take none
+    then_plain : (x : Bool) (a b c : ℕ) (xs : List Order) (n m : ℕ) (ys : List Order) (u v : ℕ) → Comes x a b c xs n m → ((t : ℕ) → Types (height n m t d) ys (height u v t d)) → Comes x a b c (xs ++ ys) u v
+    then_plain x a b c xs n m ys u v first next = record { more = first.more; types = types_then (height a b c d) xs (height n m first.more d) ys (height u v first.more d) first.types (next first.more); none = first.none }
+
+    -- a reference more, which a temporary takes
+    hold_types : (a b t : ℕ) → 1 ≤ b → Types (height a b t d) (Plain Hold ∷ []) (height a b (t + 1) d)
+    hold_types a b t some = (some, heights_same _ _ _ _ a b (t + 1) d (omega arith) (omega (arith, some)) (omega arith) (omega arith))
+
+    self_types : (a b c : ℕ) → Types (height a b c d) (Plain ReadSelf ∷ []) (height a (suc b) (c + 1) d)
+    self_types a b c = (tt, heights_same _ _ _ _ a (suc b) (c + 1) d (omega arith) (omega arith) (omega arith) (omega arith))
+
+    read_types : (i a b c : ℕ) → Types (height a b c d) (read_orders names i) (height a (suc b) (c + 1) d)
+    read_types i a b c = by (nat_lt i names) refl
+      where
+        by : (t : Bool) → nat_lt i names ≡ t → Types (height a b c d) (if t then Plain (ReadRef i) ∷ [] else Plain Nil ∷ Plain Hold ∷ []) (height a (suc b) (c + 1) d)
+        by true e = let lt = ltb-true i names e in (omega (arith, lt, room), heights_same _ _ _ _ a (suc b) (c + 1) d (omega arith) (omega arith) (omega arith) (omega arith))
+        by false e = (tt, (omega arith, heights_same _ _ _ _ a (suc b) (c + 1) d (omega arith) (omega arith) (omega arith) (omega arith)))
+
+    shifted : (takes : Bool) (a b c : ℕ) (xs : List Order) (n : ℕ) → Comes takes (suc a) b c xs (n + suc a) b → Comes takes (suc a) b c xs (suc n + a) b
+    shifted takes a b c xs n first = let e : n + suc a ≡ suc n + a = omega arith in subst (λ m. Comes takes (suc a) b c xs m b) e first
+
     mutual
-      pub value_types : (e : Value) (depth taken a b m : ℕ) → depth + slots ≤ a + r → taken + names ≤ b + s → m ≡ value_takes e + b → Types a b (value_orders P slots names depth taken e) (suc a) m
-      value_types (Number n) depth taken a b m h o e = one a b (Num n) (suc a) m (tt, tt) (omega arith) (omega (arith, e))
-      value_types ReadByte depth taken a b m h o e = one a b GetChar (suc a) m (tt, tt) (omega arith) (omega (arith, e))
-      value_types (Print pieces arguments) depth taken a b m h o e =
+      value_types : (e : Value) (depth a b c : ℕ) → depth + slots ≤ a + r → Comes (value_takes e) a b c (value_orders P slots names depth e) (suc a) b
+      value_types (Number n) depth a b c h = plain false a b c _ (suc a) b (one b c d 0 1 a (Num n) (suc a) refl tt (omega arith))
+      value_types ReadByte depth a b c h = plain false a b c _ (suc a) b (one b c d 0 1 a GetChar (suc a) refl tt (omega arith))
+      value_types (Print pieces arguments) depth a b c h =
           let n = value_count arguments in
-          types_then a b (all_value_orders P slots names depth taken arguments) (n + a) m (print_orders pieces n) (suc a) m (values_type arguments depth taken a b m h o e) (print_types pieces n a m)
-      value_types (Negated kind v) depth taken a b m h o e = types_then a b (value_orders P slots names depth taken v) (suc a) m (Plain (Un kind) ∷ []) (suc a) m (value_types v depth taken a b m h o e) (one (suc a) m (Un kind) (suc a) m (omega arith, tt) (omega arith) (omega arith))
-      value_types (Combined operator kind v u) depth taken a b m h o e =
-          let middle = value_takes v + b in
-          types_then a b (value_orders P slots names depth taken v) (suc a) middle _ (suc a) m (value_types v depth taken a b middle h o refl)
-          (types_then (suc a) middle (value_orders P slots names (suc depth) (taken + value_takes v) u) (suc (suc a)) m (Plain (Bin operator kind) ∷ []) (suc a) m (value_types u (suc depth) (taken + value_takes v) (suc a) middle m (omega (arith, h)) (omega (arith, o)) (omega (arith, e))) (one (suc (suc a)) m (Bin operator kind) (suc a) m (omega arith, tt) (omega arith) (omega arith)))
-      value_types (Converted kind v) depth taken a b m h o e = types_then a b (value_orders P slots names depth taken v) (suc a) m (Plain (Narrow kind) ∷ []) (suc a) m (value_types v depth taken a b m h o e) (one (suc a) m (Narrow kind) (suc a) m (omega arith, tt) (omega arith) (omega arith))
-      value_types (Local i) depth taken a b m h o e = types_same a b (get_orders slots depth i) (suc a) b (suc a) m refl (omega (arith, e)) (get_types slots depth i a b h)
-      value_types (Assigned i v) depth taken a b m h o e = types_then a b (value_orders P slots names depth taken v) (suc a) m (set_orders slots depth i) (suc a) m (value_types v depth taken a b m h o e) (set_types slots depth i a m h)
-      value_types (Invoked f arguments) depth taken a b m h o e =
+          then_plain (values_take arguments) a b c (all_value_orders P slots names depth arguments) (n + a) b (print_orders pieces n) (suc a) b (values_type arguments depth a b c h) (λ t. print_types b t d pieces n a)
+      value_types (Negated kind v) depth a b c h = then_plain (value_takes v) a b c (value_orders P slots names depth v) (suc a) b (Plain (Un kind) ∷ []) (suc a) b (value_types v depth a b c h) (λ t. one b t d 1 1 (suc a) (Un kind) (suc a) refl (omega arith) (omega arith))
+      value_types (Combined operator kind v u) depth a b c h =
+          let first = value_types v depth a b c h in
+          both (value_takes v) (value_takes u) a b c (value_orders P slots names depth v) (suc a) b (value_orders P slots names (suc depth) u ++ Plain (Bin operator kind) ∷ []) (suc a) b first
+          (then_plain (value_takes u) (suc a) b first.more (value_orders P slots names (suc depth) u) (suc (suc a)) b (Plain (Bin operator kind) ∷ []) (suc a) b (value_types u (suc depth) (suc a) b first.more (omega (arith, h))) (λ t. one b t d 2 1 (suc (suc a)) (Bin operator kind) (suc a) refl (omega arith) (omega arith)))
+      value_types (Converted kind v) depth a b c h = then_plain (value_takes v) a b c (value_orders P slots names depth v) (suc a) b (Plain (Narrow kind) ∷ []) (suc a) b (value_types v depth a b c h) (λ t. one b t d 1 1 (suc a) (Narrow kind) (suc a) refl (omega arith) (omega arith))
+      value_types (Local i) depth a b c h = plain false a b c _ (suc a) b (get_types b c d slots depth i a h)
+      value_types (Assigned i v) depth a b c h = then_plain (value_takes v) a b c (value_orders P slots names depth v) (suc a) b (set_orders slots depth i) (suc a) b (value_types v depth a b c h) (λ t. set_types b t d slots depth i a h)
+      value_types (Invoked f arguments) depth a b c h =
           let n = value_count arguments in
-          types_then a b (all_value_orders P slots names depth taken arguments) (n + a) m (call_orders P f n) (suc a) m (values_type arguments depth taken a b m h o e) (call_types f n a m (slots_same P f))
-      value_types (Sent v selector arguments) depth taken a b m h o e =
-          let middle = value_takes v + b in
+          then_plain (values_take arguments) a b c (all_value_orders P slots names depth arguments) (n + a) b (call_orders P f n) (suc a) b (values_type arguments depth a b c h) (λ t. call_types b t d f n a)
+      value_types (Sent v selector arguments) depth a b c h =
           let n = value_count arguments in
-          types_then a b (value_orders P slots names depth taken v) (suc a) middle _ (suc a) m (value_types v depth taken a b middle h o refl)
-          (types_then (suc a) middle (all_value_orders P slots names (suc depth) (taken + value_takes v) arguments) (n + suc a) m (Send selector n ∷ []) (suc a) m (values_type arguments (suc depth) (taken + value_takes v) (suc a) middle m (omega (arith, h)) (omega (arith, o)) (omega (arith, e))) (omega arith, (omega arith, omega arith)))
-      value_types (SentSuper from selector arguments) depth taken a b m h o e =
+          let first = value_types v depth a b c h in
+          both (value_takes v) (values_take arguments) a b c (value_orders P slots names depth v) (suc a) b _ (suc a) b first
+          (then_plain (values_take arguments) (suc a) b first.more (all_value_orders P slots names (suc depth) arguments) (n + suc a) b (Send selector n ∷ []) (suc a) b (values_type arguments (suc depth) (suc a) b first.more (omega (arith, h))) (λ t. (omega arith, heights_same _ _ _ _ (suc a) b t d (omega arith) (omega arith) (omega arith) (omega arith))))
+      value_types (SentSuper from selector arguments) depth a b c h =
           let n = value_count arguments in
-          types_then a b (get_orders slots depth 0) (suc a) b _ (suc a) m (get_types slots depth 0 a b h)
-          (types_then (suc a) b (all_value_orders P slots names (suc depth) taken arguments) (n + suc a) m (SendSuper from selector n ∷ []) (suc a) m (values_type arguments (suc depth) taken (suc a) b m (omega (arith, h)) o e) (omega arith, (omega arith, omega arith)))
-      value_types (SentTo v selector arguments) depth taken a b m h o e =
-          let middle = reference_takes v + b in
+          both false (values_take arguments) a b c (get_orders slots depth 0) (suc a) b _ (suc a) b (plain false a b c (get_orders slots depth 0) (suc a) b (get_types b c d slots depth 0 a h))
+          (then_plain (values_take arguments) (suc a) b c (all_value_orders P slots names (suc depth) arguments) (n + suc a) b (SendSuper from selector n ∷ []) (suc a) b (values_type arguments (suc depth) (suc a) b c (omega (arith, h))) (λ t. (omega arith, heights_same _ _ _ _ (suc a) b t d (omega arith) (omega arith) (omega arith) (omega arith))))
+      value_types (SentTo v selector arguments) depth a b c h =
           let n = value_count arguments in
-          types_then a b (reference_orders P slots names depth taken v) a middle _ (suc a) m (reference_types v depth taken a b middle h o refl)
-          (types_then a middle (all_value_orders P slots names depth (taken + reference_takes v) arguments) (n + a) m (SendTo (values_take arguments) selector n ∷ []) (suc a) m (values_type arguments depth (taken + reference_takes v) a middle m h (omega (arith, o)) (omega (arith, e))) ((omega arith, omega (arith, e, positive v)), (omega arith, omega arith)))
-      value_types (SentToSuper from selector arguments) depth taken a b m h o e =
+          let first = reference_types v depth a b c h in
+          both (reference_takes v) (values_take arguments) a b c (reference_orders P slots names depth v) a (suc b) _ (suc a) b first
+          (then_plain (values_take arguments) a (suc b) first.more (all_value_orders P slots names depth arguments) (n + a) (suc b) (SendTo selector n ∷ []) (suc a) b (values_type arguments depth a (suc b) first.more h) (λ t. ((omega arith, omega arith), heights_same _ _ _ _ (suc a) b t d (omega arith) (omega arith) (omega arith) (omega arith))))
+      value_types (SentToSuper from selector arguments) depth a b c h =
           let n = value_count arguments in
-          step a b HoldSelf (all_value_orders P slots names depth (suc taken) arguments ++ SendToSuper from selector n ∷ []) a (suc b) (suc a) m (tt, tt) (omega arith) (omega arith)
-          (types_then a (suc b) (all_value_orders P slots names depth (suc taken) arguments) (n + a) m (SendToSuper from selector n ∷ []) (suc a) m (values_type arguments depth (suc taken) a (suc b) m h (omega (arith, o)) (omega (arith, e))) (omega arith, (omega arith, omega arith)))
-      value_types (Field v class index) depth taken a b m h o e = types_then a b (reference_orders P slots names depth taken v) a m (Plain (GetField class index) ∷ []) (suc a) m (reference_types v depth taken a b m h o e) (one a m (GetField class index) (suc a) m (omega (arith, e, positive v), tt) (omega arith) (omega arith))
-      value_types (FieldAssigned v class index u) depth taken a b m h o e =
-          let middle = reference_takes v + b in
-          types_then a b (reference_orders P slots names depth taken v) a middle _ (suc a) m (reference_types v depth taken a b middle h o refl)
-          (types_then a middle (value_orders P slots names depth (taken + reference_takes v) u) (suc a) m (Plain (SetField (value_takes u) class index) ∷ []) (suc a) m (value_types u depth (taken + reference_takes v) a middle m h (omega (arith, o)) (omega (arith, e))) (one (suc a) m (SetField (value_takes u) class index) (suc a) m ((omega arith, omega (arith, e, positive v)), tt) (omega arith) (omega arith)))
-      value_types (resolved.Differ v u) depth taken a b m h o e =
-          let middle = reference_takes v + b in
-          types_then a b (reference_orders P slots names depth taken v) a middle _ (suc a) m (reference_types v depth taken a b middle h o refl)
-          (types_then a middle (reference_orders P slots names depth (taken + reference_takes v) u) a m (Plain (Differ (reference_takes u - 1)) ∷ []) (suc a) m (reference_types u depth (taken + reference_takes v) a middle m h (omega (arith, o)) (omega (arith, e))) (one a m (Differ (reference_takes u - 1)) (suc a) m (omega (arith, e, positive v, positive u), tt) (omega arith) (omega arith)))
-      value_types (resolved.IsObject v) depth taken a b m h o e = types_then a b (reference_orders P slots names depth taken v) a m (Plain IsObject ∷ []) (suc a) m (reference_types v depth taken a b m h o e) (one a m IsObject (suc a) m (omega (arith, e, positive v), tt) (omega arith) (omega arith))
+          both true (values_take arguments) a b c (Plain ReadSelf ∷ []) a (suc b) _ (suc a) b (taking a b c (Plain ReadSelf ∷ []) a (suc b) (c + 1) (self_types a b c))
+          (then_plain (values_take arguments) a (suc b) (c + 1) (all_value_orders P slots names depth arguments) (n + a) (suc b) (SendToSuper from selector n ∷ []) (suc a) b (values_type arguments depth a (suc b) (c + 1) h) (λ t. ((omega arith, omega arith), heights_same _ _ _ _ (suc a) b t d (omega arith) (omega arith) (omega arith) (omega arith))))
+      value_types (Field v class index) depth a b c h = then_plain (reference_takes v) a b c (reference_orders P slots names depth v) a (suc b) (Plain (GetField class index) ∷ []) (suc a) b (reference_types v depth a b c h) (λ t. (omega arith, heights_same _ _ _ _ (suc a) b t d (omega arith) (omega arith) (omega arith) (omega arith)))
+      value_types (FieldAssigned v class index u) depth a b c h =
+          let first = reference_types v depth a b c h in
+          both (reference_takes v) (value_takes u) a b c (reference_orders P slots names depth v) a (suc b) _ (suc a) b first
+          (then_plain (value_takes u) a (suc b) first.more (value_orders P slots names depth u) (suc a) (suc b) (Plain (SetField class index) ∷ []) (suc a) b (value_types u depth a (suc b) first.more h) (λ t. ((omega arith, omega arith), heights_same _ _ _ _ (suc a) b t d (omega arith) (omega arith) (omega arith) (omega arith))))
+      value_types (resolved.Differ v u) depth a b c h =
+          let first = reference_types v depth a b c h in
+          both (reference_takes v) (reference_takes u) a b c (reference_orders P slots names depth v) a (suc b) _ (suc a) b first
+          (then_plain (reference_takes u) a (suc b) first.more (reference_orders P slots names depth u) a (suc (suc b)) (Plain Differ ∷ []) (suc a) b (reference_types u depth a (suc b) first.more h) (λ t. (omega arith, heights_same _ _ _ _ (suc a) b t d (omega arith) (omega arith) (omega arith) (omega arith))))
+      value_types (resolved.IsObject v) depth a b c h = then_plain (reference_takes v) a b c (reference_orders P slots names depth v) a (suc b) (Plain IsObject ∷ []) (suc a) b (reference_types v depth a b c h) (λ t. (omega arith, heights_same _ _ _ _ (suc a) b t d (omega arith) (omega arith) (omega arith) (omega arith)))
 
-      pub reference_types : (e : Reference) (depth taken a b m : ℕ) → depth + slots ≤ a + r → taken + names ≤ b + s → m ≡ reference_takes e + b → Types a b (reference_orders P slots names depth taken e) a m
-      reference_types resolved.Nil depth taken a b m h o e = one a b Nil a m (tt, tt) (omega arith) (omega (arith, e))
-      reference_types Itself depth taken a b m h o e = one a b HoldSelf a m (tt, tt) (omega arith) (omega (arith, e))
-      reference_types (Variable i) depth taken a b m h o e = types_same a b (hold_orders names taken i) a (suc b) a m refl (omega (arith, e)) (hold_types names taken i a b o)
-      reference_types (Stored i v) depth taken a b m h o e =
-          let middle = reference_takes v + b in
-          types_then a b (reference_orders P slots names depth taken v) a middle _ a m (reference_types v depth taken a b middle h o refl)
-          (types_then a middle (store_orders names (taken + reference_takes v - 1) i) a middle (Plain (Hold 0) ∷ []) a m (store_types names (taken + reference_takes v - 1) i a middle (omega (arith, o, positive v))) (one a middle (Hold 0) a m (omega (arith, positive v), tt) (omega arith) (omega (arith, e))))
-      reference_types (Made v) depth taken a b m h o e =
-          let middle = value_takes v + b in
-          types_then a b (value_orders P slots names depth taken v) (suc a) middle (Plain Alloc ∷ []) a m (value_types v depth taken a b middle h o refl) (one (suc a) middle Alloc a m (omega arith, tt) (omega arith) (omega (arith, e)))
-      reference_types (Initialized v) depth taken a b m h o e =
-          let middle = reference_takes v + b in
-          types_then a b (reference_orders P slots names depth taken v) a middle (Plain (Hold 0) ∷ []) a m (reference_types v depth taken a b middle h o refl) (one a middle (Hold 0) a m (omega (arith, positive v), tt) (omega arith) (omega (arith, e)))
+      reference_types : (e : Reference) (depth a b c : ℕ) → depth + slots ≤ a + r → Comes (reference_takes e) a b c (reference_orders P slots names depth e) a (suc b)
+      reference_types resolved.Nil depth a b c h = plain false a b c _ a (suc b) (tt, heights_same _ _ _ _ a (suc b) c d (omega arith) (omega arith) (omega arith) (omega arith))
+      reference_types Itself depth a b c h = taking a b c _ a (suc b) (c + 1) (self_types a b c)
+      reference_types (Variable i) depth a b c h = taking a b c _ a (suc b) (c + 1) (read_types i a b c)
+      reference_types (Stored i v) depth a b c h =
+          let first = reference_types v depth a b c h in
+          taking a b c _ a (suc b) (first.more + 1) (types_then (height a b c d) (reference_orders P slots names depth v) (height a (suc b) first.more d) _ (height a (suc b) (first.more + 1) d) first.types
+          (types_then (height a (suc b) first.more d) (store_orders names i) (height a (suc b) first.more d) (Plain Hold ∷ []) (height a (suc b) (first.more + 1) d) (store_types names a (suc b) first.more d room i (omega arith)) (hold_types a (suc b) first.more (omega arith))))
+      reference_types (Made v) depth a b c h =
+          let first = value_types v depth a b c h in
+          taking a b c _ a (suc b) (first.more + 1) (types_then (height a b c d) (value_orders P slots names depth v) (height (suc a) b first.more d) (Plain Alloc ∷ []) (height a (suc b) (first.more + 1) d) first.types (omega arith, heights_same _ _ _ _ a (suc b) (first.more + 1) d (omega arith) (omega arith) (omega arith) (omega arith)))
+      reference_types (Initialized v) depth a b c h =
+          let first = reference_types v depth a b c h in
+          taking a b c _ a (suc b) (first.more + 1) (types_then (height a b c d) (reference_orders P slots names depth v) (height a (suc b) first.more d) (Plain Hold ∷ []) (height a (suc b) (first.more + 1) d) first.types (hold_types a (suc b) first.more (omega arith)))
 
-      values_type : (es : Values) (depth taken a b m : ℕ) → depth + slots ≤ a + r → taken + names ≤ b + s → m ≡ values_take es + b → Types a b (all_value_orders P slots names depth taken es) (value_count es + a) m
-      values_type no_values depth taken a b m h o e = (omega arith, omega (arith, e))
-      values_type (and_value v others) depth taken a b m h o e =
-          let middle = value_takes v + b in
-          types_then a b (value_orders P slots names depth taken v) (suc a) middle _ (suc (value_count others) + a) m (value_types v depth taken a b middle h o refl)
-          (types_same (suc a) middle (all_value_orders P slots names (suc depth) (taken + value_takes v) others) (value_count others + suc a) m (suc (value_count others) + a) m (omega arith) refl (values_type others (suc depth) (taken + value_takes v) (suc a) middle m (omega (arith, h)) (omega (arith, o)) (omega (arith, e))))
+      values_type : (es : Values) (depth a b c : ℕ) → depth + slots ≤ a + r → Comes (values_take es) a b c (all_value_orders P slots names depth es) (value_count es + a) b
+      values_type no_values depth a b c h = plain false a b c [] (0 + a) b (heights_same _ _ _ _ (0 + a) b c d (omega arith) refl refl refl)
+      values_type (and_value v others) depth a b c h =
+          let first = value_types v depth a b c h in
+          let n = value_count others in
+          both (value_takes v) (values_take others) a b c (value_orders P slots names depth v) (suc a) b (all_value_orders P slots names (suc depth) others) (suc n + a) b first (shifted (values_take others) a b first.more (all_value_orders P slots names (suc depth) others) n (values_type others (suc depth) (suc a) b first.more (omega (arith, h))))
 
-    -- a full-expression leaves one number more
-    pub whole_types : (e : Value) (a b : ℕ) → slots ≤ a + r → names ≤ b + s → Types a b (whole_orders P slots names e) (suc a) b
-    whole_types e a b h o = types_then a b (value_orders P slots names 0 0 e) (suc a) (value_takes e + b) (drop_orders (value_takes e)) (suc a) b (value_types e 0 0 a b (value_takes e + b) (omega (arith, h)) (omega (arith, o)) refl) (drops_type (value_takes e) (suc a) b)
+    -- ---- full-expressions, which end without temporaries
 
-    pub whole_reference_types : (e : Reference) (a b : ℕ) → slots ≤ a + r → names ≤ b + s → Types a b (whole_reference_orders P slots names e) a b
-    whole_reference_types e a b h o = types_then a b (reference_orders P slots names 0 0 e) a (reference_takes e + b) (drop_orders (reference_takes e)) a b (reference_types e 0 0 a b (reference_takes e + b) (omega (arith, h)) (omega (arith, o)) refl) (drops_type (reference_takes e) a b)
+    drop_types : (takes : Bool) (a c : ℕ) → (takes ≡ false → c ≡ 0) → Types (height a 0 c d) (if takes then DropAll ∷ [] else []) (height a 0 0 d)
+    drop_types true a c none = (refl, refl)
+    drop_types false a c none = ap (λ t. height a 0 t d) (none refl)
 
-    pub begin_types : (i : ℕ) (e : Reference) (a b : ℕ) → slots ≤ a + r → names ≤ b + s → Types a b (begin_orders P slots names i e) a b
-    begin_types i e a b h o =
-        let n = reference_takes e in
-        types_then a b (reference_orders P slots names 0 0 e) a (n + b) _ a b (reference_types e 0 0 a b (n + b) (omega (arith, h)) (omega (arith, o)) refl)
-        (types_then a (n + b) (store_orders names (n - 1) i) a (n + b) (drop_orders n) a b (store_types names (n - 1) i a (n + b) (omega (arith, o, positive e))) (drops_type n a b))
+    pub whole_types : (e : Value) (a : ℕ) → slots ≤ a + r → Types (height a 0 0 d) (whole_orders P slots names e) (height (suc a) 0 0 d)
+    whole_types e a h =
+        let first = value_types e 0 a 0 0 (omega (arith, h)) in
+        types_then (height a 0 0 d) (value_orders P slots names 0 e) (height (suc a) 0 first.more d) (drop_orders (value_orders P slots names 0 e)) (height (suc a) 0 0 d) first.types (drop_types (take_some (value_orders P slots names 0 e)) (suc a) first.more (λ x. first.none (sym (value_some P slots names e 0) ∙ x)))
+
+    forget_types : (takes : Bool) (a c : ℕ) → (takes ≡ false → c ≡ 0) → Types (height a 1 c d) (Plain Forget ∷ [] ++ (if takes then DropAll ∷ [] else [])) (height a 0 0 d)
+    forget_types takes a c none = (omega arith, subst (λ h. Types h (if takes then DropAll ∷ [] else []) (height a 0 0 d)) (heights_same a 0 c d _ _ _ _ (omega arith) (omega arith) (omega arith) (omega arith)) (drop_types takes a c none))
+
+    pub whole_reference_types : (e : Reference) (a : ℕ) → slots ≤ a + r → Types (height a 0 0 d) (whole_reference_orders P slots names e) (height a 0 0 d)
+    whole_reference_types e a h =
+        let first = reference_types e 0 a 0 0 (omega (arith, h)) in
+        types_then (height a 0 0 d) (reference_orders P slots names 0 e) (height a 1 first.more d) _ (height a 0 0 d) first.types (forget_types (take_some (reference_orders P slots names 0 e)) a first.more (λ x. first.none (sym (reference_some P slots names e 0) ∙ x)))
+
+    pub begin_types : (i : ℕ) (e : Reference) (a : ℕ) → slots ≤ a + r → Types (height a 0 0 d) (begin_orders P slots names i e) (height a 0 0 d)
+    begin_types i e a h =
+        let first = reference_types e 0 a 0 0 (omega (arith, h)) in
+        types_then (height a 0 0 d) (reference_orders P slots names 0 e) (height a 1 first.more d) _ (height a 0 0 d) first.types
+        (types_then (height a 1 first.more d) (store_orders names i) (height a 1 first.more d) _ (height a 0 0 d) (store_types names a 1 first.more d room i (omega arith)) (forget_types (take_some (reference_orders P slots names 0 e)) a first.more (λ x. first.none (sym (reference_some P slots names e 0) ∙ x))))
 
   -- ---- heights
 
-  pub next_same : (base : Height) (x : Order) (a b u v : ℕ) → Needs P x u v → next_height P base x (height a b) ≡ height (numbers_behind x a) (places_behind x b)
-  next_same base (Jump to) a b u v needs = absurd needs
-  next_same base Return a b u v needs = absurd needs
-  next_same base _ a b u v needs = refl
-
-  pub types_last : (base : Height) (a b : ℕ) (xs : List Order) (n m : ℕ) → Types a b xs n m → last_height P base (height a b) xs ≡ height n m
-  types_last base a b [] n m t = heights_same a b n m t.0 t.1
-  types_last base a b (x ∷ xs) n m t = ap (λ h. last_height P base h xs) (next_same base x a b (a + r) (b + s) t.0) ∙ types_last base (numbers_behind x a) (places_behind x b) xs n m t.1
+  pub types_last : (base h : Height) (xs : List Order) (g : Height) → Types h xs g → last_height P base h xs ≡ g
+  types_last base h [] g t = t
+  types_last base h (x ∷ xs) g t = ap (λ i. last_height P base i xs) (next_same P base x h (over r s h) t.0) ∙ types_last base (left P x h) xs g t.1
 
 -- ---- statements
 
 module _ (P : Program) (slots names : ℕ) where
-  -- the same of a block, in a function with so many numbers and places between two statements: a choice and a loop stand there
-  abbrev pub BlockTypes : (a b : ℕ) → Block → (n m : ℕ) → Type 0
-  BlockTypes a b (Straight xs) n m = Types P 0 0 a b xs n m
-  BlockTypes a b (Then x y) n m = (i : ℕ) × (j : ℕ) × BlockTypes a b x i j × BlockTypes i j y n m
-  BlockTypes a b (Fork x y) n m = (a ≡ suc slots) × (b ≡ names) × BlockTypes slots names x n m × BlockTypes slots names y n m
-  BlockTypes a b (Loop test x) n m = BlockTypes a b test (suc slots) names × BlockTypes slots names x a b × (n ≡ slots) × (m ≡ names)
-  BlockTypes a b Leave n m = (a ≡ suc slots) × (b ≡ names) × (n ≡ slots) × (m ≡ names)
+  abbrev base : Height
+  base = between slots names
 
-  test_types : (e : Value) → Types P 0 0 slots names (whole_orders P slots names e) (suc slots) names
-  test_types e = whole_types P 0 0 slots names e slots names (omega arith) (omega arith)
+  abbrev test : Height
+  test = tested slots names
 
-  pub zero_types : Types P 0 0 slots names (Plain (Num (pos 0)) ∷ []) (suc slots) names
-  zero_types = one P 0 0 slots names (Num (pos 0)) (suc slots) names (tt, tt) (omega arith) (omega arith)
+  -- the same of a block, in a function with so many variables: a choice and a loop stand between two statements
+  abbrev pub BlockTypes : Height → Block → Height → Type 0
+  BlockTypes h (Straight xs) g = Types P 0 0 h xs g
+  BlockTypes h (Then x y) g = (i : Height) × BlockTypes h x i × BlockTypes i y g
+  BlockTypes h (Fork x y) g = (h ≡ test) × BlockTypes base x g × BlockTypes base y g
+  BlockTypes h (Loop x y) g = BlockTypes h x test × BlockTypes base y h × (g ≡ base)
+  BlockTypes h Leave g = (h ≡ test) × (g ≡ base)
+
+  test_types : (e : Value) → Types P 0 0 base (whole_orders P slots names e) test
+  test_types e = whole_types P 0 0 slots names names (omega arith) e slots (omega arith)
+
+  pub zero_types : Types P 0 0 base (Plain (Num (pos 0)) ∷ []) test
+  zero_types = one P 0 0 0 0 names 0 1 slots (Num (pos 0)) (suc slots) refl tt (omega arith)
 
   mutual
-    pub command_types : (c : Command) → BlockTypes slots names (command_block P slots names c) slots names
-    command_types (Sequence first count all) = (slots, names, commands_type all, all_empty_type P 0 0 names first count slots names (omega arith))
-    command_types (Evaluate a) = types_then P 0 0 slots names (whole_orders P slots names a) (suc slots) names (Plain Pop ∷ []) slots names (test_types a) (one P 0 0 (suc slots) names Pop slots names (omega arith, tt) (omega arith) (omega arith))
-    command_types (EvaluateReference a) = whole_reference_types P 0 0 slots names a slots names (omega arith) (omega arith)
-    command_types (Begin i a) = begin_types P 0 0 slots names i a slots names (omega arith) (omega arith)
-    command_types (resolved.Return None) = (suc slots, names, zero_types, (refl, refl, refl, refl))
-    command_types (resolved.Return (Some a)) = (suc slots, names, test_types a, (refl, refl, refl, refl))
-    command_types (Choose test a b) = (suc slots, names, test_types test, (refl, refl, command_types a, command_types b))
-    command_types (Repeat test body) = (test_types test, command_types body, refl, refl)
+    pub command_types : (c : Command) → BlockTypes base (command_block P slots names c) base
+    command_types (Sequence first count all) = (base, commands_type all, all_empty_type P 0 0 names slots 0 0 names (omega arith) first count)
+    command_types (Evaluate a) = types_then P 0 0 base (whole_orders P slots names a) test (Plain Pop ∷ []) base (test_types a) (one P 0 0 0 0 names 1 0 (suc slots) Pop slots refl (omega arith) (omega arith))
+    command_types (EvaluateReference a) = whole_reference_types P 0 0 slots names names (omega arith) a slots (omega arith)
+    command_types (Begin i a) = begin_types P 0 0 slots names names (omega arith) i a slots (omega arith)
+    command_types (resolved.Return None) = (test, zero_types, (refl, refl))
+    command_types (resolved.Return (Some a)) = (test, test_types a, (refl, refl))
+    command_types (Choose v a b) = (test, test_types v, (refl, command_types a, command_types b))
+    command_types (Repeat v body) = (test_types v, command_types body, refl)
 
-    pub commands_type : (cs : Commands) → BlockTypes slots names (commands_block P slots names cs) slots names
-    commands_type no_commands = (refl, refl)
-    commands_type (and_command c others) = (slots, names, command_types c, commands_type others)
+    pub commands_type : (cs : Commands) → BlockTypes base (commands_block P slots names cs) base
+    commands_type no_commands = refl
+    commands_type (and_command c others) = (base, command_types c, commands_type others)

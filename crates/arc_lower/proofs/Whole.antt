@@ -3,12 +3,14 @@ use Rattle.std.proofs.Common.{◌≡◌, ℕ, ◌+◌, ◌≤◌, ℤ, List, [],
 use Rattle.arc_ast.specs.declared.tree.Kind.TheVariants as k
 use Rattle.arc_spec.specs.Number.{converted}
 use Rattle.arc_spec.specs.Resolved as resolved
-use Rattle.arc_spec.specs.World.{World, Outcome, Done, Faulted, Cut, first_world, first_locals}
+use Rattle.arc_spec.specs.World as world
+use Rattle.arc_spec.specs.World.{World, Outcome, Done, Faulted, Cut, first_frame, first_world, first_locals}
 use Rattle.arc_spec.specs.Meaning.{level, most_levels, mean}
-use Rattle.arc_spec.specs.Stepping.{Running, Ended, after_steps}
+use Rattle.arc_spec.specs.Holding.{all_nil, on_left}
+use Rattle.arc_spec.specs.Stepping.{Next, Running, Ends, Ended, only_if, after_steps}
 use Rattle.arc_spec.specs.Correct.{meaning_seen, run_seen}
 use Rattle.arc_spec.proofs.Steadiness.{steady}
-use Rattle.arc_ir.specs.Acting.{Program, step, start, seen}
+use Rattle.arc_ir.specs.Acting.{Program, State, step, start, seen}
 use Rattle.arc_code.specs.declared.instr.Instr.TheVariants.{Call, Return, EndStep}
 use Rattle.arc_lower.specs.Order.{orders}
 use Rattle.arc_lower.specs.Lowered.{number_of, slots_of, zero_orders, lowered, entries_of, end_step_of, classes_linked}
@@ -28,16 +30,22 @@ use Rattle.arc_lower.proofs.RoomSuffices.{room_suffices}
 use Rattle.arc_lower.proofs.Transferring.{seen_moves}
 
 -- what is seen of a run that does what is meant
-shows : (p : Program) (good : ℤ → World → Type 0) (input : List ℕ) (bound : ℕ) (o : Outcome ℤ) → ((n : ℕ) → seen p input n ≡ run_seen (after_steps (moves p) n (Running start input []))) → Runs (moves p) good bound (running [] 0 [] (first_world input)) (λ v w. Ended v w.input w.trace) o → Shows (seen p input) bound (meaning_seen o)
+shows : (p : Program) (good : ℤ → World → Type 0) (input : List ℕ) (bound : ℕ) (o : Outcome ℤ) → ((n : ℕ) → seen p input n ≡ run_seen (after_steps (moves p) n (Running start input []))) → Runs (moves p) good bound (running [] [] 0 [] (first_world input)) (λ v w. Ended v w.input w.trace) o → Shows (seen p input) bound (meaning_seen o)
 shows p good input bound (Done v w) alike r = record { steps = r.1.steps; same = alike r.1.steps ∙ ap run_seen r.1.there; enough = λ e. cc }
 shows p good input bound (Faulted f w) alike r = record { steps = r.steps; same = alike r.steps ∙ ap run_seen r.there; enough = λ e. cc }
 shows p good input bound (Cut w) alike r = record { steps = r.0; same = alike r.0 ∙ ap run_seen r.3; enough = λ e. r.2 }
+
+-- what begins is left where it has as few places as it began with
+main_ends : (v : ℤ) (w : World) → w.frame ≡ first_frame → recount (on_left w.frame.temporaries (held_of [] w) (λ h. Ends (converted k.Int v))) ≡ Ends (converted k.Int v)
+main_ends v w e =
+    let last : Next State = Ends (converted k.Int v) in
+    ap (λ (f : world.Frame). recount (on_left f.temporaries (held_of [] w) (λ h. last))) e ∙ ap (λ (f : world.Frame). recount (only_if (all_nil f.strong) last)) e
 
 module _ (p : Program) (R : resolved.Program) (is : orders p.actions ≡ lowered R) (entries : p.entries ≡ entries_of R) (classes : p.classes ≡ classes_linked R) (end : p.end_step ≡ end_step_of R) where
   links : Linked p R
   links = linked p R classes (has_stubs p R is entries)
 
-  program_runs : (input : List ℕ) (bound : ℕ) → Runs (moves p) (λ v w. Unit {0}) bound (running [] 0 [] (first_world input)) (λ v w. Ended v w.input w.trace) (mean R input bound)
+  program_runs : (input : List ℕ) (bound : ℕ) → Runs (moves p) (λ v w. Unit {0}) bound (running [] [] 0 [] (first_world input)) (λ v w. Ended v w.input w.trace) (mean R input bound)
   program_runs input bound =
       let w = first_world input in
       let zeros = zero_orders (slots_of R R.main) in
@@ -47,12 +55,12 @@ module _ (p : Program) (R : resolved.Program) (is : orders p.actions ≡ lowered
       let last = has_back p 0 zeros call has in
       let s = onto (first_locals (slots_of R R.main) []) [] in
       let o = (level R bound most_levels).call R.main 0 [] w in
-      let ready = zeros_pass p [] bound (slots_of R R.main) [] w 0 (has_front p 0 zeros call has) in
+      let ready = zeros_pass p [] bound [] (slots_of R R.main) [] w 0 (has_front p 0 zeros call has) in
       let fine : Fine [] w.objects [] = record { there = λ i some. absurd (omega (arith, some)); dying = tt } in
-      let called = (calls_run p R bound (begins p R is entries) links (has_end p R is entries end) most_levels [] none).invokes R.main [] [] w q fine (last.0, tt) in
-      then_runs (moves p) (λ (v : ℤ) w1. Kept [] w w1) (λ v w1. Unit {0}) bound (running [] 0 [] w) (λ v w1. running [] (q + 1) (v ∷ []) w1) (λ v w1. Ended v w1.input w1.trace) o (λ v w1. Done (converted k.Int v) w1)
-      (leads_runs (moves p) (λ (v : ℤ) w1. Kept [] w w1) bound (running [] 0 [] w) (running [] q s w) (λ v w1. running [] (q + 1) (v ∷ []) w1) o ready called)
-      (λ v w1 g. (tt, leads_step (moves p) (at [] (q + 1) (v ∷ []) (held_of w1)) w1.input w1.trace _ (ap recount (last.1.0 [] (v ∷ []) (held_of w1)))))
+      let called = (calls_run p R bound (begins p R is entries) links (has_end p R is entries end) most_levels [] none).invokes R.main [] [] [] w q fine (last.0, tt) in
+      then_runs (moves p) (λ (v : ℤ) w1. Kept [] w w1) (λ v w1. Unit {0}) bound (running [] [] 0 [] w) (λ v w1. running [] [] (q + 1) (v ∷ []) w1) (λ v w1. Ended v w1.input w1.trace) o (λ v w1. Done (converted k.Int v) w1)
+      (leads_runs (moves p) (λ (v : ℤ) w1. Kept [] w w1) bound (running [] [] 0 [] w) (running [] [] q s w) (λ v w1. running [] [] (q + 1) (v ∷ []) w1) o ready called)
+      (λ v w1 g. (tt, leads_step (moves p) (at [] (q + 1) (v ∷ []) (held_of [] w1)) w1.input w1.trace (Ends (converted k.Int v)) (ap recount (last.1.0 [] (v ∷ []) (held_of [] w1)) ∙ main_ends v w1 g.frame)))
     where
       none : 0 + most_levels ≡ most_levels
       none = omega arith
@@ -68,5 +76,5 @@ performs p R is =
       behaves = behaves (λ input bound. meaning_seen (mean R input bound)) (seen p) calm
           (λ input bound. shows p (λ v w. Unit {0}) input bound (mean R input bound) (seen_moves p R is.actions is.entries is.classes is.end_step input) (program_runs p R is.actions is.entries is.classes is.end_step input bound));
       steady = calm;
-      sound = room_suffices p R is.actions is.entries is.classes is.end_step (at_most_same is.room) (at_most_same is.places);
+      sound = room_suffices p R is.actions is.entries is.classes is.end_step (at_most_same is.room) (at_most_same is.names) (at_most_same is.places);
     }

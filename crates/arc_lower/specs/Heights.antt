@@ -1,44 +1,48 @@
--- How many numbers and places of the running function there are at most before each action of a program, by the effects of those before it; and the greatest of
--- them. All of it is this project's own choice.
+-- How many numbers, references, temporaries and variables that name objects the running function has at most before each action of a program, by the effects of those before it; and the greatest of them.
 use Rattle.std.specs.Prelude.{ℕ, suc, ◌+◌, ◌-◌, max, List, [], ◌∷◌, ◌++◌, length, get_or, Option, Some, None}
 use Rattle.arc_spec.specs.Resolved.{Function, Program}
 use Rattle.arc_spec.specs.declared.class.Method.{Method}
 use Rattle.arc_spec.specs.Classes.{Class}
-use Rattle.arc_code.specs.declared.instr.Instr.TheVariants.{Jump, Call, Return}
+use Rattle.arc_code.specs.declared.instr.Instr.TheVariants.{Jump, Call, DropAll, Return}
 use Rattle.arc_code.specs.declared.effect.Effect.{Effect}
-use Rattle.arc_code.specs.Effects.{effect, passes, room_for}
-use Rattle.arc_lower.specs.declared.height.Height.{Height}
+use Rattle.arc_code.specs.declared.effect.Height.{Height}
+use Rattle.arc_code.specs.Effects.{effect, passes, no_height, room_for}
 use Rattle.arc_lower.specs.Order.{Order}
 use Rattle.arc_lower.specs.Lowered.{all_functions, slots_of, start_orders, function_orders, stub_orders, entries_of}
 
-abbrev pub height : (numbers places : ℕ) → Height
-height numbers places = record { numbers = numbers; places = places }
+abbrev pub height : (numbers names temporaries variables : ℕ) → Height
+height numbers names temporaries variables = record { numbers = numbers; names = names; temporaries = temporaries; variables = variables }
+
+-- the height between two statements of a function with so many variables of each kind
+abbrev pub between : (slots names : ℕ) → Height
+between slots names = height slots 0 0 names
 
 abbrev pub highest : Height → Height → Height
-highest a b = height (max a.numbers b.numbers) (max a.places b.places)
+highest a b = height (max a.numbers b.numbers) (max a.names b.names) (max a.temporaries b.temporaries) (max a.variables b.variables)
 
 -- how many numbers an action takes; a call takes the variables of the function
 abbrev pub numbers_taken : Program → Order → ℕ
 numbers_taken P (Call f) = slots_of P f
 numbers_taken P x = (effect x).numbers_taken
 
--- the height once so many numbers are taken, and as many places as an effect takes, and what it gives is there
+-- the height once so many numbers are taken, and as many references as an effect takes, and what it gives is there
 abbrev pub after_effect : Height → (taken : ℕ) → Effect → Height
-after_effect h taken e = height (h.numbers - taken + e.numbers_given) (h.places - e.places_taken + e.places_given)
+after_effect h taken e = height (h.numbers - taken + e.numbers_given) (h.names - e.names_taken + e.names_given) (h.temporaries + e.temporaries) (h.variables + e.variables)
 
--- The height before the next action. What stands after a jump is reached from elsewhere, between two statements, and what stands after a return is where the
+-- The height before the next action. What stands behind a jump is reached from elsewhere, between two statements, and what stands behind a return is where the
 -- function is entered.
 abbrev pub next_height : Program → (base : Height) → Order → Height → Height
 next_height P base (Jump to) h = base
-next_height P base Return h = height base.numbers 0
+next_height P base DropAll h = record h { temporaries = 0 }
+next_height P base Return h = record base { variables = 0 }
 next_height P base x h = after_effect h (numbers_taken P x) (effect x)
 
--- the heights before each of these actions, of which the first is at this one, in a function that has so many numbers and places between two statements
+-- the heights before each of these actions, of which the first is at this one, in a function that has so much between two statements
 abbrev pub heights : Program → (base : Height) → Height → List Order → List Height
 heights P base h [] = []
 heights P base h (x ∷ xs) = h ∷ heights P base (next_height P base x h) xs
 
--- the height after all of them
+-- the height behind all of them
 abbrev pub last_height : Program → (base : Height) → Height → List Order → Height
 last_height P base h [] = h
 last_height P base h (x ∷ xs) = last_height P base (next_height P base x h) xs
@@ -49,18 +53,18 @@ greatest [] most = most
 greatest (h ∷ others) most = greatest others (highest most h)
 
 abbrev pub start_heights : Program → List Height
-start_heights P = heights P (height 0 0) (height 0 0) (start_orders P)
+start_heights P = heights P no_height no_height (start_orders P)
 
 -- a function is left with its result above its variables
 abbrev pub function_heights : Program → (place : ℕ) → Function → List Height
-function_heights P place f = heights P (height f.slots f.names) (height (suc f.slots) f.names) (function_orders P place f)
+function_heights P place f = heights P (between f.slots f.names) (between (suc f.slots) f.names) (function_orders P place f)
 
 abbrev pub functions_heights : Program → (place : ℕ) → List Function → List Height
 functions_heights P place [] = []
 functions_heights P place (f ∷ others) = function_heights P place f ++ functions_heights P (place + length (function_orders P place f)) others
 
 abbrev pub stub_heights : Program → (entries : List ℕ) → (values f : ℕ) → List Height
-stub_heights P entries values f = heights P (height 0 0) (height values 0) (stub_orders P entries values f)
+stub_heights P entries values f = heights P no_height (between values 0) (stub_orders P entries values f)
 
 abbrev pub methods_heights : Program → (entries : List ℕ) → List Method → List Height
 methods_heights P entries [] = []
@@ -81,23 +85,24 @@ classes_heights P entries (c ∷ others) = class_heights P entries c ++ classes_
 abbrev pub lowered_heights : Program → List Height
 lowered_heights P = (start_heights P ++ functions_heights P (length (start_orders P)) (all_functions P)) ++ classes_heights P (entries_of P) P.classes
 
--- the greatest number of numbers, and of places, that a function has
+-- the greatest number of numbers, of references, of temporaries and of variables, that a function has
 abbrev pub greatest_height : Program → Height
-greatest_height P = greatest (lowered_heights P) (height 0 0)
+greatest_height P = greatest (lowered_heights P) no_height
+
+-- how many places that is
+abbrev pub places_in : Height → ℕ
+places_in h = h.temporaries + h.variables
 
 -- the room for all calls and ends of objects that may run within one another, each at the greatest height
 abbrev pub room_of : Program → ℕ
 room_of P = room_for (greatest_height P).numbers
 
+abbrev pub names_of : Program → ℕ
+names_of P = room_for (greatest_height P).names
+
 abbrev pub places_of : Program → ℕ
-places_of P = room_for (greatest_height P).places
+places_of P = room_for (places_in (greatest_height P))
 
--- the heights of a program as tables; there are none after its actions
+-- the heights of a program as a table; there is none behind its actions
 abbrev pub height_at : Program → ℕ → Height
-height_at P pc = get_or (lowered_heights P) pc (height 0 0)
-
-abbrev pub numbers_at : Program → ℕ → ℕ
-numbers_at P pc = (height_at P pc).numbers
-
-abbrev pub places_at : Program → ℕ → ℕ
-places_at P pc = (height_at P pc).places
+height_at P pc = get_or (lowered_heights P) pc no_height

@@ -1,55 +1,23 @@
--- Which actions a checked program becomes, all of which is this project's own choice. A function's variables lie on the stack, the first one deepest, and its
--- operands above them. An expression leaves one number more on the stack, and a statement leaves the stack as it was. Its variables that name objects are its
--- first strong places, the first one last, and the temporaries of the full-expression stand above them.
-use Rattle.std.specs.Prelude.{ℕ, zero, suc, pred, ◌+◌, ◌-◌, ◌/◌, nat_lt, if◌then◌else◌, pos, List, [], ◌∷◌, ◌++◌, length, take, drop, slice_index_or, Option, Some, None}
+-- Which actions a checked program becomes. A function's variables lie on the stack, the first one deepest, and its operands above them. An expression leaves one
+-- number more on the stack, or one reference more, and a statement leaves both as they were. Temporaries hold what references name, and are dropped together, at
+-- the end of the full-expression.
+use Rattle.std.specs.Prelude.{ℕ, zero, suc, pred, ◌+◌, ◌-◌, ◌/◌, Bool, nat_lt, if◌then◌else◌, pos, List, [], ◌∷◌, ◌++◌, length, take, drop, slice_index_or, Option, Some, None}
+use Rattle.std.specs.List.{list_any}
 use Rattle.arc_ast.specs.declared.tree.Kind.TheVariants as k
 use Rattle.arc_spec.specs.Resolved.{Piece, Bytes, Decimal, Character, Value, Number, ReadByte, Print, Negated, Combined, Converted, Local, Assigned, Invoked, Sent, SentSuper, SentTo, SentToSuper, Field, FieldAssigned, Reference, Itself, Variable, Stored, Made, Initialized, Values, no_values, and_value, Command, Sequence, Evaluate, EvaluateReference, Begin, Choose, Repeat, Commands, no_commands, and_command, Function, Program}
 use Rattle.arc_spec.specs.Resolved as resolved
 use Rattle.arc_spec.specs.declared.class.Method.{Method}
 use Rattle.arc_spec.specs.Classes.{Class}
 use Rattle.arc_spec.specs.Meaning.{function_at}
-use Rattle.arc_code.specs.declared.instr.Op.TheVariants.{Num, Bin, Un, Narrow, Pop, Get, Set, PrintNum, PrintByte, GetChar, Nil, HoldSelf, Hold, Forget, Alloc, GetField, SetField, Differ, IsObject}
-use Rattle.arc_code.specs.declared.instr.Instr.TheVariants.{Plain, PrintText, Jump, JumpZero, Call, Send, SendSuper, Return, StoreStrong, Drop, Empty, SendTo, SendToSuper, EndStep}
-use Rattle.arc_code.specs.Effects.{passes}
+use Rattle.arc_code.specs.declared.instr.Op.TheVariants.{Num, Bin, Un, Narrow, Pop, Get, Set, PrintNum, PrintByte, GetChar, Declare, Nil, ReadSelf, ReadRef, Hold, Forget, Alloc, GetField, SetField, Differ, IsObject}
+use Rattle.arc_code.specs.declared.instr.Instr.TheVariants.{Plain, PrintText, Jump, JumpZero, Call, Send, SendSuper, SendTo, SendToSuper, StoreStrong, Empty, DropAll, Return, EndStep}
+use Rattle.arc_code.specs.Effects.{effect, passes}
 use Rattle.arc_ir.specs.declared.action.Target.TheVariants.{Skip, Back, At}
 use Rattle.arc_lower.specs.Order.{Order}
 
 abbrev pub value_count : Values → ℕ
 value_count no_values = 0
 value_count (and_value a others) = suc (value_count others)
-
--- how many temporaries an expression takes
-abbrev mutual
-  pub value_takes : Value → ℕ
-  value_takes (Number n) = 0
-  value_takes ReadByte = 0
-  value_takes (Print pieces arguments) = values_take arguments
-  value_takes (Negated kind a) = value_takes a
-  value_takes (Combined operator kind a b) = value_takes a + value_takes b
-  value_takes (Converted kind a) = value_takes a
-  value_takes (Local i) = 0
-  value_takes (Assigned i a) = value_takes a
-  value_takes (Invoked f arguments) = values_take arguments
-  value_takes (Sent a selector arguments) = value_takes a + values_take arguments
-  value_takes (SentSuper from selector arguments) = values_take arguments
-  value_takes (SentTo a selector arguments) = reference_takes a + values_take arguments
-  value_takes (SentToSuper from selector arguments) = suc (values_take arguments)
-  value_takes (Field a class index) = reference_takes a
-  value_takes (FieldAssigned a class index b) = reference_takes a + value_takes b
-  value_takes (resolved.Differ a b) = reference_takes a + reference_takes b
-  value_takes (resolved.IsObject a) = reference_takes a
-
-  pub reference_takes : Reference → ℕ
-  reference_takes resolved.Nil = 1
-  reference_takes Itself = 1
-  reference_takes (Variable i) = 1
-  reference_takes (Stored i a) = suc (reference_takes a)
-  reference_takes (Made a) = suc (value_takes a)
-  reference_takes (Initialized a) = suc (reference_takes a)
-
-  pub values_take : Values → ℕ
-  values_take no_values = 0
-  values_take (and_value a others) = value_takes a + values_take others
 
 -- prints the first of so many values that lie below the count of bytes, the first one deepest; nothing where there is none
 abbrev pub conversion_orders : Order → (left : ℕ) → List Order
@@ -71,7 +39,7 @@ piece_orders (Bytes bytes) left = text_orders bytes
 piece_orders Decimal left = conversion_orders (Plain PrintNum) left
 piece_orders Character left = conversion_orders (Plain PrintByte) left
 
--- how many values aren't printed yet after a piece
+-- how many values aren't printed yet behind a piece
 abbrev pub left_behind : Piece → (left : ℕ) → ℕ
 left_behind (Bytes bytes) left = left
 left_behind Decimal left = pred left
@@ -91,7 +59,7 @@ abbrev pub keep_orders : ℕ → List Order
 keep_orders zero = []
 keep_orders (suc n) = Plain (Set n) ∷ pop_orders n
 
--- prints a format after its values, and leaves the count of bytes alone, as an int
+-- prints a format behind its values, and leaves the count of bytes alone, as an int
 abbrev pub print_orders : List Piece → (values : ℕ) → List Order
 print_orders pieces n = Plain (Num (pos 0)) ∷ [] ++ (format_orders pieces n ++ (Plain (Narrow k.Int) ∷ [] ++ keep_orders n))
 
@@ -112,23 +80,26 @@ zero_orders (suc n) = Plain (Num (pos 0)) ∷ zero_orders n
 abbrev pub fit_orders : (values slots : ℕ) → List Order
 fit_orders values slots = pop_orders (values - slots) ++ zero_orders (slots - values)
 
--- so many further places
-abbrev pub nil_orders : ℕ → List Order
-nil_orders zero = []
-nil_orders (suc n) = Plain Nil ∷ nil_orders n
+-- so many variables that name objects
+abbrev pub declare_orders : ℕ → List Order
+declare_orders zero = []
+declare_orders (suc n) = Plain Declare ∷ declare_orders n
 
--- a further place takes what a variable names, above which so many temporaries stand; nil for one that there isn't
-abbrev pub hold_orders : (names taken i : ℕ) → List Order
-hold_orders names taken i = if nat_lt i names then Plain (Hold (taken + i)) ∷ [] else Plain Nil ∷ []
+-- names what a variable names, and a temporary takes it; nil for a variable that there isn't
+abbrev pub read_orders : (names i : ℕ) → List Order
+read_orders names i = if nat_lt i names then Plain (ReadRef i) ∷ [] else Plain Nil ∷ Plain Hold ∷ []
 
--- a variable takes what the last temporary names, below which so many others stand, where there is such a variable
-abbrev pub store_orders : (names taken i : ℕ) → List Order
-store_orders names taken i = if nat_lt i names then StoreStrong (taken + i) ∷ [] else []
+-- a variable takes what the last reference names, where there is such a variable
+abbrev pub store_orders : (names i : ℕ) → List Order
+store_orders names i = if nat_lt i names then StoreStrong i ∷ [] else []
 
--- drops so many temporaries
-abbrev pub drop_orders : ℕ → List Order
-drop_orders zero = []
-drop_orders (suc n) = Drop ∷ drop_orders n
+-- whether an order has a temporary take an object
+abbrev pub order_takes : Order → Bool
+order_takes x = nat_lt 0 (effect x).temporaries
+
+-- drops the temporaries behind orders that take some
+abbrev pub drop_orders : List Order → List Order
+drop_orders xs = if list_any order_takes xs then DropAll ∷ [] else []
 
 -- empties a variable, where there is one
 abbrev pub empty_orders : (names i : ℕ) → List Order
@@ -139,7 +110,7 @@ abbrev pub all_empty_orders : (names first count : ℕ) → List Order
 all_empty_orders names first zero = []
 all_empty_orders names first (suc n) = empty_orders names (first + n) ++ all_empty_orders names first n
 
--- a function that gives 0, which stands after the others: one that there isn't is called as this one
+-- a function that gives 0, which stands behind the others: one that there isn't is called as this one
 abbrev pub nothing : Function
 nothing = record { slots = 0; names = 0; body = no_commands }
 
@@ -156,71 +127,68 @@ slots_of P f = (function_at P f).slots
 abbrev pub call_orders : Program → (f values : ℕ) → List Order
 call_orders P f values = fit_orders values (slots_of P f) ++ Call (number_of P f) ∷ []
 
--- Above so many operands and temporaries, in a function with so many variables that hold numbers and so many that name objects. What gets a message lies below
--- its arguments; a message to `super` goes to `self`, in a class method the first variable.
+-- Above so many operands, in a function with so many variables that hold numbers and so many that name objects. What gets a message to a class lies below its
+-- arguments; one to `super` goes to `self`, in a class method the first variable.
 abbrev mutual
-  pub value_orders : Program → (slots names depth taken : ℕ) → Value → List Order
-  value_orders P slots names depth taken (Number n) = Plain (Num n) ∷ []
-  value_orders P slots names depth taken ReadByte = Plain GetChar ∷ []
-  value_orders P slots names depth taken (Print pieces arguments) =
-      all_value_orders P slots names depth taken arguments ++ print_orders pieces (value_count arguments)
-  value_orders P slots names depth taken (Negated kind a) = value_orders P slots names depth taken a ++ Plain (Un kind) ∷ []
-  value_orders P slots names depth taken (Combined operator kind a b) =
-      value_orders P slots names depth taken a ++ (value_orders P slots names (suc depth) (taken + value_takes a) b ++ Plain (Bin operator kind) ∷ [])
-  value_orders P slots names depth taken (Converted kind a) = value_orders P slots names depth taken a ++ Plain (Narrow kind) ∷ []
-  value_orders P slots names depth taken (Local i) = get_orders slots depth i
-  value_orders P slots names depth taken (Assigned i a) = value_orders P slots names depth taken a ++ set_orders slots depth i
-  value_orders P slots names depth taken (Invoked f arguments) =
-      all_value_orders P slots names depth taken arguments ++ call_orders P f (value_count arguments)
-  value_orders P slots names depth taken (Sent a selector arguments) =
-      value_orders P slots names depth taken a
-      ++ (all_value_orders P slots names (suc depth) (taken + value_takes a) arguments ++ Send selector (value_count arguments) ∷ [])
-  value_orders P slots names depth taken (SentSuper from selector arguments) =
-      get_orders slots depth 0 ++ (all_value_orders P slots names (suc depth) taken arguments ++ SendSuper from selector (value_count arguments) ∷ [])
-  value_orders P slots names depth taken (SentTo a selector arguments) =
-      reference_orders P slots names depth taken a
-      ++ (all_value_orders P slots names depth (taken + reference_takes a) arguments ++ SendTo (values_take arguments) selector (value_count arguments) ∷ [])
-  value_orders P slots names depth taken (SentToSuper from selector arguments) =
-      Plain HoldSelf ∷ [] ++ (all_value_orders P slots names depth (suc taken) arguments ++ SendToSuper from selector (value_count arguments) ∷ [])
-  value_orders P slots names depth taken (Field a class index) = reference_orders P slots names depth taken a ++ Plain (GetField class index) ∷ []
-  value_orders P slots names depth taken (FieldAssigned a class index b) =
-      reference_orders P slots names depth taken a
-      ++ (value_orders P slots names depth (taken + reference_takes a) b ++ Plain (SetField (value_takes b) class index) ∷ [])
-  value_orders P slots names depth taken (resolved.Differ a b) =
-      reference_orders P slots names depth taken a
-      ++ (reference_orders P slots names depth (taken + reference_takes a) b ++ Plain (Differ (reference_takes b - 1)) ∷ [])
-  value_orders P slots names depth taken (resolved.IsObject a) = reference_orders P slots names depth taken a ++ Plain IsObject ∷ []
+  pub value_orders : Program → (slots names depth : ℕ) → Value → List Order
+  value_orders P slots names depth (Number n) = Plain (Num n) ∷ []
+  value_orders P slots names depth ReadByte = Plain GetChar ∷ []
+  value_orders P slots names depth (Print pieces arguments) = all_value_orders P slots names depth arguments ++ print_orders pieces (value_count arguments)
+  value_orders P slots names depth (Negated kind a) = value_orders P slots names depth a ++ Plain (Un kind) ∷ []
+  value_orders P slots names depth (Combined operator kind a b) =
+      value_orders P slots names depth a ++ (value_orders P slots names (suc depth) b ++ Plain (Bin operator kind) ∷ [])
+  value_orders P slots names depth (Converted kind a) = value_orders P slots names depth a ++ Plain (Narrow kind) ∷ []
+  value_orders P slots names depth (Local i) = get_orders slots depth i
+  value_orders P slots names depth (Assigned i a) = value_orders P slots names depth a ++ set_orders slots depth i
+  value_orders P slots names depth (Invoked f arguments) = all_value_orders P slots names depth arguments ++ call_orders P f (value_count arguments)
+  value_orders P slots names depth (Sent a selector arguments) =
+      value_orders P slots names depth a ++ (all_value_orders P slots names (suc depth) arguments ++ Send selector (value_count arguments) ∷ [])
+  value_orders P slots names depth (SentSuper from selector arguments) =
+      get_orders slots depth 0 ++ (all_value_orders P slots names (suc depth) arguments ++ SendSuper from selector (value_count arguments) ∷ [])
+  value_orders P slots names depth (SentTo a selector arguments) =
+      reference_orders P slots names depth a ++ (all_value_orders P slots names depth arguments ++ SendTo selector (value_count arguments) ∷ [])
+  value_orders P slots names depth (SentToSuper from selector arguments) =
+      Plain ReadSelf ∷ [] ++ (all_value_orders P slots names depth arguments ++ SendToSuper from selector (value_count arguments) ∷ [])
+  value_orders P slots names depth (Field a class index) = reference_orders P slots names depth a ++ Plain (GetField class index) ∷ []
+  value_orders P slots names depth (FieldAssigned a class index b) =
+      reference_orders P slots names depth a ++ (value_orders P slots names depth b ++ Plain (SetField class index) ∷ [])
+  value_orders P slots names depth (resolved.Differ a b) =
+      reference_orders P slots names depth a ++ (reference_orders P slots names depth b ++ Plain Differ ∷ [])
+  value_orders P slots names depth (resolved.IsObject a) = reference_orders P slots names depth a ++ Plain IsObject ∷ []
 
-  -- leaves what it gives in the last temporary
-  pub reference_orders : Program → (slots names depth taken : ℕ) → Reference → List Order
-  reference_orders P slots names depth taken resolved.Nil = Plain Nil ∷ []
-  reference_orders P slots names depth taken Itself = Plain HoldSelf ∷ []
-  reference_orders P slots names depth taken (Variable i) = hold_orders names taken i
-  reference_orders P slots names depth taken (Stored i a) =
-      reference_orders P slots names depth taken a ++ (store_orders names (taken + reference_takes a - 1) i ++ Plain (Hold 0) ∷ [])
-  reference_orders P slots names depth taken (Made a) = value_orders P slots names depth taken a ++ Plain Alloc ∷ []
-  reference_orders P slots names depth taken (Initialized a) = reference_orders P slots names depth taken a ++ Plain (Hold 0) ∷ []
+  -- leaves one reference more, to what it gives
+  pub reference_orders : Program → (slots names depth : ℕ) → Reference → List Order
+  reference_orders P slots names depth resolved.Nil = Plain Nil ∷ []
+  reference_orders P slots names depth Itself = Plain ReadSelf ∷ []
+  reference_orders P slots names depth (Variable i) = read_orders names i
+  reference_orders P slots names depth (Stored i a) = reference_orders P slots names depth a ++ (store_orders names i ++ Plain Hold ∷ [])
+  reference_orders P slots names depth (Made a) = value_orders P slots names depth a ++ Plain Alloc ∷ []
+  reference_orders P slots names depth (Initialized a) = reference_orders P slots names depth a ++ Plain Hold ∷ []
 
-  pub all_value_orders : Program → (slots names depth taken : ℕ) → Values → List Order
-  all_value_orders P slots names depth taken no_values = []
-  all_value_orders P slots names depth taken (and_value a others) =
-      value_orders P slots names depth taken a ++ all_value_orders P slots names (suc depth) (taken + value_takes a) others
+  pub all_value_orders : Program → (slots names depth : ℕ) → Values → List Order
+  all_value_orders P slots names depth no_values = []
+  all_value_orders P slots names depth (and_value a others) = value_orders P slots names depth a ++ all_value_orders P slots names (suc depth) others
 
 -- full-expressions, whose temporaries are dropped at their end
 abbrev pub whole_orders : Program → (slots names : ℕ) → Value → List Order
-whole_orders P slots names a = value_orders P slots names 0 0 a ++ drop_orders (value_takes a)
+whole_orders P slots names a =
+    let xs = value_orders P slots names 0 a in
+    xs ++ drop_orders xs
 
 abbrev pub whole_reference_orders : Program → (slots names : ℕ) → Reference → List Order
-whole_reference_orders P slots names a = reference_orders P slots names 0 0 a ++ drop_orders (reference_takes a)
+whole_reference_orders P slots names a =
+    let xs = reference_orders P slots names 0 a in
+    xs ++ (Plain Forget ∷ [] ++ drop_orders xs)
 
 -- a variable begins with an object
 abbrev pub begin_orders : Program → (slots names i : ℕ) → Reference → List Order
 begin_orders P slots names i a =
-    reference_orders P slots names 0 0 a ++ (store_orders names (reference_takes a - 1) i ++ drop_orders (reference_takes a))
+    let xs = reference_orders P slots names 0 a in
+    xs ++ (store_orders names i ++ (Plain Forget ∷ [] ++ drop_orders xs))
 
 -- leaves a function with so many variables of each kind: those that name objects are emptied, and its result, on top, is put in the place of the others
 abbrev pub leave_orders : (slots names : ℕ) → List Order
-leave_orders slots names = all_empty_orders names 0 names ++ (Plain (Forget names) ∷ [] ++ (keep_orders slots ++ Return ∷ []))
+leave_orders slots names = all_empty_orders names 0 names ++ (keep_orders slots ++ Return ∷ [])
 
 -- Actions, and where control goes.
 pub data Block : Type 0 where
@@ -267,7 +235,7 @@ abbrev mutual
 
 -- what a function does from its entry on; it gives 0 at its end
 abbrev pub body_block : Program → Function → Block
-body_block P f = Then (Straight (nil_orders f.names)) (Then (commands_block P f.slots f.names f.body) (Then (Straight (Plain (Num (pos 0)) ∷ [])) Leave))
+body_block P f = Then (Straight (declare_orders f.names)) (Then (commands_block P f.slots f.names f.body) (Then (Straight (Plain (Num (pos 0)) ∷ [])) Leave))
 
 -- where a function is entered whose first action has this number
 abbrev pub entry_of : (place : ℕ) → Function → ℕ
@@ -277,7 +245,7 @@ entry_of place f = place + length (leave_orders f.slots f.names)
 abbrev pub function_orders : Program → (place : ℕ) → Function → List Order
 function_orders P place f = leave_orders f.slots f.names ++ flat place (body_block P f)
 
--- functions, one after another
+-- functions, one behind the other
 abbrev pub functions_orders : Program → (place : ℕ) → List Function → List Order
 functions_orders P place [] = []
 functions_orders P place (f ∷ others) =
@@ -289,7 +257,7 @@ abbrev pub entries_from : Program → (place : ℕ) → List Function → List �
 entries_from P place [] = []
 entries_from P place (f ∷ others) = entry_of place f ∷ entries_from P (place + length (function_orders P place f)) others
 
--- where a program begins: main's variables, a call of main, and the end; and after it where the ends of objects go on
+-- where a program begins: main's variables, a call of main, and the end; and behind it where the ends of objects go on
 abbrev pub start_orders : Program → List Order
 start_orders P = zero_orders (slots_of P P.main) ++ (Call (number_of P P.main) ∷ [] ++ (Return ∷ [] ++ EndStep ∷ []))
 
@@ -304,7 +272,7 @@ entries_of P = entries_from P (length (start_orders P)) (all_functions P)
 abbrev pub stub_orders : Program → (entries : List ℕ) → (values f : ℕ) → List Order
 stub_orders P entries values f = fit_orders values (slots_of P f) ++ Jump (At (slice_index_or entries (number_of P f) 0)) ∷ []
 
--- the stubs of methods, one after another
+-- the stubs of methods, one behind the other
 abbrev pub methods_orders : Program → (entries : List ℕ) → List Method → List Order
 methods_orders P entries [] = []
 methods_orders P entries (m ∷ others) = stub_orders P entries (passes m.sign m.takes) m.runs ++ methods_orders P entries others

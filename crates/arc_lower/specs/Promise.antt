@@ -6,9 +6,9 @@ use Rattle.arc_spec.specs.Correct.{Behaves, Steady, meaning_seen}
 use Rattle.arc_ir.specs.Acting.{Program, seen, IsSound}
 use Rattle.arc_lower.specs.Order.{orders}
 use Rattle.arc_lower.specs.Lowered.{lowered, entries_of, end_step_of, classes_linked}
-use Rattle.arc_lower.specs.Heights.{room_of, places_of}
+use Rattle.arc_lower.specs.Heights.{room_of, names_of, places_of}
 
--- The actions do what a program means, on each input; none of them is ever without what it needs, and the stack keeps to its room.
+-- The actions do what a program means, on each input; none of them is ever without what it needs, and numbers, references and places keep to their rooms.
 pub record Performs (meant : resolved.Program) (acting : Program) : Type 0 where
   pub behaves : Behaves (λ input bound. meaning_seen (mean meant input bound)) (seen acting)
   pub steady : Steady (seen acting)
@@ -20,5 +20,6 @@ pub record IsLowered (meant : resolved.Program) (acting : Program) : Type 0 wher
   pub entries : acting.entries ≡ entries_of meant
   pub end_step : acting.end_step ≡ end_step_of meant
   pub room : acting.room ≡ room_of meant
+  pub names : acting.names ≡ names_of meant
   pub places : acting.places ≡ places_of meant
   pub classes : acting.classes ≡ classes_linked meant

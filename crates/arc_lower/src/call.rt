@@ -9,7 +9,7 @@ use crate::place::append_all_empty;
 use crate::print::{append_keep, append_pops};
 use crate::variable::append_zeros;
 use arc_check::checked::Checked;
-use arc_code::instr::{Instr, Op};
+use arc_code::instr::Instr;
 use arc_ir::action::Action;
 use arc_spec::event::NoMemory;
 
@@ -65,7 +65,6 @@ pub(crate) fn append_leave(
     ensures { OnOk result (orders actions.new.items ≡ orders actions.old.items ++ leave_orders slots names) }
 {
     append_all_empty(actions, names, 0, names)?;
-    append(actions, Instr::Plain(Op::Forget(names)))?;
     append_keep(actions, slots)?;
     append(actions, Instr::Return)
 }

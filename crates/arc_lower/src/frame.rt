@@ -1,13 +1,12 @@
-//! Where actions stand: what lies on the stack and which places there are.
+//! Where actions stand: what lies on the stack.
 
-/// How many variables a function has that hold numbers, and how many that name objects; and above
-/// these, how many operands and how many temporaries there are.
+/// How many variables a function has that hold numbers, and how many that name objects; and how many
+/// operands lie above the former.
 #[derive(Clone, Copy)]
 pub(crate) struct Frame {
     pub slots: usize,
     pub names: usize,
     pub operands: usize,
-    pub temporaries: usize,
 }
 
 /// A function that is lowered: how many variables it has that hold numbers, how many that name

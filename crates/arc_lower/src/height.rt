@@ -1,49 +1,67 @@
-//! How many numbers and strong places the running function has before each action, and the most.
-ghost use Rattle.std.specs.Prelude.{◌≡◌, suc, IfOk};
+//! How many numbers, references, temporaries and variables that name objects the running function has before each
+//! action, and the most.
+ghost use Rattle.std.specs.Prelude.{◌≡◌, IfOk};
+ghost use Rattle.arc_code.specs.Effects.{no_height};
 ghost use Rattle.arc_check.specs.Checked.{program_of};
 ghost use Rattle.arc_lower.specs.Order.{order, orders};
-ghost use Rattle.arc_lower.specs.Heights.{height, highest, after_effect, next_height, heights, greatest};
+ghost use Rattle.arc_lower.specs.Heights.{between, highest, after_effect, next_height, heights, greatest};
 
 use crate::call::slots_of;
 use crate::variable::add_operands;
 use arc_check::checked::Checked;
-use arc_code::effect::{Effect, instr_effect};
+use arc_code::effect::{Effect, Height, instr_effect};
 use arc_code::instr::Instr;
 use arc_ir::action::Action;
 use arc_spec::event::NoMemory;
 
-/// How many numbers and strong places the running function has.
-#[derive(Clone, Copy)]
-pub struct Height {
-    pub numbers: usize,
-    pub places: usize,
+/// The height of a function that has nothing yet.
+pub(crate) fn no_height() -> Height
+    ensures { result ≡ no_height }
+{
+    between(0, 0)
 }
 
-/// The greater of the numbers, and of the places.
+/// The height between two statements of a function with so many variables of each kind.
+pub(crate) fn between(slots: usize, names: usize) -> Height
+    ensures { result ≡ between slots names }
+{
+    Height {
+        numbers: slots,
+        names: 0,
+        temporaries: 0,
+        variables: names,
+    }
+}
+
+/// The greater of each.
 fn highest(first: Height, second: Height) -> Height
     ensures { result ≡ highest first second }
 {
     Height {
         numbers: first.numbers.max(second.numbers),
-        places: first.places.max(second.places),
+        names: first.names.max(second.names),
+        temporaries: first.temporaries.max(second.temporaries),
+        variables: first.variables.max(second.variables),
     }
 }
 
-/// The height after so many numbers are taken, and as many places as an effect takes, and what it
-/// gives is there. NoMemory: no stack has so many.
+/// The height after so many numbers are taken, and as many references as an effect takes, and what
+/// it gives is there. NoMemory: no stack has so many.
 fn after_effect(before: Height, taken: usize, effect: Effect) -> Result<Height, NoMemory>
     ensures { IfOk result (λ next. next ≡ after_effect before taken effect) }
 {
     let numbers = before.numbers.saturating_sub(taken);
-    let places = before.places.saturating_sub(effect.places_taken);
+    let names = before.names.saturating_sub(effect.names_taken);
     Ok(Height {
         numbers: add_operands(numbers, effect.numbers_given)?,
-        places: add_operands(places, effect.places_given)?,
+        names: add_operands(names, effect.names_given)?,
+        temporaries: add_operands(before.temporaries, effect.temporaries)?,
+        variables: add_operands(before.variables, effect.variables)?,
     })
 }
 
 /// The height before the next action, in a function with the height `base` between two statements.
-/// NoMemory: no stack has so many numbers or places.
+/// NoMemory: no stack has so many numbers, references or places.
 fn next_height(
     program: &Checked,
     base: Height,
@@ -57,9 +75,13 @@ fn next_height(
     };
     match action {
         Instr::Jump(_) => Ok(base),
+        Instr::DropAll => Ok(Height {
+            temporaries: 0,
+            ..before
+        }),
         Instr::Return => Ok(Height {
-            numbers: base.numbers,
-            places: 0,
+            variables: 0,
+            ..base
         }),
         Instr::Call(function) => after_effect(before, slots_of(program, *function), effect),
         Instr::Plain(_) | Instr::PrintText(_) | Instr::JumpZero(_) | Instr::EndStep => {
@@ -68,17 +90,17 @@ fn next_height(
         Instr::Send(_, _) | Instr::SendSuper(_, _, _) => {
             after_effect(before, effect.numbers_taken, effect)
         }
-        Instr::SendTo(_, _, _) | Instr::SendToSuper(_, _, _) => {
+        Instr::SendTo(_, _) | Instr::SendToSuper(_, _, _) => {
             after_effect(before, effect.numbers_taken, effect)
         }
-        Instr::StoreStrong(_) | Instr::Drop | Instr::Empty(_) => {
+        Instr::StoreStrong(_) | Instr::Empty(_) => {
             after_effect(before, effect.numbers_taken, effect)
         }
     }
 }
 
 /// The greatest height before one of these actions, of which the first is at the height `first`, or
-/// `so_far`, where that is greater. NoMemory: no stack has so many numbers or places.
+/// `so_far`, where that is greater. NoMemory: no stack has so many numbers, references or places.
 pub(crate) fn greatest(
     program: &Checked,
     base: Height,

@@ -5,24 +5,24 @@ ghost use Rattle.arc_code.specs.Effects.{HeightsFit, NeverHasMore, room_for};
 ghost use Rattle.arc_ir.specs.Acting as acting;
 ghost use Rattle.arc_lower.specs.Order.{orders};
 ghost use Rattle.arc_lower.specs.Lowered.{whole_orders, whole_reference_orders, flat, command_block, lowered, entries_of, end_step_of, classes_linked};
-ghost use Rattle.arc_lower.specs.declared.height.Height.{Height};
-ghost use Rattle.arc_lower.specs.Heights.{height, last_height, greatest_height, numbers_at, places_at};
+ghost use Rattle.arc_code.specs.declared.effect.Height.{Height};
+ghost use Rattle.arc_lower.specs.Heights.{between, last_height, greatest_height, places_in, height_at};
 
-/// A full-expression leaves one number more where it is an int, and all places as they were.
+/// A full-expression leaves one number more where it is an int, no reference and no temporary.
 pub fn full_expressions_end()
-    ensures value { (P : Program) (base : Height) (slots names : ℕ) (e : Value) (a b : ℕ) → last_height P base (height a b) (whole_orders P slots names e) ≡ height (suc a) b }
-    ensures reference { (P : Program) (base : Height) (slots names : ℕ) (e : Reference) (a b : ℕ) → last_height P base (height a b) (whole_reference_orders P slots names e) ≡ height a b }
+    ensures value { (P : Program) (base : Height) (slots names : ℕ) (e : Value) (a b : ℕ) → last_height P base (between a b) (whole_orders P slots names e) ≡ between (suc a) b }
+    ensures reference { (P : Program) (base : Height) (slots names : ℕ) (e : Reference) (a b : ℕ) → last_height P base (between a b) (whole_reference_orders P slots names e) ≡ between a b }
 {}
 
-/// A statement leaves the numbers and places as they were between it and the one before.
+/// A statement leaves all as it was between it and the one before.
 pub fn statements_end()
-    ensures { (P : Program) (slots names : ℕ) (c : Command) (exit : ℕ) → last_height P (height slots names) (height slots names) (flat exit (command_block P slots names c)) ≡ height slots names }
+    ensures { (P : Program) (slots names : ℕ) (c : Command) (exit : ℕ) → last_height P (between slots names) (between slots names) (flat exit (command_block P slots names c)) ≡ between slots names }
 {}
 
-/// The heights of a program's actions fit them: no run has more numbers or places than all levels together may have
-/// by the greatest heights, and with that room the actions are sound.
+/// The heights of a program's actions fit them: no run has more numbers, references or places than all levels together
+/// may have by the greatest heights, and with that room the actions are sound.
 pub fn heights_fit()
-    ensures fit { (p : acting.Program) (P : Program) → orders p.actions ≡ lowered P → p.entries ≡ entries_of P → p.classes ≡ classes_linked P → HeightsFit (acting.linked p) (numbers_at P) (places_at P) (greatest_height P).numbers (greatest_height P).places }
-    ensures bounded { (p : acting.Program) (P : Program) → orders p.actions ≡ lowered P → p.entries ≡ entries_of P → p.classes ≡ classes_linked P → NeverHasMore (acting.linked p) (room_for (greatest_height P).numbers) (room_for (greatest_height P).places) }
-    ensures sound { (p : acting.Program) (P : Program) → orders p.actions ≡ lowered P → p.entries ≡ entries_of P → p.classes ≡ classes_linked P → p.end_step ≡ end_step_of P → room_for (greatest_height P).numbers ≤ p.room → room_for (greatest_height P).places ≤ p.places → acting.IsSound p }
+    ensures fit { (p : acting.Program) (P : Program) → orders p.actions ≡ lowered P → p.entries ≡ entries_of P → p.classes ≡ classes_linked P → HeightsFit (acting.linked p) (height_at P) (greatest_height P).numbers (greatest_height P).names (places_in (greatest_height P)) }
+    ensures bounded { (p : acting.Program) (P : Program) → orders p.actions ≡ lowered P → p.entries ≡ entries_of P → p.classes ≡ classes_linked P → NeverHasMore (acting.linked p) (room_for (greatest_height P).numbers) (room_for (greatest_height P).names) (room_for (places_in (greatest_height P))) }
+    ensures sound { (p : acting.Program) (P : Program) → orders p.actions ≡ lowered P → p.entries ≡ entries_of P → p.classes ≡ classes_linked P → p.end_step ≡ end_step_of P → room_for (greatest_height P).numbers ≤ p.room → room_for (greatest_height P).names ≤ p.names → room_for (places_in (greatest_height P)) ≤ p.places → acting.IsSound p }
 {}

@@ -11,12 +11,13 @@ ghost use Rattle.arc_lower.specs.Promise.{Performs, IsLowered};
 use crate::call::{append_leave, number_of, slots_of};
 use crate::expression::append;
 use crate::frame::Body;
-use crate::height::{Height, greatest};
-use crate::place::append_nils;
+use crate::height::{between, greatest, no_height};
+use crate::place::append_declares;
 use crate::statement::append_commands;
 use crate::stub::append_classes;
-use crate::variable::{append_zeros, one_more};
+use crate::variable::{add_operands, append_zeros, one_more};
 use arc_check::checked::{Checked, Command};
+use arc_code::effect::Height;
 use arc_code::instr::{Instr, Op};
 use arc_family::owned::Owned;
 use arc_ir::action::{Action, Ir, Target};
@@ -32,10 +33,7 @@ pub fn lower(alloc: Global, program: &Owned) -> Result<Ir, NoMemory>
 {
     let mut actions = Vec::new(alloc);
     let mut entries = Vec::new(alloc);
-    let mut most = Height {
-        numbers: 0,
-        places: 0,
-    };
+    let mut most = no_height();
     let end_step = append_start(&mut actions, program.program, &mut most)?;
     append_functions(
         alloc,
@@ -46,12 +44,14 @@ pub fn lower(alloc: Global, program: &Owned) -> Result<Ir, NoMemory>
     )?;
     let classes = append_classes(alloc, &mut actions, program.program, &entries, &mut most)?;
     let room = room_for(most.numbers)?;
-    let places = room_for(most.places)?;
+    let names = room_for(most.names)?;
+    let places = room_for(add_operands(most.temporaries, most.variables)?)?;
     Ok(Ir {
         actions,
         entries,
         end_step,
         room,
+        names,
         places,
         classes,
     })
@@ -62,7 +62,7 @@ pub fn lower(alloc: Global, program: &Owned) -> Result<Ir, NoMemory>
 const LEVELS: usize = 2001;
 
 /// The room of a stack for all that may run within one another, each with at most so many numbers,
-/// or places. NoMemory: no stack has so many.
+/// references or places. NoMemory: no stack has so many.
 fn room_for(most: usize) -> Result<usize, NoMemory>
     ensures { IfOk result (λ room. room ≡ room_for most) }
 {
@@ -99,10 +99,7 @@ fn append_start(
 {
     let begin = actions.len();
     let end_step = append_call_of_main(actions, program)?;
-    let base = Height {
-        numbers: 0,
-        places: 0,
-    };
+    let base = no_height();
     *most = greatest(program, base, base, &actions[begin..], *most)?;
     Ok(end_step)
 }
@@ -160,14 +157,8 @@ fn append_function(
 {
     let begin = actions.len();
     append_exit_and_body(alloc, actions, entries, program, function)?;
-    let base = Height {
-        numbers: function.slots,
-        places: function.names,
-    };
-    let left = Height {
-        numbers: one_more(function.slots)?,
-        places: function.names,
-    };
+    let base = between(function.slots, function.names);
+    let left = between(one_more(function.slots)?, function.names);
     *most = greatest(program, base, left, &actions[begin..], *most)?;
     Ok(())
 }
@@ -203,7 +194,7 @@ fn append_body(
 ) -> Result<(), NoMemory>
     ensures { OnOk result (orders actions.new.items ≡ orders actions.old.items ++ flat body.exit (body_block (program_of program.now) (record { slots = body.slots; names = body.names; body = commands all.now }))) }
 {
-    append_nils(actions, body.names)?;
+    append_declares(actions, body.names)?;
     append_commands(alloc, actions, program, body, all)?;
     append(actions, Instr::Plain(Op::Num(0)))?;
     append(actions, Instr::Jump(Target::At(body.exit)))

@@ -1,7 +1,11 @@
-//! Actions for strong places: variables that name objects, and the temporaries above them.
-ghost use Rattle.std.specs.Prelude.{◌≡◌, ◌++◌, OnOk};
-ghost use Rattle.arc_lower.specs.Order.{orders};
-ghost use Rattle.arc_lower.specs.Lowered.{nil_orders, hold_orders, store_orders, drop_orders, empty_orders, all_empty_orders};
+//! Actions for variables that name objects, for references and for temporaries.
+ghost use Rattle.std.specs.Prelude.{◌≡◌, ◌++◌, [], ◌∷◌, OnOk, nat_lt, if◌then◌else◌};
+ghost use Rattle.std.specs.List.{list_any};
+ghost use Rattle.arc_code.specs.Effects.{operation_effect};
+ghost use Rattle.arc_code.specs.declared.instr.Op.TheVariants.{Forget};
+ghost use Rattle.arc_code.specs.declared.instr.Instr.TheVariants.{Plain, DropAll};
+ghost use Rattle.arc_lower.specs.Order.{order, orders};
+ghost use Rattle.arc_lower.specs.Lowered.{declare_orders, read_orders, store_orders, order_takes, empty_orders, all_empty_orders};
 
 use crate::expression::append;
 use crate::variable::add_operands;
@@ -9,60 +13,102 @@ use arc_code::instr::{Instr, Op};
 use arc_ir::action::Action;
 use arc_spec::event::NoMemory;
 
-/// Appends actions that make `count` further places.
-pub(crate) fn append_nils(actions: &mut Vec<Action>, count: usize) -> Result<(), NoMemory>
-    ensures { OnOk result (orders actions.new.items ≡ orders actions.old.items ++ nil_orders count) }
+/// Appends actions that declare `count` variables that name objects.
+pub(crate) fn append_declares(actions: &mut Vec<Action>, count: usize) -> Result<(), NoMemory>
+    ensures { OnOk result (orders actions.new.items ≡ orders actions.old.items ++ declare_orders count) }
 {
-    for _place in 0..count {
-        append(actions, Instr::Plain(Op::Nil))?;
+    for _variable in 0..count {
+        append(actions, Instr::Plain(Op::Declare))?;
     }
     Ok(())
 }
 
-/// Appends the action by which a further place takes what a variable names, above which `taken`
-/// temporaries stand.
-pub(crate) fn append_hold(
+/// Appends the actions that name what a variable names, which a temporary takes.
+pub(crate) fn append_read(
     actions: &mut Vec<Action>,
     names: usize,
-    taken: usize,
     index: usize,
 ) -> Result<(), NoMemory>
-    ensures { OnOk result (orders actions.new.items ≡ orders actions.old.items ++ hold_orders names taken index) }
+    ensures { OnOk result (orders actions.new.items ≡ orders actions.old.items ++ read_orders names index) }
 {
     if index < names {
-        let depth = add_operands(taken, index)?;
-        append(actions, Instr::Plain(Op::Hold(depth)))
+        append(actions, Instr::Plain(Op::ReadRef(index)))
     } else {
-        append(actions, Instr::Plain(Op::Nil))
+        append(actions, Instr::Plain(Op::Nil))?;
+        append(actions, Instr::Plain(Op::Hold))
     }
 }
 
-/// Appends the action by which a variable takes what the last temporary names, below which `taken`
-/// others stand.
+/// Appends the action by which a variable takes what the last reference names.
 pub(crate) fn append_store(
     actions: &mut Vec<Action>,
     names: usize,
-    taken: usize,
     index: usize,
 ) -> Result<(), NoMemory>
-    ensures { OnOk result (orders actions.new.items ≡ orders actions.old.items ++ store_orders names taken index) }
+    ensures { OnOk result (orders actions.new.items ≡ orders actions.old.items ++ store_orders names index) }
 {
     if index < names {
-        let depth = add_operands(taken, index)?;
-        append(actions, Instr::StoreStrong(depth))
+        append(actions, Instr::StoreStrong(index))
     } else {
         Ok(())
     }
 }
 
-/// Appends actions that drop `count` temporaries.
-pub(crate) fn append_drops(actions: &mut Vec<Action>, count: usize) -> Result<(), NoMemory>
-    ensures { OnOk result (orders actions.new.items ≡ orders actions.old.items ++ drop_orders count) }
+/// Whether an operation has a temporary take an object.
+fn operation_takes(operation: Op) -> bool
+    ensures { result ≡ nat_lt 0 (operation_effect operation).temporaries }
 {
-    for _temporary in 0..count {
-        append(actions, Instr::Drop)?;
+    match operation {
+        Op::ReadSelf | Op::ReadRef(_) | Op::Hold | Op::Alloc => true,
+        Op::Num(_) | Op::Bin(_, _) | Op::Un(_) | Op::Narrow(_) | Op::Pop | Op::Get(_) => false,
+        Op::Set(_) | Op::PrintNum | Op::PrintByte | Op::GetChar | Op::Declare | Op::Nil => false,
+        Op::Forget | Op::GetField(_, _) | Op::SetField(_, _) | Op::Differ | Op::IsObject => false,
     }
-    Ok(())
+}
+
+/// Whether an action has a temporary take an object.
+fn takes(action: &Action) -> bool
+    ensures { result ≡ order_takes (order action.now) }
+{
+    match action {
+        Instr::Plain(operation) => operation_takes(*operation),
+        Instr::PrintText(_) | Instr::Jump(_) | Instr::JumpZero(_) | Instr::Call(_) => false,
+        Instr::Send(_, _) | Instr::SendSuper(_, _, _) | Instr::SendTo(_, _) => false,
+        Instr::SendToSuper(_, _, _) | Instr::StoreStrong(_) | Instr::Empty(_) => false,
+        Instr::DropAll | Instr::Return | Instr::EndStep => false,
+    }
+}
+
+/// Whether one of these actions has a temporary take an object.
+pub(crate) fn take_some(actions: &[Action]) -> bool
+    ensures { result ≡ list_any order_takes (orders actions.now) }
+{
+    for action in actions {
+        if takes(action) {
+            return true;
+        }
+    }
+    false
+}
+
+/// Appends the action that drops the temporaries, where some were taken.
+pub(crate) fn append_drops(actions: &mut Vec<Action>, taken: bool) -> Result<(), NoMemory>
+    ensures { OnOk result (orders actions.new.items ≡ orders actions.old.items ++ (if taken then DropAll ∷ [] else [])) }
+{
+    if taken {
+        append(actions, Instr::DropAll)
+    } else {
+        Ok(())
+    }
+}
+
+/// Appends the actions by which the last reference isn't used any more, and the temporaries are
+/// dropped, where some were taken.
+pub(crate) fn append_forget(actions: &mut Vec<Action>, taken: bool) -> Result<(), NoMemory>
+    ensures { OnOk result (orders actions.new.items ≡ orders actions.old.items ++ (Plain Forget ∷ [] ++ (if taken then DropAll ∷ [] else []))) }
+{
+    append(actions, Instr::Plain(Op::Forget))?;
+    append_drops(actions, taken)
 }
 
 /// Appends the action that empties a variable, where there is one with this number.

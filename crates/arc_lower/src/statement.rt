@@ -7,7 +7,7 @@ ghost use Rattle.arc_lower.specs.Lowered.{whole_orders, whole_reference_orders, 
 
 use crate::expression::{append, append_reference, append_value};
 use crate::frame::{Body, Frame};
-use crate::place::{append_all_empty, append_drops, append_store};
+use crate::place::{append_all_empty, append_drops, append_forget, append_store, take_some};
 use arc_check::checked::{Checked, Command, Reference, Value};
 use arc_code::instr::{Instr, Op};
 use arc_ir::action::{Action, Target};
@@ -28,9 +28,10 @@ fn append_whole(
         slots: body.slots,
         names: body.names,
         operands: 0,
-        temporaries: 0,
     };
-    let taken = append_value(alloc, actions, program, frame, expression)?;
+    let begin = actions.len();
+    append_value(alloc, actions, program, frame, expression)?;
+    let taken = take_some(&actions[begin..]);
     append_drops(actions, taken)
 }
 
@@ -48,10 +49,11 @@ fn append_whole_reference(
         slots: body.slots,
         names: body.names,
         operands: 0,
-        temporaries: 0,
     };
-    let taken = append_reference(alloc, actions, program, frame, expression)?;
-    append_drops(actions, taken)
+    let begin = actions.len();
+    append_reference(alloc, actions, program, frame, expression)?;
+    let taken = take_some(&actions[begin..]);
+    append_forget(actions, taken)
 }
 
 /// Appends the actions by which a variable begins with an object or nil.
@@ -69,11 +71,12 @@ fn append_begin(
         slots: body.slots,
         names: body.names,
         operands: 0,
-        temporaries: 0,
     };
-    let taken = append_reference(alloc, actions, program, frame, expression)?;
-    append_store(actions, body.names, taken.saturating_sub(1), index)?;
-    append_drops(actions, taken)
+    let begin = actions.len();
+    append_reference(alloc, actions, program, frame, expression)?;
+    let taken = take_some(&actions[begin..]);
+    append_store(actions, body.names, index)?;
+    append_forget(actions, taken)
 }
 
 /// Appends the actions of a statement in a function.

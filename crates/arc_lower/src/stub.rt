@@ -9,10 +9,11 @@ ghost use Rattle.arc_lower.specs.Lowered.{stub_orders, methods_orders, dealloc_o
 
 use crate::call::{append_fit, number_of, slots_of};
 use crate::expression::append;
-use crate::height::{Height, greatest};
+use crate::height::{between, greatest, no_height};
 use crate::variable::one_more;
 use arc_ast::tree::Sign;
 use arc_check::checked::Checked;
+use arc_code::effect::Height;
 use arc_code::instr::Instr;
 use arc_ir::action::{Action, Target};
 use arc_spec::class::{Class, Method};
@@ -71,15 +72,8 @@ fn append_stub(
 {
     let begin = actions.len();
     append_jump_to(actions, program, entries, count, function)?;
-    let base = Height {
-        numbers: 0,
-        places: 0,
-    };
-    let first = Height {
-        numbers: count,
-        places: 0,
-    };
-    *most = greatest(program, base, first, &actions[begin..], *most)?;
+    let first = between(count, 0);
+    *most = greatest(program, no_height(), first, &actions[begin..], *most)?;
     Ok(())
 }
 

@@ -177,7 +177,7 @@ fn compare(
     Ok(difference(first, second))
 }
 
-/// The object that an expression gives, or nil, which the last temporary takes.
+/// The object that an expression gives, or nil. A temporary takes it, but for `nil` itself.
 #[cycle(running)]
 fn refer(
     alloc: Global,
@@ -188,7 +188,7 @@ fn refer(
     ensures { Tells (λ n. n) result (referred (deeper context.now) (checked.reference reference.now) (world progress.old)) (world progress.new) }
 {
     match reference {
-        Reference::Nil => take(progress, 0),
+        Reference::Nil => Ok(0),
         Reference::Itself => {
             let itself = progress.frame.itself;
             take(progress, itself)

@@ -1,30 +1,48 @@
 -- Objects whose holders are counted: what actions and instructions do to them, and to the places that hold them.
-use Rattle.std.specs.Prelude.{◌≡◌, ◌<◌, ℕ, zero, suc, ◌-◌, ℤ, List, [], ◌∷◌, ◌++◌, length, Bool, true, false, ◌&&◌, nat_eq, Option, Some, None, slice_get, slice_set, if◌then◌else◌}
+use Rattle.std.specs.Prelude.{◌≡◌, ◌<◌, ℕ, zero, suc, ◌-◌, ℤ, List, [], ◌∷◌, ◌++◌, length, take, drop, Bool, true, false, ◌&&◌, nat_eq, Option, Some, None, slice_get, slice_set, if◌then◌else◌}
 use Rattle.arc_spec.specs.declared.event.Fault.TheVariants.{NilField, FieldClass}
 use Rattle.arc_spec.specs.Classes.{Class, descends}
 use Rattle.arc_spec.specs.Objects.{Object, Phase, Live, Dying, Gone, object_at, with_object, in_phase, with_fields, is_live, new_object}
 use Rattle.arc_spec.specs.Stepping.{Next, Faults, Stuck, only_if}
 
--- what the strong places of all running functions name, the last one first; `self` of the running method; the objects; and how many places are counted to name each of them
+-- The strong places and the references of the running functions. Of the one that runs: its temporaries, the last one first, what its variables that name objects
+-- hold, the first one first, and in a method of objects `self`. The strong places of those that wait for it. The references that operands name, which hold nothing,
+-- the last one first. The objects, and how many strong places are counted to name each of them.
 pub record Held : Type 0 where
-  pub places : List ℕ
+  pub temporaries : List ℕ
+  pub variables : List ℕ
   pub self : ℕ
+  pub places : List ℕ
+  pub names : List ℕ
   pub objects : List Object
   pub counts : ℕ → ℕ
 
 abbrev pub nothing_held : Held
-nothing_held = record { places = []; self = 0; objects = []; counts = λ o. 0 }
+nothing_held = record { temporaries = []; variables = []; self = 0; places = []; names = []; objects = []; counts = λ o. 0 }
 
--- what waits for the running function: a call of one, or the end of an object, which goes on with the dealloc of the next class, of so many that are left
+-- all strong places: what each of them names
+abbrev pub all_places : Held → List ℕ
+all_places h = (h.temporaries ++ h.variables) ++ h.places
+
+-- a function that waits: its `self`, and how many temporaries and variables it has among the places that wait
+pub record Waiter : Type 0 where
+  pub self : ℕ
+  pub temporaries : ℕ
+  pub variables : ℕ
+
+-- what waits for the running function, and where it goes on: a call of one, or the end of an object, which goes on with the dealloc of the next class, of so many that are left
 pub data Frame : Type 0 where
-  Calling : (back self : ℕ) → Frame
-  Ending : (back self object : ℕ) → (next : Option ℕ) → (classes : ℕ) → Frame
+  Calling : (back : ℕ) → Waiter → Frame
+  Ending : (back : ℕ) → Waiter → (object : ℕ) → (next : Option ℕ) → (classes : ℕ) → Frame
 
-abbrev pub with_places : Held → List ℕ → Held
-with_places h places = record h { places = places }
+abbrev pub with_temporaries : Held → List ℕ → Held
+with_temporaries h temporaries = record h { temporaries = temporaries }
 
-abbrev pub with_self : Held → ℕ → Held
-with_self h self = record h { self = self }
+abbrev pub with_variables : Held → List ℕ → Held
+with_variables h variables = record h { variables = variables }
+
+abbrev pub with_names : Held → List ℕ → Held
+with_names h names = record h { names = names }
 
 abbrev pub with_things : Held → List Object → Held
 with_things h objects = record h { objects = objects }
@@ -36,7 +54,7 @@ holders o (p ∷ others) = if nat_eq o p then suc (holders o others) else holder
 
 -- Each count is the number of places that name the object, and an object whose dealloc hasn't begun has a place that names it.
 pub record Counted (h : Held) : Type 0 where
-  pub counted : (k : ℕ) → h.counts (suc k) ≡ holders (suc k) h.places
+  pub counted : (k : ℕ) → h.counts (suc k) ≡ holders (suc k) (all_places h)
   pub held : (k : ℕ) (o : Object) → object_at h.objects (suc k) ≡ Some o → o.phase ≡ Live → 0 < h.counts (suc k)
 
 -- one more place names an object, or one less
@@ -56,19 +74,32 @@ abbrev pub on_object : {S : Type 0} → Option Object → (Object → Next S) �
 on_object None go = Stuck
 on_object (Some o) go = only_if (is_there o.phase) (go o)
 
--- the last place, and the ones before it
-abbrev pub on_place : {S : Type 0} → List ℕ → (ℕ → List ℕ → Next S) → Next S
-on_place [] go = Stuck
-on_place (r ∷ rest) go = go r rest
+-- what a reference names is nil, or an object that isn't gone
+abbrev pub on_named : {S : Type 0} → ℕ → Held → Next S → Next S
+on_named zero h next = next
+on_named (suc k) h next = on_object (object_at h.objects (suc k)) (λ _. next)
 
--- a further place takes this
-abbrev pub placed : ℕ → Held → Held
-placed r h = raised r (with_places h (r ∷ h.places))
+-- the last reference, and those before it
+abbrev pub on_reference : {S : Type 0} → List ℕ → (ℕ → List ℕ → Next S) → Next S
+on_reference [] go = Stuck
+on_reference (r ∷ rest) go = go r rest
+
+-- a further reference
+abbrev pub named : ℕ → Held → Held
+named r h = with_names h (r ∷ h.names)
+
+-- a further temporary takes this
+abbrev pub taken_by : ℕ → Held → Held
+taken_by r h = raised r (with_temporaries h (r ∷ h.temporaries))
 
 -- the same, where it is nil or an object that isn't gone
 abbrev pub holds : {S : Type 0} → ℕ → Held → (Held → Next S) → Next S
-holds zero h go = go (placed 0 h)
-holds (suc k) h go = on_object (object_at h.objects (suc k)) (λ _. go (placed (suc k) h))
+holds r h go = on_named r h (go (taken_by r h))
+
+-- a further variable, which is nil, before all others; a function that has temporaries gets none
+abbrev pub declares : {S : Type 0} → List ℕ → Held → (Held → Next S) → Next S
+declares [] h go = go (raised 0 (with_variables h (0 ∷ h.variables)))
+declares (r ∷ others) h go = Stuck
 
 -- A place named this and doesn't any more: one holder less is counted. The last one less of an object whose dealloc hasn't begun is the beginning of its end.
 abbrev pub lets_go : {S : Type 0} → ℕ → Held → (stays : Held → Next S) → (ends : (o class : ℕ) → Held → Next S) → Next S
@@ -77,21 +108,46 @@ lets_go (suc k) h stays ends = on_object (object_at h.objects (suc k)) (λ o. if
     then ends (suc k) o.class (with_things (lowered (suc k) h) (with_object h.objects (suc k) (in_phase Dying o)))
     else stays (lowered (suc k) h))
 
--- so many last places are forgotten, which must be nil
-abbrev pub forgets : {S : Type 0} → ℕ → List ℕ → (List ℕ → Next S) → Next S
-forgets zero places go = go places
-forgets (suc n) [] go = Stuck
-forgets (suc n) (zero ∷ rest) go = forgets n rest go
-forgets (suc n) (suc k ∷ rest) go = Stuck
+-- ---- functions that begin and are left
+
+-- the running function, as it waits
+abbrev pub waiter_of : Held → Waiter
+waiter_of h = record { self = h.self; temporaries = length h.temporaries; variables = length h.variables }
+
+-- a function runs with this `self`, and the one that ran waits
+abbrev pub entered : (self : ℕ) → Held → Held
+entered self h = record h { temporaries = []; variables = []; self = self; places = all_places h }
+
+-- the function that waited runs again
+abbrev pub resumed : Waiter → Held → Held
+resumed w h = record h {
+  temporaries = take w.temporaries h.places;
+  variables = take w.variables (drop w.temporaries h.places);
+  self = w.self;
+  places = drop w.variables (drop w.temporaries h.places);
+}
+
+-- whether all of these are nil
+abbrev pub all_nil : List ℕ → Bool
+all_nil [] = true
+all_nil (zero ∷ others) = all_nil others
+all_nil (suc k ∷ others) = false
+
+-- the running function is left: it has no temporary, and its variables, all of them nil, are no more
+abbrev pub on_left : {S : Type 0} → List ℕ → Held → (Held → Next S) → Next S
+on_left [] h go = only_if (all_nil h.variables) (go (with_variables h []))
+on_left (r ∷ others) h go = Stuck
+
+-- ---- objects
 
 -- how many fields the objects of a class have
 abbrev pub count_of : Option Class → ℕ
 count_of None = 0
 count_of (Some c) = c.fields
 
--- an object is made, and a further place takes it
+-- an object is made, a further temporary takes it, and a further reference names it
 abbrev pub makes : List Class → (class : ℕ) → Held → Held
-makes classes class h = placed (suc (length h.objects)) (with_things h (h.objects ++ new_object class (count_of (slice_get classes class)) ∷ []))
+makes classes class h = named (suc (length h.objects)) (taken_by (suc (length h.objects)) (with_things h (h.objects ++ new_object class (count_of (slice_get classes class)) ∷ [])))
 
 -- a field of an object, whose own class this is
 abbrev pub on_field : {S : Type 0} → List Class → (class r : ℕ) → Held → (Object → Next S) → Next S

@@ -152,7 +152,7 @@ abbrev mutual
   evaluated D (IsObject a) w = then_do (referred D a w) (λ x w1. Done (difference x 0) w1)
 
   pub referred : Deeper → Reference → World → Outcome ℕ
-  referred D Nil w = Done 0 (takes 0 w)
+  referred D Nil w = Done 0 w
   referred D Itself w = Done w.frame.self (takes w.frame.self w)
   referred D (Variable i) w = Done (name_at w.frame.strong i) (takes (name_at w.frame.strong i) w)
   referred D (Stored i a) w = then_do (referred D a w) (λ r w1. then_do (assigned D i r w1) (λ _ w2. Done r (takes r w2)))

@@ -80,28 +80,31 @@ fn each_instruction(alloc: Global) -> Result<Code, AllocError> {
         Instr::Call(0),
         Instr::Send(3, 1),
         Instr::SendSuper(1, 2, 0),
-        Instr::Return,
-        Instr::Plain(Op::Nil),
-        Instr::Plain(Op::HoldSelf),
-        Instr::Plain(Op::Hold(1)),
+        Instr::SendTo(11, 12),
+        Instr::SendToSuper(14, 15, 16),
         Instr::StoreStrong(2),
-        Instr::Drop,
         Instr::Empty(3),
-        Instr::Plain(Op::Forget(4)),
+        Instr::DropAll,
+        Instr::Return,
+        Instr::EndStep,
+        Instr::Plain(Op::Declare),
+        Instr::Plain(Op::Nil),
+        Instr::Plain(Op::ReadSelf),
+        Instr::Plain(Op::ReadRef(4)),
+        Instr::Plain(Op::Hold),
+        Instr::Plain(Op::Forget),
         Instr::Plain(Op::Alloc),
         Instr::Plain(Op::GetField(5, 6)),
-        Instr::Plain(Op::SetField(7, 8, 9)),
-        Instr::Plain(Op::Differ(10)),
+        Instr::Plain(Op::SetField(7, 8)),
+        Instr::Plain(Op::Differ),
         Instr::Plain(Op::IsObject),
-        Instr::SendTo(11, 12, 13),
-        Instr::SendToSuper(14, 15, 16),
-        Instr::EndStep,
     ];
     Ok(Code {
         instrs: Vec::from_slice(alloc, &instrs)?,
         texts: Vec::new(alloc),
         end_step: 0,
         room: 0,
+        names: 0,
         places: 0,
         classes: Vec::new(alloc),
     })
@@ -110,9 +113,9 @@ fn each_instruction(alloc: Global) -> Result<Code, AllocError> {
 /// The listing of that code.
 const LISTING: &str = "0 Num -42\n1 Bin 3 2\n2 Un 3\n3 Narrow 1\n4 Pop\n5 Get 2\n6 Set 3\n\
     7 PrintText 10 6\n8 PrintNum\n9 PrintByte\n10 GetChar\n11 Jump 12\n12 JumpZero 7\n13 Call 0\n\
-    14 Send 3 1\n15 SendSuper 1 2 0\n16 Return\n17 Nil\n18 HoldSelf\n19 Hold 1\n20 StoreStrong 2\n\
-    21 Drop\n22 Empty 3\n23 Forget 4\n24 Alloc\n25 GetField 5 6\n26 SetField 7 8 9\n27 Differ 10\n\
-    28 IsObject\n29 SendTo 11 12 13\n30 SendToSuper 14 15 16\n31 EndStep\n";
+    14 Send 3 1\n15 SendSuper 1 2 0\n16 SendTo 11 12\n17 SendToSuper 14 15 16\n18 StoreStrong 2\n\
+    19 Empty 3\n20 DropAll\n21 Return\n22 EndStep\n23 Declare\n24 Nil\n25 ReadSelf\n26 ReadRef 4\n\
+    27 Hold\n28 Forget\n29 Alloc\n30 GetField 5 6\n31 SetField 7 8\n32 Differ\n33 IsObject\n";
 
 #[test]
 fn code_is_listed(rt: HostRuntime) -> Result<(), Fail> {

@@ -1,13 +1,13 @@
-use Rattle.std.proofs.Common.{◌≡◌, suc, ◌+◌, ◌-◌, ℕ, List, [], ◌∷◌, ◌++◌, length, Result, drop, ap, sym, subst, ◌∙◌, append_assoc, arith, IfOk, OnOk}
+use Rattle.std.proofs.Common.{◌≡◌, suc, ◌+◌, List, [], ◌∷◌, ◌++◌, length, Result, drop, ap, sym, subst, ◌∙◌, append_assoc, arith, OnOk}
 use Rattle.std.proofs.lemmas.List.{drop_more}
 use Rattle.arc_spec.specs.Resolved as resolved
 use Rattle.arc_spec.specs.Resolved.{and_value}
 use Rattle.arc_check.specs.declared.checked.Value.{Value}
 use Rattle.arc_check.specs.Checked.{pieces, value, reference, values, program_of}
-use Rattle.arc_code.specs.declared.instr.Op.TheVariants.{HoldSelf, SetField, Differ}
+use Rattle.arc_code.specs.declared.instr.Op.TheVariants.{ReadSelf, SetField, Differ}
 use Rattle.arc_code.specs.declared.instr.Instr.TheVariants.{Plain, Send, SendSuper, SendTo, SendToSuper}
 use Rattle.arc_lower.specs.Order.{Order, order, orders}
-use Rattle.arc_lower.specs.Lowered.{value_takes, reference_takes, values_take, value_orders, reference_orders, all_value_orders, print_orders, call_orders, get_orders, set_orders, value_count}
+use Rattle.arc_lower.specs.Lowered.{value_orders, reference_orders, all_value_orders, print_orders, call_orders, get_orders, set_orders, value_count}
 use Rattle.arc_lower.proofs.Rows.{values_counted}
 use Rattle.arc_check.proofs.Trees.{is_print, is_invoked, is_sent, is_sent_super, is_sent_to, is_sent_to_super}
 use Rattle.arc_lower.proofs.Weights.{value_weight, reference_weight, value_in, is_negated, is_combined, is_converted, is_assigned, is_field, is_field_assigned, is_differ, is_object, is_stored, is_made, is_initialized}
@@ -23,218 +23,145 @@ told Q v meant is h = subst Q (sym is) h
 rightly : {A E : Type 0} (r : Result A E) (new a b : List Order) → a ≡ b → OnOk r (new ≡ a) → OnOk r (new ≡ b)
 rightly r new a b e h = subst (λ l. OnOk r (new ≡ l)) e h
 
-counted : {E : Type 0} (r : Result ℕ E) (a b : ℕ) → a ≡ b → IfOk r (λ there. there ≡ a) → IfOk r (λ there. there ≡ b)
-counted r a b e h = subst (λ n. IfOk r (λ there. there ≡ n)) e h
-
 pub append_value-append_printed-requires : goal.append_value-append_printed-requires
 append_value-append_printed-requires t c =
     (omega (arith, ap value_weight (is_print c.args.expression.now c.in-Print.pieces c.in-Print.arguments c.deref.result.now c.deref-in-Print.result.now c.in-Print.is c.deref.ensures.value c.deref-in-Print.ensures.value), c.decreases), tt)
 
-pub append_value-returns-in-Print-clause-actions : goal.append_value-returns-in-Print-clause-actions
-append_value-returns-in-Print-clause-actions t c =
+pub append_value-returns-in-Print : goal.append_value-returns-in-Print
+append_value-returns-in-Print t c =
     let f = c.args.frame in
-    told (λ x. OnOk c.append_printed.result (orders c.append_printed.new.actions.items ≡ orders c.args.actions.now.items ++ value_orders (program_of c.args.program.now) f.slots f.names f.operands f.temporaries x)) c.args.expression.now _
-    (is_print c.args.expression.now c.in-Print.pieces c.in-Print.arguments c.deref.result.now c.deref-in-Print.result.now c.in-Print.is c.deref.ensures.value c.deref-in-Print.ensures.value) c.append_printed.ensures.actions
-
-pub append_value-returns-in-Print-clause-temporaries : goal.append_value-returns-in-Print-clause-temporaries
-append_value-returns-in-Print-clause-temporaries t c =
-    told (λ x. IfOk c.append_printed.result (λ there. there ≡ c.args.frame.temporaries + value_takes x)) c.args.expression.now _
-    (is_print c.args.expression.now c.in-Print.pieces c.in-Print.arguments c.deref.result.now c.deref-in-Print.result.now c.in-Print.is c.deref.ensures.value c.deref-in-Print.ensures.value) c.append_printed.ensures.temporaries
+    told (λ x. OnOk c.append_printed.result (orders c.append_printed.new.actions.items ≡ orders c.args.actions.now.items ++ value_orders (program_of c.args.program.now) f.slots f.names f.operands x)) c.args.expression.now _
+    (is_print c.args.expression.now c.in-Print.pieces c.in-Print.arguments c.deref.result.now c.deref-in-Print.result.now c.in-Print.is c.deref.ensures.value c.deref-in-Print.ensures.value) c.append_printed.ensures
 
 pub append_value-append_value_then-requires : goal.append_value-append_value_then-requires
 append_value-append_value_then-requires t c =
     (omega (arith, ap value_weight (is_negated c.args.expression.now c.in-Negated.kind c.in-Negated.operand c.deref-in-Negated.result.now c.in-Negated.is c.deref-in-Negated.ensures), c.decreases), tt)
 
-pub append_value-returns-in-Negated-clause-actions : goal.append_value-returns-in-Negated-clause-actions
-append_value-returns-in-Negated-clause-actions t c =
+pub append_value-returns-in-Negated : goal.append_value-returns-in-Negated
+append_value-returns-in-Negated t c =
     let f = c.args.frame in
-    told (λ x. OnOk c.append_value_then.result (orders c.append_value_then.new.actions.items ≡ orders c.args.actions.now.items ++ value_orders (program_of c.args.program.now) f.slots f.names f.operands f.temporaries x)) c.args.expression.now _
-    (is_negated c.args.expression.now c.in-Negated.kind c.in-Negated.operand c.deref-in-Negated.result.now c.in-Negated.is c.deref-in-Negated.ensures) c.append_value_then.ensures.actions
-
-pub append_value-returns-in-Negated-clause-temporaries : goal.append_value-returns-in-Negated-clause-temporaries
-append_value-returns-in-Negated-clause-temporaries t c =
-    told (λ x. IfOk c.append_value_then.result (λ there. there ≡ c.args.frame.temporaries + value_takes x)) c.args.expression.now _
-    (is_negated c.args.expression.now c.in-Negated.kind c.in-Negated.operand c.deref-in-Negated.result.now c.in-Negated.is c.deref-in-Negated.ensures) c.append_value_then.ensures.temporaries
+    told (λ x. OnOk c.append_value_then.result (orders c.append_value_then.new.actions.items ≡ orders c.args.actions.now.items ++ value_orders (program_of c.args.program.now) f.slots f.names f.operands x)) c.args.expression.now _
+    (is_negated c.args.expression.now c.in-Negated.kind c.in-Negated.operand c.deref-in-Negated.result.now c.in-Negated.is c.deref-in-Negated.ensures) c.append_value_then.ensures
 
 pub append_value-append_both-requires : goal.append_value-append_both-requires
 append_value-append_both-requires t c =
     (omega (arith, ap value_weight (is_combined c.args.expression.now c.in-Combined.operator c.in-Combined.kind c.in-Combined.left c.in-Combined.right c.deref-in-Combined.result.now c.deref-in-Combined-2.result.now c.in-Combined.is c.deref-in-Combined.ensures c.deref-in-Combined-2.ensures), c.decreases), tt)
 
-pub append_value-returns-in-Combined-clause-actions : goal.append_value-returns-in-Combined-clause-actions
-append_value-returns-in-Combined-clause-actions t c =
+pub append_value-returns-in-Combined : goal.append_value-returns-in-Combined
+append_value-returns-in-Combined t c =
     let f = c.args.frame in
-    told (λ x. OnOk c.append_both.result (orders c.append_both.new.actions.items ≡ orders c.args.actions.now.items ++ value_orders (program_of c.args.program.now) f.slots f.names f.operands f.temporaries x)) c.args.expression.now _
-    (is_combined c.args.expression.now c.in-Combined.operator c.in-Combined.kind c.in-Combined.left c.in-Combined.right c.deref-in-Combined.result.now c.deref-in-Combined-2.result.now c.in-Combined.is c.deref-in-Combined.ensures c.deref-in-Combined-2.ensures) c.append_both.ensures.actions
-
-pub append_value-returns-in-Combined-clause-temporaries : goal.append_value-returns-in-Combined-clause-temporaries
-append_value-returns-in-Combined-clause-temporaries t c =
-    told (λ x. IfOk c.append_both.result (λ there. there ≡ c.args.frame.temporaries + value_takes x)) c.args.expression.now _
-    (is_combined c.args.expression.now c.in-Combined.operator c.in-Combined.kind c.in-Combined.left c.in-Combined.right c.deref-in-Combined.result.now c.deref-in-Combined-2.result.now c.in-Combined.is c.deref-in-Combined.ensures c.deref-in-Combined-2.ensures) c.append_both.ensures.temporaries
+    told (λ x. OnOk c.append_both.result (orders c.append_both.new.actions.items ≡ orders c.args.actions.now.items ++ value_orders (program_of c.args.program.now) f.slots f.names f.operands x)) c.args.expression.now _
+    (is_combined c.args.expression.now c.in-Combined.operator c.in-Combined.kind c.in-Combined.left c.in-Combined.right c.deref-in-Combined.result.now c.deref-in-Combined-2.result.now c.in-Combined.is c.deref-in-Combined.ensures c.deref-in-Combined-2.ensures) c.append_both.ensures
 
 pub append_value-append_value_then-requires-in-Converted : goal.append_value-append_value_then-requires-in-Converted
 append_value-append_value_then-requires-in-Converted t c =
     (omega (arith, ap value_weight (is_converted c.args.expression.now c.in-Converted.kind c.in-Converted.operand c.deref-in-Converted.result.now c.in-Converted.is c.deref-in-Converted.ensures), c.decreases), tt)
 
-pub append_value-returns-in-Converted-clause-actions : goal.append_value-returns-in-Converted-clause-actions
-append_value-returns-in-Converted-clause-actions t c =
+pub append_value-returns-in-Converted : goal.append_value-returns-in-Converted
+append_value-returns-in-Converted t c =
     let f = c.args.frame in
-    told (λ x. OnOk c.append_value_then-in-Converted.result (orders c.append_value_then-in-Converted.new.actions.items ≡ orders c.args.actions.now.items ++ value_orders (program_of c.args.program.now) f.slots f.names f.operands f.temporaries x)) c.args.expression.now _
-    (is_converted c.args.expression.now c.in-Converted.kind c.in-Converted.operand c.deref-in-Converted.result.now c.in-Converted.is c.deref-in-Converted.ensures) c.append_value_then-in-Converted.ensures.actions
-
-pub append_value-returns-in-Converted-clause-temporaries : goal.append_value-returns-in-Converted-clause-temporaries
-append_value-returns-in-Converted-clause-temporaries t c =
-    told (λ x. IfOk c.append_value_then-in-Converted.result (λ there. there ≡ c.args.frame.temporaries + value_takes x)) c.args.expression.now _
-    (is_converted c.args.expression.now c.in-Converted.kind c.in-Converted.operand c.deref-in-Converted.result.now c.in-Converted.is c.deref-in-Converted.ensures) c.append_value_then-in-Converted.ensures.temporaries
+    told (λ x. OnOk c.append_value_then-in-Converted.result (orders c.append_value_then-in-Converted.new.actions.items ≡ orders c.args.actions.now.items ++ value_orders (program_of c.args.program.now) f.slots f.names f.operands x)) c.args.expression.now _
+    (is_converted c.args.expression.now c.in-Converted.kind c.in-Converted.operand c.deref-in-Converted.result.now c.in-Converted.is c.deref-in-Converted.ensures) c.append_value_then-in-Converted.ensures
 
 pub append_value-append_assigned-requires : goal.append_value-append_assigned-requires
 append_value-append_assigned-requires t c =
     (omega (arith, ap value_weight (is_assigned c.args.expression.now c.in-Assigned.index c.in-Assigned.operand c.deref-in-Assigned.result.now c.in-Assigned.is c.deref-in-Assigned.ensures), c.decreases), tt)
 
-pub append_value-returns-in-Assigned-clause-actions : goal.append_value-returns-in-Assigned-clause-actions
-append_value-returns-in-Assigned-clause-actions t c =
+pub append_value-returns-in-Assigned : goal.append_value-returns-in-Assigned
+append_value-returns-in-Assigned t c =
     let f = c.args.frame in
-    told (λ x. OnOk c.append_assigned.result (orders c.append_assigned.new.actions.items ≡ orders c.args.actions.now.items ++ value_orders (program_of c.args.program.now) f.slots f.names f.operands f.temporaries x)) c.args.expression.now _
-    (is_assigned c.args.expression.now c.in-Assigned.index c.in-Assigned.operand c.deref-in-Assigned.result.now c.in-Assigned.is c.deref-in-Assigned.ensures) c.append_assigned.ensures.actions
-
-pub append_value-returns-in-Assigned-clause-temporaries : goal.append_value-returns-in-Assigned-clause-temporaries
-append_value-returns-in-Assigned-clause-temporaries t c =
-    told (λ x. IfOk c.append_assigned.result (λ there. there ≡ c.args.frame.temporaries + value_takes x)) c.args.expression.now _
-    (is_assigned c.args.expression.now c.in-Assigned.index c.in-Assigned.operand c.deref-in-Assigned.result.now c.in-Assigned.is c.deref-in-Assigned.ensures) c.append_assigned.ensures.temporaries
+    told (λ x. OnOk c.append_assigned.result (orders c.append_assigned.new.actions.items ≡ orders c.args.actions.now.items ++ value_orders (program_of c.args.program.now) f.slots f.names f.operands x)) c.args.expression.now _
+    (is_assigned c.args.expression.now c.in-Assigned.index c.in-Assigned.operand c.deref-in-Assigned.result.now c.in-Assigned.is c.deref-in-Assigned.ensures) c.append_assigned.ensures
 
 pub append_value-append_invoked-requires : goal.append_value-append_invoked-requires
 append_value-append_invoked-requires t c =
     (omega (arith, ap value_weight (is_invoked c.args.expression.now c.in-Invoked.function c.in-Invoked.arguments c.deref-in-Invoked.result.now c.in-Invoked.is c.deref-in-Invoked.ensures.value), c.decreases), tt)
 
-pub append_value-returns-in-Invoked-clause-actions : goal.append_value-returns-in-Invoked-clause-actions
-append_value-returns-in-Invoked-clause-actions t c =
+pub append_value-returns-in-Invoked : goal.append_value-returns-in-Invoked
+append_value-returns-in-Invoked t c =
     let f = c.args.frame in
-    told (λ x. OnOk c.append_invoked.result (orders c.append_invoked.new.actions.items ≡ orders c.args.actions.now.items ++ value_orders (program_of c.args.program.now) f.slots f.names f.operands f.temporaries x)) c.args.expression.now _
-    (is_invoked c.args.expression.now c.in-Invoked.function c.in-Invoked.arguments c.deref-in-Invoked.result.now c.in-Invoked.is c.deref-in-Invoked.ensures.value) c.append_invoked.ensures.actions
-
-pub append_value-returns-in-Invoked-clause-temporaries : goal.append_value-returns-in-Invoked-clause-temporaries
-append_value-returns-in-Invoked-clause-temporaries t c =
-    told (λ x. IfOk c.append_invoked.result (λ there. there ≡ c.args.frame.temporaries + value_takes x)) c.args.expression.now _
-    (is_invoked c.args.expression.now c.in-Invoked.function c.in-Invoked.arguments c.deref-in-Invoked.result.now c.in-Invoked.is c.deref-in-Invoked.ensures.value) c.append_invoked.ensures.temporaries
+    told (λ x. OnOk c.append_invoked.result (orders c.append_invoked.new.actions.items ≡ orders c.args.actions.now.items ++ value_orders (program_of c.args.program.now) f.slots f.names f.operands x)) c.args.expression.now _
+    (is_invoked c.args.expression.now c.in-Invoked.function c.in-Invoked.arguments c.deref-in-Invoked.result.now c.in-Invoked.is c.deref-in-Invoked.ensures.value) c.append_invoked.ensures
 
 pub append_value-append_sent-requires : goal.append_value-append_sent-requires
 append_value-append_sent-requires t c =
     (omega (arith, ap value_weight (is_sent c.args.expression.now c.in-Sent.target c.in-Sent.selector c.in-Sent.arguments c.deref-in-Sent.result.now c.deref-in-Sent-2.result.now c.in-Sent.is c.deref-in-Sent.ensures c.deref-in-Sent-2.ensures.value), c.decreases), tt)
 
-pub append_value-returns-in-Sent-clause-actions : goal.append_value-returns-in-Sent-clause-actions
-append_value-returns-in-Sent-clause-actions t c =
+pub append_value-returns-in-Sent : goal.append_value-returns-in-Sent
+append_value-returns-in-Sent t c =
     let f = c.args.frame in
-    told (λ x. OnOk c.append_sent.result (orders c.append_sent.new.actions.items ≡ orders c.args.actions.now.items ++ value_orders (program_of c.args.program.now) f.slots f.names f.operands f.temporaries x)) c.args.expression.now _
-    (is_sent c.args.expression.now c.in-Sent.target c.in-Sent.selector c.in-Sent.arguments c.deref-in-Sent.result.now c.deref-in-Sent-2.result.now c.in-Sent.is c.deref-in-Sent.ensures c.deref-in-Sent-2.ensures.value) c.append_sent.ensures.actions
-
-pub append_value-returns-in-Sent-clause-temporaries : goal.append_value-returns-in-Sent-clause-temporaries
-append_value-returns-in-Sent-clause-temporaries t c =
-    told (λ x. IfOk c.append_sent.result (λ there. there ≡ c.args.frame.temporaries + value_takes x)) c.args.expression.now _
-    (is_sent c.args.expression.now c.in-Sent.target c.in-Sent.selector c.in-Sent.arguments c.deref-in-Sent.result.now c.deref-in-Sent-2.result.now c.in-Sent.is c.deref-in-Sent.ensures c.deref-in-Sent-2.ensures.value) c.append_sent.ensures.temporaries
+    told (λ x. OnOk c.append_sent.result (orders c.append_sent.new.actions.items ≡ orders c.args.actions.now.items ++ value_orders (program_of c.args.program.now) f.slots f.names f.operands x)) c.args.expression.now _
+    (is_sent c.args.expression.now c.in-Sent.target c.in-Sent.selector c.in-Sent.arguments c.deref-in-Sent.result.now c.deref-in-Sent-2.result.now c.in-Sent.is c.deref-in-Sent.ensures c.deref-in-Sent-2.ensures.value) c.append_sent.ensures
 
 pub append_value-append_sent_super-requires : goal.append_value-append_sent_super-requires
 append_value-append_sent_super-requires t c =
     (omega (arith, ap value_weight (is_sent_super c.args.expression.now c.in-SentSuper.from c.in-SentSuper.selector c.in-SentSuper.arguments c.deref-in-SentSuper.result.now c.in-SentSuper.is c.deref-in-SentSuper.ensures.value), c.decreases), tt)
 
-pub append_value-returns-in-SentSuper-clause-actions : goal.append_value-returns-in-SentSuper-clause-actions
-append_value-returns-in-SentSuper-clause-actions t c =
+pub append_value-returns-in-SentSuper : goal.append_value-returns-in-SentSuper
+append_value-returns-in-SentSuper t c =
     let f = c.args.frame in
-    told (λ x. OnOk c.append_sent_super.result (orders c.append_sent_super.new.actions.items ≡ orders c.args.actions.now.items ++ value_orders (program_of c.args.program.now) f.slots f.names f.operands f.temporaries x)) c.args.expression.now _
-    (is_sent_super c.args.expression.now c.in-SentSuper.from c.in-SentSuper.selector c.in-SentSuper.arguments c.deref-in-SentSuper.result.now c.in-SentSuper.is c.deref-in-SentSuper.ensures.value) c.append_sent_super.ensures.actions
-
-pub append_value-returns-in-SentSuper-clause-temporaries : goal.append_value-returns-in-SentSuper-clause-temporaries
-append_value-returns-in-SentSuper-clause-temporaries t c =
-    told (λ x. IfOk c.append_sent_super.result (λ there. there ≡ c.args.frame.temporaries + value_takes x)) c.args.expression.now _
-    (is_sent_super c.args.expression.now c.in-SentSuper.from c.in-SentSuper.selector c.in-SentSuper.arguments c.deref-in-SentSuper.result.now c.in-SentSuper.is c.deref-in-SentSuper.ensures.value) c.append_sent_super.ensures.temporaries
+    told (λ x. OnOk c.append_sent_super.result (orders c.append_sent_super.new.actions.items ≡ orders c.args.actions.now.items ++ value_orders (program_of c.args.program.now) f.slots f.names f.operands x)) c.args.expression.now _
+    (is_sent_super c.args.expression.now c.in-SentSuper.from c.in-SentSuper.selector c.in-SentSuper.arguments c.deref-in-SentSuper.result.now c.in-SentSuper.is c.deref-in-SentSuper.ensures.value) c.append_sent_super.ensures
 
 pub append_value-append_sent_to-requires : goal.append_value-append_sent_to-requires
 append_value-append_sent_to-requires t c =
     (omega (arith, ap value_weight (is_sent_to c.args.expression.now c.in-SentTo.target c.in-SentTo.selector c.in-SentTo.arguments c.deref-in-SentTo.result.now c.deref-in-SentTo-2.result.now c.in-SentTo.is c.deref-in-SentTo.ensures c.deref-in-SentTo-2.ensures.value), c.decreases), tt)
 
-pub append_value-returns-in-SentTo-clause-actions : goal.append_value-returns-in-SentTo-clause-actions
-append_value-returns-in-SentTo-clause-actions t c =
+pub append_value-returns-in-SentTo : goal.append_value-returns-in-SentTo
+append_value-returns-in-SentTo t c =
     let f = c.args.frame in
-    told (λ x. OnOk c.append_sent_to.result (orders c.append_sent_to.new.actions.items ≡ orders c.args.actions.now.items ++ value_orders (program_of c.args.program.now) f.slots f.names f.operands f.temporaries x)) c.args.expression.now _
-    (is_sent_to c.args.expression.now c.in-SentTo.target c.in-SentTo.selector c.in-SentTo.arguments c.deref-in-SentTo.result.now c.deref-in-SentTo-2.result.now c.in-SentTo.is c.deref-in-SentTo.ensures c.deref-in-SentTo-2.ensures.value) c.append_sent_to.ensures.actions
-
-pub append_value-returns-in-SentTo-clause-temporaries : goal.append_value-returns-in-SentTo-clause-temporaries
-append_value-returns-in-SentTo-clause-temporaries t c =
-    told (λ x. IfOk c.append_sent_to.result (λ there. there ≡ c.args.frame.temporaries + value_takes x)) c.args.expression.now _
-    (is_sent_to c.args.expression.now c.in-SentTo.target c.in-SentTo.selector c.in-SentTo.arguments c.deref-in-SentTo.result.now c.deref-in-SentTo-2.result.now c.in-SentTo.is c.deref-in-SentTo.ensures c.deref-in-SentTo-2.ensures.value) c.append_sent_to.ensures.temporaries
+    told (λ x. OnOk c.append_sent_to.result (orders c.append_sent_to.new.actions.items ≡ orders c.args.actions.now.items ++ value_orders (program_of c.args.program.now) f.slots f.names f.operands x)) c.args.expression.now _
+    (is_sent_to c.args.expression.now c.in-SentTo.target c.in-SentTo.selector c.in-SentTo.arguments c.deref-in-SentTo.result.now c.deref-in-SentTo-2.result.now c.in-SentTo.is c.deref-in-SentTo.ensures c.deref-in-SentTo-2.ensures.value) c.append_sent_to.ensures
 
 pub append_value-append_sent_to_super-requires : goal.append_value-append_sent_to_super-requires
 append_value-append_sent_to_super-requires t c =
     (omega (arith, ap value_weight (is_sent_to_super c.args.expression.now c.in-SentToSuper.from c.in-SentToSuper.selector c.in-SentToSuper.arguments c.deref-in-SentToSuper.result.now c.in-SentToSuper.is c.deref-in-SentToSuper.ensures.value), c.decreases), tt)
 
-pub append_value-returns-in-SentToSuper-clause-actions : goal.append_value-returns-in-SentToSuper-clause-actions
-append_value-returns-in-SentToSuper-clause-actions t c =
+pub append_value-returns-in-SentToSuper : goal.append_value-returns-in-SentToSuper
+append_value-returns-in-SentToSuper t c =
     let f = c.args.frame in
-    told (λ x. OnOk c.append_sent_to_super.result (orders c.append_sent_to_super.new.actions.items ≡ orders c.args.actions.now.items ++ value_orders (program_of c.args.program.now) f.slots f.names f.operands f.temporaries x)) c.args.expression.now _
-    (is_sent_to_super c.args.expression.now c.in-SentToSuper.from c.in-SentToSuper.selector c.in-SentToSuper.arguments c.deref-in-SentToSuper.result.now c.in-SentToSuper.is c.deref-in-SentToSuper.ensures.value) c.append_sent_to_super.ensures.actions
-
-pub append_value-returns-in-SentToSuper-clause-temporaries : goal.append_value-returns-in-SentToSuper-clause-temporaries
-append_value-returns-in-SentToSuper-clause-temporaries t c =
-    told (λ x. IfOk c.append_sent_to_super.result (λ there. there ≡ c.args.frame.temporaries + value_takes x)) c.args.expression.now _
-    (is_sent_to_super c.args.expression.now c.in-SentToSuper.from c.in-SentToSuper.selector c.in-SentToSuper.arguments c.deref-in-SentToSuper.result.now c.in-SentToSuper.is c.deref-in-SentToSuper.ensures.value) c.append_sent_to_super.ensures.temporaries
+    told (λ x. OnOk c.append_sent_to_super.result (orders c.append_sent_to_super.new.actions.items ≡ orders c.args.actions.now.items ++ value_orders (program_of c.args.program.now) f.slots f.names f.operands x)) c.args.expression.now _
+    (is_sent_to_super c.args.expression.now c.in-SentToSuper.from c.in-SentToSuper.selector c.in-SentToSuper.arguments c.deref-in-SentToSuper.result.now c.in-SentToSuper.is c.deref-in-SentToSuper.ensures.value) c.append_sent_to_super.ensures
 
 pub append_value-append_reference_then-requires : goal.append_value-append_reference_then-requires
 append_value-append_reference_then-requires t c =
     (omega (arith, ap value_weight (is_field c.args.expression.now c.in-Field.object c.in-Field.class c.in-Field.index c.deref-in-Field.result.now c.in-Field.is c.deref-in-Field.ensures), c.decreases), tt)
 
-pub append_value-returns-in-Field-clause-actions : goal.append_value-returns-in-Field-clause-actions
-append_value-returns-in-Field-clause-actions t c =
+pub append_value-returns-in-Field : goal.append_value-returns-in-Field
+append_value-returns-in-Field t c =
     let f = c.args.frame in
-    told (λ x. OnOk c.append_reference_then.result (orders c.append_reference_then.new.actions.items ≡ orders c.args.actions.now.items ++ value_orders (program_of c.args.program.now) f.slots f.names f.operands f.temporaries x)) c.args.expression.now _
-    (is_field c.args.expression.now c.in-Field.object c.in-Field.class c.in-Field.index c.deref-in-Field.result.now c.in-Field.is c.deref-in-Field.ensures) c.append_reference_then.ensures.actions
-
-pub append_value-returns-in-Field-clause-temporaries : goal.append_value-returns-in-Field-clause-temporaries
-append_value-returns-in-Field-clause-temporaries t c =
-    told (λ x. IfOk c.append_reference_then.result (λ there. there ≡ c.args.frame.temporaries + value_takes x)) c.args.expression.now _
-    (is_field c.args.expression.now c.in-Field.object c.in-Field.class c.in-Field.index c.deref-in-Field.result.now c.in-Field.is c.deref-in-Field.ensures) c.append_reference_then.ensures.temporaries
+    told (λ x. OnOk c.append_reference_then.result (orders c.append_reference_then.new.actions.items ≡ orders c.args.actions.now.items ++ value_orders (program_of c.args.program.now) f.slots f.names f.operands x)) c.args.expression.now _
+    (is_field c.args.expression.now c.in-Field.object c.in-Field.class c.in-Field.index c.deref-in-Field.result.now c.in-Field.is c.deref-in-Field.ensures) c.append_reference_then.ensures
 
 pub append_value-append_field_assigned-requires : goal.append_value-append_field_assigned-requires
 append_value-append_field_assigned-requires t c =
     (omega (arith, ap value_weight (is_field_assigned c.args.expression.now c.in-FieldAssigned.object c.in-FieldAssigned.class c.in-FieldAssigned.index c.in-FieldAssigned.operand c.deref-in-FieldAssigned.result.now c.deref-in-FieldAssigned-2.result.now c.in-FieldAssigned.is c.deref-in-FieldAssigned.ensures c.deref-in-FieldAssigned-2.ensures), c.decreases), tt)
 
-pub append_value-returns-in-FieldAssigned-clause-actions : goal.append_value-returns-in-FieldAssigned-clause-actions
-append_value-returns-in-FieldAssigned-clause-actions t c =
+pub append_value-returns-in-FieldAssigned : goal.append_value-returns-in-FieldAssigned
+append_value-returns-in-FieldAssigned t c =
     let f = c.args.frame in
-    told (λ x. OnOk c.append_field_assigned.result (orders c.append_field_assigned.new.actions.items ≡ orders c.args.actions.now.items ++ value_orders (program_of c.args.program.now) f.slots f.names f.operands f.temporaries x)) c.args.expression.now _
-    (is_field_assigned c.args.expression.now c.in-FieldAssigned.object c.in-FieldAssigned.class c.in-FieldAssigned.index c.in-FieldAssigned.operand c.deref-in-FieldAssigned.result.now c.deref-in-FieldAssigned-2.result.now c.in-FieldAssigned.is c.deref-in-FieldAssigned.ensures c.deref-in-FieldAssigned-2.ensures) c.append_field_assigned.ensures.actions
-
-pub append_value-returns-in-FieldAssigned-clause-temporaries : goal.append_value-returns-in-FieldAssigned-clause-temporaries
-append_value-returns-in-FieldAssigned-clause-temporaries t c =
-    told (λ x. IfOk c.append_field_assigned.result (λ there. there ≡ c.args.frame.temporaries + value_takes x)) c.args.expression.now _
-    (is_field_assigned c.args.expression.now c.in-FieldAssigned.object c.in-FieldAssigned.class c.in-FieldAssigned.index c.in-FieldAssigned.operand c.deref-in-FieldAssigned.result.now c.deref-in-FieldAssigned-2.result.now c.in-FieldAssigned.is c.deref-in-FieldAssigned.ensures c.deref-in-FieldAssigned-2.ensures) c.append_field_assigned.ensures.temporaries
+    told (λ x. OnOk c.append_field_assigned.result (orders c.append_field_assigned.new.actions.items ≡ orders c.args.actions.now.items ++ value_orders (program_of c.args.program.now) f.slots f.names f.operands x)) c.args.expression.now _
+    (is_field_assigned c.args.expression.now c.in-FieldAssigned.object c.in-FieldAssigned.class c.in-FieldAssigned.index c.in-FieldAssigned.operand c.deref-in-FieldAssigned.result.now c.deref-in-FieldAssigned-2.result.now c.in-FieldAssigned.is c.deref-in-FieldAssigned.ensures c.deref-in-FieldAssigned-2.ensures) c.append_field_assigned.ensures
 
 pub append_value-append_differ-requires : goal.append_value-append_differ-requires
 append_value-append_differ-requires t c =
     (omega (arith, ap value_weight (is_differ c.args.expression.now c.in-Differ.left c.in-Differ.right c.deref-in-Differ.result.now c.deref-in-Differ-2.result.now c.in-Differ.is c.deref-in-Differ.ensures c.deref-in-Differ-2.ensures), c.decreases), tt)
 
-pub append_value-returns-in-Differ-clause-actions : goal.append_value-returns-in-Differ-clause-actions
-append_value-returns-in-Differ-clause-actions t c =
+pub append_value-returns-in-Differ : goal.append_value-returns-in-Differ
+append_value-returns-in-Differ t c =
     let f = c.args.frame in
-    told (λ x. OnOk c.append_differ.result (orders c.append_differ.new.actions.items ≡ orders c.args.actions.now.items ++ value_orders (program_of c.args.program.now) f.slots f.names f.operands f.temporaries x)) c.args.expression.now _
-    (is_differ c.args.expression.now c.in-Differ.left c.in-Differ.right c.deref-in-Differ.result.now c.deref-in-Differ-2.result.now c.in-Differ.is c.deref-in-Differ.ensures c.deref-in-Differ-2.ensures) c.append_differ.ensures.actions
-
-pub append_value-returns-in-Differ-clause-temporaries : goal.append_value-returns-in-Differ-clause-temporaries
-append_value-returns-in-Differ-clause-temporaries t c =
-    told (λ x. IfOk c.append_differ.result (λ there. there ≡ c.args.frame.temporaries + value_takes x)) c.args.expression.now _
-    (is_differ c.args.expression.now c.in-Differ.left c.in-Differ.right c.deref-in-Differ.result.now c.deref-in-Differ-2.result.now c.in-Differ.is c.deref-in-Differ.ensures c.deref-in-Differ-2.ensures) c.append_differ.ensures.temporaries
+    told (λ x. OnOk c.append_differ.result (orders c.append_differ.new.actions.items ≡ orders c.args.actions.now.items ++ value_orders (program_of c.args.program.now) f.slots f.names f.operands x)) c.args.expression.now _
+    (is_differ c.args.expression.now c.in-Differ.left c.in-Differ.right c.deref-in-Differ.result.now c.deref-in-Differ-2.result.now c.in-Differ.is c.deref-in-Differ.ensures c.deref-in-Differ-2.ensures) c.append_differ.ensures
 
 pub append_value-append_reference_then-requires-in-IsObject : goal.append_value-append_reference_then-requires-in-IsObject
 append_value-append_reference_then-requires-in-IsObject t c =
     (omega (arith, ap value_weight (is_object c.args.expression.now c.in-IsObject.object c.deref-in-IsObject.result.now c.in-IsObject.is c.deref-in-IsObject.ensures), c.decreases), tt)
 
-pub append_value-returns-in-IsObject-clause-actions : goal.append_value-returns-in-IsObject-clause-actions
-append_value-returns-in-IsObject-clause-actions t c =
+pub append_value-returns-in-IsObject : goal.append_value-returns-in-IsObject
+append_value-returns-in-IsObject t c =
     let f = c.args.frame in
-    told (λ x. OnOk c.append_reference_then-in-IsObject.result (orders c.append_reference_then-in-IsObject.new.actions.items ≡ orders c.args.actions.now.items ++ value_orders (program_of c.args.program.now) f.slots f.names f.operands f.temporaries x)) c.args.expression.now _
-    (is_object c.args.expression.now c.in-IsObject.object c.deref-in-IsObject.result.now c.in-IsObject.is c.deref-in-IsObject.ensures) c.append_reference_then-in-IsObject.ensures.actions
-
-pub append_value-returns-in-IsObject-clause-temporaries : goal.append_value-returns-in-IsObject-clause-temporaries
-append_value-returns-in-IsObject-clause-temporaries t c =
-    told (λ x. IfOk c.append_reference_then-in-IsObject.result (λ there. there ≡ c.args.frame.temporaries + value_takes x)) c.args.expression.now _
-    (is_object c.args.expression.now c.in-IsObject.object c.deref-in-IsObject.result.now c.in-IsObject.is c.deref-in-IsObject.ensures) c.append_reference_then-in-IsObject.ensures.temporaries
+    told (λ x. OnOk c.append_reference_then-in-IsObject.result (orders c.append_reference_then-in-IsObject.new.actions.items ≡ orders c.args.actions.now.items ++ value_orders (program_of c.args.program.now) f.slots f.names f.operands x)) c.args.expression.now _
+    (is_object c.args.expression.now c.in-IsObject.object c.deref-in-IsObject.result.now c.in-IsObject.is c.deref-in-IsObject.ensures) c.append_reference_then-in-IsObject.ensures
 
 pub append_printed-append_values-requires : goal.append_printed-append_values-requires
 append_printed-append_values-requires t c =
@@ -320,86 +247,80 @@ pub append_values-append_value-requires : goal.append_values-append_value-requir
 append_values-append_value-requires t c =
     (omega (arith, value_in c.args.all.now c.loop-expression.expression-index c.expression-item.result c.loop-expression-test.true c.expression-item.is, c.decreases), tt)
 
-pub append_printed-returns-clause-actions : goal.append_printed-returns-clause-actions
-append_printed-returns-clause-actions t c =
+pub append_printed-returns : goal.append_printed-returns
+append_printed-returns t c =
     let P = program_of c.args.program.now in
     let f = c.args.frame in
     let old = orders c.args.actions.now.items in
     let these = c.args.arguments.now in
-    let xs = all_value_orders P f.slots f.names f.operands f.temporaries (values these) in
-    c.in_ok-append_print.ensures
-    ∙ ap (λ l. l ++ print_orders (pieces c.args.pieces.now) (length these)) c.in_ok-there.ensures.actions
+    let xs = all_value_orders P f.slots f.names f.operands (values these) in
+    rightly c.append_print.result (orders c.append_print.new.actions.items) _ _
+    (ap (λ l. l ++ print_orders (pieces c.args.pieces.now) (length these)) c.in_ok-append_values.ensures
     ∙ ap (λ n. (old ++ xs) ++ print_orders (pieces c.args.pieces.now) n) (sym (values_counted these))
-    ∙ append_assoc old xs _
+    ∙ append_assoc old xs _)
+    c.append_print.ensures
 
-pub append_invoked-returns-clause-actions : goal.append_invoked-returns-clause-actions
-append_invoked-returns-clause-actions t c =
+pub append_invoked-returns : goal.append_invoked-returns
+append_invoked-returns t c =
     let P = program_of c.args.program.now in
     let f = c.args.frame in
     let old = orders c.args.actions.now.items in
     let these = c.args.arguments.now in
-    let xs = all_value_orders P f.slots f.names f.operands f.temporaries (values these) in
-    c.in_ok-append_call.ensures
-    ∙ ap (λ l. l ++ call_orders P c.args.function (length these)) c.in_ok-there.ensures.actions
+    let xs = all_value_orders P f.slots f.names f.operands (values these) in
+    rightly c.append_call.result (orders c.append_call.new.actions.items) _ _
+    (ap (λ l. l ++ call_orders P c.args.function (length these)) c.in_ok-append_values.ensures
     ∙ ap (λ n. (old ++ xs) ++ call_orders P c.args.function n) (sym (values_counted these))
-    ∙ append_assoc old xs _
+    ∙ append_assoc old xs _)
+    c.append_call.ensures
 
-pub append_assigned-returns-clause-actions : goal.append_assigned-returns-clause-actions
-append_assigned-returns-clause-actions t c =
+pub append_assigned-returns : goal.append_assigned-returns
+append_assigned-returns t c =
     let P = program_of c.args.program.now in
     let f = c.args.frame in
     let old = orders c.args.actions.now.items in
-    let xs = value_orders P f.slots f.names f.operands f.temporaries (value c.args.operand.now) in
+    let xs = value_orders P f.slots f.names f.operands (value c.args.operand.now) in
     let last = set_orders f.slots f.operands c.args.index in
-    c.in_ok-append_set.ensures ∙ ap (λ l. l ++ last) c.in_ok-there.ensures.actions ∙ append_assoc old xs last
+    rightly c.append_set.result (orders c.append_set.new.actions.items) _ _
+    (ap (λ l. l ++ last) c.in_ok-append_value.ensures ∙ append_assoc old xs last)
+    c.append_set.ensures
 
-pub append_value_then-returns-clause-actions : goal.append_value_then-returns-clause-actions
-append_value_then-returns-clause-actions t c =
+pub append_value_then-returns : goal.append_value_then-returns
+append_value_then-returns t c =
     let P = program_of c.args.program.now in
     let f = c.args.frame in
     let old = orders c.args.actions.now.items in
-    let xs = value_orders P f.slots f.names f.operands f.temporaries (value c.args.operand.now) in
+    let xs = value_orders P f.slots f.names f.operands (value c.args.operand.now) in
     let last = order c.args.action ∷ [] in
-    rightly c.append_counted.result (orders c.append_counted.new.actions.items) _ _
-    (ap (λ l. l ++ last) c.in_ok-there.ensures.actions ∙ append_assoc old xs last)
-    c.append_counted.ensures.actions
+    rightly c.append.result (orders c.append.new.actions.items) _ _
+    (ap (λ l. l ++ last) c.in_ok-append_value.ensures ∙ append_assoc old xs last)
+    c.append.ensures
 
-pub append_reference_then-returns-clause-actions : goal.append_reference_then-returns-clause-actions
-append_reference_then-returns-clause-actions t c =
+pub append_reference_then-returns : goal.append_reference_then-returns
+append_reference_then-returns t c =
     let P = program_of c.args.program.now in
     let f = c.args.frame in
     let old = orders c.args.actions.now.items in
-    let xs = reference_orders P f.slots f.names f.operands f.temporaries (reference c.args.object.now) in
+    let xs = reference_orders P f.slots f.names f.operands (reference c.args.object.now) in
     let last = order c.args.action ∷ [] in
-    rightly c.append_counted.result (orders c.append_counted.new.actions.items) _ _
-    (ap (λ l. l ++ last) c.in_ok-there.ensures.actions ∙ append_assoc old xs last)
-    c.append_counted.ensures.actions
+    rightly c.append.result (orders c.append.new.actions.items) _ _
+    (ap (λ l. l ++ last) c.in_ok-append_reference.ensures ∙ append_assoc old xs last)
+    c.append.ensures
 
-pub append_both-returns-clause-actions : goal.append_both-returns-clause-actions
-append_both-returns-clause-actions t c =
+pub append_both-returns : goal.append_both-returns
+append_both-returns t c =
     let P = program_of c.args.program.now in
     let f = c.args.frame in
     let old = orders c.args.actions.now.items in
     let o1 = orders c.append_value.new.actions.items in
     let o2 = orders c.append_value-2.new.actions.items in
-    let a = value c.args.left.now in
     let b = value c.args.right.now in
-    let ys = value_orders P f.slots f.names (suc f.operands) (f.temporaries + value_takes a) b in
-    let next : o2 ≡ o1 ++ ys =
-    c.in_ok-there.ensures.actions
-    ∙ ap (λ n. o1 ++ value_orders P f.slots f.names n c.in_ok-temporaries.temporaries b) c.in_ok-operands.ensures
-    ∙ ap (λ n. o1 ++ value_orders P f.slots f.names (suc f.operands) n b) c.in_ok-temporaries.ensures.temporaries
-    in
-    rightly c.append_counted.result (orders c.append_counted.new.actions.items) _ _
-    (behind_two old o1 o2 (value_orders P f.slots f.names f.operands f.temporaries a) ys (order c.args.action ∷ []) c.in_ok-temporaries.ensures.actions next)
-    c.append_counted.ensures.actions
+    let next = c.in_ok-append_value-2.ensures ∙ ap (λ n. o1 ++ value_orders P f.slots f.names n b) c.in_ok-operands.ensures in
+    rightly c.append.result (orders c.append.new.actions.items) _ _
+    (behind_two old o1 o2 (value_orders P f.slots f.names f.operands (value c.args.left.now)) (value_orders P f.slots f.names (suc f.operands) b) (order c.args.action ∷ []) c.in_ok-append_value.ensures next)
+    c.append.ensures
 
-pub append_both-returns-clause-temporaries : goal.append_both-returns-clause-temporaries
-append_both-returns-clause-temporaries t c =
-    counted c.append_counted.result _ _ (omega (arith, c.in_ok-temporaries.ensures.temporaries, c.in_ok-there.ensures.temporaries)) c.append_counted.ensures.temporaries
-
-pub append_sent-returns-clause-actions : goal.append_sent-returns-clause-actions
-append_sent-returns-clause-actions t c =
+pub append_sent-returns : goal.append_sent-returns
+append_sent-returns t c =
     let P = program_of c.args.program.now in
     let f = c.args.frame in
     let old = orders c.args.actions.now.items in
@@ -407,24 +328,14 @@ append_sent-returns-clause-actions t c =
     let these = c.args.arguments.now in
     let o1 = orders c.append_value.new.actions.items in
     let o2 = orders c.append_values.new.actions.items in
-    let a = value c.args.receiver.now in
-    let ys = all_value_orders P f.slots f.names (suc f.operands) (f.temporaries + value_takes a) (values these) in
-    let next : o2 ≡ o1 ++ ys =
-    c.in_ok-there.ensures.actions
-    ∙ ap (λ n. o1 ++ all_value_orders P f.slots f.names n c.in_ok-temporaries.temporaries (values these)) c.in_ok-operands.ensures
-    ∙ ap (λ n. o1 ++ all_value_orders P f.slots f.names (suc f.operands) n (values these)) c.in_ok-temporaries.ensures.temporaries
-    in
-    rightly c.append_counted.result (orders c.append_counted.new.actions.items) _ _
+    let next = c.in_ok-append_values.ensures ∙ ap (λ n. o1 ++ all_value_orders P f.slots f.names n (values these)) c.in_ok-operands.ensures in
+    rightly c.append.result (orders c.append.new.actions.items) _ _
     (ap (λ n. o2 ++ Send selector n ∷ []) (sym (values_counted these))
-    ∙ behind_two old o1 o2 (value_orders P f.slots f.names f.operands f.temporaries a) ys (Send selector (value_count (values these)) ∷ []) c.in_ok-temporaries.ensures.actions next)
-    c.append_counted.ensures.actions
+    ∙ behind_two old o1 o2 (value_orders P f.slots f.names f.operands (value c.args.receiver.now)) (all_value_orders P f.slots f.names (suc f.operands) (values these)) (Send selector (value_count (values these)) ∷ []) c.in_ok-append_value.ensures next)
+    c.append.ensures
 
-pub append_sent-returns-clause-temporaries : goal.append_sent-returns-clause-temporaries
-append_sent-returns-clause-temporaries t c =
-    counted c.append_counted.result _ _ (omega (arith, c.in_ok-temporaries.ensures.temporaries, c.in_ok-there.ensures.temporaries)) c.append_counted.ensures.temporaries
-
-pub append_sent_super-returns-clause-actions : goal.append_sent_super-returns-clause-actions
-append_sent_super-returns-clause-actions t c =
+pub append_sent_super-returns : goal.append_sent_super-returns
+append_sent_super-returns t c =
     let P = program_of c.args.program.now in
     let f = c.args.frame in
     let old = orders c.args.actions.now.items in
@@ -433,18 +344,14 @@ append_sent_super-returns-clause-actions t c =
     let these = c.args.arguments.now in
     let o1 = orders c.append_get.new.actions.items in
     let o2 = orders c.append_values.new.actions.items in
-    let ys = all_value_orders P f.slots f.names (suc f.operands) f.temporaries (values these) in
-    let next : o2 ≡ o1 ++ ys =
-    c.in_ok-there.ensures.actions
-    ∙ ap (λ n. o1 ++ all_value_orders P f.slots f.names n f.temporaries (values these)) c.in_ok-operands.ensures
-    in
-    rightly c.append_counted.result (orders c.append_counted.new.actions.items) _ _
+    let next = c.in_ok-append_values.ensures ∙ ap (λ n. o1 ++ all_value_orders P f.slots f.names n (values these)) c.in_ok-operands.ensures in
+    rightly c.append.result (orders c.append.new.actions.items) _ _
     (ap (λ n. o2 ++ SendSuper from selector n ∷ []) (sym (values_counted these))
-    ∙ behind_two old o1 o2 (get_orders f.slots f.operands 0) ys (SendSuper from selector (value_count (values these)) ∷ []) c.in_ok-append_get.ensures next)
-    c.append_counted.ensures.actions
+    ∙ behind_two old o1 o2 (get_orders f.slots f.operands 0) (all_value_orders P f.slots f.names (suc f.operands) (values these)) (SendSuper from selector (value_count (values these)) ∷ []) c.in_ok-append_get.ensures next)
+    c.append.ensures
 
-pub append_sent_to-returns-clause-actions : goal.append_sent_to-returns-clause-actions
-append_sent_to-returns-clause-actions t c =
+pub append_sent_to-returns : goal.append_sent_to-returns
+append_sent_to-returns t c =
     let P = program_of c.args.program.now in
     let f = c.args.frame in
     let old = orders c.args.actions.now.items in
@@ -452,25 +359,13 @@ append_sent_to-returns-clause-actions t c =
     let these = c.args.arguments.now in
     let o1 = orders c.append_reference.new.actions.items in
     let o2 = orders c.append_values.new.actions.items in
-    let a = reference c.args.receiver.now in
-    let ys = all_value_orders P f.slots f.names f.operands (f.temporaries + reference_takes a) (values these) in
-    let next : o2 ≡ o1 ++ ys =
-    c.in_ok-there.ensures.actions
-    ∙ ap (λ n. o1 ++ all_value_orders P f.slots f.names f.operands n (values these)) c.in_ok-temporaries.ensures.temporaries
-    in
-    let depth : c.saturating_sub-depth.result ≡ values_take (values these) = omega (arith, c.saturating_sub-depth.ensures, c.in_ok-there.ensures.temporaries) in
-    rightly c.append_counted.result (orders c.append_counted.new.actions.items) _ _
-    (ap (λ n. o2 ++ SendTo c.saturating_sub-depth.result selector n ∷ []) (sym (values_counted these))
-    ∙ ap (λ n. o2 ++ SendTo n selector (value_count (values these)) ∷ []) depth
-    ∙ behind_two old o1 o2 (reference_orders P f.slots f.names f.operands f.temporaries a) ys (SendTo (values_take (values these)) selector (value_count (values these)) ∷ []) c.in_ok-temporaries.ensures.actions next)
-    c.append_counted.ensures.actions
+    rightly c.append.result (orders c.append.new.actions.items) _ _
+    (ap (λ n. o2 ++ SendTo selector n ∷ []) (sym (values_counted these))
+    ∙ behind_two old o1 o2 (reference_orders P f.slots f.names f.operands (reference c.args.receiver.now)) (all_value_orders P f.slots f.names f.operands (values these)) (SendTo selector (value_count (values these)) ∷ []) c.in_ok-append_reference.ensures c.in_ok-append_values.ensures)
+    c.append.ensures
 
-pub append_sent_to-returns-clause-temporaries : goal.append_sent_to-returns-clause-temporaries
-append_sent_to-returns-clause-temporaries t c =
-    counted c.append_counted.result _ _ (omega (arith, c.in_ok-temporaries.ensures.temporaries, c.in_ok-there.ensures.temporaries)) c.append_counted.ensures.temporaries
-
-pub append_sent_to_super-returns-clause-actions : goal.append_sent_to_super-returns-clause-actions
-append_sent_to_super-returns-clause-actions t c =
+pub append_sent_to_super-returns : goal.append_sent_to_super-returns
+append_sent_to_super-returns t c =
     let P = program_of c.args.program.now in
     let f = c.args.frame in
     let old = orders c.args.actions.now.items in
@@ -479,79 +374,32 @@ append_sent_to_super-returns-clause-actions t c =
     let these = c.args.arguments.now in
     let o1 = orders c.append.new.actions.items in
     let o2 = orders c.append_values.new.actions.items in
-    let ys = all_value_orders P f.slots f.names f.operands (suc f.temporaries) (values these) in
-    let next : o2 ≡ o1 ++ ys =
-    c.in_ok-there.ensures.actions
-    ∙ ap (λ n. o1 ++ all_value_orders P f.slots f.names f.operands n (values these)) c.in_ok-temporaries.ensures
-    in
-    rightly c.append_counted.result (orders c.append_counted.new.actions.items) _ _
+    rightly c.append-2.result (orders c.append-2.new.actions.items) _ _
     (ap (λ n. o2 ++ SendToSuper from selector n ∷ []) (sym (values_counted these))
-    ∙ behind_two old o1 o2 (Plain HoldSelf ∷ []) ys (SendToSuper from selector (value_count (values these)) ∷ []) c.in_ok-append.ensures next)
-    c.append_counted.ensures.actions
+    ∙ behind_two old o1 o2 (Plain ReadSelf ∷ []) (all_value_orders P f.slots f.names f.operands (values these)) (SendToSuper from selector (value_count (values these)) ∷ []) c.in_ok-append.ensures c.in_ok-append_values.ensures)
+    c.append-2.ensures
 
-pub append_sent_to_super-returns-clause-temporaries : goal.append_sent_to_super-returns-clause-temporaries
-append_sent_to_super-returns-clause-temporaries t c =
-    counted c.append_counted.result _ _ (omega (arith, c.in_ok-temporaries.ensures, c.in_ok-there.ensures.temporaries)) c.append_counted.ensures.temporaries
-
-pub append_field_assigned-returns-clause-actions : goal.append_field_assigned-returns-clause-actions
-append_field_assigned-returns-clause-actions t c =
+pub append_field_assigned-returns : goal.append_field_assigned-returns
+append_field_assigned-returns t c =
     let P = program_of c.args.program.now in
     let f = c.args.frame in
     let old = orders c.args.actions.now.items in
     let o1 = orders c.append_reference.new.actions.items in
     let o2 = orders c.append_value.new.actions.items in
-    let a = reference c.args.object.now in
-    let b = value c.args.operand.now in
-    let ys = value_orders P f.slots f.names f.operands (f.temporaries + reference_takes a) b in
-    let next : o2 ≡ o1 ++ ys =
-    c.in_ok-there.ensures.actions
-    ∙ ap (λ n. o1 ++ value_orders P f.slots f.names f.operands n b) c.in_ok-temporaries.ensures.temporaries
-    in
-    let depth : c.saturating_sub-depth.result ≡ value_takes b = omega (arith, c.saturating_sub-depth.ensures, c.in_ok-there.ensures.temporaries) in
-    rightly c.append_counted.result (orders c.append_counted.new.actions.items) _ _
-    (ap (λ n. o2 ++ Plain (SetField n c.args.class c.args.index) ∷ []) depth
-    ∙ behind_two old o1 o2 (reference_orders P f.slots f.names f.operands f.temporaries a) ys (Plain (SetField (value_takes b) c.args.class c.args.index) ∷ []) c.in_ok-temporaries.ensures.actions next)
-    c.append_counted.ensures.actions
+    rightly c.append.result (orders c.append.new.actions.items) _ _
+    (behind_two old o1 o2 (reference_orders P f.slots f.names f.operands (reference c.args.object.now)) (value_orders P f.slots f.names f.operands (value c.args.operand.now)) (Plain (SetField c.args.class c.args.index) ∷ []) c.in_ok-append_reference.ensures c.in_ok-append_value.ensures)
+    c.append.ensures
 
-pub append_field_assigned-returns-clause-temporaries : goal.append_field_assigned-returns-clause-temporaries
-append_field_assigned-returns-clause-temporaries t c =
-    counted c.append_counted.result _ _ (omega (arith, c.in_ok-temporaries.ensures.temporaries, c.in_ok-there.ensures.temporaries)) c.append_counted.ensures.temporaries
-
-pub append_differ-returns-clause-temporaries : goal.append_differ-returns-clause-temporaries
-append_differ-returns-clause-temporaries t c =
-    counted c.append_counted.result _ _ (omega (arith, c.in_ok-temporaries.ensures.temporaries, c.in_ok-there.ensures.temporaries)) c.append_counted.ensures.temporaries
-
-pub append_value_then-returns-clause-temporaries : goal.append_value_then-returns-clause-temporaries
-append_value_then-returns-clause-temporaries t c =
-    counted c.append_counted.result _ _ c.in_ok-there.ensures.temporaries c.append_counted.ensures.temporaries
-
-pub append_reference_then-returns-clause-temporaries : goal.append_reference_then-returns-clause-temporaries
-append_reference_then-returns-clause-temporaries t c =
-    counted c.append_counted.result _ _ c.in_ok-there.ensures.temporaries c.append_counted.ensures.temporaries
-
-pub append_sent_super-returns-clause-temporaries : goal.append_sent_super-returns-clause-temporaries
-append_sent_super-returns-clause-temporaries t c =
-    counted c.append_counted.result _ _ c.in_ok-there.ensures.temporaries c.append_counted.ensures.temporaries
-
-pub append_differ-returns-clause-actions : goal.append_differ-returns-clause-actions
-append_differ-returns-clause-actions t c =
+pub append_differ-returns : goal.append_differ-returns
+append_differ-returns t c =
     let P = program_of c.args.program.now in
     let f = c.args.frame in
     let old = orders c.args.actions.now.items in
     let o1 = orders c.append_reference.new.actions.items in
     let o2 = orders c.append_reference-2.new.actions.items in
-    let a = reference c.args.left.now in
-    let b = reference c.args.right.now in
-    let ys = reference_orders P f.slots f.names f.operands (f.temporaries + reference_takes a) b in
-    let next : o2 ≡ o1 ++ ys =
-    c.in_ok-there.ensures.actions
-    ∙ ap (λ n. o1 ++ reference_orders P f.slots f.names f.operands n b) c.in_ok-temporaries.ensures.temporaries
-    in
-    let depth : c.saturating_sub.result ≡ reference_takes b - 1 = omega (arith, c.saturating_sub.ensures, c.saturating_sub-taken.ensures, c.in_ok-there.ensures.temporaries) in
-    rightly c.append_counted.result (orders c.append_counted.new.actions.items) _ _
-    (ap (λ n. o2 ++ Plain (Differ n) ∷ []) depth
-    ∙ behind_two old o1 o2 (reference_orders P f.slots f.names f.operands f.temporaries a) ys (Plain (Differ (reference_takes b - 1)) ∷ []) c.in_ok-temporaries.ensures.actions next)
-    c.append_counted.ensures.actions
+    rightly c.append.result (orders c.append.new.actions.items) _ _
+    (behind_two old o1 o2 (reference_orders P f.slots f.names f.operands (reference c.args.left.now)) (reference_orders P f.slots f.names f.operands (reference c.args.right.now)) (Plain Differ ∷ []) c.in_ok-append_reference.ensures c.in_ok-append_reference-2.ensures)
+    c.append.ensures
 
 pub append_values-loop-expression-preserved : goal.append_values-loop-expression-preserved
 append_values-loop-expression-preserved t c =
@@ -563,17 +411,10 @@ append_values-loop-expression-preserved t c =
     let rest = values (drop (i + 1) all) in
     let old = orders c.loop-expression.actions.items in
     let n = c.loop-expression.operands in
-    let k = c.loop-expression.there in
-    let xs = value_orders P f.slots f.names n k (value a) in
+    let xs = value_orders P f.slots f.names n (value a) in
     let split : values (drop i all) ≡ and_value (value a) rest = ap values (drop_more all i a c.loop-expression-test.true ∙ ap (λ x. x ∷ drop (i + 1) all) (sym c.expression-item.is)) in
-    let taken = c.in_ok-there.ensures.temporaries in
-    record {
-      actions =
-          ap (λ l. l ++ all_value_orders P f.slots f.names c.in_ok-operands.operands c.in_ok-there.there rest) c.in_ok-there.ensures.actions
-          ∙ ap (λ m. (old ++ xs) ++ all_value_orders P f.slots f.names m c.in_ok-there.there rest) c.in_ok-operands.ensures
-          ∙ ap (λ m. (old ++ xs) ++ all_value_orders P f.slots f.names (suc n) m rest) taken
-          ∙ append_assoc old xs (all_value_orders P f.slots f.names (suc n) (k + value_takes (value a)) rest)
-          ∙ ap (λ l. old ++ all_value_orders P f.slots f.names n k l) (sym split)
-          ∙ c.loop-expression.invariant.actions;
-      taken = omega (arith, taken, ap values_take split, c.loop-expression.invariant.taken);
-    }
+    ap (λ l. l ++ all_value_orders P f.slots f.names c.in_ok-operands.operands rest) c.in_ok-append_value.ensures
+    ∙ ap (λ m. (old ++ xs) ++ all_value_orders P f.slots f.names m rest) c.in_ok-operands.ensures
+    ∙ append_assoc old xs (all_value_orders P f.slots f.names (suc n) rest)
+    ∙ ap (λ l. old ++ all_value_orders P f.slots f.names n l) (sym split)
+    ∙ c.loop-expression.invariant

@@ -9,4 +9,4 @@ pub returns-clause-bounded : goal.returns-clause-bounded
 returns-clause-bounded c = λ p P is entries classes. lowered_bounded p P is entries classes
 
 pub returns-clause-sound : goal.returns-clause-sound
-returns-clause-sound c = λ p P is entries classes end numbers places. room_suffices p P is entries classes end numbers places
+returns-clause-sound c = λ p P is entries classes end numbers names places. room_suffices p P is entries classes end numbers names places

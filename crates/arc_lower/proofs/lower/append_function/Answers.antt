@@ -3,7 +3,7 @@ use Rattle.arc_spec.specs.Resolved.{Function}
 use Rattle.arc_check.specs.Checked.{commands, program_of}
 use Rattle.arc_lower.specs.Order.{orders}
 use Rattle.arc_lower.specs.Lowered.{function_orders}
-use Rattle.arc_lower.specs.Heights.{height, heights, greatest}
+use Rattle.arc_lower.specs.Heights.{between, heights, greatest}
 use Rattle.arc_lower.proofs.Appended.{slice_behind}
 use Rattle.arc_lower.proofs.lower.append_function.Goals as goal
 
@@ -13,9 +13,10 @@ returns-clause-most c =
     let old = c.args.actions.now in
     let f : Function = record { slots = c.args.function.slots; names = c.args.function.names; body = commands c.args.function.body.now } in
     let xs = function_orders P (length (orders old.items)) f in
-    let base = height c.args.function.slots c.args.function.names in
-    let to = c.in_ok-one_more.field-0 in
+    let names = c.args.function.names in
+    let most = c.args.most.now in
     c.in_ok-most.ensures
-    ∙ ap (λ l. greatest (heights P base (height to c.args.function.names) l) c.args.most.now)
+    ∙ ap (λ l. greatest (heights P c.between-base.result c.between-left.result l) most)
     (slice_behind old.items c.append_exit_and_body.new.actions.items c.deref.result.now c.len-begin.result xs (c.len-begin.ensures ∙ old.ok.0) c.deref.ensures.value c.in_ok-append_exit_and_body.ensures.actions)
-    ∙ ap (λ n. greatest (heights P base (height n c.args.function.names) xs) c.args.most.now) c.in_ok-one_more.ensures
+    ∙ ap (λ b. greatest (heights P b c.between-left.result xs) most) c.between-base.ensures
+    ∙ ap (λ h. greatest (heights P (between f.slots names) h xs) most) (c.between-left.ensures ∙ ap (λ n. between n names) c.in_ok-one_more.ensures)

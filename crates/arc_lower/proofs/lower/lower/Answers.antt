@@ -4,9 +4,9 @@ use Rattle.arc_check.specs.Checked.{program_of}
 use Rattle.arc_ir.specs.Acting.{Program}
 use Rattle.arc_lower.specs.Order.{orders}
 use Rattle.arc_lower.specs.Lowered.{all_functions, functions_orders, entries_from, start_orders, end_step_of, running_orders, entries_of, classes_orders, linked_classes}
-use Rattle.arc_code.specs.Effects.{room_for}
-use Rattle.arc_lower.specs.declared.height.Height.{Height}
-use Rattle.arc_lower.specs.Heights.{height, greatest, start_heights, functions_heights, classes_heights, greatest_height}
+use Rattle.arc_code.specs.declared.effect.Height.{Height}
+use Rattle.arc_code.specs.Effects.{no_height, room_for}
+use Rattle.arc_lower.specs.Heights.{greatest, start_heights, functions_heights, classes_heights, greatest_height, places_in}
 use Rattle.arc_lower.specs.Promise.{IsLowered}
 use Rattle.arc_lower.proofs.Laying.{greatest_append}
 use Rattle.arc_lower.proofs.Whole.{performs}
@@ -27,20 +27,21 @@ returns c =
     let first_heights = start_heights R in
     let function_heights = functions_heights R (length (start_orders R)) all in
     let stub_heights = classes_heights R (entries_of R) R.classes in
-    let none : Height = height 0 0 in
     let most : c.append_classes.new.most ≡ greatest_height R =
     c.in_ok-classes.ensures.most
     ∙ ap (λ e. greatest (classes_heights R e R.classes) c.append_functions.new.most) given
-    ∙ ap (greatest stub_heights) (c.in_ok-append_functions.ensures.most ∙ ap (λ s. greatest (functions_heights R (length s) all) c.append_start.new.most) start ∙ ap (greatest function_heights) c.in_ok-end_step.ensures.most)
-    ∙ sym (greatest_append (first_heights ++ function_heights) stub_heights none ∙ ap (greatest stub_heights) (greatest_append first_heights function_heights none)) in
+    ∙ ap (greatest stub_heights) (c.in_ok-append_functions.ensures.most ∙ ap (λ s. greatest (functions_heights R (length s) all) c.append_start.new.most) start ∙ ap (greatest function_heights) (c.in_ok-end_step.ensures.most ∙ ap (greatest first_heights) c.no_height-most.ensures))
+    ∙ sym (greatest_append (first_heights ++ function_heights) stub_heights no_height ∙ ap (greatest stub_heights) (greatest_append first_heights function_heights no_height)) in
     let room = c.in_ok-room.ensures ∙ ap (λ (h : Height). room_for h.numbers) most in
-    let places = c.in_ok-places.ensures ∙ ap (λ (h : Height). room_for h.places) most in
-    let made : Program = record { actions = c.append_classes.new.actions.items; entries = found; end_step = c.in_ok-end_step.end_step; room = c.in_ok-room.room; places = c.in_ok-places.places; classes = classes_of c.in_ok-classes.classes.items } in
+    let names = c.in_ok-names.ensures ∙ ap (λ (h : Height). room_for h.names) most in
+    let places = c.in_ok-places.ensures ∙ ap room_for c.in_ok-add_operands.ensures ∙ ap (λ (h : Height). room_for (places_in h)) most in
+    let made : Program = record { actions = c.append_classes.new.actions.items; entries = found; end_step = c.in_ok-end_step.end_step; room = c.in_ok-room.room; names = c.in_ok-names.names; places = c.in_ok-places.places; classes = classes_of c.in_ok-classes.classes.items } in
     let exact : IsLowered R made = record {
       actions = c.in_ok-classes.ensures.actions ∙ ap (λ s. s ++ classes_orders R c.deref.result.now R.classes) running ∙ ap (λ e. running_orders R ++ classes_orders R e R.classes) given;
       entries = entries;
       end_step = c.in_ok-end_step.ensures.end_step ∙ ap (λ l. length (orders l) + end_step_of R) c.new-actions.ensures.items ∙ zero_is;
       room = room;
+      names = names;
       places = places;
       classes = c.in_ok-classes.ensures.linked ∙ ap (λ s. linked_classes R c.deref.result.now (length s) R.classes) running ∙ ap (λ e. linked_classes R e (length (running_orders R)) R.classes) given;
     } in

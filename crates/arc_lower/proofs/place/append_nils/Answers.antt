@@ -1,7 +1,0 @@
-use Rattle.std.proofs.Common.{arith}
-use Rattle.std.proofs.lemmas.Grind.{common_steps}
-use Rattle.arc_lower.proofs.Rows.{nils_more}
-use Rattle.arc_lower.proofs.place.append_nils.Goals as goal
-
-pub loop-place-preserved : goal.loop-place-preserved
-loop-place-preserved c = let e = nils_more c.loop-place._place in grind (arith, common_steps)

@@ -1,7 +1,0 @@
-use Rattle.std.proofs.Common.{◌≡◌, ◌++◌}
-use Rattle.arc_lower.specs.Order.{orders}
-use Rattle.arc_lower.specs.Lowered.{nil_orders}
-use Rattle.arc_lower.proofs.place.append_nils.Given as goal
-
-abbrev pub invariant-loop-place : goal.invariant-loop-place
-invariant-loop-place l = orders l.actions.items ≡ orders l.initial.actions.items ++ nil_orders l._place
