@@ -9,13 +9,13 @@ pub mod Endings
 pub mod Entered
 pub mod Farther
 pub mod Fielded
+pub mod Framed
 pub mod Fields
 pub mod Holdings
 pub mod Letting
 pub mod Lifting
 pub mod Making
 pub mod Named
-pub mod Naming
 pub mod Needs
 pub mod Newest
 pub mod Patterning
