@@ -1,6 +1,7 @@
 pub mod Advancing
 pub mod Allocated
 pub mod Alterations
+pub mod Begun
 pub mod Blocking
 pub mod Chained
 pub mod Differing
@@ -9,10 +10,10 @@ pub mod Endings
 pub mod Entered
 pub mod Farther
 pub mod Fielded
+pub mod Finishing
 pub mod Framed
 pub mod Fields
 pub mod Holdings
-pub mod Letting
 pub mod Lifting
 pub mod Making
 pub mod Named
@@ -20,7 +21,7 @@ pub mod Needs
 pub mod Newest
 pub mod Patterning
 pub mod Piles
-pub mod Released
+pub mod Putting
 pub mod Sliding
 pub mod Standings
 pub mod Starting

@@ -1,4 +1,4 @@
-use Rattle.std.proofs.Common.{◌≡◌, ◌<◌, ◌⊎◌, inl, inr, ℤ, true, false, nat_lt, Some, subst, sym, refl, rules, arith, to_z, of_z, w64}
+use Rattle.std.proofs.Common.{◌≡◌, ◌∙◌, ap, ◌<◌, ◌⊎◌, inl, inr, ℤ, true, false, nat_lt, Some, subst, sym, refl, rules, arith, to_z, of_z, w64}
 use Rattle.std.specs.Prelude.{slice_get}
 use Rattle.arc_spec.specs.Classes.{classes_of, descends}
 use Rattle.arc_spec.specs.Holding.{count_of}
@@ -42,4 +42,4 @@ returns-clause-went g c =
       | then-has_field w ↦ inl (cc, omega arith, subst (λ (v : ℤ). Alters (memory_of g.S.Store.out c.args.objects.now) (memory_of g.S.Store.out c.if-has_field.objects) c.reference-object.result (λ x. with_value x c.args.index v)) (sym same) (rw w.objects-is w.write_field.ensures))
       | else-has_field w ↦ inr (cc, w.objects-is)
     ] in
-    set_field_went g.S.Store.out (program_of c.args.code.now) (spot c.args.self.now c.args.objects.now) c.args.class c.args.index _ c.reference-object.ensures (omega arith) c.class-own.result c.class-own.ensures c.top-value.result c.top-value.ensures.0 c.take.new.self.names c.if-has_field.objects _ top right c.top-value.ensures.1 (sym same) has refl refl c.take.ensures.others
+    set_field_went g.S.Store.out (program_of c.args.code.now) (spot c.args.self.now c.args.objects.now) c.args.class c.args.index _ c.reference-object.ensures (omega arith) c.class-own.result c.class-own.ensures c.top-value.result c.top-value.ensures.0 c.take.new.self.names c.if-has_field.objects _ _ c.take.ensures.named right c.top-value.ensures.1 (sym same) has refl refl c.take.ensures.others
