@@ -5,6 +5,8 @@ pub mod Begun
 pub mod Blocking
 pub mod Chained
 pub mod Differing
+pub mod Dropped
+pub mod Dropping
 pub mod Ending
 pub mod Endings
 pub mod Entered

@@ -1,14 +1,12 @@
 //! The objects of a running program, the places that name them, and what waits.
-ghost use Rattle.std.specs.Prelude.{◌≡◌, ◌≢◌, ◌+◌, ◌-◌, ◌^◌, ◌<◌, ◌≤◌, ℕ, List, ◌∷◌, Option, Some, IsNone, IsTrue, ◌↔◌, length, take, drop, nat_lt, slice_get, slice_set, get_or, IfOk};
+ghost use Rattle.std.specs.Prelude.{◌≡◌, ◌≢◌, ◌+◌, ◌-◌, ◌^◌, ◌<◌, ◌≤◌, ℕ, List, ◌∷◌, Option, Some, IsNone, IsTrue, ◌↔◌, length, nat_lt, slice_get, slice_set, get_or, IfOk};
 ghost use Rattle.std.specs.Int.{w64, cast_signed};
-ghost use Rattle.arc_spec.specs.Holding.{holders};
 ghost use Rattle.arc_spec.specs.Meaning.{most_levels};
 ghost use Rattle.arc_machine.specs.declared.waiting.Waiting.{Waiting};
 ghost use Rattle.arc_machine.specs.declared.waiting.Waiting.TheVariants as waits;
 ghost use Rattle.arc_machine.specs.Cells.{Cell, IsCell, HasField, with_count, with_phase, with_value};
 ghost use Rattle.arc_machine.specs.Refusals.{Refuses};
 ghost use Rattle.arc_machine.specs.Standing.{NamesBlock, Alters, IsLast, NewIn, Turns, no_objects, memory_of, with_places, with_names, with_frames, taking, dropping, declaring, undeclaring, words_of, entering, resuming};
-ghost use Rattle.arc_machine.specs.Releases.{CanDrop, EndsSome, IsAlone, Drops};
 ghost use Rattle.arc_machine.specs.Words.{Took};
 
 use crate::cell;
@@ -344,68 +342,14 @@ impl<S: Store + Drop> Objects<S> {
         cell::count_in(&self.store, block) == 1 && !cell::is_dying(&self.store, block)
     }
 
-    /// Whether a temporary names an object whose dealloc hasn't begun and which only temporaries name.
-    /// Then the end of one begins where they are dropped.
+    /// Whether the dealloc of an object has begun.
     #[inline(always)]
-    pub fn end_some(&self) -> bool
-        requires places { self.now.temporaries ≤ length self.now.places }
-        requires objects { CanDrop (S.out self.now.store) (take self.now.temporaries self.now.places) }
-        ensures { IsTrue result ↔ EndsSome S.out self.now }
+    pub fn is_dying(&self, object: u64) -> bool
+        requires some { 0 < object }
+        requires object { (c : Cell) × IsCell (S.out self.now.store) object c }
+        ensures { (c : Cell) → IsCell (S.out self.now.store) object c → IsTrue result ↔ (c.phase ≡ 1) }
     {
-        for depth in 0..self.temporaries {
-            if self.is_alone(self.temporary(depth)) {
-                return true;
-            }
-        }
-        false
-    }
-
-    /// Whether the dealloc of an object hasn't begun and only temporaries name it.
-    #[inline(always)]
-    fn is_alone(&self, object: u64) -> bool
-        requires places { self.now.temporaries ≤ length self.now.places }
-        requires object { NamesBlock (S.out self.now.store) object }
-        ensures { IsTrue result ↔ IsAlone S.out self.now object }
-    {
-        if object == 0 {
-            return false;
-        }
-        let block = Ref { at: object };
-        cell::count_in(&self.store, block) == self.occurrences(object)
-            && !cell::is_dying(&self.store, block)
-    }
-
-    /// How many temporaries name this.
-    #[inline(always)]
-    fn occurrences(&self, object: u64) -> u64
-        requires { self.now.temporaries ≤ length self.now.places }
-        ensures { result ≡ holders object (take self.now.temporaries self.now.places) }
-    {
-        let mut count = 0;
-        for depth in 0..self.temporaries {
-            if self.temporary(depth) == object {
-                count += 1;
-            }
-        }
-        count
-    }
-
-    /// Drops the temporaries, the last one first, up to one that is the last holder of an object: this
-    /// object, whose end begins. None says that all were dropped.
-    #[inline(always)]
-    pub fn drop_temporaries(&mut self) -> Option<u64>
-        requires places { self.old.temporaries ≤ length self.old.places }
-        requires objects { CanDrop (S.out self.old.store) (take self.old.temporaries self.old.places) }
-        ensures { Drops S.out (take self.old.temporaries self.old.places) self.old self.new result }
-    {
-        while self.temporaries > 0 {
-            let object = self.pop();
-            if self.is_last(object) {
-                return Some(object);
-            }
-            self.lower(object);
-        }
-        None
+        cell::is_dying(&self.store, Ref { at: object })
     }
 
     /// The number of an object's class.
