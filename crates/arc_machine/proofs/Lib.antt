@@ -23,6 +23,7 @@ pub mod Needs
 pub mod Newest
 pub mod Patterning
 pub mod Piles
+pub mod Put
 pub mod Putting
 pub mod Sliding
 pub mod Standings
