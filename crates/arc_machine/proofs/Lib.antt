@@ -6,7 +6,6 @@ pub mod Blocking
 pub mod Chained
 pub mod Differing
 pub mod Dropped
-pub mod Dropping
 pub mod Ending
 pub mod Endings
 pub mod Entered
@@ -16,6 +15,7 @@ pub mod Finishing
 pub mod Framed
 pub mod Fields
 pub mod Holdings
+pub mod Letting
 pub mod Lifting
 pub mod Making
 pub mod Named

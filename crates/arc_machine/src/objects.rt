@@ -62,12 +62,7 @@ impl<S: Store + Drop> Model for Objects<S> {
 impl<S: Store + Drop> Objects<S> {
     /// No objects, with room for so many strong places and references. The error is a refusal of the
     /// memory for these and for 2,000 calls.
-    pub fn new(
-        alloc: Global,
-        store: S,
-        places: usize,
-        names: usize,
-    ) -> Result<Objects<S>, NoMemory>
+    pub fn new(alloc: Global, store: S, places: usize, names: usize) -> Result<Objects<S>, NoMemory>
         ensures { IfOk result (λ m. m ≡ no_objects store places names) }
     {
         Ok(Objects {

@@ -13,7 +13,10 @@ pub struct Waiter {
 /// `back`.
 #[derive(Clone, Copy)]
 pub enum Waiting {
-    Call { back: usize, waiter: Waiter },
+    Call {
+        back: usize,
+        waiter: Waiter,
+    },
     /// The end of the object of a block. It goes on with the dealloc of the next class, of so many
     /// that are left.
     End {

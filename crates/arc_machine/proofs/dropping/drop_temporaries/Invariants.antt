@@ -7,7 +7,7 @@ abbrev pub invariant-loop-objects : goal.invariant-loop-objects
 invariant-loop-objects g l = record {
   places : l.objects.temporaries ≤ length l.objects.places;
   can : CanDrop (g.S.Store.out l.objects.store) (take l.objects.temporaries l.objects.places);
-  rest : (new : Parts g.S.Denot) (last : Option ℕ) → Drops g.S.Store.out (take l.objects.temporaries l.objects.places) l.objects new last
+  rest : (new : Parts g.row.S.Denot) (last : Option ℕ) → Drops g.S.Store.out (take l.objects.temporaries l.objects.places) l.objects new last
       → Drops g.S.Store.out (take l.fn.objects.temporaries l.fn.objects.places) l.fn.objects new last;
 }
 
