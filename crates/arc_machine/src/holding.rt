@@ -1,7 +1,7 @@
-//! The instructions that keep strong places.
+//! The instructions that give and take references, and those that keep strong places.
 ghost use Rattle.std.specs.Prelude.{◌≡◌, ◌+◌, ◌-◌, ◌^◌, ◌<◌, ◌≤◌, []};
 ghost use Rattle.arc_code.specs.Running.{program_of};
-ghost use Rattle.arc_machine.specs.Places.{Ready, Executes, spot};
+ghost use Rattle.arc_machine.specs.Places.{Ready, Executes, HasPlaces, spot};
 
 use crate::objects::Objects;
 use crate::place::Place;
@@ -11,30 +11,48 @@ use arc_code::instr::{Instr, Op};
 use arc_heap::store::Store;
 
 impl Place {
-    /// A further place, which is nil.
+    /// A further variable, which is nil.
+    #[inline(always)]
+    pub fn declare<S: Store + Drop>(&mut self, code: &Code, objects: &mut Objects<S>) -> Answer
+        requires ready { Ready S.out (program_of code.now) (Instr.Plain Op.Declare) (spot self.old objects.old) }
+        requires place { self.old.at < 2 ^ 64 - 1 }
+        requires room { code.now.room ≤ self.old.stack.room }
+        requires places { HasPlaces code.now objects.old }
+        ensures went { Executes S.out (program_of code.now) (Instr.Plain Op.Declare) result []
+            (spot self.old objects.old) (spot self.new objects.new) }
+        ensures room { self.new.stack.room ≡ self.old.stack.room }
+    {
+        // There are no more places than the code asks for, whose number fits a word.
+        let _places = code.places;
+        objects.declare();
+        self.at += 1;
+        Answer::Going
+    }
+
+    /// A further reference, which is nil.
     #[inline(always)]
     pub fn nil<S: Store + Drop>(&mut self, _code: &Code, objects: &mut Objects<S>) -> Answer
         requires ready { Ready S.out (program_of _code.now) (Instr.Plain Op.Nil) (spot self.old objects.old) }
         requires place { self.old.at < 2 ^ 64 - 1 }
         requires room { _code.now.room ≤ self.old.stack.room }
-        requires places { _code.now.places ≤ objects.old.room }
+        requires places { HasPlaces _code.now objects.old }
         ensures went { Executes S.out (program_of _code.now) (Instr.Plain Op.Nil) result []
             (spot self.old objects.old) (spot self.new objects.new) }
         ensures room { self.new.stack.room ≡ self.old.stack.room }
     {
-        objects.push(0);
+        objects.name(0);
         self.at += 1;
         Answer::Going
     }
 
-    /// A further place takes `self`.
+    /// A further reference names `self`, which a temporary takes.
     #[inline(always)]
-    pub fn hold_self<S: Store + Drop>(&mut self, code: &Code, objects: &mut Objects<S>) -> Answer
-        requires ready { Ready S.out (program_of code.now) (Instr.Plain Op.HoldSelf) (spot self.old objects.old) }
+    pub fn read_self<S: Store + Drop>(&mut self, code: &Code, objects: &mut Objects<S>) -> Answer
+        requires ready { Ready S.out (program_of code.now) (Instr.Plain Op.ReadSelf) (spot self.old objects.old) }
         requires place { self.old.at < 2 ^ 64 - 1 }
         requires room { code.now.room ≤ self.old.stack.room }
-        requires places { code.now.places ≤ objects.old.room }
-        ensures went { Executes S.out (program_of code.now) (Instr.Plain Op.HoldSelf) result []
+        requires places { HasPlaces code.now objects.old }
+        ensures went { Executes S.out (program_of code.now) (Instr.Plain Op.ReadSelf) result []
             (spot self.old objects.old) (spot self.new objects.new) }
         ensures room { self.new.stack.room ≡ self.old.stack.room }
     {
@@ -43,95 +61,104 @@ impl Place {
         let object = objects.receiver();
         objects.raise(object);
         objects.push(object);
+        objects.name(object);
         self.at += 1;
         Answer::Going
     }
 
-    /// A further place takes what the place at this depth names.
+    /// A further reference names what this variable does, which a temporary takes.
     #[inline(always)]
-    pub fn hold<S: Store + Drop>(
+    pub fn read_variable<S: Store + Drop>(
         &mut self,
-        depth: usize,
+        variable: usize,
         code: &Code,
         objects: &mut Objects<S>,
     ) -> Answer
-        requires ready { Ready S.out (program_of code.now) (Instr.Plain (Op.Hold depth)) (spot self.old objects.old) }
+        requires ready { Ready S.out (program_of code.now) (Instr.Plain (Op.ReadRef variable)) (spot self.old objects.old) }
         requires place { self.old.at < 2 ^ 64 - 1 }
         requires room { code.now.room ≤ self.old.stack.room }
-        requires places { code.now.places ≤ objects.old.room }
-        ensures went { Executes S.out (program_of code.now) (Instr.Plain (Op.Hold depth)) result []
+        requires places { HasPlaces code.now objects.old }
+        ensures went { Executes S.out (program_of code.now) (Instr.Plain (Op.ReadRef variable)) result []
             (spot self.old objects.old) (spot self.new objects.new) }
         ensures room { self.new.stack.room ≡ self.old.stack.room }
     {
         // An object has no more holders than there are places, whose number fits a word.
         let _places = code.places;
-        let object = objects.named(depth);
+        let object = objects.variable(variable);
+        objects.raise(object);
+        objects.push(object);
+        objects.name(object);
+        self.at += 1;
+        Answer::Going
+    }
+
+    /// A temporary takes what the last reference names.
+    #[inline(always)]
+    pub fn hold<S: Store + Drop>(&mut self, code: &Code, objects: &mut Objects<S>) -> Answer
+        requires ready { Ready S.out (program_of code.now) (Instr.Plain Op.Hold) (spot self.old objects.old) }
+        requires place { self.old.at < 2 ^ 64 - 1 }
+        requires room { code.now.room ≤ self.old.stack.room }
+        requires places { HasPlaces code.now objects.old }
+        ensures went { Executes S.out (program_of code.now) (Instr.Plain Op.Hold) result []
+            (spot self.old objects.old) (spot self.new objects.new) }
+        ensures room { self.new.stack.room ≡ self.old.stack.room }
+    {
+        // An object has no more holders than there are places, whose number fits a word.
+        let _places = code.places;
+        let object = objects.reference();
         objects.raise(object);
         objects.push(object);
         self.at += 1;
         Answer::Going
     }
 
-    /// So many last places, which are nil, are gone.
+    /// Takes the last reference.
     #[inline(always)]
-    pub fn forget<S: Store + Drop>(
-        &mut self,
-        count: usize,
-        _code: &Code,
-        objects: &mut Objects<S>,
-    ) -> Answer
-        requires ready { Ready S.out (program_of _code.now) (Instr.Plain (Op.Forget count)) (spot self.old objects.old) }
+    pub fn forget<S: Store + Drop>(&mut self, _code: &Code, objects: &mut Objects<S>) -> Answer
+        requires ready { Ready S.out (program_of _code.now) (Instr.Plain Op.Forget) (spot self.old objects.old) }
         requires place { self.old.at < 2 ^ 64 - 1 }
         requires room { _code.now.room ≤ self.old.stack.room }
-        requires places { _code.now.places ≤ objects.old.room }
-        ensures went { Executes S.out (program_of _code.now) (Instr.Plain (Op.Forget count)) result []
+        requires places { HasPlaces _code.now objects.old }
+        ensures went { Executes S.out (program_of _code.now) (Instr.Plain Op.Forget) result []
             (spot self.old objects.old) (spot self.new objects.new) }
-        ensures going { result ≡ Answer.Going }
-        ensures at { self.new.at ≡ self.old.at + 1 }
         ensures room { self.new.stack.room ≡ self.old.stack.room }
     {
-        objects.forget(count);
+        let _ = objects.take();
         self.at += 1;
         Answer::Going
     }
 
-    /// Puts 1 on the stack where the last place and the one at this depth below it differ, and else 0.
+    /// Takes the last two references, and puts 1 on the stack where they differ, and else 0.
     #[inline(always)]
-    pub fn differ<S: Store + Drop>(
-        &mut self,
-        depth: usize,
-        code: &Code,
-        objects: &mut Objects<S>,
-    ) -> Answer
-        requires ready { Ready S.out (program_of code.now) (Instr.Plain (Op.Differ depth)) (spot self.old objects.old) }
+    pub fn differ<S: Store + Drop>(&mut self, _code: &Code, objects: &mut Objects<S>) -> Answer
+        requires ready { Ready S.out (program_of _code.now) (Instr.Plain Op.Differ) (spot self.old objects.old) }
         requires place { self.old.at < 2 ^ 64 - 1 }
-        requires room { code.now.room ≤ self.old.stack.room }
-        requires places { code.now.places ≤ objects.old.room }
-        ensures went { Executes S.out (program_of code.now) (Instr.Plain (Op.Differ depth)) result []
+        requires room { _code.now.room ≤ self.old.stack.room }
+        requires places { HasPlaces _code.now objects.old }
+        ensures went { Executes S.out (program_of _code.now) (Instr.Plain Op.Differ) result []
             (spot self.old objects.old) (spot self.new objects.new) }
         ensures room { self.new.stack.room ≡ self.old.stack.room }
     {
-        // The depth is below the number of places, which fits a word.
-        let _places = code.places;
-        let differ = objects.named(0) != objects.named(depth + 1);
-        self.stack.push(i64::from(differ));
+        let right = objects.take();
+        let left = objects.take();
+        self.stack.push(i64::from(right != left));
         self.at += 1;
         Answer::Going
     }
 
-    /// Puts 1 on the stack where the last place isn't nil, and else 0.
+    /// Takes the last reference, and puts 1 on the stack where it isn't nil, and else 0.
     #[inline(always)]
     pub fn is_object<S: Store + Drop>(&mut self, _code: &Code, objects: &mut Objects<S>) -> Answer
         requires ready { Ready S.out (program_of _code.now) (Instr.Plain Op.IsObject) (spot self.old objects.old) }
         requires place { self.old.at < 2 ^ 64 - 1 }
         requires room { _code.now.room ≤ self.old.stack.room }
-        requires places { _code.now.places ≤ objects.old.room }
+        requires places { HasPlaces _code.now objects.old }
         ensures went { Executes S.out (program_of _code.now) (Instr.Plain Op.IsObject) result []
             (spot self.old objects.old) (spot self.new objects.new) }
         ensures room { self.new.stack.room ≡ self.old.stack.room }
     {
-        let is_object = objects.named(0) != 0;
-        self.stack.push(i64::from(is_object));
+        let object = objects.take();
+        self.stack.push(i64::from(object != 0));
         self.at += 1;
         Answer::Going
     }

@@ -4,6 +4,7 @@
 mod calling;
 mod cell;
 mod decoded;
+mod dropping;
 mod engine;
 pub mod fault;
 mod field;

@@ -1,17 +1,17 @@
 //! The objects of a running program, the places that name them, and what waits.
-ghost use Rattle.std.specs.Prelude.{◌≡◌, ◌≢◌, ◌+◌, ◌-◌, ◌^◌, ◌<◌, ◌≤◌, ℕ, List, ◌∷◌, Option, Some, IsNone, IsTrue, ◌↔◌, length, drop, nat_lt, slice_get, slice_set, get_or, IfOk};
+ghost use Rattle.std.specs.Prelude.{◌≡◌, ◌≢◌, ◌+◌, ◌-◌, ◌^◌, ◌<◌, ◌≤◌, ℕ, List, ◌∷◌, Option, Some, IsNone, IsTrue, ◌↔◌, length, nat_lt, slice_get, slice_set, get_or, IfOk};
 ghost use Rattle.std.specs.Int.{w64, cast_signed};
 ghost use Rattle.arc_spec.specs.Meaning.{most_levels};
 ghost use Rattle.arc_machine.specs.declared.waiting.Waiting.{Waiting};
 ghost use Rattle.arc_machine.specs.declared.waiting.Waiting.TheVariants as waits;
 ghost use Rattle.arc_machine.specs.Cells.{Cell, IsCell, HasField, with_count, with_phase, with_value};
 ghost use Rattle.arc_machine.specs.Refusals.{Refuses};
-ghost use Rattle.arc_machine.specs.Standing.{NamesBlock, Alters, IsLast, NewIn, Turns, no_objects, memory_of, with_named, with_waits};
+ghost use Rattle.arc_machine.specs.Standing.{NamesBlock, Alters, IsLast, NewIn, Turns, no_objects, memory_of, with_places, with_names, with_frames, taking, dropping, declaring, undeclaring, words_of, entering, resuming};
 ghost use Rattle.arc_machine.specs.Words.{Took};
 
 use crate::cell;
 use crate::stack::Stack;
-use crate::waiting::Waiting;
+use crate::waiting::{Waiter, Waiting};
 use arc_heap::store::{Ref, Store};
 use arc_spec::event::NoMemory;
 use std::alloc::Global;
@@ -20,14 +20,18 @@ use std::marker::Model;
 /// How many calls, and ends of objects, may run within one another.
 const MOST_LEVELS: usize = 2_000;
 
-/// A store with the blocks of objects, how many objects were made, the strong places, `self` of the
-/// running function, and what waits for it. A word names the object of a block by the block's place,
-/// and nil by 0. Only making an object takes memory.
+/// A store with the blocks of objects, how many objects were made, the strong places, of which the
+/// last ones are the temporaries of the running function, and those before them its variables, how
+/// many of each it has, the references, `self` of the running function, and what waits for it. A word
+/// names the object of a block by the block's place, and nil by 0. Only making an object takes memory.
 #[derive(Drop)]
 pub struct Objects<S: Store + Drop> {
     store: S,
     made: u64,
     places: Stack<u64>,
+    temporaries: usize,
+    variables: usize,
+    names: Stack<u64>,
     receiver: u64,
     frames: Stack<Waiting>,
 }
@@ -43,8 +47,12 @@ impl<S: Store + Drop> Model for Objects<S> {
       store = a.store;
       made = a.made;
       places = a.places.items;
+      temporaries = a.temporaries;
+      variables = a.variables;
+      names = a.names.items;
       self = a.receiver;
       room = a.places.room;
+      names_room = a.names.room;
       frames = a.frames.items;
     } };
 
@@ -52,15 +60,18 @@ impl<S: Store + Drop> Model for Objects<S> {
 }
 
 impl<S: Store + Drop> Objects<S> {
-    /// No objects, with room for so many strong places. The error is a refusal of the memory for
-    /// these and for 2,000 calls.
-    pub fn new(alloc: Global, store: S, places: usize) -> Result<Objects<S>, NoMemory>
-        ensures { IfOk result (λ m. m ≡ no_objects store places) }
+    /// No objects, with room for so many strong places and references. The error is a refusal of the
+    /// memory for these and for 2,000 calls.
+    pub fn new(alloc: Global, store: S, places: usize, names: usize) -> Result<Objects<S>, NoMemory>
+        ensures { IfOk result (λ m. m ≡ no_objects store places names) }
     {
         Ok(Objects {
             store,
             made: 0,
             places: Stack::with_room(alloc, places)?,
+            temporaries: 0,
+            variables: 0,
+            names: Stack::with_room(alloc, names)?,
             receiver: 0,
             frames: Stack::with_room(alloc, MOST_LEVELS)?,
         })
@@ -68,13 +79,87 @@ impl<S: Store + Drop> Objects<S> {
 
     // ---- places
 
-    /// What the place at this depth names.
+    /// How many temporaries the running function has.
     #[inline(always)]
-    pub fn named(&self, depth: usize) -> u64
+    pub fn temporaries(&self) -> usize
+        ensures { result ≡ self.now.temporaries }
+    {
+        self.temporaries
+    }
+
+    /// What the temporary with so many after it names.
+    #[inline(always)]
+    pub fn temporary(&self, depth: usize) -> u64
         requires { depth < length self.now.places }
         ensures { slice_get self.now.places depth ≡ Some result }
     {
         self.places.get(depth)
+    }
+
+    /// What this variable names.
+    #[inline(always)]
+    pub fn variable(&self, variable: usize) -> u64
+        requires { self.now.temporaries + variable < length self.now.places }
+        ensures { slice_get self.now.places (self.now.temporaries + variable) ≡ Some result }
+    {
+        // The number of places fits a word, and so does the depth of one of them.
+        let _places = self.places.len();
+        self.places.get(self.temporaries + variable)
+    }
+
+    /// This variable names this.
+    #[inline(always)]
+    pub fn put(&mut self, variable: usize, object: u64)
+        requires { self.old.temporaries + variable < length self.old.places }
+        ensures { self.new ≡ with_places self.old (slice_set self.old.places (self.old.temporaries + variable) object) }
+    {
+        // The number of places fits a word, and so does the depth of one of them.
+        let _places = self.places.len();
+        self.places.set(self.temporaries + variable, object);
+    }
+
+    /// A further temporary, which names this.
+    #[inline(always)]
+    pub fn push(&mut self, object: u64)
+        requires few { self.old.temporaries < 2 ^ 64 - 1 }
+        requires room { length self.old.places < self.old.room }
+        ensures { self.new ≡ taking object self.old }
+    {
+        self.places.push(object);
+        self.temporaries += 1;
+    }
+
+    /// The last temporary is gone: what it named.
+    #[inline(always)]
+    pub fn pop(&mut self) -> u64
+        requires some { 0 < self.old.temporaries }
+        requires place { 0 < length self.old.places }
+        ensures named { self.old.places ≡ result ∷ self.new.places }
+        ensures others { self.new ≡ dropping self.old self.new.places }
+    {
+        self.temporaries -= 1;
+        self.places.pop()
+    }
+
+    /// A further variable, which is nil.
+    #[inline(always)]
+    pub fn declare(&mut self)
+        requires few { self.old.variables < 2 ^ 64 - 1 }
+        requires room { length self.old.places < self.old.room }
+        ensures { self.new ≡ declaring self.old }
+    {
+        self.places.push(0);
+        self.variables += 1;
+    }
+
+    /// The variables of a function that has no temporary are gone.
+    #[inline(always)]
+    pub fn undeclare(&mut self)
+        requires { self.old.variables ≤ length self.old.places }
+        ensures { self.new ≡ undeclaring self.old }
+    {
+        self.places.forget(self.variables);
+        self.variables = 0;
     }
 
     /// What `self` of the running function names.
@@ -85,41 +170,34 @@ impl<S: Store + Drop> Objects<S> {
         self.receiver
     }
 
-    /// A further place, which names this.
+    // ---- references
+
+    /// A further reference, which names this.
     #[inline(always)]
-    pub fn push(&mut self, object: u64)
-        requires { length self.old.places < self.old.room }
-        ensures { self.new ≡ with_named self.old (object ∷ self.old.places) }
+    pub fn name(&mut self, object: u64)
+        requires { length self.old.names < self.old.names_room }
+        ensures { self.new ≡ with_names self.old (object ∷ self.old.names) }
     {
-        self.places.push(object);
+        self.names.push(object);
     }
 
-    /// The last place is gone: what it named.
+    /// What the last reference names.
     #[inline(always)]
-    pub fn pop(&mut self) -> u64
-        requires { 0 < length self.old.places }
-        ensures named { self.old.places ≡ result ∷ self.new.places }
-        ensures others { self.new ≡ with_named self.old self.new.places }
+    pub fn reference(&self) -> u64
+        requires { 0 < length self.now.names }
+        ensures { slice_get self.now.names 0 ≡ Some result }
     {
-        self.places.pop()
+        self.names.get(0)
     }
 
-    /// The place at this depth names this.
+    /// Takes the last reference: what it named.
     #[inline(always)]
-    pub fn put(&mut self, depth: usize, object: u64)
-        requires { depth < length self.old.places }
-        ensures { self.new ≡ with_named self.old (slice_set self.old.places depth object) }
+    pub fn take(&mut self) -> u64
+        requires { 0 < length self.old.names }
+        ensures named { self.old.names ≡ result ∷ self.new.names }
+        ensures others { self.new ≡ with_names self.old self.new.names }
     {
-        self.places.set(depth, object);
-    }
-
-    /// So many last places are gone.
-    #[inline(always)]
-    pub fn forget(&mut self, count: usize)
-        requires { count ≤ length self.old.places }
-        ensures { self.new ≡ with_named self.old (drop count self.old.places) }
-    {
-        self.places.forget(count);
+        self.names.pop()
     }
 
     // ---- what waits
@@ -136,13 +214,10 @@ impl<S: Store + Drop> Objects<S> {
     #[inline(always)]
     pub fn call(&mut self, back: usize, receiver: u64)
         requires { length self.old.frames < most_levels }
-        ensures { self.new ≡ with_waits self.old receiver (waits.Call back self.old.self ∷ self.old.frames) }
+        ensures { self.new ≡ entering self.old receiver (waits.Call back (words_of self.old)) }
     {
-        self.frames.push(Waiting::Call {
-            back,
-            receiver: self.receiver,
-        });
-        self.receiver = receiver;
+        let waiter = self.waiter();
+        self.enter(receiver, Waiting::Call { back, waiter });
     }
 
     /// The end of this object begins, which goes back to this instruction and goes on with the dealloc
@@ -150,17 +225,43 @@ impl<S: Store + Drop> Objects<S> {
     #[inline(always)]
     pub fn enter_end(&mut self, back: usize, object: u64, class: usize, classes: usize)
         requires { length self.old.frames < most_levels }
-        ensures { self.new ≡ with_waits self.old object
-            (waits.End back self.old.self object (Some class) classes ∷ self.old.frames) }
+        ensures { self.new ≡ entering self.old object (waits.End back (words_of self.old) object (Some class) classes) }
     {
-        self.frames.push(Waiting::End {
-            back,
-            receiver: self.receiver,
+        let waiter = self.waiter();
+        self.enter(
             object,
-            next: Some(class),
-            left: classes,
-        });
-        self.receiver = object;
+            Waiting::End {
+                back,
+                waiter,
+                object,
+                next: Some(class),
+                left: classes,
+            },
+        );
+    }
+
+    /// The running function, as it waits.
+    #[inline(always)]
+    fn waiter(&self) -> Waiter
+        ensures { result ≡ words_of self.now }
+    {
+        Waiter {
+            receiver: self.receiver,
+            temporaries: self.temporaries,
+            variables: self.variables,
+        }
+    }
+
+    /// A function runs with this `self`, for which this waits.
+    #[inline(always)]
+    fn enter(&mut self, receiver: u64, frame: Waiting)
+        requires { length self.old.frames < most_levels }
+        ensures { self.new ≡ entering self.old receiver frame }
+    {
+        self.frames.push(frame);
+        self.temporaries = 0;
+        self.variables = 0;
+        self.receiver = receiver;
     }
 
     /// What waits for the running function.
@@ -178,19 +279,23 @@ impl<S: Store + Drop> Objects<S> {
     #[inline(always)]
     pub fn wait(&mut self, frame: Waiting)
         requires { 0 < length self.old.frames }
-        ensures { self.new ≡ with_waits self.old self.old.self (slice_set self.old.frames 0 frame) }
+        ensures { self.new ≡ with_frames self.old (slice_set self.old.frames 0 frame) }
     {
         self.frames.set(0, frame);
     }
 
-    /// What waited for the running function runs on, with this `self`.
+    /// The running function is left: its variables are gone, and what waited for it runs on.
     #[inline(always)]
-    pub fn leave(&mut self, receiver: u64)
-        requires { 0 < length self.old.frames }
-        ensures { self.new ≡ with_waits self.old receiver (drop 1 self.old.frames) }
+    pub fn leave(&mut self, waiter: Waiter)
+        requires waits { 0 < length self.old.frames }
+        requires places { self.old.variables ≤ length self.old.places }
+        ensures { self.new ≡ resuming (undeclaring self.old) waiter }
     {
+        self.undeclare();
         let _ = self.frames.pop();
-        self.receiver = receiver;
+        self.temporaries = waiter.temporaries;
+        self.variables = waiter.variables;
+        self.receiver = waiter.receiver;
     }
 
     // ---- objects
@@ -230,6 +335,16 @@ impl<S: Store + Drop> Objects<S> {
         }
         let block = Ref { at: object };
         cell::count_in(&self.store, block) == 1 && !cell::is_dying(&self.store, block)
+    }
+
+    /// Whether the dealloc of an object has begun.
+    #[inline(always)]
+    pub fn is_dying(&self, object: u64) -> bool
+        requires some { 0 < object }
+        requires object { (c : Cell) × IsCell (S.out self.now.store) object c }
+        ensures { (c : Cell) → IsCell (S.out self.now.store) object c → IsTrue result ↔ (c.phase ≡ 1) }
+    {
+        cell::is_dying(&self.store, Ref { at: object })
     }
 
     /// The number of an object's class.

@@ -1,14 +1,33 @@
-use Rattle.std.proofs.Common.{refl, arith}
+use Rattle.std.proofs.Common.{ap, refl, ◌∙◌, length, arith}
+use Rattle.arc_code.specs.declared.instr.Op.TheVariants.{Hold}
+use Rattle.arc_code.specs.declared.instr.Instr.TheVariants.{Plain}
 use Rattle.arc_code.specs.Running.{program_of}
+use Rattle.arc_machine.specs.Standing.{Memory, taking, with_names}
 use Rattle.arc_machine.specs.Places.{spot}
-use Rattle.arc_machine.proofs.Holdings.{hold_names, hold_counts, hold_went}
+use Rattle.arc_machine.proofs.Holdings.{hold_reference, reference_taking, taking_needs, taking_went}
 use Rattle.arc_machine.proofs.place.Place.hold.Goals as goal
 
+pub reference-object-requires : goal.reference-object-requires
+reference-object-requires g c = hold_reference g.S.Store.out (program_of c.args.code.now) (spot c.args.self.now c.args.objects.now) c.requires.ready
+
 pub raise-requires-clause-object : goal.raise-requires-clause-object
-raise-requires-clause-object g c = hold_names g.S.Store.out (program_of c.args.code.now) (spot c.args.self.now c.args.objects.now) c.args.depth _ c.named-object.ensures c.requires.ready
+raise-requires-clause-object g c = (taking_needs g.S.Store.out (program_of c.args.code.now) (spot c.args.self.now c.args.objects.now) (Plain Hold) c.reference-object.result c.args.objects.now.names (reference_taking g.S.Store.out (program_of c.args.code.now) (spot c.args.self.now c.args.objects.now) _ c.reference-object.ensures) c.requires.ready (omega arith)).0
 
 pub raise-requires-clause-fits : goal.raise-requires-clause-fits
-raise-requires-clause-fits g c = hold_counts g.S.Store.out (program_of c.args.code.now) (spot c.args.self.now c.args.objects.now) c.args.depth _ c.named-object.ensures c.requires.ready (omega arith)
+raise-requires-clause-fits g c = (taking_needs g.S.Store.out (program_of c.args.code.now) (spot c.args.self.now c.args.objects.now) (Plain Hold) c.reference-object.result c.args.objects.now.names (reference_taking g.S.Store.out (program_of c.args.code.now) (spot c.args.self.now c.args.objects.now) _ c.reference-object.ensures) c.requires.ready (omega arith)).1
+
+pub push-requires-clause-few : goal.push-requires-clause-few
+push-requires-clause-few g c =
+    let few = (taking_needs g.S.Store.out (program_of c.args.code.now) (spot c.args.self.now c.args.objects.now) (Plain Hold) c.reference-object.result c.args.objects.now.names (reference_taking g.S.Store.out (program_of c.args.code.now) (spot c.args.self.now c.args.objects.now) _ c.reference-object.ensures) c.requires.ready (omega arith)).2 in
+    let same = ap (λ (x : Memory). x.temporaries) c.raise.ensures.others in
+    omega (arith, few, same)
+
+pub push-requires-clause-room : goal.push-requires-clause-room
+push-requires-clause-room g c =
+    let few = (taking_needs g.S.Store.out (program_of c.args.code.now) (spot c.args.self.now c.args.objects.now) (Plain Hold) c.reference-object.result c.args.objects.now.names (reference_taking g.S.Store.out (program_of c.args.code.now) (spot c.args.self.now c.args.objects.now) _ c.reference-object.ensures) c.requires.ready (omega arith)).3 in
+    let same = ap (λ (x : Memory). length x.places) c.raise.ensures.others in
+    let room = ap (λ (x : Memory). x.room) c.raise.ensures.others in
+    omega (arith, few, same, room, c.requires.places.places)
 
 pub returns-clause-went : goal.returns-clause-went
-returns-clause-went g c = hold_went g.S.Store.out (program_of c.args.code.now) (spot c.args.self.now c.args.objects.now) c.args.depth _ c.named-object.ensures c.raise.new.self c.raise.ensures _ refl refl c.push.ensures
+returns-clause-went g c = taking_went g.S.Store.out (program_of c.args.code.now) (spot c.args.self.now c.args.objects.now) (Plain Hold) c.reference-object.result c.args.objects.now.names (reference_taking g.S.Store.out (program_of c.args.code.now) (spot c.args.self.now c.args.objects.now) _ c.reference-object.ensures) c.raise.new.self c.raise.ensures _ refl refl (c.push.ensures ∙ ap (λ ws. with_names (taking c.reference-object.result c.raise.new.self) ws) (ap (λ (x : Memory). x.names) c.raise.ensures.others))
