@@ -146,12 +146,14 @@ fn combined(
 fn compared(alloc: Global, operator: BinaryOperator, differs: Value) -> Result<Value, AllocError>
     ensures { IfOk result (λ new. checked.value new ≡ resolving.compared operator (checked.value differs)) }
 {
-    if operator != BinaryOperator::Equal {
-        return Ok(differs);
+    match operator {
+        BinaryOperator::Equal => {
+            let differs = Box::new(alloc, differs)?;
+            let zero = Box::new(alloc, Value::Number(0))?;
+            Ok(Value::Combined(operator, Kind::Int, differs, zero))
+        }
+        _ => Ok(differs),
     }
-    let differs = Box::new(alloc, differs)?;
-    let zero = Box::new(alloc, Value::Number(0))?;
-    Ok(Value::Combined(operator, Kind::Int, differs, zero))
 }
 
 /// An expression with `==` or `!=`, from its operands.
@@ -187,11 +189,13 @@ pub fn binary(
     ensures { IfOk result (λ new. resolution new ≡ resolving.binary operator (resolution left) (resolution right)) }
 {
     let sort = operator_sort(operator);
-    if sort == OperatorSort::Equality {
-        return equality(alloc, operator, left, right);
+    match sort {
+        OperatorSort::Equality => equality(alloc, operator, left, right),
+        OperatorSort::Arithmetic | OperatorSort::Shift | OperatorSort::Relation => {
+            let kind = computing_kind(sort, kind_in(&left), kind_in(&right));
+            combined(alloc, operator, kind, left, right)
+        }
     }
-    let kind = computing_kind(sort, kind_in(&left), kind_in(&right));
-    combined(alloc, operator, kind, left, right)
 }
 
 /// The number, or 0 where there is none.

@@ -35,7 +35,7 @@ unfolding body
 read_unary ts = read_is facts body sure unlimited unary ts
 
 pub read_binary : (l : ℕ) (ts : List Tok) → l ≤ LOOSEST → rules unlimited (binary l) ts ≡ reads_free (operations l) ts
-unfolding body
+unfolding body table
 read_binary l ts p =
     let same : min l LOOSEST ≡ l = omega (arith, p) in
     read_is facts body sure unlimited (binary l) ts ∙ ap (λ k. reads_free (operations k) ts) same

@@ -10,9 +10,11 @@ use Rattle.arc_ast.specs.declared.tree.BinaryOperator.{BinaryOperator}
 use Rattle.arc_ast.specs.declared.tree.BinaryOperator.TheVariants.{Add}
 
 pub sees_table : (l : ℕ) (t : Tok) (ts : List Tok) → sees (marks_at l table) (t ∷ ts) ≡ is_at l (entry_of table t.sort)
+unfolding table
 sees_table l t ts = sees_operator table refl l t ts
 
 pub takes_table : (l : ℕ) (t : Tok) (ts : List Tok) → take_one (marks_at l table) (operator_of Add table) (t ∷ ts) ≡ taken_entry l (entry_of table t.sort) (t ∷ ts)
+unfolding table
 takes_table l t ts = takes_operator table refl Add l t ts
 
 -- whether an entry is of a level from 1 up to this one

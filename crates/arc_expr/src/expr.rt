@@ -82,7 +82,7 @@ fn assigned<'a>(alloc: Global, left: Expr, tokens: &'a [Token]) -> Read<'a, Expr
 
 /// The operators of all levels after this unary expression, with their right operands.
 #[cycle(exprs)]
-#[tactic(auto, unfolding(arc_grammar::specs::Grammar::continued))]
+#[tactic(auto, unfolding(arc_grammar::specs::Grammar::continued, arc_grammar::specs::Grammar::table))]
 fn continued<'a>(alloc: Global, left: Expr, tokens: &'a [Token]) -> Read<'a, Expr>
     ensures gives { Gives (λ x. (expr_tree x.0, toks x.1.now)) result (reads_on grammar.continued (expr_tree left) (toks tokens.now)) }
     ensures shorter { IfOk result (λ x. length x.1.now ≤ length tokens.now) }

@@ -15,6 +15,7 @@ use arc_lex::token::{Mark, Token, TokenKind};
 pub const LOOSEST: usize = 8;
 
 /// The level and the operator of a mark.
+#[tactic(auto, unfolding(arc_grammar::specs::Grammar::table))]
 fn of_mark(mark: Mark) -> Option<(usize, BinaryOperator)>
     ensures { result ≡ entry table mark }
 {

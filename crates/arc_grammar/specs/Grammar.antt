@@ -58,7 +58,7 @@ called = token name readers.named
 
 -- ---- operators between two operands (C99, sections 6.5.5 to 6.5.12), the tightest first
 
-abbrev pub table : List (Row BinaryOperator)
+unfoldable pub table : List (Row BinaryOperator)
 table =
     record { mark = m.Star; level = 1; operator = operators.Multiply } ∷
     record { mark = m.Slash; level = 1; operator = operators.Divide } ∷
