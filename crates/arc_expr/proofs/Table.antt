@@ -18,7 +18,7 @@ unfolding table
 takes_table l t ts = takes_operator table refl Add l t ts
 
 -- whether an entry is of a level from 1 up to this one
-abbrev is_within : ℕ → Option (ℕ × BinaryOperator) → Bool
+abbrev pub is_within : ℕ → Option (ℕ × BinaryOperator) → Bool
 is_within l None = false
 is_within l (Some e) = nat_le 1 e.0 && nat_le e.0 l
 
