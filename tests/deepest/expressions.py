@@ -37,6 +37,15 @@ def chain(size, sign, change):
     return first + [sign, "1"] * further, value
 
 
+def shifted(value, count):
+    """An int that is shifted to the left."""
+    return ((value << count % 32) + 2**31) % 2**32 - 2**31
+
+
+def all_levels(value):
+    return 1 | 1 ^ (1 & int(1 == int(1 < shifted(1, 1 + value))))
+
+
 def wide_layer(place):
     arguments = ["1"] * 16
     before, after = arguments[:place], arguments[place + 1:]
@@ -54,6 +63,18 @@ NUMBERS = {
     "products": lambda n: chain(n, "*", lambda v: v),
     "quotients": lambda n: chain(n, "/", lambda v: v),
     "comparisons": lambda n: chain(n, "!=", lambda v: int(v != 1)),
+    "remainders": lambda n: chain(n, "%", lambda v: 0),
+    "shifts to the left": lambda n: chain(n, "<<", lambda v: shifted(v, 1)),
+    "shifts to the right": lambda n: chain(n, ">>", lambda v: v >> 1),
+    "relations": lambda n: chain(n, "<", lambda v: int(v < 1)),
+    "equalities": lambda n: chain(n, "==", lambda v: int(v == 1)),
+    "bits of both": lambda n: chain(n, "&", lambda v: v & 1),
+    "bits that differ": lambda n: chain(n, "^", lambda v: v ^ 1),
+    "bits of either": lambda n: chain(n, "|", lambda v: v | 1),
+    "bits of either nested on the right": lambda n: around(n, ["1", "|", "("], [")"], lambda v: 1 | v),
+    "bits of either nested on the left": lambda n: around(n, ["("], ["|", "1", ")"], lambda v: v | 1),
+    "counts of shifts": lambda n: around(n, ["1", "<<", "("], [")"], lambda v: shifted(1, v)),
+    "operators of all levels": lambda n: around(n, "1 | 1 ^ 1 & 1 == 1 < 1 << 1 + 1 * (".split(), [")"], all_levels),
     "sums nested on the left": lambda n: around(n, ["("], ["+", "1", ")"], lambda v: v + 1),
     "sums nested on the right": lambda n: around(n, ["1", "+", "("], [")"], lambda v: v + 1),
     "differences nested on the right": lambda n: around(n, ["1", "-", "("], [")"], lambda v: 1 - v),

@@ -1,2 +1,3 @@
 pub mod Tree
 pub mod Types
+pub mod Operators

@@ -1,4 +1,6 @@
 //! Classes, functions, statements and expressions. A place is a byte of the source, counted from 0.
+ghost use Rattle.std.specs.Prelude.{◌≡◌};
+ghost use Rattle.arc_ast.specs.Operators.{sort_of};
 
 /// What kind of value an expression gives or a variable holds.
 #[derive(Clone, Copy, Debug, PartialEq, Eq)]
@@ -18,6 +20,7 @@ pub enum Qual {
     Autoreleasing,
 }
 
+/// An operator between two operands (C99, sections 6.5.5 to 6.5.12).
 #[derive(Clone, Copy, Debug, PartialEq, Eq)]
 pub enum BinaryOperator {
     Add,
@@ -25,6 +28,52 @@ pub enum BinaryOperator {
     Multiply,
     Divide,
     NotEqual,
+    Remainder,
+    ShiftLeft,
+    ShiftRight,
+    Less,
+    LessOrEqual,
+    Greater,
+    GreaterOrEqual,
+    Equal,
+    BitAnd,
+    BitXor,
+    BitOr,
+}
+
+/// What an operator asks of its operands, in which kind it computes, and the kind of what it gives.
+#[derive(Clone, Copy, Debug, PartialEq, Eq)]
+pub enum OperatorSort {
+    /// Two numbers, in the wider of their kinds.
+    Arithmetic,
+    /// Two numbers, in the kind of the first.
+    Shift,
+    /// Two numbers, in the wider of their kinds; the answer is an `int`.
+    Relation,
+    /// Two numbers as for a relation, or two objects; the answer is an `int`.
+    Equality,
+}
+
+/// The sort of an operator, in which all rules but that of its value are told.
+pub fn operator_sort(operator: BinaryOperator) -> OperatorSort
+    ensures { result ≡ sort_of operator }
+{
+    match operator {
+        BinaryOperator::Add
+        | BinaryOperator::Subtract
+        | BinaryOperator::Multiply
+        | BinaryOperator::Divide
+        | BinaryOperator::Remainder
+        | BinaryOperator::BitAnd
+        | BinaryOperator::BitXor
+        | BinaryOperator::BitOr => OperatorSort::Arithmetic,
+        BinaryOperator::ShiftLeft | BinaryOperator::ShiftRight => OperatorSort::Shift,
+        BinaryOperator::Less
+        | BinaryOperator::LessOrEqual
+        | BinaryOperator::Greater
+        | BinaryOperator::GreaterOrEqual => OperatorSort::Relation,
+        BinaryOperator::Equal | BinaryOperator::NotEqual => OperatorSort::Equality,
+    }
 }
 
 /// Whether a method is sent to a class or to an object (OPL, "Defining a Class").

@@ -5,6 +5,7 @@ use Rattle.arc_ast.specs.declared.tree.Kind.TheVariants as kinds_of
 use Rattle.arc_ast.specs.declared.tree.Expr as ast
 use Rattle.arc_ast.specs.declared.tree.Expr.{Expr}
 use Rattle.arc_ast.specs.declared.tree.BinaryOperator.{BinaryOperator}
+use Rattle.arc_ast.specs.Operators.{sort_of}
 use Rattle.arc_ast.specs.Tree.{ExprTree, ExprTrees, Arrow, Assign, Binary, Cast, Itself, Negate, Plus, Send, SendSuper, TypeTree, expr_tree, expr_trees, place}
 use Rattle.arc_class.specs.Broken.{broken_if, Broken, first, earlier_of}
 use Rattle.arc_class.specs.Table.{number_of_class}
@@ -128,18 +129,18 @@ judges_arrow s before at name_at a name judged new here found j p w k c f t =
       taken = t ∙ j.taken;
     }
 
-pub judges_binary : (s : Scope) (before : Taken) (at : ℕ) (operator : BinaryOperator) (a b : ExprTree) (left right both : Judged) (left_at right_at : ℕ) → Judges s before a left → Judges s left.taken b right → left_at ≡ place a → right_at ≡ place b → both.kind ≡ binary_kind operator left.kind right.kind → both.class ≡ None
-    → option_map told both.fault ≡ earlier_of (earlier_of (option_map told left.fault) (first (no_left operator left.kind left_at))) (earlier_of (option_map told right.fault) (first (no_right operator left.kind right.kind right_at))) → both.taken ≡ right.taken
+pub judges_binary : (s : Scope) (before : Taken) (at : ℕ) (operator : BinaryOperator) (a b : ExprTree) (left right both : Judged) (left_at right_at : ℕ) → Judges s before a left → Judges s left.taken b right → left_at ≡ place a → right_at ≡ place b → both.kind ≡ binary_kind (sort_of operator) left.kind right.kind → both.class ≡ None
+    → option_map told both.fault ≡ earlier_of (earlier_of (option_map told left.fault) (first (no_left (sort_of operator) left.kind left_at))) (earlier_of (option_map told right.fault) (first (no_right (sort_of operator) left.kind right.kind right_at))) → both.taken ≡ right.taken
     → Judges s before (Binary at operator a b) both
 judges_binary s before at operator a b left right both left_at right_at l r p q k c f t =
-    let one = earlier_of (option_map told left.fault) (first (no_left operator left.kind left_at)) in
-    let two = earlier_of (option_map told right.fault) (first (no_right operator left.kind right.kind right_at)) in
+    let one = earlier_of (option_map told left.fault) (first (no_left (sort_of operator) left.kind left_at)) in
+    let two = earlier_of (option_map told right.fault) (first (no_right (sort_of operator) left.kind right.kind right_at)) in
     record {
-      kind = k ∙ ap (λ o. binary_kind operator o right.kind) l.kind ∙ ap (binary_kind operator (kind_of s a)) r.kind;
+      kind = k ∙ ap (λ o. binary_kind (sort_of operator) o right.kind) l.kind ∙ ap (binary_kind (sort_of operator) (kind_of s a)) r.kind;
       class = ap (option_map number_of_class) c;
-      fault = first_both (broken s a ++ no_left operator (kind_of s a) (place a)) (broken s b ++ no_right operator (kind_of s a) (kind_of s b) (place b)) one two (option_map told both.fault)
-          (with_rule s (broken s a) a (no_left operator) (option_map told left.fault) one left.kind left_at l.fault l.kind p refl)
-          (with_rule s (broken s b) b (no_right operator (kind_of s a)) (option_map told right.fault) two right.kind right_at r.fault r.kind q (ap (λ o. earlier_of (option_map told right.fault) (first (no_right operator o right.kind right_at))) l.kind)) f;
+      fault = first_both (broken s a ++ no_left (sort_of operator) (kind_of s a) (place a)) (broken s b ++ no_right (sort_of operator) (kind_of s a) (kind_of s b) (place b)) one two (option_map told both.fault)
+          (with_rule s (broken s a) a (no_left (sort_of operator)) (option_map told left.fault) one left.kind left_at l.fault l.kind p refl)
+          (with_rule s (broken s b) b (no_right (sort_of operator) (kind_of s a)) (option_map told right.fault) two right.kind right_at r.fault r.kind q (ap (λ o. earlier_of (option_map told right.fault) (first (no_right (sort_of operator) o right.kind right_at))) l.kind)) f;
       taken = t ∙ counted_both before left.taken right.taken (taken s a) (taken s b) l.taken r.taken;
     }
 

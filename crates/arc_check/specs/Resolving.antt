@@ -3,6 +3,9 @@ use Rattle.std.specs.Prelude.{ℕ, ◌-◌, pos, Bool, false, List, [], ◌∷�
 use Rattle.std.specs.Option.{option_map_or}
 use Rattle.arc_ast.specs.declared.tree.BinaryOperator.{BinaryOperator}
 use Rattle.arc_ast.specs.declared.tree.BinaryOperator.TheVariants as o
+use Rattle.arc_ast.specs.Operators.{sort_of}
+use Rattle.arc_ast.specs.declared.tree.OperatorSort.{OperatorSort}
+use Rattle.arc_ast.specs.declared.tree.OperatorSort.TheVariants.{Equality}
 use Rattle.arc_ast.specs.declared.tree.Kind.{Kind}
 use Rattle.arc_ast.specs.declared.tree.Kind.TheVariants as k
 use Rattle.arc_ast.specs.declared.tree.Sign.{Sign}
@@ -19,7 +22,7 @@ use Rattle.arc_class.specs.declared.table.FoundField.{FoundField}
 use Rattle.arc_check.specs.declared.callee.Callee.{Callee}
 use Rattle.arc_check.specs.declared.callee.Callee.TheVariants.{Printf, GetChar, Defined, Unknown}
 use Rattle.arc_check.specs.declared.format.Begun.TheVariants.{Nothing}
-use Rattle.arc_check.specs.Kinds.{literal_kind, wider, given_kind}
+use Rattle.arc_check.specs.Kinds.{literal_kind, wider, computing_kind, given_kind}
 use Rattle.arc_check.specs.Formats.{parts, printed}
 use Rattle.arc_check.specs.Scopes as scopes
 use Rattle.arc_check.specs.Scopes.{Known, Scope, declare, with_parameters, leave, behind, behind_all, outermost, in_method, callee, result_kind, is_printf, own_field, class_receiver, object_result, super_kind, class_of}
@@ -61,14 +64,26 @@ int_in = converted k.Int
 abbrev pub negated : Resolution → Resolution
 negated a = Gives (kind_in a) (Negated (kind_in a) (number_in a))
 
--- an operator computes in the wider kind of its operands
+-- an operator whose operands become numbers of the kind in which it computes; the count of a shift too, which counts modulo the width of that kind
 abbrev pub combined : BinaryOperator → Kind → Resolution → Resolution → Resolution
-combined operator kind a b = Gives (given_kind operator kind) (Combined operator kind (converted kind a) (converted kind b))
+combined operator kind a b = Gives (given_kind (sort_of operator) kind) (Combined operator kind (converted kind a) (converted kind b))
 
--- `!=` compares numbers, or objects
+-- what compares two objects, from whether they differ: `==` is 1 where that is 0 (C99, section 6.5.9, paragraph 3)
+abbrev pub compared : BinaryOperator → Value → Value
+compared o.Equal differs = Combined o.Equal k.Int differs (Number (pos 0))
+compared _ differs = differs
+
+-- the operands of `==` and `!=` are numbers, or objects
+abbrev pub equality : BinaryOperator → Resolution → Resolution → Resolution
+equality operator (Refers a) (Refers b) = Gives k.Int (compared operator (Differ a b))
+equality operator a b = combined operator (wider (kind_in a) (kind_in b)) a b
+
+abbrev pub binary_of : OperatorSort → BinaryOperator → Resolution → Resolution → Resolution
+binary_of Equality operator a b = equality operator a b
+binary_of sort operator a b = combined operator (computing_kind sort (kind_in a) (kind_in b)) a b
+
 abbrev pub binary : BinaryOperator → Resolution → Resolution → Resolution
-binary o.NotEqual (Refers a) (Refers b) = Gives k.Int (Differ a b)
-binary operator a b = combined operator (wider (kind_in a) (kind_in b)) a b
+binary operator a b = binary_of (sort_of operator) operator a b
 
 -- the bytes of a text
 abbrev pub text_of : ExprTree → List ℕ

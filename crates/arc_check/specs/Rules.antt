@@ -3,8 +3,9 @@ use Rattle.std.specs.Prelude.{ℕ, Bool, true, false, ◌&&◌, ◌||◌, not, L
 use Rattle.std.specs.Option.{option_map_or}
 use Rattle.arc_ast.specs.declared.tree.Kind.{Kind}
 use Rattle.arc_ast.specs.declared.tree.Kind.TheVariants as k
-use Rattle.arc_ast.specs.declared.tree.BinaryOperator.{BinaryOperator}
-use Rattle.arc_ast.specs.declared.tree.BinaryOperator.TheVariants as o
+use Rattle.arc_ast.specs.Operators.{sort_of}
+use Rattle.arc_ast.specs.declared.tree.OperatorSort.{OperatorSort}
+use Rattle.arc_ast.specs.declared.tree.OperatorSort.TheVariants.{Arithmetic, Shift, Relation, Equality}
 use Rattle.arc_ast.specs.Types.{type_kind}
 use Rattle.arc_ast.specs.Types as types
 use Rattle.arc_ast.specs.Tree.{TypeTree, ExprTree, ExprTrees, Integer, Text, Paren, Call, Nil, Itself, Name, Negate, Plus, Cast, Binary, Arrow, Assign, Send, SendSuper, no_exprs, and_expr, place, VariableTree, StmtTree, StmtTrees, Block, Empty, Simple, Return, Variables, If, IfElse, While, no_stmts, and_stmt, ParameterTree, FunctionTree, HeadTree, MethodTree, InterfaceTree, ImplementationTree, UnitTree}
@@ -57,14 +58,17 @@ number_kind (Some k.Int) = Some k.Int
 number_kind (Some k.Long) = Some k.Long
 number_kind _ = None
 
--- the kind of a sum, from those of its operands: none, where one has none
+-- the wider kind of two operands: none, where one has none
 abbrev pub both_kinds : Option Kind → Option Kind → Option Kind
 both_kinds a b = option_and_then (λ one. option_map (wider one) b) a
 
--- `!=` gives an int, whatever its operands are (C99, section 6.5.9)
-abbrev pub binary_kind : BinaryOperator → Option Kind → Option Kind → Option Kind
-binary_kind o.NotEqual a b = Some k.Int
-binary_kind _ a b = both_kinds (number_kind a) (number_kind b)
+-- The kind of what an operator gives, from those of its operands. A shift's is that of the first (C99, section 6.5.7); a comparison gives an int, whatever its operands
+-- are (sections 6.5.8 and 6.5.9).
+abbrev pub binary_kind : OperatorSort → Option Kind → Option Kind → Option Kind
+binary_kind Arithmetic a b = both_kinds (number_kind a) (number_kind b)
+binary_kind Shift a b = number_kind a
+binary_kind Relation a b = Some k.Int
+binary_kind Equality a b = Some k.Int
 
 abbrev pub is_object : Option Kind → Bool
 is_object (Some k.Object) = true
@@ -110,7 +114,7 @@ abbrev mutual
   kind_of s (Negate at a) = number_kind (kind_of s a)
   kind_of s (Plus at a) = number_kind (kind_of s a)
   kind_of s (Cast at type a) = Some k.Object
-  kind_of s (Binary at operator a b) = binary_kind operator (kind_of s a) (kind_of s b)
+  kind_of s (Binary at operator a b) = binary_kind (sort_of operator) (kind_of s a) (kind_of s b)
   kind_of s (Arrow at name_at a name) = arrow_kind s (kind_of s a) (s.known.field (class_of s a) name)
   kind_of s (Assign at sign a b) = if is_assignable a then kind_of s a else None
   kind_of s (Send at part receiver selector arguments) = message_kind s (class_receiver s receiver) (kind_of s receiver) (class_of s receiver) selector
@@ -141,13 +145,13 @@ no_object kind at = broken_if (is_some kind && not (is_object kind)) at 43
 abbrev pub no_such : (wanted given : Option Kind) → ℕ → List Broken
 no_such wanted given at = if is_none wanted then [] else if is_object wanted then no_object given at else no_number given at
 
--- An operator computes with numbers; `!=` compares two numbers or two objects, and reports an object and a number at the second (C99, section 6.5.9).
-abbrev pub no_left : BinaryOperator → Option Kind → ℕ → List Broken
-no_left o.NotEqual a at = no_value a at
+-- An operator computes with numbers; `==` and `!=` compare two numbers or two objects, and report an object and a number at the second (C99, section 6.5.9).
+abbrev pub no_left : OperatorSort → Option Kind → ℕ → List Broken
+no_left Equality a at = no_value a at
 no_left _ a at = no_number a at
 
-abbrev pub no_right : BinaryOperator → Option Kind → Option Kind → ℕ → List Broken
-no_right o.NotEqual a b at = if is_object a then no_object b at else no_number b at
+abbrev pub no_right : OperatorSort → Option Kind → Option Kind → ℕ → List Broken
+no_right Equality a b at = if is_object a then no_object b at else no_number b at
 no_right _ a b at = no_number b at
 
 abbrev pub broken_at : ℕ → Option ℕ → List Broken
@@ -189,7 +193,7 @@ abbrev mutual
   broken s (Plus at a) = broken s a ++ no_number (kind_of s a) (place a)
   broken s (Cast at type a) = broken s a ++ no_object (kind_of s a) (place a)
   broken s (Binary at operator a b) =
-      (broken s a ++ no_left operator (kind_of s a) (place a)) ++ (broken s b ++ no_right operator (kind_of s a) (kind_of s b) (place b))
+      (broken s a ++ no_left (sort_of operator) (kind_of s a) (place a)) ++ (broken s b ++ no_right (sort_of operator) (kind_of s a) (kind_of s b) (place b))
   broken s (Arrow at name_at a name) =
       (broken s a ++ no_object (kind_of s a) (place a)) ++ broken_field s (kind_of s a) (s.known.field (class_of s a) name) name_at
   broken s (Assign at sign a b) = (broken s a ++ broken_if (not (is_assignable a)) sign 44) ++ (broken s b ++ no_such (kind_of s a) (kind_of s b) (place b))

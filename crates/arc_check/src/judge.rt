@@ -9,6 +9,7 @@ ghost use Rattle.arc_check.specs.Fault.{told};
 ghost use Rattle.arc_check.specs.Formats.{wanted};
 ghost use Rattle.arc_check.specs.private.Judging.{Judges, JudgesWhole, JudgesAll, JudgesCall, counted};
 ghost use Rattle.arc_check.specs.Rules as rules;
+ghost use Rattle.arc_ast.specs.Operators.{sort_of};
 ghost use Rattle.arc_check.specs.Rules.{kind_if, no_left, no_number, no_right, no_value};
 ghost use Rattle.arc_check.specs.Scopes as scopes;
 ghost use Rattle.arc_check.specs.declared.scope.Visible.{Visible};
@@ -26,7 +27,7 @@ use crate::rule::{
 };
 use crate::scope::{Local, Visible};
 use crate::taken::Taken;
-use arc_ast::tree::{BinaryOperator, Expr, Kind, TypeName};
+use arc_ast::tree::{BinaryOperator, Expr, Kind, TypeName, operator_sort};
 use arc_class::table::{ClassId, ClassTable, FoundField};
 use arc_fault::check::CheckFault;
 use arc_sites::violation::earlier;
@@ -82,20 +83,18 @@ fn combined(
     right: Judged,
     right_at: usize,
 ) -> Judged
-    ensures kind { result.kind ≡ rules.binary_kind operator left.kind right.kind }
+    ensures kind { result.kind ≡ rules.binary_kind (sort_of operator) left.kind right.kind }
     ensures class { result.class ≡ None }
     ensures taken { result.taken ≡ right.taken }
     ensures fault { option_map told result.fault
-        ≡ earlier_of (earlier_of (option_map told left.fault) (first (no_left operator left.kind left_at)))
-        (earlier_of (option_map told right.fault) (first (no_right operator left.kind right.kind right_at))) }
+        ≡ earlier_of (earlier_of (option_map told left.fault) (first (no_left (sort_of operator) left.kind left_at)))
+        (earlier_of (option_map told right.fault) (first (no_right (sort_of operator) left.kind right.kind right_at))) }
 {
-    let first = earlier(left.fault, no_left(operator, left.kind, left_at));
-    let second = earlier(
-        right.fault,
-        no_right(operator, left.kind, right.kind, right_at),
-    );
+    let sort = operator_sort(operator);
+    let first = earlier(left.fault, no_left(sort, left.kind, left_at));
+    let second = earlier(right.fault, no_right(sort, left.kind, right.kind, right_at));
     number(
-        binary_kind(operator, left.kind, right.kind),
+        binary_kind(sort, left.kind, right.kind),
         earlier(first, second),
         right.taken,
     )

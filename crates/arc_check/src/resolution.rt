@@ -13,7 +13,7 @@ ghost use Rattle.arc_check.specs.private.Views.{local_of};
 use crate::checked::{Reference, Value};
 use crate::rule::{is_object, wider};
 use crate::scope::Local;
-use arc_ast::tree::{BinaryOperator, Expr, Kind, Sign};
+use arc_ast::tree::{BinaryOperator, Expr, Kind, OperatorSort, Sign, operator_sort};
 use arc_class::table::{ClassId, FoundField, Sel};
 use std::alloc::{AllocError, Global};
 
@@ -97,16 +97,23 @@ pub fn converted(alloc: Global, wanted: Kind, of: Resolution) -> Result<Box<Valu
     as_kind(alloc, wanted, kind, value)
 }
 
-/// The kind of what an operator gives that computes in the kind.
-fn given_kind(operator: BinaryOperator, kind: Kind) -> Kind
-    ensures { result ≡ kinds.given_kind operator kind }
+/// The kind in which an operator of the sort computes, from those of its operands.
+fn computing_kind(sort: OperatorSort, a: Kind, b: Kind) -> Kind
+    ensures { result ≡ kinds.computing_kind sort a b }
 {
-    match operator {
-        BinaryOperator::NotEqual => Kind::Int,
-        BinaryOperator::Add
-        | BinaryOperator::Subtract
-        | BinaryOperator::Multiply
-        | BinaryOperator::Divide => kind,
+    match sort {
+        OperatorSort::Shift => wider(a, Kind::Int),
+        OperatorSort::Arithmetic | OperatorSort::Relation | OperatorSort::Equality => wider(a, b),
+    }
+}
+
+/// The kind of what an operator of the sort gives that computes in the kind.
+fn given_kind(sort: OperatorSort, kind: Kind) -> Kind
+    ensures { result ≡ kinds.given_kind sort kind }
+{
+    match sort {
+        OperatorSort::Relation | OperatorSort::Equality => Kind::Int,
+        OperatorSort::Arithmetic | OperatorSort::Shift => kind,
     }
 }
 
@@ -132,7 +139,44 @@ fn combined(
     let left = converted(alloc, kind, left)?;
     let right = converted(alloc, kind, right)?;
     let value = Value::Combined(operator, kind, left, right);
-    given(alloc, given_kind(operator, kind), value)
+    given(alloc, given_kind(operator_sort(operator), kind), value)
+}
+
+/// What compares two objects, from whether they differ.
+fn compared(alloc: Global, operator: BinaryOperator, differs: Value) -> Result<Value, AllocError>
+    ensures { IfOk result (λ new. checked.value new ≡ resolving.compared operator (checked.value differs)) }
+{
+    match operator {
+        BinaryOperator::Equal => {
+            let differs = Box::new(alloc, differs)?;
+            let zero = Box::new(alloc, Value::Number(0))?;
+            Ok(Value::Combined(operator, Kind::Int, differs, zero))
+        }
+        _ => Ok(differs),
+    }
+}
+
+/// An expression with `==` or `!=`, from its operands.
+fn equality(
+    alloc: Global,
+    operator: BinaryOperator,
+    left: Resolution,
+    right: Resolution,
+) -> Result<Resolution, AllocError>
+    ensures { IfOk result (λ new. resolution new ≡ resolving.equality operator (resolution left) (resolution right)) }
+{
+    match (left, right) {
+        (Resolution::Refers(left), Resolution::Refers(right)) => {
+            let left = Box::new(alloc, left)?;
+            let right = Box::new(alloc, right)?;
+            let value = compared(alloc, operator, Value::Differ(left, right))?;
+            given(alloc, Kind::Int, value)
+        }
+        (left, right) => {
+            let kind = wider(kind_in(&left), kind_in(&right));
+            combined(alloc, operator, kind, left, right)
+        }
+    }
 }
 
 /// An operator's expression, from its operands.
@@ -144,14 +188,11 @@ pub fn binary(
 ) -> Result<Resolution, AllocError>
     ensures { IfOk result (λ new. resolution new ≡ resolving.binary operator (resolution left) (resolution right)) }
 {
-    match (operator, left, right) {
-        (BinaryOperator::NotEqual, Resolution::Refers(left), Resolution::Refers(right)) => {
-            let left = Box::new(alloc, left)?;
-            let right = Box::new(alloc, right)?;
-            given(alloc, Kind::Int, Value::Differ(left, right))
-        }
-        (operator, left, right) => {
-            let kind = wider(kind_in(&left), kind_in(&right));
+    let sort = operator_sort(operator);
+    match sort {
+        OperatorSort::Equality => equality(alloc, operator, left, right),
+        OperatorSort::Arithmetic | OperatorSort::Shift | OperatorSort::Relation => {
+            let kind = computing_kind(sort, kind_in(&left), kind_in(&right));
             combined(alloc, operator, kind, left, right)
         }
     }

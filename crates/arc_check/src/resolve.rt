@@ -32,7 +32,11 @@ use std::alloc::{AllocError, Global};
 fn integer(alloc: Global, number: &i64, suffixed: bool) -> Result<Typed, AllocError>
     ensures { IfOk result (λ typed. (s : scopes.Scope) (at : ℕ) → Resolves s (Integer at number.now suffixed) typed) }
 {
-    let value = given(alloc, literal_kind(*number, suffixed), Value::Number(*number))?;
+    let value = given(
+        alloc,
+        literal_kind(*number, suffixed),
+        Value::Number(*number),
+    )?;
     Ok(Typed { class: None, value })
 }
 

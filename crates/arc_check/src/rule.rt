@@ -13,7 +13,7 @@ ghost use Rattle.arc_check.specs.private.Views.{seen};
 
 use crate::callee::Callee;
 use crate::scope::Visible;
-use arc_ast::tree::{BinaryOperator, Expr, Kind};
+use arc_ast::tree::{Expr, Kind, OperatorSort};
 use arc_fault::check::CheckFault;
 
 /// The largest int.
@@ -30,7 +30,7 @@ pub fn literal_kind(number: i64, suffixed: bool) -> Kind
     }
 }
 
-/// The kind in which an operator computes.
+/// The wider one of two kinds of operands.
 pub fn wider(a: Kind, b: Kind) -> Kind
     ensures { result ≡ kinds.wider a b }
 {
@@ -105,7 +105,7 @@ pub fn number_kind(kind: Option<Kind>) -> Option<Kind>
     }
 }
 
-/// The kind of a sum, from those of its operands.
+/// The wider kind of two operands.
 fn both_kinds(a: Option<Kind>, b: Option<Kind>) -> Option<Kind>
     ensures { result ≡ rules.both_kinds a b }
 {
@@ -115,16 +115,14 @@ fn both_kinds(a: Option<Kind>, b: Option<Kind>) -> Option<Kind>
     }
 }
 
-/// The kind of an operator's expression, from those of its operands.
-pub fn binary_kind(operator: BinaryOperator, a: Option<Kind>, b: Option<Kind>) -> Option<Kind>
-    ensures { result ≡ rules.binary_kind operator a b }
+/// The kind of an expression with an operator of the sort, from those of its operands.
+pub fn binary_kind(sort: OperatorSort, a: Option<Kind>, b: Option<Kind>) -> Option<Kind>
+    ensures { result ≡ rules.binary_kind sort a b }
 {
-    match operator {
-        BinaryOperator::NotEqual => Some(Kind::Int),
-        BinaryOperator::Add
-        | BinaryOperator::Subtract
-        | BinaryOperator::Multiply
-        | BinaryOperator::Divide => both_kinds(number_kind(a), number_kind(b)),
+    match sort {
+        OperatorSort::Arithmetic => both_kinds(number_kind(a), number_kind(b)),
+        OperatorSort::Shift => number_kind(a),
+        OperatorSort::Relation | OperatorSort::Equality => Some(Kind::Int),
     }
 }
 
@@ -170,21 +168,20 @@ pub fn no_such(wanted: Option<Kind>, given: Option<Kind>, at: usize) -> Option<C
 }
 
 /// The rule that a left operand of the kind breaks.
-pub fn no_left(operator: BinaryOperator, kind: Option<Kind>, at: usize) -> Option<CheckFault>
-    ensures { option_map told result ≡ first (no_left operator kind at) }
+pub fn no_left(sort: OperatorSort, kind: Option<Kind>, at: usize) -> Option<CheckFault>
+    ensures { option_map told result ≡ first (no_left sort kind at) }
 {
-    match operator {
-        BinaryOperator::NotEqual => no_value(kind, at),
-        BinaryOperator::Add
-        | BinaryOperator::Subtract
-        | BinaryOperator::Multiply
-        | BinaryOperator::Divide => no_number(kind, at),
+    match sort {
+        OperatorSort::Equality => no_value(kind, at),
+        OperatorSort::Arithmetic | OperatorSort::Shift | OperatorSort::Relation => {
+            no_number(kind, at)
+        }
     }
 }
 
 /// The rule that the second of two things breaks, of these kinds, that are compared.
 fn no_other(left: Option<Kind>, right: Option<Kind>, at: usize) -> Option<CheckFault>
-    ensures { option_map told result ≡ first (no_right BinaryOperator.NotEqual left right at) }
+    ensures { option_map told result ≡ first (no_right OperatorSort.Equality left right at) }
 {
     match (left, right) {
         (Some(Kind::Object), Some(Kind::Object)) => None,
@@ -195,19 +192,18 @@ fn no_other(left: Option<Kind>, right: Option<Kind>, at: usize) -> Option<CheckF
 
 /// The rule that a right operand breaks, from the kinds of both.
 pub fn no_right(
-    operator: BinaryOperator,
+    sort: OperatorSort,
     left: Option<Kind>,
     right: Option<Kind>,
     at: usize,
 ) -> Option<CheckFault>
-    ensures { option_map told result ≡ first (no_right operator left right at) }
+    ensures { option_map told result ≡ first (no_right sort left right at) }
 {
-    match operator {
-        BinaryOperator::NotEqual => no_other(left, right, at),
-        BinaryOperator::Add
-        | BinaryOperator::Subtract
-        | BinaryOperator::Multiply
-        | BinaryOperator::Divide => no_number(right, at),
+    match sort {
+        OperatorSort::Equality => no_other(left, right, at),
+        OperatorSort::Arithmetic | OperatorSort::Shift | OperatorSort::Relation => {
+            no_number(right, at)
+        }
     }
 }
 

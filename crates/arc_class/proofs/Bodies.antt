@@ -5,6 +5,7 @@ use Rattle.arc_ast.specs.Tree as t
 use Rattle.arc_ast.specs.Tree.{TypeTree, ExprTree, ExprTrees, Integer, Text, Paren, Call, Nil, Itself, Name, Negate, Plus, Cast, Binary, Arrow, Assign, Send, SendSuper, no_exprs, and_expr, VariableTree, StmtTree, StmtTrees, Block, Empty, Simple, Return, Variables, If, IfElse, While, no_stmts, and_stmt, ParameterTree, FunctionTree, HeadTree, MethodTree, InterfaceTree, ImplementationTree, UnitTree}
 use Rattle.arc_sites.specs.Finding.{violations_of}
 use Rattle.arc_sites.specs.Sites as sites
+use Rattle.arc_ast.specs.Operators.{sort_of}
 use Rattle.arc_sites.specs.Sites.{Enclosing, InFunction, InMethod, Scope, Need, Anything, AValue, ANumber, AnObject, Like, Initial, Result, Receiver, Argument, Site, Statement, Variable, left_need, right_need, value, site, inner, after, outermost, with_variables, with_parameters, arguments, maybe_sites, variable_sites, stmt_sites, all_sites, parameter_sites, body_sites, function_sites, head_sites, method_sites, interface_sites, implementation_sites, unit_sites, named_parameters}
 use Rattle.arc_sites.specs.Violations.{at_if, violates, earlier_of}
 use Rattle.arc_sites.proofs.Firsts.{earlier_of-comm}
@@ -76,10 +77,10 @@ module _ (u : UnitTree) where
     expr_is (Cast at type a) m s need =
         turned (broken_type missing type) (broken_expr missing a) (sites.sites m s AnObject a) (value m s need (Cast at type a)) (cast_is type) (expr_is a m s AnObject)
     expr_is (Binary at operator a b) m s need =
-        let x = sites.sites m s (left_need operator) a in
-        let y = sites.sites m s (right_need operator a) b in
+        let x = sites.sites m s (left_need (sort_of operator)) a in
+        let y = sites.sites m s (right_need (sort_of operator) a) b in
         quiet (broken_expr missing a ++ broken_expr missing b) (x ++ y) (value m s need (Binary at operator a b)) refl
-        (pair (broken_expr missing a) (broken_expr missing b) x y (expr_is a m s (left_need operator)) (expr_is b m s (right_need operator a)))
+        (pair (broken_expr missing a) (broken_expr missing b) x y (expr_is a m s (left_need (sort_of operator))) (expr_is b m s (right_need (sort_of operator) a)))
     expr_is (Arrow at name_at a name) m s need = quiet (broken_expr missing a) (sites.sites m s AnObject a) (value m s need (Arrow at name_at a name)) refl (expr_is a m s AnObject)
     expr_is (Assign at sign a b) m s need =
         let x = sites.sites m s Anything a in

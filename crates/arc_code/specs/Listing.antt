@@ -16,6 +16,17 @@ operator_number o.Subtract = 1
 operator_number o.Multiply = 2
 operator_number o.Divide = 3
 operator_number o.NotEqual = 4
+operator_number o.Remainder = 5
+operator_number o.ShiftLeft = 6
+operator_number o.ShiftRight = 7
+operator_number o.Less = 8
+operator_number o.LessOrEqual = 9
+operator_number o.Greater = 10
+operator_number o.GreaterOrEqual = 11
+operator_number o.Equal = 12
+operator_number o.BitAnd = 13
+operator_number o.BitXor = 14
+operator_number o.BitOr = 15
 
 abbrev pub kind_number : Kind → ℕ
 kind_number k.Void = 0

@@ -245,6 +245,17 @@ fn number_of_operator(operator: BinaryOperator) -> u64
         BinaryOperator::Multiply => 2,
         BinaryOperator::Divide => 3,
         BinaryOperator::NotEqual => 4,
+        BinaryOperator::Remainder => 5,
+        BinaryOperator::ShiftLeft => 6,
+        BinaryOperator::ShiftRight => 7,
+        BinaryOperator::Less => 8,
+        BinaryOperator::LessOrEqual => 9,
+        BinaryOperator::Greater => 10,
+        BinaryOperator::GreaterOrEqual => 11,
+        BinaryOperator::Equal => 12,
+        BinaryOperator::BitAnd => 13,
+        BinaryOperator::BitXor => 14,
+        BinaryOperator::BitOr => 15,
     }
 }
 

@@ -1,5 +1,5 @@
 -- What the rules read, as the code asks for it.
-use Rattle.std.proofs.Common.{◌≡◌, ◌≤◌, ◌-◌, ℕ, zero, suc, List, [], ◌∷◌, ◌++◌, true, false, cond, Ok, Err, refl, sym, ap, ◌∙◌, arith}
+use Rattle.std.proofs.Common.{◌≡◌, ◌≤◌, ◌-◌, min, ℕ, zero, suc, List, [], ◌∷◌, ◌++◌, true, false, cond, Ok, Err, refl, sym, ap, ◌∙◌, arith}
 use Rattle.arc_lex.specs.Tokens.{Tok}
 use Rattle.arc_lex.specs.declared.token.Mark.TheVariants as m
 use Rattle.arc_ast.specs.declared.tree.BinaryOperator.TheVariants as operators
@@ -9,12 +9,14 @@ use Rattle.arc_form.specs.Kinds.{mark, name}
 use Rattle.arc_form.specs.Reader.{Read, Reader, bind, ◌>>=◌, ret, sees, if_sees, take_one, from, named}
 use Rattle.arc_form.specs.Operators.{marks_at, operator_of}
 use Rattle.arc_form.specs.Views.{all}
-use Rattle.arc_form.proofs.Operators.{joined_is, pair_then, in_turn, second_then, after_left}
+use Rattle.arc_form.proofs.Operators.{joined_is, pair_then, in_turn, second_then}
+use Rattle.arc_form.proofs.Sets.{sees_neither}
 use Rattle.arc_form.proofs.Static.{nullable, decided}
 use Rattle.arc_form.proofs.Local.{Local, weaker, then, local_token, local_ret}
 use Rattle.arc_form.proofs.FormLocal.{solid, read_is, form_front, fronts}
-use Rattle.arc_grammar.specs.Grammar.{Part, Sent, rules, reads_free, reads_on, body, expr, unary, binary, table, join, further, more, continued, operations, expression, prefixed, field_name, with_field, arrows, next_argument, more_arguments, add, argument_part, next_part, more_parts, add_part}
+use Rattle.arc_grammar.specs.Grammar.{Part, Sent, rules, reads_free, reads_on, body, expr, unary, binary, table, marks_up_to, join, further, more, up_to, operations, expression, prefixed, field_name, with_field, arrows, next_argument, more_arguments, add, argument_part, next_part, more_parts, add_part}
 use Rattle.arc_grammar.proofs.Fits.{facts, sure}
+use Rattle.arc_expr.specs.declared.operator.TheConstants.{LOOSEST}
 
 -- a part that is some token at least takes one
 front : {A : Type 0} (part : Part A) → decided facts part ≡ true → nullable facts part ≡ false → (j : ℕ) → Local ⊥ 1 j (reads_free part) (reads_free part)
@@ -32,24 +34,11 @@ pub read_unary : (ts : List Tok) → rules unlimited unary ts ≡ reads_free pre
 unfolding body
 read_unary ts = read_is facts body sure unlimited unary ts
 
-pub read_binary_zero : (ts : List Tok) → rules unlimited (binary 0) ts ≡ reads_free prefixed ts
-unfolding body operations
-read_binary_zero ts = read_is facts body sure unlimited (binary 0) ts
-
-operations_one : (ts : List Tok) → reads_free (operations 1) ts ≡ (reads_free prefixed >>= (λ left. reads_on (more 1) left)) ts
-unfolding operations
-operations_one ts = after_left (reads_free prefixed ts) (reads_free (more 1))
-
-operations_two : (ts : List Tok) → reads_free (operations 2) ts ≡ (reads_free (operations 1) >>= (λ left. reads_on (more 2) left)) ts
-unfolding operations
-operations_two ts = after_left (reads_free (operations 1) ts) (reads_free (more 2))
-
-pub read_binary : (l : ℕ) (ts : List Tok) → 1 ≤ l → l ≤ 2 → rules unlimited (binary l) ts ≡ (rules unlimited (binary (l - 1)) >>= (λ left. reads_on (more l) left)) ts
-unfolding body
-read_binary zero ts p q = absurd (omega arith)
-read_binary (suc zero) ts p q = read_is facts body sure unlimited (binary 1) ts ∙ operations_one ts ∙ ap (λ x. bind x (λ left. reads_on (more 1) left)) (sym (read_binary_zero ts))
-read_binary (suc (suc zero)) ts p q = read_is facts body sure unlimited (binary 2) ts ∙ operations_two ts ∙ ap (λ x. bind x (λ left. reads_on (more 2) left)) (sym (read_is facts body sure unlimited (binary 1) ts))
-read_binary (suc (suc (suc l))) ts p q = absurd (omega arith)
+pub read_binary : (l : ℕ) (ts : List Tok) → l ≤ LOOSEST → rules unlimited (binary l) ts ≡ reads_free (operations l) ts
+unfolding body table
+read_binary l ts p =
+    let same : min l LOOSEST ≡ l = omega (arith, p) in
+    read_is facts body sure unlimited (binary l) ts ∙ ap (λ k. reads_free (operations k) ts) same
 
 -- the operators of a level after a left operand, one by one
 pub read_more : (l : ℕ) (left : ExprTree) (ts : List Tok)
@@ -62,10 +51,26 @@ read_more l left ts =
     pairs : (l : ℕ) (left : ExprTree) (ts : List Tok) → bind (reads_free (further l) ts) (λ a. reads_on (more l) (join left a)) ≡ (take_one (marks_at l table) (operator_of operators.Add table) >>= (λ o. rules unlimited (binary (l - 1)) >>= (λ right. reads_on (more l) (Binary (begins left) o left right)))) ts
     pairs l left ts = pair_then (take_one (marks_at l table) (operator_of operators.Add table) ts) (rules unlimited (binary (l - 1))) (λ a. reads_on (more l) (join left a))
 
--- and those of all levels, level by level
-pub read_continued : (left : ExprTree) (ts : List Tok) → reads_on continued left ts ≡ ((reads_on (more 1) left >>= (λ products. reads_on (more 2) products)) >>= (λ sums. reads_on (more 3) sums)) ts
-unfolding continued
-read_continued left ts = in_turn ExprTree (reads_free (more 1)) (reads_free (more 2)) (reads_free (more 3)) left ts
+more_past : (l : ℕ) (left : ExprTree) (ts : List Tok) → sees (marks_at l table) ts ≡ false → reads_on (more l) left ts ≡ Ok (left, ts)
+more_past l left ts s = read_more l left ts ∙ rw s refl
+
+-- those of the levels up to one, level by level
+pub read_up_to : (l : ℕ) (left : ExprTree) (ts : List Tok) → 1 ≤ l → reads_on (up_to l) left ts ≡ (reads_on (up_to (l - 1)) left >>= (λ tighter. reads_on (more l) tighter)) ts
+unfolding up_to
+read_up_to zero left ts p = absurd (omega arith)
+read_up_to (suc l) left ts p =
+    let before : suc l - 1 ≡ l = omega arith in
+    rw before (in_turn ExprTree (reads_free (up_to l)) (reads_free (more (suc l))) left ts)
+
+-- and none where no operator of such a level is ahead
+pub read_past : (l : ℕ) (left : ExprTree) (ts : List Tok) → sees (marks_up_to l) ts ≡ false → reads_on (up_to l) left ts ≡ Ok (left, ts)
+unfolding up_to
+read_past zero left ts s = refl
+read_past (suc l) left ts s =
+    let p = sees_neither (marks_up_to l) (marks_at (suc l) table) ts s in
+    in_turn ExprTree (reads_free (up_to l)) (reads_free (more (suc l))) left ts
+    ∙ ap (λ x. bind x (λ tighter. reads_on (more (suc l)) tighter)) (read_past l left ts p.0)
+    ∙ more_past (suc l) left ts p.1
 
 -- the fields after an object, one by one
 field_front : (j : ℕ) → Local ⊥ 1 j (reads_free field_name) (reads_free field_name)

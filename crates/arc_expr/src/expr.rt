@@ -8,9 +8,10 @@ ghost use Rattle.arc_form.specs.Reader.{Gives};
 ghost use Rattle.arc_form.specs.Views.{all};
 ghost use Rattle.arc_grammar.specs.Grammar.{reads_free, reads_on, rules};
 ghost use Rattle.arc_grammar.specs.Grammar as grammar;
+ghost use Rattle.arc_expr.specs.declared.operator.TheConstants.{LOOSEST};
 
 use crate::literal::literal;
-use crate::operator::{operator, sees_operator};
+use crate::operator::{LOOSEST, operator, sees_operator, sees_operator_up_to};
 use arc_ast::tree::{BinaryOperator, Expr, TypeName};
 use arc_form::fail::Read;
 use arc_form::step::{expect, keyword, name, sees_mark, sees_name, sees_reference, sees_word};
@@ -81,21 +82,34 @@ fn assigned<'a>(alloc: Global, left: Expr, tokens: &'a [Token]) -> Read<'a, Expr
 
 /// The operators of all levels after this unary expression, with their right operands.
 #[cycle(exprs)]
-#[tactic(auto, using(crate::proofs::Fix::read_continued))]
+#[tactic(auto, unfolding(arc_grammar::specs::Grammar::continued, arc_grammar::specs::Grammar::table))]
 fn continued<'a>(alloc: Global, left: Expr, tokens: &'a [Token]) -> Read<'a, Expr>
     ensures gives { Gives (λ x. (expr_tree x.0, toks x.1.now)) result (reads_on grammar.continued (expr_tree left) (toks tokens.now)) }
     ensures shorter { IfOk result (λ x. length x.1.now ≤ length tokens.now) }
 {
-    let (left, rest) = more(alloc, 1, left, tokens)?;
-    let (left, rest) = more(alloc, 2, left, rest)?;
-    more(alloc, 3, left, rest)
+    up_to(alloc, LOOSEST, left, tokens)
+}
+
+/// The operators of the levels up to this one after this left operand, with their right operands.
+#[cycle(exprs)]
+#[tactic(auto, using(crate::proofs::Fix::read_up_to, crate::proofs::Fix::read_past))]
+fn up_to<'a>(alloc: Global, level: usize, left: Expr, tokens: &'a [Token]) -> Read<'a, Expr>
+    requires { level ≤ LOOSEST }
+    ensures gives { Gives (λ x. (expr_tree x.0, toks x.1.now)) result (reads_on (grammar.up_to level) (expr_tree left) (toks tokens.now)) }
+    ensures shorter { IfOk result (λ x. length x.1.now ≤ length tokens.now) }
+{
+    if !sees_operator_up_to(level, tokens) {
+        return Ok((left, tokens));
+    }
+    let (left, rest) = up_to(alloc, level - 1, left, tokens)?;
+    more(alloc, level, left, rest)
 }
 
 /// The operators of a level after this left operand, with their right operands.
 #[cycle(exprs)]
 #[tactic(auto, using(crate::proofs::Fix::read_more))]
 fn more<'a>(alloc: Global, level: usize, left: Expr, tokens: &'a [Token]) -> Read<'a, Expr>
-    requires { 1 ≤ level × level ≤ 3 }
+    requires { 1 ≤ level × level ≤ LOOSEST }
     ensures gives { Gives (λ x. (expr_tree x.0, toks x.1.now)) result (reads_on (grammar.more level) (expr_tree left) (toks tokens.now)) }
     ensures shorter { IfOk result (λ x. length x.1.now ≤ length tokens.now) }
 {
@@ -112,17 +126,14 @@ fn more<'a>(alloc: Global, level: usize, left: Expr, tokens: &'a [Token]) -> Rea
 
 /// An expression whose operators are of this level or tighter.
 #[cycle(exprs)]
-#[tactic(auto, using(crate::proofs::Fix::read_binary_zero, crate::proofs::Fix::read_binary))]
+#[tactic(auto, using(crate::proofs::Fix::read_binary), unfolding(arc_grammar::specs::Grammar::operations))]
 fn binary<'a>(alloc: Global, level: usize, tokens: &'a [Token]) -> Read<'a, Expr>
-    requires { level ≤ 2 }
+    requires { level ≤ LOOSEST }
     ensures gives { Gives (λ x. (expr_tree x.0, toks x.1.now)) result (rules unlimited (grammar.binary level) (toks tokens.now)) }
     ensures shorter { IfOk result (λ x. length x.1.now < length tokens.now) }
 {
-    if level == 0 {
-        return prefixed(alloc, tokens);
-    }
-    let (left, rest) = binary(alloc, level - 1, tokens)?;
-    more(alloc, level, left, rest)
+    let (left, rest) = prefixed(alloc, tokens)?;
+    up_to(alloc, level, left, rest)
 }
 
 /// A unary expression.

@@ -1,26 +1,41 @@
 //! Reads the operators between two operands.
-ghost use Rattle.std.specs.Prelude.{◌≡◌, ◌<◌, length, IfOk};
+ghost use Rattle.std.specs.Prelude.{◌≡◌, ◌<◌, ◌≤◌, true, length, IfOk};
 ghost use Rattle.arc_lex.specs.Tokens.{tok, toks};
 ghost use Rattle.arc_form.specs.Operators.{entry, entry_of, marks_at};
 ghost use Rattle.arc_form.specs.Reader.{Gives, sees, take_one};
 ghost use Rattle.arc_form.specs.Operators.{operator_of};
-ghost use Rattle.arc_grammar.specs.Grammar.{table};
+ghost use Rattle.arc_grammar.specs.Grammar.{table, marks_up_to};
 ghost use Rattle.arc_ast.specs.declared.tree.BinaryOperator.TheVariants.{Add};
 
 use arc_ast::tree::BinaryOperator;
 use arc_form::fail::{Fail, Read};
 use arc_lex::token::{Mark, Token, TokenKind};
 
+/// The loosest level of an operator.
+pub const LOOSEST: usize = 8;
+
 /// The level and the operator of a mark.
+#[tactic(auto, unfolding(arc_grammar::specs::Grammar::table))]
 fn of_mark(mark: Mark) -> Option<(usize, BinaryOperator)>
     ensures { result ≡ entry table mark }
 {
     match mark {
         Mark::Star => Some((1, BinaryOperator::Multiply)),
         Mark::Slash => Some((1, BinaryOperator::Divide)),
+        Mark::Percent => Some((1, BinaryOperator::Remainder)),
         Mark::Plus => Some((2, BinaryOperator::Add)),
         Mark::Minus => Some((2, BinaryOperator::Subtract)),
-        Mark::NotEqual => Some((3, BinaryOperator::NotEqual)),
+        Mark::ShiftLeft => Some((3, BinaryOperator::ShiftLeft)),
+        Mark::ShiftRight => Some((3, BinaryOperator::ShiftRight)),
+        Mark::Less => Some((4, BinaryOperator::Less)),
+        Mark::LessEqual => Some((4, BinaryOperator::LessOrEqual)),
+        Mark::Greater => Some((4, BinaryOperator::Greater)),
+        Mark::GreaterEqual => Some((4, BinaryOperator::GreaterOrEqual)),
+        Mark::Equal => Some((5, BinaryOperator::Equal)),
+        Mark::NotEqual => Some((5, BinaryOperator::NotEqual)),
+        Mark::Ampersand => Some((6, BinaryOperator::BitAnd)),
+        Mark::Caret => Some((7, BinaryOperator::BitXor)),
+        Mark::Bar => Some((8, BinaryOperator::BitOr)),
         _ => None,
     }
 }
@@ -43,6 +58,21 @@ pub fn sees_operator(level: usize, tokens: &[Token]) -> bool
     match tokens.first() {
         Some(token) => match of_token(token) {
             Some((found, _)) => found == level,
+            None => false,
+        },
+        None => false,
+    }
+}
+
+/// Whether the first token is an operator of this level or of a tighter one.
+#[tactic(auto, using(crate::proofs::Table::sees_up_to))]
+pub fn sees_operator_up_to(level: usize, tokens: &[Token]) -> bool
+    ensures value { result ≡ sees (marks_up_to level) (toks tokens.now) }
+    ensures level { result ≡ true → 1 ≤ level }
+{
+    match tokens.first() {
+        Some(token) => match of_token(token) {
+            Some((found, _)) => 1 <= found && found <= level,
             None => false,
         },
         None => false,

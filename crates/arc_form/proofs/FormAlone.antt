@@ -1,7 +1,7 @@
 -- What is no token, and what is one token alone.
 use Rattle.std.proofs.Common.{◌≡◌, ◌⊎◌, inl, inr, List, [], ◌∷◌, Bool, true, false, ◌||◌, refl}
 use Rattle.arc_lex.specs.Tokens.{Tok}
-use Rattle.arc_form.specs.Kinds.{Kinds, is}
+use Rattle.arc_form.specs.Kinds.{is}
 use Rattle.arc_form.specs.Reader.{sees}
 use Rattle.arc_form.specs.Form.{Limits, unlimited, Form, token, give, call, map, ◌⨾◌, choose, many, or_none, nest, bounded, two_ahead, avoid}
 use Rattle.arc_form.specs.Meaning.{Spelling, SpellsBy}

@@ -119,7 +119,7 @@ module _ {O : Type 0} where
       go None q h = ap (λ b. taken b (operator_of other rows) t ts) (h ∙ ap (is_at l) q) ∙ ap (λ x. taken_entry l x (t ∷ ts)) (sym q)
       go (Some e) q h = at e q (nat_eq e.0 l) refl (h ∙ ap (is_at l) q) ∙ ap (λ x. taken_entry l x (t ∷ ts)) (sym q)
 
--- ---- three changes of a value, one after the other
+-- ---- two changes of a value, one after the other
 
 module _ (A : Type 0) where
   abbrev Change : Type 0
@@ -128,35 +128,22 @@ module _ (A : Type 0) where
   abbrev Two : Type 0
   Two = Change × Change
 
-  abbrev Three : Type 0
-  Three = Change × Two
-
-  abbrev all_three : Read Three → A → Read A
-  all_three x a = bind {A = Change} (bind x (λ r. ret (λ left. r.1.1 (r.1.0 (r.0 left))))) (λ make. ret (make a))
-
-  abbrev two : Read Change → Reader Change → Read Two
-  two y h = bind y (λ s. h >>= (λ t. ret (s, t)))
-
-  abbrev three : Read Change → Reader Two → Read Three
-  three x k = bind x (λ p. k >>= (λ q. ret (p, q)))
+  abbrev both_made : Read Two → A → Read A
+  both_made x a = bind {A = Change} (bind x (λ r. ret (λ left. r.1 (r.0 left)))) (λ make. ret (make a))
 
   abbrev change : Reader Change → A → Reader A
   change f a = f >>= (λ make. ret (make a))
 
-  pub in_turn : (f g h : Reader Change) (a : A) (ts : List Tok) → all_three (three (f ts) (λ us. two (g us) h)) a ≡ ((change f a >>= (λ b. change g b)) >>= (λ c. change h c)) ts
-  in_turn f g h a ts = first (f ts)
+  pub in_turn : (f g : Reader Change) (a : A) (ts : List Tok) → both_made (bind (f ts) (λ p. g >>= (λ q. ret (p, q)))) a ≡ (change f a >>= (λ b. change g b)) ts
+  in_turn f g a ts = first (f ts)
     where
-      first : (x : Read Change) → all_three (three x (λ us. two (g us) h)) a ≡ bind (bind (bind x (λ make. ret (make a))) (λ b. change g b)) (λ c. change h c)
+      first : (x : Read Change) → both_made (bind x (λ p. g >>= (λ q. ret (p, q)))) a ≡ bind (bind x (λ make. ret (make a))) (λ b. change g b)
       first (Err x) = refl
       first (Ok x) = second (g x.1)
         where
-          second : (y : Read Change) → all_three (bind (two y h) (λ q. ret (x.0, q))) a ≡ bind (bind y (λ make. ret (make (x.0 a)))) (λ c. change h c)
+          second : (y : Read Change) → both_made (bind y (λ q. ret (x.0, q))) a ≡ bind y (λ make. ret (make (x.0 a)))
+          second (Ok y) = refl
           second (Err y) = refl
-          second (Ok y) = third (h y.1)
-            where
-              third : (z : Read Change) → all_three (bind {A = Two} (bind z (λ t. ret (y.0, t))) (λ q. ret (x.0, q))) a ≡ bind z (λ make. ret (make (y.0 (x.0 a))))
-              third (Ok z) = refl
-              third (Err z) = refl
 
 -- ---- loops that join from the left
 
@@ -177,15 +164,6 @@ second_then {A} {B} {C} (Ok x) g k = go (g x.1)
     go (Ok y) = refl
     go (Err y) = refl
 second_then (Err x) g k = refl
-
--- a first part and one that makes a value of it
-pub after_left : {A B : Type 0} (x : Read A) (h : Reader (A → B)) → bind {A = A × (A → B)} (bind x (λ a. h >>= (λ make. ret (a, make)))) (λ p. ret (p.1 p.0)) ≡ bind x (λ a. h >>= (λ make. ret (make a)))
-after_left {A} {B} (Ok x) h = go (h x.1)
-  where
-    go : (y : Read (A → B)) → bind {A = A × (A → B)} (bind y (λ make. ret (x.0, make))) (λ p. ret (p.1 p.0)) ≡ bind y (λ make. ret (make x.0))
-    go (Ok y) = refl
-    go (Err y) = refl
-after_left (Err x) h = refl
 
 module _ {A B : Type 0} (K : Kinds) (f : Reader A) (join : B → A → B) (front : (j : ℕ) → Local ⊥ 1 j f f) where
   abbrev joined_to : B → Read (List A) → Read B

@@ -1,33 +1,56 @@
 -- The grammar passes the controlling, rule by rule.
-use Rattle.std.proofs.Common.{◌≡◌, zero, suc, true, refl}
+use Rattle.std.proofs.Common.{◌≡◌, ℕ, zero, suc, min, Bool, true, ◌&&◌, ◌<◌, ◌≤◌, ◌⊎◌, inl, inr, refl, subst, arith}
+use Rattle.std.proofs.lemmas.Bool.{cases_lt}
 use Rattle.arc_lex.specs.declared.token.Mark.TheVariants as m
 use Rattle.arc_lex.specs.declared.token.Word.TheVariants as w
 use Rattle.arc_form.specs.Kinds.{none, ◌∪◌, mark, word}
-use Rattle.arc_form.specs.Operators.{marks_at}
 use Rattle.arc_form.specs.Form.{bounded}
-use Rattle.arc_form.proofs.Static.{Facts, fits, decided}
-use Rattle.arc_grammar.specs.Grammar.{Rule, expr, unary, binary, stmt, table, begins_expr, begins_stmt, further, more, continued, literal, field_name, arrows, next_argument, more_arguments, some_arguments, no_arguments, given, arguments, named, argument_part, next_part, more_parts, parts, sent, to_super, to_object, message, inside, cast_to_id, cast, product, starred, parenthesized, primary, postfix, negated, plus, prefixed, operations, assigned, operation, expression, full, initial, variable, next_variable, more_variables, declaration, reference, next_reference, more_references, objects, simple, empty, value, returned, controlling, otherwise, if_else, while_do, by_name, item, items, block, worded, statement, result_type, parameter, next_parameter, more_parameters, void_parameters, some_parameters, parameters, texts_name, perhaps_const, texts, further_parameters, second, some_of_main, parameters_of_main, signature_of_main, other_signature, signature, braces, function_body, function, typed, next_typed, typed_parts, selector, sign, method_head, next_head, method_heads, perhaps_semicolon, method, methods, next_name, more_names, group, groups, fields, interface, implementation, class_names, top, tops, unit, body}
+use Rattle.arc_form.proofs.Static.{Facts, fits, decided, guarded, heads, simple as has_example, goes_on, bars}
+use Rattle.arc_form.proofs.Sets.{both, among}
+use Rattle.arc_grammar.specs.Grammar.{Rule, expr, unary, binary, stmt, table, begins_expr, begins_stmt, loosest, marks_up_to, further, more, up_to, continued, literal, field_name, arrows, next_argument, more_arguments, some_arguments, no_arguments, given, arguments, named, argument_part, next_part, more_parts, parts, sent, to_super, to_object, message, inside, cast_to_id, cast, product, starred, parenthesized, primary, postfix, negated, plus, prefixed, operations, assigned, operation, expression, full, initial, variable, next_variable, more_variables, declaration, reference, next_reference, more_references, objects, simple, empty, value, returned, controlling, otherwise, if_else, while_do, by_name, item, items, block, worded, statement, result_type, parameter, next_parameter, more_parameters, void_parameters, some_parameters, parameters, texts_name, perhaps_const, texts, further_parameters, second, some_of_main, parameters_of_main, signature_of_main, other_signature, signature, braces, function_body, function, typed, next_typed, typed_parts, selector, sign, method_head, next_head, method_heads, perhaps_semicolon, method, methods, next_name, more_names, group, groups, fields, interface, implementation, class_names, top, tops, unit, body}
+
+-- an expression whose operators are of a level or tighter
+abbrev of_operand : ℕ → Facts
+of_operand l = record { begins = begins_expr; goes_on = mark m.Arrow ∪ mark m.OpenParen ∪ marks_up_to l; bars = none }
 
 abbrev pub facts : Rule → Facts
-facts expr = record { begins = begins_expr; goes_on = mark m.Arrow ∪ mark m.OpenParen ∪ mark m.Assign ∪ marks_at 1 table ∪ marks_at 2 table ∪ marks_at 3 table; bars = none }
-facts unary = record { begins = begins_expr; goes_on = mark m.Arrow ∪ mark m.OpenParen; bars = none }
-facts (binary zero) = record { begins = begins_expr; goes_on = mark m.Arrow ∪ mark m.OpenParen; bars = none }
-facts (binary (suc zero)) = record { begins = begins_expr; goes_on = mark m.Arrow ∪ mark m.OpenParen ∪ marks_at 1 table; bars = none }
-facts (binary (suc (suc l))) = record { begins = begins_expr; goes_on = mark m.Arrow ∪ mark m.OpenParen ∪ marks_at 1 table ∪ marks_at 2 table; bars = none }
+facts expr = record { begins = begins_expr; goes_on = mark m.Arrow ∪ mark m.OpenParen ∪ mark m.Assign ∪ marks_up_to loosest; bars = none }
+facts unary = of_operand 0
+facts (binary l) = of_operand (min l loosest)
 facts (stmt d) = record { begins = begins_stmt; goes_on = none; bars = word w.Else }
 
 -- `unfolding lines` opens each line of the grammar, so that the test is a computation.
 unfoldable pub lines : Unit {0}
-unfolding further more continued literal field_name arrows next_argument more_arguments some_arguments no_arguments given arguments named argument_part next_part more_parts parts sent to_super to_object message inside cast_to_id cast product starred parenthesized primary postfix negated plus prefixed operations assigned operation expression full initial variable next_variable more_variables declaration reference next_reference more_references objects simple empty value returned controlling otherwise if_else while_do by_name item items block worded statement result_type parameter next_parameter more_parameters void_parameters some_parameters parameters texts_name perhaps_const texts further_parameters second some_of_main parameters_of_main signature_of_main other_signature signature braces function_body function typed next_typed typed_parts selector sign method_head next_head method_heads perhaps_semicolon method methods next_name more_names group groups fields interface implementation class_names top tops unit body
+unfolding table further more up_to continued literal field_name arrows next_argument more_arguments some_arguments no_arguments given arguments named argument_part next_part more_parts parts sent to_super to_object message inside cast_to_id cast product starred parenthesized primary postfix negated plus prefixed operations assigned operation expression full initial variable next_variable more_variables declaration reference next_reference more_references objects simple empty value returned controlling otherwise if_else while_do by_name item items block worded statement result_type parameter next_parameter more_parameters void_parameters some_parameters parameters texts_name perhaps_const texts further_parameters second some_of_main parameters_of_main signature_of_main other_signature signature braces function_body function typed next_typed typed_parts selector sign method_head next_head method_heads perhaps_semicolon method methods next_name more_names group groups fields interface implementation class_names top tops unit body
 lines = tt
+
+-- what `fits` asks of an operand
+abbrev operand_fits : ℕ → Bool
+operand_fits l =
+    (guarded facts (operations l) && decided facts (operations l)) && ((heads facts begins_expr (operations l) && has_example facts (operations l)) && (among (goes_on facts (operations l)) (of_operand l).goes_on && among (bars facts (operations l)) none))
+
+-- what holds of each number up to one
+abbrev holds_to : (ℕ → Bool) → ℕ → Bool
+holds_to P zero = P 0
+holds_to P (suc n) = holds_to P n && P (suc n)
+
+at_each : (P : ℕ → Bool) (n l : ℕ) → holds_to P n ≡ true → P (min l n) ≡ true
+at_each P zero l h = subst (λ k. P k ≡ true) (omega arith) h
+at_each P (suc n) l h = let parts = both (holds_to P n) (P (suc n)) h in go (cases_lt n l) parts.1 (at_each P n l parts.0)
+  where
+    go : (n < l) ⊎ (l ≤ n) → P (suc n) ≡ true → P (min l n) ≡ true → P (min l (suc n)) ≡ true
+    go (inl p) last before = subst (λ k. P k ≡ true) (omega (arith, p)) last
+    go (inr p) last before = subst (λ k. P k ≡ true) (omega (arith, p)) before
+
+each_operand : holds_to operand_fits loosest ≡ true
+unfolding lines
+each_operand = refl
 
 pub sure : (n : Rule) → fits facts body n ≡ true
 unfolding lines
 sure expr = refl
 sure unary = refl
-sure (binary zero) = refl
-sure (binary (suc zero)) = refl
-sure (binary (suc (suc l))) = refl
+sure (binary l) = at_each operand_fits loosest l each_operand
 sure (stmt d) = refl
 
 -- and so does the whole

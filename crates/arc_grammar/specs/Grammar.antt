@@ -1,5 +1,5 @@
 -- The grammar, a line for each of its rules, with the tree that each gives.
-use Rattle.std.specs.Prelude.{ℕ, zero, suc, ◌-◌, List, [], ◌∷◌, ◌++◌, Option, Some, None}
+use Rattle.std.specs.Prelude.{ℕ, zero, suc, ◌-◌, min, max, List, [], ◌∷◌, ◌++◌, Option, Some, None}
 use Rattle.arc_lex.specs.declared.token.Mark.{Mark}
 use Rattle.arc_lex.specs.declared.token.Mark.TheVariants as m
 use Rattle.arc_lex.specs.declared.token.Word.{Word}
@@ -16,7 +16,7 @@ use Rattle.arc_ast.specs.declared.tree.BinaryOperator.{BinaryOperator}
 use Rattle.arc_ast.specs.declared.tree.BinaryOperator.TheVariants as operators
 use Rattle.arc_ast.specs.Tree.{TypeTree, ResultTree, ExprTree, ExprTrees, VariableTree, StmtTree, StmtTrees, ParameterTree, ParametersTree, FunctionTree, HeadTree, MethodTree, FieldTree, InterfaceTree, ImplementationTree, UnitTree, Int, Id, Object, Void, Value, Integer, Text, Paren, Call, Nil, Itself, Name, Negate, Plus, Cast, Binary, Arrow, Assign, Send, SendSuper, no_exprs, and_expr, Block, Empty, Simple, Return, Variables, If, IfElse, While, no_stmts, and_stmt, Listed, CountAndTexts, begins}
 use Rattle.arc_grammar.specs.declared.limits.TheConstants.{DEEPEST, MOST_TOKENS}
-use Rattle.arc_form.specs.Kinds.{Kinds, ◌∪◌, mark, word, at, name, main, other_name, integer, text}
+use Rattle.arc_form.specs.Kinds.{Kinds, none, ◌∪◌, mark, word, at, name, main, other_name, integer, text}
 use Rattle.arc_form.specs.Reader.{Reader, ◌>>=◌, ret, from}
 use Rattle.arc_form.specs.Reader as readers
 use Rattle.arc_form.specs.Operators.{Row, marks_at, operator_of, fold}
@@ -54,15 +54,39 @@ at_key w = token (at w) from
 abbrev pub called : Part (ℕ × List ℕ)
 called = token name readers.named
 
--- ---- operators between two operands (C99, sections 6.5.5, 6.5.6 and 6.5.9), the tightest first
+-- ---- operators between two operands (C99, sections 6.5.5 to 6.5.12), the tightest first
 
-abbrev pub table : List (Row BinaryOperator)
+unfoldable pub table : List (Row BinaryOperator)
 table =
     record { mark = m.Star; level = 1; operator = operators.Multiply } ∷
     record { mark = m.Slash; level = 1; operator = operators.Divide } ∷
+    record { mark = m.Percent; level = 1; operator = operators.Remainder } ∷
     record { mark = m.Plus; level = 2; operator = operators.Add } ∷
     record { mark = m.Minus; level = 2; operator = operators.Subtract } ∷
-    record { mark = m.NotEqual; level = 3; operator = operators.NotEqual } ∷ []
+    record { mark = m.ShiftLeft; level = 3; operator = operators.ShiftLeft } ∷
+    record { mark = m.ShiftRight; level = 3; operator = operators.ShiftRight } ∷
+    record { mark = m.Less; level = 4; operator = operators.Less } ∷
+    record { mark = m.LessEqual; level = 4; operator = operators.LessOrEqual } ∷
+    record { mark = m.Greater; level = 4; operator = operators.Greater } ∷
+    record { mark = m.GreaterEqual; level = 4; operator = operators.GreaterOrEqual } ∷
+    record { mark = m.Equal; level = 5; operator = operators.Equal } ∷
+    record { mark = m.NotEqual; level = 5; operator = operators.NotEqual } ∷
+    record { mark = m.Ampersand; level = 6; operator = operators.BitAnd } ∷
+    record { mark = m.Caret; level = 7; operator = operators.BitXor } ∷
+    record { mark = m.Bar; level = 8; operator = operators.BitOr } ∷ []
+
+-- the loosest of these levels
+abbrev pub loosest_of : List (Row BinaryOperator) → ℕ
+loosest_of [] = 0
+loosest_of (r ∷ rows) = max r.level (loosest_of rows)
+
+abbrev pub loosest : ℕ
+loosest = loosest_of table
+
+-- the operators of the levels up to this one
+abbrev pub marks_up_to : ℕ → Kinds
+marks_up_to zero = none
+marks_up_to (suc l) = marks_up_to l ∪ marks_at (suc l) table
 
 -- an operator of a level
 abbrev pub between : ℕ → Part BinaryOperator
@@ -79,9 +103,14 @@ further l = between l ⨾ call (binary (l - 1))
 unfoldable pub more : ℕ → Part (ExprTree → ExprTree)
 more l = map (λ all left. fold join left all) (many (marks_at l table) (further l))
 
+-- the operators of the levels up to this one after a unary expression, the tightest first
+unfoldable pub up_to : ℕ → Part (ExprTree → ExprTree)
+up_to zero = give (λ left. left)
+up_to (suc l) = map (λ (tighter, make) left. make (tighter left)) (up_to l ⨾ more (suc l))
+
 -- the operators of all levels after a unary expression
 unfoldable pub continued : Part (ExprTree → ExprTree)
-continued = map (λ (products, (sums, tests)) left. tests (sums (products left))) (more 1 ⨾ more 2 ⨾ more 3)
+continued = up_to loosest
 
 -- ---- expressions (C99, section 6.5)
 
@@ -234,10 +263,9 @@ plus = map (λ (at, a). Plus at a) (the m.Plus ⨾ call unary)
 unfoldable pub prefixed : Part ExprTree
 prefixed = choose (mark m.Minus) negated (choose (mark m.Plus) plus (choose (mark m.OpenParen) parenthesized postfix))
 
--- the operators that bind as loosely as this level, or tighter
+-- an expression whose operators bind as loosely as this level, or tighter
 unfoldable pub operations : ℕ → Part ExprTree
-operations zero = prefixed
-operations (suc l) = map (λ (left, make). make left) (operations l ⨾ more (suc l))
+operations l = map (λ (left, make). make left) (prefixed ⨾ up_to l)
 
 -- an assignment (6.5.16), of which the left side is a unary expression
 unfoldable pub assigned : Part (ExprTree → ExprTree)
@@ -570,9 +598,7 @@ unit = map (λ all. record { functions = functions_of all; interfaces = interfac
 unfoldable pub body : Bodies Rule Node
 body expr = expression
 body unary = prefixed
-body (binary zero) = operations 0
-body (binary (suc zero)) = operations 1
-body (binary (suc (suc l))) = operations 2
+body (binary l) = operations (min l loosest)
 body (stmt d) = nest d begins_stmt (statement d)
 
 -- This compiler's own limits (C99, section 5.2.4.1, asks for 127 levels of blocks and 63 of parentheses): a statement of a

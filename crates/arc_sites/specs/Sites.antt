@@ -1,8 +1,9 @@
 -- The sites of a source: each node of its tree, with what surrounds it. They are this project's own words for the rules of later stages.
 use Rattle.std.specs.Prelude.{ℕ, Bool, true, false, ◌||◌, List, [], ◌∷◌, ◌++◌, flat_map, fold, Option, Some, None}
 use Rattle.std.specs.Option.{option_map_or}
-use Rattle.arc_ast.specs.declared.tree.BinaryOperator.{BinaryOperator}
-use Rattle.arc_ast.specs.declared.tree.BinaryOperator.TheVariants as o
+use Rattle.arc_ast.specs.Operators.{sort_of}
+use Rattle.arc_ast.specs.declared.tree.OperatorSort.{OperatorSort}
+use Rattle.arc_ast.specs.declared.tree.OperatorSort.TheVariants.{Equality}
 use Rattle.arc_ast.specs.Tree.{TypeTree, ExprTree, ExprTrees, Paren, Call, Negate, Plus, Cast, Binary, Arrow, Assign, Send, SendSuper, no_exprs, and_expr, VariableTree, StmtTree, StmtTrees, Block, Empty, Simple, Return, Variables, If, IfElse, While, no_stmts, and_stmt, ParameterTree, ParametersTree, Listed, CountAndTexts, FunctionTree, HeadTree, MethodTree, InterfaceTree, ImplementationTree, UnitTree}
 
 -- ---- what surrounds a node
@@ -25,9 +26,9 @@ pub record Scope : Type 0 where
   pub outer : List Bound
   pub in_loop : Bool  -- in the body of a `while`; not in its test, where no rule asks for it
 
--- What an expression is needed for: nothing more, a test or the left side of `!=`, a number, an object, what goes with another expression (the right side of
--- `=` and of `!=`), the first value of a variable of a type, what the function or the method returns, what a message is sent to, and the first argument or
--- another one of a function with a name. An expression in parentheses is needed for what they are needed for.
+-- What an expression is needed for: nothing more, a test or the left side of `==` or `!=`, a number, an object, what goes with another expression (the right side of `=`,
+-- `==` and `!=`), the first value of a variable of a type, what the function or the method returns, what a message is sent to, and the first argument or another one
+-- of a function with a name. An expression in parentheses is needed for what they are needed for.
 pub data Need : Type 0 where
   Anything : Need
   AValue : Need
@@ -92,13 +93,13 @@ with_parameters all s = fold (λ s p. declare p.name p.type s) s all
 
 -- ---- expressions
 
--- what the operands of an operator are needed for
-abbrev pub left_need : BinaryOperator → Need
-left_need o.NotEqual = AValue
+-- what the operands of an operator are needed for, by its sort
+abbrev pub left_need : OperatorSort → Need
+left_need Equality = AValue
 left_need _ = ANumber
 
-abbrev pub right_need : BinaryOperator → ExprTree → Need
-right_need o.NotEqual left = Like left
+abbrev pub right_need : OperatorSort → ExprTree → Need
+right_need Equality left = Like left
 right_need _ left = ANumber
 
 -- the sites inside an expression that is needed for something, each one after those inside it
@@ -110,7 +111,8 @@ abbrev mutual
   inside m s need (Plus at a) = inside m s ANumber a ++ value m s ANumber a
   inside m s need (Cast at type a) = inside m s AnObject a ++ value m s AnObject a
   inside m s need (Binary at operator a b) =
-      (inside m s (left_need operator) a ++ value m s (left_need operator) a) ++ (inside m s (right_need operator a) b ++ value m s (right_need operator a) b)
+      (inside m s (left_need (sort_of operator)) a ++ value m s (left_need (sort_of operator)) a)
+      ++ (inside m s (right_need (sort_of operator) a) b ++ value m s (right_need (sort_of operator) a) b)
   inside m s need (Arrow at name_at a name) = inside m s AnObject a ++ value m s AnObject a
   inside m s need (Assign at sign a b) = (inside m s Anything a ++ value m s Anything a) ++ (inside m s (Like a) b ++ value m s (Like a) b)
   inside m s need (Send at part receiver selector all) =

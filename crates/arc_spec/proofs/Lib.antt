@@ -2,3 +2,4 @@ pub mod Steadiness
 pub mod Composition
 pub mod Ancestry
 pub mod Deallocs
+pub mod Answering

@@ -1,7 +1,7 @@
 //! Arithmetic on the numbers of a program. Each is held in 64 bits, whatever its kind.
-ghost use Rattle.std.specs.Prelude.{◌≡◌, ◌&&◌, ◌+◌, ◌%◌, ◌^◌, ◌<◌, pos, false, if◌then◌else◌};
+ghost use Rattle.std.specs.Prelude.{◌≡◌, ◌&&◌, ◌+◌, ◌%◌, ◌^◌, ◌<◌, pos, false};
 ghost use Rattle.std.specs.Int.{w64, cast_unsigned, IsNonZero};
-ghost use Rattle.arc_spec.specs.Number.{converted, negated, combined, quotient, is_least, is_zero, is_minus_one, is_same, low_32, low_byte, byte_or_end};
+ghost use Rattle.arc_spec.specs.Number.{converted, negated, combined, quotient, remainder, count_of_shift, answer, is_least, is_zero, is_minus_one, is_same, low_32, low_byte, byte_or_end};
 
 use arc_ast::tree::{BinaryOperator, Kind};
 
@@ -30,8 +30,9 @@ pub fn negate(kind: Kind, number: i64) -> i64
     convert(kind, number.wrapping_neg())
 }
 
-/// The answer of an operator, computed as this kind, where sums and products wrap (C99, sections
-/// 6.5.5 and 6.5.6); None is a quotient that is no number of the kind.
+/// The answer of an operator, computed as this kind, where sums, products and shifts to the left wrap
+/// (C99, sections 6.5.5 to 6.5.12); None is a quotient that is no number of the kind, and its
+/// remainder.
 pub fn combine(operator: BinaryOperator, kind: Kind, left: i64, right: i64) -> Option<i64>
     ensures { result ≡ combined operator kind left right }
 {
@@ -40,15 +41,45 @@ pub fn combine(operator: BinaryOperator, kind: Kind, left: i64, right: i64) -> O
         BinaryOperator::Subtract => Some(convert(kind, left.wrapping_sub(right))),
         BinaryOperator::Multiply => Some(convert(kind, left.wrapping_mul(right))),
         BinaryOperator::Divide => divide(kind, left, right),
-        BinaryOperator::NotEqual => Some(differ(left, right)),
+        BinaryOperator::Remainder => rest(kind, left, right),
+        BinaryOperator::ShiftLeft => Some(convert(kind, left << count_of_shift(kind, right))),
+        BinaryOperator::ShiftRight => Some(convert(kind, left) >> count_of_shift(kind, right)),
+        BinaryOperator::Less => Some(answer(left < right)),
+        BinaryOperator::LessOrEqual => Some(answer(left <= right)),
+        BinaryOperator::Greater => Some(answer(left > right)),
+        BinaryOperator::GreaterOrEqual => Some(answer(left >= right)),
+        BinaryOperator::Equal => Some(answer(is_same(left, right))),
+        BinaryOperator::NotEqual => Some(answer(!is_same(left, right))),
+        BinaryOperator::BitAnd => Some(convert(kind, left & right)),
+        BinaryOperator::BitXor => Some(convert(kind, left ^ right)),
+        BinaryOperator::BitOr => Some(convert(kind, left | right)),
     }
 }
 
-/// 1 where the numbers differ, and else 0 (C99, section 6.5.9).
-fn differ(left: i64, right: i64) -> i64
-    ensures { result ≡ (if is_same left right then pos 0 else pos 1) }
+/// Whether the numbers are the same.
+fn is_same(left: i64, right: i64) -> bool
+    ensures { result ≡ is_same left right }
 {
-    if left == right { 0 } else { 1 }
+    left == right
+}
+
+/// The answer of a comparison: 1 where it holds, and else 0 (C99, sections 6.5.8 and 6.5.9).
+fn answer(holds: bool) -> i64
+    ensures { result ≡ answer holds }
+{
+    if holds { 1 } else { 0 }
+}
+
+/// By how many bits a shift of a number of this kind shifts: the count, modulo the width of the kind.
+fn count_of_shift(kind: Kind, count: i64) -> u32
+    ensures value { result ≡ count_of_shift kind count }
+    ensures few { result < 64 }
+{
+    let width = match kind {
+        Kind::Int => 32,
+        Kind::Bool | Kind::Long | Kind::Object | Kind::Void => 64,
+    };
+    (count.cast_unsigned() % width) as u32
 }
 
 /// The quotient, without its fraction, of the two numbers as ones of this kind.
@@ -65,6 +96,22 @@ fn divide(kind: Kind, left: i64, right: i64) -> Option<i64>
     }
     let whole = dividend.wrapping_div(divisor);
     Some(whole)
+}
+
+/// What a division of the two numbers, as ones of this kind, leaves, with the sign of the first.
+fn rest(kind: Kind, left: i64, right: i64) -> Option<i64>
+    ensures { result ≡ remainder kind (converted kind left) (converted kind right) }
+{
+    let dividend = convert(kind, left);
+    let divisor = convert(kind, right);
+    if is_zero(divisor) {
+        return None;
+    }
+    if is_excess(kind, dividend, divisor) {
+        return None;
+    }
+    let rest = dividend.wrapping_rem(divisor);
+    Some(rest)
 }
 
 /// Whether the quotient is too large for the kind.

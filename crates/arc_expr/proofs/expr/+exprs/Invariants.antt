@@ -5,19 +5,22 @@ abbrev pub decreases-expr : goal.decreases-expr
 decreases-expr l = 16 * length l.tokens.now + 7
 
 abbrev pub decreases-operation : goal.decreases-operation
-decreases-operation l = 16 * length l.tokens.now + 9
+decreases-operation l = 16 * length l.tokens.now + 11
 
 abbrev pub decreases-assigned : goal.decreases-assigned
 decreases-assigned l = 16 * length l.tokens.now + 1
 
 abbrev pub decreases-continued : goal.decreases-continued
-decreases-continued l = 16 * length l.tokens.now + 8
+decreases-continued l = 16 * length l.tokens.now + 10
+
+abbrev pub decreases-up_to : goal.decreases-up_to
+decreases-up_to l = 16 * length l.tokens.now + 1 + l.level
 
 abbrev pub decreases-more : goal.decreases-more
-decreases-more l = 16 * length l.tokens.now + 4 + l.level
+decreases-more l = 16 * length l.tokens.now
 
 abbrev pub decreases-binary : goal.decreases-binary
-decreases-binary l = 16 * length l.tokens.now + 4 + l.level
+decreases-binary l = 16 * length l.tokens.now + 4
 
 abbrev pub decreases-prefixed : goal.decreases-prefixed
 decreases-prefixed l = 16 * length l.tokens.now + 3

@@ -1,6 +1,7 @@
 use Rattle.std.proofs.Common.{◌+◌, true, false, drop, refl, sym, ap, ◌∙◌}
 use Rattle.arc_ast.specs.Tree.{expr_tree, expr_trees}
 use Rattle.arc_sites.specs.Sites as sites
+use Rattle.arc_ast.specs.Operators.{sort_of}
 use Rattle.arc_sites.specs.Sites.{ANumber, AnObject, AValue, Anything, Receiver, Argument, Like, left_need, right_need, value, arguments}
 use Rattle.arc_sites.specs.Finding.{enclosing_of, found_from}
 use Rattle.arc_ast.proofs.Trees.{call_tree, send_tree, send_super_tree}
@@ -18,8 +19,8 @@ inside-returns-in-Binary g t c = λ scope need.
     let m = enclosing_of c.args.enclosing in
     let a = expr_tree c.in-Binary.left.value in
     let b = expr_tree c.in-Binary.right.value in
-    let left = left_need c.in-Binary.field-1 in
-    let right = right_need c.in-Binary.field-1 a in
+    let left = left_need (sort_of c.in-Binary.field-1) in
+    let right = right_need (sort_of c.in-Binary.field-1) a in
     rw c.in-Binary.is (found_both g.V.Visitor.violations _ _ _ (sites.sites m scope left a) (sites.sites m scope right b) (rw c.deref-in-Binary.ensures at c.expression-in-Binary.ensures scope left) (rw c.deref-in-Binary-2.ensures at c.expression-in-Binary-2.ensures scope right))
 
 pub inside-returns-in-Assign : goal.inside-returns-in-Assign
