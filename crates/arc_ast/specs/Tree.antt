@@ -1,6 +1,7 @@
 -- Trees without where they lie in memory.
 use Rattle.std.specs.Prelude.{ℕ, ℤ, List, [], ◌∷◌, Bool, Option, option_map}
 use Rattle.arc_ast.specs.declared.tree.BinaryOperator.{BinaryOperator}
+use Rattle.arc_ast.specs.declared.tree.UnaryOperator.{UnaryOperator}
 use Rattle.arc_ast.specs.declared.tree.Sign.{Sign}
 use Rattle.arc_ast.specs.declared.tree.Visibility.{Visibility}
 use Rattle.arc_ast.specs.declared.tree.TypeName.{TypeName}
@@ -46,8 +47,7 @@ mutual
     Nil : ℕ → ExprTree
     Itself : ℕ → ExprTree
     Name : ℕ → List ℕ → ExprTree
-    Negate : ℕ → ExprTree → ExprTree
-    Plus : ℕ → ExprTree → ExprTree
+    Unary : ℕ → UnaryOperator → ExprTree → ExprTree
     Cast : ℕ → TypeTree → ExprTree → ExprTree
     Binary : ℕ → BinaryOperator → ExprTree → ExprTree → ExprTree
     Arrow : ℕ → ℕ → ExprTree → List ℕ → ExprTree
@@ -150,8 +150,7 @@ begins (Call at _ _) = at
 begins (Nil at) = at
 begins (Itself at) = at
 begins (Name at _) = at
-begins (Negate at _) = at
-begins (Plus at _) = at
+begins (Unary at _ _) = at
 begins (Cast at _ _) = at
 begins (Binary at _ _ _) = at
 begins (Arrow at _ _ _) = at
@@ -169,8 +168,7 @@ place (Call at _ _) = at
 place (Nil at) = at
 place (Itself at) = at
 place (Name at _) = at
-place (Negate at _) = at
-place (Plus at _) = at
+place (Unary at _ _) = at
 place (Cast at _ _) = at
 place (Binary at _ _ _) = at
 place (Arrow _ name _ _) = name
@@ -198,8 +196,7 @@ abbrev mutual
   expr_tree (e.Nil at) = Nil at
   expr_tree (e.Itself at) = Itself at
   expr_tree (e.Name at name) = Name at name.items
-  expr_tree (e.Negate' at q a) = Negate at (expr_tree a)
-  expr_tree (e.Plus' at q a) = Plus at (expr_tree a)
+  expr_tree (e.Unary' at operator q a) = Unary at operator (expr_tree a)
   expr_tree (e.Cast' at type q a) = Cast at (type_tree type) (expr_tree a)
   expr_tree (e.Binary' at operator q a r b) = Binary at operator (expr_tree a) (expr_tree b)
   expr_tree (e.Arrow' at name_at q a name) = Arrow at name_at (expr_tree a) name.items

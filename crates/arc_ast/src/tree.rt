@@ -41,6 +41,15 @@ pub enum BinaryOperator {
     BitOr,
 }
 
+/// An operator before its operand (C99, section 6.5.3.3).
+#[derive(Clone, Copy, Debug, PartialEq, Eq)]
+pub enum UnaryOperator {
+    Plus,
+    Negate,
+    Complement,
+    Not,
+}
+
 /// What an operator asks of its operands, in which kind it computes, and the kind of what it gives.
 #[derive(Clone, Copy, Debug, PartialEq, Eq)]
 pub enum OperatorSort {
@@ -130,9 +139,8 @@ pub enum Expr {
     Itself(usize),
     /// The name of a variable or a field or, as a receiver, of a class.
     Name(usize, Vec<u8>),
-    Negate(usize, Box<Expr>),
-    /// Unary `+`
-    Plus(usize, Box<Expr>),
+    /// An operator and its operand.
+    Unary(usize, UnaryOperator, Box<Expr>),
     Cast(usize, TypeName, Box<Expr>),
     Binary(usize, BinaryOperator, Box<Expr>, Box<Expr>),
     /// A field of an object: the place of its first byte and that of the field's name, the object, and

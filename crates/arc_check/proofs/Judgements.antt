@@ -4,9 +4,10 @@ use Rattle.arc_ast.specs.declared.tree.Kind.{Kind}
 use Rattle.arc_ast.specs.declared.tree.Kind.TheVariants as kinds_of
 use Rattle.arc_ast.specs.declared.tree.Expr as ast
 use Rattle.arc_ast.specs.declared.tree.Expr.{Expr}
+use Rattle.arc_ast.specs.declared.tree.UnaryOperator.{UnaryOperator}
 use Rattle.arc_ast.specs.declared.tree.BinaryOperator.{BinaryOperator}
 use Rattle.arc_ast.specs.Operators.{sort_of}
-use Rattle.arc_ast.specs.Tree.{ExprTree, ExprTrees, Arrow, Assign, Binary, Cast, Itself, Negate, Plus, Send, SendSuper, TypeTree, expr_tree, expr_trees, place}
+use Rattle.arc_ast.specs.Tree.{ExprTree, ExprTrees, Arrow, Assign, Binary, Cast, Itself, Send, Unary, SendSuper, TypeTree, expr_tree, expr_trees, place}
 use Rattle.arc_class.specs.Broken.{broken_if, Broken, first, earlier_of}
 use Rattle.arc_class.specs.Table.{number_of_class}
 use Rattle.arc_class.specs.declared.table.ClassId.{ClassId}
@@ -21,7 +22,7 @@ use Rattle.arc_check.specs.declared.taken.Taken.{Taken}
 use Rattle.arc_check.specs.Fault.{told}
 use Rattle.arc_check.specs.Formats.{fits}
 use Rattle.arc_check.specs.private.Judging.{Judges, JudgesCall, JudgesWhole, counted, none_counted, other_rule}
-use Rattle.arc_check.specs.Rules.{all_taken, arrow_kind, at_if, binary_kind, broken, broken_arguments, broken_at, broken_field, call_rule, is_assignable, is_object, is_unread, kind_if, kind_of, kinds, message_kind, no_left, no_method, no_number, no_object, no_right, no_such, number_kind, taken}
+use Rattle.arc_check.specs.Rules.{all_taken, arrow_kind, at_if, binary_kind, broken, broken_arguments, broken_at, broken_field, call_rule, is_assignable, is_object, is_unread, kind_if, kind_of, kinds, message_kind, no_left, no_method, no_number, no_object, no_right, no_such, number_kind, taken, no_operand, unary_kind}
 use Rattle.arc_check.specs.Scopes.{Scope, callee, class_of, class_receiver, is_printf, own_class, result_kind, sent_class, static_class, super_class, super_kind}
 use Rattle.arc_check.proofs.Counting.{counted_both, past_is}
 use Rattle.arc_check.proofs.Lists.{drop_turn}
@@ -92,18 +93,14 @@ itself_refused s before at judged number e m n c f t = record {
 
 -- ---- operators, casts and fields
 
-pub judges_negation : (s : Scope) (before : Taken) (at : ℕ) (a : ExprTree) (judged new : Judged) (here : ℕ) → Judges s before a judged → here ≡ place a → new.kind ≡ number_kind judged.kind → new.class ≡ None
-    → option_map told new.fault ≡ earlier_of (option_map told judged.fault) (first (no_number judged.kind here)) → new.taken ≡ judged.taken → Judges s before (Negate at a) new
-judges_negation s before at a judged new here j p k c f t = record {
-  kind = k ∙ ap number_kind j.kind;
+pub judges_unary : (s : Scope) (before : Taken) (at : ℕ) (operator : UnaryOperator) (a : ExprTree) (judged new : Judged) (here : ℕ) → Judges s before a judged → here ≡ place a → new.kind ≡ unary_kind operator judged.kind → new.class ≡ None
+    → option_map told new.fault ≡ earlier_of (option_map told judged.fault) (first (no_operand operator judged.kind here)) → new.taken ≡ judged.taken → Judges s before (Unary at operator a) new
+judges_unary s before at operator a judged new here j p k c f t = record {
+  kind = k ∙ ap (unary_kind operator) j.kind;
   class = ap (option_map number_of_class) c;
-  fault = with_rule s (broken s a) a no_number (option_map told judged.fault) (option_map told new.fault) judged.kind here j.fault j.kind p f;
+  fault = with_rule s (broken s a) a (no_operand operator) (option_map told judged.fault) (option_map told new.fault) judged.kind here j.fault j.kind p f;
   taken = t ∙ j.taken;
 }
-
--- unary `+` is told as a negation is
-pub judges_plus : (s : Scope) (before : Taken) (at : ℕ) (a : ExprTree) (judged : Judged) → Judges s before (Negate at a) judged → Judges s before (Plus at a) judged
-judges_plus s before at a judged j = record { kind = j.kind; class = j.class; fault = j.fault; taken = j.taken }
 
 pub judges_cast : (s : Scope) (before : Taken) (at : ℕ) (type : TypeTree) (a : ExprTree) (judged new : Judged) (here : ℕ) → Judges s before a judged → here ≡ place a → new.kind ≡ kind_of s (Cast at type a)
     → option_map number_of_class new.class ≡ static_class s.known type → option_map told new.fault ≡ earlier_of (option_map told judged.fault) (first (no_object judged.kind here)) → new.taken ≡ judged.taken → Judges s before (Cast at type a) new

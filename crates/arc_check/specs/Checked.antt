@@ -12,7 +12,7 @@ use Rattle.arc_check.specs.declared.checked.CheckedFunction.{CheckedFunction}
 use Rattle.arc_check.specs.declared.checked.Checked.{Checked}
 use Rattle.arc_spec.specs.Classes.{classes_of}
 use Rattle.arc_spec.specs.Resolved as resolved
-use Rattle.arc_spec.specs.Resolved.{Number, ReadByte, Print, Negated, Combined, Converted, Local, Assigned, Invoked, Sent, SentSuper, SentTo, SentToSuper, Field, FieldAssigned, Differ, IsObject, Nil, Itself, Variable, Stored, Made, Initialized, no_values, and_value, Sequence, Evaluate, EvaluateReference, Begin, Return, Choose, Repeat, no_commands, and_command, Bytes, Decimal, Character}
+use Rattle.arc_spec.specs.Resolved.{Number, ReadByte, Print, Applied, Combined, Converted, Local, Assigned, Invoked, Sent, SentSuper, SentTo, SentToSuper, Field, FieldAssigned, Differ, IsObject, Nil, Itself, Variable, Stored, Made, Initialized, no_values, and_value, Sequence, Evaluate, EvaluateReference, Begin, Return, Choose, Repeat, no_commands, and_command, Bytes, Decimal, Character}
 
 abbrev pub piece : Piece → resolved.Piece
 piece (p.Bytes bytes) = Bytes bytes.items
@@ -28,7 +28,7 @@ abbrev mutual
   value (v.Number n) = Number n
   value v.ReadByte = ReadByte
   value (v.Print' all shape arguments) = Print (pieces all.items) (row_values arguments)
-  value (v.Negated' kind q a) = Negated kind (value a)
+  value (v.Applied' operator kind q a) = Applied operator kind (value a)
   value (v.Combined' operator kind q a r b) = Combined operator kind (value a) (value b)
   value (v.Converted' kind q a) = Converted kind (value a)
   value (v.Local i) = Local i

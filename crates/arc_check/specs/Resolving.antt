@@ -1,6 +1,8 @@
 -- The resolved program of a source that breaks no rule.
 use Rattle.std.specs.Prelude.{ℕ, ◌-◌, pos, Bool, false, List, [], ◌∷◌, ◌++◌, map, flat_map, filter_map, Option, Some, None, option_map, option_and_then, unwrap_or, if◌then◌else◌}
 use Rattle.std.specs.Option.{option_map_or}
+use Rattle.arc_ast.specs.declared.tree.UnaryOperator.{UnaryOperator}
+use Rattle.arc_ast.specs.declared.tree.UnaryOperator.TheVariants as u
 use Rattle.arc_ast.specs.declared.tree.BinaryOperator.{BinaryOperator}
 use Rattle.arc_ast.specs.declared.tree.BinaryOperator.TheVariants as o
 use Rattle.arc_ast.specs.Operators.{sort_of}
@@ -11,9 +13,9 @@ use Rattle.arc_ast.specs.declared.tree.Kind.TheVariants as k
 use Rattle.arc_ast.specs.declared.tree.Sign.{Sign}
 use Rattle.arc_ast.specs.declared.tree.Sign.TheVariants as signs
 use Rattle.arc_ast.specs.Tree as tree
-use Rattle.arc_ast.specs.Tree.{TypeTree, ExprTree, ExprTrees, Integer, Text, Paren, Call, Name, Negate, Plus, Cast, Binary, Arrow, Assign, Send, SendSuper, no_exprs, and_expr, VariableTree, StmtTree, StmtTrees, Block, Empty, Simple, Variables, If, IfElse, While, no_stmts, and_stmt, ParameterTree, FunctionTree, MethodTree, ImplementationTree, UnitTree}
+use Rattle.arc_ast.specs.Tree.{TypeTree, ExprTree, ExprTrees, Integer, Text, Paren, Call, Name, Unary, Cast, Binary, Arrow, Assign, Send, SendSuper, no_exprs, and_expr, VariableTree, StmtTree, StmtTrees, Block, Empty, Simple, Variables, If, IfElse, While, no_stmts, and_stmt, ParameterTree, FunctionTree, MethodTree, ImplementationTree, UnitTree}
 use Rattle.arc_spec.specs.Classes.{same_sign}
-use Rattle.arc_spec.specs.Resolved.{Value, Reference, Number, ReadByte, Print, Negated, Combined, Converted, Local, Assigned, Invoked, Sent, SentSuper, SentTo, SentToSuper, Field, FieldAssigned, Differ, IsObject, Nil, Itself, Variable, Stored, Made, Initialized, Values, no_values, and_value, Command, Sequence, Evaluate, EvaluateReference, Begin, Return, Choose, Repeat, Commands, no_commands, and_command, Function, Program}
+use Rattle.arc_spec.specs.Resolved.{Value, Reference, Number, ReadByte, Print, Applied, Combined, Converted, Local, Assigned, Invoked, Sent, SentSuper, SentTo, SentToSuper, Field, FieldAssigned, Differ, IsObject, Nil, Itself, Variable, Stored, Made, Initialized, Values, no_values, and_value, Command, Sequence, Evaluate, EvaluateReference, Begin, Return, Choose, Repeat, Commands, no_commands, and_command, Function, Program}
 use Rattle.arc_sites.specs.Sites.{named_parameters}
 use Rattle.arc_class.specs.Running.{classes}
 use Rattle.arc_class.specs.Names.{number_of, is_main}
@@ -61,8 +63,13 @@ int_in = converted k.Int
 
 -- ---- operators and calls
 
-abbrev pub negated : Resolution → Resolution
-negated a = Gives (kind_in a) (Negated (kind_in a) (number_in a))
+-- the kind of what an operator before an operand of a kind gives
+abbrev pub unary_given : UnaryOperator → Kind → Kind
+unary_given u.Not kind = k.Int
+unary_given _ kind = kind
+
+abbrev pub unary : UnaryOperator → Resolution → Resolution
+unary operator a = Gives (unary_given operator (kind_in a)) (Applied operator (kind_in a) (number_in a))
 
 -- an operator whose operands become numbers of the kind in which it computes; the count of a shift too, which counts modulo the width of that kind
 abbrev pub combined : BinaryOperator → Kind → Resolution → Resolution → Resolution
@@ -166,8 +173,7 @@ sent_super s name all = to_super s.sign (super_kind s name) (unwrap_or (option_a
 
 -- ---- expressions
 
--- An expression; a text is resolved with its call, and casts and parentheses vanish. So does unary `+`, which gives the value of its promoted operand (C99,
--- section 6.5.3.3): an int or a long, which the promotions leave as it is (section 6.3.1.1).
+-- An expression; a text is resolved with its call, and casts and parentheses vanish.
 abbrev mutual
   pub resolved : Scope → ExprTree → Resolution
   resolved s (Integer at n suffixed) = Gives (literal_kind n suffixed) (Number n)
@@ -178,8 +184,7 @@ abbrev mutual
   resolved s (tree.Nil at) = Refers Nil
   resolved s (tree.Itself at) = Refers Itself
   resolved s (Name at name) = named (s.variables name) (own_field s name)
-  resolved s (Negate at a) = negated (resolved s a)
-  resolved s (Plus at a) = resolved s a
+  resolved s (Unary at operator a) = unary operator (resolved s a)
   resolved s (Cast at type a) = resolved s a
   resolved s (Binary at operator a b) = binary operator (resolved s a) (resolved s b)
   resolved s (Arrow at name_at a name) = field (object_in (resolved s a)) (s.known.field (class_of s a) name)

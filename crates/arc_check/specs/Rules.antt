@@ -1,6 +1,8 @@
 -- The rules for functions and methods: names, kinds, counts of arguments, formats, and the number of variables.
 use Rattle.std.specs.Prelude.{ℕ, Bool, true, false, ◌&&◌, ◌||◌, not, List, [], ◌∷◌, ◌++◌, length, flat_map, Option, Some, None, is_some, is_none, option_map, option_and_then, nat_lt, nat_eq, slice_get, if◌then◌else◌}
 use Rattle.std.specs.Option.{option_map_or}
+use Rattle.arc_ast.specs.declared.tree.UnaryOperator.{UnaryOperator}
+use Rattle.arc_ast.specs.declared.tree.UnaryOperator.TheVariants as u
 use Rattle.arc_ast.specs.declared.tree.Kind.{Kind}
 use Rattle.arc_ast.specs.declared.tree.Kind.TheVariants as k
 use Rattle.arc_ast.specs.Operators.{sort_of}
@@ -8,7 +10,7 @@ use Rattle.arc_ast.specs.declared.tree.OperatorSort.{OperatorSort}
 use Rattle.arc_ast.specs.declared.tree.OperatorSort.TheVariants.{Arithmetic, Shift, Relation, Equality}
 use Rattle.arc_ast.specs.Types.{type_kind}
 use Rattle.arc_ast.specs.Types as types
-use Rattle.arc_ast.specs.Tree.{TypeTree, ExprTree, ExprTrees, Integer, Text, Paren, Call, Nil, Itself, Name, Negate, Plus, Cast, Binary, Arrow, Assign, Send, SendSuper, no_exprs, and_expr, place, VariableTree, StmtTree, StmtTrees, Block, Empty, Simple, Return, Variables, If, IfElse, While, no_stmts, and_stmt, ParameterTree, FunctionTree, HeadTree, MethodTree, InterfaceTree, ImplementationTree, UnitTree}
+use Rattle.arc_ast.specs.Tree.{TypeTree, ExprTree, ExprTrees, Integer, Text, Paren, Call, Nil, Itself, Name, Unary, Cast, Binary, Arrow, Assign, Send, SendSuper, no_exprs, and_expr, place, VariableTree, StmtTree, StmtTrees, Block, Empty, Simple, Return, Variables, If, IfElse, While, no_stmts, and_stmt, ParameterTree, FunctionTree, HeadTree, MethodTree, InterfaceTree, ImplementationTree, UnitTree}
 use Rattle.arc_class.specs.Broken.{broken_if, Broken}
 use Rattle.arc_sites.specs.Sites.{named_parameters}
 use Rattle.arc_class.specs.Classes.{class_number, superclass, known_result, any_result, selector_number}
@@ -62,6 +64,11 @@ number_kind _ = None
 abbrev pub both_kinds : Option Kind → Option Kind → Option Kind
 both_kinds a b = option_and_then (λ one. option_map (wider one) b) a
 
+-- the kind of what an operator before its operand gives: `!` gives an int, the others a number of their operand's kind (C99, section 6.5.3.3)
+abbrev pub unary_kind : UnaryOperator → Option Kind → Option Kind
+unary_kind u.Not a = Some k.Int
+unary_kind _ a = number_kind a
+
 -- The kind of what an operator gives, from those of its operands. A shift's is that of the first (C99, section 6.5.7); a comparison gives an int, whatever its operands
 -- are (sections 6.5.8 and 6.5.9).
 abbrev pub binary_kind : OperatorSort → Option Kind → Option Kind → Option Kind
@@ -101,7 +108,7 @@ is_assignable (Arrow at name_at a name) = true
 is_assignable _ = false
 
 -- The kind of an expression, where it has one: it breaks no rule itself, and those have one on whose kinds its own rests. An assignment has its left side's
--- kind (C99, section 6.5.16), and unary `+` and `-` that of their operand, a number (section 6.5.3.3).
+-- kind (C99, section 6.5.16).
 abbrev mutual
   pub kind_of : Scope → ExprTree → Option Kind
   kind_of s (Integer at n suffixed) = Some (literal_kind n suffixed)
@@ -111,8 +118,7 @@ abbrev mutual
   kind_of s (Nil at) = Some k.Object
   kind_of s (Itself at) = kind_if (is_some (own_class s)) k.Object
   kind_of s (Name at name) = name_kind s (s.variables name) name
-  kind_of s (Negate at a) = number_kind (kind_of s a)
-  kind_of s (Plus at a) = number_kind (kind_of s a)
+  kind_of s (Unary at operator a) = unary_kind operator (kind_of s a)
   kind_of s (Cast at type a) = Some k.Object
   kind_of s (Binary at operator a b) = binary_kind (sort_of operator) (kind_of s a) (kind_of s b)
   kind_of s (Arrow at name_at a name) = arrow_kind s (kind_of s a) (s.known.field (class_of s a) name)
@@ -145,7 +151,12 @@ no_object kind at = broken_if (is_some kind && not (is_object kind)) at 43
 abbrev pub no_such : (wanted given : Option Kind) → ℕ → List Broken
 no_such wanted given at = if is_none wanted then [] else if is_object wanted then no_object given at else no_number given at
 
--- An operator computes with numbers; `==` and `!=` compare two numbers or two objects, and report an object and a number at the second (C99, section 6.5.9).
+-- `!` asks of a number or an object whether it is 0 or nil; the other operators before an operand compute with a number (C99, section 6.5.3.3).
+abbrev pub no_operand : UnaryOperator → Option Kind → ℕ → List Broken
+no_operand u.Not a at = no_value a at
+no_operand _ a at = no_number a at
+
+-- An operator computes with numbers; `== and `!=` compare two numbers or two objects, and report an object and a number at the second (C99, section 6.5.9).
 abbrev pub no_left : OperatorSort → Option Kind → ℕ → List Broken
 no_left Equality a at = no_value a at
 no_left _ a at = no_number a at
@@ -189,8 +200,7 @@ abbrev mutual
       broken_at at (call_rule (callee s.known name) arguments (kinds s arguments)) ++ broken_arguments s (is_printf (callee s.known name)) (is_printf (callee s.known name)) arguments
   broken s (Itself at) = broken_itself s at
   broken s (Name at name) = broken_name s (s.variables name) name at
-  broken s (Negate at a) = broken s a ++ no_number (kind_of s a) (place a)
-  broken s (Plus at a) = broken s a ++ no_number (kind_of s a) (place a)
+  broken s (Unary at operator a) = broken s a ++ no_operand operator (kind_of s a) (place a)
   broken s (Cast at type a) = broken s a ++ no_object (kind_of s a) (place a)
   broken s (Binary at operator a b) =
       (broken s a ++ no_left (sort_of operator) (kind_of s a) (place a)) ++ (broken s b ++ no_right (sort_of operator) (kind_of s a) (kind_of s b) (place b))
@@ -237,8 +247,7 @@ abbrev mutual
   taken s (Call at name arguments) = all_taken s arguments
   taken s (Itself at) = at_if (is_some (own_class s)) at
   taken s (Name at name) = at_if (name_takes s (s.variables name) name) at
-  taken s (Negate at a) = taken s a
-  taken s (Plus at a) = taken s a
+  taken s (Unary at operator a) = taken s a
   taken s (Cast at type a) = taken s a
   taken s (Binary at operator a b) = taken s a ++ taken s b
   taken s (Arrow at name_at a name) = taken s a

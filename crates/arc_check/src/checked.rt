@@ -1,6 +1,6 @@
 //! A program whose names are resolved, whose kinds are known and whose conversions are written.
 
-use arc_ast::tree::{BinaryOperator, Kind, TranslationUnit};
+use arc_ast::tree::{BinaryOperator, Kind, TranslationUnit, UnaryOperator};
 use arc_spec::class::Class;
 
 /// What a format prints in turn.
@@ -23,7 +23,7 @@ pub enum Value {
     ReadByte,
     /// A call of `printf`, with its format and the values after it.
     Print(Vec<Piece>, Vec<Value>),
-    Negated(Kind, Box<Value>),
+    Applied(UnaryOperator, Kind, Box<Value>),
     Combined(BinaryOperator, Kind, Box<Value>, Box<Value>),
     Converted(Kind, Box<Value>),
     /// The variable of the running function with this number.

@@ -23,11 +23,11 @@ use crate::message::{
 };
 use crate::rule::{
     binary_kind, call_fault, is_assignable, is_object, is_unread, literal_kind, no_left, no_number,
-    no_object, no_right, no_such, no_value, number_kind, place,
+    no_object, no_operand, no_right, no_such, no_value, place, unary_kind,
 };
 use crate::scope::{Local, Visible};
 use crate::taken::Taken;
-use arc_ast::tree::{BinaryOperator, Expr, Kind, TypeName, operator_sort};
+use arc_ast::tree::{BinaryOperator, Expr, Kind, TypeName, UnaryOperator, operator_sort};
 use arc_class::table::{ClassId, ClassTable, FoundField};
 use arc_fault::check::CheckFault;
 use arc_sites::violation::earlier;
@@ -182,8 +182,9 @@ pub fn judge<'a>(
         Expr::Nil(_) => object(None, None, before),
         Expr::Itself(at) => judge_itself(visible, before, *at),
         Expr::Name(at, name) => judge_name(table, visible, before, *at, name),
-        Expr::Negate(_, operand) => judge_signed(table, visible, before, operand),
-        Expr::Plus(_, operand) => judge_signed(table, visible, before, operand),
+        Expr::Unary(_, operator, operand) => {
+            judge_unary(table, visible, before, *operator, operand)
+        }
         Expr::Cast(_, type_name, operand) => {
             judge_cast(table, visible, before, type_name, operand)
         }
@@ -207,21 +208,24 @@ pub fn judge<'a>(
     }
 }
 
-/// The judgement on a unary `+` or `-`, from its operand.
+/// The judgement on an operator before its operand.
 #[cycle(judge)]
-fn judge_signed<'a>(
+fn judge_unary<'a>(
     table: &ClassTable<'a>,
     visible: &Visible<'a>,
     before: Taken,
+    operator: UnaryOperator,
     operand: &'a Expr,
 ) -> Judged
-    ensures negate { (at : ℕ) → Judges (seen table.now visible.now) before (tree.Negate at (expr_tree operand.now)) result }
-    ensures plus { (at : ℕ) → Judges (seen table.now visible.now) before (tree.Plus at (expr_tree operand.now)) result }
+    ensures { (at : ℕ) → Judges (seen table.now visible.now) before (tree.Unary at operator (expr_tree operand.now)) result }
 {
     let judged = judge(table, visible, before, operand);
     number(
-        number_kind(judged.kind),
-        earlier(judged.fault, no_number(judged.kind, place(operand))),
+        unary_kind(operator, judged.kind),
+        earlier(
+            judged.fault,
+            no_operand(operator, judged.kind, place(operand)),
+        ),
         judged.taken,
     )
 }

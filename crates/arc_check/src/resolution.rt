@@ -13,7 +13,7 @@ ghost use Rattle.arc_check.specs.private.Views.{local_of};
 use crate::checked::{Reference, Value};
 use crate::rule::{is_object, wider};
 use crate::scope::Local;
-use arc_ast::tree::{BinaryOperator, Expr, Kind, OperatorSort, Sign, operator_sort};
+use arc_ast::tree::{BinaryOperator, Expr, Kind, OperatorSort, Sign, UnaryOperator, operator_sort};
 use arc_class::table::{ClassId, FoundField, Sel};
 use std::alloc::{AllocError, Global};
 
@@ -117,13 +117,27 @@ fn given_kind(sort: OperatorSort, kind: Kind) -> Kind
     }
 }
 
-/// A negation, from its operand.
-pub fn negated(alloc: Global, of: Resolution) -> Result<Resolution, AllocError>
-    ensures { IfOk result (λ new. resolution new ≡ resolving.negated (resolution of)) }
+/// The kind of what an operator before an operand of this kind gives.
+fn unary_given(operator: UnaryOperator, kind: Kind) -> Kind
+    ensures { result ≡ resolving.unary_given operator kind }
+{
+    match operator {
+        UnaryOperator::Not => Kind::Int,
+        UnaryOperator::Plus | UnaryOperator::Negate | UnaryOperator::Complement => kind,
+    }
+}
+
+/// An expression of an operator before its operand.
+pub fn unary(
+    alloc: Global,
+    operator: UnaryOperator,
+    of: Resolution,
+) -> Result<Resolution, AllocError>
+    ensures { IfOk result (λ new. resolution new ≡ resolving.unary operator (resolution of)) }
 {
     let kind = kind_in(&of);
     let value = number_in(alloc, of)?;
-    given(alloc, kind, Value::Negated(kind, value))
+    given(alloc, unary_given(operator, kind), Value::Applied(operator, kind, value))
 }
 
 /// An operator's expression that computes in the kind, from its operands.

@@ -1,6 +1,6 @@
 //! Builds the resolved expressions of a source that breaks no rule.
 ghost use Rattle.std.specs.Prelude.{◌≡◌, ℕ, List, Option, Some, None, option_map, IfOk};
-ghost use Rattle.arc_ast.specs.Tree.{ExprTree, type_tree, expr_tree, expr_trees, Integer, Text, Name, Negate, Plus, Cast, Binary, Arrow, Assign, Call, Send, SendSuper};
+ghost use Rattle.arc_ast.specs.Tree.{ExprTree, type_tree, expr_tree, expr_trees, Integer, Text, Name, Unary, Cast, Binary, Arrow, Assign, Call, Send, SendSuper};
 ghost use Rattle.arc_class.specs.Table.{number_of_class};
 ghost use Rattle.arc_check.specs.private.Building.{Resolves, printing, resolution};
 ghost use Rattle.arc_check.specs.Checked as checked;
@@ -19,12 +19,12 @@ use crate::message::{
 };
 use crate::resolution::{
     Resolution, Typed, binary, class_number, class_value, converted, field, field_assigned, given,
-    name_assigned, named, negated, number, number_in, object_in, selector_number, to_class,
-    to_object, to_super,
+    name_assigned, named, number, number_in, object_in, selector_number, to_class, to_object,
+    to_super, unary,
 };
 use crate::rule::literal_kind;
 use crate::scope::{Local, Visible};
-use arc_ast::tree::{BinaryOperator, Expr, Kind, TypeName};
+use arc_ast::tree::{BinaryOperator, Expr, Kind, TypeName, UnaryOperator};
 use arc_class::table::{ClassId, ClassTable};
 use std::alloc::{AllocError, Global};
 
@@ -89,8 +89,7 @@ pub fn expression<'a>(
             value: Resolution::Refers(Reference::Itself),
         }),
         Expr::Name(_, name) => variable(alloc, table, visible, name),
-        Expr::Negate(_, operand) => negation(alloc, table, visible, operand),
-        Expr::Plus(_, operand) => plus(alloc, table, visible, operand),
+        Expr::Unary(_, operator, operand) => signed(alloc, table, visible, *operator, operand),
         Expr::Cast(_, type_name, operand) => cast(alloc, table, visible, type_name, operand),
         Expr::Binary(_, operator, left, right) => {
             operation(alloc, table, visible, *operator, left, right)
@@ -106,36 +105,20 @@ pub fn expression<'a>(
     }
 }
 
-/// A resolved negation.
+/// A resolved operator before its operand.
 #[cycle(resolve)]
-fn negation<'a>(
+fn signed<'a>(
     alloc: Global,
     table: &ClassTable<'a>,
     visible: &Visible<'a>,
+    operator: UnaryOperator,
     operand: &'a Expr,
 ) -> Result<Typed, AllocError>
-    ensures { IfOk result (λ typed. (at : ℕ) → Resolves (seen table.now visible.now) (Negate at (expr_tree operand.now)) typed) }
+    ensures { IfOk result (λ typed. (at : ℕ) → Resolves (seen table.now visible.now) (Unary at operator (expr_tree operand.now)) typed) }
 {
     let operand = expression(alloc, table, visible, operand)?;
-    let value = negated(alloc, operand.value)?;
+    let value = unary(alloc, operator, operand.value)?;
     Ok(Typed { class: None, value })
-}
-
-/// A resolved unary `+`, which is its operand.
-#[cycle(resolve)]
-fn plus<'a>(
-    alloc: Global,
-    table: &ClassTable<'a>,
-    visible: &Visible<'a>,
-    operand: &'a Expr,
-) -> Result<Typed, AllocError>
-    ensures { IfOk result (λ typed. (at : ℕ) → Resolves (seen table.now visible.now) (Plus at (expr_tree operand.now)) typed) }
-{
-    let operand = expression(alloc, table, visible, operand)?;
-    Ok(Typed {
-        class: None,
-        value: operand.value,
-    })
 }
 
 /// A resolved cast.

@@ -7,13 +7,13 @@ ghost use Rattle.arc_class.specs.declared.table.ClassTable.{ClassTable};
 ghost use Rattle.arc_check.specs.Fault.{told};
 ghost use Rattle.arc_check.specs.Kinds as kinds;
 ghost use Rattle.arc_check.specs.Rules as rules;
-ghost use Rattle.arc_check.specs.Rules.{broken_at, no_left, no_number, no_right, no_value, number_kind};
+ghost use Rattle.arc_check.specs.Rules.{broken_at, no_left, no_number, no_operand, no_right, no_value, number_kind, unary_kind};
 ghost use Rattle.arc_check.specs.private.Judging.{other_rule};
 ghost use Rattle.arc_check.specs.private.Views.{seen};
 
 use crate::callee::Callee;
 use crate::scope::Visible;
-use arc_ast::tree::{Expr, Kind, OperatorSort};
+use arc_ast::tree::{Expr, Kind, OperatorSort, UnaryOperator};
 use arc_fault::check::CheckFault;
 
 /// The largest int.
@@ -53,8 +53,7 @@ pub fn place(expr: &Expr) -> usize
         | Expr::Nil(at)
         | Expr::Itself(at)
         | Expr::Name(at, _)
-        | Expr::Negate(at, _)
-        | Expr::Plus(at, _)
+        | Expr::Unary(at, _, _)
         | Expr::Cast(at, _, _)
         | Expr::Binary(at, _, _, _)
         | Expr::Arrow(_, at, _, _)
@@ -115,6 +114,18 @@ fn both_kinds(a: Option<Kind>, b: Option<Kind>) -> Option<Kind>
     }
 }
 
+/// The kind of an expression with an operator before its operand, from the operand's.
+pub fn unary_kind(operator: UnaryOperator, kind: Option<Kind>) -> Option<Kind>
+    ensures { result ≡ unary_kind operator kind }
+{
+    match operator {
+        UnaryOperator::Not => Some(Kind::Int),
+        UnaryOperator::Plus | UnaryOperator::Negate | UnaryOperator::Complement => {
+            number_kind(kind)
+        }
+    }
+}
+
 /// The kind of an expression with an operator of the sort, from those of its operands.
 pub fn binary_kind(sort: OperatorSort, a: Option<Kind>, b: Option<Kind>) -> Option<Kind>
     ensures { result ≡ rules.binary_kind sort a b }
@@ -164,6 +175,18 @@ pub fn no_such(wanted: Option<Kind>, given: Option<Kind>, at: usize) -> Option<C
         None => None,
         Some(Kind::Object) => no_object(given, at),
         Some(_) => no_number(given, at),
+    }
+}
+
+/// The rule that an operand of the kind breaks which has an operator before it.
+pub fn no_operand(operator: UnaryOperator, kind: Option<Kind>, at: usize) -> Option<CheckFault>
+    ensures { option_map told result ≡ first (no_operand operator kind at) }
+{
+    match operator {
+        UnaryOperator::Not => no_value(kind, at),
+        UnaryOperator::Plus | UnaryOperator::Negate | UnaryOperator::Complement => {
+            no_number(kind, at)
+        }
     }
 }
 

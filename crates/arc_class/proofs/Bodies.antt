@@ -2,11 +2,11 @@
 use Rattle.std.proofs.Common.{◌≡◌, ℕ, Bool, true, false, List, [], ◌∷◌, ◌++◌, Option, Some, None, append_assoc, refl, sym, ap, ◌∙◌}
 use Rattle.std.specs.List.{flat_map}
 use Rattle.arc_ast.specs.Tree as t
-use Rattle.arc_ast.specs.Tree.{TypeTree, ExprTree, ExprTrees, Integer, Text, Paren, Call, Nil, Itself, Name, Negate, Plus, Cast, Binary, Arrow, Assign, Send, SendSuper, no_exprs, and_expr, VariableTree, StmtTree, StmtTrees, Block, Empty, Simple, Return, Variables, If, IfElse, While, no_stmts, and_stmt, ParameterTree, FunctionTree, HeadTree, MethodTree, InterfaceTree, ImplementationTree, UnitTree}
+use Rattle.arc_ast.specs.Tree.{TypeTree, ExprTree, ExprTrees, Integer, Text, Paren, Call, Nil, Itself, Name, Unary, Cast, Binary, Arrow, Assign, Send, SendSuper, no_exprs, and_expr, VariableTree, StmtTree, StmtTrees, Block, Empty, Simple, Return, Variables, If, IfElse, While, no_stmts, and_stmt, ParameterTree, FunctionTree, HeadTree, MethodTree, InterfaceTree, ImplementationTree, UnitTree}
 use Rattle.arc_sites.specs.Finding.{violations_of}
 use Rattle.arc_sites.specs.Sites as sites
 use Rattle.arc_ast.specs.Operators.{sort_of}
-use Rattle.arc_sites.specs.Sites.{Enclosing, InFunction, InMethod, Scope, Need, Anything, AValue, ANumber, AnObject, Like, Initial, Result, Receiver, Argument, Site, Statement, Variable, left_need, right_need, value, site, inner, after, outermost, with_variables, with_parameters, arguments, maybe_sites, variable_sites, stmt_sites, all_sites, parameter_sites, body_sites, function_sites, head_sites, method_sites, interface_sites, implementation_sites, unit_sites, named_parameters}
+use Rattle.arc_sites.specs.Sites.{Enclosing, InFunction, InMethod, Scope, Need, Anything, AValue, ANumber, AnObject, Like, Initial, Result, Receiver, Argument, Site, Statement, Variable, operand_need, left_need, right_need, value, site, inner, after, outermost, with_variables, with_parameters, arguments, maybe_sites, variable_sites, stmt_sites, all_sites, parameter_sites, body_sites, function_sites, head_sites, method_sites, interface_sites, implementation_sites, unit_sites, named_parameters}
 use Rattle.arc_sites.specs.Violations.{at_if, violates, earlier_of}
 use Rattle.arc_sites.proofs.Firsts.{earlier_of-comm}
 use Rattle.arc_class.specs.Bodies.{is_bound, unknown_class, violations, broken_bodies}
@@ -72,8 +72,7 @@ module _ (u : UnitTree) where
     expr_is (Call at name all) m s need =
         turned (broken_if (missing.bodies name) at 30) (broken_exprs missing all) (arguments m s (Argument name true) (Argument name false) all) (value m s need (Call at name all))
         (violated 30 (missing.bodies name) at) (exprs_are all m s (Argument name true) (Argument name false))
-    expr_is (Negate at a) m s need = quiet (broken_expr missing a) (sites.sites m s ANumber a) (value m s need (Negate at a)) refl (expr_is a m s ANumber)
-    expr_is (Plus at a) m s need = quiet (broken_expr missing a) (sites.sites m s ANumber a) (value m s need (Plus at a)) refl (expr_is a m s ANumber)
+    expr_is (Unary at operator a) m s need = quiet (broken_expr missing a) (sites.sites m s (operand_need operator) a) (value m s need (Unary at operator a)) refl (expr_is a m s (operand_need operator))
     expr_is (Cast at type a) m s need =
         turned (broken_type missing type) (broken_expr missing a) (sites.sites m s AnObject a) (value m s need (Cast at type a)) (cast_is type) (expr_is a m s AnObject)
     expr_is (Binary at operator a b) m s need =

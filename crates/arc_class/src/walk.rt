@@ -57,8 +57,7 @@ fn expression<'a>(source: &Source<'a>, expr: &'a Expr) -> Option<ClassFault>
         | Expr::Name(_, _) => None,
         Expr::Paren(_, inside) => expression(source, inside),
         Expr::Call(at, name, arguments) => call(source, *at, name, arguments),
-        Expr::Negate(_, operand) => expression(source, operand),
-        Expr::Plus(_, operand) => expression(source, operand),
+        Expr::Unary(_, _, operand) => expression(source, operand),
         Expr::Cast(_, written, operand) => {
             let operand = expression(source, operand);
             earlier(type_fault(source, written), operand)

@@ -53,7 +53,7 @@ module _ (classes : List Class) (s : State) where
   pub operation_follows : (o : Op) → After (By (operation_effect o)) (operates classes o s)
   operation_follows (Num n) = counts 0 1 _ (omega arith)
   operation_follows (Bin operator kind) = top_after (By (on_numbers 2 1)) s.stack _ (λ y above e1. top_after (By (on_numbers 2 1)) above _ (λ x rest e2. or_fault_follows (combined operator kind x y) rest (omega (arith, e1, e2))))
-  operation_follows (Un kind) = top_after (By (on_numbers 1 1)) s.stack _ (λ x rest e. counts 1 1 _ (omega (arith, e)))
+  operation_follows (Un operator kind) = top_after (By (on_numbers 1 1)) s.stack _ (λ x rest e. counts 1 1 _ (omega (arith, e)))
   operation_follows (Narrow kind) = top_after (By (on_numbers 1 1)) s.stack _ (λ x rest e. counts 1 1 _ (omega (arith, e)))
   operation_follows Pop = top_after (By (on_numbers 1 0)) s.stack _ (λ x rest e. counts 1 0 _ (omega (arith, e)))
   operation_follows (Get depth) = found_after (By (on_numbers 0 1)) (slice_get s.stack depth) _ (λ v _. counts 0 1 _ (omega arith))

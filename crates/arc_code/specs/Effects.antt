@@ -29,7 +29,7 @@ on_names taken given temporaries = record { numbers_taken = 0; numbers_given = 0
 abbrev pub operation_effect : Op → Effect
 operation_effect (Num n) = on_numbers 0 1
 operation_effect (Bin operator kind) = on_numbers 2 1
-operation_effect (Un kind) = on_numbers 1 1
+operation_effect (Un operator kind) = on_numbers 1 1
 operation_effect (Narrow kind) = on_numbers 1 1
 operation_effect Pop = on_numbers 1 0
 operation_effect (Get depth) = on_numbers 0 1

@@ -3,12 +3,20 @@ use Rattle.std.specs.Prelude.{ℕ, suc, List, [], ◌∷◌, ◌++◌, codes, de
 use Rattle.std.specs.Fmt.{signed_decimal}
 use Rattle.arc_ast.specs.declared.tree.Kind.{Kind}
 use Rattle.arc_ast.specs.declared.tree.Kind.TheVariants as k
+use Rattle.arc_ast.specs.declared.tree.UnaryOperator.{UnaryOperator}
+use Rattle.arc_ast.specs.declared.tree.UnaryOperator.TheVariants as u
 use Rattle.arc_ast.specs.declared.tree.BinaryOperator.{BinaryOperator}
 use Rattle.arc_ast.specs.declared.tree.BinaryOperator.TheVariants as o
 use Rattle.arc_code.specs.declared.instr.Op.{Op}
 use Rattle.arc_code.specs.declared.instr.Op.TheVariants.{Num, Bin, Un, Narrow, Pop, Get, Set, PrintNum, PrintByte, GetChar, Declare, Nil, ReadSelf, ReadRef, Hold, Forget, Alloc, GetField, SetField, Differ, IsObject}
 use Rattle.arc_code.specs.declared.instr.Instr.TheVariants.{Plain, PrintText, Jump, JumpZero, Call, Send, SendSuper, SendTo, SendToSuper, StoreStrong, Empty, DropAll, Return, EndStep}
 use Rattle.arc_code.specs.Running.{Instruction}
+
+abbrev pub unary_number : UnaryOperator → ℕ
+unary_number u.Plus = 0
+unary_number u.Negate = 1
+unary_number u.Complement = 2
+unary_number u.Not = 3
 
 abbrev pub operator_number : BinaryOperator → ℕ
 operator_number o.Add = 0
@@ -38,7 +46,7 @@ kind_number k.Object = 4
 abbrev pub op_name : Op → List ℕ
 op_name (Num n) = codes "Num"
 op_name (Bin operator kind) = codes "Bin"
-op_name (Un kind) = codes "Un"
+op_name (Un operator kind) = codes "Un"
 op_name (Narrow kind) = codes "Narrow"
 op_name Pop = codes "Pop"
 op_name (Get depth) = codes "Get"
@@ -81,7 +89,7 @@ operand n = codes " " ++ decimal n
 abbrev pub op_operands : Op → List ℕ
 op_operands (Num n) = codes " " ++ signed_decimal n
 op_operands (Bin operator kind) = operand (operator_number operator) ++ operand (kind_number kind)
-op_operands (Un kind) = operand (kind_number kind)
+op_operands (Un operator kind) = operand (unary_number operator) ++ operand (kind_number kind)
 op_operands (Narrow kind) = operand (kind_number kind)
 op_operands (Get depth) = operand depth
 op_operands (Set depth) = operand depth

@@ -1,7 +1,7 @@
 //! Instructions, of actions and of code alike: they take numbers from a stack and put numbers on it, take references
 //! and give references, and keep strong places, which name objects.
 
-use arc_ast::tree::{BinaryOperator, Kind};
+use arc_ast::tree::{BinaryOperator, Kind, UnaryOperator};
 
 /// What works on the numbers, the references, the places and the objects, and goes on with the next instruction. A
 /// depth counts the numbers above the one that is meant. A reference names an object or nil, and holds nothing; a
@@ -13,7 +13,7 @@ pub enum Op {
     /// Takes the right operand and the left one, and puts what the operator gives of them.
     Bin(BinaryOperator, Kind),
     /// Puts the negation of the top number in its place.
-    Un(Kind),
+    Un(UnaryOperator, Kind),
     /// Puts the top number, as one of this kind, in its place.
     Narrow(Kind),
     /// Takes the top number.

@@ -4,13 +4,13 @@ ghost use Rattle.std.specs.Fmt.{signed_decimal};
 ghost use Rattle.arc_code.specs.Attempts.{HasFailedToWrite};
 ghost use Rattle.arc_code.specs.Counting.{failures_of, inner_of, held_by};
 ghost use Rattle.arc_code.specs.Written.{Written};
-ghost use Rattle.arc_code.specs.Listing.{operator_number, kind_number, op_name, name, operand, op_operands, operands, line, listing};
+ghost use Rattle.arc_code.specs.Listing.{unary_number, operator_number, kind_number, op_name, name, operand, op_operands, operands, line, listing};
 
 use crate::code::{Code, Instruction, IoFault};
 use crate::counted::Counted;
 use crate::device::Output;
 use crate::instr::{Instr, Op};
-use arc_ast::tree::{BinaryOperator, Kind};
+use arc_ast::tree::{BinaryOperator, Kind, UnaryOperator};
 use itoa::Buffer;
 
 /// Writes a line for each instruction: its number, counted from 0, its name, and its operands in
@@ -83,7 +83,10 @@ fn put_op_operands<W: Output>(op: Op, writer: &mut Counted<W>) -> Result<(), IoF
             number_of_kind(kind),
             writer,
         ),
-        Op::Un(kind) | Op::Narrow(kind) => put_operand(number_of_kind(kind), writer),
+        Op::Un(operator, kind) => {
+            put_pair(number_of_unary(operator), number_of_kind(kind), writer)
+        }
+        Op::Narrow(kind) => put_operand(number_of_kind(kind), writer),
         Op::Get(depth) | Op::Set(depth) => put_operand(depth as u64, writer),
         Op::ReadRef(number) => put_operand(number as u64, writer),
         Op::GetField(class, index) | Op::SetField(class, index) => {
@@ -214,7 +217,7 @@ fn name_of_op(op: Op) -> &'static str
     match op {
         Op::Num(_) => "Num",
         Op::Bin(_, _) => "Bin",
-        Op::Un(_) => "Un",
+        Op::Un(_, _) => "Un",
         Op::Narrow(_) => "Narrow",
         Op::Pop => "Pop",
         Op::Get(_) => "Get",
@@ -233,6 +236,17 @@ fn name_of_op(op: Op) -> &'static str
         Op::SetField(_, _) => "SetField",
         Op::Differ => "Differ",
         Op::IsObject => "IsObject",
+    }
+}
+
+fn number_of_unary(operator: UnaryOperator) -> u64
+    ensures { result ≡ unary_number operator }
+{
+    match operator {
+        UnaryOperator::Plus => 0,
+        UnaryOperator::Negate => 1,
+        UnaryOperator::Complement => 2,
+        UnaryOperator::Not => 3,
     }
 }
 

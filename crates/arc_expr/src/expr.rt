@@ -11,6 +11,7 @@ ghost use Rattle.arc_grammar.specs.Grammar as grammar;
 ghost use Rattle.arc_expr.specs.declared.operator.TheConstants.{LOOSEST};
 
 use crate::literal::literal;
+use crate::sign::{sees_sign, sign};
 use crate::operator::{LOOSEST, operator, sees_operator, sees_operator_up_to};
 use arc_ast::tree::{BinaryOperator, Expr, TypeName};
 use arc_form::fail::Read;
@@ -30,8 +31,7 @@ fn place_of(expr: &Expr) -> usize
         | Expr::Nil(at)
         | Expr::Itself(at)
         | Expr::Name(at, _)
-        | Expr::Negate(at, _)
-        | Expr::Plus(at, _)
+        | Expr::Unary(at, _, _)
         | Expr::Cast(at, _, _)
         | Expr::Binary(at, _, _, _)
         | Expr::Arrow(at, _, _, _)
@@ -143,10 +143,8 @@ fn prefixed<'a>(alloc: Global, tokens: &'a [Token]) -> Read<'a, Expr>
     ensures gives { Gives (λ x. (expr_tree x.0, toks x.1.now)) result (reads_free grammar.prefixed (toks tokens.now)) }
     ensures shorter { IfOk result (λ x. length x.1.now < length tokens.now) }
 {
-    if sees_mark(Mark::Minus, tokens) {
-        negated(alloc, tokens)
-    } else if sees_mark(Mark::Plus, tokens) {
-        plus(alloc, tokens)
+    if sees_sign(tokens) {
+        signed(alloc, tokens)
     } else if sees_mark(Mark::OpenParen, tokens) {
         parenthesized(alloc, tokens)
     } else {
@@ -154,28 +152,16 @@ fn prefixed<'a>(alloc: Global, tokens: &'a [Token]) -> Read<'a, Expr>
     }
 }
 
-/// Unary `-` and a unary expression.
+/// An operator and the unary expression after it.
 #[cycle(exprs)]
-#[tactic(auto, using(crate::proofs::Fix::read_unary), unfolding(arc_grammar::specs::Grammar::negated))]
-fn negated<'a>(alloc: Global, tokens: &'a [Token]) -> Read<'a, Expr>
-    ensures gives { Gives (λ x. (expr_tree x.0, toks x.1.now)) result (reads_free grammar.negated (toks tokens.now)) }
+#[tactic(auto, using(crate::proofs::Fix::read_unary), unfolding(arc_grammar::specs::Grammar::signed))]
+fn signed<'a>(alloc: Global, tokens: &'a [Token]) -> Read<'a, Expr>
+    ensures gives { Gives (λ x. (expr_tree x.0, toks x.1.now)) result (reads_free grammar.signed (toks tokens.now)) }
     ensures shorter { IfOk result (λ x. length x.1.now < length tokens.now) }
 {
-    let (at, rest) = expect(Mark::Minus, tokens)?;
+    let ((at, operator), rest) = sign(tokens)?;
     let (operand, rest) = prefixed(alloc, rest)?;
-    Ok((Expr::Negate(at, Box::new(alloc, operand)?), rest))
-}
-
-/// Unary `+` and a unary expression.
-#[cycle(exprs)]
-#[tactic(auto, using(crate::proofs::Fix::read_unary), unfolding(arc_grammar::specs::Grammar::plus))]
-fn plus<'a>(alloc: Global, tokens: &'a [Token]) -> Read<'a, Expr>
-    ensures gives { Gives (λ x. (expr_tree x.0, toks x.1.now)) result (reads_free grammar.plus (toks tokens.now)) }
-    ensures shorter { IfOk result (λ x. length x.1.now < length tokens.now) }
-{
-    let (at, rest) = expect(Mark::Plus, tokens)?;
-    let (operand, rest) = prefixed(alloc, rest)?;
-    Ok((Expr::Plus(at, Box::new(alloc, operand)?), rest))
+    Ok((Expr::Unary(at, operator, Box::new(alloc, operand)?), rest))
 }
 
 /// An expression in parentheses with fields after it, or a cast.

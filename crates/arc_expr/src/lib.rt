@@ -5,3 +5,4 @@ mod expr;
 pub mod full;
 mod literal;
 mod operator;
+pub mod sign;

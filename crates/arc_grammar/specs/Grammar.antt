@@ -14,7 +14,9 @@ use Rattle.arc_ast.specs.declared.tree.Visibility.{Visibility}
 use Rattle.arc_ast.specs.declared.tree.Visibility.TheVariants as seen
 use Rattle.arc_ast.specs.declared.tree.BinaryOperator.{BinaryOperator}
 use Rattle.arc_ast.specs.declared.tree.BinaryOperator.TheVariants as operators
-use Rattle.arc_ast.specs.Tree.{TypeTree, ResultTree, ExprTree, ExprTrees, VariableTree, StmtTree, StmtTrees, ParameterTree, ParametersTree, FunctionTree, HeadTree, MethodTree, FieldTree, InterfaceTree, ImplementationTree, UnitTree, Int, Id, Object, Void, Value, Integer, Text, Paren, Call, Nil, Itself, Name, Negate, Plus, Cast, Binary, Arrow, Assign, Send, SendSuper, no_exprs, and_expr, Block, Empty, Simple, Return, Variables, If, IfElse, While, no_stmts, and_stmt, Listed, CountAndTexts, begins}
+use Rattle.arc_ast.specs.declared.tree.UnaryOperator.{UnaryOperator}
+use Rattle.arc_ast.specs.declared.tree.UnaryOperator.TheVariants as unary_operators
+use Rattle.arc_ast.specs.Tree.{TypeTree, ResultTree, ExprTree, ExprTrees, VariableTree, StmtTree, StmtTrees, ParameterTree, ParametersTree, FunctionTree, HeadTree, MethodTree, FieldTree, InterfaceTree, ImplementationTree, UnitTree, Int, Id, Object, Void, Value, Integer, Text, Paren, Call, Nil, Itself, Name, Unary, Cast, Binary, Arrow, Assign, Send, SendSuper, no_exprs, and_expr, Block, Empty, Simple, Return, Variables, If, IfElse, While, no_stmts, and_stmt, Listed, CountAndTexts, begins}
 use Rattle.arc_grammar.specs.declared.limits.TheConstants.{DEEPEST, MOST_TOKENS}
 use Rattle.arc_form.specs.Kinds.{Kinds, none, ◌∪◌, mark, word, at, name, main, other_name, integer, text}
 use Rattle.arc_form.specs.Reader.{Reader, ◌>>=◌, ret, from}
@@ -254,14 +256,25 @@ primary = choose name named (choose (mark m.OpenSquare) message literal)
 unfoldable pub postfix : Part ExprTree
 postfix = map (λ (a, make). make a) (primary ⨾ arrows)
 
-unfoldable pub negated : Part ExprTree
-negated = map (λ (at, a). Negate at a) (the m.Minus ⨾ call unary)
+-- the operators before an operand (6.5.3.3)
+abbrev pub begins_signed : Kinds
+begins_signed = mark m.Minus ∪ mark m.Plus ∪ mark m.Tilde ∪ mark m.Not
 
-unfoldable pub plus : Part ExprTree
-plus = map (λ (at, a). Plus at a) (the m.Plus ⨾ call unary)
+abbrev pub unary_operator : Sort → UnaryOperator
+unary_operator (tokens.Sign m.Minus) = unary_operators.Negate
+unary_operator (tokens.Sign m.Tilde) = unary_operators.Complement
+unary_operator (tokens.Sign m.Not) = unary_operators.Not
+unary_operator _ = unary_operators.Plus
+
+-- such an operator, with its place
+unfoldable pub operator_before : Part (ℕ × UnaryOperator)
+operator_before = token begins_signed (λ t. (t.from, unary_operator t.sort))
+
+unfoldable pub signed : Part ExprTree
+signed = map (λ (o, a). Unary o.0 o.1 a) (operator_before ⨾ call unary)
 
 unfoldable pub prefixed : Part ExprTree
-prefixed = choose (mark m.Minus) negated (choose (mark m.Plus) plus (choose (mark m.OpenParen) parenthesized postfix))
+prefixed = choose begins_signed signed (choose (mark m.OpenParen) parenthesized postfix)
 
 -- an expression whose operators bind as loosely as this level, or tighter
 unfoldable pub operations : ℕ → Part ExprTree
@@ -279,7 +292,7 @@ unfoldable pub expression : Part ExprTree
 expression = map (λ (left, make). make left) (prefixed ⨾ operation)
 
 abbrev pub begins_expr : Kinds
-begins_expr = name ∪ begins_literal ∪ mark m.OpenParen ∪ mark m.OpenSquare ∪ mark m.Minus ∪ mark m.Plus
+begins_expr = name ∪ begins_literal ∪ mark m.OpenParen ∪ mark m.OpenSquare ∪ begins_signed
 
 -- a full-expression (6.8, paragraph 4), within the limit
 unfoldable pub full : Part ExprTree

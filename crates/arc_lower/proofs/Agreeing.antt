@@ -174,7 +174,7 @@ module _ (p : Program) (s : State) (right : Counted s.held) where
   acts_agree None dying = refl
   acts_agree (Some (Plain (Num n))) dying = refl
   acts_agree (Some (Plain (Bin operator kind))) dying = two_agree s.stack _ _ (λ y x rest. or_fault_agrees (combined operator kind x y) rest)
-  acts_agree (Some (Plain (Un kind))) dying = top_agrees s.stack _ _ (λ x rest. refl)
+  acts_agree (Some (Plain (Un operator kind))) dying = top_agrees s.stack _ _ (λ x rest. refl)
   acts_agree (Some (Plain (Narrow kind))) dying = top_agrees s.stack _ _ (λ x rest. refl)
   acts_agree (Some (Plain Pop)) dying = top_agrees s.stack _ _ (λ x rest. refl)
   acts_agree (Some (Plain (Get depth))) dying = found_agrees (slice_get s.stack depth) _ _ (λ v _. refl)

@@ -7,9 +7,9 @@ use Rattle.arc_ast.specs.declared.tree.Sign.TheVariants as signs
 use Rattle.arc_spec.specs.declared.event.Event.{Event}
 use Rattle.arc_spec.specs.declared.event.Fault.TheVariants.{Unrecognized, FieldClass}
 use Rattle.arc_spec.specs.Classes.{class_at, lookup, descends}
-use Rattle.arc_spec.specs.Number.{converted, negated, combined, byte_or_end}
+use Rattle.arc_spec.specs.Number.{converted, applied, combined, byte_or_end}
 use Rattle.arc_spec.specs.Objects.{Object, Dying, object_at, with_object, with_fields, new_object}
-use Rattle.arc_spec.specs.Resolved.{Value, Number, ReadByte, Print, Negated, Combined, Converted, Local, Assigned, Invoked, Sent, SentSuper, SentTo, SentToSuper, Field, FieldAssigned, Reference, Itself, Variable, Stored, Made, Initialized, Values, no_values, and_value}
+use Rattle.arc_spec.specs.Resolved.{Value, Number, ReadByte, Print, Applied, Combined, Converted, Local, Assigned, Invoked, Sent, SentSuper, SentTo, SentToSuper, Field, FieldAssigned, Reference, Itself, Variable, Stored, Made, Initialized, Values, no_values, and_value}
 use Rattle.arc_spec.specs.Resolved as resolved
 use Rattle.arc_spec.specs.Meaning.{Deeper, dispatched, finds, runs_found, class_in, sent_from, sent_to, next_object, field_count, made, in_object, field_read, field_set, difference, formatted, byte_count, or_fault, assigned, evaluated, referred, all_evaluated}
 use Rattle.arc_spec.specs.World as world
@@ -428,10 +428,10 @@ module _ (p : Program) (frames : List Frame) (bound : ℕ) (R : resolved.Program
         let n = values_take arguments in
         then_segment p frames bound rs (AllBehind (value_count arguments) n w) (λ v w1. Behind n w w1) (all_value_orders R slots names (length operands) arguments) (print_orders pieces (value_count arguments)) (framed operands w) w (all_above operands rs) (above operands rs) (all_evaluated D arguments w) (λ values w1. let bytes = formatted pieces values in Done (byte_count bytes) (prints bytes w1)) (all_segment arguments operands rs w g) (λ values w1 h.
         subst (λ m. Segment p frames bound rs (λ v w2. Behind n w w2) (print_orders pieces m) (onto values (framed operands w1)) w1 (above operands rs) (Done (byte_count (formatted pieces values)) (prints (formatted pieces values) w1))) h.0 (λ q has. ((h.1, h.2), print_passes p frames bound rs pieces values (framed operands w1) w1 q has)))
-    value_segment (Negated kind a) operands rs w g =
+    value_segment (Applied operator kind a) operands rs w g =
         let n = value_takes a in
-        then_segment p frames bound rs (λ v w1. Behind n w w1) (λ v w1. Behind n w w1) (value_orders R slots names (length operands) a) (Plain (Un kind) ∷ []) (framed operands w) w (above operands rs) (above operands rs) (evaluated D a w) (λ x w1. Done (negated kind x) w1) (value_segment a operands rs w g) (λ x w1 h.
-        one_segment p frames bound rs (λ v w2. Behind n w w2) (Plain (Un kind)) (x ∷ framed operands w1) w1 (above operands rs) (Done (negated kind x) w1) (λ pc. (h, quiet p frames bound rs (pc + 1) (negated kind x ∷ framed operands w1) w1)))
+        then_segment p frames bound rs (λ v w1. Behind n w w1) (λ v w1. Behind n w w1) (value_orders R slots names (length operands) a) (Plain (Un operator kind) ∷ []) (framed operands w) w (above operands rs) (above operands rs) (evaluated D a w) (λ x w1. Done (applied operator kind x) w1) (value_segment a operands rs w g) (λ x w1 h.
+        one_segment p frames bound rs (λ v w2. Behind n w w2) (Plain (Un operator kind)) (x ∷ framed operands w1) w1 (above operands rs) (Done (applied operator kind x) w1) (λ pc. (h, quiet p frames bound rs (pc + 1) (applied operator kind x ∷ framed operands w1) w1)))
     value_segment (Combined operator kind a b) operands rs w g =
         let n = value_takes a in
         let m = value_takes b in

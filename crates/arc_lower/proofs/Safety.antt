@@ -9,7 +9,7 @@ use Rattle.arc_ast.specs.declared.tree.Sign.TheVariants as signs
 use Rattle.arc_spec.specs.Classes.{Class, class_at, lookup, descends}
 use Rattle.arc_spec.specs.declared.event.Fault.TheVariants.{FieldClass, Resurrected}
 use Rattle.arc_spec.specs.Meaning.{chosen}
-use Rattle.arc_spec.specs.Number.{converted, negated, combined, counted, low_byte, byte_or_end, is_zero}
+use Rattle.arc_spec.specs.Number.{converted, applied, combined, counted, low_byte, byte_or_end, is_zero}
 use Rattle.arc_spec.specs.Objects.{Object, Dying, Gone, object_at, with_object, with_fields, in_phase, is_live}
 use Rattle.arc_spec.specs.Resolved as resolved
 use Rattle.arc_spec.specs.Holding.{Held, Frame, Calling, Ending, Waiter, Counted, holders, is_there, all_places, with_temporaries, with_variables, with_names, with_things, lowered, raised, named, taken_by, gone_in, on_named, on_reference, on_field, declares, lets_go, entered, resumed, all_nil, on_left, makes, with_field}
@@ -437,7 +437,7 @@ module _ (p : Program) (R : resolved.Program) where
       operation_leads : (x : Op) → slice_get (all R) pc ≡ Some (Plain x) → (nil : (k : ℕ) → Clear k pc → NilFrom k held.variables) → Reaches x h → Onward R (all R) (table R) pc (pc + 1) (left R (Plain x) h) → Leads (operates p.classes x s)
       operation_leads (Num n) is nil needs g = counts nil (Num n) g (n ∷ stack) (omega (arith, count)) (omega arith) (omega arith) (omega arith)
       operation_leads (Bin operator kind) is nil needs g = top_leads stack _ (omega (arith, count, needs)) (λ y rest e. top_leads rest _ (omega (arith, count, needs, e)) (λ x others e2. or_fault_leads (combined operator kind x y) others (λ v. counts nil (Bin operator kind) g (v ∷ others) (omega (arith, count, needs, e, e2)) (omega arith) (omega arith) (omega arith))))
-      operation_leads (Un kind) is nil needs g = top_leads stack _ (omega (arith, count, needs)) (λ x rest e. counts nil (Un kind) g (negated kind x ∷ rest) (omega (arith, count, needs, e)) (omega arith) (omega arith) (omega arith))
+      operation_leads (Un operator kind) is nil needs g = top_leads stack _ (omega (arith, count, needs)) (λ x rest e. counts nil (Un operator kind) g (applied operator kind x ∷ rest) (omega (arith, count, needs, e)) (omega arith) (omega arith) (omega arith))
       operation_leads (Narrow kind) is nil needs g = top_leads stack _ (omega (arith, count, needs)) (λ x rest e. counts nil (Narrow kind) g (converted kind x ∷ rest) (omega (arith, count, needs, e)) (omega arith) (omega arith) (omega arith))
       operation_leads Pop is nil needs g = top_leads stack _ (omega (arith, count, needs)) (λ x rest e. counts nil Pop g rest (omega (arith, count, needs, e)) (omega arith) (omega arith) (omega arith))
       operation_leads (Get depth) is nil needs g = found_leads stack depth _ (omega (arith, count, needs)) (λ v _. counts nil (Get depth) g (v ∷ stack) (omega (arith, count)) (omega arith) (omega arith) (omega arith))

@@ -3,7 +3,7 @@ use Rattle.std.proofs.Common.{◌≡◌, ℕ, zero, suc, ◌+◌, ◌-◌, ◌/�
 use Rattle.std.specs.List.{list_any}
 use Rattle.std.proofs.lemmas.List.Folds.{list_any-append}
 use Rattle.arc_ast.specs.declared.tree.Kind.TheVariants as k
-use Rattle.arc_spec.specs.Resolved.{Piece, Bytes, Decimal, Character, Value, Number, ReadByte, Print, Negated, Combined, Converted, Local, Assigned, Invoked, Sent, SentSuper, SentTo, SentToSuper, Field, FieldAssigned, Reference, Itself, Variable, Stored, Made, Initialized, Values, no_values, and_value, Program}
+use Rattle.arc_spec.specs.Resolved.{Piece, Bytes, Decimal, Character, Value, Number, ReadByte, Print, Applied, Combined, Converted, Local, Assigned, Invoked, Sent, SentSuper, SentTo, SentToSuper, Field, FieldAssigned, Reference, Itself, Variable, Stored, Made, Initialized, Values, no_values, and_value, Program}
 use Rattle.arc_spec.specs.Resolved as resolved
 use Rattle.arc_code.specs.declared.instr.Op.TheVariants.{Num, Bin, Un, Narrow, Get, Set, PrintNum, PrintByte, ReadRef, Nil, Hold, Alloc, GetField, SetField, Differ, IsObject}
 use Rattle.arc_code.specs.declared.instr.Instr.TheVariants.{Plain, Call, Send, SendSuper, SendTo}
@@ -16,7 +16,7 @@ abbrev mutual
   value_takes (Number n) = false
   value_takes ReadByte = false
   value_takes (Print pieces arguments) = values_take arguments
-  value_takes (Negated kind a) = value_takes a
+  value_takes (Applied operator kind a) = value_takes a
   value_takes (Combined operator kind a b) = value_takes a || value_takes b
   value_takes (Converted kind a) = value_takes a
   value_takes (Local i) = false
@@ -128,7 +128,7 @@ module _ (P : Program) (slots names : ℕ) where
     value_some (Number n) depth = refl
     value_some ReadByte depth = refl
     value_some (Print pieces arguments) depth = first (all_value_orders P slots names depth arguments) (print_orders pieces (value_count arguments)) (values_take arguments) (values_some arguments depth) (print_none pieces (value_count arguments))
-    value_some (Negated kind a) depth = first (value_orders P slots names depth a) (Plain (Un kind) ∷ []) (value_takes a) (value_some a depth) refl
+    value_some (Applied operator kind a) depth = first (value_orders P slots names depth a) (Plain (Un operator kind) ∷ []) (value_takes a) (value_some a depth) refl
     value_some (Combined operator kind a b) depth = both (value_orders P slots names depth a) (value_orders P slots names (suc depth) b ++ Plain (Bin operator kind) ∷ []) (value_takes a) (value_takes b) (value_some a depth) (first (value_orders P slots names (suc depth) b) (Plain (Bin operator kind) ∷ []) (value_takes b) (value_some b (suc depth)) refl)
     value_some (Converted kind a) depth = first (value_orders P slots names depth a) (Plain (Narrow kind) ∷ []) (value_takes a) (value_some a depth) refl
     value_some (Local i) depth = get_none slots depth i

@@ -3,7 +3,7 @@ use Rattle.std.proofs.Common.{◌≡◌, ℕ, zero, suc, pred, ◌+◌, ◌-◌,
 use Rattle.std.proofs.lemmas.Bool.{ltb-true, ltb-false}
 use Rattle.arc_ast.specs.declared.tree.Kind.TheVariants as k
 use Rattle.arc_ast.specs.declared.tree.Sign.TheVariants as signs
-use Rattle.arc_spec.specs.Resolved.{Piece, Bytes, Decimal, Character, Value, Number, ReadByte, Print, Negated, Combined, Converted, Local, Assigned, Invoked, Sent, SentSuper, SentTo, SentToSuper, Field, FieldAssigned, Reference, Itself, Variable, Stored, Made, Initialized, Values, no_values, and_value, Command, Sequence, Evaluate, EvaluateReference, Begin, Choose, Repeat, Commands, no_commands, and_command, Function, Program}
+use Rattle.arc_spec.specs.Resolved.{Piece, Bytes, Decimal, Character, Value, Number, ReadByte, Print, Applied, Combined, Converted, Local, Assigned, Invoked, Sent, SentSuper, SentTo, SentToSuper, Field, FieldAssigned, Reference, Itself, Variable, Stored, Made, Initialized, Values, no_values, and_value, Command, Sequence, Evaluate, EvaluateReference, Begin, Choose, Repeat, Commands, no_commands, and_command, Function, Program}
 use Rattle.arc_spec.specs.Resolved as resolved
 use Rattle.arc_code.specs.declared.instr.Op.{Op}
 use Rattle.arc_code.specs.declared.instr.Op.TheVariants.{Num, Bin, Un, Narrow, Pop, Get, Set, PrintNum, PrintByte, GetChar, Declare, Nil, ReadSelf, ReadRef, Hold, Forget, Alloc, GetField, SetField, Differ, IsObject}
@@ -61,7 +61,7 @@ over_none h = heights_same (h.numbers + 0) h.names h.temporaries (h.variables + 
 -- at this height an operation finds what it works on; a function with temporaries declares no variable
 abbrev pub Reaches : Op → Height → Type 0
 Reaches (Bin operator kind) h = 2 ≤ h.numbers
-Reaches (Un kind) h = 1 ≤ h.numbers
+Reaches (Un operator kind) h = 1 ≤ h.numbers
 Reaches (Narrow kind) h = 1 ≤ h.numbers
 Reaches Pop h = 1 ≤ h.numbers
 Reaches (Get depth) h = depth < h.numbers
@@ -298,7 +298,7 @@ module _ (P : Program) (r s : ℕ) where
       value_types (Print pieces arguments) depth a b c h =
           let n = value_count arguments in
           then_plain (values_take arguments) a b c (all_value_orders P slots names depth arguments) (n + a) b (print_orders pieces n) (suc a) b (values_type arguments depth a b c h) (λ t. print_types b t d pieces n a)
-      value_types (Negated kind v) depth a b c h = then_plain (value_takes v) a b c (value_orders P slots names depth v) (suc a) b (Plain (Un kind) ∷ []) (suc a) b (value_types v depth a b c h) (λ t. one b t d 1 1 (suc a) (Un kind) (suc a) refl (omega arith) (omega arith))
+      value_types (Applied operator kind v) depth a b c h = then_plain (value_takes v) a b c (value_orders P slots names depth v) (suc a) b (Plain (Un operator kind) ∷ []) (suc a) b (value_types v depth a b c h) (λ t. one b t d 1 1 (suc a) (Un kind) (suc a) refl (omega arith) (omega arith))
       value_types (Combined operator kind v u) depth a b c h =
           let first = value_types v depth a b c h in
           both (value_takes v) (value_takes u) a b c (value_orders P slots names depth v) (suc a) b (value_orders P slots names (suc depth) u ++ Plain (Bin operator kind) ∷ []) (suc a) b first

@@ -1,10 +1,11 @@
 -- What an expression is of its parts, and how much of it is left to lower: that falls with each call.
 use Rattle.std.proofs.Common.{rules, arith, ◌≡◌, ℕ, zero, suc, ◌+◌, ◌<◌, List, [], ◌∷◌, Box, Global, length, get_or, sym, ap, subst, ◌∙◌}
 use Rattle.arc_ast.specs.declared.tree.Kind.{Kind}
+use Rattle.arc_ast.specs.declared.tree.UnaryOperator.{UnaryOperator}
 use Rattle.arc_ast.specs.declared.tree.BinaryOperator.{BinaryOperator}
 use Rattle.arc_check.specs.declared.checked.Value as c
 use Rattle.arc_check.specs.declared.checked.Reference as r
-use Rattle.arc_spec.specs.Resolved.{Value, Number, ReadByte, Print, Negated, Combined, Converted, Local, Assigned, Invoked, Sent, SentSuper, SentTo, SentToSuper, Field, FieldAssigned, Differ, IsObject, Reference, Nil, Itself, Variable, Stored, Made, Initialized, Values, no_values, and_value}
+use Rattle.arc_spec.specs.Resolved.{Value, Number, ReadByte, Print, Applied, Combined, Converted, Local, Assigned, Invoked, Sent, SentSuper, SentTo, SentToSuper, Field, FieldAssigned, Differ, IsObject, Reference, Nil, Itself, Variable, Stored, Made, Initialized, Values, no_values, and_value}
 use Rattle.arc_check.specs.Checked.{value, values, reference}
 
 abbrev mutual
@@ -12,7 +13,7 @@ abbrev mutual
   value_weight (Number n) = 1
   value_weight ReadByte = 1
   value_weight (Print pieces arguments) = 2 + values_weight arguments
-  value_weight (Negated kind a) = 2 + value_weight a
+  value_weight (Applied operator kind a) = 2 + value_weight a
   value_weight (Combined operator kind a b) = 2 + value_weight a + value_weight b
   value_weight (Converted kind a) = 2 + value_weight a
   value_weight (Local i) = 1
@@ -47,8 +48,8 @@ value_in [] i v below is = nothing_below below
 value_in (a ∷ vs) zero v below is = subst (λ x. value_weight (value x) < suc (value_weight (value a) + values_weight (values vs))) (sym is) (omega arith)
 value_in (a ∷ vs) (suc i) v below is = let deep = value_in vs i v (omega (arith, below)) is in omega (arith, deep)
 
-pub is_negated : (v : c.Value) (kind : Kind) (a : Box c.Value Global) (this : c.Value) → v ≡ c.Negated kind a → this ≡ a.value → value v ≡ Negated kind (value this)
-is_negated v kind a this is same = ap value is ∙ ap (λ x. Negated kind (value x)) (sym same)
+pub is_applied : (v : c.Value) (operator : UnaryOperator) (kind : Kind) (a : Box c.Value Global) (this : c.Value) → v ≡ c.Applied operator kind a → this ≡ a.value → value v ≡ Applied operator kind (value this)
+is_applied v operator kind a this is same = ap value is ∙ ap (λ x. Applied operator kind (value x)) (sym same)
 
 pub is_converted : (v : c.Value) (kind : Kind) (a : Box c.Value Global) (this : c.Value) → v ≡ c.Converted kind a → this ≡ a.value → value v ≡ Converted kind (value this)
 is_converted v kind a this is same = ap value is ∙ ap (λ x. Converted kind (value x)) (sym same)

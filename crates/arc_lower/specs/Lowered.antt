@@ -4,7 +4,7 @@
 use Rattle.std.specs.Prelude.{ℕ, zero, suc, pred, ◌+◌, ◌-◌, ◌/◌, Bool, nat_lt, if◌then◌else◌, pos, List, [], ◌∷◌, ◌++◌, length, take, drop, slice_index_or, Option, Some, None}
 use Rattle.std.specs.List.{list_any}
 use Rattle.arc_ast.specs.declared.tree.Kind.TheVariants as k
-use Rattle.arc_spec.specs.Resolved.{Piece, Bytes, Decimal, Character, Value, Number, ReadByte, Print, Negated, Combined, Converted, Local, Assigned, Invoked, Sent, SentSuper, SentTo, SentToSuper, Field, FieldAssigned, Reference, Itself, Variable, Stored, Made, Initialized, Values, no_values, and_value, Command, Sequence, Evaluate, EvaluateReference, Begin, Choose, Repeat, Commands, no_commands, and_command, Function, Program}
+use Rattle.arc_spec.specs.Resolved.{Piece, Bytes, Decimal, Character, Value, Number, ReadByte, Print, Applied, Combined, Converted, Local, Assigned, Invoked, Sent, SentSuper, SentTo, SentToSuper, Field, FieldAssigned, Reference, Itself, Variable, Stored, Made, Initialized, Values, no_values, and_value, Command, Sequence, Evaluate, EvaluateReference, Begin, Choose, Repeat, Commands, no_commands, and_command, Function, Program}
 use Rattle.arc_spec.specs.Resolved as resolved
 use Rattle.arc_spec.specs.declared.class.Method.{Method}
 use Rattle.arc_spec.specs.Classes.{Class}
@@ -134,7 +134,7 @@ abbrev mutual
   value_orders P slots names depth (Number n) = Plain (Num n) ∷ []
   value_orders P slots names depth ReadByte = Plain GetChar ∷ []
   value_orders P slots names depth (Print pieces arguments) = all_value_orders P slots names depth arguments ++ print_orders pieces (value_count arguments)
-  value_orders P slots names depth (Negated kind a) = value_orders P slots names depth a ++ Plain (Un kind) ∷ []
+  value_orders P slots names depth (Applied operator kind a) = value_orders P slots names depth a ++ Plain (Un operator kind) ∷ []
   value_orders P slots names depth (Combined operator kind a b) =
       value_orders P slots names depth a ++ (value_orders P slots names (suc depth) b ++ Plain (Bin operator kind) ∷ [])
   value_orders P slots names depth (Converted kind a) = value_orders P slots names depth a ++ Plain (Narrow kind) ∷ []

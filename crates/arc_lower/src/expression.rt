@@ -42,14 +42,14 @@ pub(crate) fn append_value(
         Value::Print(pieces, arguments) => {
             append_printed(alloc, actions, program, frame, pieces, arguments)
         }
-        Value::Negated(kind, operand) => {
+        Value::Applied(operator, kind, operand) => {
             append_value_then(
                 alloc,
                 actions,
                 program,
                 frame,
                 operand,
-                Instr::Plain(Op::Un(*kind)),
+                Instr::Plain(Op::Un(*operator, *kind)),
             )
         }
         Value::Combined(operator, kind, left, right) => {

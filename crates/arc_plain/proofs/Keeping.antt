@@ -2,9 +2,9 @@
 use Rattle.std.proofs.Common.{◌≡◌, ℕ, zero, suc, ◌+◌, ℤ, pos, List, [], ◌∷◌, Option, Some, None, Bool, true, false, not, ◌&&◌, slice_get, refl, ◌∙◌}
 use Rattle.std.specs.Prelude.{slice_set, slice_index_or, if◌then◌else◌}
 use Rattle.arc_spec.specs.Classes.{superclasses, ancestry, own_dealloc, class_at, descends}
-use Rattle.arc_spec.specs.Number.{converted, negated, combined, is_zero}
+use Rattle.arc_spec.specs.Number.{converted, applied, combined, is_zero}
 use Rattle.arc_spec.specs.Objects.{Object, Phase, object_at, is_live, names, with_object, with_fields}
-use Rattle.arc_spec.specs.Resolved.{Value, Number, ReadByte, Print, Negated, Combined, Converted, Local, Assigned, Invoked, Sent, SentSuper, SentTo, SentToSuper, Field, FieldAssigned, Differ, IsObject, Reference, Nil, Itself, Variable, Stored, Made, Initialized, Values, no_values, and_value, Command, Sequence, Evaluate, EvaluateReference, Begin, Return, Choose, Repeat, Commands, no_commands, and_command, Function, Program}
+use Rattle.arc_spec.specs.Resolved.{Value, Number, ReadByte, Print, Applied, Combined, Converted, Local, Assigned, Invoked, Sent, SentSuper, SentTo, SentToSuper, Field, FieldAssigned, Differ, IsObject, Reference, Nil, Itself, Variable, Stored, Made, Initialized, Values, no_values, and_value, Command, Sequence, Evaluate, EvaluateReference, Begin, Return, Choose, Repeat, Commands, no_commands, and_command, Function, Program}
 use Rattle.arc_spec.specs.World.{World, Outcome, Done, Faulted, Cut, then_do, Finished, finished, places, prints, entered, left, takes, stores, with_temporaries, with_locals, with_objects, local_at, name_at}
 use Rattle.arc_spec.specs.Meaning.{Deeper, formatted, byte_count, or_fault, released, temporaries_dropped, all_dropped, assigned, variables_dropped, dispatched, finds, runs_found, class_in, sent_from, sent_to, made, in_object, field_read, field_set, difference, evaluated, referred, all_evaluated, whole, whole_reference, begun, Flow, Normal, Returned, if_normal, chosen, turns, scope_left, normally, executed, all_executed, given, function_at, called, dealloc_run, deallocs_run, turned, gone, dying, ended, level}
 
@@ -170,7 +170,7 @@ module _ (D : Deeper) (steady : Steady D) where
     value_waits ReadByte w = refl
     value_waits (Print pieces arguments) w =
         waits_then w (all_evaluated D arguments w) (λ values w1. let bytes = formatted pieces values in Done (byte_count bytes) (prints bytes w1)) (values_wait arguments w) (λ values w1. refl)
-    value_waits (Negated kind a) w = waits_then w (evaluated D a w) (λ x w1. Done (negated kind x) w1) (value_waits a w) (λ x w1. refl)
+    value_waits (Applied operator kind a) w = waits_then w (evaluated D a w) (λ x w1. Done (applied operator kind x) w1) (value_waits a w) (λ x w1. refl)
     value_waits (Combined operator kind a b) w =
         waits_then w (evaluated D a w) (λ x w1. then_do (evaluated D b w1) (λ y w2. or_fault (combined operator kind x y) w2)) (value_waits a w)
         (λ x w1. waits_then w1 (evaluated D b w1) (λ y w2. or_fault (combined operator kind x y) w2) (value_waits b w1) (λ y w2. fault_waits (combined operator kind x y) w2))

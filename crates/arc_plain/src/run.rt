@@ -19,7 +19,7 @@ use crate::progress::{Progress, assign, local, print, read};
 use arc_ast::tree::{BinaryOperator, Kind, Sign};
 use arc_check::checked::{Command, Piece, Reference, Value};
 use arc_spec::event::Fault;
-use arc_spec::number::{combine, convert, negate};
+use arc_spec::number::{apply, combine, convert};
 use std::alloc::Global;
 
 /// How a statement was left: at its end, or by a return with a value.
@@ -45,9 +45,9 @@ fn evaluate(
         Value::Print(pieces, arguments) => {
             evaluate_print(alloc, context, progress, pieces, arguments)
         }
-        Value::Negated(kind, operand) => {
+        Value::Applied(operator, kind, operand) => {
             let number = evaluate(alloc, context, progress, operand)?;
-            Ok(negate(*kind, number))
+            Ok(apply(*operator, *kind, number))
         }
         Value::Combined(operator, kind, left, right) => {
             evaluate_both(alloc, context, progress, *operator, *kind, left, right)

@@ -2,9 +2,11 @@
 use Rattle.std.specs.Prelude.{ℕ, Bool, true, false, ◌||◌, List, [], ◌∷◌, ◌++◌, flat_map, fold, Option, Some, None}
 use Rattle.std.specs.Option.{option_map_or}
 use Rattle.arc_ast.specs.Operators.{sort_of}
+use Rattle.arc_ast.specs.declared.tree.UnaryOperator.{UnaryOperator}
+use Rattle.arc_ast.specs.declared.tree.UnaryOperator.TheVariants as u
 use Rattle.arc_ast.specs.declared.tree.OperatorSort.{OperatorSort}
 use Rattle.arc_ast.specs.declared.tree.OperatorSort.TheVariants.{Equality}
-use Rattle.arc_ast.specs.Tree.{TypeTree, ExprTree, ExprTrees, Paren, Call, Negate, Plus, Cast, Binary, Arrow, Assign, Send, SendSuper, no_exprs, and_expr, VariableTree, StmtTree, StmtTrees, Block, Empty, Simple, Return, Variables, If, IfElse, While, no_stmts, and_stmt, ParameterTree, ParametersTree, Listed, CountAndTexts, FunctionTree, HeadTree, MethodTree, InterfaceTree, ImplementationTree, UnitTree}
+use Rattle.arc_ast.specs.Tree.{TypeTree, ExprTree, ExprTrees, Paren, Call, Unary, Cast, Binary, Arrow, Assign, Send, SendSuper, no_exprs, and_expr, VariableTree, StmtTree, StmtTrees, Block, Empty, Simple, Return, Variables, If, IfElse, While, no_stmts, and_stmt, ParameterTree, ParametersTree, Listed, CountAndTexts, FunctionTree, HeadTree, MethodTree, InterfaceTree, ImplementationTree, UnitTree}
 
 -- ---- what surrounds a node
 
@@ -26,7 +28,7 @@ pub record Scope : Type 0 where
   pub outer : List Bound
   pub in_loop : Bool  -- in the body of a `while`; not in its test, where no rule asks for it
 
--- What an expression is needed for: nothing more, a test or the left side of `==` or `!=`, a number, an object, what goes with another expression (the right side of `=`,
+-- What an expression is needed for: nothing more, a test, the operand of `!` or the left side of `==` or `!=`, a number, an object, what goes with another expression (the right side of `=`,
 -- `==` and `!=`), the first value of a variable of a type, what the function or the method returns, what a message is sent to, and the first argument or another one
 -- of a function with a name. An expression in parentheses is needed for what they are needed for.
 pub data Need : Type 0 where
@@ -93,6 +95,11 @@ with_parameters all s = fold (λ s p. declare p.name p.type s) s all
 
 -- ---- expressions
 
+-- what the operand of an operator before it is needed for
+abbrev pub operand_need : UnaryOperator → Need
+operand_need u.Not = AValue
+operand_need _ = ANumber
+
 -- what the operands of an operator are needed for, by its sort
 abbrev pub left_need : OperatorSort → Need
 left_need Equality = AValue
@@ -107,8 +114,7 @@ abbrev mutual
   pub inside : Enclosing → Scope → Need → ExprTree → List Site
   inside m s need (Paren at a) = inside m s need a ++ value m s need a
   inside m s need (Call at name all) = arguments m s (Argument name true) (Argument name false) all
-  inside m s need (Negate at a) = inside m s ANumber a ++ value m s ANumber a
-  inside m s need (Plus at a) = inside m s ANumber a ++ value m s ANumber a
+  inside m s need (Unary at operator a) = inside m s (operand_need operator) a ++ value m s (operand_need operator) a
   inside m s need (Cast at type a) = inside m s AnObject a ++ value m s AnObject a
   inside m s need (Binary at operator a b) =
       (inside m s (left_need (sort_of operator)) a ++ value m s (left_need (sort_of operator)) a)

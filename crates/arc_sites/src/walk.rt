@@ -50,8 +50,7 @@ fn inside<V: Visitor>(visitor: &mut V, enclosing: Enclosing, expr: &Expr)
         | Expr::Name(_, _) => {}
         Expr::Paren(_, operand) => expression(visitor, enclosing, operand),
         Expr::Call(_, _, all) => arguments(visitor, enclosing, all),
-        Expr::Negate(_, operand) => expression(visitor, enclosing, operand),
-        Expr::Plus(_, operand) => expression(visitor, enclosing, operand),
+        Expr::Unary(_, _, operand) => expression(visitor, enclosing, operand),
         Expr::Cast(_, _, operand) => expression(visitor, enclosing, operand),
         Expr::Arrow(_, _, object, _) => expression(visitor, enclosing, object),
         Expr::Binary(_, _, left, right) => {

@@ -1,8 +1,10 @@
 -- The numbers of a program, and arithmetic on them.
 use Rattle.std.specs.Prelude.{ℕ, suc, ◌+◌, ◌%◌, ◌^◌, ℤ, pos, negsuc, Bool, false, true, not, nat_eq, int_lt, int_le, int_rem, List, length, Option, Some, None, if◌then◌else◌, ◌&&◌}
-use Rattle.std.specs.Int.{w32, w64, cast_signed, cast_unsigned, int_wrapping_add, int_wrapping_sub, int_wrapping_mul, int_wrapping_neg, int_wrapping_div, int_shl, int_shr, int_bit_and, int_bit_or, int_bit_xor}
+use Rattle.std.specs.Int.{w32, w64, cast_signed, cast_unsigned, int_wrapping_add, int_wrapping_sub, int_wrapping_mul, int_wrapping_neg, int_wrapping_div, int_shl, int_shr, int_bit_and, int_bit_or, int_bit_xor, int_bit_not}
 use Rattle.arc_ast.specs.declared.tree.Kind.{Kind}
 use Rattle.arc_ast.specs.declared.tree.Kind.TheVariants as k
+use Rattle.arc_ast.specs.declared.tree.UnaryOperator.{UnaryOperator}
+use Rattle.arc_ast.specs.declared.tree.UnaryOperator.TheVariants as u
 use Rattle.arc_ast.specs.declared.tree.BinaryOperator.{BinaryOperator}
 use Rattle.arc_ast.specs.declared.tree.BinaryOperator.TheVariants as o
 
@@ -31,10 +33,6 @@ abbrev pub is_least : Kind → ℤ → Bool
 is_least k.Int (negsuc n) = nat_eq (suc n) (2 ^ 31)
 is_least _ (negsuc n) = nat_eq (suc n) (2 ^ 63)
 is_least _ (pos n) = false
-
--- `-z` (C99, section 6.5.3.3): it wraps, where C99 says nothing of a result that is too large (this project's own choice)
-abbrev pub negated : Kind → ℤ → ℤ
-negated kind z = converted kind (int_wrapping_neg w64 z)
 
 -- What divides x by y (C99, section 6.5.5) has no answer by 0, and none for the least number by -1, whose quotient is too large; C99 says nothing of these two, so
 -- that is this project's own choice.
@@ -67,6 +65,13 @@ is_same (negsuc n) (pos m) = false
 -- the answer of a comparison (C99, sections 6.5.8 and 6.5.9)
 abbrev pub answer : Bool → ℤ
 answer holds = if holds then pos 1 else pos 0
+
+-- What an operator before its operand gives (C99, section 6.5.3.3), computed as the next ones: `-` wraps, and `!` asks whether the operand is 0.
+abbrev pub applied : UnaryOperator → Kind → ℤ → ℤ
+applied u.Plus kind z = converted kind z
+applied u.Negate kind z = converted kind (int_wrapping_neg w64 z)
+applied u.Complement kind z = converted kind (int_bit_not w64 z)
+applied u.Not kind z = answer (is_zero z)
 
 -- What an operator gives (C99, sections 6.5.5 to 6.5.12), computed in 64 bits, of which the kind keeps its own: so sums, products and shifts to the left wrap, where
 -- C99, section 6.5, says nothing of a result that is too large (this project's own choice). A shift to the right keeps the sign, which C99, section 6.5.7, leaves to

@@ -1,6 +1,7 @@
 -- A program whose names are resolved, whose kinds are known and whose conversions are written.
 use Rattle.std.specs.Prelude.{ℕ, ℤ, List, Option}
 use Rattle.arc_ast.specs.declared.tree.Kind.{Kind}
+use Rattle.arc_ast.specs.declared.tree.UnaryOperator.{UnaryOperator}
 use Rattle.arc_ast.specs.declared.tree.BinaryOperator.{BinaryOperator}
 use Rattle.arc_spec.specs.Classes.{Class}
 
@@ -18,7 +19,7 @@ mutual
     Number : ℤ → Value
     ReadByte : Value
     Print : List Piece → Values → Value
-    Negated : Kind → Value → Value
+    Applied : UnaryOperator → Kind → Value → Value
     Combined : BinaryOperator → Kind → Value → Value → Value
     Converted : Kind → Value → Value
     Local : ℕ → Value

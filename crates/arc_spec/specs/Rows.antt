@@ -3,12 +3,13 @@ use Rattle.std.specs.Prelude.{◌≡◌, ℕ, pos, negsuc, List, [], ◌∷◌, 
 use Rattle.arc_ast.specs.declared.tree.Sign.{Sign}
 use Rattle.arc_ast.specs.declared.tree.Sign.TheVariants as signs
 use Rattle.arc_ast.specs.declared.tree.Kind.TheVariants.{Int, Long}
+use Rattle.arc_ast.specs.declared.tree.UnaryOperator.TheVariants.{Negate}
 use Rattle.arc_ast.specs.declared.tree.BinaryOperator.TheVariants.{Add, Multiply, Divide}
 use Rattle.arc_spec.specs.declared.event.Event.{Event}
 use Rattle.arc_spec.specs.declared.event.Event.TheVariants.{Byte, Dealloc}
 use Rattle.arc_spec.specs.Classes.{Class}
 use Rattle.arc_spec.specs.declared.class.Method.{Method}
-use Rattle.arc_spec.specs.Resolved.{Value, Number, ReadByte, Print, Negated, Combined, Local, Sent, SentSuper, SentTo, Field, FieldAssigned, Reference, Nil, Itself, Variable, Stored, Made, Program, no_values, and_value, Command, Commands, Evaluate, EvaluateReference, Begin, Return, Function, no_commands, and_command, Bytes, Decimal, Character}
+use Rattle.arc_spec.specs.Resolved.{Value, Number, ReadByte, Print, Applied, Combined, Local, Sent, SentSuper, SentTo, Field, FieldAssigned, Reference, Nil, Itself, Variable, Stored, Made, Program, no_values, and_value, Command, Commands, Evaluate, EvaluateReference, Begin, Return, Function, no_commands, and_command, Bytes, Decimal, Character}
 use Rattle.arc_spec.specs.Correct.{Stop, meaning_seen}
 use Rattle.arc_spec.specs.Meaning.{mean}
 
@@ -34,7 +35,7 @@ fourteen = Combined Add Int (Number (pos 2)) (Combined Multiply Int (Number (pos
 
 -- -7 / 2
 abbrev pub minus_three : Value
-minus_three = Combined Divide Int (Negated Int (Number (pos 7))) (Number (pos 2))
+minus_three = Combined Divide Int (Applied Negate Int (Number (pos 7))) (Number (pos 2))
 
 -- { printf("%d%d", 2 + 3 * 4, -7 / 2); return 1 / 0; }
 abbrev pub division_fault : Commands

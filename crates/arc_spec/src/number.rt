@@ -1,9 +1,9 @@
 //! Arithmetic on the numbers of a program. Each is held in 64 bits, whatever its kind.
 ghost use Rattle.std.specs.Prelude.{◌≡◌, ◌&&◌, ◌+◌, ◌%◌, ◌^◌, ◌<◌, pos, false};
 ghost use Rattle.std.specs.Int.{w64, cast_unsigned, IsNonZero};
-ghost use Rattle.arc_spec.specs.Number.{converted, negated, combined, quotient, remainder, count_of_shift, answer, is_least, is_zero, is_minus_one, is_same, low_32, low_byte, byte_or_end};
+ghost use Rattle.arc_spec.specs.Number.{converted, applied, combined, quotient, remainder, count_of_shift, answer, is_least, is_zero, is_minus_one, is_same, low_32, low_byte, byte_or_end};
 
-use arc_ast::tree::{BinaryOperator, Kind};
+use arc_ast::tree::{BinaryOperator, Kind, UnaryOperator};
 
 /// The low 32 bits, read as a signed number.
 pub fn low_half(number: i64) -> i32
@@ -23,11 +23,16 @@ pub fn convert(kind: Kind, number: i64) -> i64
     }
 }
 
-/// `-number`, computed as this kind, which wraps (C99, section 6.5.3.3).
-pub fn negate(kind: Kind, number: i64) -> i64
-    ensures { result ≡ negated kind number }
+/// What an operator before this operand gives, computed as this kind, where `-` wraps (C99, section 6.5.3.3).
+pub fn apply(operator: UnaryOperator, kind: Kind, number: i64) -> i64
+    ensures { result ≡ applied operator kind number }
 {
-    convert(kind, number.wrapping_neg())
+    match operator {
+        UnaryOperator::Plus => convert(kind, number),
+        UnaryOperator::Negate => convert(kind, number.wrapping_neg()),
+        UnaryOperator::Complement => convert(kind, !number),
+        UnaryOperator::Not => answer(is_zero(number)),
+    }
 }
 
 /// The answer of an operator, computed as this kind, where sums, products and shifts to the left wrap

@@ -4,6 +4,7 @@ ghost use Rattle.arc_lex.specs.Tokens.{toks};
 ghost use Rattle.arc_form.specs.Reader.{sees};
 ghost use Rattle.arc_grammar.specs.Grammar as grammar;
 
+use arc_expr::sign::sees_sign;
 use arc_form::step::{sees_integer, sees_mark, sees_name, sees_text, sees_word};
 use arc_lex::token::{Mark, Token, Word};
 
@@ -19,8 +20,7 @@ fn begins_expr(tokens: &[Token]) -> bool
             || sees_word(Word::SelfWord, tokens))
         || sees_mark(Mark::OpenParen, tokens)
         || sees_mark(Mark::OpenSquare, tokens)
-        || sees_mark(Mark::Minus, tokens)
-        || sees_mark(Mark::Plus, tokens)
+        || sees_sign(tokens)
 }
 
 /// Whether a statement can begin with the first token.

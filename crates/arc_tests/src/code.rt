@@ -1,6 +1,6 @@
 //! Devices that fail, and a listing.
 
-use arc_ast::tree::{BinaryOperator, Kind};
+use arc_ast::tree::{BinaryOperator, Kind, UnaryOperator};
 use arc_code::code::{Code, IoFault, Piece};
 use arc_code::counted::{Counted, Failed};
 use arc_code::instr::{Instr, Op};
@@ -66,7 +66,7 @@ fn each_instruction(alloc: Global) -> Result<Code, AllocError> {
     let instrs = [
         Instr::Plain(Op::Num(-42)),
         Instr::Plain(Op::Bin(BinaryOperator::Divide, Kind::Int)),
-        Instr::Plain(Op::Un(Kind::Long)),
+        Instr::Plain(Op::Un(UnaryOperator::Complement, Kind::Long)),
         Instr::Plain(Op::Narrow(Kind::Bool)),
         Instr::Plain(Op::Pop),
         Instr::Plain(Op::Get(2)),
@@ -111,7 +111,7 @@ fn each_instruction(alloc: Global) -> Result<Code, AllocError> {
 }
 
 /// The listing of that code.
-const LISTING: &str = "0 Num -42\n1 Bin 3 2\n2 Un 3\n3 Narrow 1\n4 Pop\n5 Get 2\n6 Set 3\n\
+const LISTING: &str = "0 Num -42\n1 Bin 3 2\n2 Un 2 3\n3 Narrow 1\n4 Pop\n5 Get 2\n6 Set 3\n\
     7 PrintText 10 6\n8 PrintNum\n9 PrintByte\n10 GetChar\n11 Jump 12\n12 JumpZero 7\n13 Call 0\n\
     14 Send 3 1\n15 SendSuper 1 2 0\n16 SendTo 11 12\n17 SendToSuper 14 15 16\n18 StoreStrong 2\n\
     19 Empty 3\n20 DropAll\n21 Return\n22 EndStep\n23 Declare\n24 Nil\n25 ReadSelf\n26 ReadRef 4\n\

@@ -1,6 +1,6 @@
 //! Sums, quotients and bytes that C99 gives.
-use arc_ast::tree::{BinaryOperator, Kind};
-use arc_spec::number::{add_count, byte_or_end, combine, convert, low_byte, low_half, negate};
+use arc_ast::tree::{BinaryOperator, Kind, UnaryOperator};
+use arc_spec::number::{add_count, apply, byte_or_end, combine, convert, low_byte, low_half};
 use std::test::Fail;
 
 #[test]
@@ -8,7 +8,7 @@ fn numbers(rt: HostRuntime) -> Result<(), Fail> {
     let (int, long) = (Kind::Int, Kind::Long);
     assert_eq!(rt; convert(int, 4_294_967_295), -1);
     assert_eq!(rt; convert(Kind::Bool, 4_294_967_296), 1);
-    assert_eq!(rt; negate(int, -2_147_483_648), -2_147_483_648);
+    assert_eq!(rt; apply(UnaryOperator::Negate, int, -2_147_483_648), -2_147_483_648);
     assert_eq!(rt;
         combine(BinaryOperator::Add, int, 2_147_483_647, 1),
         Some(-2_147_483_648)

@@ -7,7 +7,7 @@ use Rattle.arc_check.specs.Formats.{wanted}
 use Rattle.arc_check.specs.private.Judging.{Judges, counted}
 use Rattle.arc_check.specs.Rules.{at_if, kind_if}
 use Rattle.arc_check.specs.private.Views.{seen}
-use Rattle.arc_check.proofs.Judgements.{judges_call, judges_send, judges_super, judges_negation, judges_plus, judges_cast, judges_arrow, judges_message, judges_super_message, judges_binary, judges_assign, judges_other, fit_turn, fault_turn, taken_turn}
+use Rattle.arc_check.proofs.Judgements.{judges_call, judges_send, judges_super, judges_unary, judges_cast, judges_arrow, judges_message, judges_super_message, judges_binary, judges_assign, judges_other, fit_turn, fault_turn, taken_turn}
 use Rattle.arc_check.proofs.judge.+judge.Goals as goal
 use Rattle.arc_check.proofs.judge.+judge.Goals.{judge_arguments-then-told, judge_arguments-else-told}
 
@@ -20,11 +20,8 @@ judge-returns-in-Paren t c =
     let h : Judges s c.args.before (expr_tree c.in-Paren.inside.value) c.judge.result = rw c.deref.ensures at c.judge.ensures in
     rw c.in-Paren.is (record { kind = h.kind; class = h.class; fault = h.fault; taken = h.taken })
 
-pub judge-returns-in-Negate : goal.judge-returns-in-Negate
-judge-returns-in-Negate t c = rw c.in-Negate.is (rw c.deref-in-Negate.ensures at (c.judge_signed.ensures.negate c.in-Negate.field-0))
-
-pub judge-returns-in-Plus : goal.judge-returns-in-Plus
-judge-returns-in-Plus t c = rw c.in-Plus.is (rw c.deref-in-Plus.ensures at (c.judge_signed-in-Plus.ensures.plus c.in-Plus.field-0))
+pub judge-returns-in-Unary : goal.judge-returns-in-Unary
+judge-returns-in-Unary t c = rw c.in-Unary.is (rw c.deref-in-Unary.ensures at (c.judge_unary.ensures c.in-Unary.field-0))
 
 pub judge-returns-in-Cast : goal.judge-returns-in-Cast
 judge-returns-in-Cast t c = rw c.in-Cast.is (rw c.deref-in-Cast.ensures at (c.judge_cast.ensures c.in-Cast.field-0))
@@ -62,13 +59,10 @@ judge-returns-in-Binary t c =
     let there : c.place-in-Binary.result ≡ place b = c.place-in-Binary.ensures ∙ ap (λ e. place (expr_tree e)) c.deref-in-Binary-4.ensures in
     rw c.in-Binary.is (judges_binary s c.args.before _ _ a b one two c.combined.result c.place.result c.place-in-Binary.result left right here there c.combined.ensures.kind c.combined.ensures.class c.combined.ensures.fault c.combined.ensures.taken)
 
-pub judge_signed-returns-clause-negate : goal.judge_signed-returns-clause-negate
-judge_signed-returns-clause-negate t c = λ at.
-    judges_negation (seen c.args.table.now c.args.visible.now) c.args.before at (expr_tree c.args.operand.now) c.judge-judged.result c.number.result c.place.result c.judge-judged.ensures c.place.ensures (ap (λ j. j.kind) c.number.ensures ∙ c.number_kind.ensures) (ap (λ j. j.class) c.number.ensures)
-    (ap (λ j. option_map told j.fault) c.number.ensures ∙ c.earlier.ensures ∙ ap (earlier_of (option_map told c.judge-judged.result.fault)) c.no_number.ensures) (ap (λ j. j.taken) c.number.ensures)
-
-pub judge_signed-returns-clause-plus : goal.judge_signed-returns-clause-plus
-judge_signed-returns-clause-plus t c = λ at. judges_plus (seen c.args.table.now c.args.visible.now) c.args.before at (expr_tree c.args.operand.now) c.number.result (judge_signed-returns-clause-negate t c at)
+pub judge_unary-returns : goal.judge_unary-returns
+judge_unary-returns t c = λ at.
+    judges_unary (seen c.args.table.now c.args.visible.now) c.args.before at c.args.operator (expr_tree c.args.operand.now) c.judge-judged.result c.number.result c.place.result c.judge-judged.ensures c.place.ensures (ap (λ j. j.kind) c.number.ensures ∙ c.unary_kind.ensures) (ap (λ j. j.class) c.number.ensures)
+    (ap (λ j. option_map told j.fault) c.number.ensures ∙ c.earlier.ensures ∙ ap (earlier_of (option_map told c.judge-judged.result.fault)) c.no_operand.ensures) (ap (λ j. j.taken) c.number.ensures)
 
 pub judge_cast-returns : goal.judge_cast-returns
 judge_cast-returns t c = λ at.

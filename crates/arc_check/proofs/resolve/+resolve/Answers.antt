@@ -9,7 +9,7 @@ use Rattle.arc_check.specs.private.Building.{resolution}
 use Rattle.arc_check.specs.Checked as checked
 use Rattle.arc_ast.specs.Tree.{expr_tree, expr_trees}
 use Rattle.arc_check.specs.Resolving as resolving
-use Rattle.arc_check.specs.Resolving.{negated, binary, resolved, resolved_all}
+use Rattle.arc_check.specs.Resolving.{unary, binary, resolved, resolved_all}
 use Rattle.arc_check.specs.Scopes.{class_of, result_kind}
 use Rattle.arc_check.specs.private.Views.{seen}
 use Rattle.arc_ast.proofs.Trees.{call_tree, send_tree, send_super_tree}
@@ -45,11 +45,8 @@ expression-returns-in-Text t c = IfOk-weaker c.text.result _ _ (λ typed h. rw c
 pub expression-returns-in-Name : goal.expression-returns-in-Name
 expression-returns-in-Name t c = IfOk-weaker c.variable.result _ _ (λ typed h. rw (c.in-Name.is, sym c.deref-in-Name.ensures.value) (h c.in-Name.field-0)) c.variable.ensures
 
-pub expression-returns-in-Negate : goal.expression-returns-in-Negate
-expression-returns-in-Negate t c = IfOk-weaker c.negation.result _ _ (λ typed h. rw (c.in-Negate.is, sym c.deref-in-Negate.ensures) (h c.in-Negate.field-0)) c.negation.ensures
-
-pub expression-returns-in-Plus : goal.expression-returns-in-Plus
-expression-returns-in-Plus t c = IfOk-weaker c.plus.result _ _ (λ typed h. rw (c.in-Plus.is, sym c.deref-in-Plus.ensures) (h c.in-Plus.field-0)) c.plus.ensures
+pub expression-returns-in-Unary : goal.expression-returns-in-Unary
+expression-returns-in-Unary t c = IfOk-weaker c.signed.result _ _ (λ typed h. rw (c.in-Unary.is, sym c.deref-in-Unary.ensures) (h c.in-Unary.field-0)) c.signed.ensures
 
 pub expression-returns-in-Cast : goal.expression-returns-in-Cast
 expression-returns-in-Cast t c = IfOk-weaker c.cast.result _ _ (λ typed h. rw (c.in-Cast.is, sym c.deref-in-Cast.ensures) (h c.in-Cast.field-0)) c.cast.ensures
@@ -63,11 +60,8 @@ expression-returns-in-Arrow t c = IfOk-weaker c.arrow.result _ _ (λ typed h. rw
 pub expression-returns-in-Assign : goal.expression-returns-in-Assign
 expression-returns-in-Assign t c = IfOk-weaker c.assignment.result _ _ (λ typed h. rw (c.in-Assign.is, sym c.deref-in-Assign.ensures, sym c.deref-in-Assign-2.ensures) (h c.in-Assign.field-0 c.in-Assign.field-1)) c.assignment.ensures
 
-pub negation-returns : goal.negation-returns
-negation-returns t c = λ at. record { class = refl; value = c.in_ok-value.ensures ∙ ap negated c.in_ok-operand.ensures.value }
-
-pub plus-returns : goal.plus-returns
-plus-returns t c = λ at. record { class = refl; value = c.in_ok-operand.ensures.value }
+pub signed-returns : goal.signed-returns
+signed-returns t c = λ at. record { class = refl; value = c.in_ok-value.ensures ∙ ap (unary c.args.operator) c.in_ok-operand.ensures.value }
 
 pub cast-returns : goal.cast-returns
 cast-returns t c = λ at. record { class = c.static_class.ensures; value = c.in_ok-operand.ensures.value }

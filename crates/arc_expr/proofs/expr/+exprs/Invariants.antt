@@ -25,11 +25,8 @@ decreases-binary l = 16 * length l.tokens.now + 4
 abbrev pub decreases-prefixed : goal.decreases-prefixed
 decreases-prefixed l = 16 * length l.tokens.now + 3
 
-abbrev pub decreases-negated : goal.decreases-negated
-decreases-negated l = 16 * length l.tokens.now + 1
-
-abbrev pub decreases-plus : goal.decreases-plus
-decreases-plus l = 16 * length l.tokens.now + 1
+abbrev pub decreases-signed : goal.decreases-signed
+decreases-signed l = 16 * length l.tokens.now + 1
 
 abbrev pub decreases-parenthesized : goal.decreases-parenthesized
 decreases-parenthesized l = 16 * length l.tokens.now + 1

@@ -10,7 +10,7 @@ use Rattle.arc_lower.specs.Order.{Order, order, orders}
 use Rattle.arc_lower.specs.Lowered.{value_orders, reference_orders, all_value_orders, print_orders, call_orders, get_orders, set_orders, value_count}
 use Rattle.arc_lower.proofs.Rows.{values_counted}
 use Rattle.arc_check.proofs.Trees.{is_print, is_invoked, is_sent, is_sent_super, is_sent_to, is_sent_to_super}
-use Rattle.arc_lower.proofs.Weights.{value_weight, reference_weight, value_in, is_negated, is_combined, is_converted, is_assigned, is_field, is_field_assigned, is_differ, is_object, is_stored, is_made, is_initialized}
+use Rattle.arc_lower.proofs.Weights.{value_weight, reference_weight, value_in, is_applied, is_combined, is_converted, is_assigned, is_field, is_field_assigned, is_differ, is_object, is_stored, is_made, is_initialized}
 use Rattle.arc_lower.proofs.expression.+expression.Goals as goal
 
 behind_two : (old o1 o2 a b last : List Order) → o1 ≡ old ++ a → o2 ≡ o1 ++ b → o2 ++ last ≡ old ++ (a ++ (b ++ last))
@@ -35,13 +35,13 @@ append_value-returns-in-Print t c =
 
 pub append_value-append_value_then-requires : goal.append_value-append_value_then-requires
 append_value-append_value_then-requires t c =
-    (omega (arith, ap value_weight (is_negated c.args.expression.now c.in-Negated.kind c.in-Negated.operand c.deref-in-Negated.result.now c.in-Negated.is c.deref-in-Negated.ensures), c.decreases), tt)
+    (omega (arith, ap value_weight (is_applied c.args.expression.now c.in-Applied.operator c.in-Applied.kind c.in-Applied.operand c.deref-in-Applied.result.now c.in-Applied.is c.deref-in-Applied.ensures), c.decreases), tt)
 
-pub append_value-returns-in-Negated : goal.append_value-returns-in-Negated
-append_value-returns-in-Negated t c =
+pub append_value-returns-in-Applied : goal.append_value-returns-in-Applied
+append_value-returns-in-Applied t c =
     let f = c.args.frame in
     told (λ x. OnOk c.append_value_then.result (orders c.append_value_then.new.actions.items ≡ orders c.args.actions.now.items ++ value_orders (program_of c.args.program.now) f.slots f.names f.operands x)) c.args.expression.now _
-    (is_negated c.args.expression.now c.in-Negated.kind c.in-Negated.operand c.deref-in-Negated.result.now c.in-Negated.is c.deref-in-Negated.ensures) c.append_value_then.ensures
+    (is_applied c.args.expression.now c.in-Applied.operator c.in-Applied.kind c.in-Applied.operand c.deref-in-Applied.result.now c.in-Applied.is c.deref-in-Applied.ensures) c.append_value_then.ensures
 
 pub append_value-append_both-requires : goal.append_value-append_both-requires
 append_value-append_both-requires t c =
