@@ -57,6 +57,8 @@ NUMBERS = {
     "unary minus": number,
     "unary plus": lambda n: around(n, ["+"], [], lambda v: v),
     "unary plus and minus": lambda n: around(n, ["+", "-"], [], lambda v: -v),
+    "complements": lambda n: around(n, ["~"], [], lambda v: ~v),
+    "nots": lambda n: around(n, ["!"], [], lambda v: int(v == 0)),
     "minus and parentheses": lambda n: around(n, ["-", "("], [")"], lambda v: -v),
     "sums": lambda n: chain(n, "+", lambda v: v + 1),
     "differences": lambda n: chain(n, "-", lambda v: v - 1),
