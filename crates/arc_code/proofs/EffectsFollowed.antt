@@ -15,7 +15,7 @@ module _ (classes : List Class) (s : State) where
   abbrev By : Effect → State → Type 0
   By e = Follows e s
 
-  -- behind the operation, with this stack, these objects and these places
+  -- after the operation, with this stack, these objects and these places
   abbrev behind : List ℤ → Held → State
   behind stack held = record { at = s.at + 1; stack = stack; frames = s.frames; held = held }
 

@@ -135,7 +135,7 @@ module _ {J F T : Type 0} (p : Program J F T) (height : ℕ → Height) (most_nu
     sends_within from (suc k) selector takes names fit e = object_after Within (object_at s.held.objects (suc k)) _ (λ o.
         answers_within names takes 1 fit (omega (arith, e)) (suc k) (lookup p.classes (Some (from o)) signs.Instance selector takes) (λ to found. fits.methods (Some (from o)) signs.Instance selector takes to found))
 
-    -- the end of an object begins, behind which the function goes on here
+    -- the end of an object begins, after which the function goes on here
     begins_end_within : (back o class : ℕ) (h : Held) (b : Bool) → has_level s ≡ b → Above (height back) s.frames s.stack h → After Within (begins_end p s back o class h b)
     begins_end_within back o class h false is a = tt
     begins_end_within back o class h true is a = record {

@@ -83,7 +83,7 @@ pub enum Instr<J, F, T> {
     StoreStrong(usize),
     /// The variable with this number lets go of what it named, and is nil.
     Empty(usize),
-    /// Drops the temporaries, the last one first, until an object's end begins, behind which this instruction
+    /// Drops the temporaries, the last one first, until an object's end begins, after which this instruction
     /// is met again, or none is left.
     DropAll,
     /// Leaves the function, which has no temporary, with its variables, all of them nil: goes back to the

@@ -175,12 +175,12 @@ whole_reference D a w = then_do (referred D a w) (λ _ w1. all_dropped D w1)
 abbrev pub begun : Deeper → ℕ → Reference → World → Outcome Finished
 begun D i a w = then_do (referred D a w) (λ r w1. then_do (assigned D i r w1) (λ _ w2. all_dropped D w2))
 
--- how a statement is left: behind it, or by a return with a value (C99, section 6.8.6.4)
+-- how a statement is left: at its end, or by a return with a value (C99, section 6.8.6.4)
 pub data Flow : Type 0 where
   Normal : Flow
   Returned : ℤ → Flow
 
--- what follows a statement that was left behind it
+-- what follows a statement that was left at its end
 abbrev pub if_normal : Flow → (World → Outcome Flow) → World → Outcome Flow
 if_normal Normal go w = go w
 if_normal (Returned v) go w = Done (Returned v) w
@@ -233,8 +233,8 @@ function_at P f = function_of (slice_get P.functions f)
     function_of None = record { slots = 0; names = 0; body = no_commands }
     function_of (Some g) = g
 
--- A call: the function runs with variables of its own, and behind it the caller's are there again. The variables that name objects are dropped at its end, also
--- behind a return; those of blocks that were left before name nothing by then.
+-- A call: the function runs with variables of its own, and after it the caller's are there again. The variables that name objects are dropped at its end, also
+-- after a return; those of blocks that were left before name nothing by then.
 abbrev pub called : Deeper → (bound : ℕ) → Function → (self : ℕ) → List ℤ → World → Outcome ℤ
 called D bound f self arguments w =
     then_do (all_executed D bound f.body (entered f.slots f.names self arguments w)) (λ flow w1.

@@ -34,7 +34,7 @@ is_least k.Int (negsuc n) = nat_eq (suc n) (2 ^ 31)
 is_least _ (negsuc n) = nat_eq (suc n) (2 ^ 63)
 is_least _ (pos n) = false
 
--- What divides x by y (C99, section 6.5.5) has no answer by 0, and none for the least number by -1, whose quotient is too large; C99 says nothing of these two, so
+-- What divides x by y (C99, section 6.5.5) has no answer by 0, and none for the least number by -1, whose quotient is too large; C99 leaves these two undefined, so
 -- that is this project's own choice.
 abbrev pub if_divides : Kind → ℤ → ℤ → ℤ → Option ℤ
 if_divides kind x y answer = if is_zero y then None else if is_least kind x && is_minus_one y then None else Some answer
@@ -52,7 +52,7 @@ abbrev pub width : Kind → ℕ
 width k.Int = 32
 width _ = 64
 
--- by how many bits a shift shifts (C99, section 6.5.7, says nothing of a count outside of the width; that it is taken modulo the width is this project's own choice)
+-- by how many bits a shift shifts (C99, section 6.5.7, leaves a count outside of the width undefined; that it is taken modulo the width is this project's own choice)
 abbrev pub count_of_shift : Kind → ℤ → ℕ
 count_of_shift kind y = cast_unsigned w64 y % width kind
 
@@ -74,7 +74,7 @@ applied u.Complement kind z = converted kind (int_bit_not w64 z)
 applied u.Not kind z = answer (is_zero z)
 
 -- What an operator gives (C99, sections 6.5.5 to 6.5.12), computed in 64 bits, of which the kind keeps its own: so sums, products and shifts to the left wrap, where
--- C99, section 6.5, says nothing of a result that is too large (this project's own choice). A shift to the right keeps the sign, which C99, section 6.5.7, leaves to
+-- C99, section 6.5, leaves a result that is too large undefined (this project's own choice). A shift to the right keeps the sign, which C99, section 6.5.7, leaves to
 -- an implementation.
 abbrev pub combined : BinaryOperator → Kind → ℤ → ℤ → Option ℤ
 combined o.Add kind x y = Some (converted kind (int_wrapping_add w64 x y))

@@ -106,7 +106,7 @@ new_a = Made (class_value 1)
 abbrev pub printed : List ℕ → Command
 printed text = Evaluate (Print (Bytes text ∷ []) no_values)
 
--- A class A with a field _v, a method v that gives it, and a dealloc that prints it behind a `d`; and main with this body and one variable that names an object.
+-- A class A with a field _v, a method v that gives it, and a dealloc that prints it after a `d`; and main with this body and one variable that names an object.
 abbrev pub with_class_a : Commands → Program
 with_class_a body = record {
   functions = record { slots = 0; names = 1; body = body }
@@ -127,7 +127,7 @@ objects_with_dealloc = with_class_a
     (and_command (EvaluateReference (Stored 0 Nil))
     (and_command (printed (codes "y")) no_commands)))))))
 
--- what it shows: the dealloc of the second object begins behind the 3, and that of the first one behind the x
+-- what it shows: the dealloc of the second object begins after the 3, and that of the first one after the x
 abbrev pub dealloc_events : List Event
 dealloc_events = map Byte (codes "3") ++ Dealloc 2 1 ∷ map Byte (codes "d0x") ++ Dealloc 1 1 ∷ map Byte (codes "d3y")
 
