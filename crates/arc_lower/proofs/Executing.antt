@@ -1,5 +1,5 @@
 -- A run executes statements, and leaves its function.
-use Rattle.std.proofs.Common.{◌≡◌, ℕ, zero, suc, ◌+◌, ◌-◌, ◌≤◌, ℤ, pos, Bool, true, false, List, [], ◌∷◌, ◌++◌, length, Some, None, refl, sym, ap, ◌∙◌, subst, arith, length-append, slice_set}
+use Rattle.std.proofs.Common.{◌≡◌, ℕ, zero, suc, ◌+◌, ◌≤◌, ℤ, pos, Bool, true, false, List, [], ◌∷◌, ◌++◌, length, Some, None, refl, sym, ap, ◌∙◌, subst, arith, length-append, slice_set}
 use Rattle.std.proofs.lemmas.List.{length-set}
 use Rattle.arc_spec.specs.Number.{is_zero}
 use Rattle.arc_spec.specs.Objects.{nils}
@@ -21,7 +21,7 @@ use Rattle.arc_lower.specs.Lowered.{keep_orders, declare_orders, store_orders, d
 use Rattle.arc_lower.proofs.CountsThere.{AllThere, taken_there}
 use Rattle.arc_lower.proofs.Leading.{Leads, leads_same, leads_trans, leads_step, Runs, leads_runs, later_runs, fewer_runs, then_runs, better_runs}
 use Rattle.arc_lower.proofs.Recounting.{recount, moves, at, held_of}
-use Rattle.arc_lower.proofs.Doing.{does, HasAt, has_front, has_back}
+use Rattle.arc_lower.proofs.Doing.{HasAt, has_front, has_back}
 use Rattle.arc_lower.proofs.Segments.{running, then_at, then_segment, one_segment, quiet, Passes, then_passes, one_passes, no_passes}
 use Rattle.arc_lower.proofs.Stacking.{onto}
 use Rattle.arc_lower.proofs.Printing.{keep_passes}

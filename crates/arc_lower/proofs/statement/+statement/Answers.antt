@@ -1,4 +1,4 @@
-use Rattle.std.proofs.Common.{◌≡◌, ◌++◌, length, slice_set, ap, sym, subst, ◌∙◌, OnOk, append_assoc}
+use Rattle.std.proofs.Common.{◌≡◌, ◌++◌, slice_set, ap, sym, subst, ◌∙◌, OnOk, append_assoc}
 use Rattle.std.proofs.lemmas.List.{length-map}
 use Rattle.arc_check.specs.Checked.{value, command, commands, program_of}
 use Rattle.arc_code.specs.declared.instr.Instr.TheVariants.{Jump}
