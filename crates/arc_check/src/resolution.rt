@@ -137,7 +137,11 @@ pub fn unary(
 {
     let kind = kind_in(&of);
     let value = number_in(alloc, of)?;
-    given(alloc, unary_given(operator, kind), Value::Applied(operator, kind, value))
+    given(
+        alloc,
+        unary_given(operator, kind),
+        Value::Applied(operator, kind, value),
+    )
 }
 
 /// An operator's expression that computes in the kind, from its operands.
