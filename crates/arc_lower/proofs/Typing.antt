@@ -298,7 +298,7 @@ module _ (P : Program) (r s : ℕ) where
       value_types (Print pieces arguments) depth a b c h =
           let n = value_count arguments in
           then_plain (values_take arguments) a b c (all_value_orders P slots names depth arguments) (n + a) b (print_orders pieces n) (suc a) b (values_type arguments depth a b c h) (λ t. print_types b t d pieces n a)
-      value_types (Applied operator kind v) depth a b c h = then_plain (value_takes v) a b c (value_orders P slots names depth v) (suc a) b (Plain (Un operator kind) ∷ []) (suc a) b (value_types v depth a b c h) (λ t. one b t d 1 1 (suc a) (Un kind) (suc a) refl (omega arith) (omega arith))
+      value_types (Applied operator kind v) depth a b c h = then_plain (value_takes v) a b c (value_orders P slots names depth v) (suc a) b (Plain (Un operator kind) ∷ []) (suc a) b (value_types v depth a b c h) (λ t. one b t d 1 1 (suc a) (Un operator kind) (suc a) refl (omega arith) (omega arith))
       value_types (Combined operator kind v u) depth a b c h =
           let first = value_types v depth a b c h in
           both (value_takes v) (value_takes u) a b c (value_orders P slots names depth v) (suc a) b (value_orders P slots names (suc depth) u ++ Plain (Bin operator kind) ∷ []) (suc a) b first
