@@ -1,13 +1,13 @@
 -- The blocks of statements and functions mean what these mean.
-use Rattle.std.proofs.Common.{◌≡◌, ℕ, zero, suc, ℤ, pos, true, false, List, [], ◌∷◌, Some, None, refl, sym, ap, ◌∙◌}
+use Rattle.std.proofs.Common.{◌≡◌, ℕ, zero, suc, ℤ, pos, true, false, List, [], Some, None, refl, sym, ap, ◌∙◌}
 use Rattle.arc_spec.specs.Number.{is_zero}
 use Rattle.arc_spec.specs.Resolved.{Value, Reference, Command, Sequence, Evaluate, EvaluateReference, Begin, Choose, Repeat, Commands, no_commands, and_command}
 use Rattle.arc_spec.specs.Resolved as resolved
 use Rattle.arc_spec.specs.World.{World, Outcome, Done, Faulted, Cut, Finished, finished, then_do}
-use Rattle.arc_spec.specs.Meaning.{Deeper, Flow, Normal, Returned, if_normal, given, chosen, turns, normally, assigned, all_dropped, variables_dropped, evaluated, referred, whole, whole_reference, begun, executed, all_executed}
+use Rattle.arc_spec.specs.Meaning.{Deeper, Flow, Normal, Returned, given, turns, normally, assigned, all_dropped, variables_dropped, evaluated, referred, whole, whole_reference, begun, executed, all_executed}
 use Rattle.arc_code.specs.declared.instr.Op.TheVariants.{Num, Forget}
-use Rattle.arc_lower.specs.Lowered.{Block, One, Then, Assign, Leave, value_block, reference_block, whole_block, whole_reference_block, begin_block, command_block, commands_block, body_block}
-use Rattle.arc_lower.proofs.Shaping.{Operands, push, name, Way, On, Out, on_way, left_by, and_then, passes_by, block_turns, block, after, chosen_by}
+use Rattle.arc_lower.specs.Lowered.{Block, One, Then, Leave, whole_block, whole_reference_block, begin_block, command_block, commands_block, body_block}
+use Rattle.arc_lower.proofs.Shaping.{Operands, push, name, Way, On, Out, left_by, and_then, passes_by, block_turns, block, after, chosen_by}
 use Rattle.arc_lower.proofs.Evaluating.{above, value_is, reference_is}
 
 -- behind a statement of a function with this exit, which leaves no operands of its own

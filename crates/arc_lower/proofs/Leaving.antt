@@ -1,19 +1,17 @@
 -- A run does what a function does, and leaves it.
-use Rattle.std.proofs.Common.{◌≡◌, ℕ, zero, suc, ◌+◌, ℤ, pos, Bool, true, false, ◌&&◌, List, [], ◌∷◌, ◌++◌, length, Some, None, refl, sym, ap, ◌∙◌, subst, arith, ◌⊎◌, inl, inr}
-use Rattle.std.proofs.lemmas.Bool.{false≢true}
+use Rattle.std.proofs.Common.{◌≡◌, ℕ, zero, suc, ◌+◌, ℤ, Bool, true, false, List, [], ◌∷◌, ◌++◌, length, Some, None, refl, sym, ap, ◌∙◌, subst, arith}
 use Rattle.arc_spec.specs.Objects.{nils}
 use Rattle.arc_spec.specs.Resolved.{Command, Sequence, Evaluate, EvaluateReference, Begin, Choose, Repeat, Commands, no_commands, and_command}
 use Rattle.arc_spec.specs.Resolved as resolved
 use Rattle.arc_spec.specs.Meaning.{Deeper, Flow, given, variables_dropped, called, all_executed}
-use Rattle.arc_spec.specs.World as world
 use Rattle.arc_spec.specs.World.{World, Outcome, Done, Faulted, Cut, Finished, then_do, places, first_frame, first_locals, entered, left}
 use Rattle.arc_spec.specs.Holding.{Held, Frame, Calling, Ending, all_nil, on_left, with_variables}
-use Rattle.arc_spec.specs.Stepping.{Next, Reached, follow, only_if}
+use Rattle.arc_spec.specs.Stepping.{Next, Reached, follow}
 use Rattle.arc_ir.specs.Acting.{Program, State}
 use Rattle.arc_ir.specs.Acting as acting
 use Rattle.arc_code.specs.declared.instr.Op.TheVariants.{Declare}
 use Rattle.arc_code.specs.declared.instr.Instr.TheVariants.{Plain, Return}
-use Rattle.arc_lower.specs.Lowered.{Block, all_empty_orders, keep_orders, leave_orders, declare_orders, flat, command_block, commands_block, body_block, body_orders}
+use Rattle.arc_lower.specs.Lowered.{all_empty_orders, keep_orders, leave_orders, declare_orders, flat, command_block, commands_block, body_block, body_orders}
 use Rattle.arc_lower.proofs.Leading as leading
 use Rattle.arc_lower.proofs.Leading.{Runs, leads_runs, stuck_runs, ends_here, then_runs, then_at}
 use Rattle.arc_lower.proofs.Recounting.{recount, moves, at, held_of}
@@ -22,10 +20,10 @@ use Rattle.arc_lower.proofs.Segments.{running, one_runs, quiet, Passes, then_pas
 use Rattle.arc_lower.proofs.Stacking.{onto}
 use Rattle.arc_lower.proofs.Printing.{keep_passes}
 use Rattle.arc_lower.proofs.Releasing.{Kept, only_runs, emptied, empties_run}
-use Rattle.arc_lower.proofs.Shaping.{Operands, push, Way, Out, left_by, block}
+use Rattle.arc_lower.proofs.Shaping.{push, Way, Out, left_by}
 use Rattle.arc_lower.proofs.Executing.{calm, body_is}
 use Rattle.arc_lower.proofs.Quiet.{takes_none, both_true}
-use Rattle.arc_lower.proofs.Running.{Deep, IsFramed, Good, Leaves, emptied_good, kept_good, block_runs}
+use Rattle.arc_lower.proofs.Running.{Deep, Good, Leaves, emptied_good, kept_good, block_runs}
 
 nils_length : (n : ℕ) → length (nils n) ≡ n
 nils_length zero = refl

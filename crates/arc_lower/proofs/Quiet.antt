@@ -4,7 +4,6 @@ use Rattle.std.proofs.lemmas.Bool.{true≢false}
 use Rattle.std.specs.List.{list_any}
 use Rattle.std.proofs.lemmas.List.Folds.{list_any-append}
 use Rattle.arc_spec.specs.Resolved.{Program}
-use Rattle.arc_code.specs.declared.instr.Op.{Op}
 use Rattle.arc_code.specs.declared.instr.Op.TheVariants.{Nil, ReadRef, Hold}
 use Rattle.arc_code.specs.declared.instr.Instr.TheVariants.{Plain, Jump, JumpZero}
 use Rattle.arc_code.specs.Effects.{operation_effect}

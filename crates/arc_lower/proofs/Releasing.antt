@@ -15,9 +15,9 @@ use Rattle.arc_code.specs.declared.instr.Instr.TheVariants.{DropAll, Empty}
 use Rattle.arc_lower.specs.Order.{Order}
 use Rattle.arc_lower.specs.Lowered.{empty_orders, all_empty_orders}
 use Rattle.arc_lower.proofs.CountsPlaces.{tally, one_more_if, one_less_if, tally_same, holders_head, holders_append, holders_set, last_one}
-use Rattle.arc_lower.proofs.Leading.{leads_same, leads_step, Runs, At, leads_runs, stuck_runs, ends_here, then_at, better_runs}
+use Rattle.arc_lower.proofs.Leading.{Runs, stuck_runs, ends_here, then_at, better_runs}
 use Rattle.arc_lower.proofs.Recounting.{recount, moves, at, counting, held_of}
-use Rattle.arc_lower.proofs.Doing.{bare, does, HasAt, has_front, has_back}
+use Rattle.arc_lower.proofs.Doing.{bare, HasAt, has_front, has_back}
 use Rattle.arc_lower.proofs.Segments.{running, one_runs, quiet_runs}
 
 -- the places of the functions are as they were

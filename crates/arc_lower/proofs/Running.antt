@@ -1,42 +1,40 @@
 -- Steps do what blocks mean.
 use Rattle.std.proofs.Common.{◌≡◌, ℕ, zero, suc, ◌+◌, ◌-◌, ◌≤◌, ◌<◌, ℤ, pos, Bool, true, false, not, ◌&&◌, nat_eq, nat_lt, if◌then◌else◌, ◌⊎◌, inl, inr, List, [], ◌∷◌, ◌++◌, length, Option, Some, None, slice_get, slice_set, refl, sym, ap, ◌∙◌, subst, arith, length-append}
-use Rattle.std.proofs.lemmas.Bool.{ltb-true, ltb-false, eqb-true, and_parts, true≢false, false≢true}
-use Rattle.std.proofs.lemmas.List.{length-set, get_or_past, set_past, append-nil}
+use Rattle.std.proofs.lemmas.Bool.{ltb-true, ltb-false, eqb-true, and_parts, false≢true}
+use Rattle.std.proofs.lemmas.List.{length-set, get_or_past, set_past}
 use Rattle.arc_ast.specs.declared.tree.Sign.{Sign}
 use Rattle.arc_ast.specs.declared.tree.Sign.TheVariants as signs
-use Rattle.arc_spec.specs.declared.event.Event.{Event}
 use Rattle.arc_spec.specs.declared.event.Fault.TheVariants.{Unrecognized, FieldClass}
 use Rattle.arc_spec.specs.Classes.{class_at, lookup, descends}
 use Rattle.arc_spec.specs.Number.{converted, negated, combined, byte_or_end, is_zero}
 use Rattle.arc_spec.specs.Objects.{Object, object_at, with_object, with_fields, new_object}
 use Rattle.arc_spec.specs.Resolved as resolved
 use Rattle.arc_spec.specs.Resolved.{Piece}
-use Rattle.arc_spec.specs.Meaning.{Deeper, chosen, temporaries_dropped, dispatched, finds, runs_found, class_in, sent_from, sent_to, next_object, field_count, made, in_object, field_read, field_set, difference, formatted, byte_count, or_fault, assigned, all_dropped, variables_dropped}
+use Rattle.arc_spec.specs.Meaning.{Deeper, chosen, temporaries_dropped, dispatched, finds, runs_found, class_in, sent_from, next_object, field_count, made, in_object, difference, formatted, byte_count, or_fault, assigned, all_dropped, variables_dropped}
 use Rattle.arc_spec.specs.World as world
 use Rattle.arc_spec.specs.World.{World, Outcome, Done, Faulted, Cut, Finished, finished, then_do, prints, next_number, after_next, has_read, with_locals, with_objects, with_temporaries, local_at, name_at, first_locals, takes, stores}
 use Rattle.arc_spec.specs.Holding.{Held, Frame, is_there, on_field, count_of, with_field, with_names, named, raised, with_variables}
-use Rattle.arc_spec.specs.Stepping.{Next, Goes, Faults, Reached, Running, follow, fed, on_found}
+use Rattle.arc_spec.specs.Stepping.{Next, Goes, Faults, Reached, follow, fed, on_found}
 use Rattle.arc_ir.specs.declared.action.Target.{Target}
 use Rattle.arc_ir.specs.declared.action.Target.TheVariants.{Skip, Back, At}
 use Rattle.arc_ir.specs.Acting.{Program, State, lands, onward, goes, keeps, answers, taken, sends, allocates, releases}
 use Rattle.arc_ir.specs.Acting as acting
 use Rattle.arc_code.specs.declared.instr.Op.{Op}
 use Rattle.arc_code.specs.declared.instr.Op.TheVariants.{Num, Bin, Un, Narrow, Pop, Get, Set, GetChar, Nil, ReadSelf, ReadRef, Hold, Forget, Alloc, GetField, SetField, Differ, IsObject}
-use Rattle.arc_code.specs.declared.instr.Instr.TheVariants.{Plain, Jump, JumpZero, Call, Send, SendSuper, SendTo, SendToSuper, StoreStrong, DropAll}
-use Rattle.arc_code.specs.Effects.{passes, operation_effect}
+use Rattle.arc_code.specs.declared.instr.Instr.TheVariants.{Plain, Jump, JumpZero, Call, StoreStrong, DropAll}
+use Rattle.arc_code.specs.Effects.{passes}
 use Rattle.arc_lower.specs.Order.{Order}
 use Rattle.arc_lower.specs.Lowered.{Message, ToClass, ToSuperClass, ToObject, ToSuper, message_order, Block, Idle, One, Load, Store, Read, Assign, Clear, Format, Calls, Tells, Then, Fork, Loop, Full, Leave, flat, print_orders, get_orders, set_orders, fit_orders, read_orders, store_orders, all_empty_orders, order_takes, number_of, slots_of, call_orders}
 use Rattle.std.specs.List.{list_any}
-use Rattle.arc_lower.proofs.Leading.{Leads, leads_same, leads_trans, leads_step, Runs, leads_runs, later_runs, fewer_runs, stuck_runs, ends_here, then_runs, then_at, better_runs}
-use Rattle.arc_lower.proofs.Leading as leading
+use Rattle.arc_lower.proofs.Leading.{Leads, leads_same, leads_trans, leads_step, Runs, leads_runs, later_runs, fewer_runs, ends_here, then_runs}
 use Rattle.arc_lower.proofs.Recounting.{fresh, recount, moves, at, held_of}
 use Rattle.arc_lower.proofs.Doing.{does, HasAt, has_front, has_back}
 use Rattle.arc_lower.proofs.Segments.{running, one_runs, quiet, quiet_runs, Passes, then_passes, one_passes, no_passes}
 use Rattle.arc_lower.proofs.Stacking.{onto, Peels, peels_onto, get_onto, get_local, set_local, get_below, set_below}
 use Rattle.arc_lower.proofs.Printing.{print_passes}
 use Rattle.arc_lower.proofs.Fitting.{fit_passes}
-use Rattle.arc_lower.proofs.Releasing.{Kept, Ends, Stays, object_runs, named_runs, found_runs, emptied, empties, get_front, dropped_runs, no_variable, changes_runs, empties_run}
-use Rattle.arc_lower.proofs.Shaping.{Operands, push, name, pushed, Way, On, Out, Lost, left_by, on_way, and_then, on_number, top_of, values_of, pushes, passes_by, operation, told, block_turns, block}
+use Rattle.arc_lower.proofs.Releasing.{Kept, Ends, Stays, object_runs, named_runs, emptied, empties, get_front, dropped_runs, no_variable, changes_runs, empties_run}
+use Rattle.arc_lower.proofs.Shaping.{Operands, push, name, Way, On, Out, Lost, left_by, on_way, and_then, top_of, values_of, pushes, passes_by, operation, told, block_turns, block}
 use Rattle.arc_lower.proofs.Quiet.{takes_none, quiet_flat}
 
 -- behind a call, with its value on top

@@ -1,9 +1,8 @@
 -- What blocks mean, without steps.
-use Rattle.std.proofs.Common.{◌≡◌, ℕ, zero, suc, ◌+◌, ℤ, pos, Bool, true, false, nat_eq, if◌then◌else◌, List, [], ◌∷◌, ◌++◌, length, slice_set, Some, refl, sym, ap, ◌∙◌}
+use Rattle.std.proofs.Common.{◌≡◌, ℕ, zero, suc, ℤ, Bool, true, false, nat_eq, if◌then◌else◌, List, [], ◌∷◌, length, slice_set, Some, refl, sym, ap, ◌∙◌}
 use Rattle.std.proofs.lemmas.Bool.{eq-eqb}
 use Rattle.arc_spec.specs.Classes.{class_at}
 use Rattle.arc_spec.specs.Number.{converted, negated, combined, is_zero}
-use Rattle.arc_spec.specs.Resolved.{Piece}
 use Rattle.arc_spec.specs.World.{World, Outcome, Done, Faulted, Cut, Finished, then_do, prints, next_number, has_read, with_locals, local_at, name_at, takes}
 use Rattle.arc_spec.specs.Meaning.{Deeper, chosen, dispatched, finds, sent_to, sent_from, made, field_read, field_set, difference, formatted, byte_count, or_fault, all_dropped, assigned, variables_dropped}
 use Rattle.arc_code.specs.declared.instr.Op.{Op}

@@ -1,14 +1,11 @@
 -- What a running program keeps: what places name is there, and an object whose end is running stays as it is.
-use Rattle.std.proofs.Common.{◌≡◌, ℕ, zero, suc, ◌+◌, ◌<◌, Bool, true, false, ◌||◌, true≢false, List, [], ◌∷◌, ◌++◌, length, Some, None, ⊎_elim, slice_get, slice_set, refl, sym, ap, ◌∙◌, subst, arith, append_assoc}
+use Rattle.std.proofs.Common.{◌≡◌, ℕ, zero, suc, ◌<◌, Bool, true, false, List, [], ◌∷◌, ◌++◌, Some, None, ⊎_elim, slice_set, sym, ap, ◌∙◌, subst, arith}
 use Rattle.std.proofs.lemmas.Bool.{cases_eq, false≢true}
-use Rattle.std.proofs.lemmas.List.{append-nil}
 use Rattle.arc_spec.specs.Objects.{Object, Phase, Dying, object_at, object_live, is_live}
-use Rattle.arc_spec.specs.World as world
-use Rattle.arc_spec.specs.World.{World, frame_places, places}
 use Rattle.arc_spec.specs.Holding.{Frame, Calling, Ending, Waiter, holders, is_there}
 use Rattle.arc_lower.proofs.CountsPlaces.{tally_same, holders_head, holders_append}
 use Rattle.arc_lower.proofs.CountsHeld.{set_other}
-use Rattle.arc_lower.proofs.CountsThere.{IsThere, AllThere, fewer_there, set_here, get_first}
+use Rattle.arc_lower.proofs.CountsThere.{IsThere, AllThere, set_here, get_first}
 
 -- the objects whose ends are running
 abbrev pub ending : List Frame → List ℕ

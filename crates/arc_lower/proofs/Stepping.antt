@@ -1,5 +1,5 @@
 -- Where orders stand with their heights, each has what it needs, and goes on where the heights are those that it leaves.
-use Rattle.std.proofs.Common.{◌≡◌, ◌⊎◌, inl, inr, ℕ, zero, suc, ◌+◌, ◌-◌, ◌<◌, ◌≤◌, List, [], ◌∷◌, ◌++◌, length, get_or, Some, slice_get, refl, sym, ap, ◌∙◌, subst, arith, append_assoc, length-append}
+use Rattle.std.proofs.Common.{◌≡◌, ◌⊎◌, inl, inr, ℕ, zero, suc, ◌+◌, ◌<◌, ◌≤◌, List, [], ◌∷◌, ◌++◌, length, get_or, Some, slice_get, refl, sym, ap, ◌∙◌, subst, arith, append_assoc, length-append}
 use Rattle.arc_spec.specs.Resolved as resolved
 use Rattle.arc_code.specs.declared.effect.Height.{Height}
 use Rattle.arc_code.specs.declared.instr.Op.TheVariants.{Pop, Set}

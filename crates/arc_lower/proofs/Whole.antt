@@ -64,9 +64,9 @@ module _ (p : Program) (R : resolved.Program) (is : orders p.actions ≡ lowered
       then_runs (moves p) bound (running [] [] 0 [] w) end Ends_with o (λ v w1. Done (converted k.Int v) w1)
       (leads_runs (moves p) bound (running [] [] 0 [] w) (running [] [] q s w) end o ready called)
       (λ v w1 to m.
-          let from = running [] [] (q + 1) (v ∷ []) w1 in
-          leads_runs (moves p) bound to from Ends_with (Done (converted k.Int v) w1) (leads_same (moves p) to from m.0)
-          (inr (Ended (converted k.Int v) w1.input w1.trace, leads_step (moves p) (at [] (q + 1) (v ∷ []) (held_of [] w1)) w1.input w1.trace (Ends (converted k.Int v)) (ap recount (last.1.0 [] (v ∷ []) (held_of [] w1)) ∙ main_ends v w1 m.1.frame), refl)))
+      let from = running [] [] (q + 1) (v ∷ []) w1 in
+      leads_runs (moves p) bound to from Ends_with (Done (converted k.Int v) w1) (leads_same (moves p) to from m.0)
+      (inr (Ended (converted k.Int v) w1.input w1.trace, leads_step (moves p) (at [] (q + 1) (v ∷ []) (held_of [] w1)) w1.input w1.trace (Ends (converted k.Int v)) (ap recount (last.1.0 [] (v ∷ []) (held_of [] w1)) ∙ main_ends v w1 m.1.frame), refl)))
     where
       none : 0 + most_levels ≡ most_levels
       none = omega arith
