@@ -11,7 +11,8 @@ MOST_SECONDS = 5.0
 MOST_SOURCE = 1 << 20
 
 RULES = {
-    1: "BadByte", 3: "OpenLiteral", 4: "Literal", 5: "Directive", 6: "TooLong", 11: "Unexpected", 12: "TooDeep",
+    1: "BadByte", 2: "OpenComment", 3: "OpenLiteral", 4: "Literal", 5: "Directive", 6: "TooLong", 11: "Unexpected",
+    12: "TooDeep",
     21: "Duplicate", 22: "UnknownClass", 24: "SelectorKinds", 26: "NoImplementation", 27: "TooManyFields",
     28: "HookMethod", 29: "NoMain", 41: "UnknownName", 42: "NoSuchMethod", 43: "KindMismatch", 44: "NotAssignable",
     45: "ArgumentCount", 46: "Format", 49: "FieldHidden", 50: "TooManyLocals", 71: "TooLarge",
