@@ -42,6 +42,6 @@ abbrev pub run : Class → List ℕ → ℕ
 run class [] = 0
 run class (b ∷ bs) = if has class b then run class bs + 1 else 0
 
--- what is behind the bytes at the front that are in the class
+-- what is after the bytes at the front that are in the class
 abbrev pub behind : Class → List ℕ → List ℕ
 behind class bytes = drop (run class bytes) bytes

@@ -14,11 +14,11 @@ use Rattle.arc_lex.specs.Tokens.{Sort, Name, Integer, Text, Key, At, Sign, Tok}
 
 -- ---- tokens
 
--- a letter or `_`, and letters, `_` and digits behind it (C99, section 6.4.2.1)
+-- a letter or `_`, and letters, `_` and digits after it (C99, section 6.4.2.1)
 abbrev pub IsWordLike : List ℕ → Type 0
 IsWordLike xs = (b : ℕ) × (bs : List ℕ) × (xs ≡ b ∷ bs) × (has c.Letter b ≡ true) × (all_in c.InName bs ≡ true)
 
--- a digit, and letters, `_` and digits behind it
+-- a digit, and letters, `_` and digits after it
 abbrev pub IsNumberLike : List ℕ → Type 0
 IsNumberLike xs = (begins c.Digit xs ≡ true) × (all_in c.InName xs ≡ true)
 
@@ -68,11 +68,11 @@ IsLineComment xs rest = (body : List ℕ) × (xs ≡ 47 ∷ 47 ∷ body) × (all
 abbrev pub IsBlockComment : List ℕ → List ℕ → Type 0
 IsBlockComment xs rest = (body : List ℕ) × (xs ≡ 47 ∷ 42 ∷ body) × (to_close false (body ++ rest) ≡ Some (length body))
 
--- `mark`, behind some spaces
+-- `mark`, after some spaces
 abbrev pub is_mark : List ℕ → Bool
 is_mark bytes = begins c.Space bytes && starts_with nat_eq (behind c.Space bytes) (codes "mark")
 
--- behind a `#` and spaces: `import`, `include` or `pragma mark`
+-- after a `#` and spaces: `import`, `include` or `pragma mark`
 abbrev pub is_skipped : List ℕ → Bool
 is_skipped bytes =
     starts_with nat_eq (behind c.Space bytes) (codes "import") || (starts_with nat_eq (behind c.Space bytes) (codes "include")
@@ -119,11 +119,11 @@ IsWrongText bytes = (parts : List Part) × IsClosed 34 bytes parts × (parts_val
 abbrev pub IsWrongCharacter : List ℕ → Type 0
 IsWrongCharacter bytes = (parts : List Part) × IsClosed 39 bytes parts × ((b : ℕ) → parts_value 39 parts ≡ Some (b ∷ []) → ⊥)
 
--- A digit stands there, and it with all letters, `_` and digits behind it is no integer.
+-- A digit stands there, and it with all letters, `_` and digits after it is no integer.
 abbrev pub IsWrongInteger : List ℕ → Type 0
 IsWrongInteger bytes = (xs : List ℕ) × (rest : List ℕ) × (bytes ≡ xs ++ rest) × IsNumberLike xs × (begins c.InName rest ≡ false) × (integer xs ≡ None)
 
--- An `@` stands there, and none of the words behind `@`.
+-- An `@` stands there, and none of the words after `@`.
 abbrev pub IsOtherDirective : List ℕ → Type 0
 IsOtherDirective bytes = (rest : List ℕ) × (bytes ≡ 64 ∷ rest) × ((word : AtWord) (r : List ℕ) → bytes ≡ at_bytes word ++ r → ⊥)
 
@@ -146,7 +146,7 @@ Faultless starts bytes = (rule : Rule) → Breaks starts rule bytes → ⊥
 -- ---- sources
 
 -- From this place on the bytes are cut into these tokens: at each place stands a blank, a comment, a skipped line or, where no comment
--- stands, the longest token, no rule is broken there, and the next place is right behind it. `starts` says whether only blanks stand in
+-- stands, the longest token, no rule is broken there, and the next place is right after it. `starts` says whether only blanks stand in
 -- front on the line.
 pub data Cuts : ℕ → Bool → List ℕ → List Tok → Type 0 where
   done : (at : ℕ) (starts : Bool) → Cuts at starts [] []

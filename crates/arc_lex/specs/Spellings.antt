@@ -106,7 +106,7 @@ word_bytes w.Weak = codes "__weak"
 word_bytes w.Autoreleasing = codes "__autoreleasing"
 word_bytes w.UnsafeUnretained = codes "__unsafe_unretained"
 
--- the bytes of a word behind `@`, with the `@` (OPL, "Compiler Directives")
+-- the bytes of a word after `@`, with the `@` (OPL, "Compiler Directives")
 abbrev pub at_bytes : AtWord → List ℕ
 at_bytes ats.Class = codes "@class"
 at_bytes ats.Protocol = codes "@protocol"

@@ -9,7 +9,7 @@ use Rattle.arc_lex.specs.Bytes.{begins, run, behind, is_digit}
 
 -- ---- texts and characters
 
--- What stands between quotes is a row of parts: a byte for itself, or a backslash and the byte behind it.
+-- What stands between quotes is a row of parts: a byte for itself, or a backslash and the byte after it.
 pub data Part : Type 0 where
   Plain : ℕ → Part
   Escape : ℕ → Part
@@ -115,7 +115,7 @@ abbrev pub is_empty : List ℕ → Bool
 is_empty [] = true
 is_empty (b ∷ bs) = false
 
--- the integer of a base that is written so, and whether it has a suffix: some digits, which are no more than the largest integer, and nothing or a suffix behind them
+-- the integer of a base that is written so, and whether it has a suffix: some digits, which are no more than the largest integer, and nothing or a suffix after them
 abbrev pub integer_of : Base → List ℕ → Option (ℤ × Bool)
 integer_of base bytes =
     if (begins (digits_of base) bytes && nat_le (number base (take (run (digits_of base) bytes) bytes)) largest) && may_follow (behind (digits_of base) bytes)

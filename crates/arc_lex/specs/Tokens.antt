@@ -18,7 +18,7 @@ pub data Sort : Type 0 where
   At : AtWord → Sort
   Sign : Mark → Sort
 
--- a token and its span, from its first byte up to the one behind its last
+-- a token and its span, from its first byte up to the one after its last
 pub record Tok : Type 0 where
   pub sort : Sort
   pub from : ℕ

@@ -21,7 +21,7 @@ pub enum LexFault {
     /// An integer, a character or a text is wrong.
     #[error("the integer, character or text at {0} is wrong")]
     Literal(usize),
-    /// No known word stands behind an `@`, or a `#` begins no line that is skipped.
+    /// No known word stands after an `@`, or a `#` begins no line that is skipped.
     #[error("no known word stands behind the @ or # at {0}")]
     Directive(usize),
     /// The source has over 1,048,576 bytes.

@@ -105,7 +105,7 @@ fn may_follow(bytes: &[u8]) -> bool
     }
 }
 
-/// The integer of a base that is written so behind `0x`, and whether it has a suffix.
+/// The integer of a base that is written so after `0x`, and whether it has a suffix.
 fn integer_of(base: Base, bytes: &[u8]) -> Option<(i64, bool)>
     ensures { result ≡ integer_of base bytes.now }
 {

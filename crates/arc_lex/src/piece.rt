@@ -59,7 +59,7 @@ fn number_piece(bytes: &[u8]) -> Piece
     }
 }
 
-/// A text, behind its opening quote.
+/// A text, after its opening quote.
 #[tactic(auto, unfolding(crate::specs::private::Pieces::text_piece))]
 fn text_piece(alloc: Global, bytes: &[u8]) -> Result<Piece, AllocError>
     ensures { IfOk result (λ p. (b : ℕ) → spec.seen p ≡ spec.text_piece (b ∷ bytes.now)) }
@@ -89,7 +89,7 @@ fn character_value(value: Option<Vec<u8>>, n: usize) -> Piece
     }
 }
 
-/// A character, behind its opening quote.
+/// A character, after its opening quote.
 #[tactic(auto, unfolding(crate::specs::private::Pieces::character_piece))]
 fn character_piece(alloc: Global, bytes: &[u8]) -> Result<Piece, AllocError>
     ensures { IfOk result (λ p. (b : ℕ) → spec.seen p ≡ spec.character_piece (b ∷ bytes.now)) }
@@ -100,7 +100,7 @@ fn character_piece(alloc: Global, bytes: &[u8]) -> Result<Piece, AllocError>
     }
 }
 
-/// A word behind `@`.
+/// A word after `@`.
 #[tactic(auto, unfolding(crate::specs::private::Pieces::at_piece))]
 fn at_piece(bytes: &[u8]) -> Piece
     ensures { spec.seen result ≡ spec.at_piece bytes.now }
@@ -122,7 +122,7 @@ fn mark_piece(bytes: &[u8]) -> Piece
     }
 }
 
-/// A `#`, by what is behind it.
+/// A `#`, by what is after it.
 #[tactic(auto, unfolding(crate::specs::private::Pieces::line_piece))]
 fn line_piece(starts: bool, bytes: &[u8]) -> Piece
     ensures { spec.seen result ≡ spec.line_piece starts bytes.now }

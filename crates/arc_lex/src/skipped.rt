@@ -20,21 +20,21 @@ pub fn to_close(bytes: &[u8]) -> Option<usize>
     None
 }
 
-/// What is behind the bytes at the front that are in the class.
+/// What is after the bytes at the front that are in the class.
 fn behind(class: Class, bytes: &[u8]) -> &[u8]
     ensures { result.now ≡ behind class bytes.now }
 {
     bytes.split_at(run(class, bytes)).1
 }
 
-/// Whether `mark` stands behind some spaces.
+/// Whether `mark` stands after some spaces.
 fn is_mark(bytes: &[u8]) -> bool
     ensures { result ≡ is_mark bytes.now }
 {
     begins(Class::Space, bytes) && behind(Class::Space, bytes).starts_with(b"mark")
 }
 
-/// Whether `import`, `include` or `pragma mark` stands behind spaces.
+/// Whether `import`, `include` or `pragma mark` stands after spaces.
 pub fn is_skipped(bytes: &[u8]) -> bool
     ensures { result ≡ is_skipped bytes.now }
 {

@@ -106,7 +106,7 @@ const WORDS: [Word; 48] = [
     Word::UnsafeUnretained,
 ];
 
-/// The words behind `@`, the longest first.
+/// The words after `@`, the longest first.
 const AT_WORDS: [AtWord; 14] = [
     AtWord::AutoreleasePool,
     AtWord::Implementation,
@@ -233,7 +233,7 @@ fn word_text(word: Word) -> &'static str
     }
 }
 
-/// The text of a word behind `@`, with the `@`.
+/// The text of a word after `@`, with the `@`.
 pub fn at_text(word: AtWord) -> &'static str
     ensures { result.now ≡ at_bytes word }
 {
@@ -267,7 +267,7 @@ fn first_mark(marks: &[Mark], bytes: &[u8]) -> Option<Mark>
     None
 }
 
-/// The first of the words behind `@` with which the bytes begin.
+/// The first of the words after `@` with which the bytes begin.
 fn first_at_word(words: &[AtWord], bytes: &[u8]) -> Option<AtWord>
     ensures { result ≡ first_front at_bytes words.now bytes.now }
 {
@@ -298,7 +298,7 @@ pub fn mark_at(bytes: &[u8]) -> Option<Mark>
     first_mark(&MARKS, bytes)
 }
 
-/// The longest word behind `@` with which the bytes begin.
+/// The longest word after `@` with which the bytes begin.
 pub fn at_word_at(bytes: &[u8]) -> Option<AtWord>
     ensures { result ≡ first_front at_bytes AT_WORDS bytes.now }
 {

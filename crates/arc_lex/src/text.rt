@@ -38,7 +38,7 @@ fn escape_value(b: u8) -> Option<u8>
     }
 }
 
-/// Reads a literal behind its opening quote. `None`: it is not closed on its line.
+/// Reads a literal after its opening quote. `None`: it is not closed on its line.
 pub fn read_quoted(alloc: Global, quote: u8, bytes: &[u8]) -> Result<Option<Scan>, AllocError>
     ensures value { IfOk result (λ found. seen found ≡ seen_parts quote (scan quote false [] bytes.now)) }
     ensures within { IfOk result (λ found. IfSome found (λ s. s.len < length bytes.now)) }

@@ -1,6 +1,6 @@
 //! The tokens of a source.
 
-/// The bytes that a token takes: from the first one up to the one behind the last, counted from 0.
+/// The bytes that a token takes: from the first one up to the one after the last, counted from 0.
 #[derive(Clone, Copy, Debug, PartialEq, Eq)]
 pub struct Span {
     pub from: usize,
@@ -110,7 +110,7 @@ pub enum Word {
     UnsafeUnretained,
 }
 
-/// A word behind `@`.
+/// A word after `@`.
 #[derive(Clone, Copy, Debug, PartialEq, Eq)]
 pub enum AtWord {
     Class,

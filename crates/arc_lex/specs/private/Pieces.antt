@@ -47,7 +47,7 @@ integer_found (Some i) n = Whole (Integer i.0 i.1) n
 unfoldable pub number_piece : List ℕ → Piece
 number_piece bytes = integer_found (integer (take (run c.InName bytes) bytes)) (length (take (run c.InName bytes) bytes))
 
--- the parts of a literal up to its closing quote, behind those that were found, if it is closed on its line. `escaped` says whether a
+-- the parts of a literal up to its closing quote, after those that were found, if it is closed on its line. `escaped` says whether a
 -- backslash stands in front
 abbrev pub scan : ℕ → Bool → List Part → List ℕ → Option (List Part)
 scan quote escaped ps [] = None
@@ -96,7 +96,7 @@ mark_found (Some mark) = Whole (Sign mark) (length (mark_bytes mark))
 unfoldable pub mark_piece : List ℕ → Piece
 mark_piece bytes = mark_found (first_front mark_bytes MARKS bytes)
 
--- a `#`, and what is behind it
+-- a `#`, and what is after it
 unfoldable pub line_piece : Bool → List ℕ → Piece
 line_piece starts bytes = if starts && is_skipped bytes then Skip (run c.InLine bytes + 1) else Broken rules.Directive
 
