@@ -91,6 +91,7 @@ fn keep_fields<'a>(
         let found = FoundField {
             owner,
             index,
+            kind: field.type_name.kind(),
             visibility: field.visibility,
         };
         keep_first(named, &field.name, found)?;
