@@ -26,7 +26,7 @@ loop-field-preserved c =
       kept = λ sought.
           let old = at_name c.loop-field.named sought in
           let rest = numbered owner (index + 1) (field_trees (drop (k + 1) xs)) sought in
-          kept_turn old (one_at x.name.items found sought) _ rest _ (c.in_ok-keep_first.ensures sought ∙ ap (λ k. or_else old (one_at c.deref.result.now (of_kind k) sought)) c.kind.ensures ∙ ap (λ n. or_else old (one_at n found sought)) c.deref.ensures.value)
+          kept_turn old (one_at x.name.items found sought) _ rest _ (c.in_ok-keep_first.ensures sought ∙ ap (λ k. or_else old (one_at c.deref.result.now (of_kind k) sought)) c.kind-held.ensures ∙ ap (λ n. or_else old (one_at n found sought)) c.deref.ensures.value)
           (c.loop-field.invariant.kept sought ∙ ap (or_else old) (ap (λ us. numbered owner index (field_trees us) sought) (drop_turn xs k x c.loop-field-test.true c.field-item.is)
           ∙ or_one x.name.items found (numbered owner (suc index) (field_trees (drop (k + 1) xs)) sought) sought
           ∙ ap (λ n. or_else (one_at x.name.items found sought) (numbered owner n (field_trees (drop (k + 1) xs)) sought)) next));
