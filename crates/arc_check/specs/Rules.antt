@@ -158,7 +158,7 @@ abbrev pub no_operand : UnaryOperator → Option Kind → ℕ → List Broken
 no_operand u.Not a at = no_value a at
 no_operand _ a at = no_number a at
 
--- An operator computes with numbers; `== and `!=` compare two numbers or two objects, and report an object and a number at the second (C99, section 6.5.9).
+-- An operator computes with numbers; `==` and `!=` compare two numbers or two objects, and report an object and a number at the second (C99, section 6.5.9).
 abbrev pub no_left : OperatorSort → Option Kind → ℕ → List Broken
 no_left Equality a at = no_value a at
 no_left _ a at = no_number a at

@@ -1,5 +1,5 @@
 -- A full-expression of so many tokens at most, read of the tokens up to the limit and one more.
-use Rattle.std.proofs.Common.{◌≡◌, ℕ, ◌<◌, ◌≤◌, ◌-◌, List, length, take, drop, Ok, Err, Some, refl, sym, subst, ◌∙◌}
+use Rattle.std.proofs.Common.{◌≡◌, ◌<◌, ◌≤◌, ◌-◌, List, length, take, drop, Ok, Err, Some, refl, sym, subst, ◌∙◌}
 use Rattle.arc_lex.specs.declared.token.Token.{Token}
 use Rattle.arc_lex.specs.Tokens.{Tok, toks}
 use Rattle.arc_form.specs.Form.{unlimited}

@@ -1,12 +1,12 @@
 -- What the rules read, as the code asks for it.
-use Rattle.std.proofs.Common.{◌≡◌, ◌≤◌, ◌-◌, min, ℕ, zero, suc, List, [], ◌∷◌, ◌++◌, true, false, cond, Ok, Err, refl, sym, ap, ◌∙◌, arith}
+use Rattle.std.proofs.Common.{◌≡◌, ◌≤◌, ◌-◌, min, ℕ, zero, suc, List, [], ◌∷◌, ◌++◌, true, false, cond, Ok, refl, ap, ◌∙◌, arith}
 use Rattle.arc_lex.specs.Tokens.{Tok}
 use Rattle.arc_lex.specs.declared.token.Mark.TheVariants as m
 use Rattle.arc_ast.specs.declared.tree.BinaryOperator.TheVariants as operators
 use Rattle.arc_ast.specs.Tree.{ExprTree, Binary, Arrow, begins}
 use Rattle.arc_form.specs.Form.{unlimited}
 use Rattle.arc_form.specs.Kinds.{mark, name}
-use Rattle.arc_form.specs.Reader.{Read, Reader, bind, ◌>>=◌, ret, sees, if_sees, take_one, from, named}
+use Rattle.arc_form.specs.Reader.{bind, ◌>>=◌, ret, sees, if_sees, take_one, from, named}
 use Rattle.arc_form.specs.Operators.{marks_at, operator_of}
 use Rattle.arc_form.specs.Views.{all}
 use Rattle.arc_form.proofs.Operators.{joined_is, pair_then, in_turn, second_then}

@@ -1,7 +1,8 @@
 -- What the table of operators has of a token.
-use Rattle.std.proofs.Common.{◌≡◌, ℕ, zero, suc, List, ◌∷◌, Bool, true, false, ◌&&◌, ◌||◌, nat_eq, nat_le, Option, Some, None, refl, ap, ◌∙◌, arith}
+use Rattle.std.proofs.Common.{◌≡◌, ◌<◌, ◌≤◌, ℕ, zero, suc, List, [], ◌∷◌, Bool, true, false, ◌&&◌, ◌||◌, nat_eq, nat_le, slice_get, Option, Some, None, refl, sym, ap, ◌∙◌, arith}
 use Rattle.std.proofs.lemmas.Bool.{leb-true, leb-false, eqb-true, eqb-false}
-use Rattle.arc_lex.specs.Tokens.{Tok}
+use Rattle.arc_lex.specs.Tokens.{Tok, tok, toks}
+use Rattle.arc_lex.specs.declared.token.Token.{Token}
 use Rattle.arc_form.specs.Operators.{entry_of, marks_at, operator_of}
 use Rattle.arc_form.specs.Reader.{sees, take_one}
 use Rattle.arc_form.proofs.Operators.{is_at, taken_entry, sees_operator, takes_operator}
@@ -24,28 +25,51 @@ is_within l (Some e) = nat_le 1 e.0 && nat_le e.0 l
 
 none_within : (e : Option (ℕ × BinaryOperator)) → false ≡ is_within 0 e
 none_within None = refl
-none_within (Some e) = go e.0
+none_within (Some e) = go e.0 (nat_le 1 e.0) (nat_le e.0 0) refl refl
   where
-    go : (f : ℕ) → false ≡ (nat_le 1 f && nat_le f 0)
-    go zero = refl
-    go (suc f) = refl
+    go : (f : ℕ) (b c : Bool) → nat_le 1 f ≡ b → nat_le f 0 ≡ c → false ≡ (b && c)
+    go f false c p q = refl
+    go f true false p q = refl
+    go f true true p q = absurd (omega (arith, leb-true 1 f p, leb-true f 0 q))
 
 one_more : (l : ℕ) (e : Option (ℕ × BinaryOperator)) → (is_within l e || is_at (suc l) e) ≡ is_within (suc l) e
 one_more l None = refl
-one_more l (Some e) = go e.0
+one_more l (Some e) = go e.0 (nat_le 1 e.0) (nat_le e.0 l) (nat_eq e.0 (suc l)) (nat_le e.0 (suc l)) refl refl refl refl
   where
-    pick : (f : ℕ) (b c d : Bool) → nat_le f l ≡ b → nat_eq f (suc l) ≡ c → nat_le f (suc l) ≡ d → (b || c) ≡ d
-    pick f true c true p q r = refl
-    pick f true c false p q r = absurd (omega (arith, leb-true f l p, leb-false f (suc l) r))
-    pick f false true true p q r = refl
-    pick f false true false p q r = absurd (omega (arith, eqb-true f (suc l) q, leb-false f (suc l) r))
-    pick f false false true p q r = absurd (omega (arith, leb-false f l p, eqb-false f (suc l) q, leb-true f (suc l) r))
-    pick f false false false p q r = refl
-
-    go : (f : ℕ) → ((nat_le 1 f && nat_le f l) || nat_eq f (suc l)) ≡ (nat_le 1 f && nat_le f (suc l))
-    go zero = refl
-    go (suc f) = pick (suc f) (nat_le (suc f) l) (nat_eq (suc f) (suc l)) (nat_le (suc f) (suc l)) refl refl refl
+    go : (f : ℕ) (a b c d : Bool) → nat_le 1 f ≡ a → nat_le f l ≡ b → nat_eq f (suc l) ≡ c → nat_le f (suc l) ≡ d → ((a && b) || c) ≡ (a && d)
+    go f false b true d s p q r = absurd (omega (arith, leb-false 1 f s, eqb-true f (suc l) q))
+    go f false b false d s p q r = refl
+    go f true true c true s p q r = refl
+    go f true true c false s p q r = absurd (omega (arith, leb-true f l p, leb-false f (suc l) r))
+    go f true false true true s p q r = refl
+    go f true false true false s p q r = absurd (omega (arith, eqb-true f (suc l) q, leb-false f (suc l) r))
+    go f true false false true s p q r = absurd (omega (arith, leb-false f l p, eqb-false f (suc l) q, leb-true f (suc l) r))
+    go f true false false false s p q r = refl
 
 pub sees_up_to : (l : ℕ) (t : Tok) (ts : List Tok) → sees (marks_up_to l) (t ∷ ts) ≡ is_within l (entry_of table t.sort)
 sees_up_to zero t ts = none_within (entry_of table t.sort)
 sees_up_to (suc l) t ts = ap (λ b. b || sees (marks_at (suc l) table) (t ∷ ts)) (sees_up_to l t ts) ∙ ap (λ b. is_within l (entry_of table t.sort) || b) (sees_table (suc l) t ts) ∙ one_more l (entry_of table t.sort)
+
+-- ---- and of the first token of a list
+
+pub sees_first : (l : ℕ) (ts : List Token) (t : Token) (e : Option (ℕ × BinaryOperator)) → Some t ≡ slice_get ts 0 → e ≡ entry_of table (tok t).sort → is_at l e ≡ sees (marks_at l table) (toks ts)
+sees_first l [] t e p q = cc
+sees_first l (s ∷ ts) t e p q = let same : t ≡ s = cc in ap (is_at l) q ∙ ap (λ t. is_at l (entry_of table (tok t).sort)) same ∙ sym (sees_table l (tok s) (toks ts))
+
+pub sees_first_up_to : (l : ℕ) (ts : List Token) (t : Token) (e : Option (ℕ × BinaryOperator)) → Some t ≡ slice_get ts 0 → e ≡ entry_of table (tok t).sort → is_within l e ≡ sees (marks_up_to l) (toks ts)
+sees_first_up_to l [] t e p q = cc
+sees_first_up_to l (s ∷ ts) t e p q = let same : t ≡ s = cc in ap (is_within l) q ∙ ap (λ t. is_within l (entry_of table (tok t).sort)) same ∙ sym (sees_up_to l (tok s) (toks ts))
+
+pub within_from_one : (l : ℕ) (e : ℕ × BinaryOperator) → 1 ≤ e.0 → nat_le e.0 l ≡ is_within l (Some e)
+within_from_one l e p = go (nat_le 1 e.0) refl
+  where
+    go : (b : Bool) → nat_le 1 e.0 ≡ b → nat_le e.0 l ≡ (b && nat_le e.0 l)
+    go true q = refl
+    go false q = absurd (omega (arith, leb-false 1 e.0 q, p))
+
+pub within_below_one : (l : ℕ) (e : ℕ × BinaryOperator) → e.0 < 1 → nat_le 1 e.0 ≡ is_within l (Some e)
+within_below_one l e p = go (nat_le 1 e.0) refl
+  where
+    go : (b : Bool) → nat_le 1 e.0 ≡ b → b ≡ (b && nat_le e.0 l)
+    go false q = refl
+    go true q = absurd (omega (arith, leb-true 1 e.0 q, p))

@@ -51,7 +51,6 @@ fn of_token(token: &Token) -> Option<(usize, BinaryOperator)>
 }
 
 /// Whether the first token is an operator of this level.
-#[tactic(auto, using(crate::proofs::Table::sees_table))]
 pub fn sees_operator(level: usize, tokens: &[Token]) -> bool
     ensures { result ≡ sees (marks_at level table) (toks tokens.now) }
 {
@@ -65,7 +64,6 @@ pub fn sees_operator(level: usize, tokens: &[Token]) -> bool
 }
 
 /// Whether the first token is an operator of this level or of a tighter one.
-#[tactic(auto, using(crate::proofs::Table::sees_up_to))]
 pub fn sees_operator_up_to(level: usize, tokens: &[Token]) -> bool
     ensures value { result ≡ sees (marks_up_to level) (toks tokens.now) }
     ensures level { result ≡ true → 1 ≤ level }
