@@ -36,8 +36,9 @@ pub data Local : Type 0 where
   Number : Kind → ℕ → Local
   Object : ℕ → (class : Option ℕ) → Local
 
--- What names mean at a place: what is known of the source; the class in whose method the place is, if it is in one, and the method's sign; the kind
--- of what the function or the method gives; how many numbers come before all others, which is one in a class method, `self`; the variables in scope; and the numbers that the next number and the next name of objects get.
+-- What names mean at a place: what is known of the source; the class in whose method the place is, if it is in one, and the method's sign; the kind of what the
+-- function or the method gives; how many numbers come before all others, which is one in a class method, `self`; the variables in scope; and the numbers that
+-- the next number and the next name of objects get.
 pub record Scope : Type 0 where
   pub known : Known
   pub class : Option ℕ

@@ -18,9 +18,9 @@ use crate::message::{
     above, class_receiver, sent_class, sent_kind, static_class, super_class, super_kind,
 };
 use crate::resolution::{
-    Resolution, Typed, binary, cast as cast_to, class_number, class_value, converted, field, field_assigned, given,
-    name_assigned, named, number, number_in, object_in, selector_number, to_class, to_object,
-    to_super, unary,
+    Resolution, Typed, binary, cast as cast_to, class_number, class_value, converted, field,
+    field_assigned, given, name_assigned, named, number, number_in, object_in, selector_number,
+    to_class, to_object, to_super, unary,
 };
 use crate::rule::literal_kind;
 use crate::scope::{Local, Visible};

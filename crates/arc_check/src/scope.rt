@@ -64,12 +64,7 @@ impl<'a> Visible<'a> {
     }
 
     /// Before the parameters of a method of the class that gives a value of the kind; the first number of a class method is `self`.
-    pub fn in_method(
-        alloc: Global,
-        class: Option<ClassId>,
-        sign: Sign,
-        gives: Kind,
-    ) -> Visible<'a>
+    pub fn in_method(alloc: Global, class: Option<ClassId>, sign: Sign, gives: Kind) -> Visible<'a>
         ensures { (table : ClassTable) → seen table result ≡ scopes.in_method (known_in table) (option_map number_of_class class) sign gives }
     {
         let hidden = hidden_in(sign);

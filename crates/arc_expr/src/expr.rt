@@ -11,9 +11,9 @@ ghost use Rattle.arc_grammar.specs.Grammar as grammar;
 ghost use Rattle.arc_expr.specs.declared.operator.TheConstants.{LOOSEST};
 
 use crate::literal::literal;
-use crate::type_name::{begins_plain_type, plain_type};
-use crate::sign::{sees_sign, sign};
 use crate::operator::{LOOSEST, operator, sees_operator, sees_operator_up_to};
+use crate::sign::{sees_sign, sign};
+use crate::type_name::{begins_plain_type, plain_type};
 use arc_ast::tree::{BinaryOperator, Expr, TypeName};
 use arc_form::fail::Read;
 use arc_form::step::{expect, keyword, name, sees_mark, sees_name, sees_reference, sees_word};
