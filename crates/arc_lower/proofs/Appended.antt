@@ -1,5 +1,5 @@
 -- What orders are appended is what stands behind those that there were.
-use Rattle.std.proofs.Common.{◌≡◌, ℕ, ◌-◌, ◌≤◌, List, [], ◌∷◌, ◌++◌, length, take, drop, ap, ◌∙◌, arith}
+use Rattle.std.proofs.Common.{◌≡◌, ℕ, ◌-◌, List, [], ◌∷◌, ◌++◌, length, take, drop, ap, ◌∙◌, arith}
 use Rattle.std.proofs.lemmas.List.{take_all, length-drop}
 use Rattle.arc_ir.specs.Acting.{Action}
 use Rattle.arc_lower.specs.Order.{Order, orders}
@@ -15,8 +15,3 @@ slice_behind old new all begin xs from is e =
     let rest = length-drop begin all in
     ap orders (take_all (length all - begin) (drop begin all) (omega (arith, rest)))
     ∙ ap (λ n. orders (drop n all)) from ∙ ap (λ l. orders (drop (length old) l)) is ∙ behind old new xs e
-
-pub no_shorter : (old new : List Action) (xs : List Order) → orders new ≡ orders old ++ xs → length old ≤ length new
-no_shorter [] new xs e = omega arith
-no_shorter (a ∷ old) [] xs e = absurd cc
-no_shorter (a ∷ old) (b ∷ new) xs e = let h = no_shorter old new xs (ap (drop 1) e) in omega (arith, h)

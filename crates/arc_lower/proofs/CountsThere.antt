@@ -32,12 +32,6 @@ taken_there objects (suc j) places there all k some = ⊎_elim (λ same. subst (
     others : (k ≡ j → ⊥) → IsThere objects (suc k)
     others ne = all k (omega (arith, holders_head (suc k) (suc j) places, tally_other (suc k) (suc j) (λ e. ne (omega (arith, e))), some))
 
--- a place names another object
-pub stored_there : (objects : List Object) (depth old r : ℕ) (places : List ℕ) → slice_get places depth ≡ Some old → IsThere objects r → AllThere objects places → AllThere objects (old ∷ slice_set places depth r)
-stored_there objects depth old r places found there all =
-    fewer_there objects (r ∷ places) (old ∷ slice_set places depth r) (λ k some. omega (arith, holders_head (suc k) old (slice_set places depth r), holders_set (suc k) depth old r places found, holders_head (suc k) r places, some))
-    (taken_there objects r places there all)
-
 -- what a place names
 pub place_there : (objects : List Object) (depth r : ℕ) (places : List ℕ) → slice_get places depth ≡ Some r → AllThere objects places → IsThere objects r
 place_there objects depth zero places found all = tt

@@ -6,7 +6,7 @@ use Rattle.arc_code.specs.declared.instr.Instr.TheVariants.{Jump, JumpZero}
 use Rattle.arc_ir.specs.declared.action.Target.{Target}
 use Rattle.arc_ir.specs.declared.action.Target.TheVariants.{Skip, Back}
 use Rattle.arc_lower.specs.Order.{Order}
-use Rattle.arc_lower.specs.Lowered.{whole_orders, whole_reference_orders, Block, Straight, Then, Fork, Loop, Leave, flat}
+use Rattle.arc_lower.specs.Lowered.{whole_orders, whole_reference_orders, Block, Then, Fork, Loop, Leave, flat}
 use Rattle.arc_lower.specs.Heights.{between, next_height, last_height}
 use Rattle.arc_lower.proofs.Typing.{heights_same, tested, left, types_last, whole_types, whole_reference_types, BlockTypes}
 
@@ -31,19 +31,19 @@ module _ (P : Program) (slots names exit : ℕ) where
   pub chosen_same : (to : Target) → left P (JumpZero to) test ≡ base
   chosen_same to = heights_same _ _ _ _ slots 0 0 names (omega arith) (omega arith) (omega arith) (omega arith)
 
-  pub block_ends : (x : Block) (h g : Height) → BlockTypes P slots names h x g → last_height P base h (flat exit x) ≡ g
-  block_ends (Straight xs) h g t = types_last P 0 0 base h xs g t
-  block_ends (Then x y) h g t = last_append P base h (flat exit x) (flat exit y) ∙ ap (λ i. last_height P base i (flat exit y)) (block_ends x h t.0 t.1) ∙ block_ends y t.0 g t.2
+  pub block_ends : (x : Block) (h g : Height) → BlockTypes P slots names exit h x g → last_height P base h (flat P slots names x) ≡ g
+  block_ends (Then x y) h g t = last_append P base h (flat P slots names x) (flat P slots names y) ∙ ap (λ i. last_height P base i (flat P slots names y)) (block_ends x h t.0 t.1) ∙ block_ends y t.0 g t.2
   block_ends (Fork x y) h g t =
-      let xs = flat exit x in
+      let xs = flat P slots names x in
       let to = Skip (suc (length xs)) in
-      let ys : List Order = Jump (Skip (length (flat exit y))) ∷ flat exit y in
+      let ys : List Order = Jump (Skip (length (flat P slots names y))) ∷ flat P slots names y in
       let low : next_height P base (JumpZero to) h ≡ base = ap (next_height P base (JumpZero to)) t.0 ∙ chosen_same to in
       ap (λ i. last_height P base i (xs ++ ys)) low ∙ last_append P base base xs ys ∙ block_ends y base g t.2
   block_ends (Loop x y) h g t =
-      let ts = flat exit x in
-      let xs = flat exit y in
+      let ts = flat P slots names x in
+      let xs = flat P slots names y in
       let out : Order = JumpZero (Skip (suc (length xs))) in
       let again : List Order = Jump (Back (suc (length ts + length xs))) ∷ [] in
       last_append P base h ts (out ∷ (xs ++ again)) ∙ last_append P base (next_height P base out (last_height P base h ts)) xs again ∙ sym t.2
-  block_ends Leave h g t = sym t.1
+  block_ends (Leave to) h g t = sym t.2
+  block_ends x h g t = types_last P 0 0 base h (flat P slots names x) g t

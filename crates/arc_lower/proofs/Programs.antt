@@ -91,7 +91,7 @@ module _ (R : resolved.Program) where
     start = entered + length declared
 
     abbrev statements : List Order
-    statements = flat place (commands_block R slots names cs)
+    statements = flat R slots names (commands_block place cs)
 
     abbrev end : List Order
     end = Plain (Num (pos 0)) ∷ Jump (At place) ∷ []
@@ -103,7 +103,7 @@ module _ (R : resolved.Program) where
     Rows = Row R all table base
 
     statements_end : last_height R base base statements ≡ base
-    statements_end = block_ends R slots names place (commands_block R slots names cs) base base (commands_type R slots names cs)
+    statements_end = block_ends R slots names place (commands_block place cs) base base (commands_type R slots names place cs)
 
     empty_stays : (i : ℕ) → left R (Empty i) leaving ≡ leaving
     empty_stays i = heights_same _ _ _ _ (suc slots) 0 0 names (omega arith) (omega arith) (omega arith) (omega arith)
@@ -189,7 +189,7 @@ module _ (R : resolved.Program) where
       statements_follow = row_front R all table base start base statements end (subst (Goes_to (start + length statements)) (sym statements_end) (opens_goes R all table (start + length statements) base (Plain (Num (pos 0))) tt last.0 last.1)) rows
 
       declared_follow : Follows R all table base entered begun declared
-      declared_follow = row_front R all table base entered begun declared (statements ++ end) (subst (Goes_to start) (sym (types_last R 0 0 base begun declared base declared_typed)) (goes_here R all table base start base statements (block_ordinary R all table slots names place (commands_block R slots names cs) base base (commands_type R slots names cs)) statements_follow)) body_row
+      declared_follow = row_front R all table base entered begun declared (statements ++ end) (subst (Goes_to start) (sym (types_last R 0 0 base begun declared base declared_typed)) (goes_here R all table base start base statements (block_ordinary R all table slots names place (commands_block place cs) base base (commands_type R slots names place cs)) statements_follow)) body_row
 
       pub entry_goes : Goes_to entered begun
       entry_goes = goes_here R all table base entered begun declared (types_ordinary R begun declared base declared_typed) declared_follow
@@ -209,7 +209,7 @@ module _ (R : resolved.Program) where
           let jump = opens_goes R all table (q + 1) _ (Jump (At place)) tt last.2.0 last.2.1 in
           step_then R all table place leave body leave_steps
           (step_then R all table entered declared (statements ++ end) (typed_steps R all table base entered begun declared base declared_typed declared_follow)
-          (step_then R all table start statements end (block_steps R all table slots names place exit_goes (commands_block R slots names cs) base base start (commands_type R slots names cs) statements_follow)
+          (step_then R all table start statements end (block_steps R all table slots names place exit_goes (commands_block place cs) base base start (commands_type R slots names place cs) statements_follow)
           ((base, last.0, (tt, (jump.0, λ k c. inr (jump.1 k c)))), ((leaving, last.2.0 ∙ ap Some up, exit_goes), tt))))
 
   -- ---- all functions

@@ -12,7 +12,7 @@ use Rattle.arc_spec.specs.Meaning.{chosen}
 use Rattle.arc_spec.specs.Number.{converted, applied, combined, counted, low_byte, byte_or_end, is_zero}
 use Rattle.arc_spec.specs.Objects.{Object, Dying, Gone, object_at, with_object, with_fields, in_phase, is_live}
 use Rattle.arc_spec.specs.Resolved as resolved
-use Rattle.arc_spec.specs.Holding.{Held, Frame, Calling, Ending, Waiter, Counted, holders, is_there, all_places, with_temporaries, with_variables, with_names, with_things, lowered, raised, named, taken_by, gone_in, on_named, on_reference, on_field, declares, lets_go, entered, resumed, all_nil, on_left, makes, with_field}
+use Rattle.arc_spec.specs.Holding.{Held, Frame, Calling, Ending, Waiter, Counted, holders, is_there, all_places, with_temporaries, with_variables, with_names, with_things, lowered, raised, named, taken_by, gone_in, on_named, on_reference, on_field, declares, lets_go, resumed, all_nil, on_left, makes, with_field}
 use Rattle.arc_spec.specs.Stepping.{Next, Goes, Asks, Ends, Faults, Stuck, Along, Safe, Sound, on_top, on_found, only_if}
 use Rattle.arc_ir.specs.Acting.{Action, Program, State, lands, start, step, entry, keeps, goes, or_fault, has_level, enters, answers, taken, sends, allocates, difference, operates, begins_end, releases, runs_dealloc, ends_class, end_goes_on, leaves, executes}
 use Rattle.arc_code.specs.declared.effect.Height.{Height}

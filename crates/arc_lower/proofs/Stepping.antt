@@ -1,5 +1,5 @@
 -- Where orders stand with their heights, each has what it needs, and goes on where the heights are those that it leaves.
-use Rattle.std.proofs.Common.{◌≡◌, ◌⊎◌, inl, inr, ℕ, zero, suc, ◌+◌, ◌-◌, ◌<◌, ◌≤◌, List, [], ◌∷◌, ◌++◌, length, get_or, Some, slice_get, refl, sym, ap, ◌∙◌, subst, arith, append_assoc, length-append}
+use Rattle.std.proofs.Common.{◌≡◌, ◌⊎◌, inl, inr, ℕ, zero, suc, ◌+◌, ◌<◌, ◌≤◌, List, [], ◌∷◌, ◌++◌, length, get_or, Some, slice_get, refl, sym, ap, ◌∙◌, subst, arith, append_assoc, length-append}
 use Rattle.arc_spec.specs.Resolved as resolved
 use Rattle.arc_code.specs.declared.effect.Height.{Height}
 use Rattle.arc_code.specs.declared.instr.Op.TheVariants.{Pop, Set}
@@ -8,7 +8,7 @@ use Rattle.arc_ir.specs.declared.action.Target.{Target}
 use Rattle.arc_ir.specs.declared.action.Target.TheVariants.{Skip, Back}
 use Rattle.arc_ir.specs.Acting.{lands}
 use Rattle.arc_lower.specs.Order.{Order}
-use Rattle.arc_lower.specs.Lowered.{Block, Straight, Then, Fork, Loop, Leave, flat}
+use Rattle.arc_lower.specs.Lowered.{Block, Then, Fork, Loop, Leave, flat}
 use Rattle.arc_lower.specs.Heights.{between, next_height, heights, last_height}
 use Rattle.arc_lower.proofs.Typing.{tested, left, over, over_none, Reaches, Needs, Types, next_same, BlockTypes}
 use Rattle.arc_lower.proofs.HeightsEnd.{chosen_same, block_ends}
@@ -294,31 +294,30 @@ module _ (R : resolved.Program) (all : List Order) (table : List Height) where
     abbrev test : Height
     test = tested slots names
 
-    pub block_ordinary : (x : Block) (h g : Height) → BlockTypes R slots names h x g → AllOrdinary (flat exit x)
-    block_ordinary (Straight xs) h g t = types_ordinary R h xs g t
-    block_ordinary (Then x y) h g t = ordinary_then (flat exit x) (flat exit y) (block_ordinary x h t.0 t.1) (block_ordinary y t.0 g t.2)
-    block_ordinary (Fork x y) h g t = (tt, ordinary_then (flat exit x) _ (block_ordinary x base g t.1) (tt, block_ordinary y base g t.2))
-    block_ordinary (Loop x y) h g t = ordinary_then (flat exit x) _ (block_ordinary x h test t.0) (tt, ordinary_then (flat exit y) _ (block_ordinary y base h t.1) (tt, tt))
-    block_ordinary Leave h g t = (tt, tt)
+    pub block_ordinary : (x : Block) (h g : Height) → BlockTypes R slots names exit h x g → AllOrdinary (flat R slots names x)
+    block_ordinary (Then x y) h g t = ordinary_then (flat R slots names x) (flat R slots names y) (block_ordinary x h t.0 t.1) (block_ordinary y t.0 g t.2)
+    block_ordinary (Fork x y) h g t = (tt, ordinary_then (flat R slots names x) _ (block_ordinary x base g t.1) (tt, block_ordinary y base g t.2))
+    block_ordinary (Loop x y) h g t = ordinary_then (flat R slots names x) _ (block_ordinary x h test t.0) (tt, ordinary_then (flat R slots names y) _ (block_ordinary y base h t.1) (tt, tt))
+    block_ordinary (Leave to) h g t = (tt, tt)
+    block_ordinary x h g t = types_ordinary R h (flat R slots names x) g t
 
     module _ (leaves : Goes exit test) where
       -- what is behind a block
-      behind : (x : Block) (h g : Height) (pc : ℕ) (ys : List Order) → BlockTypes R slots names h x g → Follows base pc h (flat exit x ++ ys) → Follows base (pc + length (flat exit x)) g ys
-      behind x h g pc ys t f = subst (λ i. Follows base (pc + length (flat exit x)) i ys) (block_ends R slots names exit x h g t) (back base pc h (flat exit x) ys f)
+      behind : (x : Block) (h g : Height) (pc : ℕ) (ys : List Order) → BlockTypes R slots names exit h x g → Follows base pc h (flat R slots names x ++ ys) → Follows base (pc + length (flat R slots names x)) g ys
+      behind x h g pc ys t f = subst (λ i. Follows base (pc + length (flat R slots names x)) i ys) (block_ends R slots names exit x h g t) (back base pc h (flat R slots names x) ys f)
 
       -- a choice, behind which both go on between two statements
       chooses : (to : Target) (pc : ℕ) → Goes (pc + 1) base → Goes (lands pc to) base → Steps test pc (JumpZero to)
       chooses to pc first second = (omega arith, subst (Goes (pc + 1)) (sym (chosen_same R slots names exit to)) first, subst (Goes (lands pc to)) (sym (chosen_same R slots names exit to)) second)
 
-      pub block_steps : (x : Block) (h g : Height) (pc : ℕ) → BlockTypes R slots names h x g → Follows base pc h (flat exit x) → AllStep pc (flat exit x)
-      block_steps (Straight xs) h g pc t f = typed_steps base pc h xs g t f
+      pub block_steps : (x : Block) (h g : Height) (pc : ℕ) → BlockTypes R slots names exit h x g → Follows base pc h (flat R slots names x) → AllStep pc (flat R slots names x)
       block_steps (Then x y) h g pc t f =
-          let xs = flat exit x in
-          let ys = flat exit y in
+          let xs = flat R slots names x in
+          let ys = flat R slots names y in
           step_then pc xs ys (block_steps x h t.0 pc t.1 (front base pc h xs ys (block_ordinary y t.0 g t.2) f)) (block_steps y t.0 g (pc + length xs) t.2 (behind x h t.0 pc ys t.1 f))
       block_steps (Fork x y) h g pc t f =
-          let xs = flat exit x in
-          let ys = flat exit y in
+          let xs = flat R slots names x in
+          let ys = flat R slots names y in
           let to = Skip (suc (length xs)) in
           let one = pc + 1 in
           let two = one + length xs + 1 in
@@ -335,8 +334,8 @@ module _ (R : resolved.Program) (all : List Order) (table : List Height) where
             step_then one xs rest (block_steps x base g one t.1 (front base one base xs rest o inside)) ((g, after.0, last), block_steps y base g two t.2 after.2),
           )
       block_steps (Loop x y) h g pc t f =
-          let ts = flat exit x in
-          let xs = flat exit y in
+          let ts = flat R slots names x in
+          let xs = flat R slots names y in
           let to = Skip (suc (length xs)) in
           let q = pc + length ts in
           let one = q + 1 in
@@ -354,4 +353,5 @@ module _ (R : resolved.Program) (all : List Order) (table : List Height) where
             (test, chosen.0, chooses to q (goes_here base one base (xs ++ again) o inside) (subst (λ n. Goes n base) there after.2)),
             step_then one xs again (block_steps y base h one t.1 (front base one base xs again (tt, tt) inside)) ((h, after.0, subst (λ n. Goes n h) begin first), tt),
           )
-      block_steps Leave h g pc t f = ((h, f.0, subst (Goes exit) (sym t.0) leaves), tt)
+      block_steps (Leave to) h g pc t f = ((h, f.0, subst (λ q. Goes q h) (sym t.0) (subst (Goes exit) (sym t.1) leaves)), tt)
+      block_steps x h g pc t f = typed_steps base pc h (flat R slots names x) g t f

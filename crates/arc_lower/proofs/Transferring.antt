@@ -34,7 +34,7 @@ module _ (p : Program) (R : resolved.Program) (is : orders p.actions ≡ lowered
   Kept (Running s i t) = Good p R s
   Kept (Ended n i t) = Unit {0}
   Kept (Faulted f i t) = Unit {0}
-  Kept (Wedged i t) = Unit {0}
+  Kept (Wedged i t) = ⊥
 
   fed_kept : (k : Option ℕ → State) (i : List ℕ) (t : List Event) → ((answer : Option ℕ) → Good p R (k answer)) → Kept (fed k i t)
   fed_kept k [] t kept = kept None
@@ -45,13 +45,13 @@ module _ (p : Program) (R : resolved.Program) (is : orders p.actions ≡ lowered
   follow_kept (Asks k) i t kept = fed_kept k i t kept
   follow_kept (Ends n) i t kept = tt
   follow_kept (Faults f) i t kept = tt
-  follow_kept Stuck i t kept = tt
+  follow_kept Stuck i t kept = kept
 
   further_kept : (r : Reached State) → Kept r → Kept (further (step p) r)
   further_kept (Running s i t) k = follow_kept (step p s) i t (step_leads p R is entries classes end s k)
   further_kept (Ended n i t) k = tt
   further_kept (Faulted f i t) k = tt
-  further_kept (Wedged i t) k = tt
+  further_kept (Wedged i t) k = k
 
   steps_kept : (n : ℕ) (r : Reached State) → Kept r → Kept (after_steps (step p) n r)
   steps_kept zero r k = k
@@ -76,3 +76,16 @@ module _ (p : Program) (R : resolved.Program) (is : orders p.actions ≡ lowered
   -- what is seen of the steps
   pub seen_moves : (input : List ℕ) (n : ℕ) → seen p input n ≡ run_seen (after_steps (moves p) n (Running start input []))
   seen_moves input n = sym (seen_fresh (after_steps (step p) n (Running start input []))) ∙ ap run_seen (sym (steps_fresh n (Running start input []) (start_good p R is entries classes end)))
+
+  fresh_wedged : (r : Reached State) (i : List ℕ) (t : List Event) → Kept r → freshened r ≡ Wedged i t → ⊥
+  fresh_wedged (Running s i1 t1) i t k e = cc
+  fresh_wedged (Ended n i1 t1) i t k e = cc
+  fresh_wedged (Faulted f i1 t1) i t k e = cc
+  fresh_wedged (Wedged i1 t1) i t k e = k
+
+  -- no run comes to a step that it hasn't
+  pub never_wedged : (input i : List ℕ) (t : List Event) (n : ℕ) → after_steps (moves p) n (Running start input []) ≡ Wedged i t → ⊥
+  never_wedged input i t n e =
+      let r = Running start input [] in
+      let k = start_good p R is entries classes end in
+      fresh_wedged (after_steps (step p) n r) i t (steps_kept n r k) (sym (steps_fresh n r k) ∙ e)

@@ -1,5 +1,5 @@
 -- The actions of a checked program perform it.
-use Rattle.std.proofs.Common.{◌≡◌, ℕ, ◌+◌, ◌≤◌, ℤ, List, [], ◌∷◌, length, ap, ◌∙◌, arith}
+use Rattle.std.proofs.Common.{◌≡◌, ℕ, ◌+◌, ◌≤◌, ℤ, List, [], ◌∷◌, length, ap, ◌∙◌, arith, refl, inl, inr}
 use Rattle.arc_ast.specs.declared.tree.Kind.TheVariants as k
 use Rattle.arc_spec.specs.Number.{converted}
 use Rattle.arc_spec.specs.Resolved as resolved
@@ -7,7 +7,7 @@ use Rattle.arc_spec.specs.World as world
 use Rattle.arc_spec.specs.World.{World, Outcome, Done, Faulted, Cut, first_frame, first_world, first_locals}
 use Rattle.arc_spec.specs.Meaning.{level, most_levels, mean}
 use Rattle.arc_spec.specs.Holding.{all_nil, on_left}
-use Rattle.arc_spec.specs.Stepping.{Next, Running, Ends, Ended, only_if, after_steps}
+use Rattle.arc_spec.specs.Stepping.{Next, Reached, Running, Ends, Ended, only_if, after_steps}
 use Rattle.arc_spec.specs.Correct.{meaning_seen, run_seen}
 use Rattle.arc_spec.proofs.Steadiness.{steady}
 use Rattle.arc_ir.specs.Acting.{Program, State, step, start, seen}
@@ -15,25 +15,28 @@ use Rattle.arc_code.specs.declared.instr.Instr.TheVariants.{Call, Return, EndSte
 use Rattle.arc_lower.specs.Order.{orders}
 use Rattle.arc_lower.specs.Lowered.{number_of, slots_of, zero_orders, lowered, entries_of, end_step_of, classes_linked}
 use Rattle.arc_lower.specs.Promise.{Performs, IsLowered}
-use Rattle.arc_lower.proofs.Leading.{leads_step, Runs, leads_runs, then_runs}
+use Rattle.arc_lower.proofs.Leading.{leads_same, leads_step, Comes, Runs, leads_runs, then_runs}
 use Rattle.arc_lower.proofs.Behaving.{Shows, behaves}
 use Rattle.arc_lower.proofs.Recounting.{recount, moves, at, held_of}
 use Rattle.arc_lower.proofs.Doing.{has_front, has_back}
 use Rattle.arc_lower.proofs.Segments.{running}
 use Rattle.arc_lower.proofs.Stacking.{onto}
 use Rattle.arc_lower.proofs.Fitting.{zeros_pass}
-use Rattle.arc_lower.proofs.Standing.{Fine, Kept}
+use Rattle.arc_lower.proofs.Running.{Returns}
 use Rattle.arc_lower.proofs.Linking.{has_start, has_end, has_stubs, begins}
 use Rattle.arc_lower.proofs.Finding.{Linked, linked}
 use Rattle.arc_lower.proofs.Calling.{calls_run}
 use Rattle.arc_lower.proofs.RoomSuffices.{room_suffices}
-use Rattle.arc_lower.proofs.Transferring.{seen_moves}
+use Rattle.arc_lower.proofs.Transferring.{seen_moves, never_wedged}
 
 -- what is seen of a run that does what is meant
-shows : (p : Program) (good : ℤ → World → Type 0) (input : List ℕ) (bound : ℕ) (o : Outcome ℤ) → ((n : ℕ) → seen p input n ≡ run_seen (after_steps (moves p) n (Running start input []))) → Runs (moves p) good bound (running [] [] 0 [] (first_world input)) (λ v w. Ended v w.input w.trace) o → Shows (seen p input) bound (meaning_seen o)
-shows p good input bound (Done v w) alike r = record { steps = r.1.steps; same = alike r.1.steps ∙ ap run_seen r.1.there; enough = λ e. cc }
-shows p good input bound (Faulted f w) alike r = record { steps = r.steps; same = alike r.steps ∙ ap run_seen r.there; enough = λ e. cc }
-shows p good input bound (Cut w) alike r = record { steps = r.0; same = alike r.0 ∙ ap run_seen r.3; enough = λ e. r.2 }
+abbrev Ends_with : ℤ → World → Reached State → Type 0
+Ends_with v w to = to ≡ Ended v w.input w.trace
+
+shows : (p : Program) (input : List ℕ) (bound : ℕ) (o : Outcome ℤ) → ((n : ℕ) → seen p input n ≡ run_seen (after_steps (moves p) n (Running start input []))) → Comes (moves p) bound (running [] [] 0 [] (first_world input)) Ends_with o → Shows (seen p input) bound (meaning_seen o)
+shows p input bound (Done v w) alike r = record { steps = r.1.steps; same = alike r.1.steps ∙ ap run_seen (r.1.there ∙ r.2); enough = λ e. cc }
+shows p input bound (Faulted f w) alike r = record { steps = r.steps; same = alike r.steps ∙ ap run_seen r.there; enough = λ e. cc }
+shows p input bound (Cut w) alike r = record { steps = r.0; same = alike r.0 ∙ ap run_seen r.3; enough = λ e. r.2 }
 
 -- what begins is left where it has as few places as it began with
 main_ends : (v : ℤ) (w : World) → w.frame ≡ first_frame → recount (on_left w.frame.temporaries (held_of [] w) (λ h. Ends (converted k.Int v))) ≡ Ends (converted k.Int v)
@@ -41,11 +44,11 @@ main_ends v w e =
     let last : Next State = Ends (converted k.Int v) in
     ap (λ (f : world.Frame). recount (on_left f.temporaries (held_of [] w) (λ h. last))) e ∙ ap (λ (f : world.Frame). recount (only_if (all_nil f.strong) last)) e
 
-module _ (p : Program) (R : resolved.Program) (is : orders p.actions ≡ lowered R) (entries : p.entries ≡ entries_of R) (classes : p.classes ≡ classes_linked R) (end : p.end_step ≡ end_step_of R) where
+module _ (p : Program) (R : resolved.Program) (is : orders p.actions ≡ lowered R) (entries : p.entries ≡ entries_of R) (classes : p.classes ≡ classes_linked R) (end_at : p.end_step ≡ end_step_of R) where
   links : Linked p R
   links = linked p R classes (has_stubs p R is entries)
 
-  program_runs : (input : List ℕ) (bound : ℕ) → Runs (moves p) (λ v w. Unit {0}) bound (running [] [] 0 [] (first_world input)) (λ v w. Ended v w.input w.trace) (mean R input bound)
+  program_runs : (input : List ℕ) (bound : ℕ) → Runs (moves p) bound (running [] [] 0 [] (first_world input)) Ends_with (mean R input bound)
   program_runs input bound =
       let w = first_world input in
       let zeros = zero_orders (slots_of R R.main) in
@@ -55,15 +58,23 @@ module _ (p : Program) (R : resolved.Program) (is : orders p.actions ≡ lowered
       let last = has_back p 0 zeros call has in
       let s = onto (first_locals (slots_of R R.main) []) [] in
       let o = (level R bound most_levels).call R.main 0 [] w in
+      let end = Returns [] [] q [] w in
       let ready = zeros_pass p [] bound [] (slots_of R R.main) [] w 0 (has_front p 0 zeros call has) in
-      let fine : Fine [] w.objects [] = record { there = λ i some. absurd (omega (arith, some)); dying = tt } in
-      let called = (calls_run p R bound (begins p R is entries) links (has_end p R is entries end) most_levels [] none).invokes R.main [] [] [] w q fine (last.0, tt) in
-      then_runs (moves p) (λ (v : ℤ) w1. Kept [] w w1) (λ v w1. Unit {0}) bound (running [] [] 0 [] w) (λ v w1. running [] [] (q + 1) (v ∷ []) w1) (λ v w1. Ended v w1.input w1.trace) o (λ v w1. Done (converted k.Int v) w1)
-      (leads_runs (moves p) (λ (v : ℤ) w1. Kept [] w w1) bound (running [] [] 0 [] w) (running [] [] q s w) (λ v w1. running [] [] (q + 1) (v ∷ []) w1) o ready called)
-      (λ v w1 g. (tt, leads_step (moves p) (at [] (q + 1) (v ∷ []) (held_of [] w1)) w1.input w1.trace (Ends (converted k.Int v)) (ap recount (last.1.0 [] (v ∷ []) (held_of [] w1)) ∙ main_ends v w1 g.frame)))
+      let called = (calls_run p R bound (begins p R is entries) links (has_end p R is entries end_at) most_levels [] none).invokes R.main [] [] [] w q (last.0, tt) in
+      then_runs (moves p) bound (running [] [] 0 [] w) end Ends_with o (λ v w1. Done (converted k.Int v) w1)
+      (leads_runs (moves p) bound (running [] [] 0 [] w) (running [] [] q s w) end o ready called)
+      (λ v w1 to m.
+      let from = running [] [] (q + 1) (v ∷ []) w1 in
+      leads_runs (moves p) bound to from Ends_with (Done (converted k.Int v) w1) (leads_same (moves p) to from m.0)
+      (inr (Ended (converted k.Int v) w1.input w1.trace, leads_step (moves p) (at [] (q + 1) (v ∷ []) (held_of [] w1)) w1.input w1.trace (Ends (converted k.Int v)) (ap recount (last.1.0 [] (v ∷ []) (held_of [] w1)) ∙ main_ends v w1 m.1.frame), refl)))
     where
       none : 0 + most_levels ≡ most_levels
       none = omega arith
+
+  -- no step lacks what it needs
+  program_comes : (input : List ℕ) (bound : ℕ) → Runs (moves p) bound (running [] [] 0 [] (first_world input)) Ends_with (mean R input bound) → Comes (moves p) bound (running [] [] 0 [] (first_world input)) Ends_with (mean R input bound)
+  program_comes input bound (inl wedged) = absurd (never_wedged p R is entries classes end_at input wedged.0 wedged.1 wedged.2.steps wedged.2.there)
+  program_comes input bound (inr comes) = comes
 
 at_most_same : {a b : ℕ} → b ≡ a → a ≤ b
 at_most_same e = omega (arith, e)
@@ -74,7 +85,7 @@ performs p R is =
     let calm = steady (step p) start in
     record {
       behaves = behaves (λ input bound. meaning_seen (mean R input bound)) (seen p) calm
-          (λ input bound. shows p (λ v w. Unit {0}) input bound (mean R input bound) (seen_moves p R is.actions is.entries is.classes is.end_step input) (program_runs p R is.actions is.entries is.classes is.end_step input bound));
+          (λ input bound. shows p input bound (mean R input bound) (seen_moves p R is.actions is.entries is.classes is.end_step input) (program_comes p R is.actions is.entries is.classes is.end_step input bound (program_runs p R is.actions is.entries is.classes is.end_step input bound)));
       steady = calm;
       sound = room_suffices p R is.actions is.entries is.classes is.end_step (at_most_same is.room) (at_most_same is.names) (at_most_same is.places);
     }

@@ -9,6 +9,7 @@ use Rattle.arc_spec.specs.Resolved as resolved
 use Rattle.arc_spec.specs.declared.class.Method.{Method}
 use Rattle.arc_spec.specs.Classes.{Class}
 use Rattle.arc_spec.specs.Meaning.{function_at}
+use Rattle.arc_code.specs.declared.instr.Op.{Op}
 use Rattle.arc_code.specs.declared.instr.Op.TheVariants.{Num, Bin, Un, Narrow, Pop, Get, Set, PrintNum, PrintByte, GetChar, Declare, Nil, ReadSelf, ReadRef, Hold, Forget, Alloc, GetField, SetField, Differ, IsObject}
 use Rattle.arc_code.specs.declared.instr.Instr.TheVariants.{Plain, PrintText, Jump, JumpZero, Call, Send, SendSuper, SendTo, SendToSuper, StoreStrong, Empty, DropAll, Return, EndStep}
 use Rattle.arc_code.specs.Effects.{effect, passes}
@@ -127,115 +128,176 @@ slots_of P f = (function_at P f).slots
 abbrev pub call_orders : Program → (f values : ℕ) → List Order
 call_orders P f values = fit_orders values (slots_of P f) ++ Call (number_of P f) ∷ []
 
--- Above so many operands, in a function with so many variables that hold numbers and so many that name objects. What gets a message to a class lies below its
--- arguments; one to `super` goes to `self`, in a class method the first variable.
-abbrev mutual
-  pub value_orders : Program → (slots names depth : ℕ) → Value → List Order
-  value_orders P slots names depth (Number n) = Plain (Num n) ∷ []
-  value_orders P slots names depth ReadByte = Plain GetChar ∷ []
-  value_orders P slots names depth (Print pieces arguments) = all_value_orders P slots names depth arguments ++ print_orders pieces (value_count arguments)
-  value_orders P slots names depth (Applied operator kind a) = value_orders P slots names depth a ++ Plain (Un operator kind) ∷ []
-  value_orders P slots names depth (Combined operator kind a b) =
-      value_orders P slots names depth a ++ (value_orders P slots names (suc depth) b ++ Plain (Bin operator kind) ∷ [])
-  value_orders P slots names depth (Converted kind a) = value_orders P slots names depth a ++ Plain (Narrow kind) ∷ []
-  value_orders P slots names depth (Local i) = get_orders slots depth i
-  value_orders P slots names depth (Assigned i a) = value_orders P slots names depth a ++ set_orders slots depth i
-  value_orders P slots names depth (Invoked f arguments) = all_value_orders P slots names depth arguments ++ call_orders P f (value_count arguments)
-  value_orders P slots names depth (Sent a selector arguments) =
-      value_orders P slots names depth a ++ (all_value_orders P slots names (suc depth) arguments ++ Send selector (value_count arguments) ∷ [])
-  value_orders P slots names depth (SentSuper from selector arguments) =
-      get_orders slots depth 0 ++ (all_value_orders P slots names (suc depth) arguments ++ SendSuper from selector (value_count arguments) ∷ [])
-  value_orders P slots names depth (SentTo a selector arguments) =
-      reference_orders P slots names depth a ++ (all_value_orders P slots names depth arguments ++ SendTo selector (value_count arguments) ∷ [])
-  value_orders P slots names depth (SentToSuper from selector arguments) =
-      Plain ReadSelf ∷ [] ++ (all_value_orders P slots names depth arguments ++ SendToSuper from selector (value_count arguments) ∷ [])
-  value_orders P slots names depth (Field a class index) = reference_orders P slots names depth a ++ Plain (GetField class index) ∷ []
-  value_orders P slots names depth (FieldAssigned a class index b) =
-      reference_orders P slots names depth a ++ (value_orders P slots names depth b ++ Plain (SetField class index) ∷ [])
-  value_orders P slots names depth (resolved.Differ a b) =
-      reference_orders P slots names depth a ++ (reference_orders P slots names depth b ++ Plain Differ ∷ [])
-  value_orders P slots names depth (resolved.IsObject a) = reference_orders P slots names depth a ++ Plain IsObject ∷ []
+-- who gets a message: a class, `super` in a class method, an object, or `super`
+pub data Message : Type 0 where
+  ToClass : (selector : ℕ) → Message
+  ToSuperClass : (from selector : ℕ) → Message
+  ToObject : (selector : ℕ) → Message
+  ToSuper : (from selector : ℕ) → Message
 
-  -- leaves one reference more, to what it gives
-  pub reference_orders : Program → (slots names depth : ℕ) → Reference → List Order
-  reference_orders P slots names depth resolved.Nil = Plain Nil ∷ []
-  reference_orders P slots names depth Itself = Plain ReadSelf ∷ []
-  reference_orders P slots names depth (Variable i) = read_orders names i
-  reference_orders P slots names depth (Stored i a) = reference_orders P slots names depth a ++ (store_orders names i ++ Plain Hold ∷ [])
-  reference_orders P slots names depth (Made a) = value_orders P slots names depth a ++ Plain Alloc ∷ []
-  reference_orders P slots names depth (Initialized a) = reference_orders P slots names depth a ++ Plain Hold ∷ []
-
-  pub all_value_orders : Program → (slots names depth : ℕ) → Values → List Order
-  all_value_orders P slots names depth no_values = []
-  all_value_orders P slots names depth (and_value a others) = value_orders P slots names depth a ++ all_value_orders P slots names (suc depth) others
-
--- full-expressions, whose temporaries are dropped at their end
-abbrev pub whole_orders : Program → (slots names : ℕ) → Value → List Order
-whole_orders P slots names a =
-    let xs = value_orders P slots names 0 a in
-    xs ++ drop_orders xs
-
-abbrev pub whole_reference_orders : Program → (slots names : ℕ) → Reference → List Order
-whole_reference_orders P slots names a =
-    let xs = reference_orders P slots names 0 a in
-    xs ++ (Plain Forget ∷ [] ++ drop_orders xs)
-
--- a variable begins with an object
-abbrev pub begin_orders : Program → (slots names i : ℕ) → Reference → List Order
-begin_orders P slots names i a =
-    let xs = reference_orders P slots names 0 a in
-    xs ++ (store_orders names i ++ (Plain Forget ∷ [] ++ drop_orders xs))
-
--- leaves a function with so many variables of each kind: those that name objects are emptied, and its result, on top, is put in the place of the others
-abbrev pub leave_orders : (slots names : ℕ) → List Order
-leave_orders slots names = all_empty_orders names 0 names ++ (keep_orders slots ++ Return ∷ [])
-
--- Actions, and where control goes.
+-- What a part of a function does, and where control goes. A variable that holds a number lies below so many operands.
 pub data Block : Type 0 where
-  -- actions that go on with the next one each
-  Straight : List Order → Block
+  -- nothing
+  Idle : Block
+  -- an operation on operands and temporaries
+  One : Op → Block
+  -- a variable is read, and takes the number on top
+  Load : (depth i : ℕ) → Block
+  Store : (depth i : ℕ) → Block
+  -- a variable that names an object is read, and takes what the last reference names
+  Read : ℕ → Block
+  Assign : ℕ → Block
+  -- so many variables are emptied, from the first one on
+  Clear : (first count : ℕ) → Block
+  -- a format, a call and a message, with so many values
+  Format : List Piece → (values : ℕ) → Block
+  Calls : (f values : ℕ) → Block
+  Tells : Message → (values : ℕ) → Block
   -- one after another
   Then : Block → Block → Block
   -- takes a number: the first where it isn't 0, else the second
   Fork : Block → Block → Block
   -- the test, which leaves a number, and the body while that isn't 0
   Loop : Block → Block → Block
-  -- leaves the function, with its result on top
-  Leave : Block
+  -- a full-expression and what is done with its value; then the temporaries are dropped, where it takes any
+  Full : Block → Block → Block
+  -- leaves the function at its exit, with its result on top
+  Leave : (exit : ℕ) → Block
 
--- the actions of a block, in a function that is left at this place
-abbrev pub flat : (exit : ℕ) → Block → List Order
-flat exit (Straight xs) = xs
-flat exit (Then a b) = flat exit a ++ flat exit b
-flat exit (Fork a b) =
-    let first = flat exit a in
-    let second = flat exit b in
+abbrev pub message_order : Message → (values : ℕ) → Order
+message_order (ToClass selector) n = Send selector n
+message_order (ToSuperClass from selector) n = SendSuper from selector n
+message_order (ToObject selector) n = SendTo selector n
+message_order (ToSuper from selector) n = SendToSuper from selector n
+
+-- the actions of a block, in a function with so many variables that hold numbers and so many that name objects
+abbrev pub flat : Program → (slots names : ℕ) → Block → List Order
+flat P slots names Idle = []
+flat P slots names (One o) = Plain o ∷ []
+flat P slots names (Load depth i) = get_orders slots depth i
+flat P slots names (Store depth i) = set_orders slots depth i
+flat P slots names (Read i) = read_orders names i
+flat P slots names (Assign i) = store_orders names i
+flat P slots names (Clear first count) = all_empty_orders names first count
+flat P slots names (Format pieces n) = print_orders pieces n
+flat P slots names (Calls f n) = call_orders P f n
+flat P slots names (Tells message n) = message_order message n ∷ []
+flat P slots names (Then a b) = flat P slots names a ++ flat P slots names b
+flat P slots names (Fork a b) =
+    let first = flat P slots names a in
+    let second = flat P slots names b in
     JumpZero (Skip (suc (length first))) ∷ [] ++ (first ++ (Jump (Skip (length second)) ∷ [] ++ second))
-flat exit (Loop test body) =
-    let first = flat exit test in
-    let again = flat exit body in
+flat P slots names (Loop test body) =
+    let first = flat P slots names test in
+    let again = flat P slots names body in
     first ++ (JumpZero (Skip (suc (length again))) ∷ [] ++ (again ++ Jump (Back (suc (length first + length again))) ∷ []))
-flat exit Leave = Jump (At exit) ∷ []
+flat P slots names (Full a b) =
+    let xs = flat P slots names a in
+    xs ++ (flat P slots names b ++ drop_orders xs)
+flat P slots names (Leave exit) = Jump (At exit) ∷ []
 
--- a return without a value gives 0
+-- An expression leaves one operand more. What gets a message to a class lies below its arguments; one to `super` goes to `self`, in a class method the first variable.
 abbrev mutual
-  pub command_block : Program → (slots names : ℕ) → Command → Block
-  command_block P slots names (Sequence first count all) = Then (commands_block P slots names all) (Straight (all_empty_orders names first count))
-  command_block P slots names (Evaluate a) = Straight (whole_orders P slots names a ++ Plain Pop ∷ [])
-  command_block P slots names (EvaluateReference a) = Straight (whole_reference_orders P slots names a)
-  command_block P slots names (Begin i a) = Straight (begin_orders P slots names i a)
-  command_block P slots names (resolved.Return None) = Then (Straight (Plain (Num (pos 0)) ∷ [])) Leave
-  command_block P slots names (resolved.Return (Some a)) = Then (Straight (whole_orders P slots names a)) Leave
-  command_block P slots names (Choose test a b) = Then (Straight (whole_orders P slots names test)) (Fork (command_block P slots names a) (command_block P slots names b))
-  command_block P slots names (Repeat test body) = Loop (Straight (whole_orders P slots names test)) (command_block P slots names body)
+  pub value_block : (depth : ℕ) → Value → Block
+  value_block depth (Number n) = One (Num n)
+  value_block depth ReadByte = One GetChar
+  value_block depth (Print pieces arguments) = Then (values_block depth arguments) (Format pieces (value_count arguments))
+  value_block depth (Applied operator kind a) = Then (value_block depth a) (One (Un operator kind))
+  value_block depth (Combined operator kind a b) = Then (value_block depth a) (Then (value_block (suc depth) b) (One (Bin operator kind)))
+  value_block depth (Converted kind a) = Then (value_block depth a) (One (Narrow kind))
+  value_block depth (Local i) = Load depth i
+  value_block depth (Assigned i a) = Then (value_block depth a) (Store depth i)
+  value_block depth (Invoked f arguments) = Then (values_block depth arguments) (Calls f (value_count arguments))
+  value_block depth (Sent a selector arguments) =
+      Then (value_block depth a) (Then (values_block (suc depth) arguments) (Tells (ToClass selector) (value_count arguments)))
+  value_block depth (SentSuper from selector arguments) =
+      Then (Load depth 0) (Then (values_block (suc depth) arguments) (Tells (ToSuperClass from selector) (value_count arguments)))
+  value_block depth (SentTo a selector arguments) =
+      Then (reference_block depth a) (Then (values_block depth arguments) (Tells (ToObject selector) (value_count arguments)))
+  value_block depth (SentToSuper from selector arguments) =
+      Then (One ReadSelf) (Then (values_block depth arguments) (Tells (ToSuper from selector) (value_count arguments)))
+  value_block depth (Field a class index) = Then (reference_block depth a) (One (GetField class index))
+  value_block depth (FieldAssigned a class index b) = Then (reference_block depth a) (Then (value_block depth b) (One (SetField class index)))
+  value_block depth (resolved.Differ a b) = Then (reference_block depth a) (Then (reference_block depth b) (One Differ))
+  value_block depth (resolved.IsObject a) = Then (reference_block depth a) (One IsObject)
 
-  pub commands_block : Program → (slots names : ℕ) → Commands → Block
-  commands_block P slots names no_commands = Straight []
-  commands_block P slots names (and_command c others) = Then (command_block P slots names c) (commands_block P slots names others)
+  -- leaves one reference more, to what it gives
+  pub reference_block : (depth : ℕ) → Reference → Block
+  reference_block depth resolved.Nil = One Nil
+  reference_block depth Itself = One ReadSelf
+  reference_block depth (Variable i) = Read i
+  reference_block depth (Stored i a) = Then (reference_block depth a) (Then (Assign i) (One Hold))
+  reference_block depth (Made a) = Then (value_block depth a) (One Alloc)
+  reference_block depth (Initialized a) = Then (reference_block depth a) (One Hold)
 
--- what a function does from its entry on; it gives 0 at its end
-abbrev pub body_block : Program → Function → Block
-body_block P f = Then (Straight (declare_orders f.names)) (Then (commands_block P f.slots f.names f.body) (Then (Straight (Plain (Num (pos 0)) ∷ [])) Leave))
+  pub values_block : (depth : ℕ) → Values → Block
+  values_block depth no_values = Idle
+  values_block depth (and_value a others) = Then (value_block depth a) (values_block (suc depth) others)
+
+-- full-expressions
+abbrev pub whole_block : Value → Block
+whole_block a = Full (value_block 0 a) Idle
+
+abbrev pub whole_reference_block : Reference → Block
+whole_reference_block a = Full (reference_block 0 a) (One Forget)
+
+-- a variable begins with an object
+abbrev pub begin_block : ℕ → Reference → Block
+begin_block i a = Full (reference_block 0 a) (Then (Assign i) (One Forget))
+
+-- a statement of a function that is left there leaves the operands as they were; a return without a value gives 0
+abbrev mutual
+  pub command_block : (exit : ℕ) → Command → Block
+  command_block exit (Sequence first count all) = Then (commands_block exit all) (Clear first count)
+  command_block exit (Evaluate a) = Then (whole_block a) (One Pop)
+  command_block exit (EvaluateReference a) = whole_reference_block a
+  command_block exit (Begin i a) = begin_block i a
+  command_block exit (resolved.Return None) = Then (One (Num (pos 0))) (Leave exit)
+  command_block exit (resolved.Return (Some a)) = Then (whole_block a) (Leave exit)
+  command_block exit (Choose test a b) = Then (whole_block test) (Fork (command_block exit a) (command_block exit b))
+  command_block exit (Repeat test body) = Loop (whole_block test) (command_block exit body)
+
+  pub commands_block : (exit : ℕ) → Commands → Block
+  commands_block exit no_commands = Idle
+  commands_block exit (and_command c others) = Then (command_block exit c) (commands_block exit others)
+
+-- what a function does; it gives 0 at its end
+abbrev pub body_block : (exit : ℕ) → Commands → Block
+body_block exit body = Then (commands_block exit body) (Then (One (Num (pos 0))) (Leave exit))
+
+-- ---- the actions of parts of a function
+
+abbrev pub value_orders : Program → (slots names depth : ℕ) → Value → List Order
+value_orders P slots names depth a = flat P slots names (value_block depth a)
+
+abbrev pub reference_orders : Program → (slots names depth : ℕ) → Reference → List Order
+reference_orders P slots names depth a = flat P slots names (reference_block depth a)
+
+abbrev pub all_value_orders : Program → (slots names depth : ℕ) → Values → List Order
+all_value_orders P slots names depth all = flat P slots names (values_block depth all)
+
+abbrev pub whole_orders : Program → (slots names : ℕ) → Value → List Order
+whole_orders P slots names a = flat P slots names (whole_block a)
+
+abbrev pub whole_reference_orders : Program → (slots names : ℕ) → Reference → List Order
+whole_reference_orders P slots names a = flat P slots names (whole_reference_block a)
+
+abbrev pub begin_orders : Program → (slots names i : ℕ) → Reference → List Order
+begin_orders P slots names i a = flat P slots names (begin_block i a)
+
+abbrev pub command_orders : Program → (slots names exit : ℕ) → Command → List Order
+command_orders P slots names exit c = flat P slots names (command_block exit c)
+
+abbrev pub commands_orders : Program → (slots names exit : ℕ) → Commands → List Order
+commands_orders P slots names exit all = flat P slots names (commands_block exit all)
+
+-- what a function does from its entry on
+abbrev pub body_orders : Program → (exit : ℕ) → Function → List Order
+body_orders P exit f = declare_orders f.names ++ flat P f.slots f.names (body_block exit f.body)
+
+-- leaves a function with so many variables of each kind: those that name objects are emptied, and its result, on top, is put in the place of the others
+abbrev pub leave_orders : (slots names : ℕ) → List Order
+leave_orders slots names = all_empty_orders names 0 names ++ (keep_orders slots ++ Return ∷ [])
 
 -- where a function is entered whose first action has this number
 abbrev pub entry_of : (place : ℕ) → Function → ℕ
@@ -243,7 +305,7 @@ entry_of place f = place + length (leave_orders f.slots f.names)
 
 -- a function: what leaves it stands before its entry
 abbrev pub function_orders : Program → (place : ℕ) → Function → List Order
-function_orders P place f = leave_orders f.slots f.names ++ flat place (body_block P f)
+function_orders P place f = leave_orders f.slots f.names ++ body_orders P place f
 
 -- functions, one behind the other
 abbrev pub functions_orders : Program → (place : ℕ) → List Function → List Order

@@ -4,7 +4,7 @@ ghost use Rattle.arc_code.specs.Effects.{room_for};
 ghost use Rattle.arc_ir.specs.Acting as acting;
 ghost use Rattle.arc_check.specs.Checked.{commands, program_of};
 ghost use Rattle.arc_lower.specs.Order.{orders};
-ghost use Rattle.arc_lower.specs.Lowered.{body_block, flat, entry_of, function_orders, functions_orders, entries_from, start_orders, end_step_of, all_functions};
+ghost use Rattle.arc_lower.specs.Lowered.{body_orders, entry_of, function_orders, functions_orders, entries_from, start_orders, end_step_of, all_functions};
 ghost use Rattle.arc_lower.specs.Heights.{greatest, start_heights, function_heights, functions_heights};
 ghost use Rattle.arc_lower.specs.Promise.{Performs, IsLowered};
 
@@ -192,7 +192,7 @@ fn append_body(
     body: Body,
     all: &[Command],
 ) -> Result<(), NoMemory>
-    ensures { OnOk result (orders actions.new.items ≡ orders actions.old.items ++ flat body.exit (body_block (program_of program.now) (record { slots = body.slots; names = body.names; body = commands all.now }))) }
+    ensures { OnOk result (orders actions.new.items ≡ orders actions.old.items ++ body_orders (program_of program.now) body.exit (record { slots = body.slots; names = body.names; body = commands all.now })) }
 {
     append_declares(actions, body.names)?;
     append_commands(alloc, actions, program, body, all)?;

@@ -1,9 +1,11 @@
 //! From statements to actions.
-ghost use Rattle.std.specs.Prelude.{◌≡◌, ◌++◌, ◌-◌, ◌<◌, length, OnOk, IfOk, option_map, slice_set};
+ghost use Rattle.std.specs.Prelude.{◌≡◌, [], ◌∷◌, ◌++◌, ◌-◌, ◌<◌, length, OnOk, IfOk, option_map, slice_set};
 ghost use Rattle.arc_spec.specs.Resolved.{Return};
 ghost use Rattle.arc_check.specs.Checked.{value as value_of, reference as reference_of, command, commands, program_of};
+ghost use Rattle.arc_code.specs.declared.instr.Instr.TheVariants.{Jump};
+ghost use Rattle.arc_ir.specs.declared.action.Target.TheVariants.{At};
 ghost use Rattle.arc_lower.specs.Order.{order, orders};
-ghost use Rattle.arc_lower.specs.Lowered.{whole_orders, whole_reference_orders, begin_orders, Leave, flat, command_block, commands_block};
+ghost use Rattle.arc_lower.specs.Lowered.{whole_orders, whole_reference_orders, begin_orders, command_orders, commands_orders};
 
 use crate::expression::{append, append_reference, append_value};
 use crate::frame::{Body, Frame};
@@ -88,7 +90,7 @@ pub(crate) fn append_command(
     body: Body,
     statement: &Command,
 ) -> Result<(), NoMemory>
-    ensures { OnOk result (orders actions.new.items ≡ orders actions.old.items ++ flat body.exit (command_block (program_of program.now) body.slots body.names (command statement.now))) }
+    ensures { OnOk result (orders actions.new.items ≡ orders actions.old.items ++ command_orders (program_of program.now) body.slots body.names body.exit (command statement.now)) }
 {
     match statement {
         Command::Sequence(first, count, all) => {
@@ -146,7 +148,7 @@ pub(crate) fn append_commands(
     body: Body,
     all: &[Command],
 ) -> Result<(), NoMemory>
-    ensures { OnOk result (orders actions.new.items ≡ orders actions.old.items ++ flat body.exit (commands_block (program_of program.now) body.slots body.names (commands all.now))) }
+    ensures { OnOk result (orders actions.new.items ≡ orders actions.old.items ++ commands_orders (program_of program.now) body.slots body.names body.exit (commands all.now)) }
 {
     for statement in all {
         append_command(alloc, actions, program, body, statement)?;
@@ -162,7 +164,7 @@ fn append_return(
     body: Body,
     value: &Option<Value>,
 ) -> Result<(), NoMemory>
-    ensures { OnOk result (orders actions.new.items ≡ orders actions.old.items ++ flat body.exit (command_block (program_of program.now) body.slots body.names (Return (option_map value_of value.now)))) }
+    ensures { OnOk result (orders actions.new.items ≡ orders actions.old.items ++ command_orders (program_of program.now) body.slots body.names body.exit (Return (option_map value_of value.now))) }
 {
     match value {
         None => append(actions, Instr::Plain(Op::Num(0)))?,
@@ -173,7 +175,7 @@ fn append_return(
 
 /// Appends the action by which a function is left.
 fn append_exit(actions: &mut Vec<Action>, body: Body) -> Result<(), NoMemory>
-    ensures { OnOk result (orders actions.new.items ≡ orders actions.old.items ++ flat body.exit Leave) }
+    ensures { OnOk result (orders actions.new.items ≡ orders actions.old.items ++ Jump (At body.exit) ∷ []) }
 {
     append(actions, Instr::Jump(Target::At(body.exit)))
 }

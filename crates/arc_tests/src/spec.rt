@@ -8,7 +8,10 @@ fn numbers(rt: HostRuntime) -> Result<(), Fail> {
     let (int, long) = (Kind::Int, Kind::Long);
     assert_eq!(rt; convert(int, 4_294_967_295), -1);
     assert_eq!(rt; convert(Kind::Bool, 4_294_967_296), 1);
-    assert_eq!(rt; apply(UnaryOperator::Negate, int, -2_147_483_648), -2_147_483_648);
+    assert_eq!(rt;
+        apply(UnaryOperator::Negate, int, -2_147_483_648),
+        -2_147_483_648
+    );
     assert_eq!(rt;
         combine(BinaryOperator::Add, int, 2_147_483_647, 1),
         Some(-2_147_483_648)

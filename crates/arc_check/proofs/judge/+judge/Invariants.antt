@@ -14,8 +14,8 @@ use Rattle.arc_check.proofs.judge.+judge.Given as goal
 abbrev pub decreases-judge : goal.decreases-judge
 decreases-judge l = 8 * goal.size-judge l
 
-abbrev pub decreases-judge_signed : goal.decreases-judge_signed
-decreases-judge_signed l = 8 * goal.size-judge_signed l + 1
+abbrev pub decreases-judge_unary : goal.decreases-judge_unary
+decreases-judge_unary l = 8 * goal.size-judge_unary l + 1
 
 abbrev pub decreases-judge_cast : goal.decreases-judge_cast
 decreases-judge_cast l = 8 * goal.size-judge_cast l + 1

@@ -20,11 +20,8 @@ decreases-class_in l = 8 * size-Expr l.expr.now + 1
 abbrev pub decreases-to_field : goal.decreases-to_field
 decreases-to_field l = 8 * size-Expr l.base.now + 1
 
-abbrev pub decreases-negation : goal.decreases-negation
-decreases-negation l = 8 * size-Expr l.operand.now + 1
-
-abbrev pub decreases-plus : goal.decreases-plus
-decreases-plus l = 8 * size-Expr l.operand.now + 1
+abbrev pub decreases-signed : goal.decreases-signed
+decreases-signed l = 8 * size-Expr l.operand.now + 1
 
 abbrev pub decreases-cast : goal.decreases-cast
 decreases-cast l = 8 * size-Expr l.operand.now + 1

@@ -5,4 +5,4 @@ use Rattle.arc_lower.specs.Heights.{between}
 use Rattle.arc_lower.proofs.law.statements_end.Goals as goal
 
 pub returns : goal.returns
-returns c = λ P slots names c exit. block_ends P slots names exit (command_block P slots names c) (between slots names) (between slots names) (command_types P slots names c)
+returns c = λ P slots names c exit. block_ends P slots names exit (command_block exit c) (between slots names) (between slots names) (command_types P slots names exit c)

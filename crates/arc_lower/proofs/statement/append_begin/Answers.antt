@@ -1,4 +1,4 @@
-use Rattle.std.proofs.Common.{◌≡◌, [], ◌∷◌, ◌++◌, if◌then◌else◌, ap, ◌∙◌, subst, append_assoc, OnOk}
+use Rattle.std.proofs.Common.{◌≡◌, [], ◌∷◌, ◌++◌, if◌then◌else◌, sym, ap, ◌∙◌, subst, append_assoc, OnOk}
 use Rattle.std.specs.List.{list_any}
 use Rattle.arc_check.specs.Checked.{reference, program_of}
 use Rattle.arc_code.specs.declared.instr.Instr.TheVariants.{Plain, DropAll}
@@ -23,5 +23,6 @@ returns c =
     ∙ ap (λ l. l ++ last) (c.in_ok-append_store.ensures ∙ ap (λ l. l ++ store) c.in_ok-append_reference.ensures)
     ∙ append_assoc (orders old.items ++ xs) store last
     ∙ append_assoc (orders old.items) xs (store ++ last)
+    ∙ ap (λ l. orders old.items ++ (xs ++ l)) (sym (append_assoc store (Plain Forget ∷ []) (drop_orders xs)))
     in
     subst (λ l. OnOk c.append_forget.result (orders c.append_forget.new.actions.items ≡ l)) e c.append_forget.ensures

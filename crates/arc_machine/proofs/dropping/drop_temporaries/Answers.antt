@@ -1,4 +1,4 @@
-use Rattle.std.proofs.Common.{◌≡◌, ◌<◌, ◌∙◌, None, Some, take, refl, sym, ap, subst, arith}
+use Rattle.std.proofs.Common.{◌≡◌, ◌<◌, None, take, refl, sym, subst, arith}
 use Rattle.std.proofs.lemmas.Bool.{false≢true}
 use Rattle.arc_machine.specs.Releases.{Drops}
 use Rattle.arc_machine.proofs.Dropped.{popped_block, popped_count, dropped_last, dropped_within, dropped_can, dropped_on}

@@ -1,0 +1,70 @@
+-- Blocks whose orders take no temporary.
+use Rattle.std.proofs.Common.{◌≡◌, ℕ, suc, ◌+◌, Bool, true, false, not, ◌&&◌, ◌||◌, nat_lt, if◌then◌else◌, List, [], ◌∷◌, ◌++◌, length, refl, sym, ap, ◌∙◌}
+use Rattle.std.proofs.lemmas.Bool.{true≢false}
+use Rattle.std.specs.List.{list_any}
+use Rattle.std.proofs.lemmas.List.Folds.{list_any-append}
+use Rattle.arc_spec.specs.Resolved.{Program}
+use Rattle.arc_code.specs.declared.instr.Op.TheVariants.{Nil, ReadRef, Hold}
+use Rattle.arc_code.specs.declared.instr.Instr.TheVariants.{Plain, Jump, JumpZero}
+use Rattle.arc_code.specs.Effects.{operation_effect}
+use Rattle.arc_ir.specs.declared.action.Target.TheVariants.{Skip, Back}
+use Rattle.arc_lower.specs.Order.{Order}
+use Rattle.arc_lower.specs.Lowered.{Block, One, Read, Then, Fork, Loop, Full, flat, order_takes, drop_orders}
+
+-- whether no temporary of a block is there behind it
+abbrev pub takes_none : Block → Bool
+takes_none (One o) = not (nat_lt 0 (operation_effect o).temporaries)
+takes_none (Read i) = false
+takes_none (Then a b) = takes_none a && takes_none b
+takes_none (Fork a b) = takes_none a && takes_none b
+takes_none (Loop a b) = takes_none a && takes_none b
+takes_none (Full a b) = takes_none b
+takes_none _ = true
+
+pub both_true : (a b : Bool) → a ≡ true → b ≡ true → (a && b) ≡ true
+both_true true b e f = f
+both_true false b e f = e
+
+pub or_first : (a b : Bool) → (a || b) ≡ false → a ≡ false
+or_first true b e = e
+or_first false b e = refl
+
+pub or_second : (a b : Bool) → (a || b) ≡ false → b ≡ false
+or_second true b e = absurd (true≢false e)
+or_second false b e = e
+
+module _ (P : Program) (slots names : ℕ) where
+  abbrev none : List Order → Type 0
+  none xs = list_any order_takes xs ≡ false
+
+  none_front : (xs ys : List Order) → none (xs ++ ys) → none xs
+  none_front xs ys e = or_first (list_any order_takes xs) (list_any order_takes ys) (sym (list_any-append order_takes xs ys) ∙ e)
+
+  none_back : (xs ys : List Order) → none (xs ++ ys) → none ys
+  none_back xs ys e = or_second (list_any order_takes xs) (list_any order_takes ys) (sym (list_any-append order_takes xs ys) ∙ e)
+
+  read_takes : (b : Bool) (i : ℕ) → none (if b then Plain (ReadRef i) ∷ [] else Plain Nil ∷ Plain Hold ∷ []) → false ≡ true
+  read_takes true i e = sym e
+  read_takes false i e = sym e
+
+  pub quiet_flat : (b : Block) → none (flat P slots names b) → takes_none b ≡ true
+  quiet_flat (One o) e = ap not (or_first (nat_lt 0 (operation_effect o).temporaries) false e)
+  quiet_flat (Read i) e = read_takes (nat_lt i names) i e
+  quiet_flat (Then a b) e =
+      let xs = flat P slots names a in
+      let ys = flat P slots names b in
+      both_true (takes_none a) (takes_none b) (quiet_flat a (none_front xs ys e)) (quiet_flat b (none_back xs ys e))
+  quiet_flat (Fork a b) e =
+      let xs = flat P slots names a in
+      let ys = flat P slots names b in
+      both_true (takes_none a) (takes_none b) (quiet_flat a (none_front xs (Jump (Skip (length ys)) ∷ ys) e)) (quiet_flat b (none_back xs (Jump (Skip (length ys)) ∷ ys) e))
+  quiet_flat (Loop a b) e =
+      let xs = flat P slots names a in
+      let ys = flat P slots names b in
+      let last : List Order = Jump (Back (suc (length xs + length ys))) ∷ [] in
+      both_true (takes_none a) (takes_none b) (quiet_flat a (none_front xs (JumpZero (Skip (suc (length ys))) ∷ (ys ++ last)) e)) (quiet_flat b (none_front ys last (none_back xs (JumpZero (Skip (suc (length ys))) ∷ (ys ++ last)) e)))
+  quiet_flat (Full a b) e =
+      let xs = flat P slots names a in
+      let ys = flat P slots names b in
+      quiet_flat b (none_front ys (drop_orders xs) (none_back xs (ys ++ drop_orders xs) e))
+  quiet_flat _ e = refl

@@ -1,0 +1,169 @@
+-- What blocks mean, without steps.
+use Rattle.std.proofs.Common.{◌≡◌, ℕ, zero, suc, ℤ, Bool, true, false, nat_eq, if◌then◌else◌, List, [], ◌∷◌, length, slice_set, Some, refl, sym, ap, ◌∙◌}
+use Rattle.std.proofs.lemmas.Bool.{eq-eqb}
+use Rattle.arc_spec.specs.Classes.{class_at}
+use Rattle.arc_spec.specs.Number.{converted, applied, combined, is_zero}
+use Rattle.arc_spec.specs.World.{World, Outcome, Done, Faulted, Cut, Finished, then_do, prints, next_number, has_read, with_locals, local_at, name_at, takes}
+use Rattle.arc_spec.specs.Meaning.{Deeper, chosen, dispatched, finds, sent_to, sent_from, made, field_read, field_set, difference, formatted, byte_count, or_fault, all_dropped, assigned, variables_dropped}
+use Rattle.arc_code.specs.declared.instr.Op.{Op}
+use Rattle.arc_code.specs.declared.instr.Op.TheVariants.{Num, Bin, Un, Narrow, Pop, GetChar, Nil, ReadSelf, Hold, Forget, Alloc, GetField, SetField, Differ, IsObject}
+use Rattle.arc_lower.specs.Lowered.{Message, ToClass, ToSuperClass, ToObject, ToSuper, Block, Idle, One, Load, Store, Read, Assign, Clear, Format, Calls, Tells, Then, Fork, Loop, Full, Leave}
+use Rattle.arc_lower.proofs.Stacking.{onto}
+
+-- operands: numbers and references, the last one first
+pub record Operands : Type 0 where
+  pub numbers : List ℤ
+  pub names : List ℕ
+
+abbrev pub push : ℤ → Operands → Operands
+push v s = record { numbers = v ∷ s.numbers; names = s.names }
+
+abbrev pub name : ℕ → Operands → Operands
+name r s = record { numbers = s.numbers; names = r ∷ s.names }
+
+-- these values, the first one deepest
+abbrev pub pushed : List ℤ → Operands → Operands
+pushed given s = record { numbers = onto given s.numbers; names = s.names }
+
+-- how a block is left: behind it, or by an exit of the function; nothing is said where it lacks operands
+pub data Way : Type 0 where
+  On : Operands → Way
+  Out : (exit : ℕ) → Operands → Way
+  Lost : Way
+
+-- what is left in such a way
+abbrev pub left_by : {A : Type 0} → (A → Way) → Outcome A → Outcome Way
+left_by way o = then_do o (λ a w. Done (way a) w)
+
+abbrev pub on_way : (Operands → World → Outcome Way) → Way → World → Outcome Way
+on_way go (On s) w = go s w
+on_way go (Out exit s) w = Done (Out exit s) w
+on_way go Lost w = Done Lost w
+
+abbrev pub and_then : Outcome Way → (Operands → World → Outcome Way) → Outcome Way
+and_then x go = then_do x (on_way go)
+
+-- the top number, and the other operands
+abbrev pub top_of : List ℤ → (names : List ℕ) → World → (ℤ → Operands → Outcome Way) → Outcome Way
+top_of [] names w go = Done Lost w
+top_of (v ∷ rest) names w go = go v (record { numbers = rest; names = names })
+
+abbrev pub on_number : Operands → World → (ℤ → Operands → Outcome Way) → Outcome Way
+on_number s w go = top_of s.numbers s.names w go
+
+-- the last reference, and the other operands
+abbrev pub last_of : (numbers : List ℤ) → List ℕ → World → (ℕ → Operands → Outcome Way) → Outcome Way
+last_of numbers [] w go = Done Lost w
+last_of numbers (r ∷ rest) w go = go r (record { numbers = numbers; names = rest })
+
+abbrev pub on_name : Operands → World → (ℕ → Operands → Outcome Way) → Outcome Way
+on_name s w go = last_of s.numbers s.names w go
+
+-- so many values, the first one deepest, and the other operands
+abbrev pub values_of : ℕ → (given numbers : List ℤ) → (names : List ℕ) → World → (List ℤ → Operands → Outcome Way) → Outcome Way
+values_of zero given numbers names w go = go given (record { numbers = numbers; names = names })
+values_of (suc n) given [] names w go = Done Lost w
+values_of (suc n) given (v ∷ numbers) names w go = values_of n (v ∷ given) numbers names w go
+
+abbrev pub on_values : ℕ → Operands → World → (List ℤ → Operands → Outcome Way) → Outcome Way
+on_values n s w go = values_of n [] s.numbers s.names w go
+
+abbrev pub pushes : Operands → Outcome ℤ → Outcome Way
+pushes s o = left_by (λ v. On (push v s)) o
+
+-- an operation on operands and temporaries
+abbrev pub operation : Deeper → Op → Operands → World → Outcome Way
+operation D (Num n) s w = Done (On (push n s)) w
+operation D (Bin operator kind) s w = on_number s w (λ y above. on_number above w (λ x rest. pushes rest (or_fault (combined operator kind x y) w)))
+operation D (Un operator kind) s w = on_number s w (λ x rest. Done (On (push (applied operator kind x) rest)) w)
+operation D (Narrow kind) s w = on_number s w (λ x rest. Done (On (push (converted kind x) rest)) w)
+operation D Pop s w = on_number s w (λ x rest. Done (On rest) w)
+operation D GetChar s w = Done (On (push (next_number w.input) s)) (has_read w)
+operation D Nil s w = Done (On (name 0 s)) w
+operation D ReadSelf s w = Done (On (name w.frame.self s)) (takes w.frame.self w)
+operation D Hold s w = on_name s w (λ r rest. Done (On (name r rest)) (takes r w))
+operation D Forget s w = on_name s w (λ r rest. Done (On rest) w)
+operation D Alloc s w = on_number s w (λ v rest. left_by (λ r. On (name r rest)) (made D (class_at v) w))
+operation D (GetField class index) s w = on_name s w (λ r rest. pushes rest (field_read D r class index w))
+operation D (SetField class index) s w = on_name s w (λ r above. on_number above w (λ v rest. pushes rest (field_set D r class index v w)))
+operation D Differ s w = on_name s w (λ y above. on_name above w (λ x rest. Done (On (push (difference x y) rest)) w))
+operation D IsObject s w = on_name s w (λ x rest. Done (On (push (difference x 0) rest)) w)
+operation D _ s w = Done Lost w
+
+-- a message, with what it passes; what gets it is a number or a reference
+abbrev pub told : Deeper → Message → List ℤ → Operands → World → Outcome Way
+told D (ToClass selector) given s w = on_number s w (λ self rest. pushes rest (dispatched D (finds D (class_at self) selector given) self given w))
+told D (ToSuperClass from selector) given s w = on_number s w (λ self rest. pushes rest (dispatched D (finds D (Some from) selector given) self given w))
+told D (ToObject selector) given s w = on_name s w (λ self rest. pushes rest (sent_to D self selector given w))
+told D (ToSuper from selector) given s w = on_name s w (λ self rest. pushes rest (sent_from D (Some from) self selector given w))
+
+-- a loop of blocks
+abbrev pub block_turns : ℕ → (test body : Operands → World → Outcome Way) → Operands → World → Outcome Way
+block_turns zero test body s w = and_then (test s w) (λ s1 w1. on_number s1 w1 (λ v rest. chosen (is_zero v) (Cut w1) (Done (On rest) w1)))
+block_turns (suc n) test body s w = and_then (test s w) (λ s1 w1. on_number s1 w1 (λ v rest. chosen (is_zero v) (and_then (body rest w1) (block_turns n test body)) (Done (On rest) w1)))
+
+abbrev pub passes_by : Operands → Outcome Finished → Outcome Way
+passes_by s o = left_by (λ _. On s) o
+
+-- what a block means; full-expressions stand only between others
+abbrev pub block : Deeper → (bound : ℕ) → (between : Bool) → Block → Operands → World → Outcome Way
+block D bound m Idle s w = Done (On s) w
+block D bound m (One o) s w = operation D o s w
+block D bound m (Load depth i) s w = if nat_eq depth (length s.numbers) then Done (On (push (local_at w.frame.locals i) s)) w else Done Lost w
+block D bound m (Store depth i) s w = on_number s w (λ x rest. if nat_eq depth (length rest.numbers) then Done (On s) (with_locals w (slice_set w.frame.locals i x)) else Done Lost w)
+block D bound m (Read i) s w = Done (On (name (name_at w.frame.strong i) s)) (takes (name_at w.frame.strong i) w)
+block D bound m (Assign i) s w = on_name s w (λ r rest. passes_by s (assigned D i r w))
+block D bound m (Clear first count) s w = passes_by s (variables_dropped D first count w)
+block D bound m (Format pieces n) s w = on_values n s w (λ values rest. Done (On (push (byte_count (formatted pieces values)) rest)) (prints (formatted pieces values) w))
+block D bound m (Calls f n) s w = on_values n s w (λ given rest. pushes rest (D.call f 0 given w))
+block D bound m (Tells message n) s w = on_values n s w (λ given rest. told D message given rest w)
+block D bound m (Then a b) s w = and_then (block D bound m a s w) (block D bound m b)
+block D bound m (Fork a b) s w = on_number s w (λ v rest. chosen (is_zero v) (block D bound m a rest w) (block D bound m b rest w))
+block D bound m (Loop test body) s w = block_turns bound (block D bound m test) (block D bound m body) s w
+block D bound true (Full a b) s w = and_then (and_then (block D bound false a s w) (block D bound false b)) (λ s1 w1. passes_by s1 (all_dropped D w1))
+block D bound false (Full a b) s w = Done Lost w
+block D bound m (Leave exit) s w = Done (Out exit s) w
+
+-- ---- one block behind another
+
+pub after : {A B : Type 0} (exit : A → Operands) (end : B → Way) (x : Outcome Way) (o : Outcome A) (k : Operands → World → Outcome Way) (go : A → World → Outcome B) → x ≡ left_by (λ a. On (exit a)) o → ((a : A) (w : World) → k (exit a) w ≡ left_by end (go a w)) → and_then x k ≡ left_by end (then_do o go)
+after exit end x (Done a w) k go e h = ap (λ y. and_then y k) e ∙ h a w
+after exit end x (Faulted f w) k go e h = ap (λ y. and_then y k) e
+after exit end x (Cut w) k go e h = ap (λ y. and_then y k) e
+
+pub chosen_by : {B : Type 0} (end : B → Way) (b : Bool) (x y : Outcome Way) (m n : Outcome B) → x ≡ left_by end m → y ≡ left_by end n → chosen b x y ≡ left_by end (chosen b m n)
+chosen_by end false x y m n d e = d
+chosen_by end true x y m n d e = e
+
+-- as many operands as there are
+pub same_depth : {A : Type 0} (n : ℕ) (x y : A) → (if nat_eq n n then x else y) ≡ x
+same_depth n x y = ap (λ b. if b then x else y) (eq-eqb n n refl)
+
+-- ---- values
+
+-- the first of the values is taken last
+values_more : (n : ℕ) (given numbers : List ℤ) (names : List ℕ) (w : World) (go : List ℤ → Operands → Outcome Way) → values_of (suc n) given numbers names w go ≡ values_of n given numbers names w (λ g r. top_of r.numbers r.names w (λ v rest. go (v ∷ g) rest))
+values_more zero given [] names w go = refl
+values_more zero given (v ∷ numbers) names w go = refl
+values_more (suc n) given [] names w go = refl
+values_more (suc n) given (v ∷ numbers) names w go = values_more n (v ∷ given) numbers names w go
+
+values_onto : (given numbers : List ℤ) (names : List ℕ) (w : World) (go : List ℤ → Operands → Outcome Way) → values_of (length given) [] (onto given numbers) names w go ≡ go given (record { numbers = numbers; names = names })
+values_onto [] numbers names w go = refl
+values_onto (v ∷ given) numbers names w go =
+    values_more (length given) [] (onto given (v ∷ numbers)) names w go
+    ∙ values_onto given (v ∷ numbers) names w (λ g r. top_of r.numbers r.names w (λ u rest. go (u ∷ g) rest))
+
+pub on_pushed : (n : ℕ) (given : List ℤ) (s : Operands) (w : World) (go : List ℤ → Operands → Outcome Way) → length given ≡ n → on_values n (pushed given s) w go ≡ go given s
+on_pushed n given s w go e = ap (λ m. on_values m (pushed given s) w go) (sym e) ∙ values_onto given s.numbers s.names w go
+
+-- what is known of the value where a part is done
+abbrev pub Holds : {A : Type 0} → (A → Type 0) → Outcome A → Type 0
+Holds Good (Done a w) = Good a
+Holds Good (Faulted f w) = Unit {0}
+Holds Good (Cut w) = Unit {0}
+
+pub after_known : {A B : Type 0} (Good : A → Type 0) (exit : A → Operands) (end : B → Way) (x : Outcome Way) (o : Outcome A) (k : Operands → World → Outcome Way) (go : A → World → Outcome B) → Holds Good o → x ≡ left_by (λ a. On (exit a)) o → ((a : A) (w : World) → Good a → k (exit a) w ≡ left_by end (go a w)) → and_then x k ≡ left_by end (then_do o go)
+after_known Good exit end x (Done a w) k go g e h = ap (λ y. and_then y k) e ∙ h a w g
+after_known Good exit end x (Faulted f w) k go g e h = ap (λ y. and_then y k) e
+after_known Good exit end x (Cut w) k go g e h = ap (λ y. and_then y k) e
