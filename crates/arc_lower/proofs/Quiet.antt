@@ -4,6 +4,7 @@ use Rattle.std.proofs.lemmas.Bool.{true≢false}
 use Rattle.std.specs.List.{list_any}
 use Rattle.std.proofs.lemmas.List.Folds.{list_any-append}
 use Rattle.arc_spec.specs.Resolved.{Program}
+use Rattle.arc_code.specs.declared.instr.Op.{Op}
 use Rattle.arc_code.specs.declared.instr.Op.TheVariants.{Nil, ReadRef, Hold}
 use Rattle.arc_code.specs.declared.instr.Instr.TheVariants.{Plain, Jump, JumpZero}
 use Rattle.arc_code.specs.Effects.{operation_effect}
@@ -37,10 +38,10 @@ module _ (P : Program) (slots names : ℕ) where
   abbrev none : List Order → Type 0
   none xs = list_any order_takes xs ≡ false
 
-  none_front : (xs ys : List Order) → none (xs ++ ys) → none xs
+  pub none_front : (xs ys : List Order) → none (xs ++ ys) → none xs
   none_front xs ys e = or_first (list_any order_takes xs) (list_any order_takes ys) (sym (list_any-append order_takes xs ys) ∙ e)
 
-  none_back : (xs ys : List Order) → none (xs ++ ys) → none ys
+  pub none_back : (xs ys : List Order) → none (xs ++ ys) → none ys
   none_back xs ys e = or_second (list_any order_takes xs) (list_any order_takes ys) (sym (list_any-append order_takes xs ys) ∙ e)
 
   read_takes : (b : Bool) (i : ℕ) → none (if b then Plain (ReadRef i) ∷ [] else Plain Nil ∷ Plain Hold ∷ []) → false ≡ true

@@ -1,5 +1,5 @@
 -- Orders that go on with the next one each: how many numbers, references, temporaries and variables there are behind them, where each of them has as many as it needs.
-use Rattle.std.proofs.Common.{append_assoc, ◌≡◌, ℕ, zero, suc, pred, ◌+◌, ◌-◌, ◌/◌, ◌<◌, ◌≤◌, Bool, true, false, if◌then◌else◌, nat_lt, List, [], ◌∷◌, ◌++◌, length, take, drop, Some, None, refl, sym, ap, ◌∙◌, subst, arith, pos}
+use Rattle.std.proofs.Common.{append_assoc, ◌≡◌, ℕ, zero, suc, pred, ◌+◌, ◌-◌, ◌/◌, ◌<◌, ◌≤◌, Bool, true, false, ◌||◌, true≢false, if◌then◌else◌, nat_lt, List, [], ◌∷◌, ◌++◌, length, take, drop, Some, None, refl, sym, ap, ◌∙◌, subst, arith, pos}
 use Rattle.std.proofs.lemmas.Bool.{ltb-true, ltb-false}
 use Rattle.arc_ast.specs.declared.tree.Kind.TheVariants as k
 use Rattle.arc_ast.specs.declared.tree.Sign.TheVariants as signs
@@ -13,10 +13,10 @@ use Rattle.arc_code.specs.declared.effect.Effect.{Effect}
 use Rattle.arc_code.specs.declared.effect.Height.{Height}
 use Rattle.arc_code.specs.Effects.{on_numbers, operation_effect, effect, passes}
 use Rattle.arc_lower.specs.Order.{Order}
-use Rattle.arc_lower.specs.Lowered.{value_count, conversion_orders, part_orders, piece_orders, left_behind, format_orders, pop_orders, keep_orders, print_orders, get_orders, set_orders, zero_orders, fit_orders, declare_orders, read_orders, store_orders, drop_orders, empty_orders, all_empty_orders, number_of, slots_of, call_orders, value_orders, reference_orders, all_value_orders, whole_orders, whole_reference_orders, begin_orders, order_takes, Block, Then, Fork, Loop, Leave, flat, command_block, commands_block}
+use Rattle.arc_lower.specs.Lowered.{value_count, conversion_orders, part_orders, piece_orders, left_behind, format_orders, pop_orders, keep_orders, print_orders, get_orders, set_orders, zero_orders, fit_orders, declare_orders, read_orders, store_orders, drop_orders, empty_orders, all_empty_orders, number_of, slots_of, call_orders, order_takes, Message, ToClass, ToSuperClass, ToObject, ToSuper, Block, Idle, One, Load, Store, Assign, Format, Calls, Tells, Then, Fork, Loop, Full, Leave, flat, value_block, reference_block, values_block, whole_block, whole_reference_block, begin_block, command_block, commands_block, body_block}
 use Rattle.arc_lower.specs.Heights.{height, between, numbers_taken, after_effect, next_height, last_height}
 use Rattle.arc_lower.proofs.Linking.{out_of_list}
-use Rattle.arc_lower.proofs.Quiet.{or_first, or_second}
+use Rattle.arc_lower.proofs.Quiet.{or_first, or_second, none_front, none_back}
 
 slots_by : (P : Program) (f : ℕ) (b : Bool) → nat_lt f (length P.functions) ≡ b → slots_of P (if b then f else length P.functions) ≡ slots_of P f
 slots_by P f true e = refl
@@ -59,6 +59,16 @@ over r s h = height (h.numbers + r) h.names h.temporaries (h.variables + s)
 pub over_none : (h : Height) → over 0 0 h ≡ h
 over_none h = heights_same (h.numbers + 0) h.names h.temporaries (h.variables + 0) h.numbers h.names h.temporaries h.variables (omega arith) refl refl (omega arith)
 
+-- from one height a run may go on at the other
+pub record Within (h g : Height) : Type 0 where
+  pub numbers : h.numbers ≡ g.numbers
+  pub names : h.names ≡ g.names
+  pub temporaries : h.temporaries ≤ g.temporaries
+  pub variables : h.variables ≡ g.variables
+
+pub within_same : (h : Height) → Within h h
+within_same h = record { numbers = refl; names = refl; temporaries = omega arith; variables = refl }
+
 -- at this height an operation finds what it works on; a function with temporaries declares no variable
 abbrev pub Reaches : Op → Height → Type 0
 Reaches (Bin operator kind) h = 2 ≤ h.numbers
@@ -95,10 +105,10 @@ module _ (P : Program) where
   Needs DropAll h = h.names ≡ 0
   Needs _ h = ⊥
 
-pub next_same : (P : Program) (base : Height) (x : Order) (h u : Height) → Needs P x u → next_height P base x h ≡ left P x h
-next_same P base (Jump to) h u needs = absurd needs
-next_same P base Return h u needs = absurd needs
-next_same P base _ h u needs = refl
+pub next_same : (P : Program) (x : Order) (h u : Height) (tests : List Height) → Needs P x u → next_spot P x (spot h tests) ≡ spot (left P x h) tests
+next_same P (Jump to) h u tests needs = absurd needs
+next_same P (JumpZero to) h u tests needs = absurd needs
+next_same P _ h u tests needs = refl
 
 module _ (P : Program) (r s : ℕ) where
   -- from one height, below which so many numbers and variables more lie, these orders come to the other, and each has what it needs
@@ -113,6 +123,18 @@ module _ (P : Program) (r s : ℕ) where
   pub types_same : (h : Height) (xs : List Order) (g i : Height) → g ≡ i → Types h xs g → Types h xs i
   types_same h xs g i e t = subst (Types h xs) e t
 
+  -- ---- blocks
+
+  module _ (slots names exit : ℕ) where
+    -- the same of a block; where two parts meet there are as many temporaries as in either of them
+    abbrev pub BlockTypes : Height → Block → Height → Type 0
+    BlockTypes h (Then x y) g = (i : Height) × BlockTypes h x i × BlockTypes i y g
+    BlockTypes h (Fork x y) g = (i : Height) × (1 ≤ h.numbers) × BlockTypes (one_less h) x i × (h.temporaries ≤ i.temporaries) × BlockTypes (record (one_less h) { temporaries = i.temporaries }) y g × Within i g
+    BlockTypes h (Loop x y) g = (i : Height) × BlockTypes h x i × (1 ≤ i.numbers) × BlockTypes (one_less i) y h × (i.temporaries ≤ h.temporaries) × (record (one_less i) { temporaries = h.temporaries } ≡ g)
+    BlockTypes h (Full x y) g = (i : Height) × (j : Height) × BlockTypes h x i × BlockTypes i y j × Types j (drop_orders (flat P slots names x)) g
+    BlockTypes h (Leave to) g = (to ≡ exit) × (h ≡ tested slots names) × (one_less h ≡ g)
+    BlockTypes h x g = Types h (flat P slots names x) g
+
   left_quiet : (x : Order) (h : Height) → order_takes x ≡ false → (left P x h).temporaries ≤ h.temporaries
   left_quiet DropAll h e = omega arith
   left_quiet x h e = let none = ltb-false 0 (effect x).temporaries e in omega (arith, none)
@@ -125,8 +147,33 @@ module _ (P : Program) (r s : ℕ) where
       let others = fewer_behind (left P x h) xs g t.1 (or_second (order_takes x) (list_any order_takes xs) e) in
       omega (arith, one, others)
 
-  quiet_types : (h : Height) (xs : List Order) (g : Height) → Types h xs g → list_any order_takes xs ≡ false → h.temporaries ≡ 0 → g.temporaries ≡ 0
-  quiet_types h xs g t e none = let le = fewer_behind h xs g t e in omega (arith, le, none)
+  module _ (slots names exit : ℕ) where
+    abbrev fl : Block → List Order
+    fl b = flat P slots names b
+
+    block_fewer : (b : Block) (h g : Height) → BlockTypes slots names exit h b g → list_any order_takes (fl b) ≡ false → g.temporaries ≤ h.temporaries
+    block_fewer (Then x y) h g t e =
+        let one = block_fewer x h t.0 t.1 (none_front P slots names (fl x) (fl y) e) in
+        let two = block_fewer y t.0 g t.2 (none_back P slots names (fl x) (fl y) e) in
+        omega (arith, one, two)
+    block_fewer (Fork x y) h g t e =
+        let ys : List Order = Jump (Skip (length (fl y))) ∷ fl y in
+        let one = block_fewer x (one_less h) t.0 t.2 (none_front P slots names (fl x) ys e) in
+        let two = block_fewer y (record (one_less h) { temporaries = t.0.temporaries }) g t.4 (none_back P slots names (fl x) ys e) in
+        omega (arith, one, two)
+    block_fewer (Loop x y) h g t e = subst (λ (i : Height). i.temporaries ≤ h.temporaries) t.5 (omega arith)
+    block_fewer (Full x y) h g t e =
+        let zs = drop_orders (fl x) in
+        let one = block_fewer x h t.0 t.2 (none_front P slots names (fl x) (fl y ++ zs) e) in
+        let rest = none_back P slots names (fl x) (fl y ++ zs) e in
+        let two = block_fewer y t.0 t.1 t.3 (none_front P slots names (fl y) zs rest) in
+        let three = fewer_behind t.1 zs g t.4 (none_back P slots names (fl y) zs rest) in
+        omega (arith, one, two, three)
+    block_fewer (Leave to) h g t e = subst (λ (i : Height). i.temporaries ≤ h.temporaries) t.2 (omega arith)
+    block_fewer b h g t e = fewer_behind h (fl b) g t e
+
+    quiet_types : (b : Block) (h g : Height) → BlockTypes slots names exit h b g → list_any order_takes (fl b) ≡ false → h.temporaries ≡ 0 → g.temporaries ≡ 0
+    quiet_types b h g t e none = let le = block_fewer b h g t e in omega (arith, le, none)
 
   -- ---- numbers alone
 
@@ -258,24 +305,27 @@ module _ (P : Program) (r s : ℕ) where
 
   -- ---- expressions
 
-  module _ (slots names d : ℕ) (room : names ≤ d + s) where
-    -- from so many numbers, references and temporaries these orders come to so many numbers and references
-    record Comes (a b c : ℕ) (xs : List Order) (n m : ℕ) : Type 0 where
+  module _ (slots names exit d : ℕ) (room : names ≤ d + s) where
+    abbrev Fits : Height → Block → Height → Type 0
+    Fits = BlockTypes slots names exit
+
+    -- from so many numbers, references and temporaries a block comes to so many numbers and references
+    record Comes (a b c : ℕ) (x : Block) (n m : ℕ) : Type 0 where
       more : ℕ
-      types : Types (height a b c d) xs (height n m more d)
+      types : Fits (height a b c d) x (height n m more d)
 
-    abbrev plain : (a b c : ℕ) (xs : List Order) (n m : ℕ) → Types (height a b c d) xs (height n m c d) → Comes a b c xs n m
-    plain a b c xs n m t = record { more = c; types = t }
+    abbrev coming : (a b c : ℕ) (x : Block) (n m more : ℕ) → Fits (height a b c d) x (height n m more d) → Comes a b c x n m
+    coming a b c x n m more t = record { more = more; types = t }
 
-    abbrev taking : (a b c : ℕ) (xs : List Order) (n m more : ℕ) → Types (height a b c d) xs (height n m more d) → Comes a b c xs n m
-    taking a b c xs n m more t = record { more = more; types = t }
+    both : (a b c : ℕ) (x : Block) (n m : ℕ) (y : Block) (u v : ℕ) (first : Comes a b c x n m) → Comes n m first.more y u v → Comes a b c (Then x y) u v
+    both a b c x n m y u v first next = record { more = next.more; types = (height n m first.more d, first.types, next.types) }
 
-    both : (a b c : ℕ) (xs : List Order) (n m : ℕ) (ys : List Order) (u v : ℕ) (first : Comes a b c xs n m) → Comes n m first.more ys u v → Comes a b c (xs ++ ys) u v
-    both a b c xs n m ys u v first next = record { more = next.more; types = types_then (height a b c d) xs (height n m first.more d) ys (height u v next.more d) first.types next.types }
+    -- a block behind, which takes so many temporaries
+    then_taking : (a b c : ℕ) (x : Block) (n m : ℕ) (y : Block) (u v takes : ℕ) → Comes a b c x n m → ((t : ℕ) → Fits (height n m t d) y (height u v (t + takes) d)) → Comes a b c (Then x y) u v
+    then_taking a b c x n m y u v takes first next = record { more = first.more + takes; types = (height n m first.more d, first.types, next first.more) }
 
-    -- orders behind, which take no temporary
-    then_plain : (a b c : ℕ) (xs : List Order) (n m : ℕ) (ys : List Order) (u v : ℕ) → Comes a b c xs n m → ((t : ℕ) → Types (height n m t d) ys (height u v t d)) → Comes a b c (xs ++ ys) u v
-    then_plain a b c xs n m ys u v first next = record { more = first.more; types = types_then (height a b c d) xs (height n m first.more d) ys (height u v first.more d) first.types (next first.more) }
+    then_plain : (a b c : ℕ) (x : Block) (n m : ℕ) (y : Block) (u v : ℕ) → Comes a b c x n m → ((t : ℕ) → Fits (height n m t d) y (height u v t d)) → Comes a b c (Then x y) u v
+    then_plain a b c x n m y u v first next = record { more = first.more; types = (height n m first.more d, first.types, next first.more) }
 
     -- a reference more, which a temporary takes
     hold_types : (a b t : ℕ) → 1 ≤ b → Types (height a b t d) (Plain Hold ∷ []) (height a b (t + 1) d)
@@ -291,77 +341,65 @@ module _ (P : Program) (r s : ℕ) where
         by true e = let lt = ltb-true i names e in (omega (arith, lt, room), heights_same _ _ _ _ a (suc b) (c + 1) d (omega arith) (omega arith) (omega arith) (omega arith))
         by false e = (tt, (omega arith, heights_same _ _ _ _ a (suc b) (c + 1) d (omega arith) (omega arith) (omega arith) (omega arith)))
 
-    shifted : (a b c : ℕ) (xs : List Order) (n : ℕ) → Comes (suc a) b c xs (n + suc a) b → Comes (suc a) b c xs (suc n + a) b
-    shifted a b c xs n first = let e : n + suc a ≡ suc n + a = omega arith in subst (λ m. Comes (suc a) b c xs m b) e first
+    same4 : (a b c v n m t w : ℕ) → a ≡ n → b ≡ m → c ≡ t → v ≡ w → height a b c v ≡ height n m t w
+    same4 = heights_same
+
+    shifted : (a b c : ℕ) (x : Block) (n : ℕ) → Comes (suc a) b c x (n + suc a) b → Comes (suc a) b c x (suc n + a) b
+    shifted a b c x n first = let e : n + suc a ≡ suc n + a = omega arith in subst (λ m. Comes (suc a) b c x m b) e first
 
     mutual
-      value_types : (e : Value) (depth a b c : ℕ) → depth + slots ≤ a + r → Comes a b c (value_orders P slots names depth e) (suc a) b
-      value_types (Number n) depth a b c h = plain a b c _ (suc a) b (one b c d 0 1 a (Num n) (suc a) refl tt (omega arith))
-      value_types ReadByte depth a b c h = plain a b c _ (suc a) b (one b c d 0 1 a GetChar (suc a) refl tt (omega arith))
-      value_types (Print pieces arguments) depth a b c h =
-          let n = value_count arguments in
-          then_plain a b c (all_value_orders P slots names depth arguments) (n + a) b (print_orders pieces n) (suc a) b (values_type arguments depth a b c h) (λ t. print_types b t d pieces n a)
-      value_types (Negated kind v) depth a b c h = then_plain a b c (value_orders P slots names depth v) (suc a) b (Plain (Un kind) ∷ []) (suc a) b (value_types v depth a b c h) (λ t. one b t d 1 1 (suc a) (Un kind) (suc a) refl (omega arith) (omega arith))
+      value_types : (e : Value) (depth a b c : ℕ) → depth + slots ≤ a + r → Comes a b c (value_block depth e) (suc a) b
+      value_types (Number n) depth a b c h = coming a b c _ (suc a) b c (one b c d 0 1 a (Num n) (suc a) refl tt (omega arith))
+      value_types ReadByte depth a b c h = coming a b c _ (suc a) b c (one b c d 0 1 a GetChar (suc a) refl tt (omega arith))
+      value_types (Print pieces arguments) depth a b c h = then_plain a b c (values_block depth arguments) (value_count arguments + a) b (Format pieces (value_count arguments)) (suc a) b (values_type arguments depth a b c h) (λ t. print_types b t d pieces (value_count arguments) a)
+      value_types (Negated kind v) depth a b c h = then_plain a b c (value_block depth v) (suc a) b (One (Un kind)) (suc a) b (value_types v depth a b c h) (λ t. one b t d 1 1 (suc a) (Un kind) (suc a) refl (omega arith) (omega arith))
       value_types (Combined operator kind v u) depth a b c h =
           let first = value_types v depth a b c h in
-          both a b c (value_orders P slots names depth v) (suc a) b (value_orders P slots names (suc depth) u ++ Plain (Bin operator kind) ∷ []) (suc a) b first
-          (then_plain (suc a) b first.more (value_orders P slots names (suc depth) u) (suc (suc a)) b (Plain (Bin operator kind) ∷ []) (suc a) b (value_types u (suc depth) (suc a) b first.more (omega (arith, h))) (λ t. one b t d 2 1 (suc (suc a)) (Bin operator kind) (suc a) refl (omega arith) (omega arith)))
-      value_types (Converted kind v) depth a b c h = then_plain a b c (value_orders P slots names depth v) (suc a) b (Plain (Narrow kind) ∷ []) (suc a) b (value_types v depth a b c h) (λ t. one b t d 1 1 (suc a) (Narrow kind) (suc a) refl (omega arith) (omega arith))
-      value_types (Local i) depth a b c h = plain a b c _ (suc a) b (get_types b c d slots depth i a h)
-      value_types (Assigned i v) depth a b c h = then_plain a b c (value_orders P slots names depth v) (suc a) b (set_orders slots depth i) (suc a) b (value_types v depth a b c h) (λ t. set_types b t d slots depth i a h)
-      value_types (Invoked f arguments) depth a b c h =
-          let n = value_count arguments in
-          then_plain a b c (all_value_orders P slots names depth arguments) (n + a) b (call_orders P f n) (suc a) b (values_type arguments depth a b c h) (λ t. call_types b t d f n a)
+          both a b c (value_block depth v) (suc a) b (Then (value_block (suc depth) u) (One (Bin operator kind))) (suc a) b first
+          (then_plain (suc a) b first.more (value_block (suc depth) u) (suc (suc a)) b (One (Bin operator kind)) (suc a) b (value_types u (suc depth) (suc a) b first.more (omega (arith, h))) (λ t. one b t d 2 1 (suc (suc a)) (Bin operator kind) (suc a) refl (omega arith) (omega arith)))
+      value_types (Converted kind v) depth a b c h = then_plain a b c (value_block depth v) (suc a) b (One (Narrow kind)) (suc a) b (value_types v depth a b c h) (λ t. one b t d 1 1 (suc a) (Narrow kind) (suc a) refl (omega arith) (omega arith))
+      value_types (Local i) depth a b c h = coming a b c _ (suc a) b c (get_types b c d slots depth i a h)
+      value_types (Assigned i v) depth a b c h = then_plain a b c (value_block depth v) (suc a) b (Store depth i) (suc a) b (value_types v depth a b c h) (λ t. set_types b t d slots depth i a h)
+      value_types (Invoked f arguments) depth a b c h = then_plain a b c (values_block depth arguments) (value_count arguments + a) b (Calls f (value_count arguments)) (suc a) b (values_type arguments depth a b c h) (λ t. call_types b t d f (value_count arguments) a)
       value_types (Sent v selector arguments) depth a b c h =
-          let n = value_count arguments in
           let first = value_types v depth a b c h in
-          both a b c (value_orders P slots names depth v) (suc a) b _ (suc a) b first
-          (then_plain (suc a) b first.more (all_value_orders P slots names (suc depth) arguments) (n + suc a) b (Send selector n ∷ []) (suc a) b (values_type arguments (suc depth) (suc a) b first.more (omega (arith, h))) (λ t. (omega arith, heights_same _ _ _ _ (suc a) b t d (omega arith) (omega arith) (omega arith) (omega arith))))
+          both a b c (value_block depth v) (suc a) b _ (suc a) b first
+          (then_plain (suc a) b first.more (values_block (suc depth) arguments) (value_count arguments + suc a) b (Tells (ToClass selector) (value_count arguments)) (suc a) b (values_type arguments (suc depth) (suc a) b first.more (omega (arith, h))) (λ t. (omega arith, same4 _ _ _ _ (suc a) b t d (omega arith) (omega arith) (omega arith) (omega arith))))
       value_types (SentSuper from selector arguments) depth a b c h =
-          let n = value_count arguments in
-          both a b c (get_orders slots depth 0) (suc a) b _ (suc a) b (plain a b c (get_orders slots depth 0) (suc a) b (get_types b c d slots depth 0 a h))
-          (then_plain (suc a) b c (all_value_orders P slots names (suc depth) arguments) (n + suc a) b (SendSuper from selector n ∷ []) (suc a) b (values_type arguments (suc depth) (suc a) b c (omega (arith, h))) (λ t. (omega arith, heights_same _ _ _ _ (suc a) b t d (omega arith) (omega arith) (omega arith) (omega arith))))
+          both a b c (Load depth 0) (suc a) b _ (suc a) b (coming a b c (Load depth 0) (suc a) b c (get_types b c d slots depth 0 a h))
+          (then_plain (suc a) b c (values_block (suc depth) arguments) (value_count arguments + suc a) b (Tells (ToSuperClass from selector) (value_count arguments)) (suc a) b (values_type arguments (suc depth) (suc a) b c (omega (arith, h))) (λ t. (omega arith, same4 _ _ _ _ (suc a) b t d (omega arith) (omega arith) (omega arith) (omega arith))))
       value_types (SentTo v selector arguments) depth a b c h =
-          let n = value_count arguments in
           let first = reference_types v depth a b c h in
-          both a b c (reference_orders P slots names depth v) a (suc b) _ (suc a) b first
-          (then_plain a (suc b) first.more (all_value_orders P slots names depth arguments) (n + a) (suc b) (SendTo selector n ∷ []) (suc a) b (values_type arguments depth a (suc b) first.more h) (λ t. ((omega arith, omega arith), heights_same _ _ _ _ (suc a) b t d (omega arith) (omega arith) (omega arith) (omega arith))))
+          both a b c (reference_block depth v) a (suc b) _ (suc a) b first
+          (then_plain a (suc b) first.more (values_block depth arguments) (value_count arguments + a) (suc b) (Tells (ToObject selector) (value_count arguments)) (suc a) b (values_type arguments depth a (suc b) first.more h) (λ t. ((omega arith, omega arith), same4 _ _ _ _ (suc a) b t d (omega arith) (omega arith) (omega arith) (omega arith))))
       value_types (SentToSuper from selector arguments) depth a b c h =
-          let n = value_count arguments in
-          both a b c (Plain ReadSelf ∷ []) a (suc b) _ (suc a) b (taking a b c (Plain ReadSelf ∷ []) a (suc b) (c + 1) (self_types a b c))
-          (then_plain a (suc b) (c + 1) (all_value_orders P slots names depth arguments) (n + a) (suc b) (SendToSuper from selector n ∷ []) (suc a) b (values_type arguments depth a (suc b) (c + 1) h) (λ t. ((omega arith, omega arith), heights_same _ _ _ _ (suc a) b t d (omega arith) (omega arith) (omega arith) (omega arith))))
-      value_types (Field v class index) depth a b c h = then_plain a b c (reference_orders P slots names depth v) a (suc b) (Plain (GetField class index) ∷ []) (suc a) b (reference_types v depth a b c h) (λ t. (omega arith, heights_same _ _ _ _ (suc a) b t d (omega arith) (omega arith) (omega arith) (omega arith)))
+          both a b c (One ReadSelf) a (suc b) _ (suc a) b (coming a b c (One ReadSelf) a (suc b) (c + 1) (self_types a b c))
+          (then_plain a (suc b) (c + 1) (values_block depth arguments) (value_count arguments + a) (suc b) (Tells (ToSuper from selector) (value_count arguments)) (suc a) b (values_type arguments depth a (suc b) (c + 1) h) (λ t. ((omega arith, omega arith), same4 _ _ _ _ (suc a) b t d (omega arith) (omega arith) (omega arith) (omega arith))))
+      value_types (Field v class index) depth a b c h = then_plain a b c (reference_block depth v) a (suc b) (One (GetField class index)) (suc a) b (reference_types v depth a b c h) (λ t. (omega arith, same4 _ _ _ _ (suc a) b t d (omega arith) (omega arith) (omega arith) (omega arith)))
       value_types (FieldAssigned v class index u) depth a b c h =
           let first = reference_types v depth a b c h in
-          both a b c (reference_orders P slots names depth v) a (suc b) _ (suc a) b first
-          (then_plain a (suc b) first.more (value_orders P slots names depth u) (suc a) (suc b) (Plain (SetField class index) ∷ []) (suc a) b (value_types u depth a (suc b) first.more h) (λ t. ((omega arith, omega arith), heights_same _ _ _ _ (suc a) b t d (omega arith) (omega arith) (omega arith) (omega arith))))
+          both a b c (reference_block depth v) a (suc b) _ (suc a) b first
+          (then_plain a (suc b) first.more (value_block depth u) (suc a) (suc b) (One (SetField class index)) (suc a) b (value_types u depth a (suc b) first.more h) (λ t. ((omega arith, omega arith), same4 _ _ _ _ (suc a) b t d (omega arith) (omega arith) (omega arith) (omega arith))))
       value_types (resolved.Differ v u) depth a b c h =
           let first = reference_types v depth a b c h in
-          both a b c (reference_orders P slots names depth v) a (suc b) _ (suc a) b first
-          (then_plain a (suc b) first.more (reference_orders P slots names depth u) a (suc (suc b)) (Plain Differ ∷ []) (suc a) b (reference_types u depth a (suc b) first.more h) (λ t. (omega arith, heights_same _ _ _ _ (suc a) b t d (omega arith) (omega arith) (omega arith) (omega arith))))
-      value_types (resolved.IsObject v) depth a b c h = then_plain a b c (reference_orders P slots names depth v) a (suc b) (Plain IsObject ∷ []) (suc a) b (reference_types v depth a b c h) (λ t. (omega arith, heights_same _ _ _ _ (suc a) b t d (omega arith) (omega arith) (omega arith) (omega arith)))
+          both a b c (reference_block depth v) a (suc b) _ (suc a) b first
+          (then_plain a (suc b) first.more (reference_block depth u) a (suc (suc b)) (One Differ) (suc a) b (reference_types u depth a (suc b) first.more h) (λ t. (omega arith, same4 _ _ _ _ (suc a) b t d (omega arith) (omega arith) (omega arith) (omega arith))))
+      value_types (resolved.IsObject v) depth a b c h = then_plain a b c (reference_block depth v) a (suc b) (One IsObject) (suc a) b (reference_types v depth a b c h) (λ t. (omega arith, same4 _ _ _ _ (suc a) b t d (omega arith) (omega arith) (omega arith) (omega arith)))
 
-      reference_types : (e : Reference) (depth a b c : ℕ) → depth + slots ≤ a + r → Comes a b c (reference_orders P slots names depth e) a (suc b)
-      reference_types resolved.Nil depth a b c h = plain a b c _ a (suc b) (tt, heights_same _ _ _ _ a (suc b) c d (omega arith) (omega arith) (omega arith) (omega arith))
-      reference_types Itself depth a b c h = taking a b c _ a (suc b) (c + 1) (self_types a b c)
-      reference_types (Variable i) depth a b c h = taking a b c _ a (suc b) (c + 1) (read_types i a b c)
-      reference_types (Stored i v) depth a b c h =
-          let first = reference_types v depth a b c h in
-          taking a b c _ a (suc b) (first.more + 1) (types_then (height a b c d) (reference_orders P slots names depth v) (height a (suc b) first.more d) _ (height a (suc b) (first.more + 1) d) first.types
-          (types_then (height a (suc b) first.more d) (store_orders names i) (height a (suc b) first.more d) (Plain Hold ∷ []) (height a (suc b) (first.more + 1) d) (store_types names a (suc b) first.more d room i (omega arith)) (hold_types a (suc b) first.more (omega arith))))
-      reference_types (Made v) depth a b c h =
-          let first = value_types v depth a b c h in
-          taking a b c _ a (suc b) (first.more + 1) (types_then (height a b c d) (value_orders P slots names depth v) (height (suc a) b first.more d) (Plain Alloc ∷ []) (height a (suc b) (first.more + 1) d) first.types (omega arith, heights_same _ _ _ _ a (suc b) (first.more + 1) d (omega arith) (omega arith) (omega arith) (omega arith)))
-      reference_types (Initialized v) depth a b c h =
-          let first = reference_types v depth a b c h in
-          taking a b c _ a (suc b) (first.more + 1) (types_then (height a b c d) (reference_orders P slots names depth v) (height a (suc b) first.more d) (Plain Hold ∷ []) (height a (suc b) (first.more + 1) d) first.types (hold_types a (suc b) first.more (omega arith)))
+      reference_types : (e : Reference) (depth a b c : ℕ) → depth + slots ≤ a + r → Comes a b c (reference_block depth e) a (suc b)
+      reference_types resolved.Nil depth a b c h = coming a b c _ a (suc b) c (tt, same4 _ _ _ _ a (suc b) c d (omega arith) (omega arith) (omega arith) (omega arith))
+      reference_types Itself depth a b c h = coming a b c _ a (suc b) (c + 1) (self_types a b c)
+      reference_types (Variable i) depth a b c h = coming a b c _ a (suc b) (c + 1) (read_types i a b c)
+      reference_types (Stored i v) depth a b c h = then_taking a b c (reference_block depth v) a (suc b) (Then (Assign i) (One Hold)) a (suc b) 1 (reference_types v depth a b c h) (λ t. (height a (suc b) t d, store_types names a (suc b) t d room i (omega arith), hold_types a (suc b) t (omega arith)))
+      reference_types (Made v) depth a b c h = then_taking a b c (value_block depth v) (suc a) b (One Alloc) a (suc b) 1 (value_types v depth a b c h) (λ t. (omega arith, same4 _ _ _ _ a (suc b) (t + 1) d (omega arith) (omega arith) (omega arith) (omega arith)))
+      reference_types (Initialized v) depth a b c h = then_taking a b c (reference_block depth v) a (suc b) (One Hold) a (suc b) 1 (reference_types v depth a b c h) (λ t. hold_types a (suc b) t (omega arith))
 
-      values_type : (es : Values) (depth a b c : ℕ) → depth + slots ≤ a + r → Comes a b c (all_value_orders P slots names depth es) (value_count es + a) b
-      values_type no_values depth a b c h = plain a b c [] (0 + a) b (heights_same _ _ _ _ (0 + a) b c d (omega arith) refl refl refl)
+      values_type : (es : Values) (depth a b c : ℕ) → depth + slots ≤ a + r → Comes a b c (values_block depth es) (value_count es + a) b
+      values_type no_values depth a b c h = coming a b c Idle (0 + a) b c (same4 _ _ _ _ (0 + a) b c d (omega arith) refl refl refl)
       values_type (and_value v others) depth a b c h =
           let first = value_types v depth a b c h in
           let n = value_count others in
-          both a b c (value_orders P slots names depth v) (suc a) b (all_value_orders P slots names (suc depth) others) (suc n + a) b first (shifted a b first.more (all_value_orders P slots names (suc depth) others) n (values_type others (suc depth) (suc a) b first.more (omega (arith, h))))
+          both a b c (value_block depth v) (suc a) b (values_block (suc depth) others) (suc n + a) b first (shifted a b first.more (values_block (suc depth) others) n (values_type others (suc depth) (suc a) b first.more (omega (arith, h))))
 
     -- ---- full-expressions, which end without temporaries
 
@@ -369,31 +407,32 @@ module _ (P : Program) (r s : ℕ) where
     drop_types true a c none = (refl, refl)
     drop_types false a c none = ap (λ t. height a 0 t d) (none refl)
 
-    pub whole_types : (e : Value) (a : ℕ) → slots ≤ a + r → Types (height a 0 0 d) (whole_orders P slots names e) (height (suc a) 0 0 d)
+    dropped : (x : Block) (a n m c : ℕ) → Fits (height a 0 0 d) x (height n m c d) → (u : ℕ) → Types (height u 0 c d) (drop_orders (flat P slots names x)) (height u 0 0 d)
+    dropped x a n m c t u = drop_types (list_any order_takes (flat P slots names x)) u c (λ e. quiet_types slots names exit x (height a 0 0 d) (height n m c d) t e refl)
+
+    pub whole_types : (e : Value) (a : ℕ) → slots ≤ a + r → Fits (height a 0 0 d) (whole_block e) (height (suc a) 0 0 d)
     whole_types e a h =
         let first = value_types e 0 a 0 0 (omega (arith, h)) in
-        types_then (height a 0 0 d) (value_orders P slots names 0 e) (height (suc a) 0 first.more d) (drop_orders (value_orders P slots names 0 e)) (height (suc a) 0 0 d) first.types (drop_types (list_any order_takes (value_orders P slots names 0 e)) (suc a) first.more (λ x. quiet_types (height a 0 0 d) (value_orders P slots names 0 e) (height (suc a) 0 first.more d) first.types x refl))
+        (height (suc a) 0 first.more d, height (suc a) 0 first.more d, first.types, refl, dropped (value_block 0 e) a (suc a) 0 first.more first.types (suc a))
 
-    forget_types : (takes : Bool) (a c : ℕ) → (takes ≡ false → c ≡ 0) → Types (height a 1 c d) (Plain Forget ∷ [] ++ (if takes then DropAll ∷ [] else [])) (height a 0 0 d)
-    forget_types takes a c none = (omega arith, subst (λ h. Types h (if takes then DropAll ∷ [] else []) (height a 0 0 d)) (heights_same a 0 c d _ _ _ _ (omega arith) (omega arith) (omega arith) (omega arith)) (drop_types takes a c none))
+    forget_types : (a t : ℕ) → Types (height a 1 t d) (Plain Forget ∷ []) (height a 0 t d)
+    forget_types a t = (omega arith, same4 _ _ _ _ a 0 t d (omega arith) (omega arith) (omega arith) (omega arith))
 
-    pub whole_reference_types : (e : Reference) (a : ℕ) → slots ≤ a + r → Types (height a 0 0 d) (whole_reference_orders P slots names e) (height a 0 0 d)
+    pub whole_reference_types : (e : Reference) (a : ℕ) → slots ≤ a + r → Fits (height a 0 0 d) (whole_reference_block e) (height a 0 0 d)
     whole_reference_types e a h =
         let first = reference_types e 0 a 0 0 (omega (arith, h)) in
-        types_then (height a 0 0 d) (reference_orders P slots names 0 e) (height a 1 first.more d) _ (height a 0 0 d) first.types (forget_types (list_any order_takes (reference_orders P slots names 0 e)) a first.more (λ x. quiet_types (height a 0 0 d) (reference_orders P slots names 0 e) (height a 1 first.more d) first.types x refl))
+        (height a 1 first.more d, height a 0 first.more d, first.types, forget_types a first.more, dropped (reference_block 0 e) a a 1 first.more first.types a)
 
-    pub begin_types : (i : ℕ) (e : Reference) (a : ℕ) → slots ≤ a + r → Types (height a 0 0 d) (begin_orders P slots names i e) (height a 0 0 d)
+    pub begin_types : (i : ℕ) (e : Reference) (a : ℕ) → slots ≤ a + r → Fits (height a 0 0 d) (begin_block i e) (height a 0 0 d)
     begin_types i e a h =
         let first = reference_types e 0 a 0 0 (omega (arith, h)) in
-        types_then (height a 0 0 d) (reference_orders P slots names 0 e) (height a 1 first.more d) _ (height a 0 0 d) first.types
-        (subst (λ l. Types (height a 1 first.more d) l (height a 0 0 d)) (sym (append_assoc (store_orders names i) (Plain Forget ∷ []) (drop_orders (reference_orders P slots names 0 e))))
-        (types_then (height a 1 first.more d) (store_orders names i) (height a 1 first.more d) _ (height a 0 0 d) (store_types names a 1 first.more d room i (omega arith)) (forget_types (list_any order_takes (reference_orders P slots names 0 e)) a first.more (λ x. quiet_types (height a 0 0 d) (reference_orders P slots names 0 e) (height a 1 first.more d) first.types x refl))))
+        (height a 1 first.more d, height a 0 first.more d, first.types, (height a 1 first.more d, store_types names a 1 first.more d room i (omega arith), forget_types a first.more), dropped (reference_block 0 e) a a 1 first.more first.types a)
 
   -- ---- heights
 
-  pub types_last : (base h : Height) (xs : List Order) (g : Height) → Types h xs g → last_height P base h xs ≡ g
-  types_last base h [] g t = t
-  types_last base h (x ∷ xs) g t = ap (λ i. last_height P base i xs) (next_same P base x h (over r s h) t.0) ∙ types_last base (left P x h) xs g t.1
+  pub types_last : (h : Height) (tests : List Height) (xs : List Order) (g : Height) → Types h xs g → last_spot P (spot h tests) xs ≡ spot g tests
+  types_last h tests [] g t = ap (λ i. spot i tests) t
+  types_last h tests (x ∷ xs) g t = ap (λ i. last_spot P i xs) (next_same P x h (over r s h) tests t.0) ∙ types_last (left P x h) tests xs g t.1
 
 -- ---- statements
 
@@ -404,34 +443,38 @@ module _ (P : Program) (slots names exit : ℕ) where
   abbrev test : Height
   test = tested slots names
 
-  -- the same of a block, in a function with so many variables: a choice and a loop stand between two statements
-  abbrev pub BlockTypes : Height → Block → Height → Type 0
-  BlockTypes h (Then x y) g = (i : Height) × BlockTypes h x i × BlockTypes i y g
-  BlockTypes h (Fork x y) g = (h ≡ test) × BlockTypes base x g × BlockTypes base y g
-  BlockTypes h (Loop x y) g = BlockTypes h x test × BlockTypes base y h × (g ≡ base)
-  BlockTypes h (Leave to) g = (to ≡ exit) × (h ≡ test) × (g ≡ base)
-  BlockTypes h x g = Types P 0 0 h (flat P slots names x) g
+  abbrev pub Fits_in : Height → Block → Height → Type 0
+  Fits_in = BlockTypes P 0 0 slots names exit
 
-  test_types : (e : Value) → Types P 0 0 base (whole_orders P slots names e) test
-  test_types e = whole_types P 0 0 slots names names (omega arith) e slots (omega arith)
+  test_types : (e : Value) → Fits_in base (whole_block e) test
+  test_types e = whole_types P 0 0 slots names exit names (omega arith) e slots (omega arith)
 
-  pub zero_types : Types P 0 0 base (Plain (Num (pos 0)) ∷ []) test
+  zero_types : Types P 0 0 base (Plain (Num (pos 0)) ∷ []) test
   zero_types = one P 0 0 0 0 names 0 1 slots (Num (pos 0)) (suc slots) refl tt (omega arith)
 
   pop_types : Types P 0 0 test (Plain Pop ∷ []) base
   pop_types = one P 0 0 0 0 names 1 0 (suc slots) Pop slots refl (omega arith) (omega arith)
 
+  less : one_less test ≡ base
+  less = heights_same _ _ _ _ slots 0 0 names (omega arith) refl refl refl
+
+  pub leave_types : Fits_in test (Leave exit) base
+  leave_types = (refl, refl, less)
+
   mutual
-    pub command_types : (c : Command) → BlockTypes base (command_block exit c) base
+    pub command_types : (c : Command) → Fits_in base (command_block exit c) base
     command_types (Sequence first count all) = (base, commands_type all, all_empty_type P 0 0 names slots 0 0 names (omega arith) first count)
     command_types (Evaluate a) = (test, test_types a, pop_types)
-    command_types (EvaluateReference a) = whole_reference_types P 0 0 slots names names (omega arith) a slots (omega arith)
-    command_types (Begin i a) = begin_types P 0 0 slots names names (omega arith) i a slots (omega arith)
-    command_types (resolved.Return None) = (test, zero_types, (refl, refl, refl))
-    command_types (resolved.Return (Some a)) = (test, test_types a, (refl, refl, refl))
-    command_types (Choose v a b) = (test, test_types v, (refl, command_types a, command_types b))
-    command_types (Repeat v body) = (test_types v, command_types body, refl)
+    command_types (EvaluateReference a) = whole_reference_types P 0 0 slots names exit names (omega arith) a slots (omega arith)
+    command_types (Begin i a) = begin_types P 0 0 slots names exit names (omega arith) i a slots (omega arith)
+    command_types (resolved.Return None) = (test, zero_types, leave_types)
+    command_types (resolved.Return (Some a)) = (test, test_types a, leave_types)
+    command_types (Choose v a b) = (test, test_types v, (base, omega arith, subst (λ h. Fits_in h (command_block exit a) base) (sym less) (command_types a), omega arith, subst (λ h. Fits_in h (command_block exit b) base) (sym less) (command_types b), within_same base))
+    command_types (Repeat v body) = (test, test_types v, omega arith, subst (λ h. Fits_in h (command_block exit body) base) (sym less) (command_types body), omega arith, less)
 
-    pub commands_type : (cs : Commands) → BlockTypes base (commands_block exit cs) base
+    pub commands_type : (cs : Commands) → Fits_in base (commands_block exit cs) base
     commands_type no_commands = refl
     commands_type (and_command c others) = (base, command_types c, commands_type others)
+
+  pub body_types : (cs : Commands) → Fits_in base (body_block exit cs) base
+  body_types cs = (base, commands_type cs, (test, zero_types, leave_types))

@@ -3,12 +3,14 @@ use Rattle.std.specs.Prelude.{ℕ, suc, ◌+◌, ◌-◌, max, List, [], ◌∷�
 use Rattle.arc_spec.specs.Resolved.{Function, Program}
 use Rattle.arc_spec.specs.declared.class.Method.{Method}
 use Rattle.arc_spec.specs.Classes.{Class}
-use Rattle.arc_code.specs.declared.instr.Instr.TheVariants.{Jump, Call, DropAll, Return}
+use Rattle.arc_code.specs.declared.instr.Instr.TheVariants.{Jump, JumpZero, Call, DropAll}
 use Rattle.arc_code.specs.declared.effect.Effect.{Effect}
 use Rattle.arc_code.specs.declared.effect.Height.{Height}
 use Rattle.arc_code.specs.Effects.{effect, passes, no_height, room_for}
+use Rattle.arc_ir.specs.declared.action.Target.{Target}
+use Rattle.arc_ir.specs.declared.action.Target.TheVariants.{Skip, Back, At}
 use Rattle.arc_lower.specs.Order.{Order}
-use Rattle.arc_lower.specs.Lowered.{all_functions, slots_of, start_orders, function_orders, stub_orders, entries_of}
+use Rattle.arc_lower.specs.Lowered.{all_functions, slots_of, start_orders, leave_orders, body_orders, function_orders, stub_orders, entries_of}
 
 abbrev pub height : (numbers names temporaries variables : ℕ) → Height
 height numbers names temporaries variables = record { numbers = numbers; names = names; temporaries = temporaries; variables = variables }
@@ -29,23 +31,48 @@ numbers_taken P x = (effect x).numbers_taken
 abbrev pub after_effect : Height → (taken : ℕ) → Effect → Height
 after_effect h taken e = height (h.numbers - taken + e.numbers_given) (h.names - e.names_taken + e.names_given) (h.temporaries + e.temporaries) (h.variables + e.variables)
 
--- The height before the next action. What stands behind a jump is reached from elsewhere, between two statements, and what stands behind a return is where the
--- function is entered.
-abbrev pub next_height : Program → (base : Height) → Order → Height → Height
-next_height P base (Jump to) h = base
-next_height P base DropAll h = record h { temporaries = 0 }
-next_height P base Return h = record base { variables = 0 }
-next_height P base x h = after_effect h (numbers_taken P x) (effect x)
+-- a number is taken: by a test, and by what leaves a function
+abbrev pub one_less : Height → Height
+one_less h = height (h.numbers - 1) h.names h.temporaries h.variables
 
--- the heights before each of these actions, of which the first is at this one, in a function that has so much between two statements
-abbrev pub heights : Program → (base : Height) → Height → List Order → List Height
-heights P base h [] = []
-heights P base h (x ∷ xs) = h ∷ heights P base (next_height P base x h) xs
+-- The height before an action, and those at which the parts of it begin that are reached by a test that is met, the last test first.
+pub record Spot : Type 0 where
+  pub height : Height
+  pub tests : List Height
+
+abbrev pub spot : Height → List Height → Spot
+spot h tests = record { height = h; tests = tests }
+
+-- What stands behind a jump that isn't a test is reached by the last test; temporaries that were taken before it may be there.
+abbrev pub reached_by : (now : Height) → List Height → Spot
+reached_by now [] = spot now []
+reached_by now (h ∷ tests) = spot (record h { temporaries = now.temporaries }) tests
+
+abbrev pub behind_jump : Target → Spot → Spot
+behind_jump (Skip n) s = reached_by s.height s.tests
+behind_jump (Back n) s = reached_by s.height s.tests
+behind_jump (At to) s = spot (one_less s.height) s.tests
+
+-- the same before the next action
+abbrev pub next_spot : Program → Order → Spot → Spot
+next_spot P (Jump to) s = behind_jump to s
+next_spot P (JumpZero to) s = spot (one_less s.height) (one_less s.height ∷ s.tests)
+next_spot P DropAll s = spot (record s.height { temporaries = 0 }) s.tests
+next_spot P x s = spot (after_effect s.height (numbers_taken P x) (effect x)) s.tests
+
+-- the heights before each of these actions, of which the first is there
+abbrev pub heights : Program → Spot → List Order → List Height
+heights P s [] = []
+heights P s (x ∷ xs) = s.height ∷ heights P (next_spot P x s) xs
+
+-- where it goes on behind all of them
+abbrev pub last_spot : Program → Spot → List Order → Spot
+last_spot P s [] = s
+last_spot P s (x ∷ xs) = last_spot P (next_spot P x s) xs
 
 -- the height behind all of them
-abbrev pub last_height : Program → (base : Height) → Height → List Order → Height
-last_height P base h [] = h
-last_height P base h (x ∷ xs) = last_height P base (next_height P base x h) xs
+abbrev pub last_height : Program → Height → List Order → Height
+last_height P h xs = (last_spot P (spot h []) xs).height
 
 -- the greatest of them, or this one, where it is greater
 abbrev pub greatest : List Height → Height → Height
@@ -53,18 +80,18 @@ greatest [] most = most
 greatest (h ∷ others) most = greatest others (highest most h)
 
 abbrev pub start_heights : Program → List Height
-start_heights P = heights P no_height no_height (start_orders P)
+start_heights P = heights P (spot no_height []) (start_orders P)
 
--- a function is left with its result above its variables
+-- a function is left with its result above its variables, and entered with those that hold numbers
 abbrev pub function_heights : Program → (place : ℕ) → Function → List Height
-function_heights P place f = heights P (between f.slots f.names) (between (suc f.slots) f.names) (function_orders P place f)
+function_heights P place f = heights P (spot (between (suc f.slots) f.names) []) (leave_orders f.slots f.names) ++ heights P (spot (between f.slots 0) []) (body_orders P place f)
 
 abbrev pub functions_heights : Program → (place : ℕ) → List Function → List Height
 functions_heights P place [] = []
 functions_heights P place (f ∷ others) = function_heights P place f ++ functions_heights P (place + length (function_orders P place f)) others
 
 abbrev pub stub_heights : Program → (entries : List ℕ) → (values f : ℕ) → List Height
-stub_heights P entries values f = heights P no_height (between values 0) (stub_orders P entries values f)
+stub_heights P entries values f = heights P (spot (between values 0) []) (stub_orders P entries values f)
 
 abbrev pub methods_heights : Program → (entries : List ℕ) → List Method → List Height
 methods_heights P entries [] = []
