@@ -24,9 +24,12 @@ use Rattle.arc_ast.specs.declared.tree.Interface.{Interface}
 use Rattle.arc_ast.specs.declared.tree.Implementation.{Implementation}
 use Rattle.arc_ast.specs.declared.tree.TranslationUnit.{TranslationUnit}
 
--- a type as it is written; a class by its name, with the name's place (C99, section 6.7.6; OPL, "Object Identifiers" and "Static Typing")
+-- A type as it is written: types of integers, `id`, and a class by its name, with the name's place (C99, sections 6.7.2 and 6.7.6; OPL, "Object Identifiers" and
+-- "Static Typing"). `Long` is `long`, `long long` and `NSInteger`, each of 64 bits (this project's own choice).
 pub data TypeTree : Type 0 where
+  Boolean : TypeTree
   Int : TypeTree
+  Long : TypeTree
   Id : TypeTree
   Object : ℕ → List ℕ → TypeTree
 
@@ -177,7 +180,9 @@ place (Send _ part _ _ _) = part
 place (SendSuper _ part _ _ _) = part
 
 abbrev pub type_tree : TypeName → TypeTree
+type_tree t.Bool = Boolean
 type_tree t.Int = Int
+type_tree t.Long = Long
 type_tree t.Id = Id
 type_tree (t.Object at name) = Object at name.items
 

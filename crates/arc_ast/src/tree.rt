@@ -108,7 +108,11 @@ pub enum Visibility {
 /// A type, as it is written in a declaration or in a cast.
 #[derive(Drop)]
 pub enum TypeName {
+    /// `BOOL`
+    Bool,
     Int,
+    /// `long`, `long long` and `NSInteger`, which are one type here.
+    Long,
     /// `id`
     Id,
     /// A reference to an object of a class: the place of the class's name, and the name.

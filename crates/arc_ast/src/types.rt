@@ -7,13 +7,15 @@ use crate::tree::{Kind, ResultType, TypeName};
 use std::alloc::{AllocError, Global};
 
 impl TypeName {
-    /// Returns the kind of a value of this type (C99, section 6.2.5): `Int` of `int`, `Object` of `id` and of
-    /// a reference to a class's objects (OPL, "Object Identifiers" and "Static Typing").
+    /// Returns the kind of a value of this type (C99, section 6.2.5): that of a type of integers, and `Object` of `id`
+    /// and of a reference to a class's objects (OPL, "Object Identifiers" and "Static Typing").
     pub fn kind(&self) -> Kind
         ensures { result ≡ type_kind (type_tree self.now) }
     {
         match self {
+            TypeName::Bool => Kind::Bool,
             TypeName::Int => Kind::Int,
+            TypeName::Long => Kind::Long,
             TypeName::Id | TypeName::Object(_, _) => Kind::Object,
         }
     }
@@ -24,7 +26,9 @@ impl TypeName {
         ensures { IfOk result (λ type_name. type_tree type_name ≡ type_tree self.now) }
     {
         match self {
+            TypeName::Bool => Ok(TypeName::Bool),
             TypeName::Int => Ok(TypeName::Int),
+            TypeName::Long => Ok(TypeName::Long),
             TypeName::Id => Ok(TypeName::Id),
             TypeName::Object(at, name) => Ok(TypeName::Object(*at, Vec::from_slice(alloc, name)?)),
         }

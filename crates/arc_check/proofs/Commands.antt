@@ -7,7 +7,8 @@ use Rattle.arc_ast.specs.declared.tree.Stmt as stmt
 use Rattle.arc_ast.specs.declared.tree.Stmt.{Stmt}
 use Rattle.arc_ast.specs.declared.tree.TypeName.{TypeName}
 use Rattle.arc_ast.specs.declared.tree.Variable.{Variable}
-use Rattle.arc_ast.specs.Tree.{TypeTree, StmtTrees, ParameterTree, type_tree, expr_tree, stmt_tree, stmt_trees, variable_trees, parameter_trees, parameters_tree, function_trees}
+use Rattle.arc_ast.specs.Types.{result_kind}
+use Rattle.arc_ast.specs.Tree.{TypeTree, StmtTrees, ParameterTree, type_tree, result_tree, expr_tree, stmt_tree, stmt_trees, variable_trees, parameter_trees, parameters_tree, function_trees}
 use Rattle.arc_spec.specs.Resolved as resolved
 use Rattle.arc_spec.specs.Resolved.{Commands, no_commands, and_command}
 use Rattle.arc_sites.specs.Sites.{named_parameters}
@@ -102,14 +103,14 @@ functions_ahead-none (b ∷ all) = ap (λ us. function_of b ∷ us) (functions_a
 
 -- one function more, with a body
 pub functions_turn : (known : Known) (xs : List Function) (i : ℕ) (x : Function) (named : List Parameter) (body : Vec Stmt Global) (items : List Stmt) (old : List CheckedFunction) (pushed new : Vec CheckedFunction Global) (a : CheckedFunction) (s : Scope) (whole : List resolved.Function) → i < length xs → x ≡ get_or xs i x
-    → x.body ≡ Some body → items ≡ body.items → parameter_trees named ≡ named_parameters (parameters_tree x.parameters) → s ≡ outermost known → function_of a ≡ resolved_body (with_parameters s (parameter_trees named)) (stmt_trees items) → pushed.items ≡ old ++ a ∷ [] → new ≡ pushed
+    → x.body ≡ Some body → items ≡ body.items → parameter_trees named ≡ named_parameters (parameters_tree x.parameters) → s ≡ outermost known (result_kind (result_tree x.result)) → function_of a ≡ resolved_body (with_parameters s (parameter_trees named)) (stmt_trees items) → pushed.items ≡ old ++ a ∷ [] → new ≡ pushed
     → whole ≡ functions_ahead old (filter_map (resolved_function known) (function_trees (drop i xs))) → whole ≡ functions_ahead new.items (filter_map (resolved_function known) (function_trees (drop (i + 1) xs)))
 functions_turn known xs i x named body items old pushed new a s whole l e o m p q h n v w =
     let rest = filter_map (resolved_function known) (function_trees (drop (i + 1) xs)) in
     let ps = named_parameters (parameters_tree x.parameters) in
-    let own : function_of a ≡ resolved_body (with_parameters (outermost known) ps) (stmt_trees body.items) =
-    h ∙ ap (λ b. resolved_body (with_parameters b (parameter_trees named)) (stmt_trees items)) q ∙ ap (λ us. resolved_body (with_parameters (outermost known) us) (stmt_trees items)) p ∙ ap (λ us. resolved_body (with_parameters (outermost known) ps) (stmt_trees us)) m in
-    w ∙ ap (λ us. functions_ahead old (filter_map (resolved_function known) (function_trees us))) (drop_turn xs i x l e) ∙ ap (λ b. functions_ahead old (cons_option (option_map (resolved_body (with_parameters (outermost known) ps)) (option_map (λ b. stmt_trees b.items) b)) rest)) o
+    let own : function_of a ≡ resolved_body (with_parameters (outermost known (result_kind (result_tree x.result))) ps) (stmt_trees body.items) =
+    h ∙ ap (λ b. resolved_body (with_parameters b (parameter_trees named)) (stmt_trees items)) q ∙ ap (λ us. resolved_body (with_parameters (outermost known (result_kind (result_tree x.result))) us) (stmt_trees items)) p ∙ ap (λ us. resolved_body (with_parameters (outermost known (result_kind (result_tree x.result))) ps) (stmt_trees us)) m in
+    w ∙ ap (λ us. functions_ahead old (filter_map (resolved_function known) (function_trees us))) (drop_turn xs i x l e) ∙ ap (λ b. functions_ahead old (cons_option (option_map (resolved_body (with_parameters (outermost known (result_kind (result_tree x.result))) ps)) (option_map (λ b. stmt_trees b.items) b)) rest)) o
     ∙ ap (λ f. functions_ahead old (f ∷ rest)) (sym own) ∙ sym (functions_ahead-push old a rest) ∙ ap (λ us. functions_ahead us rest) (sym n) ∙ ap (λ us. functions_ahead us.items rest) (sym v)
 
 -- one function more, without a body
@@ -118,7 +119,7 @@ pub functions_pass : (known : Known) (xs : List Function) (i : ℕ) (x : Functio
 functions_pass known xs i x old new whole l e o n w =
     let rest = filter_map (resolved_function known) (function_trees (drop (i + 1) xs)) in
     w ∙ ap (λ us. functions_ahead old (filter_map (resolved_function known) (function_trees us))) (drop_turn xs i x l e)
-    ∙ ap (λ b. functions_ahead old (cons_option (option_map (resolved_body (with_parameters (outermost known) (named_parameters (parameters_tree x.parameters)))) (option_map (λ b. stmt_trees b.items) b)) rest)) o ∙ ap (λ us. functions_ahead us rest) (sym n)
+    ∙ ap (λ b. functions_ahead old (cons_option (option_map (resolved_body (with_parameters (outermost known (result_kind (result_tree x.result))) (named_parameters (parameters_tree x.parameters)))) (option_map (λ b. stmt_trees b.items) b)) rest)) o ∙ ap (λ us. functions_ahead us rest) (sym n)
 
 pub functions_end : (known : Known) (xs : List Function) (i : ℕ) (all : List CheckedFunction) (whole : List resolved.Function) → length xs ≤ i → whole ≡ functions_ahead all (filter_map (resolved_function known) (function_trees (drop i xs))) → checked.functions all ≡ whole
 functions_end known xs i all whole l w = sym (w ∙ ap (λ us. functions_ahead all (filter_map (resolved_function known) (function_trees us))) (drop_end xs i l) ∙ functions_ahead-none all)

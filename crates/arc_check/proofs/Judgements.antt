@@ -8,6 +8,7 @@ use Rattle.arc_ast.specs.declared.tree.UnaryOperator.{UnaryOperator}
 use Rattle.arc_ast.specs.declared.tree.BinaryOperator.{BinaryOperator}
 use Rattle.arc_ast.specs.Operators.{sort_of}
 use Rattle.arc_ast.specs.Tree.{ExprTree, ExprTrees, Arrow, Assign, Binary, Cast, Itself, Send, Unary, SendSuper, TypeTree, expr_tree, expr_trees, place}
+use Rattle.arc_ast.specs.Types.{type_kind}
 use Rattle.arc_class.specs.Broken.{broken_if, Broken, first, earlier_of}
 use Rattle.arc_class.specs.Table.{number_of_class}
 use Rattle.arc_class.specs.declared.table.ClassId.{ClassId}
@@ -103,11 +104,11 @@ judges_unary s before at operator a judged new here j p k c f t = record {
 }
 
 pub judges_cast : (s : Scope) (before : Taken) (at : ℕ) (type : TypeTree) (a : ExprTree) (judged new : Judged) (here : ℕ) → Judges s before a judged → here ≡ place a → new.kind ≡ kind_of s (Cast at type a)
-    → option_map number_of_class new.class ≡ static_class s.known type → option_map told new.fault ≡ earlier_of (option_map told judged.fault) (first (no_object judged.kind here)) → new.taken ≡ judged.taken → Judges s before (Cast at type a) new
+    → option_map number_of_class new.class ≡ static_class s.known type → option_map told new.fault ≡ earlier_of (option_map told judged.fault) (first (no_such (Some (type_kind type)) judged.kind here)) → new.taken ≡ judged.taken → Judges s before (Cast at type a) new
 judges_cast s before at type a judged new here j p k c f t = record {
   kind = k;
   class = c;
-  fault = with_rule s (broken s a) a no_object (option_map told judged.fault) (option_map told new.fault) judged.kind here j.fault j.kind p f;
+  fault = with_rule s (broken s a) a (no_such (Some (type_kind type))) (option_map told judged.fault) (option_map told new.fault) judged.kind here j.fault j.kind p f;
   taken = t ∙ j.taken;
 }
 

@@ -2,6 +2,7 @@
 use Rattle.std.proofs.Common.{◌≡◌, ℕ, suc, ◌+◌, ◌<◌, Bool, true, false, List, [], ◌∷◌, ◌++◌, length, get_or, take, drop, Option, Some, None, option_map, cond, refl, sym, ap, ◌∙◌}
 use Rattle.std.proofs.Math.Path.{fun_ext}
 use Rattle.std.specs.Str.{bytes_eq}
+use Rattle.arc_ast.specs.declared.tree.Kind.{Kind}
 use Rattle.arc_ast.specs.declared.tree.Parameter.{Parameter}
 use Rattle.arc_ast.specs.declared.tree.Sign.{Sign}
 use Rattle.arc_ast.specs.Tree as tree
@@ -10,7 +11,7 @@ use Rattle.arc_class.specs.declared.table.ClassTable.{ClassTable}
 use Rattle.arc_class.specs.Table.{number_of_class}
 use Rattle.arc_check.specs.declared.scope.Bound.{Bound}
 use Rattle.arc_check.specs.declared.scope.Visible.{Visible}
-use Rattle.arc_check.specs.Scopes.{Known, Local, Int, Object, Scope, bound, has_place, declare, with_object, with_parameters}
+use Rattle.arc_check.specs.Scopes.{Known, Local, Number, Object, Scope, bound, has_place, declare, with_number, with_object, with_parameters}
 use Rattle.arc_check.specs.private.Views.{local_of, later, local_at, local_in, seen}
 use Rattle.arc_check.proofs.Lists.{drop_turn}
 
@@ -30,26 +31,26 @@ pub local_in-push : (all : List Bound) (b : Bound) (name : List ℕ) → local_i
 local_in-push [] b name = refl
 local_in-push (a ∷ all) b name = ap (later (local_at a name)) (local_in-push all b name) ∙ later-cond (bytes_eq b.name.now name) (local_at a name) (local_in all name) (local_of b.local)
 
-abbrev scope : Known → Option ℕ → Sign → ℕ → (List ℕ → Option Local) → ℕ → ℕ → Scope
-scope known class sign hidden variables next names = record { known = known; class = class; sign = sign; hidden = hidden; variables = variables; next = next; names = names }
+abbrev scope : Known → Option ℕ → Sign → Kind → ℕ → (List ℕ → Option Local) → ℕ → ℕ → Scope
+scope known class sign result hidden variables next names = record { known = known; class = class; sign = sign; result = result; hidden = hidden; variables = variables; next = next; names = names }
 
-pub scope_is : (k : Known) (c d : Option ℕ) (s t : Sign) (h g : ℕ) (v w : List ℕ → Option Local) (n m a b : ℕ) → c ≡ d → s ≡ t → h ≡ g → v ≡ w → n ≡ m → a ≡ b → scope k c s h v n a ≡ scope k d t g w m b
-scope_is k c d s t h g v w n m a b e1 e2 e3 e4 e5 e6 = rw (e1, e2, e3, e4, e5, e6) refl
+pub scope_is : (k : Known) (c d : Option ℕ) (s t : Sign) (p q : Kind) (h g : ℕ) (v w : List ℕ → Option Local) (n m a b : ℕ) → c ≡ d → s ≡ t → p ≡ q → h ≡ g → v ≡ w → n ≡ m → a ≡ b → scope k c s p h v n a ≡ scope k d t q g w m b
+scope_is k c d s t p q h g v w n m a b e1 e2 e3 e4 e5 e6 e7 = rw (e1, e2, e3, e4, e5, e6, e7) refl
 
 with_bound : (old new : List Bound) (b : Bound) → new ≡ old ++ b ∷ [] → local_in new ≡ bound b.name.now (local_of b.local) (local_in old)
 with_bound old new b i = fun_ext (λ q. ap (λ all. local_in all q) i ∙ local_in-push old b q)
 
--- an int more is visible
-pub int_is : (table : ClassTable) (old new : Visible) (b : Bound) → has_place (seen table old) ≡ true → new.class ≡ old.class → new.sign ≡ old.sign → new.hidden ≡ old.hidden → new.bound.items ≡ old.bound.items ++ b ∷ [] → local_of b.local ≡ Int old.next → new.next ≡ suc old.next → new.names ≡ old.names
-    → seen table new ≡ declare b.name.now tree.Int (seen table old)
-int_is table old new b t c g h i n m e =
-    rw t (scope_is _ _ _ _ _ _ _ _ _ _ _ _ _ (ap (option_map number_of_class) c) g h (with_bound old.bound.items new.bound.items b i ∙ ap (λ x. bound b.name.now x (local_in old.bound.items)) n) m e)
+-- a number more is visible
+pub number_is : (table : ClassTable) (old new : Visible) (b : Bound) (kind : Kind) → has_place (seen table old) ≡ true → new.class ≡ old.class → new.sign ≡ old.sign → new.result ≡ old.result → new.hidden ≡ old.hidden → new.bound.items ≡ old.bound.items ++ b ∷ [] → local_of b.local ≡ Number kind old.next → new.next ≡ suc old.next → new.names ≡ old.names
+    → seen table new ≡ cond (has_place (seen table old)) (with_number b.name.now kind (seen table old)) (seen table old)
+number_is table old new b kind t c g r h i n m e =
+    rw t (scope_is _ _ _ _ _ _ _ _ _ _ _ _ _ _ _ (ap (option_map number_of_class) c) g r h (with_bound old.bound.items new.bound.items b i ∙ ap (λ x. bound b.name.now x (local_in old.bound.items)) n) m e)
 
 -- a variable more is visible that names objects
-pub object_is : (table : ClassTable) (old new : Visible) (b : Bound) (class : Option ℕ) → has_place (seen table old) ≡ true → new.class ≡ old.class → new.sign ≡ old.sign → new.hidden ≡ old.hidden → new.bound.items ≡ old.bound.items ++ b ∷ [] → local_of b.local ≡ Object old.names class → new.next ≡ old.next
+pub object_is : (table : ClassTable) (old new : Visible) (b : Bound) (class : Option ℕ) → has_place (seen table old) ≡ true → new.class ≡ old.class → new.sign ≡ old.sign → new.result ≡ old.result → new.hidden ≡ old.hidden → new.bound.items ≡ old.bound.items ++ b ∷ [] → local_of b.local ≡ Object old.names class → new.next ≡ old.next
     → new.names ≡ suc old.names → seen table new ≡ cond (has_place (seen table old)) (with_object b.name.now class (seen table old)) (seen table old)
-object_is table old new b class t c g h i n m e =
-    rw t (scope_is _ _ _ _ _ _ _ _ _ _ _ _ _ (ap (option_map number_of_class) c) g h (with_bound old.bound.items new.bound.items b i ∙ ap (λ x. bound b.name.now x (local_in old.bound.items)) n) m e)
+object_is table old new b class t c g r h i n m e =
+    rw t (scope_is _ _ _ _ _ _ _ _ _ _ _ _ _ _ _ (ap (option_map number_of_class) c) g r h (with_bound old.bound.items new.bound.items b i ∙ ap (λ x. bound b.name.now x (local_in old.bound.items)) n) m e)
 
 -- one variable more is looked at
 pub local_turn : (xs : List Bound) (i : ℕ) (x : Bound) (name : List ℕ) (so_far now whole : Option Local) → i < length xs → x ≡ get_or xs i x → now ≡ later so_far (local_at x name) → whole ≡ later so_far (local_in (drop i xs) name)

@@ -1,13 +1,14 @@
 -- What is told of statements and of functions.
 use Rattle.std.proofs.Common.{◌≡◌, ℕ, ◌+◌, ◌<◌, Bool, List, ◌++◌, length, get_or, drop, Vec, Global, Option, Some, option_map, refl, sym, ap, ◌∙◌}
 use Rattle.std.specs.List.{flat_map}
+use Rattle.arc_ast.specs.declared.tree.Kind.{Kind}
 use Rattle.arc_ast.specs.declared.tree.Stmt as stmt
 use Rattle.arc_ast.specs.declared.tree.Stmt.{Stmt}
 use Rattle.arc_ast.specs.declared.tree.Function.{Function}
 use Rattle.arc_ast.specs.Tree.{ParameterTree, stmt_tree, stmt_trees, function_tree, function_trees}
 use Rattle.arc_class.specs.Broken.{Broken, first, earlier_of}
 use Rattle.arc_class.proofs.Firsts.{first_turn}
-use Rattle.arc_check.specs.Rules.{broken_parameters, broken_stmt, broken_stmts, broken_body, broken_function}
+use Rattle.arc_check.specs.Rules.{is_nothing, broken_parameters, broken_stmt, broken_stmts, broken_body, broken_function}
 use Rattle.arc_check.specs.Scopes.{Known, Scope, outermost, with_parameters, leave, behind, behind_all}
 use Rattle.arc_check.proofs.Lists.{drop_turn}
 use Rattle.arc_ast.proofs.Trees.{block_tree}
@@ -37,6 +38,6 @@ functions_turn known xs i x so_far one now whole l e o n w =
     first_turn (broken_function known (function_tree x)) (flat_map (broken_function known) (function_trees (drop (i + 1) xs))) so_far one now whole o n (w ∙ ap (λ us. earlier_of so_far (first (flat_map (broken_function known) (function_trees us)))) (drop_turn xs i x l e))
 
 -- a function's body stands in a Vec, if there is one
-pub body_is : (gives_nothing : Bool) (known : Known) (s : Scope) (named : List ParameterTree) (maybe : Option (Vec Stmt Global)) (body : Vec Stmt Global) (items : List Stmt) → maybe ≡ Some body → items ≡ body.items → s ≡ outermost known
-    → first (broken_parameters s named ++ broken_stmts gives_nothing (with_parameters s named) (stmt_trees items)) ≡ first (broken_body gives_nothing known named (option_map (λ b. stmt_trees b.items) maybe))
-body_is gives_nothing known s named maybe body items e m n = rw (n, m, e) refl
+pub body_is : (gives : Kind) (gives_nothing : Bool) (known : Known) (s : Scope) (named : List ParameterTree) (maybe : Option (Vec Stmt Global)) (body : Vec Stmt Global) (items : List Stmt) → maybe ≡ Some body → items ≡ body.items → gives_nothing ≡ is_nothing (Some gives) → s ≡ outermost known gives
+    → first (broken_parameters s named ++ broken_stmts gives_nothing (with_parameters s named) (stmt_trees items)) ≡ first (broken_body gives known named (option_map (λ b. stmt_trees b.items) maybe))
+body_is gives gives_nothing known s named maybe body items e m g n = rw (g, n, m, e) refl

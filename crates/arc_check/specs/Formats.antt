@@ -43,8 +43,9 @@ conversions (part ∷ others) = part ∷ conversions others
 abbrev pub wanted : List ℕ → List Part
 wanted format = conversions (parts Nothing format)
 
--- `%d` and `%i` print an int, `%ld` and `%lld` a long
+-- `%d` and `%i` print an int, as which a BOOL is passed (C99, section 6.5.2.2, paragraph 6), and `%ld` and `%lld` a long
 abbrev pub suits_kind : Kind → Kind → Bool
+suits_kind k.Int k.Bool = true
 suits_kind k.Int k.Int = true
 suits_kind k.Long k.Long = true
 suits_kind _ _ = false

@@ -10,7 +10,7 @@ use Rattle.arc_check.specs.declared.rule.TheConstants.{LARGEST_INT}
 abbrev pub literal_kind : ℤ → Bool → Kind
 literal_kind n suffixed = if int_le n LARGEST_INT && not suffixed then k.Int else k.Long
 
--- the wider one of two kinds of operands: long, where one is long, and else int (C99, section 6.3.1.8)
+-- the wider one of two kinds of operands: long, where one is long, and else int, as which a BOOL computes (C99, sections 6.3.1.1 and 6.3.1.8)
 abbrev pub wider : Kind → Kind → Kind
 wider k.Long _ = k.Long
 wider _ k.Long = k.Long

@@ -6,6 +6,8 @@ use Rattle.arc_ast.specs.declared.tree.UnaryOperator.TheVariants as u
 use Rattle.arc_ast.specs.declared.tree.BinaryOperator.{BinaryOperator}
 use Rattle.arc_ast.specs.declared.tree.BinaryOperator.TheVariants as o
 use Rattle.arc_ast.specs.Operators.{sort_of}
+use Rattle.arc_ast.specs.Types as types
+use Rattle.arc_ast.specs.Types.{type_kind}
 use Rattle.arc_ast.specs.declared.tree.OperatorSort.{OperatorSort}
 use Rattle.arc_ast.specs.declared.tree.OperatorSort.TheVariants.{Equality}
 use Rattle.arc_ast.specs.declared.tree.Kind.{Kind}
@@ -48,10 +50,14 @@ abbrev pub object_in : Resolution → Reference
 object_in (Gives kind a) = Nil
 object_in (Refers r) = r
 
--- a value of one kind as one of another (C99, section 6.3.1.8; for an assignment section 6.5.16.1, and for a returned value section 6.8.6.4)
+-- a value of one kind as one of another (C99, section 6.3.1.8; for a cast section 6.5.4, for an assignment section 6.5.16.1, and for a returned value section 6.8.6.4)
 abbrev pub as_kind : Kind → Kind → Value → Value
+as_kind k.Long k.Bool a = Converted k.Long a
 as_kind k.Long k.Int a = Converted k.Long a
+as_kind k.Int k.Bool a = Converted k.Int a
 as_kind k.Int k.Long a = Converted k.Int a
+as_kind k.Bool k.Int a = Converted k.Bool a
+as_kind k.Bool k.Long a = Converted k.Bool a
 as_kind _ _ a = a
 
 -- a number as one of a kind, and as an int
@@ -63,13 +69,27 @@ int_in = converted k.Int
 
 -- ---- operators and calls
 
--- the kind of what an operator before an operand of a kind gives
+-- the kind in which an operator before an operand of a kind computes: `!` asks of any kind, and the others compute with a BOOL as with an int (C99, section 6.5.3.3)
+abbrev pub unary_computing : UnaryOperator → Kind → Kind
+unary_computing u.Not kind = kind
+unary_computing _ kind = wider kind k.Int
+
+-- the kind of what it gives
 abbrev pub unary_given : UnaryOperator → Kind → Kind
 unary_given u.Not kind = k.Int
 unary_given _ kind = kind
 
+-- an operator before an operand that becomes a number of the kind in which it computes
+abbrev pub applied : UnaryOperator → Kind → Resolution → Resolution
+applied operator kind a = Gives (unary_given operator kind) (Applied operator kind (converted kind a))
+
 abbrev pub unary : UnaryOperator → Resolution → Resolution
-unary operator a = Gives (unary_given operator (kind_in a)) (Applied operator (kind_in a) (number_in a))
+unary operator a = applied operator (unary_computing operator (kind_in a)) a
+
+-- a cast: a number becomes one of the type's kind, and an object is the same (C99, section 6.5.4; OPL, "Static Typing")
+abbrev pub cast : Kind → Resolution → Resolution
+cast k.Object a = a
+cast kind a = Gives kind (converted kind a)
 
 -- an operator whose operands become numbers of the kind in which it computes; the count of a shift too, which counts modulo the width of that kind
 abbrev pub combined : BinaryOperator → Kind → Resolution → Resolution → Resolution
@@ -121,20 +141,20 @@ argument printed a = if printed then number_in a else int_in a
 
 -- a field of an object, and an assignment to it
 abbrev pub field : Reference → Option FoundField → Resolution
-field r found = option_map_or (λ f. Gives k.Int (Field r (number_of_class f.owner) f.index)) found (Gives k.Int (Number (pos 0)))
+field r found = option_map_or (λ f. Gives f.kind (Field r (number_of_class f.owner) f.index)) found (Gives k.Int (Number (pos 0)))
 
 abbrev pub field_assigned : Reference → Option FoundField → Resolution → Resolution
-field_assigned r found a = option_map_or (λ f. Gives k.Int (FieldAssigned r (number_of_class f.owner) f.index (int_in a))) found a
+field_assigned r found a = option_map_or (λ f. Gives f.kind (FieldAssigned r (number_of_class f.owner) f.index (converted f.kind a))) found a
 
 -- what a name means: a variable, or else a field of `self`; and an assignment to it
 abbrev pub named : Option scopes.Local → Option FoundField → Resolution
 named None own = field Itself own
-named (Some (scopes.Int n)) own = Gives k.Int (Local n)
+named (Some (scopes.Number kind n)) own = Gives kind (Local n)
 named (Some (scopes.Object n class)) own = Refers (Variable n)
 
 abbrev pub name_assigned : Option scopes.Local → Option FoundField → Resolution → Resolution
 name_assigned None own a = field_assigned Itself own a
-name_assigned (Some (scopes.Int n)) own a = Gives k.Int (Assigned n (int_in a))
+name_assigned (Some (scopes.Number kind n)) own a = Gives kind (Assigned n (converted kind a))
 name_assigned (Some (scopes.Object n class)) own a = Refers (Stored n (object_in a))
 
 -- ---- messages
@@ -173,7 +193,7 @@ sent_super s name all = to_super s.sign (super_kind s name) (unwrap_or (option_a
 
 -- ---- expressions
 
--- An expression; a text is resolved with its call, and casts and parentheses vanish.
+-- An expression; a text is resolved with its call, and parentheses vanish.
 abbrev mutual
   pub resolved : Scope → ExprTree → Resolution
   resolved s (Integer at n suffixed) = Gives (literal_kind n suffixed) (Number n)
@@ -185,7 +205,7 @@ abbrev mutual
   resolved s (tree.Itself at) = Refers Itself
   resolved s (Name at name) = named (s.variables name) (own_field s name)
   resolved s (Unary at operator a) = unary operator (resolved s a)
-  resolved s (Cast at type a) = resolved s a
+  resolved s (Cast at type a) = cast (type_kind type) (resolved s a)
   resolved s (Binary at operator a b) = binary operator (resolved s a) (resolved s b)
   resolved s (Arrow at name_at a name) = field (object_in (resolved s a)) (s.known.field (class_of s a) name)
   resolved s (Assign at sign a b) = assigned s a (resolved s b)
@@ -213,22 +233,22 @@ abbrev pub evaluated : Resolution → Command
 evaluated (Gives kind a) = Evaluate a
 evaluated (Refers r) = EvaluateReference r
 
--- an expression's value, as an int
-abbrev pub as_int : Scope → ExprTree → Value
-as_int s a = int_in (resolved s a)
+-- an expression's value, as a number of a kind
+abbrev pub number_as : Kind → Scope → ExprTree → Value
+number_as kind s a = converted kind (resolved s a)
 
--- a value is put into an int
+-- a value is put into the variable of this number
 abbrev pub put : (n : ℕ) → Value → Command
 put n a = Evaluate (Assigned n a)
 
--- an int takes what is written, if something is (C99, section 6.7.8)
-abbrev pub initialized : Scope → (n : ℕ) → Option ExprTree → Commands → Commands
-initialized s n a others = option_map_or (λ e. and_command (put n (as_int s e)) others) a others
+-- a number of a kind takes what is written, if something is (C99, section 6.7.8)
+abbrev pub initialized : Kind → Scope → (n : ℕ) → Option ExprTree → Commands → Commands
+initialized kind s n a others = option_map_or (λ e. and_command (put n (number_as kind s e)) others) a others
 
--- An int begins anew, with 0, each time that its declaration runs (this project's own choice); then it takes its value. It is in scope where that is written,
+-- A number begins anew, with 0, each time that its declaration runs (this project's own choice); then it takes its value. It is in scope where that is written,
 -- and is 0 there (C99, section 6.2.1).
-abbrev pub begun_int : Scope → (n : ℕ) → Option ExprTree → Commands → Commands
-begun_int s n a others = and_command (put n (Number (pos 0))) (initialized s n a others)
+abbrev pub begun_number : Kind → Scope → (n : ℕ) → Option ExprTree → Commands → Commands
+begun_number kind s n a others = and_command (put n (Number (pos 0))) (initialized kind s n a others)
 
 -- A variable that names objects begins anew with nil, and then names what is written (ARC, "Ownership qualification"). No command is needed for the nil: its
 -- function begins with it, and each end of its block drops the variable.
@@ -237,7 +257,9 @@ begun_object s n a others = option_map_or (λ e. and_command (Begin n (object_in
 
 -- a declared variable, from the scope before it and the one after it
 abbrev pub declared : TypeTree → (before after : Scope) → Option ExprTree → Commands → Commands
-declared tree.Int before after a others = begun_int after before.next a others
+declared tree.Boolean before after a others = begun_number k.Bool after before.next a others
+declared tree.Int before after a others = begun_number k.Int after before.next a others
+declared tree.Long before after a others = begun_number k.Long after before.next a others
 declared _ before after a others = begun_object after before.names a others
 
 -- a declaration gives its variables their values in turn, each time that it runs
@@ -251,7 +273,7 @@ abbrev mutual
   resolved_stmt s (Block at all) = Sequence s.names ((behind_all s all).names - s.names) (resolved_stmts s all)
   resolved_stmt s (Empty at) = nothing
   resolved_stmt s (Simple a) = evaluated (resolved s a)
-  resolved_stmt s (tree.Return at a) = Return (option_map (as_int s) a)
+  resolved_stmt s (tree.Return at a) = Return (option_map (number_as s.result s) a)
   resolved_stmt s (Variables at type all) = Sequence 0 0 (resolved_variables type s all)
   resolved_stmt s (If at c a) = Choose (number_in (resolved s c)) (resolved_stmt s a) nothing
   resolved_stmt s (IfElse at c a b) = Choose (number_in (resolved s c)) (resolved_stmt s a) (resolved_stmt (leave s (behind s a)) b)
@@ -267,10 +289,10 @@ resolved_body s body = record { slots = (behind_all s body).next; names = (behin
 
 -- a function, if it has a body
 abbrev pub resolved_function : Known → FunctionTree → Option Function
-resolved_function known f = option_map (resolved_body (with_parameters (outermost known) (named_parameters f.parameters))) f.body
+resolved_function known f = option_map (resolved_body (with_parameters (outermost known (types.result_kind f.result)) (named_parameters f.parameters))) f.body
 
 abbrev pub resolved_method : Known → (class : Option ℕ) → MethodTree → Function
-resolved_method known class m = resolved_body (with_parameters (in_method known class m.head.sign) m.head.parameters) m.body
+resolved_method known class m = resolved_body (with_parameters (in_method known class m.head.sign (types.result_kind m.head.result)) m.head.parameters) m.body
 
 abbrev pub resolved_methods : Known → ImplementationTree → List Function
 resolved_methods known i = map (resolved_method known (known.class i.name)) i.methods

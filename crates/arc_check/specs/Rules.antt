@@ -54,8 +54,9 @@ call_rule Unknown arguments kinds = Some 41
 abbrev pub kind_if : Bool → Kind → Option Kind
 kind_if so kind = if so then Some kind else None
 
--- the kind of an operand with which an operator computes: none, where it is no number
+-- the kind in which an operator computes with an operand: int for a BOOL (C99, section 6.3.1.1), and none, where it is no number
 abbrev pub number_kind : Option Kind → Option Kind
+number_kind (Some k.Bool) = Some k.Int
 number_kind (Some k.Int) = Some k.Int
 number_kind (Some k.Long) = Some k.Long
 number_kind _ = None
@@ -64,7 +65,7 @@ number_kind _ = None
 abbrev pub both_kinds : Option Kind → Option Kind → Option Kind
 both_kinds a b = option_and_then (λ one. option_map (wider one) b) a
 
--- the kind of what an operator before its operand gives: `!` gives an int, the others a number of their operand's kind (C99, section 6.5.3.3)
+-- the kind of what an operator before its operand gives: `!` gives an int, the others a number of the kind in which their operand computes (C99, section 6.5.3.3)
 abbrev pub unary_kind : UnaryOperator → Option Kind → Option Kind
 unary_kind u.Not a = Some k.Int
 unary_kind _ a = number_kind a
@@ -81,14 +82,14 @@ abbrev pub is_object : Option Kind → Bool
 is_object (Some k.Object) = true
 is_object _ = false
 
--- fields are ints
+-- the kind of a field that may be named
 abbrev pub field_kind : Scope → Option FoundField → Option Kind
-field_kind s = option_and_then (λ f. kind_if (is_visible s f) k.Int)
+field_kind s = option_and_then (λ f. kind_if (is_visible s f) f.kind)
 
 -- the kind of what a name means: a variable, or else a field of `self`
 abbrev pub name_kind : Scope → Option Local → List ℕ → Option Kind
 name_kind s None name = field_kind s (own_field s name)
-name_kind s (Some (scopes.Int n)) name = Some k.Int
+name_kind s (Some (scopes.Number kind n)) name = Some kind
 name_kind s (Some (scopes.Object n class)) name = Some k.Object
 
 -- the kind of a field of an expression of a kind, which has to be an object
@@ -119,7 +120,7 @@ abbrev mutual
   kind_of s (Itself at) = kind_if (is_some (own_class s)) k.Object
   kind_of s (Name at name) = name_kind s (s.variables name) name
   kind_of s (Unary at operator a) = unary_kind operator (kind_of s a)
-  kind_of s (Cast at type a) = Some k.Object
+  kind_of s (Cast at type a) = Some (type_kind type)
   kind_of s (Binary at operator a b) = binary_kind (sort_of operator) (kind_of s a) (kind_of s b)
   kind_of s (Arrow at name_at a name) = arrow_kind s (kind_of s a) (s.known.field (class_of s a) name)
   kind_of s (Assign at sign a b) = if is_assignable a then kind_of s a else None
@@ -147,7 +148,8 @@ no_number kind at = broken_if (is_nothing kind || is_object kind) at 43
 abbrev pub no_object : Option Kind → ℕ → List Broken
 no_object kind at = broken_if (is_some kind && not (is_object kind)) at 43
 
--- An object is assigned to what names objects, and a number to an int (C99, section 6.5.16.1).
+-- An object is assigned to what names objects, and a number to any number (C99, section 6.5.16.1); the same goes for what is cast (section 6.5.4, and OPL, "Static
+-- Typing").
 abbrev pub no_such : (wanted given : Option Kind) → ℕ → List Broken
 no_such wanted given at = if is_none wanted then [] else if is_object wanted then no_object given at else no_number given at
 
@@ -201,7 +203,7 @@ abbrev mutual
   broken s (Itself at) = broken_itself s at
   broken s (Name at name) = broken_name s (s.variables name) name at
   broken s (Unary at operator a) = broken s a ++ no_operand operator (kind_of s a) (place a)
-  broken s (Cast at type a) = broken s a ++ no_object (kind_of s a) (place a)
+  broken s (Cast at type a) = broken s a ++ no_such (Some (type_kind type)) (kind_of s a) (place a)
   broken s (Binary at operator a b) =
       (broken s a ++ no_left (sort_of operator) (kind_of s a) (place a)) ++ (broken s b ++ no_right (sort_of operator) (kind_of s a) (kind_of s b) (place b))
   broken s (Arrow at name_at a name) =
@@ -228,7 +230,7 @@ at_if so at = if so then at ∷ [] else []
 -- a name reads the variable that it means, or `self`, whose field it means
 abbrev pub name_takes : Scope → Option Local → List ℕ → Bool
 name_takes s None name = is_some (own_field s name)
-name_takes s (Some (scopes.Int n)) name = false
+name_takes s (Some (scopes.Number kind n)) name = false
 name_takes s (Some (scopes.Object n class)) name = true
 
 -- whether an assignment's left side is a variable or `self`, which it doesn't read
@@ -314,15 +316,15 @@ abbrev mutual
   broken_stmts gives_nothing s (and_stmt a others) = broken_stmt gives_nothing s a ++ broken_stmts gives_nothing (behind s a) others
 
 -- the parameters of a mere declaration are counted alone
-abbrev pub broken_body : (gives_nothing : Bool) → Known → List ParameterTree → Option StmtTrees → List Broken
-broken_body gives_nothing known parameters None = []
-broken_body gives_nothing known parameters (Some body) =
-    broken_parameters (outermost known) parameters ++ broken_stmts gives_nothing (with_parameters (outermost known) parameters) body
+abbrev pub broken_body : (result : Kind) → Known → List ParameterTree → Option StmtTrees → List Broken
+broken_body result known parameters None = []
+broken_body result known parameters (Some body) =
+    broken_parameters (outermost known result) parameters ++ broken_stmts (is_nothing (Some result)) (with_parameters (outermost known result) parameters) body
 
 -- 45 ArgumentCount too: a function with more parameters than are allowed, at its name (this project's own choice)
 abbrev pub broken_function : Known → FunctionTree → List Broken
 broken_function known f =
-    broken_if (nat_lt MOST_PARAMETERS (length (named_parameters f.parameters))) f.at 45 ++ broken_body (is_nothing (Some (types.result_kind f.result))) known (named_parameters f.parameters) f.body
+    broken_if (nat_lt MOST_PARAMETERS (length (named_parameters f.parameters))) f.at 45 ++ broken_body (types.result_kind f.result) known (named_parameters f.parameters) f.body
 
 -- 45 ArgumentCount too: a method with more parameters, declared or defined, at its sign
 abbrev pub broken_head : HeadTree → List Broken
@@ -333,8 +335,8 @@ broken_interface i = flat_map broken_head i.methods
 
 abbrev pub broken_method : Known → (class : Option ℕ) → MethodTree → List Broken
 broken_method known class m = broken_head m.head
-    ++ (broken_parameters (in_method known class m.head.sign) m.head.parameters
-    ++ broken_stmts (is_nothing (Some (types.result_kind m.head.result))) (with_parameters (in_method known class m.head.sign) m.head.parameters) m.body)
+    ++ (broken_parameters (in_method known class m.head.sign (types.result_kind m.head.result)) m.head.parameters
+    ++ broken_stmts (is_nothing (Some (types.result_kind m.head.result))) (with_parameters (in_method known class m.head.sign (types.result_kind m.head.result)) m.head.parameters) m.body)
 
 abbrev pub broken_implementation : Known → ImplementationTree → List Broken
 broken_implementation known i = flat_map (broken_method known (known.class i.name)) i.methods

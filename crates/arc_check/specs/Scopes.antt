@@ -30,18 +30,20 @@ pub record Known : Type 0 where
   pub selector : List ℕ → Option ℕ
   pub field : Option ℕ → List ℕ → Option FoundField
 
--- A variable: an int, by its number among the ints of its function, or one that names objects, by its number among those, and with its static class, of which
--- `id` has none (OPL, "Static Typing").
+-- A variable: a number of a kind, by its number among those of its function, or one that names objects, by its number among these, and with its static class, of
+-- which `id` has none (OPL, "Static Typing").
 pub data Local : Type 0 where
-  Int : ℕ → Local
+  Number : Kind → ℕ → Local
   Object : ℕ → (class : Option ℕ) → Local
 
--- What names mean at a place: what is known of the source; the class in whose method the place is, if it is in one, and the method's sign; how many ints come
--- before all others, which is one in a class method, `self`; the variables in scope; and the numbers that the next int and the next name of objects get.
+-- What names mean at a place: what is known of the source; the class in whose method the place is, if it is in one, and the method's sign; the kind of what the
+-- function or the method gives; how many numbers come before all others, which is one in a class method, `self`; the variables in scope; and the numbers that
+-- the next number and the next name of objects get.
 pub record Scope : Type 0 where
   pub known : Known
   pub class : Option ℕ
   pub sign : Sign
+  pub result : Kind
   pub hidden : ℕ
   pub variables : List ℕ → Option Local
   pub next : ℕ
@@ -58,8 +60,8 @@ is_full s = not (has_place s)
 abbrev pub bound : List ℕ → Local → (List ℕ → Option Local) → List ℕ → Option Local
 bound one local variables name = if bytes_eq one name then Some local else variables name
 
-abbrev pub with_int : List ℕ → Scope → Scope
-with_int name s = record s { variables = bound name (Int s.next) s.variables; next = suc s.next }
+abbrev pub with_number : List ℕ → Kind → Scope → Scope
+with_number name kind s = record s { variables = bound name (Number kind s.next) s.variables; next = suc s.next }
 
 abbrev pub with_object : List ℕ → (class : Option ℕ) → Scope → Scope
 with_object name class s = record s { variables = bound name (Object s.names class) s.variables; names = suc s.names }
@@ -70,7 +72,9 @@ static_class known (tree.Object at name) = known.class name
 static_class known _ = None
 
 abbrev pub with_variable : List ℕ → TypeTree → Scope → Scope
-with_variable name tree.Int s = with_int name s
+with_variable name tree.Boolean s = with_number name k.Bool s
+with_variable name tree.Int s = with_number name k.Int s
+with_variable name tree.Long s = with_number name k.Long s
 with_variable name tree.Id s = with_object name None s
 with_variable name (tree.Object at class) s = with_object name (s.known.class class) s
 
@@ -104,18 +108,18 @@ abbrev mutual
   behind_all s no_stmts = s
   behind_all s (and_stmt a others) = behind_all (behind s a) others
 
--- before the parameters of a function (C99, section 6.9.1)
-abbrev pub outermost : Known → Scope
-outermost known = record { known = known; class = None; sign = signs.Class; hidden = 0; variables = λ name. None; next = 0; names = 0 }
+-- before the parameters of a function that gives a value of a kind (C99, section 6.9.1)
+abbrev pub outermost : Known → (result : Kind) → Scope
+outermost known result = record { known = known; class = None; sign = signs.Class; result = result; hidden = 0; variables = λ name. None; next = 0; names = 0 }
 
--- the first int of a class method is `self`
+-- the first number of a class method is `self`
 abbrev pub hidden_in : Sign → ℕ
 hidden_in sign = if same_sign sign signs.Class then 1 else 0
 
 -- before the parameters of a method of a class
-abbrev pub in_method : Known → Option ℕ → Sign → Scope
-in_method known class sign =
-    record { known = known; class = class; sign = sign; hidden = hidden_in sign; variables = λ name. None; next = hidden_in sign; names = 0 }
+abbrev pub in_method : Known → Option ℕ → Sign → (result : Kind) → Scope
+in_method known class sign result =
+    record { known = known; class = class; sign = sign; result = result; hidden = hidden_in sign; variables = λ name. None; next = hidden_in sign; names = 0 }
 
 -- ---- functions
 
@@ -216,7 +220,7 @@ super_class s selector = if_class (if same_sign s.sign signs.Class then makes se
 
 abbrev pub local_class : Option Local → Option ℕ
 local_class None = None
-local_class (Some (Int n)) = None
+local_class (Some (Number kind n)) = None
 local_class (Some (Object n class)) = class
 
 -- The static class of an expression; what has none, or gives no object, is as `id`.

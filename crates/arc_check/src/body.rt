@@ -242,21 +242,22 @@ pub fn inside<'a>(
     Ok(earlier(fault, statements(table, gives_nothing, &mut visible, all)?))
 }
 
-/// The first rule that is broken in a function's body.
+/// The first rule that is broken in the body of a function that gives a value of the kind.
 fn body<'a>(
     alloc: Global,
     table: &ClassTable<'a>,
-    gives_nothing: bool,
+    gives: Kind,
     named: &'a [Parameter],
     all: &'a Option<Vec<Stmt>>,
 ) -> Result<Option<CheckFault>, AllocError>
     ensures { IfOk result (λ fault. option_map told fault
-        ≡ first (broken_body gives_nothing (known_in table.now) (parameter_trees named.now) (option_map (λ b. stmt_trees b.items) all.now))) }
+        ≡ first (broken_body gives (known_in table.now) (parameter_trees named.now) (option_map (λ b. stmt_trees b.items) all.now))) }
 {
     let Some(all) = all else {
         return Ok(None);
     };
-    inside(table, gives_nothing, Visible::new(alloc), named, all)
+    let visible = Visible::new(alloc, gives);
+    inside(table, is_void(gives), visible, named, all)
 }
 
 /// The first rule that is broken in a function.
@@ -269,8 +270,8 @@ fn function<'a>(
 {
     let named = named_parameters(&function.parameters);
     let own = count_fault(function.at, named.len());
-    let gives_nothing = is_void(function.result.kind());
-    let inside = body(alloc, table, gives_nothing, named, &function.body)?;
+    let gives = function.result.kind();
+    let inside = body(alloc, table, gives, named, &function.body)?;
     Ok(earlier(own, inside))
 }
 

@@ -69,7 +69,7 @@ pub fn field_kind(table: &ClassTable, visible: &Visible, found: Option<FoundFiel
         None => None,
         Some(field) => {
             if is_visible(table, visible, field) {
-                Some(Kind::Int)
+                Some(field.kind)
             } else {
                 None
             }

@@ -103,7 +103,7 @@ fn suits(wanted: Kind, kind: Kind) -> bool
 {
     matches!(
         (wanted, kind),
-        (Kind::Int, Kind::Int) | (Kind::Long, Kind::Long)
+        (Kind::Int, Kind::Bool | Kind::Int) | (Kind::Long, Kind::Long)
     )
 }
 

@@ -156,7 +156,7 @@ fn judge_name<'a>(
     ensures { Judges (seen table.now visible.now) before (Name at name.now) result }
 {
     match visible.local(name) {
-        Some(Local::Int(_)) => number(Some(Kind::Int), None, before),
+        Some(Local::Number(kind, _)) => number(Some(kind), None, before),
         Some(Local::Object(_, class)) => object(class, None, before.one_if(true, at)),
         None => judge_own_field(table, visible, before, at, own_field(table, visible, name)),
     }
@@ -242,11 +242,13 @@ fn judge_cast<'a>(
     ensures { (at : ℕ) → Judges (seen table.now visible.now) before (Cast at (type_tree type_name.now) (expr_tree operand.now)) result }
 {
     let judged = judge(table, visible, before, operand);
-    object(
-        static_class(table, type_name),
-        earlier(judged.fault, no_object(judged.kind, place(operand))),
-        judged.taken,
-    )
+    let kind = Some(type_name.kind());
+    Judged {
+        kind,
+        class: static_class(table, type_name),
+        fault: earlier(judged.fault, no_such(kind, judged.kind, place(operand))),
+        taken: judged.taken,
+    }
 }
 
 /// The judgement on a field, from the expression that gives its object.

@@ -17,7 +17,7 @@ pub fn static_class<'a>(table: &ClassTable<'a>, type_name: &'a TypeName) -> Opti
     ensures { option_map number_of_class result ≡ scopes.static_class (known_in table.now) (type_tree type_name.now) }
 {
     match type_name {
-        TypeName::Int | TypeName::Id => None,
+        TypeName::Bool | TypeName::Int | TypeName::Long | TypeName::Id => None,
         TypeName::Object(_, class) => table.objc_get_class(class),
     }
 }

@@ -55,11 +55,11 @@ fn method<'a>(
     ensures { IfOk result (λ fault. option_map told fault
         ≡ first (broken_method (known_in table.now) (option_map number_of_class class) (method_tree method.now))) }
 {
-    let gives_nothing = is_void(method.head.result.kind());
-    let visible = Visible::in_method(alloc, class, method.head.sign);
+    let gives = method.head.result.kind();
+    let visible = Visible::in_method(alloc, class, method.head.sign, gives);
     let inside = inside(
         table,
-        gives_nothing,
+        is_void(gives),
         visible,
         &method.head.parameters,
         &method.body,

@@ -8,38 +8,40 @@ ghost use Rattle.arc_spec.specs.Resolved as spec;
 ghost use Rattle.arc_check.specs.private.Building.{ahead_of, function_of, functions_ahead, resolution};
 ghost use Rattle.arc_check.specs.Checked as checked;
 ghost use Rattle.arc_check.specs.Resolving as resolving;
-ghost use Rattle.arc_check.specs.Resolving.{as_int, resolved_variables, resolved_stmt, resolved_stmts, resolved_body, resolved_function, resolved_method, resolved_methods};
+ghost use Rattle.arc_check.specs.Resolving.{number_as, resolved_variables, resolved_stmt, resolved_stmts, resolved_body, resolved_function, resolved_method, resolved_methods};
 ghost use Rattle.arc_check.specs.Scopes.{declare, leave, behind, behind_all, with_parameters, with_variables};
 ghost use Rattle.arc_check.specs.private.Views.{known_in, seen};
 
 use crate::body::named_parameters;
 use crate::checked::{CheckedFunction, Command, Value};
 use crate::resolution::{Resolution, number_in};
-use crate::resolve::{expression, int, object};
+use crate::resolve::{expression, number_as, object};
 use crate::scope::Visible;
-use arc_ast::tree::{Expr, Function, Implementation, Method, Parameter, Stmt, TypeName, Variable};
+use arc_ast::tree::{
+    Expr, Function, Implementation, Kind, Method, Parameter, Stmt, TypeName, Variable,
+};
 use arc_class::table::{ClassId, ClassTable};
 use std::alloc::{AllocError, Global};
 
-/// A resolved return, of an int where it gives something.
+/// A resolved return, of a number of the function's kind where it gives something.
 fn returned<'a>(
     alloc: Global,
     table: &ClassTable<'a>,
     visible: &Visible<'a>,
     expr: &'a Option<Expr>,
 ) -> Result<Command, AllocError>
-    ensures { IfOk result (λ new. checked.command new ≡ spec.Return (option_map (as_int (seen table.now visible.now)) (option_map expr_tree expr.now))) }
+    ensures { IfOk result (λ new. checked.command new ≡ spec.Return (option_map (number_as visible.now.result (seen table.now visible.now)) (option_map expr_tree expr.now))) }
 {
     match expr {
         None => Ok(Command::Return(None)),
         Some(expr) => {
-            let value = int(alloc, table, visible, expr)?;
+            let value = number_as(alloc, table, visible, visible.result, expr)?;
             Ok(Command::Return(Some(value)))
         }
     }
 }
 
-/// The command that puts the value into the int of the number.
+/// The command that puts the value into the variable of the number.
 fn put(alloc: Global, number: u16, value: Value) -> Result<Command, AllocError>
     ensures { IfOk result (λ new. checked.command new ≡ resolving.put number (checked.value value)) }
 {
@@ -47,21 +49,22 @@ fn put(alloc: Global, number: u16, value: Value) -> Result<Command, AllocError>
     Ok(Command::Evaluate(Value::Assigned(usize::from(number), value)))
 }
 
-/// Appends what a declaration of the int of the number runs: it begins at 0, and then takes its value.
-fn add_int<'a>(
+/// Appends what a declaration of the variable of the number runs, which is a number of the kind: it begins at 0, and then takes its value.
+fn add_number<'a>(
     alloc: Global,
     table: &ClassTable<'a>,
     visible: &Visible<'a>,
+    kind: Kind,
     number: u16,
     expr: &'a Option<Expr>,
     all: &mut Vec<Command>,
 ) -> Result<(), AllocError>
     ensures { OnOk result ((others : spec.Commands) → ahead_of all.new.items others
-        ≡ ahead_of all.old.items (resolving.begun_int (seen table.now visible.now) number (option_map expr_tree expr.now) others)) }
+        ≡ ahead_of all.old.items (resolving.begun_number kind (seen table.now visible.now) number (option_map expr_tree expr.now) others)) }
 {
     all.push(put(alloc, number, Value::Number(0))?)?;
     if let Some(expr) = expr {
-        let value = int(alloc, table, visible, expr)?;
+        let value = number_as(alloc, table, visible, kind, expr)?;
         all.push(put(alloc, number, value)?)?;
     }
     Ok(())
@@ -104,7 +107,9 @@ fn add_variable<'a>(
     visible.declare(table, type_name, &variable.name)?;
     let initial = &variable.initial;
     match type_name {
-        TypeName::Int => add_int(alloc, table, visible, next, initial, all),
+        TypeName::Bool => add_number(alloc, table, visible, Kind::Bool, next, initial, all),
+        TypeName::Int => add_number(alloc, table, visible, Kind::Int, next, initial, all),
+        TypeName::Long => add_number(alloc, table, visible, Kind::Long, next, initial, all),
         TypeName::Id | TypeName::Object(_, _) => {
             add_object(alloc, table, visible, names, initial, all)
         }
@@ -369,7 +374,8 @@ pub fn functions<'a>(
     for one in declared {
         if let Some(body) = &one.body {
             let named = named_parameters(&one.parameters);
-            all.push(function(alloc, table, Visible::new(alloc), named, body)?)?;
+            let visible = Visible::new(alloc, one.result.kind());
+            all.push(function(alloc, table, visible, named, body)?)?;
         }
     }
     Ok(all)
@@ -387,7 +393,8 @@ fn add_methods<'a>(
         ≡ functions_ahead all.old.items (map (resolved_method (known_in table.now) (option_map number_of_class class)) (method_trees methods.now) ++ others)) }
 {
     for one in methods {
-        let visible = Visible::in_method(alloc, class, one.head.sign);
+        let gives = one.head.result.kind();
+        let visible = Visible::in_method(alloc, class, one.head.sign, gives);
         all.push(function(alloc, table, visible, &one.head.parameters, &one.body)?)?;
     }
     Ok(())

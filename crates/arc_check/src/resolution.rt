@@ -81,7 +81,9 @@ fn as_kind(
     ensures { IfOk result (λ new. checked.value new.value ≡ resolving.as_kind wanted kind (checked.value value.value)) }
 {
     match (wanted, kind) {
-        (Kind::Long, Kind::Int) | (Kind::Int, Kind::Long) => {
+        (Kind::Long, Kind::Bool | Kind::Int)
+        | (Kind::Int, Kind::Bool | Kind::Long)
+        | (Kind::Bool, Kind::Int | Kind::Long) => {
             Ok(Box::new(alloc, Value::Converted(wanted, value))?)
         }
         _ => Ok(value),
@@ -117,7 +119,19 @@ fn given_kind(sort: OperatorSort, kind: Kind) -> Kind
     }
 }
 
-/// The kind of what an operator before an operand of this kind gives.
+/// The kind in which an operator before an operand of this kind computes.
+fn unary_computing(operator: UnaryOperator, kind: Kind) -> Kind
+    ensures { result ≡ resolving.unary_computing operator kind }
+{
+    match operator {
+        UnaryOperator::Not => kind,
+        UnaryOperator::Plus | UnaryOperator::Negate | UnaryOperator::Complement => {
+            wider(kind, Kind::Int)
+        }
+    }
+}
+
+/// The kind of what an operator before its operand gives that computes in this kind.
 fn unary_given(operator: UnaryOperator, kind: Kind) -> Kind
     ensures { result ≡ resolving.unary_given operator kind }
 {
@@ -125,6 +139,20 @@ fn unary_given(operator: UnaryOperator, kind: Kind) -> Kind
         UnaryOperator::Not => Kind::Int,
         UnaryOperator::Plus | UnaryOperator::Negate | UnaryOperator::Complement => kind,
     }
+}
+
+/// An expression of an operator before its operand, which becomes a number of the kind.
+fn applied(
+    alloc: Global,
+    operator: UnaryOperator,
+    kind: Kind,
+    of: Resolution,
+) -> Result<Resolution, AllocError>
+    ensures { IfOk result (λ new. resolution new ≡ resolving.applied operator kind (resolution of)) }
+{
+    let value = converted(alloc, kind, of)?;
+    let given_kind = unary_given(operator, kind);
+    given(alloc, given_kind, Value::Applied(operator, kind, value))
 }
 
 /// An expression of an operator before its operand.
@@ -135,13 +163,20 @@ pub fn unary(
 ) -> Result<Resolution, AllocError>
     ensures { IfOk result (λ new. resolution new ≡ resolving.unary operator (resolution of)) }
 {
-    let kind = kind_in(&of);
-    let value = number_in(alloc, of)?;
-    given(
-        alloc,
-        unary_given(operator, kind),
-        Value::Applied(operator, kind, value),
-    )
+    let kind = unary_computing(operator, kind_in(&of));
+    applied(alloc, operator, kind, of)
+}
+
+/// A cast to a type of the kind.
+pub fn cast(alloc: Global, kind: Kind, of: Resolution) -> Result<Resolution, AllocError>
+    ensures { IfOk result (λ new. resolution new ≡ resolving.cast kind (resolution of)) }
+{
+    match kind {
+        Kind::Object => Ok(of),
+        Kind::Void | Kind::Bool | Kind::Int | Kind::Long => {
+            Ok(Resolution::Gives(kind, converted(alloc, kind, of)?))
+        }
+    }
 }
 
 /// An operator's expression that computes in the kind, from its operands.
@@ -263,7 +298,7 @@ pub fn field(
     };
     let object = Box::new(alloc, object)?;
     let value = Value::Field(object, field.owner.0, field.index);
-    given(alloc, Kind::Int, value)
+    given(alloc, field.kind, value)
 }
 
 /// An assignment to the field of the object.
@@ -278,10 +313,10 @@ pub fn field_assigned(
     let Some(field) = found else {
         return Ok(of);
     };
-    let value = converted(alloc, Kind::Int, of)?;
+    let value = converted(alloc, field.kind, of)?;
     let object = Box::new(alloc, object)?;
     let value = Value::FieldAssigned(object, field.owner.0, field.index, value);
-    given(alloc, Kind::Int, value)
+    given(alloc, field.kind, value)
 }
 
 /// What a name means: the variable, or else the field of `self`.
@@ -294,7 +329,7 @@ pub fn named(
 {
     match local {
         None => field(alloc, Reference::Itself, own),
-        Some(Local::Int(number)) => given(alloc, Kind::Int, Value::Local(number)),
+        Some(Local::Number(kind, number)) => given(alloc, kind, Value::Local(number)),
         Some(Local::Object(number, _)) => Ok(Resolution::Refers(Reference::Variable(number))),
     }
 }
@@ -310,9 +345,9 @@ pub fn name_assigned(
 {
     match local {
         None => field_assigned(alloc, Reference::Itself, own, of),
-        Some(Local::Int(number)) => {
-            let value = converted(alloc, Kind::Int, of)?;
-            given(alloc, Kind::Int, Value::Assigned(number, value))
+        Some(Local::Number(kind, number)) => {
+            let value = converted(alloc, kind, of)?;
+            given(alloc, kind, Value::Assigned(number, value))
         }
         Some(Local::Object(number, _)) => {
             let object = Box::new(alloc, object_in(of))?;

@@ -5,7 +5,7 @@ ghost use Rattle.arc_class.specs.Table.{number_of_class};
 ghost use Rattle.arc_check.specs.private.Building.{Resolves, printing, resolution};
 ghost use Rattle.arc_check.specs.Checked as checked;
 ghost use Rattle.arc_check.specs.Resolving as resolving;
-ghost use Rattle.arc_check.specs.Resolving.{as_int, resolved, resolved_all};
+ghost use Rattle.arc_check.specs.Resolving.{number_as, resolved, resolved_all};
 ghost use Rattle.arc_check.specs.Scopes as scopes;
 ghost use Rattle.arc_check.specs.declared.scope.Visible.{Visible};
 ghost use Rattle.arc_check.specs.private.Views.{local_of, seen};
@@ -18,9 +18,9 @@ use crate::message::{
     above, class_receiver, sent_class, sent_kind, static_class, super_class, super_kind,
 };
 use crate::resolution::{
-    Resolution, Typed, binary, class_number, class_value, converted, field, field_assigned, given,
-    name_assigned, named, number, number_in, object_in, selector_number, to_class, to_object,
-    to_super, unary,
+    Resolution, Typed, binary, cast as cast_to, class_number, class_value, converted, field,
+    field_assigned, given, name_assigned, named, number, number_in, object_in, selector_number,
+    to_class, to_object, to_super, unary,
 };
 use crate::rule::literal_kind;
 use crate::scope::{Local, Visible};
@@ -133,9 +133,10 @@ fn cast<'a>(
     ensures { IfOk result (λ typed. (at : ℕ) → Resolves (seen table.now visible.now) (Cast at (type_tree type_name.now) (expr_tree operand.now)) typed) }
 {
     let operand = expression(alloc, table, visible, operand)?;
+    let value = cast_to(alloc, type_name.kind(), operand.value)?;
     Ok(Typed {
         class: static_class(table, type_name),
-        value: operand.value,
+        value,
     })
 }
 
@@ -194,7 +195,7 @@ fn local_class(local: Option<Local>) -> Option<ClassId>
     ensures { option_map number_of_class result ≡ scopes.local_class (option_map local_of local) }
 {
     match local {
-        None | Some(Local::Int(_)) => None,
+        None | Some(Local::Number(_, _)) => None,
         Some(Local::Object(_, class)) => class,
     }
 }
@@ -276,17 +277,18 @@ fn assigned<'a>(
     }
 }
 
-/// The resolved expression, as an int.
-pub fn int<'a>(
+/// The resolved expression, as a number of the kind.
+pub fn number_as<'a>(
     alloc: Global,
     table: &ClassTable<'a>,
     visible: &Visible<'a>,
+    kind: Kind,
     expr: &'a Expr,
 ) -> Result<Value, AllocError>
-    ensures { IfOk result (λ value. checked.value value ≡ as_int (seen table.now visible.now) (expr_tree expr.now)) }
+    ensures { IfOk result (λ value. checked.value value ≡ number_as kind (seen table.now visible.now) (expr_tree expr.now)) }
 {
     let typed = expression(alloc, table, visible, expr)?;
-    let value = converted(alloc, Kind::Int, typed.value)?;
+    let value = converted(alloc, kind, typed.value)?;
     Ok(Box::into_inner(value))
 }
 

@@ -93,12 +93,12 @@ pub fn is_object(kind: Option<Kind>) -> bool
     matches!(kind, Some(Kind::Object))
 }
 
-/// The kind of an operand with which an operator computes.
+/// The kind in which an operator computes with an operand.
 pub fn number_kind(kind: Option<Kind>) -> Option<Kind>
     ensures { result ≡ number_kind kind }
 {
     match kind {
-        Some(Kind::Int) => Some(Kind::Int),
+        Some(Kind::Bool | Kind::Int) => Some(Kind::Int),
         Some(Kind::Long) => Some(Kind::Long),
         _ => None,
     }
@@ -167,7 +167,7 @@ pub fn no_object(kind: Option<Kind>, at: usize) -> Option<CheckFault>
     }
 }
 
-/// The rule that an expression of a kind breaks which is assigned to what holds the wanted one.
+/// The rule that an expression of a kind breaks which is assigned to what holds the wanted one, or cast to it.
 pub fn no_such(wanted: Option<Kind>, given: Option<Kind>, at: usize) -> Option<CheckFault>
     ensures { option_map told result ≡ first (rules.no_such wanted given at) }
 {

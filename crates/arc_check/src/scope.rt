@@ -2,18 +2,19 @@
 ghost use Rattle.std.specs.Prelude.{◌≡◌, ◌+◌, ◌<◌, true, option_map, OnOk, take, length, if◌then◌else◌};
 ghost use Rattle.arc_class.specs.declared.table.ClassTable.{ClassTable};
 ghost use Rattle.arc_class.specs.Table.{number_of_class};
-ghost use Rattle.arc_ast.specs.Tree.{Int, type_tree, parameter_trees};
+ghost use Rattle.arc_ast.specs.Tree.{type_tree, parameter_trees};
 ghost use Rattle.arc_check.specs.Scopes as scopes;
 ghost use Rattle.arc_check.specs.private.Views.{local_of, local_in, known_in, seen};
 
-use arc_ast::tree::{Parameter, Sign, TypeName};
+use arc_ast::tree::{Kind, Parameter, Sign, TypeName};
 use arc_class::table::{ClassId, ClassTable};
 use std::alloc::{AllocError, Global};
 
 /// A variable, by its number among those of its sort in its function.
 #[derive(Clone, Copy)]
 pub enum Local {
-    Int(usize),
+    /// A number of a kind.
+    Number(Kind, usize),
     /// One that names objects, with its static class, of which `id` has none.
     Object(usize, Option<ClassId>),
 }
@@ -35,23 +36,26 @@ pub struct Visible<'a> {
     pub class: Option<ClassId>,
     /// The sign of that method.
     pub sign: Sign,
-    /// How many ints without a name come before all others: 1 in a class method, `self`, and else 0.
+    /// The kind of what the function or the method gives.
+    pub result: Kind,
+    /// How many numbers without a name come before all others: 1 in a class method, `self`, and else 0.
     pub hidden: u8,
     pub bound: Vec<Bound<'a>>,
-    /// The number that the next int gets.
+    /// The number that the next variable gets that is a number.
     pub next: u16,
     /// The number that the next variable gets that names objects.
     pub names: u16,
 }
 
 impl<'a> Visible<'a> {
-    /// Before the parameters of a function.
-    pub fn new(alloc: Global) -> Visible<'a>
-        ensures { (table : ClassTable) → seen table result ≡ scopes.outermost (known_in table) }
+    /// Before the parameters of a function that gives a value of the kind.
+    pub fn new(alloc: Global, gives: Kind) -> Visible<'a>
+        ensures { (table : ClassTable) → seen table result ≡ scopes.outermost (known_in table) gives }
     {
         Visible {
             class: None,
             sign: Sign::Class,
+            result: gives,
             hidden: 0,
             bound: Vec::new(alloc),
             next: 0,
@@ -59,14 +63,15 @@ impl<'a> Visible<'a> {
         }
     }
 
-    /// Before the parameters of a method of the class; the first int of a class method is `self`.
-    pub fn in_method(alloc: Global, class: Option<ClassId>, sign: Sign) -> Visible<'a>
-        ensures { (table : ClassTable) → seen table result ≡ scopes.in_method (known_in table) (option_map number_of_class class) sign }
+    /// Before the parameters of a method of the class that gives a value of the kind; the first number of a class method is `self`.
+    pub fn in_method(alloc: Global, class: Option<ClassId>, sign: Sign, gives: Kind) -> Visible<'a>
+        ensures { (table : ClassTable) → seen table result ≡ scopes.in_method (known_in table) (option_map number_of_class class) sign gives }
     {
         let hidden = hidden_in(sign);
         Visible {
             class,
             sign,
+            result: gives,
             hidden,
             bound: Vec::new(alloc),
             next: u16::from(hidden),
@@ -124,15 +129,16 @@ impl<'a> Visible<'a> {
         local
     }
 
-    /// An int more.
-    fn declare_int(&mut self, name: &'a [u8]) -> Result<(), AllocError>
-        ensures scope { OnOk result ((table : ClassTable) → seen table self.new ≡ scopes.declare name.now Int (seen table self.old)) }
+    /// A number of the kind more.
+    fn declare_number(&mut self, name: &'a [u8], kind: Kind) -> Result<(), AllocError>
+        ensures scope { OnOk result ((table : ClassTable) → seen table self.new
+            ≡ (if scopes.has_place (seen table self.old) then scopes.with_number name.now kind (seen table self.old) else seen table self.old)) }
         ensures keeps { OnOk result (take (length self.old.bound.items) self.new.bound.items ≡ self.old.bound.items) }
     {
         if self.has_place() {
             self.bound.push(Bound {
                 name,
-                local: Local::Int(usize::from(self.next)),
+                local: Local::Number(kind, usize::from(self.next)),
             })?;
             self.next += 1;
         }
@@ -166,7 +172,9 @@ impl<'a> Visible<'a> {
         ensures keeps { OnOk result (take (length self.old.bound.items) self.new.bound.items ≡ self.old.bound.items) }
     {
         match type_name {
-            TypeName::Int => self.declare_int(name),
+            TypeName::Bool => self.declare_number(name, Kind::Bool),
+            TypeName::Int => self.declare_number(name, Kind::Int),
+            TypeName::Long => self.declare_number(name, Kind::Long),
             TypeName::Id => self.declare_object(name, None),
             TypeName::Object(_, class) => self.declare_object(name, table.objc_get_class(class)),
         }
@@ -193,13 +201,14 @@ impl<'a> Visible<'a> {
         ensures names { self.new.names ≡ self.old.names }
         ensures class { self.new.class ≡ self.old.class }
         ensures sign { self.new.sign ≡ self.old.sign }
+        ensures gives { self.new.result ≡ self.old.result }
         ensures hidden { self.new.hidden ≡ self.old.hidden }
     {
         self.bound.truncate(count);
     }
 }
 
-/// How many ints without a name a method of the sign has.
+/// How many numbers without a name a method of the sign has.
 fn hidden_in(sign: Sign) -> u8
     ensures { result ≡ scopes.hidden_in sign }
 {

@@ -6,7 +6,7 @@ use Rattle.arc_ast.specs.Tree.{TypeTree, ExprTree, ExprTrees, Integer, Text, Par
 use Rattle.arc_sites.specs.Finding.{violations_of}
 use Rattle.arc_sites.specs.Sites as sites
 use Rattle.arc_ast.specs.Operators.{sort_of}
-use Rattle.arc_sites.specs.Sites.{Enclosing, InFunction, InMethod, Scope, Need, Anything, AValue, ANumber, AnObject, Like, Initial, Result, Receiver, Argument, Site, Statement, Variable, operand_need, left_need, right_need, value, site, inner, after, outermost, with_variables, with_parameters, arguments, maybe_sites, variable_sites, stmt_sites, all_sites, parameter_sites, body_sites, function_sites, head_sites, method_sites, interface_sites, implementation_sites, unit_sites, named_parameters}
+use Rattle.arc_sites.specs.Sites.{Enclosing, InFunction, InMethod, Scope, Need, Anything, AValue, ANumber, AnObject, Like, Initial, Result, Receiver, Argument, Site, Statement, Variable, operand_need, cast_need, left_need, right_need, value, site, inner, after, outermost, with_variables, with_parameters, arguments, maybe_sites, variable_sites, stmt_sites, all_sites, parameter_sites, body_sites, function_sites, head_sites, method_sites, interface_sites, implementation_sites, unit_sites, named_parameters}
 use Rattle.arc_sites.specs.Violations.{at_if, violates, earlier_of}
 use Rattle.arc_sites.proofs.Firsts.{earlier_of-comm}
 use Rattle.arc_class.specs.Bodies.{is_bound, unknown_class, violations, broken_bodies}
@@ -55,7 +55,9 @@ module _ (u : UnitTree) where
   quiet A xs ys n a = a ∙ sym (earlier_of-none (found xs)) ∙ ap (earlier_of (found xs)) (sym n) ∙ sym (found-append xs ys)
 
   cast_is : (type : TypeTree) → first (broken_type missing type) ≡ first ((violates 22 (unknown_class u type) ++ []) ++ [])
+  cast_is t.Boolean = refl
   cast_is t.Int = refl
+  cast_is t.Long = refl
   cast_is t.Id = refl
   cast_is (t.Object at name) = alone 22 (missing.classes name) at
 
@@ -74,7 +76,7 @@ module _ (u : UnitTree) where
         (violated 30 (missing.bodies name) at) (exprs_are all m s (Argument name true) (Argument name false))
     expr_is (Unary at operator a) m s need = quiet (broken_expr missing a) (sites.sites m s (operand_need operator) a) (value m s need (Unary at operator a)) refl (expr_is a m s (operand_need operator))
     expr_is (Cast at type a) m s need =
-        turned (broken_type missing type) (broken_expr missing a) (sites.sites m s AnObject a) (value m s need (Cast at type a)) (cast_is type) (expr_is a m s AnObject)
+        turned (broken_type missing type) (broken_expr missing a) (sites.sites m s (cast_need type) a) (value m s need (Cast at type a)) (cast_is type) (expr_is a m s (cast_need type))
     expr_is (Binary at operator a b) m s need =
         let x = sites.sites m s (left_need (sort_of operator)) a in
         let y = sites.sites m s (right_need (sort_of operator) a) b in

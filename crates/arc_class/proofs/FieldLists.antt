@@ -14,6 +14,7 @@ use Rattle.std.specs.Borrow.{Bor}
 use Rattle.std.specs.Str.{bytes_eq}
 use Rattle.arc_ast.specs.Tree.{FieldTree, InterfaceTree, UnitTree}
 use Rattle.arc_spec.specs.Classes.{and_above, ancestry, ancestry_within, first_that_has}
+use Rattle.arc_ast.specs.Types.{type_kind}
 use Rattle.arc_class.specs.declared.fields.ClassFields.{ClassFields}
 use Rattle.arc_class.specs.declared.table.Field.{Field}
 use Rattle.arc_class.specs.declared.table.FoundField.{FoundField}
@@ -178,7 +179,7 @@ fields_made u class inherited next count i xs ys superclass places named s d p n
   where
     numbered_append : (owner k : ℕ) (xs ys : List FieldTree) (name : List ℕ) → numbered owner k (xs ++ ys) name ≡ or_else (numbered owner k xs name) (numbered owner (k + length xs) ys name)
     numbered_append owner k [] ys name = ap (λ m. numbered owner m ys name) (omega arith)
-    numbered_append owner k (x ∷ xs) ys name = go (bytes_eq name x.name) (record { owner = record { 0 = owner }; index = k; visibility = x.visibility })
+    numbered_append owner k (x ∷ xs) ys name = go (bytes_eq name x.name) (record { owner = record { 0 = owner }; index = k; kind = type_kind x.type; visibility = x.visibility })
         (numbered_append owner (suc k) xs ys name ∙ ap (λ m. or_else (numbered owner (suc k) xs name) (numbered owner m ys name)) (omega arith))
       where
         go : (b : Bool) (found : FoundField) → numbered owner (suc k) (xs ++ ys) name ≡ or_else (numbered owner (suc k) xs name) (numbered owner (k + suc (length xs)) ys name)
@@ -233,7 +234,7 @@ not_numbered : (owner k : ℕ) (xs : List FieldTree) (name : List ℕ) → numbe
 not_numbered owner k [] name e = refl
 not_numbered owner k (x ∷ xs) name e = go (bytes_eq name x.name) e (not_numbered owner (suc k) xs name)
   where
-    go : (b : Bool) → (if b then Some (record { owner = record { 0 = owner }; index = k; visibility = x.visibility }) else numbered owner (suc k) xs name) ≡ None
+    go : (b : Bool) → (if b then Some (record { owner = record { 0 = owner }; index = k; kind = type_kind x.type; visibility = x.visibility }) else numbered owner (suc k) xs name) ≡ None
         → (numbered owner (suc k) xs name ≡ None → field_place name xs ≡ None) → (if b then Some x.at else field_place name xs) ≡ None
     go true h more = absurd (none-some _ (sym h))
     go false h more = more h

@@ -87,7 +87,7 @@ inherited u class = inherited_by u class (superclass u.interfaces class)
 abbrev pub numbered : (owner number : ℕ) → List FieldTree → List ℕ → Option FoundField
 numbered owner number [] name = None
 numbered owner number (f ∷ others) name =
-    if bytes_eq name f.name then Some (record { owner = record { 0 = owner }; index = number; visibility = f.visibility }) else numbered owner (suc number) others name
+    if bytes_eq name f.name then Some (record { owner = record { 0 = owner }; index = number; kind = type_kind f.type; visibility = f.visibility }) else numbered owner (suc number) others name
 
 abbrev pub own_field : UnitTree → (class : ℕ) → List ℕ → Option FoundField
 own_field u class name = numbered class (length (inherited u class)) (own_fields u class) name

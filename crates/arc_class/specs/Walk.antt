@@ -21,7 +21,9 @@ pub record Missing : Type 0 where
 
 -- 22 UnknownClass: a type that names no class with an interface, at the class's name (OPL, "Static Typing"); the root needs none
 abbrev pub broken_type : Missing → TypeTree → List Broken
+broken_type missing t.Boolean = []
 broken_type missing t.Int = []
+broken_type missing t.Long = []
 broken_type missing t.Id = []
 broken_type missing (t.Object at name) = broken_if (missing.classes name) at 22
 

@@ -88,9 +88,11 @@ fn keep_fields<'a>(
 {
     let mut index = number;
     for field in fields {
+        let held = field.type_name.kind();
         let found = FoundField {
             owner,
             index,
+            kind: held,
             visibility: field.visibility,
         };
         keep_first(named, &field.name, found)?;

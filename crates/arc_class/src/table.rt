@@ -159,6 +159,7 @@ pub struct Field<'a> {
 pub struct FoundField {
     pub owner: ClassId,
     pub index: usize,
+    pub kind: Kind,
     pub visibility: Visibility,
 }
 

@@ -36,7 +36,7 @@ fn type_fault<'a>(source: &Source<'a>, written: &'a TypeName) -> Option<ClassFau
     ensures { option_map told result ≡ first (broken_type (missing_in source.now) (type_tree written.now)) }
 {
     match written {
-        TypeName::Int | TypeName::Id => None,
+        TypeName::Bool | TypeName::Int | TypeName::Long | TypeName::Id => None,
         TypeName::Object(at, name) => {
             let missing = class_number(&source.names, name).is_none();
             fault_if(missing, ClassFault::UnknownClass(*at))

@@ -13,6 +13,7 @@ ghost use Rattle.arc_expr.specs.declared.operator.TheConstants.{LOOSEST};
 use crate::literal::literal;
 use crate::operator::{LOOSEST, operator, sees_operator, sees_operator_up_to};
 use crate::sign::{sees_sign, sign};
+use crate::type_name::{begins_plain_type, plain_type};
 use arc_ast::tree::{BinaryOperator, Expr, TypeName};
 use arc_form::fail::Read;
 use arc_form::step::{expect, keyword, name, sees_mark, sees_name, sees_reference, sees_word};
@@ -172,8 +173,8 @@ fn parenthesized<'a>(alloc: Global, tokens: &'a [Token]) -> Read<'a, Expr>
     ensures shorter { IfOk result (λ x. length x.1.now < length tokens.now) }
 {
     let (at, rest) = expect(Mark::OpenParen, tokens)?;
-    if sees_word(Word::Id, rest) {
-        cast_to_id(alloc, at, rest)
+    if begins_plain_type(rest) {
+        cast_to_plain(alloc, at, rest)
     } else if sees_reference(rest) {
         starred(alloc, at, rest)
     } else {
@@ -194,20 +195,17 @@ fn inside<'a>(alloc: Global, at: usize, tokens: &'a [Token]) -> Read<'a, Expr>
     arrows(alloc, Expr::Paren(at, inside), rest)
 }
 
-/// What is after the `(` of a cast to `id`, which is at this place.
+/// What is after the `(`, which is at this place, of a cast to a type that names no class.
 #[cycle(exprs)]
-#[tactic(auto, using(crate::proofs::Fix::read_unary), unfolding(arc_grammar::specs::Grammar::cast_to_id))]
-fn cast_to_id<'a>(alloc: Global, at: usize, tokens: &'a [Token]) -> Read<'a, Expr>
-    ensures gives { Gives (λ x. (expr_tree x.0, toks x.1.now)) result (reads_on grammar.cast_to_id at (toks tokens.now)) }
+#[tactic(auto, using(crate::proofs::Fix::read_unary), unfolding(arc_grammar::specs::Grammar::cast_to_plain))]
+fn cast_to_plain<'a>(alloc: Global, at: usize, tokens: &'a [Token]) -> Read<'a, Expr>
+    ensures gives { Gives (λ x. (expr_tree x.0, toks x.1.now)) result (reads_on grammar.cast_to_plain at (toks tokens.now)) }
     ensures shorter { IfOk result (λ x. length x.1.now < length tokens.now) }
 {
-    let (_, rest) = keyword(Word::Id, tokens)?;
+    let ((_, written), rest) = plain_type(tokens)?;
     let (_, rest) = expect(Mark::CloseParen, rest)?;
     let (operand, rest) = prefixed(alloc, rest)?;
-    Ok((
-        Expr::Cast(at, TypeName::Id, Box::new(alloc, operand)?),
-        rest,
-    ))
+    Ok((Expr::Cast(at, written, Box::new(alloc, operand)?), rest))
 }
 
 /// What is after the `(` at this place, where a name and `*` come: a cast, or a product in parentheses.

@@ -6,3 +6,4 @@ pub mod full;
 mod literal;
 mod operator;
 pub mod sign;
+pub mod type_name;

@@ -1,5 +1,5 @@
 -- The grammar, a line for each of its rules, with the tree that each gives.
-use Rattle.std.specs.Prelude.{ℕ, zero, suc, ◌-◌, min, max, List, [], ◌∷◌, ◌++◌, Option, Some, None}
+use Rattle.std.specs.Prelude.{ℕ, zero, suc, ℤ, pos, false, ◌-◌, min, max, List, [], ◌∷◌, ◌++◌, Option, Some, None}
 use Rattle.arc_lex.specs.declared.token.Mark.{Mark}
 use Rattle.arc_lex.specs.declared.token.Mark.TheVariants as m
 use Rattle.arc_lex.specs.declared.token.Word.{Word}
@@ -16,7 +16,7 @@ use Rattle.arc_ast.specs.declared.tree.BinaryOperator.{BinaryOperator}
 use Rattle.arc_ast.specs.declared.tree.BinaryOperator.TheVariants as operators
 use Rattle.arc_ast.specs.declared.tree.UnaryOperator.{UnaryOperator}
 use Rattle.arc_ast.specs.declared.tree.UnaryOperator.TheVariants as unary_operators
-use Rattle.arc_ast.specs.Tree.{TypeTree, ResultTree, ExprTree, ExprTrees, VariableTree, StmtTree, StmtTrees, ParameterTree, ParametersTree, FunctionTree, HeadTree, MethodTree, FieldTree, InterfaceTree, ImplementationTree, UnitTree, Int, Id, Object, Void, Value, Integer, Text, Paren, Call, Nil, Itself, Name, Unary, Cast, Binary, Arrow, Assign, Send, SendSuper, no_exprs, and_expr, Block, Empty, Simple, Return, Variables, If, IfElse, While, no_stmts, and_stmt, Listed, CountAndTexts, begins}
+use Rattle.arc_ast.specs.Tree.{TypeTree, ResultTree, ExprTree, ExprTrees, VariableTree, StmtTree, StmtTrees, ParameterTree, ParametersTree, FunctionTree, HeadTree, MethodTree, FieldTree, InterfaceTree, ImplementationTree, UnitTree, Boolean, Int, Long, Id, Object, Void, Value, Integer, Text, Paren, Call, Nil, Itself, Name, Unary, Cast, Binary, Arrow, Assign, Send, SendSuper, no_exprs, and_expr, Block, Empty, Simple, Return, Variables, If, IfElse, While, no_stmts, and_stmt, Listed, CountAndTexts, begins}
 use Rattle.arc_grammar.specs.declared.limits.TheConstants.{DEEPEST, MOST_TOKENS}
 use Rattle.arc_form.specs.Kinds.{Kinds, none, ◌∪◌, mark, word, at, name, main, other_name, integer, text}
 use Rattle.arc_form.specs.Reader.{Reader, ◌>>=◌, ret, from}
@@ -114,18 +114,64 @@ up_to (suc l) = map (λ (tighter, make) left. make (tighter left)) (up_to l ⨾ 
 unfoldable pub continued : Part (ExprTree → ExprTree)
 continued = up_to loosest
 
+-- ---- types (C99, section 6.7.2; `BOOL` and `NSInteger` are names of types of the library, which are words here)
+
+-- `int` after `long`, or nothing
+unfoldable pub perhaps_int : Part (Unit {0})
+perhaps_int = choose (word w.Int) (map (λ _. tt) (key w.Int)) (give tt)
+
+-- a second `long`, or nothing
+unfoldable pub perhaps_long : Part (Unit {0})
+perhaps_long = choose (word w.Long) (map (λ _. tt) (key w.Long)) (give tt)
+
+-- `long`, `long int`, `long long` or `long long int`, with its place
+unfoldable pub long_type : Part (ℕ × TypeTree)
+long_type = map (λ (at, _). (at, Long)) (key w.Long ⨾ perhaps_long ⨾ perhaps_int)
+
+-- types of numbers that are one word
+abbrev pub begins_word_type : Kinds
+begins_word_type = word w.Int ∪ word w.Bool ∪ word w.NsInteger
+
+abbrev pub word_type_of : Sort → TypeTree
+word_type_of (tokens.Key w.Bool) = Boolean
+word_type_of (tokens.Key w.NsInteger) = Long
+word_type_of _ = Int
+
+unfoldable pub word_type : Part (ℕ × TypeTree)
+word_type = token begins_word_type (λ t. (t.from, word_type_of t.sort))
+
+-- a type of numbers, with its place
+unfoldable pub number_type : Part (ℕ × TypeTree)
+number_type = choose (word w.Long) long_type word_type
+
+abbrev pub begins_number_type : Kinds
+begins_number_type = word w.Long ∪ begins_word_type
+
+-- a type that names no class, with its place
+unfoldable pub plain_type : Part (ℕ × TypeTree)
+plain_type = choose (word w.Id) (map (λ at. (at, Id)) (key w.Id)) number_type
+
+abbrev pub begins_plain_type : Kinds
+begins_plain_type = word w.Id ∪ begins_number_type
+
 -- ---- expressions (C99, section 6.5)
+
+-- `YES` and `NO` are 1 and 0 as a BOOL: a cast of these (the library defines them so)
+abbrev pub bool_of : ℕ → ℤ → ExprTree
+bool_of at value = Cast at Boolean (Integer at value false)
 
 abbrev pub literal_of : ℕ → Sort → ExprTree
 literal_of at (tokens.Integer value suffixed) = Integer at value suffixed
 literal_of at (tokens.Text bytes) = Text at bytes
 literal_of at (tokens.Key w.SelfWord) = Itself at
+literal_of at (tokens.Key w.Yes) = bool_of at (pos 1)
+literal_of at (tokens.Key w.No) = bool_of at (pos 0)
 literal_of at _ = Nil at
 
 abbrev pub begins_literal : Kinds
-begins_literal = integer ∪ text ∪ word w.Nil ∪ word w.SelfWord
+begins_literal = integer ∪ text ∪ word w.Nil ∪ word w.SelfWord ∪ word w.Yes ∪ word w.No
 
--- an integer, a text, `nil` or `self` (6.5.1)
+-- an integer, a text, `nil`, `self`, `YES` or `NO` (6.5.1)
 unfoldable pub literal : Part ExprTree
 literal = token begins_literal (λ t. literal_of t.from t.sort)
 
@@ -229,9 +275,9 @@ message = map (λ (at, make). make at) (the m.OpenSquare ⨾ choose (word w.Supe
 unfoldable pub inside : Part (ℕ → ExprTree)
 inside = map (λ (a, (end, make)) at. make (Paren at a)) (call expr ⨾ the m.CloseParen ⨾ arrows)
 
--- what is after the `(` of a cast to `id`
-unfoldable pub cast_to_id : Part (ℕ → ExprTree)
-cast_to_id = map (λ (id, (end, a)) at. Cast at Id a) (key w.Id ⨾ the m.CloseParen ⨾ call unary)
+-- what is after the `(` of a cast to a type that names no class
+unfoldable pub cast_to_plain : Part (ℕ → ExprTree)
+cast_to_plain = map (λ (type, (end, a)) at. Cast at type.1 a) (plain_type ⨾ the m.CloseParen ⨾ call unary)
 
 -- what is after `( name *` in a cast
 unfoldable pub cast : Part (ℕ × ℕ × List ℕ → ExprTree)
@@ -246,7 +292,7 @@ unfoldable pub starred : Part (ℕ → ExprTree)
 starred = map (λ (n, (star, make)) at. make (at, n.0, n.1)) (called ⨾ the m.Star ⨾ choose (mark m.CloseParen) cast product)
 
 unfoldable pub parenthesized : Part ExprTree
-parenthesized = map (λ (at, make). make at) (the m.OpenParen ⨾ choose (word w.Id) cast_to_id (two_ahead name (mark m.Star) starred inside))
+parenthesized = map (λ (at, make). make at) (the m.OpenParen ⨾ choose begins_plain_type cast_to_plain (two_ahead name (mark m.Star) starred inside))
 
 -- ---- unary expressions (C99, section 6.5.3)
 
@@ -313,9 +359,9 @@ next_variable = map (λ (comma, v). v) (the m.Comma ⨾ variable)
 unfoldable pub more_variables : Part (List VariableTree)
 more_variables = many (mark m.Comma) next_variable
 
--- a word, variables and `;`
-unfoldable pub declaration : Word → TypeTree → Part StmtTree
-declaration w type = map (λ (at, (v, (others, end))). Variables at type (v ∷ others)) (key w ⨾ variable ⨾ more_variables ⨾ the m.Semicolon)
+-- a type that names no class, variables and `;`
+unfoldable pub declaration : Part StmtTree
+declaration = map (λ (type, (v, (others, end))). Variables type.0 type.1 (v ∷ others)) (plain_type ⨾ variable ⨾ more_variables ⨾ the m.Semicolon)
 
 -- `*` and a variable (6.7.5.1)
 unfoldable pub reference : Part VariableTree
@@ -377,10 +423,10 @@ unfoldable pub by_name : ℕ → Part StmtTree
 by_name d = two_ahead name (mark m.Star) objects (call (stmt d))
 
 unfoldable pub item : ℕ → Part StmtTree
-item d = choose (word w.Int) (declaration w.Int Int) (choose (word w.Id) (declaration w.Id Id) (by_name d))
+item d = choose begins_plain_type declaration (by_name d)
 
 abbrev pub begins_item : Kinds
-begins_item = word w.Int ∪ word w.Id ∪ begins_stmt
+begins_item = begins_plain_type ∪ begins_stmt
 
 unfoldable pub items : ℕ → Part (List StmtTree)
 items d = many begins_item (item d)
@@ -396,9 +442,9 @@ statement d = choose (mark m.OpenBrace) (block d) (choose (mark m.Semicolon) emp
 
 -- ---- functions (C99, section 6.9.1; those of `main`, 5.1.2.2.1)
 
--- `int` or `void`
+-- `void`, or a type of numbers
 unfoldable pub result_type : Part ResultTree
-result_type = choose (word w.Void) (map (λ void. Void) (key w.Void)) (map (λ int. Value Int) (key w.Int))
+result_type = choose (word w.Void) (map (λ void. Void) (key w.Void)) (map (λ type. Value type.1) number_type)
 
 unfoldable pub parameter : Part ParameterTree
 parameter = map (λ (int, n). record { at = n.0; type = Int; name = n.1 }) (key w.Int ⨾ called)
@@ -542,11 +588,11 @@ unfoldable pub more_names : Part (List (ℕ × List ℕ))
 more_names = many (mark m.Comma) next_name
 
 unfoldable pub group : Part FieldGroup
-group = choose (word w.Int) (map (λ (int, (n, (others, end))). OfType Int (n ∷ others)) (key w.Int ⨾ called ⨾ more_names ⨾ the m.Semicolon))
+group = choose begins_number_type (map (λ (type, (n, (others, end))). OfType type.1 (n ∷ others)) (number_type ⨾ called ⨾ more_names ⨾ the m.Semicolon))
     (map OfWord (token begins_visibility (λ t. visibility_of t.sort)))
 
 unfoldable pub groups : Part (List FieldGroup)
-groups = many (word w.Int ∪ begins_visibility) group
+groups = many (begins_number_type ∪ begins_visibility) group
 
 -- no fields, or braces with them; those before any word are visible so
 unfoldable pub fields : Visibility → Part (List FieldTree)
@@ -582,7 +628,7 @@ top = choose (at words.Class) (map (λ _. OfNames) class_names) (choose (at word
     (choose (at words.Implementation) (map OfImplementation implementation) (map OfFunction function)))
 
 abbrev pub begins_top : Kinds
-begins_top = at words.Class ∪ at words.Interface ∪ at words.Implementation ∪ word w.Void ∪ word w.Int
+begins_top = at words.Class ∪ at words.Interface ∪ at words.Implementation ∪ word w.Void ∪ begins_number_type
 
 unfoldable pub tops : Part (List TopTree)
 tops = many begins_top top

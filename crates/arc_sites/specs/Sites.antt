@@ -6,6 +6,7 @@ use Rattle.arc_ast.specs.declared.tree.UnaryOperator.{UnaryOperator}
 use Rattle.arc_ast.specs.declared.tree.UnaryOperator.TheVariants as u
 use Rattle.arc_ast.specs.declared.tree.OperatorSort.{OperatorSort}
 use Rattle.arc_ast.specs.declared.tree.OperatorSort.TheVariants.{Equality}
+use Rattle.arc_ast.specs.Tree as t
 use Rattle.arc_ast.specs.Tree.{TypeTree, ExprTree, ExprTrees, Paren, Call, Unary, Cast, Binary, Arrow, Assign, Send, SendSuper, no_exprs, and_expr, VariableTree, StmtTree, StmtTrees, Block, Empty, Simple, Return, Variables, If, IfElse, While, no_stmts, and_stmt, ParameterTree, ParametersTree, Listed, CountAndTexts, FunctionTree, HeadTree, MethodTree, InterfaceTree, ImplementationTree, UnitTree}
 
 -- ---- what surrounds a node
@@ -100,6 +101,12 @@ abbrev pub operand_need : UnaryOperator → Need
 operand_need u.Not = AValue
 operand_need _ = ANumber
 
+-- what the operand of a cast is needed for, by the type
+abbrev pub cast_need : TypeTree → Need
+cast_need t.Id = AnObject
+cast_need (t.Object at name) = AnObject
+cast_need _ = ANumber
+
 -- what the operands of an operator are needed for, by its sort
 abbrev pub left_need : OperatorSort → Need
 left_need Equality = AValue
@@ -115,7 +122,7 @@ abbrev mutual
   inside m s need (Paren at a) = inside m s need a ++ value m s need a
   inside m s need (Call at name all) = arguments m s (Argument name true) (Argument name false) all
   inside m s need (Unary at operator a) = inside m s (operand_need operator) a ++ value m s (operand_need operator) a
-  inside m s need (Cast at type a) = inside m s AnObject a ++ value m s AnObject a
+  inside m s need (Cast at type a) = inside m s (cast_need type) a ++ value m s (cast_need type) a
   inside m s need (Binary at operator a b) =
       (inside m s (left_need (sort_of operator)) a ++ value m s (left_need (sort_of operator)) a)
       ++ (inside m s (right_need (sort_of operator) a) b ++ value m s (right_need (sort_of operator) a) b)

@@ -5,6 +5,7 @@ ghost use Rattle.arc_form.specs.Reader.{sees};
 ghost use Rattle.arc_grammar.specs.Grammar as grammar;
 
 use arc_expr::sign::sees_sign;
+use arc_expr::type_name::begins_plain_type;
 use arc_form::step::{sees_integer, sees_mark, sees_name, sees_text, sees_word};
 use arc_lex::token::{Mark, Token, Word};
 
@@ -17,7 +18,9 @@ fn begins_expr(tokens: &[Token]) -> bool
         || (sees_integer(tokens)
             || sees_text(tokens)
             || sees_word(Word::Nil, tokens)
-            || sees_word(Word::SelfWord, tokens))
+            || sees_word(Word::SelfWord, tokens)
+            || sees_word(Word::Yes, tokens)
+            || sees_word(Word::No, tokens))
         || sees_mark(Mark::OpenParen, tokens)
         || sees_mark(Mark::OpenSquare, tokens)
         || sees_sign(tokens)
@@ -41,5 +44,5 @@ pub fn begins_stmt(tokens: &[Token]) -> bool
 pub fn begins_item(tokens: &[Token]) -> bool
     ensures { result ≡ sees grammar.begins_item (toks tokens.now) }
 {
-    sees_word(Word::Int, tokens) || sees_word(Word::Id, tokens) || begins_stmt(tokens)
+    begins_plain_type(tokens) || begins_stmt(tokens)
 }

@@ -10,8 +10,9 @@ ghost use Rattle.arc_grammar.specs.declared.limits.TheConstants.{DEEPEST};
 
 use crate::first::{begins_item, begins_stmt};
 use crate::variable::{declaration, objects};
-use arc_ast::tree::{Expr, Stmt, TypeName};
+use arc_ast::tree::{Expr, Stmt};
 use arc_expr::full::full;
+use arc_expr::type_name::begins_plain_type;
 use arc_form::fail::{Fail, Read};
 use arc_form::slice::after_first;
 use arc_form::step::{expect, keyword, sees_mark, sees_reference, sees_word};
@@ -188,10 +189,8 @@ fn item<'a>(alloc: Global, depth: usize, tokens: &'a [Token]) -> Read<'a, Stmt>
     ensures gives { Gives (λ x. (stmt_tree x.0, toks x.1.now)) result (reads (grammar.item depth) (toks tokens.now)) }
     ensures shorter { IfOk result (λ x. length x.1.now < length tokens.now) }
 {
-    if sees_word(Word::Int, tokens) {
-        declaration(alloc, Word::Int, TypeName::Int, tokens)
-    } else if sees_word(Word::Id, tokens) {
-        declaration(alloc, Word::Id, TypeName::Id, tokens)
+    if begins_plain_type(tokens) {
+        declaration(alloc, tokens)
     } else if sees_reference(tokens) {
         objects(alloc, tokens)
     } else {

@@ -3,15 +3,16 @@ ghost use Rattle.std.specs.Prelude.{◌≡◌, ◌<◌, ◌≤◌, length, optio
 ghost use Rattle.arc_lex.specs.Tokens.{toks};
 ghost use Rattle.arc_form.specs.Reader.{Gives};
 ghost use Rattle.arc_form.specs.Views.{all, with_row};
-ghost use Rattle.arc_ast.specs.Tree.{expr_tree, type_tree, variable_tree, stmt_tree};
+ghost use Rattle.arc_ast.specs.Tree.{expr_tree, variable_tree, stmt_tree};
 ghost use Rattle.arc_grammar.specs.Grammar.{reads};
 ghost use Rattle.arc_grammar.specs.Grammar as grammar;
 
 use arc_ast::tree::{Expr, Stmt, TypeName, Variable};
 use arc_expr::full::full;
+use arc_expr::type_name::plain_type;
 use arc_form::fail::Read;
-use arc_form::step::{expect, keyword, name, sees_mark};
-use arc_lex::token::{Mark, Token, Word};
+use arc_form::step::{expect, name, sees_mark};
+use arc_lex::token::{Mark, Token};
 use std::alloc::Global;
 
 /// Perhaps `=` and what a variable begins with.
@@ -114,24 +115,19 @@ fn more_references<'a>(
     Ok((all, rest))
 }
 
-/// This word, one variable or more and `;`: a declaration of this type.
+/// A type that names no class, one variable or more and `;`.
 #[tactic(auto, using(crate::proofs::Trees::variables_is), unfolding(arc_grammar::specs::Grammar::declaration))]
-pub fn declaration<'a>(
-    alloc: Global,
-    word: Word,
-    kind: TypeName,
-    tokens: &'a [Token],
-) -> Read<'a, Stmt>
-    ensures gives { Gives (λ x. (stmt_tree x.0, toks x.1.now)) result (reads (grammar.declaration word (type_tree kind)) (toks tokens.now)) }
+pub fn declaration<'a>(alloc: Global, tokens: &'a [Token]) -> Read<'a, Stmt>
+    ensures gives { Gives (λ x. (stmt_tree x.0, toks x.1.now)) result (reads grammar.declaration (toks tokens.now)) }
     ensures shorter { IfOk result (λ x. length x.1.now < length tokens.now) }
 {
-    let (at, rest) = keyword(word, tokens)?;
+    let ((at, written), rest) = plain_type(tokens)?;
     let (first, rest) = variable(alloc, rest)?;
     let mut all = Vec::new(alloc);
     all.push(first)?;
     let (all, rest) = more_variables(alloc, all, rest)?;
     let (_, rest) = expect(Mark::Semicolon, rest)?;
-    Ok((Stmt::Variables(at, kind, all), rest))
+    Ok((Stmt::Variables(at, written, all), rest))
 }
 
 /// The name of a class, one variable or more, with a `*` each, and `;`.

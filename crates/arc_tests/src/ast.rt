@@ -6,7 +6,9 @@ fn have_kinds(rt: HostRuntime) {
     let alloc = rt.alloc();
     let name = Vec::from_slice(alloc, b"A").expect(&rt, "no memory");
     let kinds = [
+        TypeName::Bool.kind(),
         TypeName::Int.kind(),
+        TypeName::Long.kind(),
         TypeName::Id.kind(),
         TypeName::Object(7, name).kind(),
         ResultType::Void.kind(),
@@ -14,7 +16,15 @@ fn have_kinds(rt: HostRuntime) {
     ];
     assert_eq!(rt;
         kinds,
-        [Kind::Int, Kind::Object, Kind::Object, Kind::Void, Kind::Int]
+        [
+            Kind::Bool,
+            Kind::Int,
+            Kind::Long,
+            Kind::Object,
+            Kind::Object,
+            Kind::Void,
+            Kind::Int
+        ]
     );
 }
 

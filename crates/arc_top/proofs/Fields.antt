@@ -2,27 +2,26 @@
 use Rattle.std.proofs.Common.{◌≡◌, ℕ, List, [], ◌∷◌, ◌++◌, append_assoc, append-nil, Ok, Err, Bool, true, false, cond, refl, sym, ap, ◌∙◌}
 use Rattle.arc_lex.specs.Tokens.{Tok}
 use Rattle.arc_lex.specs.declared.token.Mark.TheVariants as m
-use Rattle.arc_lex.specs.declared.token.Word.TheVariants as w
 use Rattle.arc_lex.specs.declared.token.AtWord.TheVariants as words
 use Rattle.arc_ast.specs.declared.tree.Visibility.{Visibility}
 use Rattle.arc_ast.specs.declared.tree.Field.{Field}
-use Rattle.arc_ast.specs.Tree.{TypeTree, Int, FieldTree, field_tree, field_trees}
-use Rattle.arc_form.specs.Kinds.{mark, word, at, name}
+use Rattle.arc_ast.specs.Tree.{TypeTree, FieldTree, field_tree, field_trees}
+use Rattle.arc_form.specs.Kinds.{mark, at, name}
 use Rattle.arc_form.specs.Form.{map}
 use Rattle.arc_form.specs.Operators.{fold}
 use Rattle.arc_form.specs.Reader.{Read, Reader, bind, ◌>>=◌, ret, sees, if_sees, take_one, from, named}
 use Rattle.arc_form.proofs.Local.{Local}
-use Rattle.arc_grammar.specs.Grammar.{FieldGroup, OfWord, OfType, reads, next_name, more_names, group, groups, fields, fields_of, named_fields, visibility_of, begins_visibility, class_names}
+use Rattle.arc_grammar.specs.Grammar.{FieldGroup, OfWord, OfType, reads, perhaps_int, perhaps_long, long_type, word_type, number_type, begins_number_type, next_name, more_names, group, groups, fields, fields_of, named_fields, visibility_of, begins_visibility, class_names}
 use Rattle.arc_top.proofs.Rests.{front}
 use Rattle.arc_form.specs.Joining.{joining}
-use Rattle.arc_top.specs.Fields.{begins_group, add_field, add_group, ints_on, group_on, names_skipped}
+use Rattle.arc_top.specs.Fields.{begins_group, add_field, add_group, numbers_on, group_on, names_skipped}
 
 pub name_front : (j : ℕ) → Local ⊥ 1 j (reads next_name) (reads next_name)
 unfolding next_name
 name_front j = front next_name refl refl j
 
 pub group_front : (j : ℕ) → Local ⊥ 1 j (reads group) (reads group)
-unfolding group more_names next_name
+unfolding group number_type long_type word_type perhaps_long perhaps_int more_names next_name
 group_front j = front group refl refl j
 
 -- the fields of a class after these
@@ -41,18 +40,18 @@ module _ (v : Visibility) (made : List FieldTree) where
   Begun = Named × Ended
 
   abbrev All : Type 0
-  All = ℕ × Begun
+  All = (ℕ × TypeTree) × Begun
 
   abbrev to_group : Read All → Read (Visibility × List FieldTree)
-  to_group x = bind {A = FieldGroup} (bind {A = All} x (λ p. ret (OfType Int (p.1.0 ∷ p.1.1.0)))) (λ g. ret (add_group (v, made) g))
+  to_group x = bind {A = FieldGroup} (bind {A = All} x (λ p. ret (OfType p.0.1 (p.1.0 ∷ p.1.1.0)))) (λ g. ret (add_group (v, made) g))
 
   abbrev to_state : Read (List FieldTree) → Read (Visibility × List FieldTree)
   to_state x = bind x (λ all. ret (v, all))
 
-  semicolon : (int : ℕ) (n : Named) (others : List Named) (x : Read ℕ)
-      → to_group (bind {A = Begun} (bind {A = Ended} (bind x (λ end. ret (others, end))) (λ p. ret (n, p))) (λ p. ret (int, p))) ≡ to_state (bind x (λ end. ret (fold (add_field v Int) (add_field v Int made n) others)))
-  semicolon int n others (Ok x) = refl
-  semicolon int n others (Err x) = refl
+  semicolon : (written : ℕ × TypeTree) (n : Named) (others : List Named) (x : Read ℕ)
+      → to_group (bind {A = Begun} (bind {A = Ended} (bind x (λ end. ret (others, end))) (λ p. ret (n, p))) (λ p. ret (written, p))) ≡ to_state (bind x (λ end. ret (fold (add_field v written.1) (add_field v written.1 made n) others)))
+  semicolon written n others (Ok x) = refl
+  semicolon written n others (Err x) = refl
 
   abbrev end : Reader ℕ
   end = take_one (mark m.Semicolon) from
@@ -60,36 +59,36 @@ module _ (v : Visibility) (made : List FieldTree) where
   abbrev ended : Read (List Named) → Read Ended
   ended x = bind x (λ others. end >>= (λ e. ret (others, e)))
 
-  abbrev ended_on : Named → Read (List Named) → Read (List FieldTree)
-  ended_on n x = bind (bind x (λ others. ret (fold (add_field v Int) (add_field v Int made n) others))) (λ all. end >>= (λ e. ret all))
+  abbrev ended_on : ℕ × TypeTree → Named → Read (List Named) → Read (List FieldTree)
+  ended_on written n x = bind (bind x (λ others. ret (fold (add_field v written.1) (add_field v written.1 made n) others))) (λ all. end >>= (λ e. ret all))
 
-  further : (int : ℕ) (n : Named) (x : Read (List Named)) → to_group (bind {A = Begun} (bind {A = Ended} (ended x) (λ p. ret (n, p))) (λ p. ret (int, p))) ≡ to_state (ended_on n x)
-  further int n (Ok x) = semicolon int n x.0 (end x.1)
-  further int n (Err x) = refl
+  further : (written : ℕ × TypeTree) (n : Named) (x : Read (List Named)) → to_group (bind {A = Begun} (bind {A = Ended} (ended x) (λ p. ret (n, p))) (λ p. ret (written, p))) ≡ to_state (ended_on written n x)
+  further written n (Ok x) = semicolon written n x.0 (end x.1)
+  further written n (Err x) = refl
 
   abbrev begun : Read Named → Read Begun
   begun x = bind x (λ n us. bind {A = Ended} (ended (reads more_names us)) (λ p. ret (n, p)))
 
-  called_first : (int : ℕ) (x : Read Named) → to_group (bind {A = Begun} (begun x) (λ p. ret (int, p))) ≡ to_state (bind x (λ n us. ended_on n (reads more_names us)))
-  called_first int (Ok x) = further int x.0 (reads more_names x.1)
-  called_first int (Err x) = refl
+  called_first : (written : ℕ × TypeTree) (x : Read Named) → to_group (bind {A = Begun} (begun x) (λ p. ret (written, p))) ≡ to_state (bind x (λ n us. ended_on written n (reads more_names us)))
+  called_first written (Ok x) = further written x.0 (reads more_names x.1)
+  called_first written (Err x) = refl
 
-  of_ints : (x : Read ℕ) → to_group (bind x (λ int us. bind {A = Begun} (begun (take_one name named us)) (λ p. ret (int, p)))) ≡ to_state (bind x (λ int us. bind (take_one name named us) (λ n vs. ended_on n (reads more_names vs))))
-  of_ints (Ok x) = called_first x.0 (take_one name named x.1)
-  of_ints (Err x) = refl
+  of_numbers : (x : Read (ℕ × TypeTree)) → to_group (bind x (λ written us. bind {A = Begun} (begun (take_one name named us)) (λ p. ret (written, p)))) ≡ to_state (bind x (λ written us. bind (take_one name named us) (λ n vs. ended_on written n (reads more_names vs))))
+  of_numbers (Ok x) = called_first x.0 (take_one name named x.1)
+  of_numbers (Err x) = refl
 
   of_word : (x : Read Visibility) → bind {A = FieldGroup} (bind x (λ a. ret (OfWord a))) (λ g. ret (add_group (v, made) g)) ≡ bind x (λ next. ret (next, made))
   of_word (Ok x) = refl
   of_word (Err x) = refl
 
-  choice : (b : Bool) (ts : List Tok) → bind {A = FieldGroup} (cond b (bind {A = All} (bind (take_one (word w.Int) from ts) (λ int us. bind {A = Begun} (begun (take_one name named us)) (λ p. ret (int, p)))) (λ p. ret (OfType Int (p.1.0 ∷ p.1.1.0)))) (bind (take_one begins_visibility (λ t. visibility_of t.sort) ts) (λ a. ret (OfWord a)))) (λ g. ret (add_group (v, made) g))
-      ≡ cond b (to_state (bind (take_one (word w.Int) from ts) (λ int us. bind (take_one name named us) (λ n vs. ended_on n (reads more_names vs))))) (bind (take_one begins_visibility (λ t. visibility_of t.sort) ts) (λ next. ret (next, made)))
-  choice true ts = of_ints (take_one (word w.Int) from ts)
+  choice : (b : Bool) (ts : List Tok) → bind {A = FieldGroup} (cond b (bind {A = All} (bind (reads number_type ts) (λ written us. bind {A = Begun} (begun (take_one name named us)) (λ p. ret (written, p)))) (λ p. ret (OfType p.0.1 (p.1.0 ∷ p.1.1.0)))) (bind (take_one begins_visibility (λ t. visibility_of t.sort) ts) (λ a. ret (OfWord a)))) (λ g. ret (add_group (v, made) g))
+      ≡ cond b (to_state (bind (reads number_type ts) (λ written us. bind (take_one name named us) (λ n vs. ended_on written n (reads more_names vs))))) (bind (take_one begins_visibility (λ t. visibility_of t.sort) ts) (λ next. ret (next, made)))
+  choice true ts = of_numbers (reads number_type ts)
   choice false ts = of_word (take_one begins_visibility (λ t. visibility_of t.sort) ts)
 
-  pub read_group : (ts : List Tok) → group_on (v, made) ts ≡ if_sees (word w.Int) (ints_on v made >>= (λ all. ret (v, all))) (take_one begins_visibility (λ t. visibility_of t.sort) >>= (λ next. ret (next, made))) ts
+  pub read_group : (ts : List Tok) → group_on (v, made) ts ≡ if_sees begins_number_type (numbers_on v made >>= (λ all. ret (v, all))) (take_one begins_visibility (λ t. visibility_of t.sort) >>= (λ next. ret (next, made))) ts
   unfolding group more_names
-  read_group ts = choice (sees (word w.Int) ts) ts
+  read_group ts = choice (sees begins_number_type ts) ts
 
 -- ---- the fields of a class
 

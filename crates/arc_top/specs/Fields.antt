@@ -1,18 +1,17 @@
 -- What functions promise that add fields to those of a class, and that skip names.
 use Rattle.std.specs.Prelude.{ℕ, List, [], ◌∷◌, ◌++◌}
 use Rattle.arc_lex.specs.declared.token.Mark.TheVariants as m
-use Rattle.arc_lex.specs.declared.token.Word.TheVariants as w
 use Rattle.arc_ast.specs.declared.tree.Visibility.{Visibility}
-use Rattle.arc_ast.specs.Tree.{TypeTree, Int, FieldTree}
-use Rattle.arc_form.specs.Kinds.{Kinds, ◌∪◌, mark, word, name}
+use Rattle.arc_ast.specs.Tree.{TypeTree, FieldTree}
+use Rattle.arc_form.specs.Kinds.{Kinds, ◌∪◌, mark, name}
 use Rattle.arc_form.specs.Operators.{fold}
 use Rattle.arc_form.specs.Reader.{Reader, ◌>>=◌, ret, take_one, from, named}
-use Rattle.arc_grammar.specs.Grammar.{FieldGroup, OfWord, OfType, reads, next_name, group, begins_visibility}
+use Rattle.arc_grammar.specs.Grammar.{FieldGroup, OfWord, OfType, reads, number_type, begins_number_type, next_name, group, begins_visibility}
 use Rattle.arc_form.specs.Joining.{joining}
 
 -- what a group of fields begins with
 abbrev pub begins_group : Kinds
-begins_group = word w.Int ∪ begins_visibility
+begins_group = begins_number_type ∪ begins_visibility
 
 -- fields, and after them one of this type and this name that is visible so
 abbrev pub add_field : Visibility → TypeTree → List FieldTree → ℕ × List ℕ → List FieldTree
@@ -27,9 +26,9 @@ add_group s (OfType type names) = (s.0, fold (add_field s.0 type) s.1 names)
 abbrev pub names_on : Visibility → TypeTree → List FieldTree → Reader (List FieldTree)
 names_on v type = joining (mark m.Comma) (reads next_name) (add_field v type)
 
--- these fields, and those of `int`, one name or more and `;`
-abbrev pub ints_on : Visibility → List FieldTree → Reader (List FieldTree)
-ints_on v made = take_one (word w.Int) from >>= (λ int. take_one name named >>= (λ n. names_on v Int (add_field v Int made n) >>= (λ all. take_one (mark m.Semicolon) from >>= (λ end. ret all))))
+-- these fields, and those of a type of numbers, one name or more and `;`
+abbrev pub numbers_on : Visibility → List FieldTree → Reader (List FieldTree)
+numbers_on v made = reads number_type >>= (λ type. take_one name named >>= (λ n. names_on v type.1 (add_field v type.1 made n) >>= (λ all. take_one (mark m.Semicolon) from >>= (λ end. ret all))))
 
 -- these fields and those of a group
 abbrev pub group_on : Visibility × List FieldTree → Reader (Visibility × List FieldTree)

@@ -6,13 +6,14 @@ ghost use Rattle.arc_form.specs.Form.{map};
 ghost use Rattle.arc_form.specs.Reader.{Gives, sees, take_one};
 ghost use Rattle.arc_grammar.specs.Grammar.{reads};
 ghost use Rattle.arc_grammar.specs.Grammar as grammar;
-ghost use Rattle.arc_top.specs.Fields.{begins_group, names_on, ints_on, group_on};
+ghost use Rattle.arc_top.specs.Fields.{begins_group, names_on, numbers_on, group_on};
 
 use crate::name::next_name;
 use arc_ast::tree::{Field, TypeName, Visibility};
+use arc_expr::type_name::{begins_number_type, number_type};
 use arc_form::fail::{Fail, Read};
-use arc_form::step::{expect, keyword, name, sees_at, sees_mark, sees_word};
-use arc_lex::token::{AtWord, Mark, Token, TokenKind, Word};
+use arc_form::step::{expect, name, sees_at, sees_mark};
+use arc_lex::token::{AtWord, Mark, Token, TokenKind};
 use std::alloc::{AllocError, Global};
 
 /// The fields in braces, if there are any; those before any word are visible so.
@@ -52,13 +53,13 @@ fn groups<'a>(alloc: Global, first: Visibility, tokens: &'a [Token]) -> Read<'a,
 fn begins_group(tokens: &[Token]) -> bool
     ensures { result ≡ sees begins_group (toks tokens.now) }
 {
-    sees_word(Word::Int, tokens)
+    begins_number_type(tokens)
         || (sees_at(AtWord::Private, tokens)
             || sees_at(AtWord::Protected, tokens)
             || sees_at(AtWord::Public, tokens))
 }
 
-/// These fields and those of `int`, which are visible so, or a word: how those after it are visible, and the fields.
+/// These fields and those of a type of numbers, which are visible so, or a word: how those after it are visible, and the fields.
 #[tactic(auto, using(crate::proofs::Fields::read_group))]
 fn group<'a>(
     alloc: Global,
@@ -69,8 +70,8 @@ fn group<'a>(
     ensures gives { Gives (λ x. ((x.0.0, field_trees x.0.1.items), toks x.1.now)) result (group_on (now, field_trees before.items) (toks tokens.now)) }
     ensures shorter { IfOk result (λ x. length x.1.now < length tokens.now) }
 {
-    if sees_word(Word::Int, tokens) {
-        let (all, rest) = ints(alloc, now, before, tokens)?;
+    if begins_number_type(tokens) {
+        let (all, rest) = numbers(alloc, now, before, tokens)?;
         return Ok(((now, all), rest));
     }
     let (next, rest) = visibility(tokens)?;
@@ -114,20 +115,19 @@ fn visibility(tokens: &[Token]) -> Read<'_, Visibility>
     }
 }
 
-/// These fields and those of `int`, one name or more and `;`.
+/// These fields and those of a type of numbers, one name or more and `;`.
 #[tactic(auto, using(crate::proofs::Fields::fields_push))]
-fn ints<'a>(
+fn numbers<'a>(
     alloc: Global,
     visibility: Visibility,
     before: Vec<Field>,
     tokens: &'a [Token],
 ) -> Read<'a, Vec<Field>>
-    ensures gives { Gives (λ x. (field_trees x.0.items, toks x.1.now)) result (ints_on visibility (field_trees before.items) (toks tokens.now)) }
+    ensures gives { Gives (λ x. (field_trees x.0.items, toks x.1.now)) result (numbers_on visibility (field_trees before.items) (toks tokens.now)) }
     ensures shorter { IfOk result (λ x. length x.1.now < length tokens.now) }
 {
-    let (_, rest) = keyword(Word::Int, tokens)?;
+    let ((_, type_name), rest) = number_type(tokens)?;
     let ((at, called), rest) = name(rest)?;
-    let type_name = TypeName::Int;
     let mut all = before;
     all.push(field(alloc, visibility, &type_name, at, called)?)?;
     let (all, rest) = more_fields(alloc, visibility, &type_name, all, rest)?;

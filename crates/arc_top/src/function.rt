@@ -9,7 +9,8 @@ ghost use Rattle.arc_grammar.specs.Grammar as grammar;
 ghost use Rattle.arc_top.specs.Signatures as signatures;
 
 use crate::parameter::{parameters, parameters_of_main};
-use arc_ast::tree::{Function, Parameters, ResultType, Stmt, TypeName};
+use arc_ast::tree::{Function, Parameters, ResultType, Stmt};
+use arc_expr::type_name::number_type;
 use arc_form::fail::Read;
 use arc_form::step::{expect, keyword, name, sees_mark, sees_word};
 use arc_lex::token::{Mark, Token, Word};
@@ -38,7 +39,7 @@ pub fn function<'a>(alloc: Global, tokens: &'a [Token]) -> Read<'a, Function>
     ))
 }
 
-/// `int` or `void`
+/// `void`, or a type of numbers.
 #[tactic(auto, unfolding(arc_grammar::specs::Grammar::result_type))]
 pub fn result_type(tokens: &[Token]) -> Read<'_, ResultType>
     ensures gives { Gives (λ x. (result_tree x.0, toks x.1.now)) result (reads grammar.result_type (toks tokens.now)) }
@@ -48,8 +49,8 @@ pub fn result_type(tokens: &[Token]) -> Read<'_, ResultType>
         let (_, rest) = keyword(Word::Void, tokens)?;
         return Ok((ResultType::Void, rest));
     }
-    let (_, rest) = keyword(Word::Int, tokens)?;
-    Ok((ResultType::Value(TypeName::Int), rest))
+    let ((_, written), rest) = number_type(tokens)?;
+    Ok((ResultType::Value(written), rest))
 }
 
 /// A function's name with its place, and what the function takes.

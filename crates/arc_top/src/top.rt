@@ -9,6 +9,7 @@ ghost use Rattle.arc_top.specs.Tops.{top_tree};
 use crate::class::{class_names, implementation, interface};
 use crate::function::function;
 use arc_ast::tree::{Function, Implementation, Interface};
+use arc_expr::type_name::begins_number_type;
 use arc_form::fail::Read;
 use arc_form::step::{sees_at, sees_word};
 use arc_lex::token::{AtWord, Token, Word};
@@ -32,7 +33,7 @@ pub fn begins_top(tokens: &[Token]) -> bool
         || sees_at(AtWord::Interface, tokens)
         || sees_at(AtWord::Implementation, tokens)
         || sees_word(Word::Void, tokens)
-        || sees_word(Word::Int, tokens)
+        || begins_number_type(tokens)
 }
 
 /// Names of classes, an interface, an implementation, or a function.

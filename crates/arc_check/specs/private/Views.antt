@@ -8,11 +8,11 @@ use Rattle.arc_check.specs.declared.scope.Bound.{Bound}
 use Rattle.arc_check.specs.declared.scope.Local as declared
 use Rattle.arc_check.specs.declared.scope.Local.TheVariants as l
 use Rattle.arc_check.specs.declared.scope.Visible.{Visible}
-use Rattle.arc_check.specs.Scopes.{Known, Local, Int, Object, Scope}
+use Rattle.arc_check.specs.Scopes.{Known, Local, Number, Object, Scope}
 
 -- a variable, by the number of its class
 abbrev pub local_of : declared.Local → Local
-local_of (l.Int n) = Int n
+local_of (l.Number kind n) = Number kind n
 local_of (l.Object n class) = Object n (option_map number_of_class class)
 
 -- the last that there is of two
@@ -47,6 +47,7 @@ seen table visible = record {
   known = known_in table;
   class = option_map number_of_class visible.class;
   sign = visible.sign;
+  result = visible.result;
   hidden = visible.hidden;
   variables = local_in visible.bound.items;
   next = visible.next;

@@ -17,14 +17,14 @@ block-returns-clause-scope t c =
     let table = c.args.table.now in
     let old = c.args.visible.now in
     leave_is table old c.statements.new.visible c.leave.new.self _ (behind_all_same (seen table old) (stmt_trees c.args.all.now)) c.in_ok-fault.ensures.scope
-    (c.leave.ensures.bound ∙ ap (λ n. take n c.statements.new.visible.bound.items) (c.len-count.ensures ∙ old.bound.ok.0) ∙ c.in_ok-fault.ensures.keeps) (record { next = c.leave.ensures.next; names = c.leave.ensures.names; class = c.leave.ensures.class; sign = c.leave.ensures.sign; hidden = c.leave.ensures.hidden })
+    (c.leave.ensures.bound ∙ ap (λ n. take n c.statements.new.visible.bound.items) (c.len-count.ensures ∙ old.bound.ok.0) ∙ c.in_ok-fault.ensures.keeps) (record { next = c.leave.ensures.next; names = c.leave.ensures.names; class = c.leave.ensures.class; sign = c.leave.ensures.sign; gives = c.leave.ensures.gives; hidden = c.leave.ensures.hidden })
 
 pub scoped-returns-clause-scope : goal.scoped-returns-clause-scope
 scoped-returns-clause-scope t c =
     let table = c.args.table.now in
     let old = c.args.visible.now in
     let same = behind_same (seen table old) (stmt_tree c.args.inner.now) in
-    leave_is table old c.statement.new.visible c.leave.new.self _ same c.in_ok-fault.ensures.scope (c.leave.ensures.bound ∙ ap (λ n. take n c.statement.new.visible.bound.items) (c.len-count.ensures ∙ old.bound.ok.0) ∙ c.in_ok-fault.ensures.keeps) (record { next = c.leave.ensures.next; names = c.leave.ensures.names; class = c.leave.ensures.class; sign = c.leave.ensures.sign; hidden = c.leave.ensures.hidden })
+    leave_is table old c.statement.new.visible c.leave.new.self _ same c.in_ok-fault.ensures.scope (c.leave.ensures.bound ∙ ap (λ n. take n c.statement.new.visible.bound.items) (c.len-count.ensures ∙ old.bound.ok.0) ∙ c.in_ok-fault.ensures.keeps) (record { next = c.leave.ensures.next; names = c.leave.ensures.names; class = c.leave.ensures.class; sign = c.leave.ensures.sign; gives = c.leave.ensures.gives; hidden = c.leave.ensures.hidden })
 
 pub statement-returns-in-Block-clause-fault : goal.statement-returns-in-Block-clause-fault
 statement-returns-in-Block-clause-fault t c =

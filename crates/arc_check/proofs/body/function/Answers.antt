@@ -1,4 +1,4 @@
-use Rattle.std.proofs.Common.{◌≡◌, Some, nat_lt, length, option_map, sym, ap, ◌∙◌}
+use Rattle.std.proofs.Common.{◌≡◌, nat_lt, length, option_map, sym, ap, ◌∙◌}
 use Rattle.arc_ast.specs.Tree.{result_tree, parameter_trees, parameters_tree, stmt_trees}
 use Rattle.arc_ast.specs.Types.{result_kind}
 use Rattle.arc_class.specs.Broken.{broken_if, first}
@@ -6,7 +6,7 @@ use Rattle.arc_sites.specs.Sites.{named_parameters}
 use Rattle.arc_class.proofs.Firsts.{first_both}
 use Rattle.arc_ast.proofs.Trees.{length-parameter_trees}
 use Rattle.arc_check.specs.Fault.{told}
-use Rattle.arc_check.specs.Rules.{broken_body, is_nothing}
+use Rattle.arc_check.specs.Rules.{broken_body}
 use Rattle.arc_check.specs.private.Views.{known_in}
 use Rattle.arc_check.proofs.body.function.Goals as goal
 use Rattle.arc_check.specs.declared.body.TheConstants.{MOST_PARAMETERS}
@@ -20,6 +20,6 @@ returns c =
     let own : option_map told c.count_fault-own.result ≡ first (broken_if (nat_lt MOST_PARAMETERS (length all)) f.at 45) =
     c.count_fault-own.ensures ∙ ap (λ n. first (broken_if (nat_lt MOST_PARAMETERS n) f.at 45)) (sym (length-parameter_trees named) ∙ ap length c.named_parameters-named.ensures) in
     let body = option_map (λ b. stmt_trees b.items) f.body in
-    let gives_nothing = is_nothing (Some (result_kind (result_tree f.result))) in
-    first_both (broken_if (nat_lt MOST_PARAMETERS (length all)) f.at 45) (broken_body gives_nothing known all body) (option_map told c.count_fault-own.result) (option_map told c.in_ok-inside.inside) (option_map told c.earlier.result) own
-    (c.in_ok-inside.ensures ∙ ap (λ b. first (broken_body b known (parameter_trees named) body)) (c.is_void-gives_nothing.ensures ∙ ap (λ k. is_nothing (Some k)) c.kind.ensures) ∙ ap (λ ps. first (broken_body gives_nothing known ps body)) c.named_parameters-named.ensures) c.earlier.ensures
+    let gives = result_kind (result_tree f.result) in
+    first_both (broken_if (nat_lt MOST_PARAMETERS (length all)) f.at 45) (broken_body gives known all body) (option_map told c.count_fault-own.result) (option_map told c.in_ok-inside.inside) (option_map told c.earlier.result) own
+    (c.in_ok-inside.ensures ∙ ap (λ k. first (broken_body k known (parameter_trees named) body)) c.kind-gives.ensures ∙ ap (λ ps. first (broken_body gives known ps body)) c.named_parameters-named.ensures) c.earlier.ensures

@@ -1,11 +1,12 @@
-use Rattle.std.proofs.Common.{◌≡◌, ◌<◌, ◌&&◌, length, is_none, refl, sym, ap, ◌∙◌, option_map}
+use Rattle.std.proofs.Common.{◌≡◌, ◌<◌, ◌&&◌, length, Some, is_none, refl, sym, ap, ◌∙◌, option_map}
 use Rattle.arc_ast.specs.Tree.{expr_tree, expr_trees, type_tree, place}
-use Rattle.arc_class.specs.Broken.{earlier_of}
+use Rattle.arc_ast.specs.Types.{type_kind}
+use Rattle.arc_class.specs.Broken.{first, earlier_of}
 use Rattle.arc_class.specs.Table.{number_of_class}
 use Rattle.arc_check.specs.Fault.{told}
 use Rattle.arc_check.specs.Formats.{wanted}
 use Rattle.arc_check.specs.private.Judging.{Judges, counted}
-use Rattle.arc_check.specs.Rules.{at_if, kind_if}
+use Rattle.arc_check.specs.Rules.{at_if, kind_if, no_such}
 use Rattle.arc_check.specs.private.Views.{seen}
 use Rattle.arc_check.proofs.Judgements.{judges_call, judges_send, judges_super, judges_unary, judges_cast, judges_arrow, judges_message, judges_super_message, judges_binary, judges_assign, judges_other, fit_turn, fault_turn, taken_turn}
 use Rattle.arc_check.proofs.judge.+judge.Goals as goal
@@ -66,8 +67,11 @@ judge_unary-returns t c = λ at.
 
 pub judge_cast-returns : goal.judge_cast-returns
 judge_cast-returns t c = λ at.
-    judges_cast (seen c.args.table.now c.args.visible.now) c.args.before at (type_tree c.args.type_name.now) (expr_tree c.args.operand.now) c.judge-judged.result c.object.result c.place.result c.judge-judged.ensures c.place.ensures (ap (λ j. j.kind) c.object.ensures)
-    (ap (λ j. option_map number_of_class j.class) c.object.ensures ∙ c.static_class.ensures) (ap (λ j. option_map told j.fault) c.object.ensures ∙ c.earlier.ensures ∙ ap (earlier_of (option_map told c.judge-judged.result.fault)) c.no_object.ensures) (ap (λ j. j.taken) c.object.ensures)
+    let type = type_tree c.args.type_name.now in
+    let same : Some c.kind.result ≡ Some (type_kind type) = ap Some c.kind.ensures in
+    judges_cast (seen c.args.table.now c.args.visible.now) c.args.before at type (expr_tree c.args.operand.now) c.judge-judged.result
+    (record { kind = Some c.kind.result; class = c.static_class.result; fault = c.earlier.result; taken = c.judge-judged.result.taken }) c.place.result c.judge-judged.ensures c.place.ensures same c.static_class.ensures
+    (c.earlier.ensures ∙ ap (earlier_of (option_map told c.judge-judged.result.fault)) (c.no_such.ensures ∙ ap (λ k. first (no_such k c.judge-judged.result.kind c.place.result)) same)) refl
 
 pub judge_arrow-returns : goal.judge_arrow-returns
 judge_arrow-returns t c = λ at.

@@ -1,7 +1,8 @@
-use Rattle.std.proofs.Common.{ap}
+use Rattle.std.proofs.Common.{ap, ◌∙◌}
 use Rattle.std.specs.List.{filter_map}
 use Rattle.arc_ast.specs.Tree.{function_trees}
 use Rattle.arc_check.specs.Resolving.{resolved_function}
+use Rattle.arc_check.specs.Scopes.{outermost}
 use Rattle.arc_check.specs.private.Views.{known_in, seen}
 use Rattle.arc_check.proofs.Commands.{functions_turn, functions_pass, functions_end}
 use Rattle.arc_check.proofs.program.functions.Goals as goal
@@ -15,8 +16,8 @@ loop-one-preserved c =
     let x = c.one-item.result in
     let whole = filter_map (resolved_function known) (function_trees xs) in
     elim c.match-one.branch [
-      | in-Some+in_ok-function+in_ok-push w ↦ functions_turn known xs i x w.named_parameters-named.result.now w.in-Some.body w.deref.result.now c.loop-one.all.items w.push.new.self c.match-one.all w.in_ok-function.field-0 (seen c.args.table.now w.new.result) whole c.loop-one-test.true c.one-item.is w.in-Some.is w.deref.ensures.value
-          w.named_parameters-named.ensures (w.new.ensures c.args.table.now) w.in_ok-function.ensures w.in_ok-push.ensures.items w.all-is c.loop-one.invariant
+      | in-Some+in_ok-function+in_ok-push w ↦ functions_turn known xs i x w.named_parameters-named.result.now w.in-Some.body w.deref.result.now c.loop-one.all.items w.push.new.self c.match-one.all w.in_ok-function.field-0 (seen c.args.table.now w.new-visible.result) whole c.loop-one-test.true c.one-item.is w.in-Some.is w.deref.ensures.value
+          w.named_parameters-named.ensures (w.new-visible.ensures c.args.table.now ∙ ap (outermost known) w.kind.ensures) w.in_ok-function.ensures w.in_ok-push.ensures.items w.all-is c.loop-one.invariant
       | in_default w ↦ functions_pass known xs i x c.loop-one.all.items c.match-one.all.items whole c.loop-one-test.true c.one-item.is w.in_default.is (ap (λ v. v.items) w.all-is) c.loop-one.invariant
     ]
 

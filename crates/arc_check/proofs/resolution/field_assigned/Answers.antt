@@ -1,6 +1,5 @@
 use Rattle.std.proofs.Common.{ap, ◌∙◌}
 use Rattle.std.proofs.lemmas.Result.{IfOk-weaker}
-use Rattle.arc_ast.specs.declared.tree.Kind.TheVariants as k
 use Rattle.arc_class.specs.Table.{number_of_class}
 use Rattle.arc_spec.specs.Resolved.{FieldAssigned}
 use Rattle.arc_check.specs.Checked as checked
@@ -10,5 +9,5 @@ use Rattle.arc_check.proofs.resolution.field_assigned.Goals as goal
 pub returns : goal.returns
 returns c =
     let f = c.in-Some.field in
-    rw c.in-Some.is (IfOk-weaker c.given.result _ _ (λ new h. h ∙ ap (λ o. Gives k.Int (FieldAssigned (checked.reference o) (number_of_class f.owner) f.index (checked.value c.in_ok-value.value.value))) c.in_ok-object.ensures.ok
-    ∙ ap (λ v. Gives k.Int (FieldAssigned (checked.reference c.args.object) (number_of_class f.owner) f.index v)) c.in_ok-value.ensures) c.given.ensures)
+    rw c.in-Some.is (IfOk-weaker c.given.result _ _ (λ new h. h ∙ ap (λ o. Gives f.kind (FieldAssigned (checked.reference o) (number_of_class f.owner) f.index (checked.value c.in_ok-value.value.value))) c.in_ok-object.ensures.ok
+    ∙ ap (λ v. Gives f.kind (FieldAssigned (checked.reference c.args.object) (number_of_class f.owner) f.index v)) c.in_ok-value.ensures) c.given.ensures)

@@ -7,9 +7,10 @@ use Rattle.arc_check.specs.declared.callee.Callee.TheVariants.{Printf, GetChar, 
 use Rattle.arc_check.specs.declared.resolution.Typed.{Typed}
 use Rattle.arc_check.specs.private.Building.{resolution}
 use Rattle.arc_check.specs.Checked as checked
-use Rattle.arc_ast.specs.Tree.{expr_tree, expr_trees}
+use Rattle.arc_ast.specs.Tree.{expr_tree, expr_trees, type_tree}
+use Rattle.arc_ast.specs.Types.{type_kind}
 use Rattle.arc_check.specs.Resolving as resolving
-use Rattle.arc_check.specs.Resolving.{unary, binary, resolved, resolved_all}
+use Rattle.arc_check.specs.Resolving.{unary, binary, cast, resolved, resolved_all}
 use Rattle.arc_check.specs.Scopes.{class_of, result_kind}
 use Rattle.arc_check.specs.private.Views.{seen}
 use Rattle.arc_ast.proofs.Trees.{call_tree, send_tree, send_super_tree}
@@ -64,7 +65,7 @@ pub signed-returns : goal.signed-returns
 signed-returns t c = λ at. record { class = refl; value = c.in_ok-value.ensures ∙ ap (unary c.args.operator) c.in_ok-operand.ensures.value }
 
 pub cast-returns : goal.cast-returns
-cast-returns t c = λ at. record { class = c.static_class.ensures; value = c.in_ok-operand.ensures.value }
+cast-returns t c = λ at. record { class = c.static_class.ensures; value = c.in_ok-value.ensures ∙ ap (λ k. cast k (resolution c.in_ok-operand.operand.value)) c.kind.ensures ∙ ap (cast (type_kind (type_tree c.args.type_name.now))) c.in_ok-operand.ensures.value }
 
 pub operation-returns : goal.operation-returns
 operation-returns t c = λ at.

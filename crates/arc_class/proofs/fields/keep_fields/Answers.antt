@@ -1,5 +1,7 @@
 use Rattle.std.proofs.Common.{◌≡◌, suc, ◌+◌, ◌≤◌, length, drop, ap, ◌∙◌, arith}
-use Rattle.arc_ast.specs.Tree.{field_trees}
+use Rattle.arc_ast.specs.declared.tree.Kind.{Kind}
+use Rattle.arc_ast.specs.Tree.{type_tree, field_trees}
+use Rattle.arc_ast.specs.Types.{type_kind}
 use Rattle.arc_class.specs.declared.table.FoundField.{FoundField}
 use Rattle.arc_class.specs.Classes.{or_else}
 use Rattle.arc_class.specs.Fields.{numbered}
@@ -17,13 +19,14 @@ loop-field-preserved c =
     let x = c.field-item.result in
     let owner = number_of_class c.args.owner in
     let index = c.loop-field.index in
-    let found : FoundField = record { owner = c.args.owner; index = index; visibility = x.visibility } in
+    let of_kind : Kind → FoundField = λ kind. record { owner = c.args.owner; index = index; kind = kind; visibility = x.visibility } in
+    let found = of_kind (type_kind (type_tree x.type_name)) in
     let next : suc index ≡ index + 1 = omega arith in
     record {
       kept = λ sought.
           let old = at_name c.loop-field.named sought in
           let rest = numbered owner (index + 1) (field_trees (drop (k + 1) xs)) sought in
-          kept_turn old (one_at x.name.items found sought) _ rest _ (c.in_ok-keep_first.ensures sought ∙ ap (λ n. or_else old (one_at n found sought)) c.deref.ensures.value)
+          kept_turn old (one_at x.name.items found sought) _ rest _ (c.in_ok-keep_first.ensures sought ∙ ap (λ k. or_else old (one_at c.deref.result.now (of_kind k) sought)) c.kind-held.ensures ∙ ap (λ n. or_else old (one_at n found sought)) c.deref.ensures.value)
           (c.loop-field.invariant.kept sought ∙ ap (or_else old) (ap (λ us. numbered owner index (field_trees us) sought) (drop_turn xs k x c.loop-field-test.true c.field-item.is)
           ∙ or_one x.name.items found (numbered owner (suc index) (field_trees (drop (k + 1) xs)) sought) sought
           ∙ ap (λ n. or_else (one_at x.name.items found sought) (numbered owner n (field_trees (drop (k + 1) xs)) sought)) next));

@@ -34,8 +34,8 @@ decreases-parenthesized l = 16 * length l.tokens.now + 1
 abbrev pub decreases-inside : goal.decreases-inside
 decreases-inside l = 16 * length l.tokens.now + 8
 
-abbrev pub decreases-cast_to_id : goal.decreases-cast_to_id
-decreases-cast_to_id l = 16 * length l.tokens.now + 1
+abbrev pub decreases-cast_to_plain : goal.decreases-cast_to_plain
+decreases-cast_to_plain l = 16 * length l.tokens.now + 1
 
 abbrev pub decreases-starred : goal.decreases-starred
 decreases-starred l = 16 * length l.tokens.now + 1

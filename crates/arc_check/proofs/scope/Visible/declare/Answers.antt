@@ -5,8 +5,14 @@ use Rattle.arc_check.specs.Scopes.{has_place, with_object, declare}
 use Rattle.arc_check.specs.private.Views.{seen}
 use Rattle.arc_check.proofs.scope.Visible.declare.Goals as goal
 
+pub returns-in-Bool-clause-scope : goal.returns-in-Bool-clause-scope
+returns-in-Bool-clause-scope c = on_ok_weaker c.declare_number.result (λ h. h c.args.table.now ∙ ap (λ t. declare c.args.name.now (type_tree t) (seen c.args.table.now c.args.self.now)) (sym c.in-Bool.is)) c.declare_number.ensures.scope
+
 pub returns-in-Int-clause-scope : goal.returns-in-Int-clause-scope
-returns-in-Int-clause-scope c = on_ok_weaker c.declare_int.result (λ h. h c.args.table.now ∙ ap (λ t. declare c.args.name.now (type_tree t) (seen c.args.table.now c.args.self.now)) (sym c.in-Int.is)) c.declare_int.ensures.scope
+returns-in-Int-clause-scope c = on_ok_weaker c.declare_number-in-Int.result (λ h. h c.args.table.now ∙ ap (λ t. declare c.args.name.now (type_tree t) (seen c.args.table.now c.args.self.now)) (sym c.in-Int.is)) c.declare_number-in-Int.ensures.scope
+
+pub returns-in-Long-clause-scope : goal.returns-in-Long-clause-scope
+returns-in-Long-clause-scope c = on_ok_weaker c.declare_number-in-Long.result (λ h. h c.args.table.now ∙ ap (λ t. declare c.args.name.now (type_tree t) (seen c.args.table.now c.args.self.now)) (sym c.in-Long.is)) c.declare_number-in-Long.ensures.scope
 
 pub returns-in-Id-clause-scope : goal.returns-in-Id-clause-scope
 returns-in-Id-clause-scope c = on_ok_weaker c.declare_object.result (λ h. h c.args.table.now ∙ ap (λ t. declare c.args.name.now (type_tree t) (seen c.args.table.now c.args.self.now)) (sym c.in-Id.is)) c.declare_object.ensures.scope

@@ -1,7 +1,0 @@
-use Rattle.std.proofs.Common.{ap, ◌∙◌}
-use Rattle.arc_check.specs.Checked as checked
-use Rattle.arc_check.specs.Resolving.{int_in}
-use Rattle.arc_check.proofs.resolve.int.Goals as goal
-
-pub returns : goal.returns
-returns c = ap checked.value c.into_inner.ensures ∙ c.in_ok-value.ensures ∙ ap int_in c.in_ok-typed.ensures.value
