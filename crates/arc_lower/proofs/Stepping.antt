@@ -351,8 +351,9 @@ module _ (R : resolved.Program) (all : List Order) (table : List Height) where
           let first = goes_here base one (walk i (i ∷ pending)) (xs ++ rest) (ordinary_then xs rest (block_ordinary statement x i m t.4) o) inside in
           let second = goes_here base two (walk j others) ys (block_ordinary statement y j g t.5) part in
           let ends = block_ends R 0 0 slots names exit base statement y j g others kept t.5 in
-          let last = subst (λ w. Goes (two + length ys) w.height) ends.1 (ends_with base two (walk j others) ys part) in (
-            (h, f.0, (t.2.some, subst (λ n. Goes one n × Leads (lands pc to) n) (sym t.2.left) (first, (t.1, t.2.first, subst (λ q. Goes q j) there second)))),
+          let last = subst (λ w. Goes (two + length ys) w.height) ends.1 (ends_with base two (walk j others) ys part) in
+          let chosen = subst (λ n. Goes one n × Leads (lands pc to) n) (sym t.2.left) (first, (t.1, t.2.first, subst (λ q. Goes q j) there second)) in (
+            (h, f.0, (t.2.some, chosen.0, chosen.1)),
             step_then one xs rest (block_steps statement x i m one (i ∷ pending) more t.4 (front base one (walk i (i ∷ pending)) xs rest o inside)) ((m, after.2.0, (g.temporaries, t.2.next, last)), block_steps statement y j g two others kept t.5 part),
           )
       block_steps true (Loop x y) h g pc pending keeps t f =
@@ -375,8 +376,9 @@ module _ (R : resolved.Program) (all : List Order) (table : List Height) where
           let after = behind true y base base one (base ∷ chosen.0) again more t.3 inside in
           let last = subst (λ n. Goes end n) (part_same R 0 0 slots names exit base true base base chosen.0 after.0 refl after.1) after.2.2 in
           let first = goes_here base pc (walk base pending) (ts ++ (out ∷ (xs ++ again))) (ordinary_then ts (out ∷ (xs ++ again)) (block_ordinary true x base test t.2) (tt, o)) start in
+          let both = subst (λ n. Goes one n × Leads (lands q to) n) (sym less) (goes_here base one (walk base (base ∷ chosen.0)) (xs ++ again) o inside, (0, omega arith, subst (λ n. Goes n base) there last)) in
           step_then pc ts (out ∷ (xs ++ again)) (block_steps true x base test pc pending keeps t.2 (front base pc (walk base pending) ts (out ∷ (xs ++ again)) (tt, o) start)) (
-            (test, chosen.2.0, (omega arith, subst (λ n. Goes one n × Leads (lands q to) n) (sym less) (goes_here base one (walk base (base ∷ chosen.0)) (xs ++ again) o inside, (0, omega arith, subst (λ n. Goes n base) there last)))),
+            (test, chosen.2.0, (omega arith, both.0, both.1)),
             step_then one xs again (block_steps true y base base one (base ∷ chosen.0) more t.3 (front base one (walk base (base ∷ chosen.0)) xs again (tt, tt) inside)) ((base, after.2.0, (0, omega arith, subst (λ n. Goes n base) begin first)), tt),
           )
       block_steps true (Leave to) h g pc pending keeps t f = ((h, f.0, subst (λ n. Leads to n) (sym t.2) (0, omega arith, subst (λ q. Goes q test) (sym t.1) leaves)), tt)
