@@ -1,5 +1,5 @@
 -- The resolved program of a source that breaks no rule.
-use Rattle.std.specs.Prelude.{ℕ, ◌-◌, pos, Bool, false, List, [], ◌∷◌, ◌++◌, map, flat_map, filter_map, Option, Some, None, option_map, option_and_then, unwrap_or, if◌then◌else◌}
+use Rattle.std.specs.Prelude.{ℕ, ◌-◌, pos, Bool, false, List, [], ◌∷◌, ◌++◌, drop, map, flat_map, filter_map, Option, Some, None, option_map, option_and_then, unwrap_or, if◌then◌else◌}
 use Rattle.std.specs.Option.{option_map_or}
 use Rattle.arc_ast.specs.declared.tree.UnaryOperator.{UnaryOperator}
 use Rattle.arc_ast.specs.declared.tree.UnaryOperator.TheVariants as u
@@ -133,9 +133,25 @@ called GetChar arguments all = ReadByte
 called (Defined result count body) arguments all = Invoked (unwrap_or body 0) all
 called Unknown arguments all = ReadByte
 
--- a value that printf prints keeps its kind, and any other argument is an int
-abbrev pub argument : (printed : Bool) → Resolution → Value
-argument printed a = if printed then number_in a else int_in a
+-- The kinds that arguments are converted to: those of the parameters, as if by assignment (C99, section 6.5.2.2, paragraph 7). What printf prints keeps its kind:
+-- None. An argument more, which breaks a rule, is as one for an int.
+abbrev pub first_wanted : Option (List Kind) → Option Kind
+first_wanted None = None
+first_wanted (Some []) = Some k.Int
+first_wanted (Some (kind ∷ others)) = Some kind
+
+abbrev pub argument : Option Kind → Resolution → Value
+argument None a = number_in a
+argument (Some kind) a = converted kind a
+
+-- what a function asks of its arguments
+abbrev pub wanted_by : Callee → List Kind → Option (List Kind)
+wanted_by function kinds = if is_printf function then None else Some kinds
+
+-- the sign of the methods that a message goes to, by the class that its receiver is
+abbrev pub receiver_sign : Option ℕ → Sign
+receiver_sign None = signs.Instance
+receiver_sign (Some class) = signs.Class
 
 -- ---- names, fields and assignments
 
@@ -200,7 +216,7 @@ abbrev mutual
   resolved s (Text at bytes) = Gives k.Int (Number (pos 0))
   resolved s (Paren at a) = resolved s a
   resolved s (Call at name arguments) =
-      Gives (result_kind (callee s.known name)) (called (callee s.known name) arguments (resolved_all s (is_printf (callee s.known name)) arguments))
+      Gives (result_kind (callee s.known name)) (called (callee s.known name) arguments (resolved_all s (wanted_by (callee s.known name) (s.known.parameters name)) arguments))
   resolved s (tree.Nil at) = Refers Nil
   resolved s (tree.Itself at) = Refers Itself
   resolved s (Name at name) = named (s.variables name) (own_field s name)
@@ -210,8 +226,8 @@ abbrev mutual
   resolved s (Arrow at name_at a name) = field (object_in (resolved s a)) (s.known.field (class_of s a) name)
   resolved s (Assign at sign a b) = assigned s a (resolved s b)
   resolved s (Send at part receiver selector arguments) =
-      sent s receiver (class_receiver s receiver) (class_of s receiver) (resolved s receiver) selector (resolved_all s false arguments)
-  resolved s (SendSuper at part super_at selector arguments) = sent_super s selector (resolved_all s false arguments)
+      sent s receiver (class_receiver s receiver) (class_of s receiver) (resolved s receiver) selector (resolved_all s (Some (s.known.passed (receiver_sign (class_receiver s receiver)) selector)) arguments)
+  resolved s (SendSuper at part super_at selector arguments) = sent_super s selector (resolved_all s (Some (s.known.passed s.sign selector)) arguments)
 
   -- An assignment to its left side; to `self` it is refused by the rules of ownership, and stands here as what is assigned.
   pub assigned : Scope → ExprTree → Resolution → Resolution
@@ -220,9 +236,9 @@ abbrev mutual
   assigned s (Arrow at name_at a name) b = field_assigned (object_in (resolved s a)) (s.known.field (class_of s a) name) b
   assigned s _ b = b
 
-  pub resolved_all : Scope → (printed : Bool) → ExprTrees → Values
-  resolved_all s printed no_exprs = no_values
-  resolved_all s printed (and_expr a others) = and_value (argument printed (resolved s a)) (resolved_all s printed others)
+  pub resolved_all : Scope → (wanted : Option (List Kind)) → ExprTrees → Values
+  resolved_all s wanted no_exprs = no_values
+  resolved_all s wanted (and_expr a others) = and_value (argument (first_wanted wanted) (resolved s a)) (resolved_all s (option_map (drop 1) wanted) others)
 
 -- ---- statements
 

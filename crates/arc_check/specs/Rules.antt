@@ -13,11 +13,11 @@ use Rattle.arc_ast.specs.Types as types
 use Rattle.arc_ast.specs.Tree.{TypeTree, ExprTree, ExprTrees, Integer, Text, Paren, Call, Nil, Itself, Name, Unary, Cast, Binary, Arrow, Assign, Send, SendSuper, no_exprs, and_expr, place, VariableTree, StmtTree, StmtTrees, Block, Empty, Simple, Return, Variables, If, IfElse, While, no_stmts, and_stmt, ParameterTree, FunctionTree, HeadTree, MethodTree, InterfaceTree, ImplementationTree, UnitTree}
 use Rattle.arc_class.specs.Broken.{broken_if, Broken}
 use Rattle.arc_sites.specs.Sites.{named_parameters}
-use Rattle.arc_class.specs.Classes.{class_number, superclass, known_result, any_result, selector_number}
+use Rattle.arc_class.specs.Classes.{kinds_passed, class_number, superclass, known_result, any_result, selector_number}
 use Rattle.arc_class.specs.Fields.{known_field}
 use Rattle.arc_class.specs.Running.{classes}
 use Rattle.arc_class.specs.declared.table.FoundField.{FoundField}
-use Rattle.arc_class.specs.Names.{known}
+use Rattle.arc_class.specs.Names.{kinds_of_parameters, known}
 use Rattle.arc_sites.specs.Violations.{violates}
 use Rattle.arc_spec.specs.Classes.{descends}
 use Rattle.arc_check.specs.declared.body.TheConstants.{MOST_PARAMETERS}
@@ -345,6 +345,8 @@ broken_implementation known i = flat_map (broken_method known (known.class i.nam
 abbrev pub known_of : UnitTree → Known
 known_of u = record {
   function = known u.functions;
+  parameters = kinds_of_parameters u.functions;
+  passed = kinds_passed u;
   class = class_number u.interfaces;
   superclass = superclass u.interfaces;
   descends = descends (classes u);

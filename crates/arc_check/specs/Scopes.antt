@@ -18,10 +18,12 @@ use Rattle.arc_check.specs.declared.scope.TheConstants.{MOST_VARIABLES}
 use Rattle.arc_check.specs.declared.callee.Callee.{Callee}
 use Rattle.arc_check.specs.declared.callee.Callee.TheVariants.{Printf, GetChar, Defined, Unknown}
 
--- What is known of a source's names: its functions, the numbers of its classes, their superclasses, which class comes from which, what the method gives that is
+-- What is known of a source's names: its functions, the kinds of their parameters and of those of its methods, the numbers of its classes, their superclasses, which class comes from which, what the method gives that is
 -- known for a message of a sign to a class, and to objects of any class, the numbers of its selectors, and the fields that the objects of a class have.
 pub record Known : Type 0 where
   pub function : List ℕ → Option Declared
+  pub parameters : List ℕ → List Kind
+  pub passed : Sign → List ℕ → List Kind
   pub class : List ℕ → Option ℕ
   pub superclass : ℕ → Option ℕ
   pub descends : Option ℕ → ℕ → Bool

@@ -446,8 +446,9 @@ statement d = choose (mark m.OpenBrace) (block d) (choose (mark m.Semicolon) emp
 unfoldable pub result_type : Part ResultTree
 result_type = choose (word w.Void) (map (λ void. Void) (key w.Void)) (map (λ type. Value type.1) number_type)
 
+-- a type of numbers and a name
 unfoldable pub parameter : Part ParameterTree
-parameter = map (λ (int, n). record { at = n.0; type = Int; name = n.1 }) (key w.Int ⨾ called)
+parameter = map (λ (type, n). record { at = n.0; type = type.1; name = n.1 }) (number_type ⨾ called)
 
 unfoldable pub next_parameter : Part ParameterTree
 next_parameter = map (λ (comma, p). p) (the m.Comma ⨾ parameter)
@@ -462,7 +463,7 @@ unfoldable pub some_parameters : Part ParametersTree
 some_parameters = map (λ (p, others). Listed (p ∷ others)) (parameter ⨾ more_parameters)
 
 unfoldable pub parameters : Part ParametersTree
-parameters = choose (word w.Void) void_parameters (choose (word w.Int) some_parameters (give (Listed [])))
+parameters = choose (word w.Void) void_parameters (choose begins_number_type some_parameters (give (Listed [])))
 
 -- `name[]` or `*name`
 unfoldable pub texts_name : Part (Unit {0})
@@ -478,15 +479,19 @@ texts = map (λ _ count. CountAndTexts) (perhaps_const ⨾ key w.Char ⨾ the m.
 unfoldable pub further_parameters : Part (ParameterTree → ParametersTree)
 further_parameters = map (λ (q, others) p. Listed (p ∷ q ∷ others)) (parameter ⨾ more_parameters)
 
--- what is after the first parameter of `main` and a comma
+-- the first parameter of `main` where that is an `int`, as the count of texts is
+unfoldable pub count : Part ParameterTree
+count = map (λ (int, n). record { at = n.0; type = Int; name = n.1 }) (key w.Int ⨾ called)
+
+-- what is after it and a comma
 unfoldable pub second : Part (ParameterTree → ParametersTree)
 second = map (λ (comma, make). make) (the m.Comma ⨾ choose (word w.Const ∪ word w.Char) texts further_parameters)
 
 unfoldable pub some_of_main : Part ParametersTree
-some_of_main = map (λ (p, make). make p) (parameter ⨾ choose (mark m.Comma) second (give (λ p. Listed (p ∷ []))))
+some_of_main = map (λ (p, make). make p) (count ⨾ choose (mark m.Comma) second (give (λ p. Listed (p ∷ []))))
 
 unfoldable pub parameters_of_main : Part ParametersTree
-parameters_of_main = choose (word w.Void) void_parameters (choose (word w.Int) some_of_main (give (Listed [])))
+parameters_of_main = choose (word w.Void) void_parameters (choose (word w.Int) some_of_main (choose begins_number_type some_parameters (give (Listed []))))
 
 abbrev pub Signature : Type 0
 Signature = (ℕ × List ℕ) × ParametersTree
@@ -507,14 +512,18 @@ braces = map (λ (start, (all, end)). stmts all) (the m.OpenBrace ⨾ items 2 �
 unfoldable pub function_body : Part (Option StmtTrees)
 function_body = choose (mark m.Semicolon) (map (λ end. None) (the m.Semicolon)) (map Some braces)
 
+-- a name that is `static` is known in its file alone (C99, section 6.2.2), which is the whole program
+unfoldable pub perhaps_static : Part (Unit {0})
+perhaps_static = choose (word w.Static) (map (λ _. tt) (key w.Static)) (give tt)
+
 unfoldable pub function : Part FunctionTree
-function = map (λ (type, (s, b)). record { at = s.0.0; name = s.0.1; result = type; parameters = s.1; body = b }) (result_type ⨾ signature ⨾ function_body)
+function = map (λ (static, (type, (s, b))). record { at = s.0.0; name = s.0.1; result = type; parameters = s.1; body = b }) (perhaps_static ⨾ result_type ⨾ signature ⨾ function_body)
 
 -- ---- methods (OPL, "Defining a Class")
 
--- a colon, `int` in parentheses and the parameter's name
+-- a colon, a type of numbers in parentheses and the parameter's name
 unfoldable pub typed : Part ParameterTree
-typed = map (λ (colon, (start, (int, (end, n)))). record { at = n.0; type = Int; name = n.1 }) (the m.Colon ⨾ the m.OpenParen ⨾ key w.Int ⨾ the m.CloseParen ⨾ called)
+typed = map (λ (colon, (start, (type, (end, n)))). record { at = n.0; type = type.1; name = n.1 }) (the m.Colon ⨾ the m.OpenParen ⨾ number_type ⨾ the m.CloseParen ⨾ called)
 
 unfoldable pub next_typed : Part (List ℕ × ParameterTree)
 next_typed = map (λ (n, p). (n.1, p)) (called ⨾ typed)
@@ -628,7 +637,7 @@ top = choose (at words.Class) (map (λ _. OfNames) class_names) (choose (at word
     (choose (at words.Implementation) (map OfImplementation implementation) (map OfFunction function)))
 
 abbrev pub begins_top : Kinds
-begins_top = at words.Class ∪ at words.Interface ∪ at words.Implementation ∪ word w.Void ∪ begins_number_type
+begins_top = at words.Class ∪ at words.Interface ∪ at words.Implementation ∪ word w.Static ∪ word w.Void ∪ begins_number_type
 
 unfoldable pub tops : Part (List TopTree)
 tops = many begins_top top
