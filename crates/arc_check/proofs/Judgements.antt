@@ -127,6 +127,21 @@ judges_arrow s before at name_at a name judged new here found j p w k c f t =
       taken = t ∙ j.taken;
     }
 
+pub judges_choice : (s : Scope) (before : Taken) (at : ℕ) (c a b : ExprTree) (test one other new : Judged) (test_at one_at other_at : ℕ) → Judges s before c test → Judges s test.taken a one → Judges s one.taken b other → test_at ≡ place c → one_at ≡ place a → other_at ≡ place b
+    → new.kind ≡ either_kind one.kind other.kind → option_map number_of_class new.class ≡ either_class (is_nil a) (is_nil b) (option_map number_of_class one.class) (option_map number_of_class other.class)
+    → option_map told new.fault ≡ earlier_of (earlier_of (option_map told test.fault) (first (no_value test.kind test_at))) (earlier_of (earlier_of (option_map told one.fault) (first (no_left Equality one.kind one_at))) (earlier_of (option_map told other.fault) (first (no_right Equality one.kind other.kind other_at))))
+    → new.taken ≡ other.taken → Judges s before (Conditional at c a b) new
+judges_choice s before at c a b test one other new test_at one_at other_at x y z p q r k n f t =
+    let by_test = earlier_of (option_map told test.fault) (first (no_value test.kind test_at)) in
+    let by_one = earlier_of (option_map told one.fault) (first (no_left Equality one.kind one_at)) in
+    let by_other = earlier_of (option_map told other.fault) (first (no_right Equality one.kind other.kind other_at)) in
+    record {
+      kind = k ∙ ap (λ o. either_kind o other.kind) y.kind ∙ ap (either_kind (kind_of s a)) z.kind;
+      class = n ∙ ap (λ o. either_class (is_nil a) (is_nil b) o (option_map number_of_class other.class)) y.class ∙ ap (either_class (is_nil a) (is_nil b) (class_of s a)) z.class;
+      fault = ?;
+      taken = t ∙ z.taken ∙ ?;
+    }
+
 pub judges_binary : (s : Scope) (before : Taken) (at : ℕ) (operator : BinaryOperator) (a b : ExprTree) (left right both : Judged) (left_at right_at : ℕ) → Judges s before a left → Judges s left.taken b right → left_at ≡ place a → right_at ≡ place b → both.kind ≡ binary_kind (sort_of operator) left.kind right.kind → both.class ≡ None
     → option_map told both.fault ≡ earlier_of (earlier_of (option_map told left.fault) (first (no_left (sort_of operator) left.kind left_at))) (earlier_of (option_map told right.fault) (first (no_right (sort_of operator) left.kind right.kind right_at))) → both.taken ≡ right.taken
     → Judges s before (Binary at operator a b) both
