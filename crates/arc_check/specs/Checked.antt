@@ -12,7 +12,7 @@ use Rattle.arc_check.specs.declared.checked.CheckedFunction.{CheckedFunction}
 use Rattle.arc_check.specs.declared.checked.Checked.{Checked}
 use Rattle.arc_spec.specs.Classes.{classes_of}
 use Rattle.arc_spec.specs.Resolved as resolved
-use Rattle.arc_spec.specs.Resolved.{Number, ReadByte, Print, Applied, Combined, Both, Either, Choice, Converted, Local, Assigned, Invoked, Sent, SentSuper, SentTo, SentToSuper, Field, FieldAssigned, Differ, IsObject, Nil, Itself, Variable, Chosen, Stored, Made, Initialized, no_values, and_value, Sequence, Evaluate, EvaluateReference, Begin, Return, Choose, Repeat, no_commands, and_command, Bytes, Decimal, Character}
+use Rattle.arc_spec.specs.Resolved.{Number, ReadByte, Print, Applied, Combined, Choice, Converted, Local, Assigned, Invoked, Sent, SentSuper, SentTo, SentToSuper, Field, FieldAssigned, Differ, IsObject, Nil, Itself, Variable, Chosen, Stored, Made, Initialized, no_values, and_value, Sequence, Evaluate, EvaluateReference, Begin, Return, Choose, Repeat, no_commands, and_command, Bytes, Decimal, Character}
 
 abbrev pub piece : Piece → resolved.Piece
 piece (p.Bytes bytes) = Bytes bytes.items
@@ -30,8 +30,6 @@ abbrev mutual
   value (v.Print' all shape arguments) = Print (pieces all.items) (row_values arguments)
   value (v.Applied' operator kind q a) = Applied operator kind (value a)
   value (v.Combined' operator kind q a r b) = Combined operator kind (value a) (value b)
-  value (v.Both' q a r b) = Both (value a) (value b)
-  value (v.Either' q a r b) = Either (value a) (value b)
   value (v.Choice' q c r a s b) = Choice (value c) (value a) (value b)
   value (v.Converted' kind q a) = Converted kind (value a)
   value (v.Local i) = Local i

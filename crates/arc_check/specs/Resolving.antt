@@ -17,7 +17,7 @@ use Rattle.arc_ast.specs.declared.tree.Sign.TheVariants as signs
 use Rattle.arc_ast.specs.Tree as tree
 use Rattle.arc_ast.specs.Tree.{TypeTree, ExprTree, ExprTrees, Integer, Text, Paren, Call, Name, Unary, Cast, Binary, Conditional, Arrow, Assign, Send, SendSuper, no_exprs, and_expr, VariableTree, StmtTree, StmtTrees, Block, Empty, Simple, Variables, If, IfElse, While, no_stmts, and_stmt, ParameterTree, FunctionTree, MethodTree, ImplementationTree, UnitTree}
 use Rattle.arc_spec.specs.Classes.{same_sign}
-use Rattle.arc_spec.specs.Resolved.{Value, Reference, Number, ReadByte, Print, Applied, Combined, Both, Either, Choice, Converted, Local, Assigned, Invoked, Sent, SentSuper, SentTo, SentToSuper, Field, FieldAssigned, Differ, IsObject, Nil, Itself, Variable, Chosen, Stored, Made, Initialized, Values, no_values, and_value, Command, Sequence, Evaluate, EvaluateReference, Begin, Return, Choose, Repeat, Commands, no_commands, and_command, Function, Program}
+use Rattle.arc_spec.specs.Resolved.{Value, Reference, Number, ReadByte, Print, Applied, Combined, Choice, Converted, Local, Assigned, Invoked, Sent, SentSuper, SentTo, SentToSuper, Field, FieldAssigned, Differ, IsObject, Nil, Itself, Variable, Chosen, Stored, Made, Initialized, Values, no_values, and_value, Command, Sequence, Evaluate, EvaluateReference, Begin, Return, Choose, Repeat, Commands, no_commands, and_command, Function, Program}
 use Rattle.arc_sites.specs.Sites.{named_parameters}
 use Rattle.arc_class.specs.Running.{classes}
 use Rattle.arc_class.specs.Names.{number_of, is_main}
@@ -105,10 +105,10 @@ abbrev pub equality : BinaryOperator → Resolution → Resolution → Resolutio
 equality operator (Refers a) (Refers b) = Gives k.Int (compared operator (Differ a b))
 equality operator a b = combined operator (wider (kind_in a) (kind_in b)) a b
 
--- `&&` and `||` (C99, sections 6.5.13 and 6.5.14)
+-- `a || b` is `a ? 1 : (BOOL) b`, and `a && b` is `a ? (BOOL) b : 0` (C99, sections 6.5.13 and 6.5.14)
 abbrev pub logic : BinaryOperator → Value → Value → Value
-logic o.Or a b = Either a b
-logic _ a b = Both a b
+logic o.Or a b = Choice a (Number (pos 1)) (Converted k.Bool b)
+logic _ a b = Choice a (Converted k.Bool b) (Number (pos 0))
 
 abbrev pub binary_of : OperatorSort → BinaryOperator → Resolution → Resolution → Resolution
 binary_of Equality operator a b = equality operator a b

@@ -25,10 +25,6 @@ pub enum Value {
     Print(Vec<Piece>, Vec<Value>),
     Applied(UnaryOperator, Kind, Box<Value>),
     Combined(BinaryOperator, Kind, Box<Value>, Box<Value>),
-    /// `&&`: 1 where both are other than 0, else 0; the second is evaluated where the first is.
-    Both(Box<Value>, Box<Value>),
-    /// `||`: 1 where one is other than 0, else 0; the second is evaluated where the first is 0.
-    Either(Box<Value>, Box<Value>),
     /// The first of two values where the test is other than 0, else the second.
     Choice(Box<Value>, Box<Value>, Box<Value>),
     Converted(Kind, Box<Value>),

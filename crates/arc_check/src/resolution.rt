@@ -246,9 +246,10 @@ fn logic(
 {
     let left = number_in(alloc, left)?;
     let right = number_in(alloc, right)?;
+    let right = Box::new(alloc, Value::Converted(Kind::Bool, right))?;
     let value = match operator {
-        BinaryOperator::Or => Value::Either(left, right),
-        _ => Value::Both(left, right),
+        BinaryOperator::Or => Value::Choice(left, Box::new(alloc, Value::Number(1))?, right),
+        _ => Value::Choice(left, right, Box::new(alloc, Value::Number(0))?),
     };
     given(alloc, Kind::Int, value)
 }

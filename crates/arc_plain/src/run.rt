@@ -19,7 +19,7 @@ use crate::progress::{Progress, assign, local, print, read};
 use arc_ast::tree::{BinaryOperator, Kind, Sign};
 use arc_check::checked::{Command, Piece, Reference, Value};
 use arc_spec::event::Fault;
-use arc_spec::number::{apply, combine, convert, truth};
+use arc_spec::number::{apply, combine, convert};
 use std::alloc::Global;
 
 /// How a statement was left: at its end, or by a return with a value.
@@ -52,8 +52,6 @@ fn evaluate(
         Value::Combined(operator, kind, left, right) => {
             evaluate_both(alloc, context, progress, *operator, *kind, left, right)
         }
-        Value::Both(left, right) => evaluate_if(alloc, context, progress, left, right),
-        Value::Either(left, right) => evaluate_unless(alloc, context, progress, left, right),
         Value::Choice(test, first, second) => {
             if evaluate(alloc, context, progress, test)? == 0 {
                 evaluate(alloc, context, progress, second)
@@ -114,44 +112,6 @@ fn evaluate_print(
 {
     let values = evaluate_all(alloc, context, progress, arguments)?;
     print_format(alloc, progress, pieces, &values)
-}
-
-/// Whether both are other than 0; the second is evaluated where the first is.
-#[cycle(running)]
-fn evaluate_if(
-    alloc: Global,
-    context: &Context,
-    progress: &mut Progress,
-    left: &Value,
-    right: &Value,
-) -> Result<i64, Halt>
-    ensures { Tells (λ n. n) result (evaluated (deeper context.now) (resolved.Both (checked.value left.now) (checked.value right.now)) (world progress.old)) (world progress.new) }
-{
-    let first = evaluate(alloc, context, progress, left)?;
-    if first == 0 {
-        return Ok(0);
-    }
-    let second = evaluate(alloc, context, progress, right)?;
-    Ok(truth(second))
-}
-
-/// Whether one is other than 0; the second is evaluated where the first is 0.
-#[cycle(running)]
-fn evaluate_unless(
-    alloc: Global,
-    context: &Context,
-    progress: &mut Progress,
-    left: &Value,
-    right: &Value,
-) -> Result<i64, Halt>
-    ensures { Tells (λ n. n) result (evaluated (deeper context.now) (resolved.Either (checked.value left.now) (checked.value right.now)) (world progress.old)) (world progress.new) }
-{
-    let first = evaluate(alloc, context, progress, left)?;
-    if first != 0 {
-        return Ok(1);
-    }
-    let second = evaluate(alloc, context, progress, right)?;
-    Ok(truth(second))
 }
 
 /// What an operator gives for two expressions, of which the left one is evaluated first.

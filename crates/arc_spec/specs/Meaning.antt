@@ -6,9 +6,9 @@ use Rattle.arc_ast.specs.declared.tree.Sign.TheVariants as signs
 use Rattle.arc_spec.specs.declared.event.Event.TheVariants.{Dealloc}
 use Rattle.arc_spec.specs.declared.event.Fault.TheVariants.{Arithmetic, Unrecognized, NilField, FieldClass, Depth, Resurrected}
 use Rattle.arc_spec.specs.Classes.{Class, superclasses, ancestry, own_dealloc, lookup, descends, class_at}
-use Rattle.arc_spec.specs.Number.{converted, applied, truth, combined, low_byte, is_zero}
+use Rattle.arc_spec.specs.Number.{converted, applied, combined, low_byte, is_zero}
 use Rattle.arc_spec.specs.Objects.{Object, Phase, Dying, Gone, object_at, with_object, in_phase, with_fields, is_live, new_object, names}
-use Rattle.arc_spec.specs.Resolved.{Piece, Bytes, Decimal, Character, Value, Number, ReadByte, Print, Applied, Combined, Both, Either, Choice, Converted, Local, Assigned, Invoked, Sent, SentSuper, SentTo, SentToSuper, Field, FieldAssigned, Differ, IsObject, Reference, Nil, Itself, Variable, Chosen, Stored, Made, Initialized, Values, no_values, and_value, Command, Sequence, Evaluate, EvaluateReference, Begin, Return, Choose, Repeat, Commands, no_commands, and_command, Function, Program}
+use Rattle.arc_spec.specs.Resolved.{Piece, Bytes, Decimal, Character, Value, Number, ReadByte, Print, Applied, Combined, Choice, Converted, Local, Assigned, Invoked, Sent, SentSuper, SentTo, SentToSuper, Field, FieldAssigned, Differ, IsObject, Reference, Nil, Itself, Variable, Chosen, Stored, Made, Initialized, Values, no_values, and_value, Command, Sequence, Evaluate, EvaluateReference, Begin, Return, Choose, Repeat, Commands, no_commands, and_command, Function, Program}
 use Rattle.arc_spec.specs.World.{World, Outcome, Done, Faulted, Cut, then_do, Finished, finished, shows, prints, places, first_world, entered, left, takes, stores, with_objects, with_locals, with_temporaries, local_at, name_at, next_number, has_read}
 
 -- what a format writes of these values, of which each number takes the next (C99, section 7.19.6.1)
@@ -125,7 +125,7 @@ difference a b = if nat_eq a b then pos 0 else pos 1
 -- Evaluation goes from left to right. printf evaluates all values, then writes the bytes, and gives their number. The value of an assignment is its right side (C99, section 6.5.16).
 -- A message evaluates its receiver and then its arguments; one to `super` goes to `self`, in a class method the first variable (OPL, "Messages to self and super").
 -- Each object that a variable, `self`, an assignment or a message gives is taken by a temporary (this project's own choice, stronger than ARC). A field's object is
--- evaluated before what is assigned to it. `&&`, `||` and `?:` evaluate what they need alone (C99, sections 6.5.13 to 6.5.15).
+-- evaluated before what is assigned to it. A choice evaluates its test, and then one of the two alone (C99, section 6.5.15).
 abbrev mutual
   pub evaluated : Deeper → Value → World → Outcome ℤ
   evaluated D (Number n) w = Done n w
@@ -135,10 +135,6 @@ abbrev mutual
   evaluated D (Applied operator kind a) w = then_do (evaluated D a w) (λ x w1. Done (applied operator kind x) w1)
   evaluated D (Combined operator kind a b) w =
       then_do (evaluated D a w) (λ x w1. then_do (evaluated D b w1) (λ y w2. or_fault (combined operator kind x y) w2))
-  evaluated D (Both a b) w =
-      then_do (evaluated D a w) (λ x w1. if is_zero x then Done (pos 0) w1 else then_do (evaluated D b w1) (λ y w2. Done (truth y) w2))
-  evaluated D (Either a b) w =
-      then_do (evaluated D a w) (λ x w1. if is_zero x then then_do (evaluated D b w1) (λ y w2. Done (truth y) w2) else Done (pos 1) w1)
   evaluated D (Choice c a b) w = then_do (evaluated D c w) (λ x w1. if is_zero x then evaluated D b w1 else evaluated D a w1)
   evaluated D (Converted kind a) w = then_do (evaluated D a w) (λ x w1. Done (converted kind x) w1)
   evaluated D (Local i) w = Done (local_at w.frame.locals i) w

@@ -66,10 +66,6 @@ is_same (negsuc n) (pos m) = false
 abbrev pub answer : Bool → ℤ
 answer holds = if holds then pos 1 else pos 0
 
--- whether a number is other than 0, as a test asks (C99, sections 6.5.13 to 6.5.15)
-abbrev pub truth : ℤ → ℤ
-truth x = answer (not (is_zero x))
-
 -- What an operator before its operand gives (C99, section 6.5.3.3), computed as the next ones: `-` wraps, and `!` asks whether the operand is 0.
 abbrev pub applied : UnaryOperator → Kind → ℤ → ℤ
 applied u.Plus kind z = converted kind z

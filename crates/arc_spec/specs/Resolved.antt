@@ -21,8 +21,6 @@ mutual
     Print : List Piece → Values → Value
     Applied : UnaryOperator → Kind → Value → Value
     Combined : BinaryOperator → Kind → Value → Value → Value
-    Both : Value → Value → Value
-    Either : Value → Value → Value
     Choice : Value → Value → Value → Value
     Converted : Kind → Value → Value
     Local : ℕ → Value

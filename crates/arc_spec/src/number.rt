@@ -1,7 +1,7 @@
 //! Arithmetic on the numbers of a program. Each is held in 64 bits, whatever its kind.
 ghost use Rattle.std.specs.Prelude.{◌≡◌, ◌&&◌, ◌+◌, ◌%◌, ◌^◌, ◌<◌, pos, false};
 ghost use Rattle.std.specs.Int.{w64, cast_unsigned, IsNonZero};
-ghost use Rattle.arc_spec.specs.Number.{converted, applied, truth, combined, quotient, remainder, count_of_shift, answer, is_least, is_zero, is_minus_one, is_same, low_32, low_byte, byte_or_end};
+ghost use Rattle.arc_spec.specs.Number.{converted, applied, combined, quotient, remainder, count_of_shift, answer, is_least, is_zero, is_minus_one, is_same, low_32, low_byte, byte_or_end};
 
 use arc_ast::tree::{BinaryOperator, Kind, UnaryOperator};
 
@@ -36,7 +36,7 @@ pub fn apply(operator: UnaryOperator, kind: Kind, number: i64) -> i64
 }
 
 /// The answer of an operator, computed as this kind, where sums, products and shifts to the left wrap
-/// (C99, sections 6.5.5 to 6.5.12); None is a quotient that is no number of the kind, and its
+/// (C99, sections 6.5.5 to 6.5.14); None is a quotient that is no number of the kind, and its
 /// remainder.
 pub fn combine(operator: BinaryOperator, kind: Kind, left: i64, right: i64) -> Option<i64>
     ensures { result ≡ combined operator kind left right }
@@ -68,13 +68,6 @@ fn is_same(left: i64, right: i64) -> bool
     ensures { result ≡ is_same left right }
 {
     left == right
-}
-
-/// 1 where the number is other than 0, else 0 (C99, section 6.5.13).
-pub fn truth(number: i64) -> i64
-    ensures { result ≡ truth number }
-{
-    answer(!is_zero(number))
 }
 
 /// The answer of a comparison: 1 where it holds, and else 0 (C99, sections 6.5.8 and 6.5.9).
