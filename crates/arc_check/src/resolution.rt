@@ -235,7 +235,29 @@ fn equality(
     }
 }
 
-/// What `&&` or `||` gives, from its operands.
+/// What `&&` or `||` gives, from its operands: a choice by the first, in which the second becomes 0 or 1.
+fn logic_value(
+    alloc: Global,
+    operator: BinaryOperator,
+    left: Box<Value>,
+    right: Box<Value>,
+) -> Result<Value, AllocError>
+    ensures { IfOk result (λ new. checked.value new ≡ resolving.logic operator (checked.value left.value) (checked.value right.value)) }
+{
+    let second = Box::new(alloc, Value::Converted(Kind::Bool, right))?;
+    match operator {
+        BinaryOperator::Or => {
+            let one = Box::new(alloc, Value::Number(1))?;
+            Ok(Value::Choice(left, one, second))
+        }
+        _ => {
+            let zero = Box::new(alloc, Value::Number(0))?;
+            Ok(Value::Choice(left, second, zero))
+        }
+    }
+}
+
+/// An expression with `&&` or `||`, from its operands.
 fn logic(
     alloc: Global,
     operator: BinaryOperator,
@@ -246,11 +268,7 @@ fn logic(
 {
     let left = number_in(alloc, left)?;
     let right = number_in(alloc, right)?;
-    let right = Box::new(alloc, Value::Converted(Kind::Bool, right))?;
-    let value = match operator {
-        BinaryOperator::Or => Value::Choice(left, Box::new(alloc, Value::Number(1))?, right),
-        _ => Value::Choice(left, right, Box::new(alloc, Value::Number(0))?),
-    };
+    let value = logic_value(alloc, operator, left, right)?;
     given(alloc, Kind::Int, value)
 }
 

@@ -173,12 +173,12 @@ fn choice<'a>(
 ) -> Result<Typed, AllocError>
     ensures { IfOk result (λ typed. (at : ℕ) → Resolves (seen table.now visible.now) (Conditional at (expr_tree test.now) (expr_tree first.now) (expr_tree second.now)) typed) }
 {
-    let class_nil = is_nil(first);
+    let one_nil = is_nil(first);
     let other_nil = is_nil(second);
     let test = expression(alloc, table, visible, test)?;
     let first = expression(alloc, table, visible, first)?;
     let second = expression(alloc, table, visible, second)?;
-    let class = either_class(class_nil, other_nil, first.class, second.class);
+    let class = either_class(one_nil, other_nil, first.class, second.class);
     let value = conditional(alloc, test.value, first.value, second.value)?;
     Ok(Typed { class, value })
 }

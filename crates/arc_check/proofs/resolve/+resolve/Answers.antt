@@ -78,6 +78,9 @@ operation-returns t c = λ at.
           ∙ ap (binary c.args.operator (resolved (seen c.args.table.now c.args.visible.now) (expr_tree c.args.left.now))) c.in_ok-right.ensures.value;
     }
 
+pub choice-returns : goal.choice-returns
+choice-returns t c = ?
+
 pub class_in-returns : goal.class_in-returns
 class_in-returns t c = c.in_ok-typed.ensures.class
 
