@@ -9,15 +9,15 @@ use Rattle.arc_ast.specs.Operators.{sort_of}
 use Rattle.arc_ast.specs.Types as types
 use Rattle.arc_ast.specs.Types.{type_kind}
 use Rattle.arc_ast.specs.declared.tree.OperatorSort.{OperatorSort}
-use Rattle.arc_ast.specs.declared.tree.OperatorSort.TheVariants.{Equality}
+use Rattle.arc_ast.specs.declared.tree.OperatorSort.TheVariants.{Equality, Logic}
 use Rattle.arc_ast.specs.declared.tree.Kind.{Kind}
 use Rattle.arc_ast.specs.declared.tree.Kind.TheVariants as k
 use Rattle.arc_ast.specs.declared.tree.Sign.{Sign}
 use Rattle.arc_ast.specs.declared.tree.Sign.TheVariants as signs
 use Rattle.arc_ast.specs.Tree as tree
-use Rattle.arc_ast.specs.Tree.{TypeTree, ExprTree, ExprTrees, Integer, Text, Paren, Call, Name, Unary, Cast, Binary, Arrow, Assign, Send, SendSuper, no_exprs, and_expr, VariableTree, StmtTree, StmtTrees, Block, Empty, Simple, Variables, If, IfElse, While, no_stmts, and_stmt, ParameterTree, FunctionTree, MethodTree, ImplementationTree, UnitTree}
+use Rattle.arc_ast.specs.Tree.{TypeTree, ExprTree, ExprTrees, Integer, Text, Paren, Call, Name, Unary, Cast, Binary, Conditional, Arrow, Assign, Send, SendSuper, no_exprs, and_expr, VariableTree, StmtTree, StmtTrees, Block, Empty, Simple, Variables, If, IfElse, While, no_stmts, and_stmt, ParameterTree, FunctionTree, MethodTree, ImplementationTree, UnitTree}
 use Rattle.arc_spec.specs.Classes.{same_sign}
-use Rattle.arc_spec.specs.Resolved.{Value, Reference, Number, ReadByte, Print, Applied, Combined, Converted, Local, Assigned, Invoked, Sent, SentSuper, SentTo, SentToSuper, Field, FieldAssigned, Differ, IsObject, Nil, Itself, Variable, Stored, Made, Initialized, Values, no_values, and_value, Command, Sequence, Evaluate, EvaluateReference, Begin, Return, Choose, Repeat, Commands, no_commands, and_command, Function, Program}
+use Rattle.arc_spec.specs.Resolved.{Value, Reference, Number, ReadByte, Print, Applied, Combined, Choice, Converted, Local, Assigned, Invoked, Sent, SentSuper, SentTo, SentToSuper, Field, FieldAssigned, Differ, IsObject, Nil, Itself, Variable, Chosen, Stored, Made, Initialized, Values, no_values, and_value, Command, Sequence, Evaluate, EvaluateReference, Begin, Return, Choose, Repeat, Commands, no_commands, and_command, Function, Program}
 use Rattle.arc_sites.specs.Sites.{named_parameters}
 use Rattle.arc_class.specs.Running.{classes}
 use Rattle.arc_class.specs.Names.{number_of, is_main}
@@ -105,12 +105,29 @@ abbrev pub equality : BinaryOperator → Resolution → Resolution → Resolutio
 equality operator (Refers a) (Refers b) = Gives k.Int (compared operator (Differ a b))
 equality operator a b = combined operator (wider (kind_in a) (kind_in b)) a b
 
+-- `a || b` is `a ? 1 : (BOOL) b`, and `a && b` is `a ? (BOOL) b : 0` (C99, sections 6.5.13 and 6.5.14)
+abbrev pub logic : BinaryOperator → Value → Value → Value
+logic o.Or a b = Choice a (Number (pos 1)) (Converted k.Bool b)
+logic _ a b = Choice a (Converted k.Bool b) (Number (pos 0))
+
 abbrev pub binary_of : OperatorSort → BinaryOperator → Resolution → Resolution → Resolution
 binary_of Equality operator a b = equality operator a b
+binary_of Logic operator a b = Gives k.Int (logic operator (number_in a) (number_in b))
 binary_of sort operator a b = combined operator (computing_kind sort (kind_in a) (kind_in b)) a b
 
 abbrev pub binary : BinaryOperator → Resolution → Resolution → Resolution
 binary operator a b = binary_of (sort_of operator) operator a b
+
+-- one of two numbers by a test, as numbers of the wider kind (C99, section 6.5.15)
+abbrev pub choice : Value → Resolution → Resolution → Resolution
+choice test a b =
+    let kind = wider (kind_in a) (kind_in b) in
+    Gives kind (Choice test (converted kind a) (converted kind b))
+
+-- one of two objects or numbers
+abbrev pub conditional : Value → Resolution → Resolution → Resolution
+conditional test (Refers a) (Refers b) = Refers (Chosen test a b)
+conditional test a b = choice test a b
 
 -- the bytes of a text
 abbrev pub text_of : ExprTree → List ℕ
@@ -223,6 +240,7 @@ abbrev mutual
   resolved s (Unary at operator a) = unary operator (resolved s a)
   resolved s (Cast at type a) = cast (type_kind type) (resolved s a)
   resolved s (Binary at operator a b) = binary operator (resolved s a) (resolved s b)
+  resolved s (Conditional at c a b) = conditional (number_in (resolved s c)) (resolved s a) (resolved s b)
   resolved s (Arrow at name_at a name) = field (object_in (resolved s a)) (s.known.field (class_of s a) name)
   resolved s (Assign at sign a b) = assigned s a (resolved s b)
   resolved s (Send at part receiver selector arguments) =

@@ -1,6 +1,6 @@
 //! Builds the resolved expressions of a source that breaks no rule.
 ghost use Rattle.std.specs.Prelude.{◌≡◌, ℕ, List, Option, Some, None, drop, option_map, IfOk};
-ghost use Rattle.arc_ast.specs.Tree.{ExprTree, type_tree, expr_tree, expr_trees, Integer, Text, Name, Unary, Cast, Binary, Arrow, Assign, Call, Send, SendSuper};
+ghost use Rattle.arc_ast.specs.Tree.{ExprTree, type_tree, expr_tree, expr_trees, Integer, Text, Name, Unary, Cast, Binary, Conditional, Arrow, Assign, Call, Send, SendSuper};
 ghost use Rattle.arc_class.specs.Table.{number_of_class};
 ghost use Rattle.arc_check.specs.private.Building.{Resolves, kinds_wanted, printing, resolution};
 ghost use Rattle.arc_check.specs.Checked as checked;
@@ -18,11 +18,11 @@ use crate::message::{
     above, class_receiver, sent_class, sent_kind, static_class, super_class, super_kind,
 };
 use crate::resolution::{
-    Resolution, Typed, binary, cast as cast_to, class_number, class_value, converted, field,
-    field_assigned, given, name_assigned, named, number, number_in, object_in, selector_number,
-    to_class, to_object, to_super, unary,
+    Resolution, Typed, binary, cast as cast_to, class_number, class_value, conditional, converted,
+    field, field_assigned, given, name_assigned, named, number, number_in, object_in,
+    selector_number, to_class, to_object, to_super, unary,
 };
-use crate::rule::literal_kind;
+use crate::rule::{either_class, is_nil, literal_kind};
 use crate::scope::{Local, Visible};
 use arc_ast::tree::{BinaryOperator, Expr, Kind, Parameter, Sign, TypeName, UnaryOperator};
 use arc_class::table::{ClassId, ClassTable};
@@ -94,6 +94,9 @@ pub fn expression<'a>(
         Expr::Binary(_, operator, left, right) => {
             operation(alloc, table, visible, *operator, left, right)
         }
+        Expr::Conditional(_, test, first, second) => {
+            choice(alloc, table, visible, test, first, second)
+        }
         Expr::Arrow(_, _, base, name) => arrow(alloc, table, visible, base, name),
         Expr::Assign(_, _, left, right) => assignment(alloc, table, visible, left, right),
         Expr::Send(_, _, receiver, selector, arguments) => {
@@ -156,6 +159,28 @@ fn operation<'a>(
     let right = expression(alloc, table, visible, right)?;
     let value = binary(alloc, operator, left.value, right.value)?;
     Ok(Typed { class: None, value })
+}
+
+/// A resolved choice of two values by a test.
+#[cycle(resolve)]
+fn choice<'a>(
+    alloc: Global,
+    table: &ClassTable<'a>,
+    visible: &Visible<'a>,
+    test: &'a Expr,
+    first: &'a Expr,
+    second: &'a Expr,
+) -> Result<Typed, AllocError>
+    ensures { IfOk result (λ typed. (at : ℕ) → Resolves (seen table.now visible.now) (Conditional at (expr_tree test.now) (expr_tree first.now) (expr_tree second.now)) typed) }
+{
+    let one_nil = is_nil(first);
+    let other_nil = is_nil(second);
+    let test = expression(alloc, table, visible, test)?;
+    let first = expression(alloc, table, visible, first)?;
+    let second = expression(alloc, table, visible, second)?;
+    let class = either_class(one_nil, other_nil, first.class, second.class);
+    let value = conditional(alloc, test.value, first.value, second.value)?;
+    Ok(Typed { class, value })
 }
 
 /// A resolved field of an object.

@@ -16,7 +16,7 @@ use Rattle.arc_ast.specs.declared.tree.BinaryOperator.{BinaryOperator}
 use Rattle.arc_ast.specs.declared.tree.BinaryOperator.TheVariants as operators
 use Rattle.arc_ast.specs.declared.tree.UnaryOperator.{UnaryOperator}
 use Rattle.arc_ast.specs.declared.tree.UnaryOperator.TheVariants as unary_operators
-use Rattle.arc_ast.specs.Tree.{TypeTree, ResultTree, ExprTree, ExprTrees, VariableTree, StmtTree, StmtTrees, ParameterTree, ParametersTree, FunctionTree, HeadTree, MethodTree, FieldTree, InterfaceTree, ImplementationTree, UnitTree, Boolean, Int, Long, Id, Object, Void, Value, Integer, Text, Paren, Call, Nil, Itself, Name, Unary, Cast, Binary, Arrow, Assign, Send, SendSuper, no_exprs, and_expr, Block, Empty, Simple, Return, Variables, If, IfElse, While, no_stmts, and_stmt, Listed, CountAndTexts, begins}
+use Rattle.arc_ast.specs.Tree.{TypeTree, ResultTree, ExprTree, ExprTrees, VariableTree, StmtTree, StmtTrees, ParameterTree, ParametersTree, FunctionTree, HeadTree, MethodTree, FieldTree, InterfaceTree, ImplementationTree, UnitTree, Boolean, Int, Long, Id, Object, Void, Value, Integer, Text, Paren, Call, Nil, Itself, Name, Unary, Cast, Binary, Conditional, Arrow, Assign, Send, SendSuper, no_exprs, and_expr, Block, Empty, Simple, Return, Variables, If, IfElse, While, no_stmts, and_stmt, Listed, CountAndTexts, begins}
 use Rattle.arc_grammar.specs.declared.limits.TheConstants.{DEEPEST, MOST_TOKENS}
 use Rattle.arc_form.specs.Kinds.{Kinds, none, ◌∪◌, mark, word, at, name, main, other_name, integer, text}
 use Rattle.arc_form.specs.Reader.{Reader, ◌>>=◌, ret, from}
@@ -24,18 +24,19 @@ use Rattle.arc_form.specs.Reader as readers
 use Rattle.arc_form.specs.Operators.{Row, marks_at, operator_of, fold}
 use Rattle.arc_form.specs.Form.{Limits, unlimited, Form, Rules, Bodies, token, give, call, map, ◌⨾◌, choose, many, or_none, nest, bounded, two_ahead, avoid, run, read}
 
--- What is recursive: an expression, a unary one, one whose operators are of a level or tighter, and a statement that is nested
--- so deep.
+-- What is recursive: an expression, a unary one, one whose operators are of a level or tighter, one that is no assignment, and a statement that is nested so deep.
 pub data Rule : Type 0 where
   expr : Rule
   unary : Rule
   binary : ℕ → Rule
+  condition : Rule
   stmt : ℕ → Rule
 
 abbrev pub Node : Rule → Type 0
 Node expr = ExprTree
 Node unary = ExprTree
 Node (binary l) = ExprTree
+Node condition = ExprTree
 Node (stmt d) = StmtTree
 
 abbrev pub Part : Type 0 → Type 1
@@ -56,7 +57,7 @@ at_key w = token (at w) from
 abbrev pub called : Part (ℕ × List ℕ)
 called = token name readers.named
 
--- ---- operators between two operands (C99, sections 6.5.5 to 6.5.12), the tightest first
+-- ---- operators between two operands (C99, sections 6.5.5 to 6.5.14), the tightest first
 
 unfoldable pub table : List (Row BinaryOperator)
 table =
@@ -75,7 +76,9 @@ table =
     record { mark = m.NotEqual; level = 5; operator = operators.NotEqual } ∷
     record { mark = m.Ampersand; level = 6; operator = operators.BitAnd } ∷
     record { mark = m.Caret; level = 7; operator = operators.BitXor } ∷
-    record { mark = m.Bar; level = 8; operator = operators.BitOr } ∷ []
+    record { mark = m.Bar; level = 8; operator = operators.BitOr } ∷
+    record { mark = m.And; level = 9; operator = operators.And } ∷
+    record { mark = m.Or; level = 10; operator = operators.Or } ∷ []
 
 -- the loosest of these levels
 abbrev pub loosest_of : List (Row BinaryOperator) → ℕ
@@ -110,9 +113,16 @@ unfoldable pub up_to : ℕ → Part (ExprTree → ExprTree)
 up_to zero = give (λ left. left)
 up_to (suc l) = map (λ (tighter, make) left. make (tighter left)) (up_to l ⨾ more (suc l))
 
--- the operators of all levels after a unary expression
+-- the two expressions of which a test before them chooses (6.5.15); `?:` groups from the right
+unfoldable pub chosen : Part (ExprTree → ExprTree)
+chosen = map (λ (question, (a, (colon, b))) test. Conditional (begins test) test a b) (the m.Question ⨾ call expr ⨾ the m.Colon ⨾ call condition)
+
+unfoldable pub choice : Part (ExprTree → ExprTree)
+choice = choose (mark m.Question) chosen (give (λ test. test))
+
+-- the operators of all levels after a unary expression, and what they choose
 unfoldable pub continued : Part (ExprTree → ExprTree)
-continued = up_to loosest
+continued = map (λ (make, choose_by) left. choose_by (make left)) (up_to loosest ⨾ choice)
 
 -- ---- types (C99, section 6.7.2; `BOOL` and `NSInteger` are names of types of the library, which are words here)
 
@@ -325,6 +335,10 @@ prefixed = choose begins_signed signed (choose (mark m.OpenParen) parenthesized 
 -- an expression whose operators bind as loosely as this level, or tighter
 unfoldable pub operations : ℕ → Part ExprTree
 operations l = map (λ (left, make). make left) (prefixed ⨾ up_to l)
+
+-- an expression that is no assignment (6.5.15)
+unfoldable pub conditional_expr : Part ExprTree
+conditional_expr = map (λ (left, make). make left) (prefixed ⨾ continued)
 
 -- an assignment (6.5.16), of which the left side is a unary expression
 unfoldable pub assigned : Part (ExprTree → ExprTree)
@@ -667,6 +681,7 @@ unfoldable pub body : Bodies Rule Node
 body expr = expression
 body unary = prefixed
 body (binary l) = operations (min l loosest)
+body condition = conditional_expr
 body (stmt d) = nest d begins_stmt (statement d)
 
 -- This compiler's own limits (C99, section 5.2.4.1, asks for 127 levels of blocks and 63 of parentheses): a statement of a

@@ -8,7 +8,7 @@ use Rattle.arc_check.specs.Formats.{wanted}
 use Rattle.arc_check.specs.private.Judging.{Judges, counted}
 use Rattle.arc_check.specs.Rules.{at_if, kind_if, no_such}
 use Rattle.arc_check.specs.private.Views.{seen}
-use Rattle.arc_check.proofs.Judgements.{judges_call, judges_send, judges_super, judges_unary, judges_cast, judges_arrow, judges_message, judges_super_message, judges_binary, judges_assign, judges_other, fit_turn, fault_turn, taken_turn}
+use Rattle.arc_check.proofs.Judgements.{judges_call, judges_send, judges_super, judges_unary, judges_cast, judges_arrow, judges_message, judges_super_message, judges_binary, judges_choice, judges_assign, judges_other, fit_turn, fault_turn, taken_turn}
 use Rattle.arc_check.proofs.judge.+judge.Goals as goal
 use Rattle.arc_check.proofs.judge.+judge.Goals.{judge_arguments-then-told, judge_arguments-else-told}
 
@@ -59,6 +59,12 @@ judge-returns-in-Binary t c =
     let here : c.place.result ≡ place a = c.place.ensures ∙ ap (λ e. place (expr_tree e)) c.deref-in-Binary-3.ensures in
     let there : c.place-in-Binary.result ≡ place b = c.place-in-Binary.ensures ∙ ap (λ e. place (expr_tree e)) c.deref-in-Binary-4.ensures in
     rw c.in-Binary.is (judges_binary s c.args.before _ _ a b one two c.combined.result c.place.result c.place-in-Binary.result left right here there c.combined.ensures.kind c.combined.ensures.class c.combined.ensures.fault c.combined.ensures.taken)
+
+pub judge-returns-in-Conditional : goal.judge-returns-in-Conditional
+judge-returns-in-Conditional t c = rw c.in-Conditional.is (rw (c.deref-in-Conditional.ensures, c.deref-in-Conditional-2.ensures, c.deref-in-Conditional-3.ensures) at (c.judge_choice.ensures c.in-Conditional.field-0))
+
+pub judge_choice-returns : goal.judge_choice-returns
+judge_choice-returns t c = ?
 
 pub judge_unary-returns : goal.judge_unary-returns
 judge_unary-returns t c = λ at.

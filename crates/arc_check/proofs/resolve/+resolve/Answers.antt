@@ -55,6 +55,9 @@ expression-returns-in-Cast t c = IfOk-weaker c.cast.result _ _ (λ typed h. rw (
 pub expression-returns-in-Binary : goal.expression-returns-in-Binary
 expression-returns-in-Binary t c = IfOk-weaker c.operation.result _ _ (λ typed h. rw (c.in-Binary.is, sym c.deref-in-Binary.ensures, sym c.deref-in-Binary-2.ensures) (h c.in-Binary.field-0)) c.operation.ensures
 
+pub expression-returns-in-Conditional : goal.expression-returns-in-Conditional
+expression-returns-in-Conditional t c = IfOk-weaker c.choice.result _ _ (λ typed h. rw (c.in-Conditional.is, sym c.deref-in-Conditional.ensures, sym c.deref-in-Conditional-2.ensures, sym c.deref-in-Conditional-3.ensures) (h c.in-Conditional.field-0)) c.choice.ensures
+
 pub expression-returns-in-Arrow : goal.expression-returns-in-Arrow
 expression-returns-in-Arrow t c = IfOk-weaker c.arrow.result _ _ (λ typed h. rw (c.in-Arrow.is, sym c.deref-in-Arrow.ensures, sym c.deref-in-Arrow-2.ensures.value) (h c.in-Arrow.field-0 c.in-Arrow.field-1)) c.arrow.ensures
 
@@ -74,6 +77,9 @@ operation-returns t c = λ at.
       value = c.in_ok-value.ensures ∙ ap (λ a. binary c.args.operator a (resolution c.in_ok-right.right.value)) c.in_ok-left.ensures.value
           ∙ ap (binary c.args.operator (resolved (seen c.args.table.now c.args.visible.now) (expr_tree c.args.left.now))) c.in_ok-right.ensures.value;
     }
+
+pub choice-returns : goal.choice-returns
+choice-returns t c = ?
 
 pub class_in-returns : goal.class_in-returns
 class_in-returns t c = c.in_ok-typed.ensures.class
