@@ -493,7 +493,7 @@ texts = map (λ _ count. CountAndTexts) (perhaps_const ⨾ key w.Char ⨾ the m.
 unfoldable pub further_parameters : Part (ParameterTree → ParametersTree)
 further_parameters = map (λ (q, others) p. Listed (p ∷ q ∷ others)) (parameter ⨾ more_parameters)
 
--- the first parameter of `main` where that is an `int`, as the count of texts is
+-- the first parameter of `main`, which is an `int`, as the count of texts is (this project's own choice)
 unfoldable pub count : Part ParameterTree
 count = map (λ (int, n). record { at = n.0; type = Int; name = n.1 }) (key w.Int ⨾ called)
 
@@ -505,7 +505,7 @@ unfoldable pub some_of_main : Part ParametersTree
 some_of_main = map (λ (p, make). make p) (count ⨾ choose (mark m.Comma) second (give (λ p. Listed (p ∷ []))))
 
 unfoldable pub parameters_of_main : Part ParametersTree
-parameters_of_main = choose (word w.Void) void_parameters (choose (word w.Int) some_of_main (choose begins_number_type some_parameters (give (Listed []))))
+parameters_of_main = choose (word w.Void) void_parameters (choose (word w.Int) some_of_main (give (Listed [])))
 
 abbrev pub Signature : Type 0
 Signature = (ℕ × List ℕ) × ParametersTree

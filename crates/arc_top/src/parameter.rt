@@ -43,8 +43,6 @@ pub fn parameters_of_main<'a>(alloc: Global, tokens: &'a [Token]) -> Read<'a, Pa
         void_parameters(alloc, tokens)
     } else if sees_word(Word::Int, tokens) {
         some_of_main(alloc, tokens)
-    } else if begins_number_type(tokens) {
-        some_parameters(alloc, tokens)
     } else {
         Ok((Parameters::Listed(Vec::new(alloc)), tokens))
     }
