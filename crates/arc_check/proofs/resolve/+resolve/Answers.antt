@@ -10,8 +10,8 @@ use Rattle.arc_check.specs.Checked as checked
 use Rattle.arc_ast.specs.Tree.{expr_tree, expr_trees, type_tree}
 use Rattle.arc_ast.specs.Types.{type_kind}
 use Rattle.arc_check.specs.Resolving as resolving
-use Rattle.arc_check.specs.Resolving.{unary, binary, cast, resolved, resolved_all}
-use Rattle.arc_check.specs.Scopes.{class_of, result_kind}
+use Rattle.arc_check.specs.Resolving.{unary, binary, cast, conditional, resolved, resolved_all}
+use Rattle.arc_check.specs.Scopes.{class_of, either_class, is_nil, result_kind}
 use Rattle.arc_check.specs.private.Views.{seen}
 use Rattle.arc_ast.proofs.Trees.{call_tree, send_tree, send_super_tree}
 use Rattle.arc_check.proofs.Trees.{print_value, invoked_value}
@@ -79,7 +79,19 @@ operation-returns t c = λ at.
     }
 
 pub choice-returns : goal.choice-returns
-choice-returns t c = ?
+choice-returns t c = λ at.
+    let s = seen c.args.table.now c.args.visible.now in
+    let a = expr_tree c.args.first.now in
+    let b = expr_tree c.args.second.now in
+    let test = resolving.number_in (resolved s (expr_tree c.args.test.now)) in
+    let one = option_map number_of_class c.in_ok-first.first.class in
+    let other = option_map number_of_class c.in_ok-second.second.class in
+    record {
+      class = c.either_class-class.ensures ∙ ap (λ p. either_class p c.is_nil-other_nil.result one other) c.is_nil-one_nil.ensures ∙ ap (λ p. either_class (is_nil a) p one other) c.is_nil-other_nil.ensures
+          ∙ ap (λ k. either_class (is_nil a) (is_nil b) k other) c.in_ok-first.ensures.class ∙ ap (either_class (is_nil a) (is_nil b) (class_of s a)) c.in_ok-second.ensures.class;
+      value = c.in_ok-value.ensures ∙ ap (λ x. conditional (resolving.number_in x) (resolution c.in_ok-first.first.value) (resolution c.in_ok-second.second.value)) c.in_ok-test.ensures.value
+          ∙ ap (λ x. conditional test x (resolution c.in_ok-second.second.value)) c.in_ok-first.ensures.value ∙ ap (conditional test (resolved s a)) c.in_ok-second.ensures.value;
+    }
 
 pub class_in-returns : goal.class_in-returns
 class_in-returns t c = c.in_ok-typed.ensures.class
