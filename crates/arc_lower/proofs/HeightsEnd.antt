@@ -1,26 +1,24 @@
--- Where the heights of orders end: a full-expression leaves one number more, and a statement as many as before it.
-use Rattle.std.proofs.Common.{◌≡◌, ℕ, suc, ◌+◌, List, [], ◌∷◌, ◌++◌, length, refl, sym, ap, ◌∙◌, arith}
-use Rattle.arc_spec.specs.Resolved.{Value, Reference, Program}
+-- Where a walk over the orders of a block ends: at the height that its type says, and with the parts before it that tests may lead to.
+use Rattle.std.proofs.Common.{◌≡◌, ℕ, suc, ◌+◌, ◌≤◌, Bool, true, false, List, [], ◌∷◌, ◌++◌, length, drop, get_or, refl, sym, ap, ◌∙◌, subst, arith}
+use Rattle.std.proofs.lemmas.Bool.{ltb-false, true≢false}
+use Rattle.std.specs.List.{list_any}
+use Rattle.arc_spec.specs.Resolved.{Program}
 use Rattle.arc_code.specs.declared.effect.Height.{Height}
-use Rattle.arc_code.specs.declared.instr.Instr.TheVariants.{Jump, JumpZero}
+use Rattle.arc_code.specs.declared.instr.Instr.TheVariants.{Jump, JumpZero, DropAll, Return}
+use Rattle.arc_code.specs.Effects.{effect}
 use Rattle.arc_ir.specs.declared.action.Target.{Target}
-use Rattle.arc_ir.specs.declared.action.Target.TheVariants.{Skip, Back}
+use Rattle.arc_ir.specs.declared.action.Target.TheVariants.{Skip, Back, At}
 use Rattle.arc_lower.specs.Order.{Order}
-use Rattle.arc_lower.specs.Lowered.{whole_orders, whole_reference_orders, Block, Then, Fork, Loop, Leave, flat}
-use Rattle.arc_lower.specs.Heights.{between, next_height, last_height}
-use Rattle.arc_lower.proofs.Typing.{heights_same, tested, left, types_last, whole_types, whole_reference_types, BlockTypes}
+use Rattle.arc_lower.specs.Lowered.{order_takes, drop_orders, Block, Then, Fork, Loop, Full, Leave, flat}
+use Rattle.arc_lower.specs.Heights.{between, next_height, Walk, walk, other_part, next_walk, last_walk}
+use Rattle.arc_lower.proofs.Quiet.{or_first, or_second}
+use Rattle.arc_lower.proofs.Typing.{heights_same, tested, types_last, with_temporaries, Leaves, BlockTypes}
 
-pub last_append : (P : Program) (base h : Height) (xs ys : List Order) → last_height P base h (xs ++ ys) ≡ last_height P base (last_height P base h xs) ys
-last_append P base h [] ys = refl
-last_append P base h (x ∷ xs) ys = last_append P base (next_height P base x h) xs ys
+pub last_append : (P : Program) (base : Height) (w : Walk) (xs ys : List Order) → last_walk P base w (xs ++ ys) ≡ last_walk P base (last_walk P base w xs) ys
+last_append P base w [] ys = refl
+last_append P base w (x ∷ xs) ys = last_append P base (next_walk P base x w) xs ys
 
-pub whole_ends : (P : Program) (base : Height) (slots names : ℕ) (e : Value) (a b : ℕ) → last_height P base (between a b) (whole_orders P slots names e) ≡ between (suc a) b
-whole_ends P base slots names e a b = types_last P slots names base (between a b) (whole_orders P slots names e) (between (suc a) b) (whole_types P slots names slots names b (omega arith) e a (omega arith))
-
-pub whole_reference_ends : (P : Program) (base : Height) (slots names : ℕ) (e : Reference) (a b : ℕ) → last_height P base (between a b) (whole_reference_orders P slots names e) ≡ between a b
-whole_reference_ends P base slots names e a b = types_last P slots names base (between a b) (whole_reference_orders P slots names e) (between a b) (whole_reference_types P slots names slots names b (omega arith) e a (omega arith))
-
-module _ (P : Program) (slots names exit : ℕ) where
+module _ (P : Program) (r s slots names exit : ℕ) where
   abbrev base : Height
   base = between slots names
 
@@ -28,22 +26,131 @@ module _ (P : Program) (slots names exit : ℕ) where
   test = tested slots names
 
   -- what is behind a choice stands between two statements
-  pub chosen_same : (to : Target) → left P (JumpZero to) test ≡ base
+  pub chosen_same : (to : Target) → next_height P (JumpZero to) test ≡ base
   chosen_same to = heights_same _ _ _ _ slots 0 0 names (omega arith) (omega arith) (omega arith) (omega arith)
 
-  pub block_ends : (x : Block) (h g : Height) → BlockTypes P slots names exit h x g → last_height P base h (flat P slots names x) ≡ g
-  block_ends (Then x y) h g t = last_append P base h (flat P slots names x) (flat P slots names y) ∙ ap (λ i. last_height P base i (flat P slots names y)) (block_ends x h t.0 t.1) ∙ block_ends y t.0 g t.2
-  block_ends (Fork x y) h g t =
-      let xs = flat P slots names x in
-      let to = Skip (suc (length xs)) in
-      let ys : List Order = Jump (Skip (length (flat P slots names y))) ∷ flat P slots names y in
-      let low : next_height P base (JumpZero to) h ≡ base = ap (next_height P base (JumpZero to)) t.0 ∙ chosen_same to in
-      ap (λ i. last_height P base i (xs ++ ys)) low ∙ last_append P base base xs ys ∙ block_ends y base g t.2
-  block_ends (Loop x y) h g t =
-      let ts = flat P slots names x in
-      let xs = flat P slots names y in
-      let out : Order = JumpZero (Skip (suc (length xs))) in
-      let again : List Order = Jump (Back (suc (length ts + length xs))) ∷ [] in
-      last_append P base h ts (out ∷ (xs ++ again)) ∙ last_append P base (next_height P base out (last_height P base h ts)) xs again ∙ sym t.2
-  block_ends (Leave to) h g t = sym t.2
-  block_ends x h g t = types_last P 0 0 base h (flat P slots names x) g t
+  -- ---- the parts that tests may lead to
+
+  abbrev pub AllBase : List Height → Type 0
+  AllBase [] = Unit {0}
+  AllBase (h ∷ others) = (h ≡ base) × AllBase others
+
+  first_base : (from : Height) (pending : List Height) → from ≡ base → AllBase pending → get_or pending 0 from ≡ base
+  first_base from [] same all = same
+  first_base from (h ∷ others) same all = all.0
+
+  rest_base : (pending : List Height) → AllBase pending → AllBase (drop 1 pending)
+  rest_base [] all = tt
+  rest_base (h ∷ others) all = all.1
+
+  module _ (from : Height) where
+    -- an expression keeps them as they are; between statements they all stand between statements, as does what follows where there are none
+    abbrev pub Keeps : (statement : Bool) → (before after : List Height) → Type 0
+    Keeps true before after = (from ≡ base) × AllBase before × AllBase after
+    Keeps false before after = before ≡ after
+
+    pub keeps_on : (statement : Bool) (before after : List Height) → Keeps statement before after → Keeps statement after after
+    keeps_on true before after keeps = (keeps.0, keeps.2, keeps.2)
+    keeps_on false before after keeps = refl
+
+    keeps_then : (statement : Bool) (before after last : List Height) → Keeps statement before after → Keeps statement after last → Keeps statement before last
+    keeps_then true before after last first next = (first.0, first.1, next.2)
+    keeps_then false before after last first next = first ∙ next
+
+    -- a test leads to one more, and the jump behind the first part to that
+    pub keeps_test : (statement : Bool) (i : Height) (before : List Height) → Leaves P r s slots names exit statement i → Keeps statement before before → Keeps statement (i ∷ before) (i ∷ before)
+    keeps_test true i before leaves keeps = (keeps.0, (leaves, keeps.1), (leaves, keeps.1))
+    keeps_test false i before leaves keeps = refl
+
+    pub keeps_rest : (statement : Bool) (i : Height) (before after : List Height) → Keeps statement before before → Keeps statement (i ∷ before) after → Keeps statement before (drop 1 after)
+    keeps_rest true i before after first keeps = (keeps.0, first.1, rest_base after keeps.2)
+    keeps_rest false i before after first keeps = ap (drop 1) keeps
+
+    pub part_same : (statement : Bool) (i h : Height) (before after : List Height) → Leaves P r s slots names exit statement i → Keeps statement (i ∷ before) after → other_part from (walk h after) ≡ with_temporaries i h.temporaries
+    part_same true i h before after leaves keeps = ap (λ g. with_temporaries g h.temporaries) (first_base from after keeps.0 keeps.2 ∙ sym leaves)
+    part_same false i h before after leaves keeps = ap (λ l. with_temporaries (get_or l 0 from) h.temporaries) (sym keeps)
+
+    -- ---- blocks
+
+    abbrev Ends : (statement : Bool) → List Height → Height → Block → Height → Type 0
+    Ends statement pending h x g = (after : List Height) × (last_walk P from (walk h pending) (flat P slots names x) ≡ walk g after) × Keeps statement pending after
+
+    exactly : (pending : List Height) (h : Height) (x : Block) (g : Height) → Ends false pending h x g → last_walk P from (walk h pending) (flat P slots names x) ≡ walk g pending
+    exactly pending h x g ends = ends.1 ∙ ap (walk g) (sym ends.2)
+
+    pub block_ends : (statement : Bool) (x : Block) (h g : Height) (pending : List Height) → Keeps statement pending pending → BlockTypes P r s slots names exit statement h x g → Ends statement pending h x g
+    block_ends statement (Then x y) h g pending keeps t =
+        let one = block_ends statement x h t.0 pending keeps t.1 in
+        let two = block_ends statement y t.0 g one.0 (keeps_on statement pending one.0 one.2) t.2 in
+        (two.0, last_append P from (walk h pending) (flat P slots names x) (flat P slots names y) ∙ ap (λ w. last_walk P from w (flat P slots names y)) one.1 ∙ two.1, keeps_then statement pending one.0 two.0 one.2 two.2)
+    block_ends statement (Fork x y) h g pending keeps t =
+        let xs = flat P slots names x in
+        let ys = flat P slots names y in
+        let i = t.0 in
+        let m = with_temporaries g t.1 in
+        let rest : List Order = Jump (Skip (length ys)) ∷ ys in
+        let one = block_ends statement x i m (i ∷ pending) (keeps_test statement i pending t.3 keeps) t.4 in
+        let left = keeps_rest statement i pending one.0 keeps one.2 in
+        let two = block_ends statement y (with_temporaries i t.1) g (drop 1 one.0) (keeps_on statement pending (drop 1 one.0) left) t.5 in (
+          two.0,
+          ap (λ n. last_walk P from (walk n (n ∷ pending)) (xs ++ rest)) t.2.left ∙ last_append P from (walk i (i ∷ pending)) xs rest ∙ ap (λ w. last_walk P from w rest) one.1
+          ∙ ap (λ n. last_walk P from (walk n (drop 1 one.0)) ys) (part_same statement i m pending one.0 t.3 one.2) ∙ two.1,
+          keeps_then statement pending (drop 1 one.0) two.0 left two.2,
+        )
+    block_ends true (Loop x y) h g pending keeps t =
+        let ts = flat P slots names x in
+        let xs = flat P slots names y in
+        let to = Skip (suc (length xs)) in
+        let again : List Order = Jump (Back (suc (length ts + length xs))) ∷ [] in
+        let one = block_ends true x base test pending keeps t.2 in
+        let two = block_ends true y base base (base ∷ one.0) (keeps.0, (refl, one.2.2), (refl, one.2.2)) t.3 in (
+          drop 1 two.0,
+          ap (λ n. last_walk P from (walk n pending) (ts ++ (JumpZero to ∷ (xs ++ again)))) t.1 ∙ last_append P from (walk base pending) ts (JumpZero to ∷ (xs ++ again)) ∙ ap (λ w. last_walk P from w (JumpZero to ∷ (xs ++ again))) one.1
+          ∙ ap (λ n. last_walk P from (walk n (n ∷ one.0)) (xs ++ again)) (chosen_same to) ∙ last_append P from (walk base (base ∷ one.0)) xs again ∙ ap (λ w. last_walk P from w again) two.1
+          ∙ ap (λ n. walk (with_temporaries n 0) (drop 1 two.0)) (first_base from two.0 keeps.0 two.2.2) ∙ ap (λ n. walk n (drop 1 two.0)) (sym t.4),
+          (keeps.0, keeps.1, rest_base two.0 two.2.2),
+        )
+    block_ends true (Leave to) h g pending keeps t = (
+      drop 1 pending,
+      ap (λ n. next_walk P from (Jump (At to)) (walk n pending)) t.2 ∙ ap (λ n. walk (with_temporaries n 0) (drop 1 pending)) (first_base from pending keeps.0 keeps.1) ∙ ap (λ n. walk n (drop 1 pending)) (sym t.3),
+      (keeps.0, keeps.1, rest_base pending keeps.1),
+    )
+    block_ends false (Loop x y) h g pending keeps t = absurd (true≢false (sym t.0))
+    block_ends false (Leave to) h g pending keeps t = absurd (true≢false (sym t.0))
+    block_ends statement (Full x y) h g pending keeps t =
+        let xs = flat P slots names x in
+        let ys = flat P slots names y in
+        let one = exactly pending h x t.0 (block_ends false x h t.0 pending refl t.2) in
+        let two = exactly pending t.0 y t.1 (block_ends false y t.0 t.1 pending refl t.3) in (
+          pending,
+          last_append P from (walk h pending) xs (ys ++ drop_orders xs) ∙ ap (λ w. last_walk P from w (ys ++ drop_orders xs)) one
+          ∙ last_append P from (walk t.0 pending) ys (drop_orders xs) ∙ ap (λ w. last_walk P from w (drop_orders xs)) two ∙ types_last P r s from t.1 pending (drop_orders xs) g t.4,
+          keeps,
+        )
+    block_ends statement x h g pending keeps t = (pending, types_last P r s from h pending (flat P slots names x) g t, keeps)
+
+    -- an expression keeps the parts as they are
+    pub within_ends : (x : Block) (h g : Height) (pending : List Height) → BlockTypes P r s slots names exit false h x g → last_walk P from (walk h pending) (flat P slots names x) ≡ walk g pending
+    within_ends x h g pending t = exactly pending h x g (block_ends false x h g pending refl t)
+
+  -- ---- blocks that take no temporary
+
+  quiet_next : (x : Order) (w : Walk) → order_takes x ≡ false → (next_walk P base x w).height.temporaries ≤ w.height.temporaries
+  quiet_next (Jump to) w e = omega arith
+  quiet_next DropAll w e = omega arith
+  quiet_next Return w e = omega arith
+  quiet_next x w e = let none = ltb-false 0 (effect x).temporaries e in omega (arith, none)
+
+  quiet_walk : (xs : List Order) (w : Walk) → list_any order_takes xs ≡ false → (last_walk P base w xs).height.temporaries ≤ w.height.temporaries
+  quiet_walk [] w e = omega arith
+  quiet_walk (x ∷ xs) w e =
+      let one = quiet_next x w (or_first (order_takes x) (list_any order_takes xs) e) in
+      let others = quiet_walk xs (next_walk P base x w) (or_second (order_takes x) (list_any order_takes xs) e) in
+      omega (arith, one, others)
+
+  -- leave no more of them
+  pub quiet_types : (x : Block) (h g : Height) → BlockTypes P r s slots names exit false h x g → list_any order_takes (flat P slots names x) ≡ false → g.temporaries ≤ h.temporaries
+  quiet_types x h g t e =
+      let le = quiet_walk (flat P slots names x) (walk h []) e in
+      let same = ap (λ (w : Walk). w.height.temporaries) (within_ends base x h g [] t) in
+      omega (arith, le, same)

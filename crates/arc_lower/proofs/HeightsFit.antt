@@ -11,10 +11,9 @@ use Rattle.arc_code.specs.Effects.{effect, operation_effect, on_numbers, no_heig
 use Rattle.arc_ir.specs.Acting.{Action, Program, lands, entry, linked}
 use Rattle.arc_lower.specs.Order.{Order, order, orders}
 use Rattle.arc_lower.specs.Lowered.{number_of, slots_of, entries_of, lowered, classes_linked}
-use Rattle.arc_lower.specs.Heights.{height, highest, greatest, lowered_heights, greatest_height, places_in, height_at}
+use Rattle.arc_lower.specs.Heights.{height, next_height, highest, greatest, lowered_heights, greatest_height, places_in, height_at}
 use Rattle.arc_lower.proofs.Doing.{bare}
 use Rattle.arc_lower.proofs.Linking.{out_of_list}
-use Rattle.arc_lower.proofs.Typing.{left}
 use Rattle.arc_lower.proofs.Stepping.{some_same, get_there, Goes, Steps}
 use Rattle.arc_lower.proofs.Programs.{all, table, Entered, entered_at, methods_go, steps_at}
 
@@ -69,16 +68,16 @@ module _ (p : Program) (R : resolved.Program) where
     order_fits : (pc : ℕ) (h : Height) (x : Order) → slice_get (table R) pc ≡ Some h → Steps R (all R) (table R) h pc x → FitsAt (bare p) (height_at R) pc x
     order_fits pc h (Plain o) now s = within pc (pc + 1) h _ (operation_effect o) now s.1.0.height (own h (operation_effect o))
     order_fits pc h (PrintText t) now s = within pc (pc + 1) h _ (order_effect (PrintText t)) now s.1.0.height (own h (order_effect (PrintText t)))
-    order_fits pc h (Jump to) now s = within pc (lands pc to) h h (order_effect (Jump to)) now s.0.height (fits h h (order_effect (Jump to)) (omega arith) (omega arith) (omega arith) (omega arith))
-    order_fits pc h (JumpZero to) now s = (within pc (pc + 1) h _ (order_effect (JumpZero to)) now s.1.0.height (own h (order_effect (JumpZero to))), within pc (lands pc to) h _ (order_effect (JumpZero to)) now s.2.0.height (own h (order_effect (JumpZero to))))
+    order_fits pc h (Jump to) now s = within pc (lands pc to) h _ (order_effect (Jump to)) now s.2.0.height (fits h _ (order_effect (Jump to)) (omega arith) (omega arith) (omega (arith, s.1)) (omega arith))
+    order_fits pc h (JumpZero to) now s = (within pc (pc + 1) h _ (order_effect (JumpZero to)) now s.1.0.height (own h (order_effect (JumpZero to))), within pc (lands pc to) h _ (order_effect (JumpZero to)) now s.2.2.0.height (fits h _ (order_effect (JumpZero to)) (omega arith) (omega arith) (omega (arith, s.2.1)) (omega arith)))
     order_fits pc h (Call f) now s = λ to found.
         let most : slots_of R f ≤ (height_at R to).numbers = subst (λ (q : ℕ). slots_of R f ≤ (height_at R q).numbers) (some_same (entry p f) to found) (begun f) in
         let e = on_numbers (height_at R to).numbers 1 in
-        (within pc (pc + 1) h (left R (Call f) h) e now s.1.0.height (fits h (left R (Call f) h) e (omega (arith, most)) (omega arith) (omega arith) (omega arith)), gives_one (pc + 1) (left R (Call f) h) s.1.0.height (omega arith))
-    order_fits pc h (Send selector takes) now s = (within pc (pc + 1) h _ (order_effect (Send selector takes)) now s.1.0.height (own h (order_effect (Send selector takes))), gives_one (pc + 1) (left R (Send selector takes) h) s.1.0.height (omega arith))
-    order_fits pc h (SendSuper from selector takes) now s = (within pc (pc + 1) h _ (order_effect (SendSuper from selector takes)) now s.1.0.height (own h (order_effect (SendSuper from selector takes))), gives_one (pc + 1) (left R (SendSuper from selector takes) h) s.1.0.height (omega arith))
-    order_fits pc h (SendTo selector takes) now s = (within pc (pc + 1) h _ (order_effect (SendTo selector takes)) now s.1.0.height (own h (order_effect (SendTo selector takes))), gives_one (pc + 1) (left R (SendTo selector takes) h) s.1.0.height (omega arith))
-    order_fits pc h (SendToSuper from selector takes) now s = (within pc (pc + 1) h _ (order_effect (SendToSuper from selector takes)) now s.1.0.height (own h (order_effect (SendToSuper from selector takes))), gives_one (pc + 1) (left R (SendToSuper from selector takes) h) s.1.0.height (omega arith))
+        (within pc (pc + 1) h (next_height R (Call f) h) e now s.1.0.height (fits h (next_height R (Call f) h) e (omega (arith, most)) (omega arith) (omega arith) (omega arith)), gives_one (pc + 1) (next_height R (Call f) h) s.1.0.height (omega arith))
+    order_fits pc h (Send selector takes) now s = (within pc (pc + 1) h _ (order_effect (Send selector takes)) now s.1.0.height (own h (order_effect (Send selector takes))), gives_one (pc + 1) (next_height R (Send selector takes) h) s.1.0.height (omega arith))
+    order_fits pc h (SendSuper from selector takes) now s = (within pc (pc + 1) h _ (order_effect (SendSuper from selector takes)) now s.1.0.height (own h (order_effect (SendSuper from selector takes))), gives_one (pc + 1) (next_height R (SendSuper from selector takes) h) s.1.0.height (omega arith))
+    order_fits pc h (SendTo selector takes) now s = (within pc (pc + 1) h _ (order_effect (SendTo selector takes)) now s.1.0.height (own h (order_effect (SendTo selector takes))), gives_one (pc + 1) (next_height R (SendTo selector takes) h) s.1.0.height (omega arith))
+    order_fits pc h (SendToSuper from selector takes) now s = (within pc (pc + 1) h _ (order_effect (SendToSuper from selector takes)) now s.1.0.height (own h (order_effect (SendToSuper from selector takes))), gives_one (pc + 1) (next_height R (SendToSuper from selector takes) h) s.1.0.height (omega arith))
     order_fits pc h (StoreStrong i) now s = within pc (pc + 1) h _ (order_effect (StoreStrong i)) now s.1.0.height (own h (order_effect (StoreStrong i)))
     order_fits pc h (Empty i) now s = within pc (pc + 1) h _ (order_effect (Empty i)) now s.1.height (own h (order_effect (Empty i)))
     order_fits pc h DropAll now s =

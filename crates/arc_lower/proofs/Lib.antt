@@ -30,6 +30,7 @@ mod Finding
 mod Calling
 mod Typing
 mod HeightsEnd
+mod Forms
 mod Stepping
 mod Programs
 mod HeightsFit

@@ -14,17 +14,18 @@ use Rattle.arc_code.specs.Effects.{passes}
 use Rattle.arc_ir.specs.declared.action.Target.TheVariants.{At}
 use Rattle.arc_lower.specs.Order.{Order}
 use Rattle.arc_lower.specs.Lowered.{all_functions, number_of, slots_of, zero_orders, fit_orders, declare_orders, pop_orders, keep_orders, all_empty_orders, commands_block, flat, function_orders, functions_orders, entries_from, start_orders, end_step_of, entry_of, entries_of, stub_orders, methods_orders, dealloc_orders, class_orders, classes_orders, linked_methods, linked_dealloc, linked_classes, running_orders, lowered, classes_linked}
-use Rattle.arc_lower.specs.Heights.{height, between, next_height, last_height, heights, start_heights, function_heights, functions_heights, stub_heights, methods_heights, dealloc_heights, class_heights, classes_heights, lowered_heights}
+use Rattle.arc_lower.specs.Heights.{height, between, next_height, walk, Walk, next_walk, last_walk, walk_heights, heights, start_heights, function_heights, functions_heights, stub_heights, methods_heights, dealloc_heights, class_heights, classes_heights, lowered_heights}
 use Rattle.arc_lower.proofs.Rows.{zeros_length}
 use Rattle.arc_lower.proofs.Linking.{numbered}
 use Rattle.arc_lower.proofs.Finding.{passes_same}
-use Rattle.arc_lower.proofs.Typing.{heights_same, slots_same, number_there, Types, types_same, types_last, tested, left, keep_types, zeros_type, fit_types, declare_types, commands_type}
-use Rattle.arc_lower.proofs.HeightsEnd.{last_append, block_ends}
+use Rattle.arc_lower.proofs.Typing.{heights_same, slots_same, number_there, Types, types_same, types_last, tested, keep_types, zeros_type, fit_types, declare_types, BlockTypes}
+use Rattle.arc_lower.proofs.HeightsEnd.{last_append, Keeps, block_ends}
+use Rattle.arc_lower.proofs.Forms.{commands_type}
 use Rattle.arc_lower.proofs.Stepping.{some_same, HasPart, part_front, part_back, has_whole, types_ordinary, Takes, Clears, Stands, Goes, StepsAt, AllStep, step_then, IsReturn, opens_goes, none_goes, Row, row_of, row_prefix, row_front, row_back, Follows, goes_here, typed_steps, AllTake, takes_stand, takes_step, block_ordinary, block_steps}
 
-heights_length : (R : resolved.Program) (base h : Height) (xs : List Order) → length (heights R base h xs) ≡ length xs
-heights_length R base h [] = refl
-heights_length R base h (x ∷ xs) = ap suc (heights_length R base (next_height R base x h) xs)
+heights_length : (R : resolved.Program) (base : Height) (w : Walk) (xs : List Order) → length (walk_heights R base w xs) ≡ length xs
+heights_length R base w [] = refl
+heights_length R base w (x ∷ xs) = ap suc (heights_length R base (next_walk R base x w) xs)
 
 abbrev NoReturn : Order → Type 0
 NoReturn Return = ⊥
@@ -100,21 +101,21 @@ module _ (R : resolved.Program) where
     body = declared ++ (statements ++ end)
 
     abbrev Rows : ℕ → Height → List Order → Type 0
-    Rows = Row R all table base
+    Rows pc h = Row R all table base pc (walk h [])
 
-    statements_end : last_height R base base statements ≡ base
-    statements_end = block_ends R slots names place (commands_block place cs) base base (commands_type R slots names place cs)
+    statements_type : BlockTypes R 0 0 slots names place true base (commands_block place cs) base
+    statements_type = commands_type R slots names place cs
 
-    empty_stays : (i : ℕ) → left R (Empty i) leaving ≡ leaving
+    empty_stays : (i : ℕ) → next_height R (Empty i) leaving ≡ leaving
     empty_stays i = heights_same _ _ _ _ (suc slots) 0 0 names (omega arith) (omega arith) (omega arith) (omega arith)
 
-    empty_ends : (b : Bool) (i : ℕ) → last_height R base leaving (if b then Empty i ∷ [] else []) ≡ leaving
-    empty_ends true i = empty_stays i
+    empty_ends : (b : Bool) (i : ℕ) → last_walk R base (walk leaving []) (if b then Empty i ∷ [] else []) ≡ walk leaving []
+    empty_ends true i = ap (λ h. walk h []) (empty_stays i)
     empty_ends false i = refl
 
-    emptied_ends : (n : ℕ) → last_height R base leaving (emptied n) ≡ leaving
+    emptied_ends : (n : ℕ) → last_walk R base (walk leaving []) (emptied n) ≡ walk leaving []
     emptied_ends zero = refl
-    emptied_ends (suc n) = last_append R base leaving (if nat_lt (0 + n) names then Empty (0 + n) ∷ [] else []) (emptied n) ∙ ap (λ h. last_height R base h (emptied n)) (empty_ends (nat_lt (0 + n) names) (0 + n)) ∙ emptied_ends n
+    emptied_ends (suc n) = last_append R base (walk leaving []) (if nat_lt (0 + n) names then Empty (0 + n) ∷ [] else []) (emptied n) ∙ ap (λ w. last_walk R base w (emptied n)) (empty_ends (nat_lt (0 + n) names) (0 + n)) ∙ emptied_ends n
 
     pops_take : (n : ℕ) → AllTake R all table base (pop_orders n)
     pops_take zero = tt
@@ -127,10 +128,12 @@ module _ (R : resolved.Program) where
     keep_typed : Types R 0 0 leaving keep (height 1 0 0 names)
     keep_typed = subst (λ h. Types R 0 0 h keep (height 1 0 0 names)) (heights_same (suc (slots + 0)) 0 0 names (suc slots) 0 0 names (omega arith) refl refl refl) (keep_types R 0 0 0 0 names slots 0)
 
-    leave_ends : last_height R base leaving leave ≡ begun
+    leave_ends : last_walk R base (walk leaving []) leave ≡ walk begun []
     leave_ends =
-        last_append R base leaving (emptied names) (keep ++ Return ∷ [])
-        ∙ last_append R base (last_height R base leaving (emptied names)) keep (Return ∷ [])
+        last_append R base (walk leaving []) (emptied names) (keep ++ Return ∷ [])
+        ∙ ap (λ w. last_walk R base w (keep ++ Return ∷ [])) (emptied_ends names)
+        ∙ last_append R base (walk leaving []) keep (Return ∷ [])
+        ∙ ap (λ w. last_walk R base w (Return ∷ [])) (types_last R 0 0 base leaving [] keep (height 1 0 0 names) keep_typed)
 
     -- before so many variables are emptied the others are nil
     abbrev Emptying : ℕ → ℕ → Type 0
@@ -146,7 +149,7 @@ module _ (R : resolved.Program) where
     other_return i x y e f same = subst NoReturn (sym e ∙ same ∙ f) tt
 
     emptying : (n pc : ℕ) → n ≤ names → Rows pc leaving (emptied n ++ (keep ++ Return ∷ [])) → Emptying n pc
-    emptying zero pc le f = let there = takes_stand R all table base pc leaving keep (keep_takes slots) f in (tt, there.0, there.1)
+    emptying zero pc le f = let there = takes_stand R all table base pc (walk leaving []) keep (keep_takes slots) f in (tt, there.0, there.1)
     emptying (suc n) pc le f = by (nat_lt (0 + n) names) refl (λ rest. emptying n (pc + 1) (omega (arith, le)) rest) f
       where
         only : slice_get all pc ≡ Some (Empty (0 + n)) → (k : ℕ) → Clears R all table k pc → k ≡ suc n
@@ -165,7 +168,7 @@ module _ (R : resolved.Program) where
 
     module _ (has : Rows place leaving (leave ++ body)) where
       leave_row : Rows place leaving leave
-      leave_row = row_prefix R all table base place leaving leave body has
+      leave_row = row_prefix R all table base place (walk leaving []) leave body has
 
       exit : Emptying names place
       exit = emptying names place (omega arith) leave_row
@@ -174,48 +177,53 @@ module _ (R : resolved.Program) where
       exit_goes = (exit.1, λ k c. let e = exit.2 k c in omega (arith, e))
 
       body_row : Rows entered begun body
-      body_row = subst (λ h. Rows entered h body) leave_ends (row_back R all table base place leaving leave body has)
+      body_row = subst (λ w. Row R all table base entered w body) leave_ends (row_back R all table base place (walk leaving []) leave body has)
 
       declared_typed : Types R 0 0 begun declared base
       declared_typed = types_same R 0 0 begun declared (height slots 0 0 (names + 0)) base (heights_same _ _ _ _ slots 0 0 names refl refl refl (omega arith)) (declare_types R 0 0 names slots 0)
 
       rows : Rows start base (statements ++ end)
-      rows = subst (λ h. Rows start h (statements ++ end)) (types_last R 0 0 base begun declared base declared_typed) (row_back R all table base entered begun declared (statements ++ end) body_row)
+      rows = subst (λ w. Row R all table base start w (statements ++ end)) (types_last R 0 0 base begun [] declared base declared_typed) (row_back R all table base entered (walk begun []) declared (statements ++ end) body_row)
 
-      last : Rows (start + length statements) base end
-      last = subst (λ h. Rows (start + length statements) h end) statements_end (row_back R all table base start base statements end rows)
+      ends : (after : List Height) × (last_walk R base (walk base []) statements ≡ walk base after) × Keeps R 0 0 slots names place base true [] after
+      ends = block_ends R 0 0 slots names place base true (commands_block place cs) base base [] (refl, tt, tt) statements_type
 
-      statements_follow : Follows R all table base start base statements
-      statements_follow = row_front R all table base start base statements end (subst (Goes_to (start + length statements)) (sym statements_end) (opens_goes R all table (start + length statements) base (Plain (Num (pos 0))) tt last.0 last.1)) rows
+      last : Row R all table base (start + length statements) (walk base ends.0) end
+      last = subst (λ w. Row R all table base (start + length statements) w end) ends.1 (row_back R all table base start (walk base []) statements end rows)
 
-      declared_follow : Follows R all table base entered begun declared
-      declared_follow = row_front R all table base entered begun declared (statements ++ end) (subst (Goes_to start) (sym (types_last R 0 0 base begun declared base declared_typed)) (goes_here R all table base start base statements (block_ordinary R all table slots names place (commands_block place cs) base base (commands_type R slots names place cs)) statements_follow)) body_row
+      statements_follow : Follows R all table base start (walk base []) statements
+      statements_follow = row_front R all table base start (walk base []) statements end (subst (λ w. Goes_to (start + length statements) w.height) (sym ends.1) (opens_goes R all table (start + length statements) base (Plain (Num (pos 0))) tt last.0 last.1)) rows
+
+      declared_follow : Follows R all table base entered (walk begun []) declared
+      declared_follow =
+          row_front R all table base entered (walk begun []) declared (statements ++ end)
+          (subst (λ w. Goes_to start w.height) (sym (types_last R 0 0 base begun [] declared base declared_typed)) (goes_here R all table base start (walk base []) statements (block_ordinary R all table slots names place true (commands_block place cs) base base statements_type) statements_follow)) body_row
 
       pub entry_goes : Goes_to entered begun
-      entry_goes = goes_here R all table base entered begun declared (types_ordinary R begun declared base declared_typed) declared_follow
+      entry_goes = goes_here R all table base entered (walk begun []) declared (types_ordinary R begun declared base declared_typed) declared_follow
 
       leave_steps : Step_all place leave
       leave_steps =
           let q = place + length (emptied names) in
-          let behind = subst (λ h. Rows q h (keep ++ Return ∷ [])) (emptied_ends names) (row_back R all table base place leaving (emptied names) (keep ++ Return ∷ []) leave_row) in
-          let one = subst (λ h. Rows (q + length keep) h (Return ∷ [])) (types_last R 0 0 base leaving keep (height 1 0 0 names) keep_typed) (row_back R all table base q leaving keep (Return ∷ []) behind) in
+          let behind = subst (λ w. Row R all table base q w (keep ++ Return ∷ [])) (emptied_ends names) (row_back R all table base place (walk leaving []) (emptied names) (keep ++ Return ∷ []) leave_row) in
+          let one = subst (λ w. Row R all table base (q + length keep) w (Return ∷ [])) (types_last R 0 0 base leaving [] keep (height 1 0 0 names) keep_typed) (row_back R all table base q (walk leaving []) keep (Return ∷ []) behind) in
           step_then R all table place (emptied names) (keep ++ Return ∷ []) exit.0
-          (step_then R all table q keep (Return ∷ []) (takes_step R all table base q leaving keep (height 1 0 0 names) (keep_takes slots) keep_typed behind) ((height 1 0 0 names, one.0, (refl, refl, refl)), tt))
+          (step_then R all table q keep (Return ∷ []) (takes_step R all table base q leaving [] keep (height 1 0 0 names) (keep_takes slots) keep_typed behind) ((height 1 0 0 names, one.0, (refl, refl, refl)), tt))
 
       pub function_steps : Step_all place (leave ++ body)
       function_steps =
-          let up : next_height R base (Plain (Num (pos 0))) base ≡ leaving = heights_same _ _ _ _ (suc slots) 0 0 names (omega arith) (omega arith) (omega arith) (omega arith) in
+          let up : next_height R (Plain (Num (pos 0))) base ≡ leaving = heights_same _ _ _ _ (suc slots) 0 0 names (omega arith) (omega arith) (omega arith) (omega arith) in
           let q = start + length statements in
           let jump = opens_goes R all table (q + 1) _ (Jump (At place)) tt last.2.0 last.2.1 in
           step_then R all table place leave body leave_steps
-          (step_then R all table entered declared (statements ++ end) (typed_steps R all table base entered begun declared base declared_typed declared_follow)
-          (step_then R all table start statements end (block_steps R all table slots names place exit_goes (commands_block place cs) base base start (commands_type R slots names place cs) statements_follow)
-          ((base, last.0, (tt, (jump.0, λ k c. inr (jump.1 k c)))), ((leaving, last.2.0 ∙ ap Some up, exit_goes), tt))))
+          (step_then R all table entered declared (statements ++ end) (typed_steps R all table base entered begun [] declared base declared_typed declared_follow)
+          (step_then R all table start statements end (block_steps R all table slots names place exit_goes true (commands_block place cs) base base start [] (refl, tt, tt) statements_type statements_follow)
+          ((base, last.0, (tt, (jump.0, λ k c. inr (jump.1 k c)))), ((leaving, last.2.0 ∙ ap Some up, (0, omega arith, exit_goes)), tt))))
 
   -- ---- all functions
 
-  abbrev row : (base h : Height) (pc : ℕ) (xs : List Order) → Both pc (heights R base h xs) xs → Row R all table base pc h xs
-  row base h pc xs f = row_of R all table base pc h xs f.0 f.1
+  abbrev row : (base h : Height) (pc : ℕ) (xs : List Order) → Both pc (heights R base h xs) xs → Row R all table base pc (walk h []) xs
+  row base h pc xs f = row_of R all table base pc (walk h []) xs f.0 f.1
 
   function_length : (place : ℕ) (g : Function) → length (function_heights R place g) ≡ length (function_orders R place g)
   function_length place g = heights_length R _ _ (function_orders R place g)
@@ -260,7 +268,7 @@ module _ (R : resolved.Program) where
   stub values f = stub_orders R (entries_of R) values f
 
   stub_length : (values f : ℕ) → length (stub_heights R (entries_of R) values f) ≡ length (stub values f)
-  stub_length values f = heights_length R zeroed (height values 0 0 0) (stub values f)
+  stub_length values f = heights_length R zeroed (walk (height values 0 0 0) []) (stub values f)
 
   fit_typed : (values slots : ℕ) → Types R 0 0 (height values 0 0 0) (fit_orders values slots) (height slots 0 0 0)
   fit_typed values slots =
@@ -275,20 +283,20 @@ module _ (R : resolved.Program) where
     abbrev to : ℕ
     to = slice_index_or (entries_of R) (number_of R f) 0
 
-    stub_row : Row R all table zeroed place (height values 0 0 0) (stub values f)
+    stub_row : Row R all table zeroed place (walk (height values 0 0 0) []) (stub values f)
     stub_row = row zeroed (height values 0 0 0) place (stub values f) has
 
-    stub_last : Row R all table zeroed (place + length fit) (height (slots_of R f) 0 0 0) (Jump (At to) ∷ [])
-    stub_last = subst (λ h. Row R all table zeroed (place + length fit) h (Jump (At to) ∷ [])) (types_last R 0 0 zeroed (height values 0 0 0) fit (height (slots_of R f) 0 0 0) (fit_typed values (slots_of R f))) (row_back R all table zeroed place (height values 0 0 0) fit (Jump (At to) ∷ []) stub_row)
+    stub_last : Row R all table zeroed (place + length fit) (walk (height (slots_of R f) 0 0 0) []) (Jump (At to) ∷ [])
+    stub_last = subst (λ w. Row R all table zeroed (place + length fit) w (Jump (At to) ∷ [])) (types_last R 0 0 zeroed (height values 0 0 0) [] fit (height (slots_of R f) 0 0 0) (fit_typed values (slots_of R f))) (row_back R all table zeroed place (walk (height values 0 0 0) []) fit (Jump (At to) ∷ []) stub_row)
 
-    stub_follows : Follows R all table zeroed place (height values 0 0 0) fit
-    stub_follows = row_front R all table zeroed place (height values 0 0 0) fit (Jump (At to) ∷ []) (subst (Goes_to (place + length fit)) (sym (types_last R 0 0 zeroed (height values 0 0 0) fit (height (slots_of R f) 0 0 0) (fit_typed values (slots_of R f)))) (opens_goes R all table (place + length fit) (height (slots_of R f) 0 0 0) (Jump (At to)) tt stub_last.0 stub_last.1)) stub_row
+    stub_follows : Follows R all table zeroed place (walk (height values 0 0 0) []) fit
+    stub_follows = row_front R all table zeroed place (walk (height values 0 0 0) []) fit (Jump (At to) ∷ []) (subst (λ w. Goes_to (place + length fit) w.height) (sym (types_last R 0 0 zeroed (height values 0 0 0) [] fit (height (slots_of R f) 0 0 0) (fit_typed values (slots_of R f)))) (opens_goes R all table (place + length fit) (height (slots_of R f) 0 0 0) (Jump (At to)) tt stub_last.0 stub_last.1)) stub_row
 
     pub stub_goes : Goes_to place (height values 0 0 0)
-    stub_goes = goes_here R all table zeroed place (height values 0 0 0) fit (types_ordinary R (height values 0 0 0) fit (height (slots_of R f) 0 0 0) (fit_typed values (slots_of R f))) stub_follows
+    stub_goes = goes_here R all table zeroed place (walk (height values 0 0 0) []) fit (types_ordinary R (height values 0 0 0) fit (height (slots_of R f) 0 0 0) (fit_typed values (slots_of R f))) stub_follows
 
     stub_steps : Goes_to to (height (slots_of R f) 0 0 0) → Step_all place (stub values f)
-    stub_steps goes = step_then R all table place fit (Jump (At to) ∷ []) (typed_steps R all table zeroed place (height values 0 0 0) fit (height (slots_of R f) 0 0 0) (fit_typed values (slots_of R f)) stub_follows) ((height (slots_of R f) 0 0 0, stub_last.0, goes), tt)
+    stub_steps goes = step_then R all table place fit (Jump (At to) ∷ []) (typed_steps R all table zeroed place (height values 0 0 0) [] fit (height (slots_of R f) 0 0 0) (fit_typed values (slots_of R f)) stub_follows) ((height (slots_of R f) 0 0 0, stub_last.0, (0, omega arith, goes)), tt)
 
   methods_length : (ms : List Method) → length (methods_heights R (entries_of R) ms) ≡ length (methods_orders R (entries_of R) ms)
   methods_length [] = refl
@@ -402,7 +410,7 @@ module _ (R : resolved.Program) where
   function_list = functions_orders R (length (start_orders R)) (all_functions R)
 
   start_length : length first ≡ length (start_orders R)
-  start_length = heights_length R zeroed zeroed (start_orders R)
+  start_length = heights_length R zeroed (walk zeroed []) (start_orders R)
 
   running_length : length (first ++ functions) ≡ length (running_orders R)
   running_length = omega (arith, length-append first functions, length-append (start_orders R) function_list, start_length, functions_length (all_functions R) (length (start_orders R)))
@@ -458,17 +466,17 @@ module _ (R : resolved.Program) where
   zeros_typed : Types R 0 0 zeroed zeros (height (slots_of R R.main) 0 0 0)
   zeros_typed = types_same R 0 0 zeroed zeros (height (slots_of R R.main + 0) 0 0 0) (height (slots_of R R.main) 0 0 0) (heights_same _ _ _ _ (slots_of R R.main) 0 0 0 (omega arith) refl refl refl) (zeros_type R 0 0 0 0 0 (slots_of R R.main) 0)
 
-  start_row : Row R all table zeroed 0 zeroed (start_orders R)
+  start_row : Row R all table zeroed 0 (walk zeroed []) (start_orders R)
   start_row = row zeroed zeroed 0 (start_orders R) has_start
 
-  call_row : Row R all table zeroed (0 + length zeros) (height (slots_of R R.main) 0 0 0) call
-  call_row = subst (λ h. Row R all table zeroed (0 + length zeros) h call) (types_last R 0 0 zeroed zeroed zeros (height (slots_of R R.main) 0 0 0) zeros_typed) (row_back R all table zeroed 0 zeroed zeros call start_row)
+  call_row : Row R all table zeroed (0 + length zeros) (walk (height (slots_of R R.main) 0 0 0) []) call
+  call_row = subst (λ w. Row R all table zeroed (0 + length zeros) w call) (types_last R 0 0 zeroed zeroed [] zeros (height (slots_of R R.main) 0 0 0) zeros_typed) (row_back R all table zeroed 0 (walk zeroed []) zeros call start_row)
 
-  zeros_follow : Follows R all table zeroed 0 zeroed zeros
-  zeros_follow = row_front R all table zeroed 0 zeroed zeros call (subst (Goes_to (0 + length zeros)) (sym (types_last R 0 0 zeroed zeroed zeros (height (slots_of R R.main) 0 0 0) zeros_typed)) (opens_goes R all table (0 + length zeros) (height (slots_of R R.main) 0 0 0) (Call (number_of R R.main)) tt call_row.0 call_row.1)) start_row
+  zeros_follow : Follows R all table zeroed 0 (walk zeroed []) zeros
+  zeros_follow = row_front R all table zeroed 0 (walk zeroed []) zeros call (subst (λ w. Goes_to (0 + length zeros) w.height) (sym (types_last R 0 0 zeroed zeroed [] zeros (height (slots_of R R.main) 0 0 0) zeros_typed)) (opens_goes R all table (0 + length zeros) (height (slots_of R R.main) 0 0 0) (Call (number_of R R.main)) tt call_row.0 call_row.1)) start_row
 
   pub start_goes : Goes_to 0 zeroed
-  start_goes = goes_here R all table zeroed 0 zeroed zeros (types_ordinary R zeroed zeros (height (slots_of R R.main) 0 0 0) zeros_typed) zeros_follow
+  start_goes = goes_here R all table zeroed 0 (walk zeroed []) zeros (types_ordinary R zeroed zeros (height (slots_of R R.main) 0 0 0) zeros_typed) zeros_follow
 
   -- the order at which the ends of objects go on
   pub end_is : slice_get all (end_step_of R) ≡ Some EndStep
@@ -481,10 +489,10 @@ module _ (R : resolved.Program) where
       let q = 0 + length zeros in
       let s = slots_of R R.main in
       let rest = call_row.2 in
-      let called : next_height R zeroed (Call (number_of R R.main)) (height s 0 0 0) ≡ height 1 0 0 0 = heights_same _ _ _ _ 1 0 0 0 (omega (arith, slots_same R R.main)) (omega arith) (omega arith) (omega arith) in
+      let called : next_height R (Call (number_of R R.main)) (height s 0 0 0) ≡ height 1 0 0 0 = heights_same _ _ _ _ 1 0 0 0 (omega (arith, slots_same R R.main)) (omega arith) (omega arith) (omega arith) in
       let one = rest.0 ∙ ap Some called in
       let home : Stands R all table (q + 1) (height 1 0 0 0) = record { height = one; order = Return; is = rest.1; no_end = λ same. subst IsReturn same tt } in
-      step_then R all table 0 zeros call (typed_steps R all table zeroed 0 zeroed zeros (height s 0 0 0) zeros_typed zeros_follow) (
+      step_then R all table 0 zeros call (typed_steps R all table zeroed 0 zeroed [] zeros (height s 0 0 0) zeros_typed zeros_follow) (
         (height s 0 0 0, call_row.0, ((omega (arith, slots_same R R.main), number_there R R.main), subst (Goes_to (q + 1)) (sym called) (none_goes R all table (q + 1) (height 1 0 0 0) home refl))),
         ((height 1 0 0 0, one, (refl, refl, refl)), ((zeroed, rest.2.0, (refl, refl, refl, refl)), tt)),
       )

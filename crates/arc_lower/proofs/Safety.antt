@@ -23,7 +23,7 @@ use Rattle.arc_code.specs.Effects.{passes}
 use Rattle.arc_code.specs.Instructions as instructions
 use Rattle.arc_lower.specs.Order.{Order, order, orders}
 use Rattle.arc_lower.specs.Lowered.{slots_of, entries_of, end_step_of, lowered as lowered_orders, classes_linked}
-use Rattle.arc_lower.specs.Heights.{height}
+use Rattle.arc_lower.specs.Heights.{height, next_height}
 use Rattle.arc_lower.proofs.CountsThere.{IsThere, AllThere, object_goes, named_goes, set_here}
 use Rattle.arc_lower.proofs.CountsKept.{Sane, Drops, nothing_sane, sane_moved, sane_names, sane_entered, sane_take, sane_declare, variable_there, waiting_there, sane_store, sane_drop, sane_nil, sane_last, sane_other, sane_make, sane_field, sane_gone}
 use Rattle.arc_lower.proofs.CountsHeld.{all_holders}
@@ -31,7 +31,7 @@ use Rattle.arc_lower.proofs.CountsPlaces.{holders_head, holders_nil}
 use Rattle.arc_lower.proofs.Recounting.{at}
 use Rattle.arc_lower.proofs.Doing.{bare, does, acts_does}
 use Rattle.arc_lower.proofs.Standing.{no_nil, ending, AllDying, IsDying, Alive, nil_alive, ending_alive, IsHeld, last_held, held_there, made_dying, changed_dying, IsApart, live_apart, apart_dying}
-use Rattle.arc_lower.proofs.Typing.{left, Reaches}
+use Rattle.arc_lower.proofs.Typing.{Reaches}
 use Rattle.arc_lower.proofs.Stepping.{some_same, Clears, opens_clears, Stands, Onward, Steps}
 use Rattle.arc_lower.proofs.Stepping as stepping
 use Rattle.arc_lower.proofs.Programs.{all, table, methods_go, dealloc_goes, start_goes, end_is, steps_at}
@@ -399,9 +399,9 @@ module _ (p : Program) (R : resolved.Program) where
           let every = ap length same in
           run_on (pc + 1) stack1 held1 own1 o1 (back (pc + 1) g on.0 (length stack1) own1 held1 (λ k c. subst (NilFrom k) (sym same) (⊎_elim (λ before. nil k before) (λ le. nil_from_end held.variables k (omega (arith, many, many1, le))) (on.1 k c))) count1 size1 few1 (omega (arith, every, many, many1)) o1.keeps)
 
-      module _ (nil : (k : ℕ) → Clear k pc → NilFrom k held.variables) (x : Op) (g : Onward R (all R) (table R) pc (pc + 1) (left R (Plain x) h)) where
+      module _ (nil : (k : ℕ) → Clear k pc → NilFrom k held.variables) (x : Op) (g : Onward R (all R) (table R) pc (pc + 1) (next_height R (Plain x) h)) where
         abbrev to : Height
-        to = left R (Plain x) h
+        to = next_height R (Plain x) h
 
         -- behind an operation on numbers
         counts : (stack1 : List ℤ) → length stack1 ≡ to.numbers + below → to.names ≡ h.names → to.temporaries ≡ h.temporaries → to.variables ≡ h.variables → Good (at frames (pc + 1) stack1 held)
@@ -421,11 +421,11 @@ module _ (p : Program) (R : resolved.Program) where
       or_fault_leads None rest g = tt
       or_fault_leads (Some v) rest g = g v
 
-      made_leads : (nil : (k : ℕ) → Clear k pc → NilFrom k held.variables) (found : Option ℕ) (rest : List ℤ) → 1 ≤ h.numbers → Onward R (all R) (table R) pc (pc + 1) (left R (Plain Alloc) h) → length stack ≡ suc (length rest) → Leads (allocates p.classes s rest found)
+      made_leads : (nil : (k : ℕ) → Clear k pc → NilFrom k held.variables) (found : Option ℕ) (rest : List ℤ) → 1 ≤ h.numbers → Onward R (all R) (table R) pc (pc + 1) (next_height R (Plain Alloc) h) → length stack ≡ suc (length rest) → Leads (allocates p.classes s rest found)
       made_leads nil None rest some g e = tt
       made_leads nil (Some c) rest some g e =
           let r = suc (length held.objects) in
-          next nil (left R (Plain Alloc) h) g rest (makes p.classes c held) (r ∷ own) refl (omega (arith, some, count, e)) (omega (arith, size)) (omega (arith, few)) (omega arith)
+          next nil (next_height R (Plain Alloc) h) g rest (makes p.classes c held) (r ∷ own) refl (omega (arith, some, count, e)) (omega (arith, size)) (omega (arith, few)) (omega arith)
           (record { is = ap (λ l. r ∷ l) o.is; places = o.places; itself = o.itself; keeps = (last_held r held.temporaries, all_more r own held.temporaries o.keeps); dying = made_dying held.objects _ (ending frames) o.dying; sane = sane_make p.classes held c o.sane })
 
       field_dies : (j : ℕ) (ob : Object) (fields : List ℤ) (r : ℕ) → r ≡ suc j → object_at held.objects (suc j) ≡ Some ob → AllDying (with_object held.objects r (with_fields ob fields)) (ending frames)
@@ -434,7 +434,7 @@ module _ (p : Program) (R : resolved.Program) where
           dies : (x : Object) → Some x ≡ Some ob → x.phase ≡ Dying → ob.phase ≡ Dying
           dies x e d = let alike : x ≡ ob = cc in subst (λ (y : Object). y.phase ≡ Dying) alike d
 
-      operation_leads : (x : Op) → slice_get (all R) pc ≡ Some (Plain x) → (nil : (k : ℕ) → Clear k pc → NilFrom k held.variables) → Reaches x h → Onward R (all R) (table R) pc (pc + 1) (left R (Plain x) h) → Leads (operates p.classes x s)
+      operation_leads : (x : Op) → slice_get (all R) pc ≡ Some (Plain x) → (nil : (k : ℕ) → Clear k pc → NilFrom k held.variables) → Reaches x h → Onward R (all R) (table R) pc (pc + 1) (next_height R (Plain x) h) → Leads (operates p.classes x s)
       operation_leads (Num n) is nil needs g = counts nil (Num n) g (n ∷ stack) (omega (arith, count)) (omega arith) (omega arith) (omega arith)
       operation_leads (Bin operator kind) is nil needs g = top_leads stack _ (omega (arith, count, needs)) (λ y rest e. top_leads rest _ (omega (arith, count, needs, e)) (λ x others e2. or_fault_leads (combined operator kind x y) others (λ v. counts nil (Bin operator kind) g (v ∷ others) (omega (arith, count, needs, e, e2)) (omega arith) (omega arith) (omega arith))))
       operation_leads (Un operator kind) is nil needs g = top_leads stack _ (omega (arith, count, needs)) (λ x rest e. counts nil (Un operator kind) g (applied operator kind x ∷ rest) (omega (arith, count, needs, e)) (omega arith) (omega arith) (omega arith))
@@ -450,7 +450,7 @@ module _ (p : Program) (R : resolved.Program) where
           let held1 = raised 0 (with_variables held (0 ∷ held.variables)) in
           subst (λ l. Leads (declares l held (keeps s stack))) (sym none)
           (run_on (pc + 1) stack held1 own (record { is = o.is; places = o.places; itself = o.itself; keeps = o.keeps; dying = o.dying; sane = sane_declare held o.sane })
-          (back (pc + 1) (left R (Plain Declare) h) g.0 (length stack) own held1 (λ k c. ⊎_elim (λ before. absurd (opens_clears R (all R) (table R) pc (Plain Declare) tt is k before)) (λ le. nil_from_end (0 ∷ held.variables) k (omega (arith, many, le))) (g.1 k c)) (omega (arith, count)) (omega (arith, size)) (omega (arith, few)) (omega (arith, many)) o.keeps))
+          (back (pc + 1) (next_height R (Plain Declare) h) g.0 (length stack) own held1 (λ k c. ⊎_elim (λ before. absurd (opens_clears R (all R) (table R) pc (Plain Declare) tt is k before)) (λ le. nil_from_end (0 ∷ held.variables) k (omega (arith, many, le))) (g.1 k c)) (omega (arith, count)) (omega (arith, size)) (omega (arith, few)) (omega (arith, many)) o.keeps))
       operation_leads Nil is nil needs g = refers nil Nil g stack (named 0 held) (0 ∷ own) (ap (λ l. 0 ∷ l) o.is) refl refl refl refl (tt, o.keeps) o.dying (sane_names held (0 ∷ held.names) o.sane) (omega (arith, count)) (omega (arith, size)) (omega arith) (omega arith)
       operation_leads ReadSelf is nil needs g =
           let r = held.self in
@@ -530,19 +530,19 @@ module _ (p : Program) (R : resolved.Program) where
       order_leads : (x : Order) → slice_get (all R) pc ≡ Some x → Stands R (all R) (table R) pc h → (x ≡ EndStep → ⊥) → (nil : (k : ℕ) → Clear k pc → NilFrom k held.variables) → Steps R (all R) (table R) h pc x → Leads (does p x s)
       order_leads (Plain x) is stands no_end nil st = operation_leads x is nil st.0 st.1
       order_leads (PrintText bytes) is stands no_end nil st = top_leads stack _ (omega (arith, count, st.0)) (λ c rest e. go_on (pc + 1) _ st.1 (counted c bytes ∷ rest) held own (omega (arith, count, st.0, e)) (omega (arith, size)) (omega (arith, few)) (omega (arith, many)) o)
-      order_leads (Jump to) is stands no_end nil st = go_on (lands pc to) h st stack held own count size few many o
+      order_leads (Jump to) is stands no_end nil st = go_on (lands pc to) _ st.2 stack held own count size (omega (arith, few, st.1)) many o
       order_leads (JumpZero to) is stands no_end nil st = top_leads stack _ (omega (arith, count, st.0)) (λ v rest e. chosen_leads (is_zero v) _ _
           (go_on (pc + 1) _ st.1 rest held own (omega (arith, count, st.0, e)) (omega (arith, size)) (omega (arith, few)) (omega (arith, many)) o)
-          (go_on (lands pc to) _ st.2 rest held own (omega (arith, count, st.0, e)) (omega (arith, size)) (omega (arith, few)) (omega (arith, many)) o))
-      order_leads (Call f) is stands no_end nil st = enters_lead (has_level s) (entry p f) 0 (slots_of R f) pc stack held (calls f st.0.1) (omega (arith, count, st.0.0)) (nil_alive frames (all_places held)) o.itself o.places o.dying o.sane (own_home (left R (Call f) h) (slots_of R f) st.1 (omega (arith, count, st.0.0)) (omega arith) (omega arith) (omega arith))
-      order_leads (Send selector takes) is stands no_end nil st = found_leads stack takes _ (omega (arith, count, st.0)) (λ class _. class_told (class_at class) selector takes (left R (Send selector takes) h) st.0 st.1 (omega arith) (omega arith) (omega arith) (omega arith))
-      order_leads (SendSuper from selector takes) is stands no_end nil st = class_told (Some from) selector takes (left R (SendSuper from selector takes) h) st.0 st.1 (omega arith) (omega arith) (omega arith) (omega arith)
+          (go_on (lands pc to) _ st.2.2 rest held own (omega (arith, count, st.0, e)) (omega (arith, size)) (omega (arith, few, st.2.1)) (omega (arith, many)) o))
+      order_leads (Call f) is stands no_end nil st = enters_lead (has_level s) (entry p f) 0 (slots_of R f) pc stack held (calls f st.0.1) (omega (arith, count, st.0.0)) (nil_alive frames (all_places held)) o.itself o.places o.dying o.sane (own_home (next_height R (Call f) h) (slots_of R f) st.1 (omega (arith, count, st.0.0)) (omega arith) (omega arith) (omega arith))
+      order_leads (Send selector takes) is stands no_end nil st = found_leads stack takes _ (omega (arith, count, st.0)) (λ class _. class_told (class_at class) selector takes (next_height R (Send selector takes) h) st.0 st.1 (omega arith) (omega arith) (omega arith) (omega arith))
+      order_leads (SendSuper from selector takes) is stands no_end nil st = class_told (Some from) selector takes (next_height R (SendSuper from selector takes) h) st.0 st.1 (omega arith) (omega arith) (omega arith) (omega arith)
       order_leads (SendTo selector takes) is stands no_end nil st =
           let f = first_of own (omega (arith, st.0.1, size)) in
-          reference_leads f.0 held.names (f.1 ++ deeper) _ (top_is f.0 f.1 f.2) (told (λ ob. ob.class) f.0 f.1 selector takes (left R (SendTo selector takes) h) f.2 st.0.0 st.1 (omega arith) (omega (arith, st.0.1)) (omega arith) (omega arith))
+          reference_leads f.0 held.names (f.1 ++ deeper) _ (top_is f.0 f.1 f.2) (told (λ ob. ob.class) f.0 f.1 selector takes (next_height R (SendTo selector takes) h) f.2 st.0.0 st.1 (omega arith) (omega (arith, st.0.1)) (omega arith) (omega arith))
       order_leads (SendToSuper from selector takes) is stands no_end nil st =
           let f = first_of own (omega (arith, st.0.1, size)) in
-          reference_leads f.0 held.names (f.1 ++ deeper) _ (top_is f.0 f.1 f.2) (told (λ ob. from) f.0 f.1 selector takes (left R (SendToSuper from selector takes) h) f.2 st.0.0 st.1 (omega arith) (omega (arith, st.0.1)) (omega arith) (omega arith))
+          reference_leads f.0 held.names (f.1 ++ deeper) _ (top_is f.0 f.1 f.2) (told (λ ob. from) f.0 f.1 selector takes (next_height R (SendToSuper from selector takes) h) f.2 st.0.0 st.1 (omega arith) (omega (arith, st.0.1)) (omega arith) (omega arith))
       order_leads (StoreStrong i) is stands no_end nil st =
           let f = first_of own (omega (arith, st.0.0, size)) in
           let r = f.0 in
@@ -550,14 +550,14 @@ module _ (p : Program) (R : resolved.Program) where
           reference_leads r held.names (f.1 ++ deeper) _ (top_is r f.1 f.2) (found_leads held.variables i _ (omega (arith, many, st.0.1)) (λ old found. named_leads r held _ there
           (let held1 = raised r (with_variables held (slice_set held.variables i r)) in
           let long = length-set held.variables i r in
-          let every : length held1.variables ≡ (left R (StoreStrong i) h).variables = omega (arith, many, long) in
+          let every : length held1.variables ≡ (next_height R (StoreStrong i) h).variables = omega (arith, many, long) in
           releases_lead old pc stack held held1 own o.is o.places o.itself o.keeps (variable_there held i old found o.sane) o.dying (sane_store held i old r found there o.sane)
-          (subst (λ l. Resumes (pc + 1) self frames (length stack) below l deeper held.temporaries held1.variables waiting) (sym o.is) (back (pc + 1) (left R (StoreStrong i) h) st.1.0 (length stack) own held1 (goes_nil (pc + 1) (left R (StoreStrong i) h) st.1 held1.variables every) (omega (arith, count)) (omega (arith, size, st.0.0)) (omega (arith, few)) every o.keeps)))))
+          (subst (λ l. Resumes (pc + 1) self frames (length stack) below l deeper held.temporaries held1.variables waiting) (sym o.is) (back (pc + 1) (next_height R (StoreStrong i) h) st.1.0 (length stack) own held1 (goes_nil (pc + 1) (next_height R (StoreStrong i) h) st.1 held1.variables every) (omega (arith, count)) (omega (arith, size, st.0.0)) (omega (arith, few)) every o.keeps)))))
       order_leads (Empty i) is stands no_end nil st = found_leads held.variables i _ (omega (arith, many, st.0)) (λ r found.
           let held1 = raised 0 (with_variables held (slice_set held.variables i 0)) in
           let long = length-set held.variables i 0 in
           releases_lead r pc stack held held1 own o.is o.places o.itself o.keeps (variable_there held i r found o.sane) o.dying (sane_store held i r 0 found tt o.sane)
-          (subst (λ l. Resumes (pc + 1) self frames (length stack) below l deeper held.temporaries held1.variables waiting) (sym o.is) (back (pc + 1) (left R (Empty i) h) st.1 (length stack) own held1 (λ k c. ⊎_elim (λ same. nil_from k (subst (λ j. Clear j (pc + 1)) same c) same) (λ le. nil_from_end held1.variables k (omega (arith, many, long, le))) (st.2 k c)) (omega (arith, count)) (omega (arith, size)) (omega (arith, few)) (omega (arith, many, long)) o.keeps)))
+          (subst (λ l. Resumes (pc + 1) self frames (length stack) below l deeper held.temporaries held1.variables waiting) (sym o.is) (back (pc + 1) (next_height R (Empty i) h) st.1 (length stack) own held1 (λ k c. ⊎_elim (λ same. nil_from k (subst (λ j. Clear j (pc + 1)) same c) same) (λ le. nil_from_end held1.variables k (omega (arith, many, long, le))) (st.2 k c)) (omega (arith, count)) (omega (arith, size)) (omega (arith, few)) (omega (arith, many, long)) o.keeps)))
         where
           nil_from : (k : ℕ) → Clear i (pc + 1) → k ≡ i → NilFrom k (slice_set held.variables i 0)
           nil_from k c same = subst (λ j. NilFrom j (slice_set held.variables i 0)) (sym same) (nil_from_set i held.variables (nil (suc i) (is, c)))

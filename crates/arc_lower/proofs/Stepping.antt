@@ -1,5 +1,6 @@
 -- Where orders stand with their heights, each has what it needs, and goes on where the heights are those that it leaves.
-use Rattle.std.proofs.Common.{◌≡◌, ◌⊎◌, inl, inr, ℕ, zero, suc, ◌+◌, ◌<◌, ◌≤◌, List, [], ◌∷◌, ◌++◌, length, get_or, Some, slice_get, refl, sym, ap, ◌∙◌, subst, arith, append_assoc, length-append}
+use Rattle.std.proofs.Common.{◌≡◌, ◌⊎◌, inl, inr, ℕ, zero, suc, ◌+◌, ◌<◌, ◌≤◌, Bool, true, false, List, [], ◌∷◌, ◌++◌, length, drop, get_or, Some, slice_get, refl, sym, ap, ◌∙◌, subst, arith, append_assoc, length-append}
+use Rattle.std.proofs.lemmas.Bool.{true≢false}
 use Rattle.arc_spec.specs.Resolved as resolved
 use Rattle.arc_code.specs.declared.effect.Height.{Height}
 use Rattle.arc_code.specs.declared.instr.Op.TheVariants.{Pop, Set}
@@ -8,10 +9,10 @@ use Rattle.arc_ir.specs.declared.action.Target.{Target}
 use Rattle.arc_ir.specs.declared.action.Target.TheVariants.{Skip, Back}
 use Rattle.arc_ir.specs.Acting.{lands}
 use Rattle.arc_lower.specs.Order.{Order}
-use Rattle.arc_lower.specs.Lowered.{Block, Then, Fork, Loop, Leave, flat}
-use Rattle.arc_lower.specs.Heights.{between, next_height, heights, last_height}
-use Rattle.arc_lower.proofs.Typing.{tested, left, over, over_none, Reaches, Needs, Types, next_same, BlockTypes}
-use Rattle.arc_lower.proofs.HeightsEnd.{chosen_same, block_ends}
+use Rattle.arc_lower.specs.Lowered.{drop_orders, Block, Then, Fork, Loop, Full, Leave, flat}
+use Rattle.arc_lower.specs.Heights.{between, next_height, Walk, walk, next_walk, walk_heights, last_walk}
+use Rattle.arc_lower.proofs.Typing.{tested, over, over_none, Reaches, Needs, Types, next_same, with_temporaries, BlockTypes}
+use Rattle.arc_lower.proofs.HeightsEnd.{chosen_same, Keeps, keeps_on, keeps_test, keeps_rest, part_same, block_ends}
 
 pub some_same : {A : Type 0} (a b : A) → Some a ≡ Some b → a ≡ b
 some_same a b e = cc
@@ -98,7 +99,7 @@ needs_ordinary P _ h needs = tt
 
 pub types_ordinary : (P : resolved.Program) (h : Height) (xs : List Order) (g : Height) → Types P 0 0 h xs g → AllOrdinary xs
 types_ordinary P h [] g t = tt
-types_ordinary P h (x ∷ xs) g t = (needs_ordinary P x (over 0 0 h) t.0, types_ordinary P (left P x h) xs g t.1)
+types_ordinary P h (x ∷ xs) g t = (needs_ordinary P x (over 0 0 h) t.0, types_ordinary P (next_height P x h) xs g t.1)
 
 module _ (R : resolved.Program) (all : List Order) (table : List Height) where
   -- the next n orders take numbers, and then the function is left
@@ -126,15 +127,19 @@ module _ (R : resolved.Program) (all : List Order) (table : List Height) where
   abbrev pub Onward : (pc to : ℕ) → Height → Type 0
   Onward pc to h = Stands to h × ((k : ℕ) → Clears k to → Clears k pc ⊎ (h.variables ≤ k))
 
+  -- or with more temporaries there
+  abbrev pub Leads : ℕ → Height → Type 0
+  Leads to h = (more : ℕ) × (h.temporaries ≤ more) × Goes to (with_temporaries h more)
+
   -- at this height an order has what it needs, and goes on with what it leaves
   abbrev pub Steps : Height → ℕ → Order → Type 0
-  Steps h pc (Plain o) = Reaches o h × Onward pc (pc + 1) (left R (Plain o) h)
-  Steps h pc (Jump to) = Goes (lands pc to) h
-  Steps h pc (JumpZero to) = (1 ≤ h.numbers) × Goes (pc + 1) (left R (JumpZero to) h) × Goes (lands pc to) (left R (JumpZero to) h)
+  Steps h pc (Plain o) = Reaches o h × Onward pc (pc + 1) (next_height R (Plain o) h)
+  Steps h pc (Jump to) = Leads (lands pc to) h
+  Steps h pc (JumpZero to) = (1 ≤ h.numbers) × Goes (pc + 1) (next_height R (JumpZero to) h) × Leads (lands pc to) (next_height R (JumpZero to) h)
   Steps h pc Return = (h.numbers ≡ 1) × (h.names ≡ 0) × (h.temporaries ≡ 0)
   Steps h pc EndStep = (h.numbers ≡ 0) × (h.names ≡ 0) × (h.temporaries ≡ 0) × (h.variables ≡ 0)
-  Steps h pc (Empty i) = (i < h.variables) × Stands (pc + 1) (left R (Empty i) h) × ((k : ℕ) → Clears k (pc + 1) → (k ≡ i) ⊎ (h.variables ≤ k))
-  Steps h pc x = Needs R x h × Goes (pc + 1) (left R x h)
+  Steps h pc (Empty i) = (i < h.variables) × Stands (pc + 1) (next_height R (Empty i) h) × ((k : ℕ) → Clears k (pc + 1) → (k ≡ i) ⊎ (h.variables ≤ k))
+  Steps h pc x = Needs R x h × Goes (pc + 1) (next_height R x h)
 
   abbrev pub StepsAt : ℕ → Order → Type 0
   StepsAt pc x = (h : Height) × (slice_get table pc ≡ Some h) × Steps h pc x
@@ -163,7 +168,7 @@ module _ (R : resolved.Program) (all : List Order) (table : List Height) where
   none_goes pc h stands none = (stands, λ k c. omega (arith, none))
 
   -- an order has what it needs, where a run may go on with the next one
-  pub order_steps : (x : Order) (pc : ℕ) (h : Height) → Needs R x h → Goes (pc + 1) (left R x h) → Steps h pc x
+  pub order_steps : (x : Order) (pc : ℕ) (h : Height) → Needs R x h → Goes (pc + 1) (next_height R x h) → Steps h pc x
   order_steps (Plain o) pc h needs goes = (needs, (goes.0, λ k c. inr (goes.1 k c)))
   order_steps (Empty i) pc h needs goes = (needs, goes.0, λ k c. let le = goes.1 k c in inr (omega (arith, le)))
   order_steps (Jump to) pc h needs goes = absurd needs
@@ -174,80 +179,80 @@ module _ (R : resolved.Program) (all : List Order) (table : List Height) where
 
   module _ (base : Height) where
     -- orders with their heights
-    abbrev pub Row : ℕ → Height → List Order → Type 0
-    Row pc h [] = Unit {0}
-    Row pc h (x ∷ xs) = (slice_get table pc ≡ Some h) × (slice_get all pc ≡ Some x) × Row (pc + 1) (next_height R base x h) xs
+    abbrev pub Row : ℕ → Walk → List Order → Type 0
+    Row pc w [] = Unit {0}
+    Row pc w (x ∷ xs) = (slice_get table pc ≡ Some w.height) × (slice_get all pc ≡ Some x) × Row (pc + 1) (next_walk R base x w) xs
 
-    pub row_of : (pc : ℕ) (h : Height) (xs : List Order) → HasPart table pc (heights R base h xs) → HasPart all pc xs → Row pc h xs
-    row_of pc h [] hs os = tt
-    row_of pc h (x ∷ xs) hs os = (hs.0, os.0, row_of (pc + 1) (next_height R base x h) xs hs.1 os.1)
+    pub row_of : (pc : ℕ) (w : Walk) (xs : List Order) → HasPart table pc (walk_heights R base w xs) → HasPart all pc xs → Row pc w xs
+    row_of pc w [] hs os = tt
+    row_of pc w (x ∷ xs) hs os = (hs.0, os.0, row_of (pc + 1) (next_walk R base x w) xs hs.1 os.1)
 
     -- and behind them a run may go on
-    abbrev pub Follows : ℕ → Height → List Order → Type 0
-    Follows pc h [] = Goes pc h
-    Follows pc h (x ∷ xs) = (slice_get table pc ≡ Some h) × (slice_get all pc ≡ Some x) × Follows (pc + 1) (next_height R base x h) xs
+    abbrev pub Follows : ℕ → Walk → List Order → Type 0
+    Follows pc w [] = Goes pc w.height
+    Follows pc w (x ∷ xs) = (slice_get table pc ≡ Some w.height) × (slice_get all pc ≡ Some x) × Follows (pc + 1) (next_walk R base x w) xs
 
-    pub row_prefix : (pc : ℕ) (h : Height) (xs ys : List Order) → Row pc h (xs ++ ys) → Row pc h xs
-    row_prefix pc h [] ys f = tt
-    row_prefix pc h (x ∷ xs) ys f = (f.0, f.1, row_prefix (pc + 1) (next_height R base x h) xs ys f.2)
+    pub row_prefix : (pc : ℕ) (w : Walk) (xs ys : List Order) → Row pc w (xs ++ ys) → Row pc w xs
+    row_prefix pc w [] ys f = tt
+    row_prefix pc w (x ∷ xs) ys f = (f.0, f.1, row_prefix (pc + 1) (next_walk R base x w) xs ys f.2)
 
-    pub row_front : (pc : ℕ) (h : Height) (xs ys : List Order) → Goes (pc + length xs) (last_height R base h xs) → Row pc h (xs ++ ys) → Follows pc h xs
-    row_front pc h [] ys g f = let e : pc + 0 ≡ pc = omega arith in subst (λ n. Goes n h) e g
-    row_front pc h (x ∷ xs) ys g f =
+    pub row_front : (pc : ℕ) (w : Walk) (xs ys : List Order) → Goes (pc + length xs) (last_walk R base w xs).height → Row pc w (xs ++ ys) → Follows pc w xs
+    row_front pc w [] ys g f = let e : pc + 0 ≡ pc = omega arith in subst (λ n. Goes n w.height) e g
+    row_front pc w (x ∷ xs) ys g f =
         let e : pc + length (x ∷ xs) ≡ pc + 1 + length xs = omega arith in
-        (f.0, f.1, row_front (pc + 1) (next_height R base x h) xs ys (subst (λ n. Goes n (last_height R base (next_height R base x h) xs)) e g) f.2)
+        (f.0, f.1, row_front (pc + 1) (next_walk R base x w) xs ys (subst (λ n. Goes n (last_walk R base (next_walk R base x w) xs).height) e g) f.2)
 
-    pub row_back : (pc : ℕ) (h : Height) (xs ys : List Order) → Row pc h (xs ++ ys) → Row (pc + length xs) (last_height R base h xs) ys
-    row_back pc h [] ys f = let e : pc ≡ pc + 0 = omega arith in subst (λ n. Row n h ys) e f
-    row_back pc h (x ∷ xs) ys f =
+    pub row_back : (pc : ℕ) (w : Walk) (xs ys : List Order) → Row pc w (xs ++ ys) → Row (pc + length xs) (last_walk R base w xs) ys
+    row_back pc w [] ys f = let e : pc ≡ pc + 0 = omega arith in subst (λ n. Row n w ys) e f
+    row_back pc w (x ∷ xs) ys f =
         let e : pc + 1 + length xs ≡ pc + length (x ∷ xs) = omega arith in
-        subst (λ n. Row n (last_height R base (next_height R base x h) xs) ys) e (row_back (pc + 1) (next_height R base x h) xs ys f.2)
+        subst (λ n. Row n (last_walk R base (next_walk R base x w) xs) ys) e (row_back (pc + 1) (next_walk R base x w) xs ys f.2)
 
-    taken_same : (x : Order) (h : Height) → Takes x → (next_height R base x h).variables ≡ h.variables
-    taken_same (Plain Pop) h takes = omega arith
-    taken_same (Plain (Set depth)) h takes = omega arith
-    taken_same _ h takes = absurd takes
+    taken_same : (x : Order) (w : Walk) → Takes x → (next_walk R base x w).height.variables ≡ w.height.variables
+    taken_same (Plain Pop) w takes = omega arith
+    taken_same (Plain (Set depth)) w takes = omega arith
+    taken_same _ w takes = absurd takes
 
-    pub goes_here : (pc : ℕ) (h : Height) (xs : List Order) → AllOrdinary xs → Follows pc h xs → Goes pc h
-    goes_here pc h [] o f = f
-    goes_here pc h (x ∷ xs) o f = (record { height = f.0; order = x; is = f.1; no_end = λ same. subst Ordinary same o.0 }, none (goes_here (pc + 1) (next_height R base x h) xs o.1 f.2).1)
+    pub goes_here : (pc : ℕ) (w : Walk) (xs : List Order) → AllOrdinary xs → Follows pc w xs → Goes pc w.height
+    goes_here pc w [] o f = f
+    goes_here pc w (x ∷ xs) o f = (record { height = f.0; order = x; is = f.1; no_end = λ same. subst Ordinary same o.0 }, none (goes_here (pc + 1) (next_walk R base x w) xs o.1 f.2).1)
       where
-        none : ((k : ℕ) → Clears k (pc + 1) → (next_height R base x h).variables ≤ k) → (k : ℕ) → Clears k pc → h.variables ≤ k
+        none : ((k : ℕ) → Clears k (pc + 1) → (next_walk R base x w).height.variables ≤ k) → (k : ℕ) → Clears k pc → w.height.variables ≤ k
         none next zero (zero, e) = absurd (subst Ordinary (some_same x Return (sym f.1 ∙ e)) o.0)
         none next zero (suc n, y) =
-            let same = taken_same x h (subst Takes (some_same y.0 x (sym y.1 ∙ f.1)) y.2) in
+            let same = taken_same x w (subst Takes (some_same y.0 x (sym y.1 ∙ f.1)) y.2) in
             let le = next zero (n, y.3) in
             omega (arith, same, le)
         none next (suc k) c =
             let same : x ≡ Empty k = some_same x (Empty k) (sym f.1 ∙ c.0) in
-            let variables : (next_height R base x h).variables ≡ h.variables + 0 = ap (λ y. (next_height R base y h).variables) same in
+            let variables : (next_walk R base x w).height.variables ≡ w.height.variables + 0 = ap (λ y. (next_walk R base y w).height.variables) same in
             let le = next k c.1 in
             omega (arith, variables, le)
 
-    pub ends_with : (pc : ℕ) (h : Height) (xs : List Order) → Follows pc h xs → Goes (pc + length xs) (last_height R base h xs)
-    ends_with pc h [] f = let e : pc ≡ pc + 0 = omega arith in subst (λ n. Goes n h) e f
-    ends_with pc h (x ∷ xs) f =
+    pub ends_with : (pc : ℕ) (w : Walk) (xs : List Order) → Follows pc w xs → Goes (pc + length xs) (last_walk R base w xs).height
+    ends_with pc w [] f = let e : pc ≡ pc + 0 = omega arith in subst (λ n. Goes n w.height) e f
+    ends_with pc w (x ∷ xs) f =
         let e : pc + 1 + length xs ≡ pc + length (x ∷ xs) = omega arith in
-        subst (λ n. Goes n (last_height R base (next_height R base x h) xs)) e (ends_with (pc + 1) (next_height R base x h) xs f.2)
+        subst (λ n. Goes n (last_walk R base (next_walk R base x w) xs).height) e (ends_with (pc + 1) (next_walk R base x w) xs f.2)
 
-    pub front : (pc : ℕ) (h : Height) (xs ys : List Order) → AllOrdinary ys → Follows pc h (xs ++ ys) → Follows pc h xs
-    front pc h [] ys o f = goes_here pc h ys o f
-    front pc h (x ∷ xs) ys o f = (f.0, f.1, front (pc + 1) (next_height R base x h) xs ys o f.2)
+    pub front : (pc : ℕ) (w : Walk) (xs ys : List Order) → AllOrdinary ys → Follows pc w (xs ++ ys) → Follows pc w xs
+    front pc w [] ys o f = goes_here pc w ys o f
+    front pc w (x ∷ xs) ys o f = (f.0, f.1, front (pc + 1) (next_walk R base x w) xs ys o f.2)
 
-    pub back : (pc : ℕ) (h : Height) (xs ys : List Order) → Follows pc h (xs ++ ys) → Follows (pc + length xs) (last_height R base h xs) ys
-    back pc h [] ys f = let e : pc ≡ pc + 0 = omega arith in subst (λ n. Follows n h ys) e f
-    back pc h (x ∷ xs) ys f =
+    pub back : (pc : ℕ) (w : Walk) (xs ys : List Order) → Follows pc w (xs ++ ys) → Follows (pc + length xs) (last_walk R base w xs) ys
+    back pc w [] ys f = let e : pc ≡ pc + 0 = omega arith in subst (λ n. Follows n w ys) e f
+    back pc w (x ∷ xs) ys f =
         let e : pc + 1 + length xs ≡ pc + length (x ∷ xs) = omega arith in
-        subst (λ n. Follows n (last_height R base (next_height R base x h) xs) ys) e (back (pc + 1) (next_height R base x h) xs ys f.2)
+        subst (λ n. Follows n (last_walk R base (next_walk R base x w) xs) ys) e (back (pc + 1) (next_walk R base x w) xs ys f.2)
 
     -- orders that go on with the next one each
-    pub typed_steps : (pc : ℕ) (h : Height) (xs : List Order) (g : Height) → Types R 0 0 h xs g → Follows pc h xs → AllStep pc xs
-    typed_steps pc h [] g t f = tt
-    typed_steps pc h (x ∷ xs) g t f =
+    pub typed_steps : (pc : ℕ) (h : Height) (pending : List Height) (xs : List Order) (g : Height) → Types R 0 0 h xs g → Follows pc (walk h pending) xs → AllStep pc xs
+    typed_steps pc h pending [] g t f = tt
+    typed_steps pc h pending (x ∷ xs) g t f =
         let needs : Needs R x h = subst (Needs R x) (over_none h) t.0 in
-        let rest : Follows (pc + 1) (left R x h) xs = subst (λ i. Follows (pc + 1) i xs) (next_same R base x h h needs) f.2 in
-        let goes = goes_here (pc + 1) (left R x h) xs (types_ordinary R (left R x h) xs g t.1) rest in
-        ((h, f.0, order_steps x pc h needs goes), typed_steps (pc + 1) (left R x h) xs g t.1 rest)
+        let rest : Follows (pc + 1) (walk (next_height R x h) pending) xs = subst (λ w. Follows (pc + 1) w xs) (next_same R base x (walk h pending) h needs) f.2 in
+        let goes = goes_here (pc + 1) (walk (next_height R x h) pending) xs (types_ordinary R (next_height R x h) xs g t.1) rest in
+        ((h, f.0, order_steps x pc h needs goes), typed_steps (pc + 1) (next_height R x h) pending xs g t.1 rest)
 
     -- ---- orders that take numbers before a function is left
 
@@ -256,31 +261,31 @@ module _ (R : resolved.Program) (all : List Order) (table : List Height) where
     AllTake (x ∷ xs) = Takes x × AllTake xs
 
     -- where they begin the variables are empty
-    pub takes_stand : (pc : ℕ) (h : Height) (xs : List Order) → AllTake xs → Row pc h (xs ++ Return ∷ []) → Stands pc h × ((k : ℕ) → Clears k pc → k ≡ 0)
-    takes_stand pc h [] takes f = (record { height = f.0; order = Return; is = f.1; no_end = λ same. subst IsReturn same tt }, only)
+    pub takes_stand : (pc : ℕ) (w : Walk) (xs : List Order) → AllTake xs → Row pc w (xs ++ Return ∷ []) → Stands pc w.height × ((k : ℕ) → Clears k pc → k ≡ 0)
+    takes_stand pc w [] takes f = (record { height = f.0; order = Return; is = f.1; no_end = λ same. subst IsReturn same tt }, only)
       where
         only : (k : ℕ) → Clears k pc → k ≡ 0
         only zero c = refl
         only (suc k) c = absurd (subst IsReturn (some_same Return (Empty k) (sym f.1 ∙ c.0)) tt)
-    takes_stand pc h (x ∷ xs) takes f = (record { height = f.0; order = x; is = f.1; no_end = λ same. subst Takes same takes.0 }, only)
+    takes_stand pc w (x ∷ xs) takes f = (record { height = f.0; order = x; is = f.1; no_end = λ same. subst Takes same takes.0 }, only)
       where
         only : (k : ℕ) → Clears k pc → k ≡ 0
         only zero c = refl
         only (suc k) c = absurd (subst Takes (some_same x (Empty k) (sym f.1 ∙ c.0)) takes.0)
 
-    pub takes_step : (pc : ℕ) (h : Height) (xs : List Order) (g : Height) → AllTake xs → Types R 0 0 h xs g → Row pc h (xs ++ Return ∷ []) → AllStep pc xs
-    takes_step pc h [] g takes t f = tt
-    takes_step pc h (x ∷ xs) g takes t f =
+    pub takes_step : (pc : ℕ) (h : Height) (pending : List Height) (xs : List Order) (g : Height) → AllTake xs → Types R 0 0 h xs g → Row pc (walk h pending) (xs ++ Return ∷ []) → AllStep pc xs
+    takes_step pc h pending [] g takes t f = tt
+    takes_step pc h pending (x ∷ xs) g takes t f =
         let needs : Needs R x h = subst (Needs R x) (over_none h) t.0 in
-        let rest : Row (pc + 1) (left R x h) (xs ++ Return ∷ []) = subst (λ i. Row (pc + 1) i (xs ++ Return ∷ [])) (next_same R base x h h needs) f.2 in
-        let there = takes_stand (pc + 1) (left R x h) xs takes.1 rest in
-        ((h, f.0, by x takes.0 needs f.1 there), takes_step (pc + 1) (left R x h) xs g takes.1 t.1 rest)
+        let rest : Row (pc + 1) (walk (next_height R x h) pending) (xs ++ Return ∷ []) = subst (λ w. Row (pc + 1) w (xs ++ Return ∷ [])) (next_same R base x (walk h pending) h needs) f.2 in
+        let there = takes_stand (pc + 1) (walk (next_height R x h) pending) xs takes.1 rest in
+        ((h, f.0, by x takes.0 needs f.1 there), takes_step (pc + 1) (next_height R x h) pending xs g takes.1 t.1 rest)
       where
         again : (y : Order) → Takes y → slice_get all pc ≡ Some y → (k : ℕ) → k ≡ 0 → Clears k (pc + 1) → Clears k pc
         again y keeps is zero none c = (suc c.0, (y, is, keeps, c.1))
         again y keeps is (suc k) none c = absurd (omega (arith, none))
 
-        by : (y : Order) → Takes y → Needs R y h → slice_get all pc ≡ Some y → Stands (pc + 1) (left R y h) × ((k : ℕ) → Clears k (pc + 1) → k ≡ 0) → Steps h pc y
+        by : (y : Order) → Takes y → Needs R y h → slice_get all pc ≡ Some y → Stands (pc + 1) (next_height R y h) × ((k : ℕ) → Clears k (pc + 1) → k ≡ 0) → Steps h pc y
         by (Plain Pop) keeps needs is there = (needs, (there.0, λ k c. inl (again (Plain Pop) keeps is k (there.1 k c) c)))
         by (Plain (Set depth)) keeps needs is there = (needs, (there.0, λ k c. inl (again (Plain (Set depth)) keeps is k (there.1 k c) c)))
         by _ keeps needs is there = absurd keeps
@@ -294,48 +299,66 @@ module _ (R : resolved.Program) (all : List Order) (table : List Height) where
     abbrev test : Height
     test = tested slots names
 
-    pub block_ordinary : (x : Block) (h g : Height) → BlockTypes R slots names exit h x g → AllOrdinary (flat R slots names x)
-    block_ordinary (Then x y) h g t = ordinary_then (flat R slots names x) (flat R slots names y) (block_ordinary x h t.0 t.1) (block_ordinary y t.0 g t.2)
-    block_ordinary (Fork x y) h g t = (tt, ordinary_then (flat R slots names x) _ (block_ordinary x base g t.1) (tt, block_ordinary y base g t.2))
-    block_ordinary (Loop x y) h g t = ordinary_then (flat R slots names x) _ (block_ordinary x h test t.0) (tt, ordinary_then (flat R slots names y) _ (block_ordinary y base h t.1) (tt, tt))
-    block_ordinary (Leave to) h g t = (tt, tt)
-    block_ordinary x h g t = types_ordinary R h (flat R slots names x) g t
+    abbrev orders : Block → List Order
+    orders = flat R slots names
+
+    abbrev Block_types : (statement : Bool) → Height → Block → Height → Type 0
+    Block_types = BlockTypes R 0 0 slots names exit
+
+    pub block_ordinary : (statement : Bool) (x : Block) (h g : Height) → Block_types statement h x g → AllOrdinary (orders x)
+    block_ordinary statement (Then x y) h g t = ordinary_then (orders x) (orders y) (block_ordinary statement x h t.0 t.1) (block_ordinary statement y t.0 g t.2)
+    block_ordinary statement (Fork x y) h g t = (tt, ordinary_then (orders x) _ (block_ordinary statement x t.0 (with_temporaries g t.1) t.4) (tt, block_ordinary statement y (with_temporaries t.0 t.1) g t.5))
+    block_ordinary statement (Loop x y) h g t = ordinary_then (orders x) _ (block_ordinary statement x base test t.2) (tt, ordinary_then (orders y) _ (block_ordinary statement y base base t.3) (tt, tt))
+    block_ordinary statement (Full x y) h g t = ordinary_then (orders x) _ (block_ordinary false x h t.0 t.2) (ordinary_then (orders y) _ (block_ordinary false y t.0 t.1 t.3) (types_ordinary R t.1 (drop_orders (orders x)) g t.4))
+    block_ordinary statement (Leave to) h g t = (tt, tt)
+    block_ordinary statement x h g t = types_ordinary R h (orders x) g t
 
     module _ (leaves : Goes exit test) where
+      abbrev Keeps_on : (statement : Bool) → (before after : List Height) → Type 0
+      Keeps_on = Keeps R 0 0 slots names exit base
+
       -- what is behind a block
-      behind : (x : Block) (h g : Height) (pc : ℕ) (ys : List Order) → BlockTypes R slots names exit h x g → Follows base pc h (flat R slots names x ++ ys) → Follows base (pc + length (flat R slots names x)) g ys
-      behind x h g pc ys t f = subst (λ i. Follows base (pc + length (flat R slots names x)) i ys) (block_ends R slots names exit x h g t) (back base pc h (flat R slots names x) ys f)
+      behind : (statement : Bool) (x : Block) (h g : Height) (pc : ℕ) (pending : List Height) (ys : List Order) → Keeps_on statement pending pending → Block_types statement h x g → Follows base pc (walk h pending) (orders x ++ ys) → (after : List Height) × Keeps_on statement pending after × Follows base (pc + length (orders x)) (walk g after) ys
+      behind statement x h g pc pending ys keeps t f =
+          let ends = block_ends R 0 0 slots names exit base statement x h g pending keeps t in
+          (ends.0, ends.2, subst (λ w. Follows base (pc + length (orders x)) w ys) ends.1 (back base pc (walk h pending) (orders x) ys f))
 
-      -- a choice, behind which both go on between two statements
-      chooses : (to : Target) (pc : ℕ) → Goes (pc + 1) base → Goes (lands pc to) base → Steps test pc (JumpZero to)
-      chooses to pc first second = (omega arith, subst (Goes (pc + 1)) (sym (chosen_same R slots names exit to)) first, subst (Goes (lands pc to)) (sym (chosen_same R slots names exit to)) second)
-
-      pub block_steps : (x : Block) (h g : Height) (pc : ℕ) → BlockTypes R slots names exit h x g → Follows base pc h (flat R slots names x) → AllStep pc (flat R slots names x)
-      block_steps (Then x y) h g pc t f =
-          let xs = flat R slots names x in
-          let ys = flat R slots names y in
-          step_then pc xs ys (block_steps x h t.0 pc t.1 (front base pc h xs ys (block_ordinary y t.0 g t.2) f)) (block_steps y t.0 g (pc + length xs) t.2 (behind x h t.0 pc ys t.1 f))
-      block_steps (Fork x y) h g pc t f =
-          let xs = flat R slots names x in
-          let ys = flat R slots names y in
+      pub block_steps : (statement : Bool) (x : Block) (h g : Height) (pc : ℕ) (pending : List Height) → Keeps_on statement pending pending → Block_types statement h x g → Follows base pc (walk h pending) (orders x) → AllStep pc (orders x)
+      block_steps statement (Then x y) h g pc pending keeps t f =
+          let xs = orders x in
+          let ys = orders y in
+          let after = behind statement x h t.0 pc pending ys keeps t.1 f in
+          step_then pc xs ys (block_steps statement x h t.0 pc pending keeps t.1 (front base pc (walk h pending) xs ys (block_ordinary statement y t.0 g t.2) f))
+          (block_steps statement y t.0 g (pc + length xs) after.0 (keeps_on R 0 0 slots names exit base statement pending after.0 after.1) t.2 after.2)
+      block_steps statement (Fork x y) h g pc pending keeps t f =
+          let xs = orders x in
+          let ys = orders y in
+          let i = t.0 in
+          let m = with_temporaries g t.1 in
+          let j = with_temporaries i t.1 in
           let to = Skip (suc (length xs)) in
           let one = pc + 1 in
           let two = one + length xs + 1 in
           let rest : List Order = Jump (Skip (length ys)) ∷ ys in
-          let low : next_height R base (JumpZero to) h ≡ base = ap (next_height R base (JumpZero to)) t.0 ∙ chosen_same R slots names exit to in
           let there : two ≡ lands pc to = omega arith in
-          let o : AllOrdinary rest = (tt, block_ordinary y base g t.2) in
-          let inside = subst (λ i. Follows base one i (xs ++ rest)) low f.2 in
-          let after = behind x base g one rest t.1 inside in
-          let first = goes_here base one base (xs ++ rest) (ordinary_then xs rest (block_ordinary x base g t.1) o) inside in
-          let second = goes_here base two base ys (block_ordinary y base g t.2) after.2 in
-          let last = subst (Goes (two + length ys)) (block_ends R slots names exit y base g t.2) (ends_with base two base ys after.2) in (
-            (test, subst (λ i. slice_get table pc ≡ Some i) t.0 f.0, chooses to pc first (subst (λ q. Goes q base) there second)),
-            step_then one xs rest (block_steps x base g one t.1 (front base one base xs rest o inside)) ((g, after.0, last), block_steps y base g two t.2 after.2),
+          let o : AllOrdinary rest = (tt, block_ordinary statement y j g t.5) in
+          let more = keeps_test R 0 0 slots names exit base statement i pending t.3 keeps in
+          let inside = subst (λ n. Follows base one (walk n (n ∷ pending)) (xs ++ rest)) t.2.left f.2 in
+          let after = behind statement x i m one (i ∷ pending) rest more t.4 inside in
+          let others = drop 1 after.0 in
+          let kept = keeps_on R 0 0 slots names exit base statement pending others (keeps_rest R 0 0 slots names exit base statement i pending after.0 keeps after.1) in
+          let part = subst (λ n. Follows base two (walk n others) ys) (part_same R 0 0 slots names exit base statement i m pending after.0 t.3 after.1) after.2.2 in
+          let first = goes_here base one (walk i (i ∷ pending)) (xs ++ rest) (ordinary_then xs rest (block_ordinary statement x i m t.4) o) inside in
+          let second = goes_here base two (walk j others) ys (block_ordinary statement y j g t.5) part in
+          let ends = block_ends R 0 0 slots names exit base statement y j g others kept t.5 in
+          let last = subst (λ w. Goes (two + length ys) w.height) ends.1 (ends_with base two (walk j others) ys part) in
+          let chosen = subst (λ n. Goes one n × Leads (lands pc to) n) (sym t.2.left) (first, (t.1, t.2.first, subst (λ q. Goes q j) there second)) in (
+            (h, f.0, (t.2.some, chosen.0, chosen.1)),
+            step_then one xs rest (block_steps statement x i m one (i ∷ pending) more t.4 (front base one (walk i (i ∷ pending)) xs rest o inside)) ((m, after.2.0, (g.temporaries, t.2.next, last)), block_steps statement y j g two others kept t.5 part),
           )
-      block_steps (Loop x y) h g pc t f =
-          let ts = flat R slots names x in
-          let xs = flat R slots names y in
+      block_steps true (Loop x y) h g pc pending keeps t f =
+          let ts = orders x in
+          let xs = orders y in
           let to = Skip (suc (length xs)) in
           let q = pc + length ts in
           let one = q + 1 in
@@ -344,14 +367,30 @@ module _ (R : resolved.Program) (all : List Order) (table : List Height) where
           let out : Order = JumpZero to in
           let there : end ≡ lands q to = omega arith in
           let begin : pc ≡ lands (one + length xs) (Back (suc (length ts + length xs))) = omega arith in
-          let o : AllOrdinary (xs ++ again) = ordinary_then xs again (block_ordinary y base h t.1) (tt, tt) in
-          let chosen = behind x h test pc (out ∷ (xs ++ again)) t.0 f in
-          let inside = subst (λ i. Follows base one i (xs ++ again)) (chosen_same R slots names exit to) chosen.2 in
-          let after = behind y base h one again t.1 inside in
-          let first = goes_here base pc h (ts ++ (out ∷ (xs ++ again))) (block_ordinary (Loop x y) h g t) f in
-          step_then pc ts (out ∷ (xs ++ again)) (block_steps x h test pc t.0 (front base pc h ts (out ∷ (xs ++ again)) (tt, o) f)) (
-            (test, chosen.0, chooses to q (goes_here base one base (xs ++ again) o inside) (subst (λ n. Goes n base) there after.2)),
-            step_then one xs again (block_steps y base h one t.1 (front base one base xs again (tt, tt) inside)) ((h, after.0, subst (λ n. Goes n h) begin first), tt),
+          let o : AllOrdinary (xs ++ again) = ordinary_then xs again (block_ordinary true y base base t.3) (tt, tt) in
+          let start = subst (λ n. Follows base pc (walk n pending) (ts ++ (out ∷ (xs ++ again)))) t.1 f in
+          let chosen = behind true x base test pc pending (out ∷ (xs ++ again)) keeps t.2 start in
+          let less = chosen_same R 0 0 slots names exit to in
+          let more = keeps_test R 0 0 slots names exit base true base chosen.0 refl (keeps_on R 0 0 slots names exit base true pending chosen.0 chosen.1) in
+          let inside = subst (λ n. Follows base one (walk n (n ∷ chosen.0)) (xs ++ again)) less chosen.2.2 in
+          let after = behind true y base base one (base ∷ chosen.0) again more t.3 inside in
+          let last = subst (λ n. Goes end n) (part_same R 0 0 slots names exit base true base base chosen.0 after.0 refl after.1) after.2.2 in
+          let first = goes_here base pc (walk base pending) (ts ++ (out ∷ (xs ++ again))) (ordinary_then ts (out ∷ (xs ++ again)) (block_ordinary true x base test t.2) (tt, o)) start in
+          let both = subst (λ n. Goes one n × Leads (lands q to) n) (sym less) (goes_here base one (walk base (base ∷ chosen.0)) (xs ++ again) o inside, (0, omega arith, subst (λ n. Goes n base) there last)) in
+          step_then pc ts (out ∷ (xs ++ again)) (block_steps true x base test pc pending keeps t.2 (front base pc (walk base pending) ts (out ∷ (xs ++ again)) (tt, o) start)) (
+            (test, chosen.2.0, (omega arith, both.0, both.1)),
+            step_then one xs again (block_steps true y base base one (base ∷ chosen.0) more t.3 (front base one (walk base (base ∷ chosen.0)) xs again (tt, tt) inside)) ((base, after.2.0, (0, omega arith, subst (λ n. Goes n base) begin first)), tt),
           )
-      block_steps (Leave to) h g pc t f = ((h, f.0, subst (λ q. Goes q h) (sym t.0) (subst (Goes exit) (sym t.1) leaves)), tt)
-      block_steps x h g pc t f = typed_steps base pc h (flat R slots names x) g t f
+      block_steps true (Leave to) h g pc pending keeps t f = ((h, f.0, subst (λ n. Leads to n) (sym t.2) (0, omega arith, subst (λ q. Goes q test) (sym t.1) leaves)), tt)
+      block_steps false (Loop x y) h g pc pending keeps t f = absurd (true≢false (sym t.0))
+      block_steps false (Leave to) h g pc pending keeps t f = absurd (true≢false (sym t.0))
+      block_steps statement (Full x y) h g pc pending keeps t f =
+          let xs = orders x in
+          let ys = orders y in
+          let ds = drop_orders xs in
+          let o = types_ordinary R t.1 ds g t.4 in
+          let one = behind false x h t.0 pc pending (ys ++ ds) refl t.2 f in
+          let two = behind false y t.0 t.1 (pc + length xs) one.0 ds refl t.3 one.2 in
+          step_then pc xs (ys ++ ds) (block_steps false x h t.0 pc pending refl t.2 (front base pc (walk h pending) xs (ys ++ ds) (ordinary_then ys ds (block_ordinary false y t.0 t.1 t.3) o) f))
+          (step_then (pc + length xs) ys ds (block_steps false y t.0 t.1 (pc + length xs) one.0 refl t.3 (front base (pc + length xs) (walk t.0 one.0) ys ds o one.2)) (typed_steps base (pc + length xs + length ys) t.1 two.0 ds g t.4 two.2))
+      block_steps statement x h g pc pending keeps t f = typed_steps base pc h pending (orders x) g t f

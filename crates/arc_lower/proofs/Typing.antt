@@ -8,15 +8,15 @@ use Rattle.arc_spec.specs.Resolved as resolved
 use Rattle.std.specs.List.{list_any}
 use Rattle.arc_code.specs.declared.instr.Op.{Op}
 use Rattle.arc_code.specs.declared.instr.Op.TheVariants.{Num, Bin, Un, Narrow, Pop, Get, Set, PrintNum, PrintByte, GetChar, Declare, Nil, ReadSelf, ReadRef, Hold, Forget, Alloc, GetField, SetField, Differ, IsObject}
-use Rattle.arc_code.specs.declared.instr.Instr.TheVariants.{Plain, PrintText, Jump, Call, Send, SendSuper, SendTo, SendToSuper, StoreStrong, Empty, DropAll, Return}
+use Rattle.arc_code.specs.declared.instr.Instr.TheVariants.{Plain, PrintText, Jump, JumpZero, Call, Send, SendSuper, SendTo, SendToSuper, StoreStrong, Empty, DropAll, Return}
 use Rattle.arc_code.specs.declared.effect.Effect.{Effect}
 use Rattle.arc_code.specs.declared.effect.Height.{Height}
 use Rattle.arc_code.specs.Effects.{on_numbers, operation_effect, effect, passes}
+use Rattle.arc_ir.specs.declared.action.Target.TheVariants.{Skip}
 use Rattle.arc_lower.specs.Order.{Order}
-use Rattle.arc_lower.specs.Lowered.{value_count, conversion_orders, part_orders, piece_orders, left_behind, format_orders, pop_orders, keep_orders, print_orders, get_orders, set_orders, zero_orders, fit_orders, declare_orders, read_orders, store_orders, drop_orders, empty_orders, all_empty_orders, number_of, slots_of, call_orders, value_orders, reference_orders, all_value_orders, whole_orders, whole_reference_orders, begin_orders, order_takes, Block, Then, Fork, Loop, Leave, flat, command_block, commands_block}
-use Rattle.arc_lower.specs.Heights.{height, between, numbers_taken, after_effect, next_height, last_height}
+use Rattle.arc_lower.specs.Lowered.{value_count, conversion_orders, part_orders, piece_orders, left_behind, format_orders, pop_orders, keep_orders, print_orders, get_orders, set_orders, zero_orders, fit_orders, declare_orders, read_orders, store_orders, drop_orders, empty_orders, all_empty_orders, number_of, slots_of, call_orders, Block, Then, Fork, Loop, Full, Leave, flat}
+use Rattle.arc_lower.specs.Heights.{height, between, numbers_taken, after_effect, next_height, Walk, walk, next_walk, last_walk}
 use Rattle.arc_lower.proofs.Linking.{out_of_list}
-use Rattle.arc_lower.proofs.Quiet.{or_first, or_second}
 
 slots_by : (P : Program) (f : ℕ) (b : Bool) → nat_lt f (length P.functions) ≡ b → slots_of P (if b then f else length P.functions) ≡ slots_of P f
 slots_by P f true e = refl
@@ -47,12 +47,7 @@ pred_less (suc n) = omega arith
 abbrev pub tested : (slots names : ℕ) → Height
 tested slots names = between (suc slots) names
 
--- the height behind an order that goes on with the next one
-abbrev pub left : Program → Order → Height → Height
-left P DropAll h = record h { temporaries = 0 }
-left P x h = after_effect h (numbers_taken P x) (effect x)
-
--- the same with so many numbers and variables more below
+-- a height with so many numbers and variables more below
 abbrev pub over : (r s : ℕ) → Height → Height
 over r s h = height (h.numbers + r) h.names h.temporaries (h.variables + s)
 
@@ -95,38 +90,24 @@ module _ (P : Program) where
   Needs DropAll h = h.names ≡ 0
   Needs _ h = ⊥
 
-pub next_same : (P : Program) (base : Height) (x : Order) (h u : Height) → Needs P x u → next_height P base x h ≡ left P x h
-next_same P base (Jump to) h u needs = absurd needs
-next_same P base Return h u needs = absurd needs
-next_same P base _ h u needs = refl
+pub next_same : (P : Program) (base : Height) (x : Order) (w : Walk) (u : Height) → Needs P x u → next_walk P base x w ≡ walk (next_height P x w.height) w.pending
+next_same P base (Jump to) w u needs = absurd needs
+next_same P base (JumpZero to) w u needs = absurd needs
+next_same P base Return w u needs = absurd needs
+next_same P base _ w u needs = refl
 
 module _ (P : Program) (r s : ℕ) where
   -- from one height, below which so many numbers and variables more lie, these orders come to the other, and each has what it needs
   abbrev pub Types : Height → List Order → Height → Type 0
   Types h [] g = h ≡ g
-  Types h (x ∷ xs) g = Needs P x (over r s h) × Types (left P x h) xs g
+  Types h (x ∷ xs) g = Needs P x (over r s h) × Types (next_height P x h) xs g
 
   pub types_then : (h : Height) (xs : List Order) (g : Height) (ys : List Order) (i : Height) → Types h xs g → Types g ys i → Types h (xs ++ ys) i
   types_then h [] g ys i first next = subst (λ x. Types x ys i) (sym first) next
-  types_then h (x ∷ xs) g ys i first next = (first.0, types_then (left P x h) xs g ys i first.1 next)
+  types_then h (x ∷ xs) g ys i first next = (first.0, types_then (next_height P x h) xs g ys i first.1 next)
 
   pub types_same : (h : Height) (xs : List Order) (g i : Height) → g ≡ i → Types h xs g → Types h xs i
   types_same h xs g i e t = subst (Types h xs) e t
-
-  left_quiet : (x : Order) (h : Height) → order_takes x ≡ false → (left P x h).temporaries ≤ h.temporaries
-  left_quiet DropAll h e = omega arith
-  left_quiet x h e = let none = ltb-false 0 (effect x).temporaries e in omega (arith, none)
-
-  -- orders that take no temporary leave no more of them
-  fewer_behind : (h : Height) (xs : List Order) (g : Height) → Types h xs g → list_any order_takes xs ≡ false → g.temporaries ≤ h.temporaries
-  fewer_behind h [] g t e = subst (λ (i : Height). i.temporaries ≤ h.temporaries) t (omega arith)
-  fewer_behind h (x ∷ xs) g t e =
-      let one = left_quiet x h (or_first (order_takes x) (list_any order_takes xs) e) in
-      let others = fewer_behind (left P x h) xs g t.1 (or_second (order_takes x) (list_any order_takes xs) e) in
-      omega (arith, one, others)
-
-  quiet_types : (h : Height) (xs : List Order) (g : Height) → Types h xs g → list_any order_takes xs ≡ false → h.temporaries ≡ 0 → g.temporaries ≡ 0
-  quiet_types h xs g t e none = let le = fewer_behind h xs g t e in omega (arith, le, none)
 
   -- ---- numbers alone
 
@@ -256,182 +237,53 @@ module _ (P : Program) (r s : ℕ) where
         by true e = let lt = ltb-true i names e in ((some, omega (arith, lt, room)), heights_same _ _ _ _ a b c d (omega arith) (omega (arith, some)) (omega arith) (omega arith))
         by false e = refl
 
-  -- ---- expressions
+  pub read_types : (names i a b c d : ℕ) → names ≤ d + s → Types (height a b c d) (read_orders names i) (height a (suc b) (c + 1) d)
+  read_types names i a b c d room = by (nat_lt i names) refl
+    where
+      by : (t : Bool) → nat_lt i names ≡ t → Types (height a b c d) (if t then Plain (ReadRef i) ∷ [] else Plain Nil ∷ Plain Hold ∷ []) (height a (suc b) (c + 1) d)
+      by true e = let lt = ltb-true i names e in (omega (arith, lt, room), heights_same _ _ _ _ a (suc b) (c + 1) d (omega arith) (omega arith) (omega arith) (omega arith))
+      by false e = (tt, (omega arith, heights_same _ _ _ _ a (suc b) (c + 1) d (omega arith) (omega arith) (omega arith) (omega arith)))
 
-  module _ (slots names d : ℕ) (room : names ≤ d + s) where
-    -- from so many numbers, references and temporaries these orders come to so many numbers and references
-    record Comes (a b c : ℕ) (xs : List Order) (n m : ℕ) : Type 0 where
-      more : ℕ
-      types : Types (height a b c d) xs (height n m more d)
+  pub drop_types : (takes : Bool) (a c d : ℕ) → (takes ≡ false → c ≡ 0) → Types (height a 0 c d) (if takes then DropAll ∷ [] else []) (height a 0 0 d)
+  drop_types true a c d none = (refl, refl)
+  drop_types false a c d none = ap (λ t. height a 0 t d) (none refl)
 
-    abbrev plain : (a b c : ℕ) (xs : List Order) (n m : ℕ) → Types (height a b c d) xs (height n m c d) → Comes a b c xs n m
-    plain a b c xs n m t = record { more = c; types = t }
+  pub types_last : (base h : Height) (pending : List Height) (xs : List Order) (g : Height) → Types h xs g → last_walk P base (walk h pending) xs ≡ walk g pending
+  types_last base h pending [] g t = ap (λ i. walk i pending) t
+  types_last base h pending (x ∷ xs) g t = ap (λ w. last_walk P base w xs) (next_same P base x (walk h pending) (over r s h) t.0) ∙ types_last base (next_height P x h) pending xs g t.1
 
-    abbrev taking : (a b c : ℕ) (xs : List Order) (n m more : ℕ) → Types (height a b c d) xs (height n m more d) → Comes a b c xs n m
-    taking a b c xs n m more t = record { more = more; types = t }
+-- ---- blocks
 
-    both : (a b c : ℕ) (xs : List Order) (n m : ℕ) (ys : List Order) (u v : ℕ) (first : Comes a b c xs n m) → Comes n m first.more ys u v → Comes a b c (xs ++ ys) u v
-    both a b c xs n m ys u v first next = record { more = next.more; types = types_then (height a b c d) xs (height n m first.more d) ys (height u v next.more d) first.types next.types }
+-- A test that takes a number of the first height leaves the second one. The first part ends at the third one, but with so many temporaries, and with these the second
+-- part begins, which ends at the third one: it bounds what is there after either part.
+pub record Forks (P : Program) (h i : Height) (more : ℕ) (g : Height) : Type 0 where
+  pub some : 1 ≤ h.numbers
+  pub left : next_height P (JumpZero (Skip 0)) h ≡ i
+  pub first : i.temporaries ≤ more
+  pub next : more ≤ g.temporaries
 
-    -- orders behind, which take no temporary
-    then_plain : (a b c : ℕ) (xs : List Order) (n m : ℕ) (ys : List Order) (u v : ℕ) → Comes a b c xs n m → ((t : ℕ) → Types (height n m t d) ys (height u v t d)) → Comes a b c (xs ++ ys) u v
-    then_plain a b c xs n m ys u v first next = record { more = first.more; types = types_then (height a b c d) xs (height n m first.more d) ys (height u v first.more d) first.types (next first.more) }
+abbrev pub with_temporaries : Height → ℕ → Height
+with_temporaries h more = record h { temporaries = more }
 
-    -- a reference more, which a temporary takes
-    hold_types : (a b t : ℕ) → 1 ≤ b → Types (height a b t d) (Plain Hold ∷ []) (height a b (t + 1) d)
-    hold_types a b t some = (some, heights_same _ _ _ _ a b (t + 1) d (omega arith) (omega (arith, some)) (omega arith) (omega arith))
-
-    self_types : (a b c : ℕ) → Types (height a b c d) (Plain ReadSelf ∷ []) (height a (suc b) (c + 1) d)
-    self_types a b c = (tt, heights_same _ _ _ _ a (suc b) (c + 1) d (omega arith) (omega arith) (omega arith) (omega arith))
-
-    read_types : (i a b c : ℕ) → Types (height a b c d) (read_orders names i) (height a (suc b) (c + 1) d)
-    read_types i a b c = by (nat_lt i names) refl
-      where
-        by : (t : Bool) → nat_lt i names ≡ t → Types (height a b c d) (if t then Plain (ReadRef i) ∷ [] else Plain Nil ∷ Plain Hold ∷ []) (height a (suc b) (c + 1) d)
-        by true e = let lt = ltb-true i names e in (omega (arith, lt, room), heights_same _ _ _ _ a (suc b) (c + 1) d (omega arith) (omega arith) (omega arith) (omega arith))
-        by false e = (tt, (omega arith, heights_same _ _ _ _ a (suc b) (c + 1) d (omega arith) (omega arith) (omega arith) (omega arith)))
-
-    shifted : (a b c : ℕ) (xs : List Order) (n : ℕ) → Comes (suc a) b c xs (n + suc a) b → Comes (suc a) b c xs (suc n + a) b
-    shifted a b c xs n first = let e : n + suc a ≡ suc n + a = omega arith in subst (λ m. Comes (suc a) b c xs m b) e first
-
-    mutual
-      value_types : (e : Value) (depth a b c : ℕ) → depth + slots ≤ a + r → Comes a b c (value_orders P slots names depth e) (suc a) b
-      value_types (Number n) depth a b c h = plain a b c _ (suc a) b (one b c d 0 1 a (Num n) (suc a) refl tt (omega arith))
-      value_types ReadByte depth a b c h = plain a b c _ (suc a) b (one b c d 0 1 a GetChar (suc a) refl tt (omega arith))
-      value_types (Print pieces arguments) depth a b c h =
-          let n = value_count arguments in
-          then_plain a b c (all_value_orders P slots names depth arguments) (n + a) b (print_orders pieces n) (suc a) b (values_type arguments depth a b c h) (λ t. print_types b t d pieces n a)
-      value_types (Applied operator kind v) depth a b c h = then_plain a b c (value_orders P slots names depth v) (suc a) b (Plain (Un operator kind) ∷ []) (suc a) b (value_types v depth a b c h) (λ t. one b t d 1 1 (suc a) (Un operator kind) (suc a) refl (omega arith) (omega arith))
-      value_types (Combined operator kind v u) depth a b c h =
-          let first = value_types v depth a b c h in
-          both a b c (value_orders P slots names depth v) (suc a) b (value_orders P slots names (suc depth) u ++ Plain (Bin operator kind) ∷ []) (suc a) b first
-          (then_plain (suc a) b first.more (value_orders P slots names (suc depth) u) (suc (suc a)) b (Plain (Bin operator kind) ∷ []) (suc a) b (value_types u (suc depth) (suc a) b first.more (omega (arith, h))) (λ t. one b t d 2 1 (suc (suc a)) (Bin operator kind) (suc a) refl (omega arith) (omega arith)))
-      value_types (Converted kind v) depth a b c h = then_plain a b c (value_orders P slots names depth v) (suc a) b (Plain (Narrow kind) ∷ []) (suc a) b (value_types v depth a b c h) (λ t. one b t d 1 1 (suc a) (Narrow kind) (suc a) refl (omega arith) (omega arith))
-      value_types (Local i) depth a b c h = plain a b c _ (suc a) b (get_types b c d slots depth i a h)
-      value_types (Assigned i v) depth a b c h = then_plain a b c (value_orders P slots names depth v) (suc a) b (set_orders slots depth i) (suc a) b (value_types v depth a b c h) (λ t. set_types b t d slots depth i a h)
-      value_types (Invoked f arguments) depth a b c h =
-          let n = value_count arguments in
-          then_plain a b c (all_value_orders P slots names depth arguments) (n + a) b (call_orders P f n) (suc a) b (values_type arguments depth a b c h) (λ t. call_types b t d f n a)
-      value_types (Sent v selector arguments) depth a b c h =
-          let n = value_count arguments in
-          let first = value_types v depth a b c h in
-          both a b c (value_orders P slots names depth v) (suc a) b _ (suc a) b first
-          (then_plain (suc a) b first.more (all_value_orders P slots names (suc depth) arguments) (n + suc a) b (Send selector n ∷ []) (suc a) b (values_type arguments (suc depth) (suc a) b first.more (omega (arith, h))) (λ t. (omega arith, heights_same _ _ _ _ (suc a) b t d (omega arith) (omega arith) (omega arith) (omega arith))))
-      value_types (SentSuper from selector arguments) depth a b c h =
-          let n = value_count arguments in
-          both a b c (get_orders slots depth 0) (suc a) b _ (suc a) b (plain a b c (get_orders slots depth 0) (suc a) b (get_types b c d slots depth 0 a h))
-          (then_plain (suc a) b c (all_value_orders P slots names (suc depth) arguments) (n + suc a) b (SendSuper from selector n ∷ []) (suc a) b (values_type arguments (suc depth) (suc a) b c (omega (arith, h))) (λ t. (omega arith, heights_same _ _ _ _ (suc a) b t d (omega arith) (omega arith) (omega arith) (omega arith))))
-      value_types (SentTo v selector arguments) depth a b c h =
-          let n = value_count arguments in
-          let first = reference_types v depth a b c h in
-          both a b c (reference_orders P slots names depth v) a (suc b) _ (suc a) b first
-          (then_plain a (suc b) first.more (all_value_orders P slots names depth arguments) (n + a) (suc b) (SendTo selector n ∷ []) (suc a) b (values_type arguments depth a (suc b) first.more h) (λ t. ((omega arith, omega arith), heights_same _ _ _ _ (suc a) b t d (omega arith) (omega arith) (omega arith) (omega arith))))
-      value_types (SentToSuper from selector arguments) depth a b c h =
-          let n = value_count arguments in
-          both a b c (Plain ReadSelf ∷ []) a (suc b) _ (suc a) b (taking a b c (Plain ReadSelf ∷ []) a (suc b) (c + 1) (self_types a b c))
-          (then_plain a (suc b) (c + 1) (all_value_orders P slots names depth arguments) (n + a) (suc b) (SendToSuper from selector n ∷ []) (suc a) b (values_type arguments depth a (suc b) (c + 1) h) (λ t. ((omega arith, omega arith), heights_same _ _ _ _ (suc a) b t d (omega arith) (omega arith) (omega arith) (omega arith))))
-      value_types (Field v class index) depth a b c h = then_plain a b c (reference_orders P slots names depth v) a (suc b) (Plain (GetField class index) ∷ []) (suc a) b (reference_types v depth a b c h) (λ t. (omega arith, heights_same _ _ _ _ (suc a) b t d (omega arith) (omega arith) (omega arith) (omega arith)))
-      value_types (FieldAssigned v class index u) depth a b c h =
-          let first = reference_types v depth a b c h in
-          both a b c (reference_orders P slots names depth v) a (suc b) _ (suc a) b first
-          (then_plain a (suc b) first.more (value_orders P slots names depth u) (suc a) (suc b) (Plain (SetField class index) ∷ []) (suc a) b (value_types u depth a (suc b) first.more h) (λ t. ((omega arith, omega arith), heights_same _ _ _ _ (suc a) b t d (omega arith) (omega arith) (omega arith) (omega arith))))
-      value_types (resolved.Differ v u) depth a b c h =
-          let first = reference_types v depth a b c h in
-          both a b c (reference_orders P slots names depth v) a (suc b) _ (suc a) b first
-          (then_plain a (suc b) first.more (reference_orders P slots names depth u) a (suc (suc b)) (Plain Differ ∷ []) (suc a) b (reference_types u depth a (suc b) first.more h) (λ t. (omega arith, heights_same _ _ _ _ (suc a) b t d (omega arith) (omega arith) (omega arith) (omega arith))))
-      value_types (resolved.IsObject v) depth a b c h = then_plain a b c (reference_orders P slots names depth v) a (suc b) (Plain IsObject ∷ []) (suc a) b (reference_types v depth a b c h) (λ t. (omega arith, heights_same _ _ _ _ (suc a) b t d (omega arith) (omega arith) (omega arith) (omega arith)))
-
-      reference_types : (e : Reference) (depth a b c : ℕ) → depth + slots ≤ a + r → Comes a b c (reference_orders P slots names depth e) a (suc b)
-      reference_types resolved.Nil depth a b c h = plain a b c _ a (suc b) (tt, heights_same _ _ _ _ a (suc b) c d (omega arith) (omega arith) (omega arith) (omega arith))
-      reference_types Itself depth a b c h = taking a b c _ a (suc b) (c + 1) (self_types a b c)
-      reference_types (Variable i) depth a b c h = taking a b c _ a (suc b) (c + 1) (read_types i a b c)
-      reference_types (Stored i v) depth a b c h =
-          let first = reference_types v depth a b c h in
-          taking a b c _ a (suc b) (first.more + 1) (types_then (height a b c d) (reference_orders P slots names depth v) (height a (suc b) first.more d) _ (height a (suc b) (first.more + 1) d) first.types
-          (types_then (height a (suc b) first.more d) (store_orders names i) (height a (suc b) first.more d) (Plain Hold ∷ []) (height a (suc b) (first.more + 1) d) (store_types names a (suc b) first.more d room i (omega arith)) (hold_types a (suc b) first.more (omega arith))))
-      reference_types (Made v) depth a b c h =
-          let first = value_types v depth a b c h in
-          taking a b c _ a (suc b) (first.more + 1) (types_then (height a b c d) (value_orders P slots names depth v) (height (suc a) b first.more d) (Plain Alloc ∷ []) (height a (suc b) (first.more + 1) d) first.types (omega arith, heights_same _ _ _ _ a (suc b) (first.more + 1) d (omega arith) (omega arith) (omega arith) (omega arith)))
-      reference_types (Initialized v) depth a b c h =
-          let first = reference_types v depth a b c h in
-          taking a b c _ a (suc b) (first.more + 1) (types_then (height a b c d) (reference_orders P slots names depth v) (height a (suc b) first.more d) (Plain Hold ∷ []) (height a (suc b) (first.more + 1) d) first.types (hold_types a (suc b) first.more (omega arith)))
-
-      values_type : (es : Values) (depth a b c : ℕ) → depth + slots ≤ a + r → Comes a b c (all_value_orders P slots names depth es) (value_count es + a) b
-      values_type no_values depth a b c h = plain a b c [] (0 + a) b (heights_same _ _ _ _ (0 + a) b c d (omega arith) refl refl refl)
-      values_type (and_value v others) depth a b c h =
-          let first = value_types v depth a b c h in
-          let n = value_count others in
-          both a b c (value_orders P slots names depth v) (suc a) b (all_value_orders P slots names (suc depth) others) (suc n + a) b first (shifted a b first.more (all_value_orders P slots names (suc depth) others) n (values_type others (suc depth) (suc a) b first.more (omega (arith, h))))
-
-    -- ---- full-expressions, which end without temporaries
-
-    drop_types : (takes : Bool) (a c : ℕ) → (takes ≡ false → c ≡ 0) → Types (height a 0 c d) (if takes then DropAll ∷ [] else []) (height a 0 0 d)
-    drop_types true a c none = (refl, refl)
-    drop_types false a c none = ap (λ t. height a 0 t d) (none refl)
-
-    pub whole_types : (e : Value) (a : ℕ) → slots ≤ a + r → Types (height a 0 0 d) (whole_orders P slots names e) (height (suc a) 0 0 d)
-    whole_types e a h =
-        let first = value_types e 0 a 0 0 (omega (arith, h)) in
-        types_then (height a 0 0 d) (value_orders P slots names 0 e) (height (suc a) 0 first.more d) (drop_orders (value_orders P slots names 0 e)) (height (suc a) 0 0 d) first.types (drop_types (list_any order_takes (value_orders P slots names 0 e)) (suc a) first.more (λ x. quiet_types (height a 0 0 d) (value_orders P slots names 0 e) (height (suc a) 0 first.more d) first.types x refl))
-
-    forget_types : (takes : Bool) (a c : ℕ) → (takes ≡ false → c ≡ 0) → Types (height a 1 c d) (Plain Forget ∷ [] ++ (if takes then DropAll ∷ [] else [])) (height a 0 0 d)
-    forget_types takes a c none = (omega arith, subst (λ h. Types h (if takes then DropAll ∷ [] else []) (height a 0 0 d)) (heights_same a 0 c d _ _ _ _ (omega arith) (omega arith) (omega arith) (omega arith)) (drop_types takes a c none))
-
-    pub whole_reference_types : (e : Reference) (a : ℕ) → slots ≤ a + r → Types (height a 0 0 d) (whole_reference_orders P slots names e) (height a 0 0 d)
-    whole_reference_types e a h =
-        let first = reference_types e 0 a 0 0 (omega (arith, h)) in
-        types_then (height a 0 0 d) (reference_orders P slots names 0 e) (height a 1 first.more d) _ (height a 0 0 d) first.types (forget_types (list_any order_takes (reference_orders P slots names 0 e)) a first.more (λ x. quiet_types (height a 0 0 d) (reference_orders P slots names 0 e) (height a 1 first.more d) first.types x refl))
-
-    pub begin_types : (i : ℕ) (e : Reference) (a : ℕ) → slots ≤ a + r → Types (height a 0 0 d) (begin_orders P slots names i e) (height a 0 0 d)
-    begin_types i e a h =
-        let first = reference_types e 0 a 0 0 (omega (arith, h)) in
-        types_then (height a 0 0 d) (reference_orders P slots names 0 e) (height a 1 first.more d) _ (height a 0 0 d) first.types
-        (subst (λ l. Types (height a 1 first.more d) l (height a 0 0 d)) (sym (append_assoc (store_orders names i) (Plain Forget ∷ []) (drop_orders (reference_orders P slots names 0 e))))
-        (types_then (height a 1 first.more d) (store_orders names i) (height a 1 first.more d) _ (height a 0 0 d) (store_types names a 1 first.more d room i (omega arith)) (forget_types (list_any order_takes (reference_orders P slots names 0 e)) a first.more (λ x. quiet_types (height a 0 0 d) (reference_orders P slots names 0 e) (height a 1 first.more d) first.types x refl))))
-
-  -- ---- heights
-
-  pub types_last : (base h : Height) (xs : List Order) (g : Height) → Types h xs g → last_height P base h xs ≡ g
-  types_last base h [] g t = t
-  types_last base h (x ∷ xs) g t = ap (λ i. last_height P base i xs) (next_same P base x h (over r s h) t.0) ∙ types_last base (left P x h) xs g t.1
-
--- ---- statements
-
-module _ (P : Program) (slots names exit : ℕ) where
+-- below lie so many numbers and variables more, in a function with so many variables that is left from a place
+module _ (P : Program) (r s slots names exit : ℕ) where
   abbrev base : Height
   base = between slots names
 
   abbrev test : Height
   test = tested slots names
 
-  -- the same of a block, in a function with so many variables: a choice and a loop stand between two statements
-  abbrev pub BlockTypes : Height → Block → Height → Type 0
-  BlockTypes h (Then x y) g = (i : Height) × BlockTypes h x i × BlockTypes i y g
-  BlockTypes h (Fork x y) g = (h ≡ test) × BlockTypes base x g × BlockTypes base y g
-  BlockTypes h (Loop x y) g = BlockTypes h x test × BlockTypes base y h × (g ≡ base)
-  BlockTypes h (Leave to) g = (to ≡ exit) × (h ≡ test) × (g ≡ base)
-  BlockTypes h x g = Types P 0 0 h (flat P slots names x) g
+  -- where a block stands between statements a test leaves what is there between them
+  abbrev pub Leaves : (statement : Bool) → Height → Type 0
+  Leaves true h = h ≡ base
+  Leaves false h = Unit {0}
 
-  test_types : (e : Value) → Types P 0 0 base (whole_orders P slots names e) test
-  test_types e = whole_types P 0 0 slots names names (omega arith) e slots (omega arith)
-
-  pub zero_types : Types P 0 0 base (Plain (Num (pos 0)) ∷ []) test
-  zero_types = one P 0 0 0 0 names 0 1 slots (Num (pos 0)) (suc slots) refl tt (omega arith)
-
-  pop_types : Types P 0 0 test (Plain Pop ∷ []) base
-  pop_types = one P 0 0 0 0 names 1 0 (suc slots) Pop slots refl (omega arith) (omega arith)
-
-  mutual
-    pub command_types : (c : Command) → BlockTypes base (command_block exit c) base
-    command_types (Sequence first count all) = (base, commands_type all, all_empty_type P 0 0 names slots 0 0 names (omega arith) first count)
-    command_types (Evaluate a) = (test, test_types a, pop_types)
-    command_types (EvaluateReference a) = whole_reference_types P 0 0 slots names names (omega arith) a slots (omega arith)
-    command_types (Begin i a) = begin_types P 0 0 slots names names (omega arith) i a slots (omega arith)
-    command_types (resolved.Return None) = (test, zero_types, (refl, refl, refl))
-    command_types (resolved.Return (Some a)) = (test, test_types a, (refl, refl, refl))
-    command_types (Choose v a b) = (test, test_types v, (refl, command_types a, command_types b))
-    command_types (Repeat v body) = (test_types v, command_types body, refl)
-
-    pub commands_type : (cs : Commands) → BlockTypes base (commands_block exit cs) base
-    commands_type no_commands = refl
-    commands_type (and_command c others) = (base, command_types c, commands_type others)
+  -- the same of a block, which stands between statements or within an expression
+  abbrev pub BlockTypes : (statement : Bool) → Height → Block → Height → Type 0
+  BlockTypes statement h (Then x y) g = (i : Height) × BlockTypes statement h x i × BlockTypes statement i y g
+  BlockTypes statement h (Fork x y) g =
+      (i : Height) × (more : ℕ) × Forks P h i more g × Leaves statement i × BlockTypes statement i x (with_temporaries g more) × BlockTypes statement (with_temporaries i more) y g
+  BlockTypes statement h (Loop x y) g = (statement ≡ true) × (h ≡ base) × BlockTypes statement base x test × BlockTypes statement base y base × (g ≡ base)
+  BlockTypes statement h (Full x y) g = (i : Height) × (j : Height) × BlockTypes false h x i × BlockTypes false i y j × Types P r s j (drop_orders (flat P slots names x)) g
+  BlockTypes statement h (Leave to) g = (statement ≡ true) × (to ≡ exit) × (h ≡ test) × (g ≡ base)
+  BlockTypes statement h x g = Types P r s h (flat P slots names x) g

@@ -1,9 +1,9 @@
 -- How many numbers, references, temporaries and variables that name objects the running function has at most before each action of a program, by the effects of those before it; and the greatest of them.
-use Rattle.std.specs.Prelude.{ℕ, suc, ◌+◌, ◌-◌, max, List, [], ◌∷◌, ◌++◌, length, get_or, Option, Some, None}
+use Rattle.std.specs.Prelude.{ℕ, suc, ◌+◌, ◌-◌, max, List, [], ◌∷◌, ◌++◌, length, drop, get_or, Option, Some, None}
 use Rattle.arc_spec.specs.Resolved.{Function, Program}
 use Rattle.arc_spec.specs.declared.class.Method.{Method}
 use Rattle.arc_spec.specs.Classes.{Class}
-use Rattle.arc_code.specs.declared.instr.Instr.TheVariants.{Jump, Call, DropAll, Return}
+use Rattle.arc_code.specs.declared.instr.Instr.TheVariants.{Jump, JumpZero, Call, DropAll, Return}
 use Rattle.arc_code.specs.declared.effect.Effect.{Effect}
 use Rattle.arc_code.specs.declared.effect.Height.{Height}
 use Rattle.arc_code.specs.Effects.{effect, passes, no_height, room_for}
@@ -29,23 +29,47 @@ numbers_taken P x = (effect x).numbers_taken
 abbrev pub after_effect : Height → (taken : ℕ) → Effect → Height
 after_effect h taken e = height (h.numbers - taken + e.numbers_given) (h.names - e.names_taken + e.names_given) (h.temporaries + e.temporaries) (h.variables + e.variables)
 
--- The height before the next action. What stands behind a jump is reached from elsewhere, between two statements, and what stands behind a return is where the
--- function is entered.
-abbrev pub next_height : Program → (base : Height) → Order → Height → Height
-next_height P base (Jump to) h = base
-next_height P base DropAll h = record h { temporaries = 0 }
-next_height P base Return h = record base { variables = 0 }
-next_height P base x h = after_effect h (numbers_taken P x) (effect x)
+-- the height after an action that goes on with the next one
+abbrev pub next_height : Program → Order → Height → Height
+next_height P DropAll h = record h { temporaries = 0 }
+next_height P x h = after_effect h (numbers_taken P x) (effect x)
 
--- the heights before each of these actions, of which the first is at this one, in a function that has so much between two statements
+-- where a walk over actions is: the height there, and those at which the parts begin that tests may lead to, the last test first
+pub record Walk : Type 0 where
+  pub height : Height
+  pub pending : List Height
+
+abbrev pub walk : Height → (pending : List Height) → Walk
+walk h pending = record { height = h; pending = pending }
+
+-- What stands after a jump is the part that the last test may lead to, or stands between two statements. It is given the temporaries that there are before the
+-- jump, which may be there after that part.
+abbrev pub other_part : (base : Height) → Walk → Height
+other_part base w = record (get_or w.pending 0 base) { temporaries = w.height.temporaries }
+
+-- The walk before the next action, in a function that has so much between two statements. What stands after a return is where the function is entered.
+abbrev pub next_walk : Program → (base : Height) → Order → Walk → Walk
+next_walk P base (Jump to) w = walk (other_part base w) (drop 1 w.pending)
+next_walk P base (JumpZero to) w = let h = next_height P (JumpZero to) w.height in walk h (h ∷ w.pending)
+next_walk P base Return w = walk (record base { variables = 0 }) w.pending
+next_walk P base x w = walk (next_height P x w.height) w.pending
+
+-- the walk after all of these actions
+abbrev pub last_walk : Program → (base : Height) → Walk → List Order → Walk
+last_walk P base w [] = w
+last_walk P base w (x ∷ xs) = last_walk P base (next_walk P base x w) xs
+
+-- the heights before each of them
+abbrev pub walk_heights : Program → (base : Height) → Walk → List Order → List Height
+walk_heights P base w [] = []
+walk_heights P base w (x ∷ xs) = w.height ∷ walk_heights P base (next_walk P base x w) xs
+
+-- the same where the first is at this height, after no test
 abbrev pub heights : Program → (base : Height) → Height → List Order → List Height
-heights P base h [] = []
-heights P base h (x ∷ xs) = h ∷ heights P base (next_height P base x h) xs
+heights P base h xs = walk_heights P base (walk h []) xs
 
--- the height behind all of them
 abbrev pub last_height : Program → (base : Height) → Height → List Order → Height
-last_height P base h [] = h
-last_height P base h (x ∷ xs) = last_height P base (next_height P base x h) xs
+last_height P base h xs = (last_walk P base (walk h []) xs).height
 
 -- the greatest of them, or this one, where it is greater
 abbrev pub greatest : List Height → Height → Height

@@ -1,17 +1,18 @@
 //! What follows from the heights of actions. Nothing here is run.
-ghost use Rattle.std.specs.Prelude.{◌≡◌, ◌≤◌, ℕ, suc};
+ghost use Rattle.std.specs.Prelude.{◌≡◌, ◌≤◌, ℕ, suc, List};
 ghost use Rattle.arc_spec.specs.Resolved.{Value, Reference, Command, Program};
 ghost use Rattle.arc_code.specs.Effects.{HeightsFit, NeverHasMore, room_for};
 ghost use Rattle.arc_ir.specs.Acting as acting;
 ghost use Rattle.arc_lower.specs.Order.{orders};
 ghost use Rattle.arc_lower.specs.Lowered.{whole_orders, whole_reference_orders, command_orders, lowered, entries_of, end_step_of, classes_linked};
 ghost use Rattle.arc_code.specs.declared.effect.Height.{Height};
-ghost use Rattle.arc_lower.specs.Heights.{between, last_height, greatest_height, places_in, height_at};
+ghost use Rattle.arc_lower.specs.Heights.{between, walk, last_walk, last_height, greatest_height, places_in, height_at};
 
-/// A full-expression leaves one number more where it is an int, no reference and no temporary.
+/// A full-expression leaves one number more where it is an int, no reference and no temporary, and the parts that tests
+/// before it may lead to as they are.
 pub fn full_expressions_end()
-    ensures value { (P : Program) (base : Height) (slots names : ℕ) (e : Value) (a b : ℕ) → last_height P base (between a b) (whole_orders P slots names e) ≡ between (suc a) b }
-    ensures reference { (P : Program) (base : Height) (slots names : ℕ) (e : Reference) (a b : ℕ) → last_height P base (between a b) (whole_reference_orders P slots names e) ≡ between a b }
+    ensures value { (P : Program) (base : Height) (pending : List Height) (slots names : ℕ) (e : Value) (a b : ℕ) → last_walk P base (walk (between a b) pending) (whole_orders P slots names e) ≡ walk (between (suc a) b) pending }
+    ensures reference { (P : Program) (base : Height) (pending : List Height) (slots names : ℕ) (e : Reference) (a b : ℕ) → last_walk P base (walk (between a b) pending) (whole_reference_orders P slots names e) ≡ walk (between a b) pending }
 {}
 
 /// A statement leaves all as it was between it and the one before.

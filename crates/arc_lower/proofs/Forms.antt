@@ -1,0 +1,149 @@
+-- What each form of expression and of statement needs and leaves.
+use Rattle.std.proofs.Common.{◌≡◌, ℕ, zero, suc, ◌+◌, ◌-◌, ◌≤◌, Bool, true, false, List, [], ◌∷◌, length, Some, None, refl, sym, ap, ◌∙◌, subst, arith, pos}
+use Rattle.std.specs.List.{list_any}
+use Rattle.arc_spec.specs.Resolved.{Value, Number, ReadByte, Print, Applied, Combined, Converted, Local, Assigned, Invoked, Sent, SentSuper, SentTo, SentToSuper, Field, FieldAssigned, Reference, Itself, Variable, Stored, Made, Initialized, Values, no_values, and_value, Command, Sequence, Evaluate, EvaluateReference, Begin, Choose, Repeat, Commands, no_commands, and_command, Program}
+use Rattle.arc_spec.specs.Resolved as resolved
+use Rattle.arc_code.specs.declared.instr.Op.{Op}
+use Rattle.arc_code.specs.declared.instr.Op.TheVariants.{Num, Bin, Un, Narrow, Pop, GetChar, Nil, ReadSelf, Hold, Forget, Alloc, GetField, SetField, Differ, IsObject}
+use Rattle.arc_code.specs.declared.effect.Height.{Height}
+use Rattle.arc_code.specs.Effects.{on_numbers, of_names, operation_effect}
+use Rattle.arc_lower.specs.Lowered.{value_count, order_takes, Block, Idle, One, Then, Fork, Full, Leave, Assign, flat, value_block, reference_block, values_block, whole_block, whole_reference_block, begin_block, command_block, commands_block}
+use Rattle.arc_lower.specs.Heights.{height, between, after_effect, walk, last_walk}
+use Rattle.arc_lower.specs.Lowered.{whole_orders, whole_reference_orders}
+use Rattle.arc_lower.proofs.Typing.{heights_same, Reaches, Types, zeros_type, print_types, get_types, set_types, call_types, store_types, read_types, all_empty_type, drop_types, tested, Forks, BlockTypes}
+use Rattle.arc_lower.proofs.HeightsEnd.{within_ends, quiet_types}
+
+module _ (P : Program) (r s slots names exit d : ℕ) (room : names ≤ d + s) where
+  abbrev Within : Height → Block → Height → Type 0
+  Within = BlockTypes P r s slots names exit false
+
+  -- from so many numbers, references and temporaries a block comes to so many numbers and references, and to no less temporaries
+  pub record Comes (a b c : ℕ) (x : Block) (n m : ℕ) : Type 0 where
+    more : ℕ
+    most : c ≤ more
+    types : Within (height a b c d) x (height n m more d)
+
+  plain : {a b c n m : ℕ} {x : Block} → Within (height a b c d) x (height n m c d) → Comes a b c x n m
+  plain {c = c} t = record { more = c; most = omega arith; types = t }
+
+  op : {a b c n m : ℕ} (o : Op) → Reaches o (height (a + r) b c (d + s)) → a - (operation_effect o).numbers_taken + (operation_effect o).numbers_given ≡ n → b - (operation_effect o).names_taken + (operation_effect o).names_given ≡ m → (operation_effect o).variables ≡ 0 → Comes a b c (One o) n m
+  op {c = c} {n = n} {m = m} o reaches numbers references none =
+      let more = c + (operation_effect o).temporaries in
+      record { more = more; most = omega arith; types = (reaches, heights_same _ _ _ _ n m more d numbers references refl (omega (arith, none))) }
+
+  pub next : {a b c n m u v : ℕ} {x y : Block} → Comes a b c x n m → ((t : ℕ) → Comes n m t y u v) → Comes a b c (Then x y) u v
+  next {n = n} {m = m} first others =
+      let then = others first.more in
+      record { more = then.more; most = omega (arith, first.most, then.most); types = (height n m first.more d, first.types, then.types) }
+
+  -- a choice within an expression
+  pub choice : {a b c n m : ℕ} {x y : Block} → Comes a b c x n m → ((t : ℕ) → Comes a b t y n m) → Comes (suc a) b c (Fork x y) n m
+  choice {a = a} {b = b} {c = c} {n = n} {m = m} first others =
+      let then = others first.more in
+      let forks : Forks P (height (suc a) b c d) (height a b c d) first.more (height n m then.more d) = record { some = omega arith; left = heights_same _ _ _ _ a b c d (omega arith) (omega arith) (omega arith) (omega arith); first = first.most; next = then.most } in
+      record { more = then.more; most = omega (arith, first.most, then.most); types = (height a b c d, first.more, forks, tt, first.types, then.types) }
+
+  -- what a message leaves
+  class_left : (n a b c : ℕ) → after_effect (height (n + suc a) b c d) (suc n) (on_numbers (suc n) 1) ≡ height (suc a) b c d
+  class_left n a b c = heights_same _ _ _ _ (suc a) b c d (omega arith) (omega arith) (omega arith) (omega arith)
+
+  object_left : (n a b c : ℕ) → after_effect (height (n + a) (suc b) c d) n (of_names n 1 1) ≡ height (suc a) b c d
+  object_left n a b c = heights_same _ _ _ _ (suc a) b c d (omega arith) (omega arith) (omega arith) (omega arith)
+
+  shifted : (n a b c : ℕ) (x : Block) → Comes (suc a) b c x (n + suc a) b → Comes (suc a) b c x (suc n + a) b
+  shifted n a b c x first = let e : n + suc a ≡ suc n + a = omega arith in subst (λ m. Comes (suc a) b c x m b) e first
+
+  mutual
+    pub value_types : (e : Value) (depth a b c : ℕ) → depth + slots ≤ a + r → Comes a b c (value_block depth e) (suc a) b
+    value_types (Number n) depth a b c h = op (Num n) tt (omega arith) (omega arith) refl
+    value_types ReadByte depth a b c h = op GetChar tt (omega arith) (omega arith) refl
+    value_types (Print pieces arguments) depth a b c h = next (values_type arguments depth a b c h) (λ t. plain (print_types P r s b t d pieces (value_count arguments) a))
+    value_types (Applied operator kind v) depth a b c h = next (value_types v depth a b c h) (λ t. op (Un operator kind) (omega arith) (omega arith) (omega arith) refl)
+    value_types (Combined operator kind v u) depth a b c h = next (value_types v depth a b c h) (λ t. next (value_types u (suc depth) (suc a) b t (omega (arith, h))) (λ q. op (Bin operator kind) (omega arith) (omega arith) (omega arith) refl))
+    value_types (Converted kind v) depth a b c h = next (value_types v depth a b c h) (λ t. op (Narrow kind) (omega arith) (omega arith) (omega arith) refl)
+    value_types (Local i) depth a b c h = plain (get_types P r s b c d slots depth i a h)
+    value_types (Assigned i v) depth a b c h = next (value_types v depth a b c h) (λ t. plain (set_types P r s b t d slots depth i a h))
+    value_types (Invoked f arguments) depth a b c h = next (values_type arguments depth a b c h) (λ t. plain (call_types P r s b t d f (value_count arguments) a))
+    value_types (Sent v selector arguments) depth a b c h = next (value_types v depth a b c h) (λ t. next (values_type arguments (suc depth) (suc a) b t (omega (arith, h))) (λ q. plain (omega arith, class_left (value_count arguments) a b q)))
+    value_types (SentSuper from selector arguments) depth a b c h = next (plain (get_types P r s b c d slots depth 0 a h)) (λ t. next (values_type arguments (suc depth) (suc a) b t (omega (arith, h))) (λ q. plain (omega arith, class_left (value_count arguments) a b q)))
+    value_types (SentTo v selector arguments) depth a b c h = next (reference_types v depth a b c h) (λ t. next (values_type arguments depth a (suc b) t h) (λ q. plain ((omega arith, omega arith), object_left (value_count arguments) a b q)))
+    value_types (SentToSuper from selector arguments) depth a b c h = next (op ReadSelf tt (omega arith) (omega arith) refl) (λ t. next (values_type arguments depth a (suc b) t h) (λ q. plain ((omega arith, omega arith), object_left (value_count arguments) a b q)))
+    value_types (Field v class index) depth a b c h = next (reference_types v depth a b c h) (λ t. op (GetField class index) (omega arith) (omega arith) (omega arith) refl)
+    value_types (FieldAssigned v class index u) depth a b c h = next (reference_types v depth a b c h) (λ t. next (value_types u depth a (suc b) t h) (λ q. op (SetField class index) (omega arith, omega arith) (omega arith) (omega arith) refl))
+    value_types (resolved.Differ v u) depth a b c h = next (reference_types v depth a b c h) (λ t. next (reference_types u depth a (suc b) t h) (λ q. op Differ (omega arith) (omega arith) (omega arith) refl))
+    value_types (resolved.IsObject v) depth a b c h = next (reference_types v depth a b c h) (λ t. op IsObject (omega arith) (omega arith) (omega arith) refl)
+
+    pub reference_types : (e : Reference) (depth a b c : ℕ) → depth + slots ≤ a + r → Comes a b c (reference_block depth e) a (suc b)
+    reference_types resolved.Nil depth a b c h = op Nil tt (omega arith) (omega arith) refl
+    reference_types Itself depth a b c h = op ReadSelf tt (omega arith) (omega arith) refl
+    reference_types (Variable i) depth a b c h = record { more = c + 1; most = omega arith; types = read_types P r s names i a b c d room }
+    reference_types (Stored i v) depth a b c h = next (reference_types v depth a b c h) (λ t. next (plain (store_types P r s names a (suc b) t d room i (omega arith))) (λ q. op Hold (omega arith) (omega arith) (omega arith) refl))
+    reference_types (Made v) depth a b c h = next (value_types v depth a b c h) (λ t. op Alloc (omega arith) (omega arith) (omega arith) refl)
+    reference_types (Initialized v) depth a b c h = next (reference_types v depth a b c h) (λ t. op Hold (omega arith) (omega arith) (omega arith) refl)
+
+    pub values_type : (es : Values) (depth a b c : ℕ) → depth + slots ≤ a + r → Comes a b c (values_block depth es) (value_count es + a) b
+    values_type no_values depth a b c h = plain (heights_same _ _ _ _ (0 + a) b c d (omega arith) refl refl refl)
+    values_type (and_value v others) depth a b c h = next (value_types v depth a b c h) (λ t. shifted (value_count others) a b t (values_block (suc depth) others) (values_type others (suc depth) (suc a) b t (omega (arith, h))))
+
+  -- ---- full-expressions, which end without temporaries
+
+  full : (statement : Bool) (a n m u : ℕ) (x y : Block) → Comes a 0 0 x n m → ((t : ℕ) → Within (height n m t d) y (height u 0 t d)) → BlockTypes P r s slots names exit statement (height a 0 0 d) (Full x y) (height u 0 0 d)
+  full statement a n m u x y first others =
+      let t = first.more in (
+        height n m t d, height u 0 t d, first.types, others t,
+        drop_types P r s (list_any order_takes (flat P slots names x)) u t d (λ none. let le = quiet_types P r s slots names exit x (height a 0 0 d) (height n m t d) first.types none in omega (arith, le)),
+      )
+
+  forget_types : (a t : ℕ) → Within (height a 1 t d) (One Forget) (height a 0 t d)
+  forget_types a t = (omega arith, heights_same _ _ _ _ a 0 t d (omega arith) (omega arith) (omega arith) (omega arith))
+
+  pub whole_types : (statement : Bool) (e : Value) (a : ℕ) → slots ≤ a + r → BlockTypes P r s slots names exit statement (height a 0 0 d) (whole_block e) (height (suc a) 0 0 d)
+  whole_types statement e a h = full statement a (suc a) 0 (suc a) (value_block 0 e) Idle (value_types e 0 a 0 0 (omega (arith, h))) (λ t. refl)
+
+  pub whole_reference_types : (statement : Bool) (e : Reference) (a : ℕ) → slots ≤ a + r → BlockTypes P r s slots names exit statement (height a 0 0 d) (whole_reference_block e) (height a 0 0 d)
+  whole_reference_types statement e a h = full statement a a 1 a (reference_block 0 e) (One Forget) (reference_types e 0 a 0 0 (omega (arith, h))) (λ t. forget_types a t)
+
+  pub begin_types : (statement : Bool) (i : ℕ) (e : Reference) (a : ℕ) → slots ≤ a + r → BlockTypes P r s slots names exit statement (height a 0 0 d) (begin_block i e) (height a 0 0 d)
+  begin_types statement i e a h = full statement a a 1 a (reference_block 0 e) (Then (Assign i) (One Forget)) (reference_types e 0 a 0 0 (omega (arith, h))) (λ t. (height a 1 t d, store_types P r s names a 1 t d room i (omega arith), forget_types a t))
+
+pub whole_ends : (P : Program) (base : Height) (pending : List Height) (slots names : ℕ) (e : Value) (a b : ℕ) → last_walk P base (walk (between a b) pending) (whole_orders P slots names e) ≡ walk (between (suc a) b) pending
+whole_ends P base pending slots names e a b = within_ends P slots names slots names 0 base (whole_block e) (between a b) (between (suc a) b) pending (whole_types P slots names slots names 0 b (omega arith) false e a (omega arith))
+
+pub whole_reference_ends : (P : Program) (base : Height) (pending : List Height) (slots names : ℕ) (e : Reference) (a b : ℕ) → last_walk P base (walk (between a b) pending) (whole_reference_orders P slots names e) ≡ walk (between a b) pending
+whole_reference_ends P base pending slots names e a b = within_ends P slots names slots names 0 base (whole_reference_block e) (between a b) (between a b) pending (whole_reference_types P slots names slots names 0 b (omega arith) false e a (omega arith))
+
+-- ---- statements
+
+module _ (P : Program) (slots names exit : ℕ) where
+  abbrev base : Height
+  base = between slots names
+
+  abbrev test : Height
+  test = tested slots names
+
+  abbrev Statement : Height → Block → Height → Type 0
+  Statement = BlockTypes P 0 0 slots names exit true
+
+  test_types : (e : Value) → Statement base (whole_block e) test
+  test_types e = whole_types P 0 0 slots names exit names (omega arith) true e slots (omega arith)
+
+  pub zero_types : Statement base (One (Num (pos 0))) test
+  zero_types = (tt, heights_same _ _ _ _ (suc slots) 0 0 names (omega arith) (omega arith) (omega arith) (omega arith))
+
+  less : after_effect test 1 (on_numbers 1 0) ≡ base
+  less = heights_same _ _ _ _ slots 0 0 names (omega arith) (omega arith) (omega arith) (omega arith)
+
+  mutual
+    pub command_types : (c : Command) → Statement base (command_block exit c) base
+    command_types (Sequence first count all) = (base, commands_type all, all_empty_type P 0 0 names slots 0 0 names (omega arith) first count)
+    command_types (Evaluate a) = (test, test_types a, (omega arith, less))
+    command_types (EvaluateReference a) = whole_reference_types P 0 0 slots names exit names (omega arith) true a slots (omega arith)
+    command_types (Begin i a) = begin_types P 0 0 slots names exit names (omega arith) true i a slots (omega arith)
+    command_types (resolved.Return None) = (test, zero_types, (refl, refl, refl, refl))
+    command_types (resolved.Return (Some a)) = (test, test_types a, (refl, refl, refl, refl))
+    command_types (Choose v a b) = (test, test_types v, (base, 0, record { some = omega arith; left = less; first = omega arith; next = omega arith }, refl, command_types a, command_types b))
+    command_types (Repeat v body) = (refl, refl, test_types v, command_types body, refl)
+
+    pub commands_type : (cs : Commands) → Statement base (commands_block exit cs) base
+    commands_type no_commands = refl
+    commands_type (and_command c others) = (base, command_types c, commands_type others)
