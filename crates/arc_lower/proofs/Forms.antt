@@ -90,7 +90,10 @@ module _ (P : Program) (r s slots names exit d : ℕ) (room : names ≤ d + s) w
   full : (statement : Bool) (a n m u : ℕ) (x y : Block) → Comes a 0 0 x n m → ((t : ℕ) → Within (height n m t d) y (height u 0 t d)) → BlockTypes P r s slots names exit statement (height a 0 0 d) (Full x y) (height u 0 0 d)
   full statement a n m u x y first others =
       let t = first.more in (
-        height n m t d, height u 0 t d, first.types, others t,
+        height n m t d,
+        height u 0 t d,
+        first.types,
+        others t,
         drop_types P r s (list_any order_takes (flat P slots names x)) u t d (λ none. let le = quiet_types P r s slots names exit x (height a 0 0 d) (height n m t d) first.types none in omega (arith, le)),
       )
 

@@ -94,7 +94,7 @@ module _ (P : Program) (r s slots names exit : ℕ) where
         let two = block_ends statement y (with_temporaries i t.1) g (drop 1 one.0) (keeps_on statement pending (drop 1 one.0) left) t.5 in (
           two.0,
           ap (λ n. last_walk P from (walk n (n ∷ pending)) (xs ++ rest)) t.2.left ∙ last_append P from (walk i (i ∷ pending)) xs rest ∙ ap (λ w. last_walk P from w rest) one.1
-          ∙ ap (λ n. last_walk P from (walk n (drop 1 one.0)) ys) (part_same statement i m pending one.0 t.3 one.2) ∙ two.1,
+              ∙ ap (λ n. last_walk P from (walk n (drop 1 one.0)) ys) (part_same statement i m pending one.0 t.3 one.2) ∙ two.1,
           keeps_then statement pending (drop 1 one.0) two.0 left two.2,
         )
     block_ends true (Loop x y) h g pending keeps t =
@@ -106,8 +106,8 @@ module _ (P : Program) (r s slots names exit : ℕ) where
         let two = block_ends true y base base (base ∷ one.0) (keeps.0, (refl, one.2.2), (refl, one.2.2)) t.3 in (
           drop 1 two.0,
           ap (λ n. last_walk P from (walk n pending) (ts ++ (JumpZero to ∷ (xs ++ again)))) t.1 ∙ last_append P from (walk base pending) ts (JumpZero to ∷ (xs ++ again)) ∙ ap (λ w. last_walk P from w (JumpZero to ∷ (xs ++ again))) one.1
-          ∙ ap (λ n. last_walk P from (walk n (n ∷ one.0)) (xs ++ again)) (chosen_same to) ∙ last_append P from (walk base (base ∷ one.0)) xs again ∙ ap (λ w. last_walk P from w again) two.1
-          ∙ ap (λ n. walk (with_temporaries n 0) (drop 1 two.0)) (first_base from two.0 keeps.0 two.2.2) ∙ ap (λ n. walk n (drop 1 two.0)) (sym t.4),
+              ∙ ap (λ n. last_walk P from (walk n (n ∷ one.0)) (xs ++ again)) (chosen_same to) ∙ last_append P from (walk base (base ∷ one.0)) xs again ∙ ap (λ w. last_walk P from w again) two.1
+              ∙ ap (λ n. walk (with_temporaries n 0) (drop 1 two.0)) (first_base from two.0 keeps.0 two.2.2) ∙ ap (λ n. walk n (drop 1 two.0)) (sym t.4),
           (keeps.0, keeps.1, rest_base two.0 two.2.2),
         )
     block_ends true (Leave to) h g pending keeps t = (
@@ -124,7 +124,7 @@ module _ (P : Program) (r s slots names exit : ℕ) where
         let two = exactly pending t.0 y t.1 (block_ends false y t.0 t.1 pending refl t.3) in (
           pending,
           last_append P from (walk h pending) xs (ys ++ drop_orders xs) ∙ ap (λ w. last_walk P from w (ys ++ drop_orders xs)) one
-          ∙ last_append P from (walk t.0 pending) ys (drop_orders xs) ∙ ap (λ w. last_walk P from w (drop_orders xs)) two ∙ types_last P r s from t.1 pending (drop_orders xs) g t.4,
+              ∙ last_append P from (walk t.0 pending) ys (drop_orders xs) ∙ ap (λ w. last_walk P from w (drop_orders xs)) two ∙ types_last P r s from t.1 pending (drop_orders xs) g t.4,
           keeps,
         )
     block_ends statement x h g pending keeps t = (pending, types_last P r s from h pending (flat P slots names x) g t, keeps)
