@@ -23,10 +23,10 @@ module _ (P : Program) (r s slots names exit d : ℕ) (room : names ≤ d + s) w
     most : c ≤ more
     types : Within (height a b c d) x (height n m more d)
 
-  plain : {a b c n m : ℕ} {x : Block} → Within (height a b c d) x (height n m c d) → Comes a b c x n m
+  pub plain : {a b c n m : ℕ} {x : Block} → Within (height a b c d) x (height n m c d) → Comes a b c x n m
   plain {c = c} t = record { more = c; most = omega arith; types = t }
 
-  op : {a b c n m : ℕ} (o : Op) → Reaches o (height (a + r) b c (d + s)) → a - (operation_effect o).numbers_taken + (operation_effect o).numbers_given ≡ n → b - (operation_effect o).names_taken + (operation_effect o).names_given ≡ m → (operation_effect o).variables ≡ 0 → Comes a b c (One o) n m
+  pub op : {a b c n m : ℕ} (o : Op) → Reaches o (height (a + r) b c (d + s)) → a - (operation_effect o).numbers_taken + (operation_effect o).numbers_given ≡ n → b - (operation_effect o).names_taken + (operation_effect o).names_given ≡ m → (operation_effect o).variables ≡ 0 → Comes a b c (One o) n m
   op {c = c} {n = n} {m = m} o reaches numbers references none =
       let more = c + (operation_effect o).temporaries in
       record { more = more; most = omega arith; types = (reaches, heights_same _ _ _ _ n m more d numbers references refl (omega (arith, none))) }

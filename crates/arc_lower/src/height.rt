@@ -1,10 +1,10 @@
 //! How many numbers, references, temporaries and variables that name objects the running function has before each
 //! action, and the most.
-ghost use Rattle.std.specs.Prelude.{◌≡◌, IfOk};
+ghost use Rattle.std.specs.Prelude.{◌≡◌, IfOk, drop, get_or, reverse};
 ghost use Rattle.arc_code.specs.Effects.{no_height};
 ghost use Rattle.arc_check.specs.Checked.{program_of};
 ghost use Rattle.arc_lower.specs.Order.{order, orders};
-ghost use Rattle.arc_lower.specs.Heights.{between, highest, after_effect, next_height, heights, greatest};
+ghost use Rattle.arc_lower.specs.Heights.{between, highest, after_effect, walk, next_walk, heights, greatest};
 
 use crate::call::slots_of;
 use crate::variable::add_operands;
@@ -13,6 +13,7 @@ use arc_code::effect::{Effect, Height, instr_effect};
 use arc_code::instr::Instr;
 use arc_ir::action::Action;
 use arc_spec::event::NoMemory;
+use std::alloc::Global;
 
 /// The height of a function that has nothing yet.
 pub(crate) fn no_height() -> Height
@@ -60,21 +61,40 @@ fn after_effect(before: Height, taken: usize, effect: Effect) -> Result<Height, 
     })
 }
 
-/// The height before the next action, in a function with the height `base` between two statements.
+/// Takes away the height at which the part begins that the last test may lead to; `base` where
+/// there is no such part.
+fn take_part(pending: &mut Vec<Height>, base: Height) -> Height
+    ensures part { result ≡ get_or (reverse pending.old.items) 0 base }
+    ensures others { reverse pending.new.items ≡ drop 1 (reverse pending.old.items) }
+{
+    pending.pop().unwrap_or(base)
+}
+
+/// The height before the next action, in a function with the height `base` between two statements;
+/// `pending` are the heights at which the parts begin that the tests before it may lead to.
 /// NoMemory: no stack has so many numbers, references or places.
 fn next_height(
     program: &Checked,
     base: Height,
     action: &Action,
     before: Height,
+    pending: &mut Vec<Height>,
 ) -> Result<Height, NoMemory>
-    ensures { IfOk result (λ next. next ≡ next_height (program_of program.now) base (order action.now) before) }
+    ensures { IfOk result (λ next. walk next (reverse pending.new.items) ≡ next_walk (program_of program.now) base (order action.now) (walk before (reverse pending.old.items))) }
 {
     let Some(effect) = instr_effect(action) else {
         return Err(NoMemory);
     };
     match action {
-        Instr::Jump(_) => Ok(base),
+        Instr::Jump(_) => Ok(Height {
+            temporaries: before.temporaries,
+            ..take_part(pending, base)
+        }),
+        Instr::JumpZero(_) => {
+            let next = after_effect(before, effect.numbers_taken, effect)?;
+            pending.push(next)?;
+            Ok(next)
+        }
         Instr::DropAll => Ok(Height {
             temporaries: 0,
             ..before
@@ -84,7 +104,7 @@ fn next_height(
             ..base
         }),
         Instr::Call(function) => after_effect(before, slots_of(program, *function), effect),
-        Instr::Plain(_) | Instr::PrintText(_) | Instr::JumpZero(_) | Instr::EndStep => {
+        Instr::Plain(_) | Instr::PrintText(_) | Instr::EndStep => {
             after_effect(before, effect.numbers_taken, effect)
         }
         Instr::Send(_, _) | Instr::SendSuper(_, _, _) => {
@@ -102,6 +122,7 @@ fn next_height(
 /// The greatest height before one of these actions, of which the first is at the height `first`, or
 /// `so_far`, where that is greater. NoMemory: no stack has so many numbers, references or places.
 pub(crate) fn greatest(
+    alloc: Global,
     program: &Checked,
     base: Height,
     first: Height,
@@ -111,10 +132,11 @@ pub(crate) fn greatest(
     ensures { IfOk result (λ most. most ≡ greatest (heights (program_of program.now) base first (orders actions.now)) so_far) }
 {
     let mut height = first;
+    let mut pending = Vec::new(alloc);
     let mut most = so_far;
     for action in actions {
         most = highest(most, height);
-        height = next_height(program, base, action, height)?;
+        height = next_height(program, base, action, height, &mut pending)?;
     }
     Ok(most)
 }

@@ -34,7 +34,7 @@ pub fn lower(alloc: Global, program: &Owned) -> Result<Ir, NoMemory>
     let mut actions = Vec::new(alloc);
     let mut entries = Vec::new(alloc);
     let mut most = no_height();
-    let end_step = append_start(&mut actions, program.program, &mut most)?;
+    let end_step = append_start(alloc, &mut actions, program.program, &mut most)?;
     append_functions(
         alloc,
         &mut actions,
@@ -89,6 +89,7 @@ fn append_call_of_main(actions: &mut Vec<Action>, program: &Checked) -> Result<u
 /// Appends where the program begins, and raises the greatest height to its. Gives the number of the
 /// action at which the ends of objects go on.
 fn append_start(
+    alloc: Global,
     actions: &mut Vec<Action>,
     program: &Checked,
     most: &mut Height,
@@ -100,7 +101,7 @@ fn append_start(
     let begin = actions.len();
     let end_step = append_call_of_main(actions, program)?;
     let base = no_height();
-    *most = greatest(program, base, base, &actions[begin..], *most)?;
+    *most = greatest(alloc, program, base, base, &actions[begin..], *most)?;
     Ok(end_step)
 }
 
@@ -159,7 +160,7 @@ fn append_function(
     append_exit_and_body(alloc, actions, entries, program, function)?;
     let base = between(function.slots, function.names);
     let left = between(one_more(function.slots)?, function.names);
-    *most = greatest(program, base, left, &actions[begin..], *most)?;
+    *most = greatest(alloc, program, base, left, &actions[begin..], *most)?;
     Ok(())
 }
 

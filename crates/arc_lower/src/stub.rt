@@ -60,6 +60,7 @@ fn append_jump_to(
 /// Appends the stub of a function that is passed `count` numbers, and raises the greatest height to
 /// its.
 fn append_stub(
+    alloc: Global,
     actions: &mut Vec<Action>,
     program: &Checked,
     entries: &[usize],
@@ -73,7 +74,7 @@ fn append_stub(
     let begin = actions.len();
     append_jump_to(actions, program, entries, count, function)?;
     let first = between(count, 0);
-    *most = greatest(program, no_height(), first, &actions[begin..], *most)?;
+    *most = greatest(alloc, program, no_height(), first, &actions[begin..], *most)?;
     Ok(())
 }
 
@@ -100,7 +101,7 @@ fn append_methods(
             runs: actions.len(),
         })?;
         let count = numbers_passed(method.sign, method.takes)?;
-        append_stub(actions, program, entries, count, method.runs, most)?;
+        append_stub(alloc, actions, program, entries, count, method.runs, most)?;
     }
     Ok(linked)
 }
@@ -108,6 +109,7 @@ fn append_methods(
 /// Appends the stub of a dealloc, where there is one, and raises the greatest height to its. Gives
 /// its place.
 fn append_dealloc(
+    alloc: Global,
     actions: &mut Vec<Action>,
     program: &Checked,
     entries: &[usize],
@@ -122,7 +124,7 @@ fn append_dealloc(
         return Ok(None);
     };
     let place = actions.len();
-    append_stub(actions, program, entries, 0, function, most)?;
+    append_stub(alloc, actions, program, entries, 0, function, most)?;
     Ok(Some(place))
 }
 
@@ -139,7 +141,7 @@ fn append_class(
     ensures linked { IfOk result (λ linked. class_of linked ≡ linked_class (program_of program.now) entries.now (length (orders actions.old.items)) (class_of class.now)) }
     ensures most { OnOk result (most.new ≡ greatest (class_heights (program_of program.now) entries.now (class_of class.now)) most.old) }
 {
-    let dealloc = append_dealloc(actions, program, entries, class.dealloc, most)?;
+    let dealloc = append_dealloc(alloc, actions, program, entries, class.dealloc, most)?;
     let methods = append_methods(alloc, actions, program, entries, &class.methods, most)?;
     Ok(Class {
         superclass: class.superclass,

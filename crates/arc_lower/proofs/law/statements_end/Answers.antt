@@ -1,4 +1,4 @@
-use Rattle.std.proofs.Common.{[], refl, ap}
+use Rattle.std.proofs.Common.{true, [], refl, ap}
 use Rattle.arc_lower.specs.Lowered.{command_block}
 use Rattle.arc_lower.specs.Heights.{Walk, between}
 use Rattle.arc_lower.proofs.HeightsEnd.{block_ends}
