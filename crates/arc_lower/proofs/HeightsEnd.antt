@@ -1,5 +1,5 @@
 -- Where a walk over the orders of a block ends: at the height that its type says, and with the parts before it that tests may lead to.
-use Rattle.std.proofs.Common.{◌≡◌, ℕ, suc, ◌+◌, ◌≤◌, Bool, true, false, List, [], ◌∷◌, ◌++◌, length, drop, get_or, refl, sym, ap, ◌∙◌, subst, arith}
+use Rattle.std.proofs.Common.{◌≡◌, ℕ, suc, ◌+◌, ◌≤◌, Bool, true, false, List, [], ◌∷◌, ◌++◌, length, drop, get_or, refl, sym, ap, ◌∙◌, arith}
 use Rattle.std.proofs.lemmas.Bool.{ltb-false, true≢false}
 use Rattle.std.specs.List.{list_any}
 use Rattle.arc_spec.specs.Resolved.{Program}
@@ -25,7 +25,7 @@ module _ (P : Program) (r s slots names exit : ℕ) where
   abbrev test : Height
   test = tested slots names
 
-  -- what is behind a choice stands between two statements
+  -- what stands after a choice stands between two statements
   pub chosen_same : (to : Target) → next_height P (JumpZero to) test ≡ base
   chosen_same to = heights_same _ _ _ _ slots 0 0 names (omega arith) (omega arith) (omega arith) (omega arith)
 
@@ -57,7 +57,7 @@ module _ (P : Program) (r s slots names exit : ℕ) where
     keeps_then true before after last first next = (first.0, first.1, next.2)
     keeps_then false before after last first next = first ∙ next
 
-    -- a test leads to one more, and the jump behind the first part to that
+    -- a test leads to one more, and the jump after its first part to that
     pub keeps_test : (statement : Bool) (i : Height) (before : List Height) → Leaves P r s slots names exit statement i → Keeps statement before before → Keeps statement (i ∷ before) (i ∷ before)
     keeps_test true i before leaves keeps = (keeps.0, (leaves, keeps.1), (leaves, keeps.1))
     keeps_test false i before leaves keeps = refl
@@ -94,7 +94,7 @@ module _ (P : Program) (r s slots names exit : ℕ) where
         let two = block_ends statement y (with_temporaries i t.1) g (drop 1 one.0) (keeps_on statement pending (drop 1 one.0) left) t.5 in (
           two.0,
           ap (λ n. last_walk P from (walk n (n ∷ pending)) (xs ++ rest)) t.2.left ∙ last_append P from (walk i (i ∷ pending)) xs rest ∙ ap (λ w. last_walk P from w rest) one.1
-          ∙ ap (λ n. last_walk P from (walk n (drop 1 one.0)) ys) (part_same statement i m pending one.0 t.3 one.2) ∙ two.1,
+              ∙ ap (λ n. last_walk P from (walk n (drop 1 one.0)) ys) (part_same statement i m pending one.0 t.3 one.2) ∙ two.1,
           keeps_then statement pending (drop 1 one.0) two.0 left two.2,
         )
     block_ends true (Loop x y) h g pending keeps t =
@@ -106,8 +106,8 @@ module _ (P : Program) (r s slots names exit : ℕ) where
         let two = block_ends true y base base (base ∷ one.0) (keeps.0, (refl, one.2.2), (refl, one.2.2)) t.3 in (
           drop 1 two.0,
           ap (λ n. last_walk P from (walk n pending) (ts ++ (JumpZero to ∷ (xs ++ again)))) t.1 ∙ last_append P from (walk base pending) ts (JumpZero to ∷ (xs ++ again)) ∙ ap (λ w. last_walk P from w (JumpZero to ∷ (xs ++ again))) one.1
-          ∙ ap (λ n. last_walk P from (walk n (n ∷ one.0)) (xs ++ again)) (chosen_same to) ∙ last_append P from (walk base (base ∷ one.0)) xs again ∙ ap (λ w. last_walk P from w again) two.1
-          ∙ ap (λ n. walk (with_temporaries n 0) (drop 1 two.0)) (first_base from two.0 keeps.0 two.2.2) ∙ ap (λ n. walk n (drop 1 two.0)) (sym t.4),
+              ∙ ap (λ n. last_walk P from (walk n (n ∷ one.0)) (xs ++ again)) (chosen_same to) ∙ last_append P from (walk base (base ∷ one.0)) xs again ∙ ap (λ w. last_walk P from w again) two.1
+              ∙ ap (λ n. walk (with_temporaries n 0) (drop 1 two.0)) (first_base from two.0 keeps.0 two.2.2) ∙ ap (λ n. walk n (drop 1 two.0)) (sym t.4),
           (keeps.0, keeps.1, rest_base two.0 two.2.2),
         )
     block_ends true (Leave to) h g pending keeps t = (
@@ -124,7 +124,7 @@ module _ (P : Program) (r s slots names exit : ℕ) where
         let two = exactly pending t.0 y t.1 (block_ends false y t.0 t.1 pending refl t.3) in (
           pending,
           last_append P from (walk h pending) xs (ys ++ drop_orders xs) ∙ ap (λ w. last_walk P from w (ys ++ drop_orders xs)) one
-          ∙ last_append P from (walk t.0 pending) ys (drop_orders xs) ∙ ap (λ w. last_walk P from w (drop_orders xs)) two ∙ types_last P r s from t.1 pending (drop_orders xs) g t.4,
+              ∙ last_append P from (walk t.0 pending) ys (drop_orders xs) ∙ ap (λ w. last_walk P from w (drop_orders xs)) two ∙ types_last P r s from t.1 pending (drop_orders xs) g t.4,
           keeps,
         )
     block_ends statement x h g pending keeps t = (pending, types_last P r s from h pending (flat P slots names x) g t, keeps)
