@@ -12,7 +12,7 @@ use Rattle.arc_ast.specs.declared.tree.Interface.{Interface}
 use Rattle.arc_ast.specs.declared.tree.Method.{Method}
 use Rattle.arc_ast.specs.declared.tree.Field.{Field}
 use Rattle.arc_ast.specs.declared.tree.Sign.{Sign}
-use Rattle.arc_ast.specs.Tree.{HeadTree, FieldTree, InterfaceTree, ImplementationTree, UnitTree, head_tree, method_trees, field_trees, interface_tree, interface_trees, implementation_tree, implementation_trees, function_trees, head_trees}
+use Rattle.arc_ast.specs.Tree.{FunctionTree, HeadTree, FieldTree, InterfaceTree, ImplementationTree, UnitTree, head_tree, method_trees, field_trees, interface_tree, interface_trees, implementation_tree, implementation_trees, function_tree, function_trees, head_trees}
 use Rattle.arc_class.specs.declared.kept.Implemented.{Implemented}
 use Rattle.arc_class.specs.declared.table.Place.{Place}
 use Rattle.arc_class.specs.Walk.{and_name}
