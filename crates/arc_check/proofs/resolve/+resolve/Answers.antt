@@ -123,7 +123,7 @@ message-returns-in_ok-class_message-in-Some t c = λ at part.
     let class = c.class_receiver-class.ensures in
     let passed = c.in_ok-all.ensures ∙ ap (λ k. resolved_all s (Some k) args) (c.parameters_passed.ensures ∙ ap (λ g. s.known.passed g name) (c.receiver_sign.ensures ∙ ap resolving.receiver_sign class)) in
     resolves_class s at part r name args (number_of_class c.in-Some.class) (checked.values c.in_ok-all.all.items) (record { class = c.sent_class.result; value = c.in_ok-class_message-in-Some.field-0 })
-    (ap (option_map number_of_class) c.in-Some.is ∙ class) passed c.sent_class.ensures (c.in_ok-class_message-in-Some.ensures c.args.visible.now (class_of s r) (resolved s r))
+    (sym (ap (option_map number_of_class) c.in-Some.is) ∙ class) passed c.sent_class.ensures (c.in_ok-class_message-in-Some.ensures c.args.visible.now (class_of s r) (resolved s r))
 
 pub message-returns-in_ok-object_message-in-None : goal.message-returns-in_ok-object_message-in-None
 message-returns-in_ok-object_message-in-None t c = λ at part.
@@ -134,7 +134,7 @@ message-returns-in_ok-object_message-in-None t c = λ at part.
     let class = c.class_receiver-class.ensures in
     let passed = c.in_ok-all.ensures ∙ ap (λ k. resolved_all s (Some k) args) (c.parameters_passed.ensures ∙ ap (λ g. s.known.passed g name) (c.receiver_sign.ensures ∙ ap resolving.receiver_sign class)) in
     resolves_object s at part r name args c.in_ok-object-in-None.object (record { class = c.sent_class-in-None.result; value = c.in_ok-object_message-in-None.field-0 }) (checked.values c.in_ok-all.all.items)
-    (ap (option_map number_of_class) c.in-None.is ∙ class) c.in_ok-object-in-None.ensures passed c.sent_class-in-None.ensures (c.in_ok-object_message-in-None.ensures c.args.visible.now r)
+    (sym (ap (option_map number_of_class) c.in-None.is) ∙ class) c.in_ok-object-in-None.ensures passed c.sent_class-in-None.ensures (c.in_ok-object_message-in-None.ensures c.args.visible.now r)
 
 pub super_message-returns : goal.super_message-returns
 super_message-returns t c = λ at part super_at.
