@@ -25,8 +25,8 @@ append_command-returns-in_ok-append_commands-in-Sequence t c =
     in
     subst (λ l. OnOk c.append_all_empty.result (orders c.append_all_empty.new.actions.items ≡ l)) e c.append_all_empty.ensures
 
-pub append_command-returns-in-Choose : goal.append_command-returns-in-Choose
-append_command-returns-in-Choose t c =
+pub append_command-returns-in_ok-append_command-in-Choose-2 : goal.append_command-returns-in_ok-append_command-in-Choose-2
+append_command-returns-in_ok-append_command-in-Choose-2 t c =
     let P = program_of c.args.program.now in
     let body = c.args.body in
     let old = orders c.args.actions.now.items in
@@ -59,7 +59,7 @@ append_command-returns-in_ok-append-in-Repeat-2 t c =
     let made = λ (s : _). command_block body.exit (command s) in
     let test = whole_orders P body.slots body.names (value c.in-Repeat.test) in
     let turn = flat_here (made c.deref-in-Repeat.result.now) in
-    c.replace-in-Repeat.ensures
+    c.replace.ensures
     ∙ patch_loop old (orders v1.items) (orders c.append-in-Repeat.new.actions.items) (orders v3.items) (orders c.append-in-Repeat-2.new.actions.items) test turn c.len-begin.result c.len-branch-in-Repeat.result c.len-again.result c.in_ok-past_turn-in-Repeat.past_turn c.in_ok-back-in-Repeat.back (c.len-begin.ensures ∙ v0.ok.0 ∙ sym (length-map v0.items order)) c.in_ok-append_whole-in-Repeat.ensures (c.len-branch-in-Repeat.ensures ∙ v1.ok.0 ∙ sym (length-map v1.items order)) c.in_ok-append-in-Repeat.ensures c.in_ok-append_command-in-Repeat.ensures (c.len-again.ensures ∙ v3.ok.0 ∙ sym (length-map v3.items order)) c.in_ok-past_turn-in-Repeat.ensures c.in_ok-back-in-Repeat.ensures c.in_ok-append-in-Repeat-2.ensures
     ∙ ap (λ b. old ++ flat_here (Loop (whole_block (value c.in-Repeat.test)) (made b))) c.deref-in-Repeat.ensures
     ∙ ap (λ s. old ++ flat_here (made s)) (sym c.in-Repeat.is)
