@@ -53,6 +53,7 @@ mutual
     Unary : ℕ → UnaryOperator → ExprTree → ExprTree
     Cast : ℕ → TypeTree → ExprTree → ExprTree
     Binary : ℕ → BinaryOperator → ExprTree → ExprTree → ExprTree
+    Conditional : ℕ → ExprTree → ExprTree → ExprTree → ExprTree
     Arrow : ℕ → ℕ → ExprTree → List ℕ → ExprTree
     Assign : ℕ → ℕ → ExprTree → ExprTree → ExprTree
     Send : ℕ → ℕ → ExprTree → List ℕ → ExprTrees → ExprTree
@@ -156,6 +157,7 @@ begins (Name at _) = at
 begins (Unary at _ _) = at
 begins (Cast at _ _) = at
 begins (Binary at _ _ _) = at
+begins (Conditional at _ _ _) = at
 begins (Arrow at _ _ _) = at
 begins (Assign at _ _ _) = at
 begins (Send at _ _ _ _) = at
@@ -174,6 +176,7 @@ place (Name at _) = at
 place (Unary at _ _) = at
 place (Cast at _ _) = at
 place (Binary at _ _ _) = at
+place (Conditional at _ _ _) = at
 place (Arrow _ name _ _) = name
 place (Assign _ sign _ _) = sign
 place (Send _ part _ _ _) = part
@@ -204,6 +207,7 @@ abbrev mutual
   expr_tree (e.Unary' at operator q a) = Unary at operator (expr_tree a)
   expr_tree (e.Cast' at type q a) = Cast at (type_tree type) (expr_tree a)
   expr_tree (e.Binary' at operator q a r b) = Binary at operator (expr_tree a) (expr_tree b)
+  expr_tree (e.Conditional' at q c r a u b) = Conditional at (expr_tree c) (expr_tree a) (expr_tree b)
   expr_tree (e.Arrow' at name_at q a name) = Arrow at name_at (expr_tree a) name.items
   expr_tree (e.Assign' at sign q a r b) = Assign at sign (expr_tree a) (expr_tree b)
   expr_tree (e.Send' at part q a selector shape args) = Send at part (expr_tree a) selector.items (row_exprs args)

@@ -39,6 +39,8 @@ pub enum BinaryOperator {
     BitAnd,
     BitXor,
     BitOr,
+    And,
+    Or,
 }
 
 /// An operator before its operand (C99, section 6.5.3.3).
@@ -61,6 +63,9 @@ pub enum OperatorSort {
     Relation,
     /// Two numbers as for a relation, or two objects; the answer is an `int`.
     Equality,
+    /// Two numbers or objects, of which the second is evaluated only where the first leaves the answer open; the
+    /// answer is an `int`.
+    Logic,
 }
 
 /// The sort of an operator, in which all rules but that of its value are told.
@@ -82,6 +87,7 @@ pub fn operator_sort(operator: BinaryOperator) -> OperatorSort
         | BinaryOperator::Greater
         | BinaryOperator::GreaterOrEqual => OperatorSort::Relation,
         BinaryOperator::Equal | BinaryOperator::NotEqual => OperatorSort::Equality,
+        BinaryOperator::And | BinaryOperator::Or => OperatorSort::Logic,
     }
 }
 
@@ -147,6 +153,8 @@ pub enum Expr {
     Unary(usize, UnaryOperator, Box<Expr>),
     Cast(usize, TypeName, Box<Expr>),
     Binary(usize, BinaryOperator, Box<Expr>, Box<Expr>),
+    /// One of two expressions, by a test: the test, what it gives where that holds, and what else.
+    Conditional(usize, Box<Expr>, Box<Expr>, Box<Expr>),
     /// A field of an object: the place of its first byte and that of the field's name, the object, and
     /// the name.
     Arrow(usize, usize, Box<Expr>, Vec<u8>),

@@ -1,5 +1,5 @@
 -- What is built of expressions and statements.
-use Rattle.std.proofs.Common.{◌≡◌, ℕ, ◌+◌, ◌<◌, ◌≤◌, Bool, true, List, [], ◌∷◌, ◌++◌, length, get_or, drop, None, option_map, refl, sym, ap, ◌∙◌, arith}
+use Rattle.std.proofs.Common.{◌≡◌, ℕ, ◌+◌, ◌<◌, ◌≤◌, List, [], ◌∷◌, ◌++◌, length, get_or, drop, Option, None, option_map, refl, sym, ap, ◌∙◌, arith}
 use Rattle.arc_ast.specs.declared.tree.Expr.{Expr}
 use Rattle.arc_ast.specs.declared.tree.Kind.{Kind}
 use Rattle.arc_ast.specs.Tree.{ExprTrees, Call, expr_tree, expr_trees}
@@ -15,8 +15,8 @@ use Rattle.arc_check.specs.private.Building.{Resolves, resolution, in_front, pri
 use Rattle.arc_check.specs.declared.callee.Callee.{Callee}
 use Rattle.arc_check.specs.declared.resolution.Typed.{Typed}
 use Rattle.arc_check.specs.Resolving as resolving
-use Rattle.arc_check.specs.Resolving.{Gives, argument, called, resolved_all, text_of}
-use Rattle.arc_check.specs.Scopes.{Scope, callee, result_kind, is_printf}
+use Rattle.arc_check.specs.Resolving.{Gives, first_wanted, argument, wanted_by, called, resolved_all, text_of}
+use Rattle.arc_check.specs.Scopes.{Scope, callee, result_kind}
 use Rattle.arc_check.proofs.Lists.{drop_turn, drop_end}
 
 in_front-push : (all : List Value) (a : Value) (others : Values) → in_front (all ++ a ∷ []) others ≡ in_front all (and_value (checked.value a) others)
@@ -28,22 +28,25 @@ in_front-none [] = refl
 in_front-none (b ∷ all) = ap (and_value (checked.value b)) (in_front-none all)
 
 -- one argument more
-pub values_turn : (s : Scope) (p : Bool) (xs : List Expr) (i : ℕ) (x : Expr) (old new : List Value) (a : Value) (whole : Values) → i < length xs → x ≡ get_or xs i x
-    → whole ≡ in_front old (resolved_all s p (expr_trees (drop i xs))) → new ≡ old ++ a ∷ [] → checked.value a ≡ argument p (resolving.resolved s (expr_tree x)) → whole ≡ in_front new (resolved_all s p (expr_trees (drop (i + 1) xs)))
-values_turn s p xs i x old new a whole l e w n h =
-    let rest = resolved_all s p (expr_trees (drop (i + 1) xs)) in
+pub values_turn : (s : Scope) (p q : Option (List Kind)) (xs : List Expr) (i : ℕ) (x : Expr) (old new : List Value) (a : Value) (whole : Values) → i < length xs → x ≡ get_or xs i x
+    → whole ≡ in_front old (resolved_all s p (expr_trees (drop i xs))) → new ≡ old ++ a ∷ [] → checked.value a ≡ argument (first_wanted p) (resolving.resolved s (expr_tree x)) → q ≡ option_map (drop 1) p
+    → whole ≡ in_front new (resolved_all s q (expr_trees (drop (i + 1) xs)))
+values_turn s p q xs i x old new a whole l e w n h d =
+    let others = expr_trees (drop (i + 1) xs) in
+    let rest = resolved_all s (option_map (drop 1) p) others in
     w ∙ ap (λ us. in_front old (resolved_all s p (expr_trees us))) (drop_turn xs i x l e) ∙ ap (λ v. in_front old (and_value v rest)) (sym h) ∙ sym (in_front-push old a rest) ∙ ap (λ us. in_front us rest) (sym n)
+    ∙ ap (λ k. in_front new (resolved_all s k others)) (sym d)
 
-pub values_end : (s : Scope) (p : Bool) (xs : List Expr) (i : ℕ) (all : List Value) (whole : Values) → length xs ≤ i → whole ≡ in_front all (resolved_all s p (expr_trees (drop i xs))) → checked.values all ≡ whole
+pub values_end : (s : Scope) (p : Option (List Kind)) (xs : List Expr) (i : ℕ) (all : List Value) (whole : Values) → length xs ≤ i → whole ≡ in_front all (resolved_all s p (expr_trees (drop i xs))) → checked.values all ≡ whole
 values_end s p xs i all whole l w = sym (w ∙ ap (λ us. in_front all (resolved_all s p (expr_trees us))) (drop_end xs i l) ∙ in_front-none all)
 
 -- ---- calls of printf
 
 pub printing_some : (s : Scope) (all : List Expr) (one : Expr) (others : List Expr) (format : List ℕ) (pieces : List Piece) (values : List Value) → all ≡ one ∷ others → format ≡ text_of (expr_tree one)
-    → checked.pieces pieces ≡ printed (parts Nothing format) → checked.values values ≡ resolved_all s true (expr_trees others) → resolved.Print (checked.pieces pieces) (checked.values values) ≡ printing s (expr_trees all)
+    → checked.pieces pieces ≡ printed (parts Nothing format) → checked.values values ≡ resolved_all s None (expr_trees others) → resolved.Print (checked.pieces pieces) (checked.values values) ≡ printing s (expr_trees all)
 printing_some s all one others format pieces values e f p v = rw (p, v, e, f) refl
 
-pub printing_none : (s : Scope) (all : List Expr) (pieces : List Piece) (values : List Value) → length all ≡ 0 → pieces ≡ [] → checked.values values ≡ resolved_all s true (expr_trees all)
+pub printing_none : (s : Scope) (all : List Expr) (pieces : List Piece) (values : List Value) → length all ≡ 0 → pieces ≡ [] → checked.values values ≡ resolved_all s None (expr_trees all)
     → resolved.Print (checked.pieces pieces) (checked.values values) ≡ printing s (expr_trees all)
 printing_none s [] pieces values l p v = rw (p, v) refl
 printing_none s (a ∷ all) pieces values l p v = absurd (omega arith)
@@ -51,8 +54,8 @@ printing_none s (a ∷ all) pieces values l p v = absurd (omega arith)
 -- ---- calls
 
 pub resolves_call : (s : Scope) (at : ℕ) (name : List ℕ) (arguments : ExprTrees) (function : Callee) (kind : Kind) (value : Value) (typed : Typed) → callee s.known name ≡ function → kind ≡ result_kind function
-    → checked.value value ≡ called function arguments (resolved_all s (is_printf function) arguments) → typed.class ≡ None → resolution typed.value ≡ Gives kind (checked.value value) → Resolves s (Call at name arguments) typed
+    → checked.value value ≡ called function arguments (resolved_all s (wanted_by function (s.known.parameters name)) arguments) → typed.class ≡ None → resolution typed.value ≡ Gives kind (checked.value value) → Resolves s (Call at name arguments) typed
 resolves_call s at name arguments function kind value typed e k v c w = record {
   class = ap (option_map number_of_class) c;
-  value = w ∙ ap (λ x. Gives x (checked.value value)) k ∙ ap (Gives (result_kind function)) v ∙ ap (λ f. Gives (result_kind f) (called f arguments (resolved_all s (is_printf f) arguments))) (sym e);
+  value = w ∙ ap (λ x. Gives x (checked.value value)) k ∙ ap (Gives (result_kind function)) v ∙ ap (λ f. Gives (result_kind f) (called f arguments (resolved_all s (wanted_by f (s.known.parameters name)) arguments))) (sym e);
 }

@@ -6,8 +6,9 @@ use Rattle.arc_ast.specs.declared.tree.Expr as ast
 use Rattle.arc_ast.specs.declared.tree.Expr.{Expr}
 use Rattle.arc_ast.specs.declared.tree.UnaryOperator.{UnaryOperator}
 use Rattle.arc_ast.specs.declared.tree.BinaryOperator.{BinaryOperator}
+use Rattle.arc_ast.specs.declared.tree.OperatorSort.TheVariants.{Equality}
 use Rattle.arc_ast.specs.Operators.{sort_of}
-use Rattle.arc_ast.specs.Tree.{ExprTree, ExprTrees, Arrow, Assign, Binary, Cast, Itself, Send, Unary, SendSuper, TypeTree, expr_tree, expr_trees, place}
+use Rattle.arc_ast.specs.Tree.{ExprTree, ExprTrees, Arrow, Assign, Binary, Cast, Conditional, Itself, Send, Unary, SendSuper, TypeTree, expr_tree, expr_trees, place}
 use Rattle.arc_ast.specs.Types.{type_kind}
 use Rattle.arc_class.specs.Broken.{broken_if, Broken, first, earlier_of}
 use Rattle.arc_class.specs.Table.{number_of_class}
@@ -23,8 +24,8 @@ use Rattle.arc_check.specs.declared.taken.Taken.{Taken}
 use Rattle.arc_check.specs.Fault.{told}
 use Rattle.arc_check.specs.Formats.{fits}
 use Rattle.arc_check.specs.private.Judging.{Judges, JudgesCall, JudgesWhole, counted, none_counted, other_rule}
-use Rattle.arc_check.specs.Rules.{all_taken, arrow_kind, at_if, binary_kind, broken, broken_arguments, broken_at, broken_field, call_rule, is_assignable, is_object, is_unread, kind_if, kind_of, kinds, message_kind, no_left, no_method, no_number, no_object, no_right, no_such, number_kind, taken, no_operand, unary_kind}
-use Rattle.arc_check.specs.Scopes.{Scope, callee, class_of, class_receiver, is_printf, own_class, result_kind, sent_class, static_class, super_class, super_kind}
+use Rattle.arc_check.specs.Rules.{all_taken, arrow_kind, at_if, binary_kind, broken, broken_arguments, broken_at, broken_field, call_rule, either_kind, is_assignable, is_object, is_unread, kind_if, kind_of, kinds, message_kind, no_left, no_method, no_number, no_object, no_right, no_such, no_value, number_kind, taken, no_operand, unary_kind}
+use Rattle.arc_check.specs.Scopes.{Scope, callee, class_of, class_receiver, either_class, is_nil, is_printf, own_class, result_kind, sent_class, static_class, super_class, super_kind}
 use Rattle.arc_check.proofs.Counting.{counted_both, past_is}
 use Rattle.arc_check.proofs.Lists.{drop_turn}
 use Rattle.arc_ast.proofs.Trees.{call_tree, send_tree, send_super_tree}
@@ -125,6 +126,26 @@ judges_arrow s before at name_at a name judged new here found j p w k c f t =
           (with_rule s (broken s a) a no_object (option_map told judged.fault) _ judged.kind here j.fault j.kind p refl)
           (ap (λ o. first (broken_field s o found name_at)) j.kind ∙ ap (λ o. first (broken_field s (kind_of s a) o name_at)) is) f;
       taken = t ∙ j.taken;
+    }
+
+pub judges_choice : (s : Scope) (before : Taken) (at : ℕ) (c a b : ExprTree) (test one other new : Judged) (test_at one_at other_at : ℕ) → Judges s before c test → Judges s test.taken a one → Judges s one.taken b other → test_at ≡ place c → one_at ≡ place a → other_at ≡ place b
+    → new.kind ≡ either_kind one.kind other.kind → option_map number_of_class new.class ≡ either_class (is_nil a) (is_nil b) (option_map number_of_class one.class) (option_map number_of_class other.class)
+    → option_map told new.fault ≡ earlier_of (earlier_of (option_map told test.fault) (first (no_value test.kind test_at))) (earlier_of (earlier_of (option_map told one.fault) (first (no_left Equality one.kind one_at))) (earlier_of (option_map told other.fault) (first (no_right Equality one.kind other.kind other_at))))
+    → new.taken ≡ other.taken → Judges s before (Conditional at c a b) new
+judges_choice s before at c a b test one other new test_at one_at other_at x y z p q r k n f t =
+    let by_test = earlier_of (option_map told test.fault) (first (no_value test.kind test_at)) in
+    let by_one = earlier_of (option_map told one.fault) (first (no_left Equality one.kind one_at)) in
+    let by_other = earlier_of (option_map told other.fault) (first (no_right Equality one.kind other.kind other_at)) in
+    let broken_a = broken s a ++ no_left Equality (kind_of s a) (place a) in
+    let broken_b = broken s b ++ no_right Equality (kind_of s a) (kind_of s b) (place b) in
+    record {
+      kind = k ∙ ap (λ o. either_kind o other.kind) y.kind ∙ ap (either_kind (kind_of s a)) z.kind;
+      class = n ∙ ap (λ o. either_class (is_nil a) (is_nil b) o (option_map number_of_class other.class)) y.class ∙ ap (either_class (is_nil a) (is_nil b) (class_of s a)) z.class;
+      fault = first_both (broken s c ++ no_value (kind_of s c) (place c)) (broken_a ++ broken_b) by_test (earlier_of by_one by_other) (option_map told new.fault)
+          (with_rule s (broken s c) c no_value (option_map told test.fault) by_test test.kind test_at x.fault x.kind p refl)
+          (first_both broken_a broken_b by_one by_other _ (with_rule s (broken s a) a (no_left Equality) (option_map told one.fault) by_one one.kind one_at y.fault y.kind q refl)
+          (with_rule s (broken s b) b (no_right Equality (kind_of s a)) (option_map told other.fault) by_other other.kind other_at z.fault z.kind r (ap (λ o. earlier_of (option_map told other.fault) (first (no_right Equality o other.kind other_at))) y.kind)) refl) f;
+      taken = t ∙ counted_both before test.taken other.taken (taken s c) (taken s a ++ taken s b) x.taken (counted_both test.taken one.taken other.taken (taken s a) (taken s b) y.taken z.taken);
     }
 
 pub judges_binary : (s : Scope) (before : Taken) (at : ℕ) (operator : BinaryOperator) (a b : ExprTree) (left right both : Judged) (left_at right_at : ℕ) → Judges s before a left → Judges s left.taken b right → left_at ≡ place a → right_at ≡ place b → both.kind ≡ binary_kind (sort_of operator) left.kind right.kind → both.class ≡ None

@@ -44,17 +44,17 @@ refused all fault one e n = refuses all one (sym e ∙ ap (option_map told) n)
 
 -- ---- what a table of a source knows of names
 
-abbrev names : (List ℕ → Option Declared) → (List ℕ → Option ℕ) → (ℕ → Option ℕ) → (Option ℕ → ℕ → Bool) → (Option ℕ → Sign → List ℕ → Option Kind) → (List ℕ → Option Kind) → (List ℕ → Option ℕ) → (Option ℕ → List ℕ → Option FoundField) → Known
-names function class superclass descends result any selector field =
-    record { function = function; class = class; superclass = superclass; descends = descends; result = result; result_of_any = any; selector = selector; field = field }
+abbrev names : (List ℕ → Option Declared) → (List ℕ → List Kind) → (Sign → List ℕ → List Kind) → (List ℕ → Option ℕ) → (ℕ → Option ℕ) → (Option ℕ → ℕ → Bool) → (Option ℕ → Sign → List ℕ → Option Kind) → (List ℕ → Option Kind) → (List ℕ → Option ℕ) → (Option ℕ → List ℕ → Option FoundField) → Known
+names function parameters passed class superclass descends result any selector field =
+    record { function = function; parameters = parameters; passed = passed; class = class; superclass = superclass; descends = descends; result = result; result_of_any = any; selector = selector; field = field }
 
-names_are : (f g : List ℕ → Option Declared) (c d : List ℕ → Option ℕ) (s t : ℕ → Option ℕ) (x y : Option ℕ → ℕ → Bool) (r q : Option ℕ → Sign → List ℕ → Option Kind) (a b : List ℕ → Option Kind) (m n : List ℕ → Option ℕ) (v w : Option ℕ → List ℕ → Option FoundField)
-    → f ≡ g → c ≡ d → s ≡ t → x ≡ y → r ≡ q → a ≡ b → m ≡ n → v ≡ w → names f c s x r a m v ≡ names g d t y q b n w
-names_are f g c d s t x y r q a b m n v w e1 e2 e3 e4 e5 e6 e7 e8 = rw (e1, e2, e3, e4, e5, e6, e7, e8) refl
+names_are : (f g : List ℕ → Option Declared) (h i : List ℕ → List Kind) (j k : Sign → List ℕ → List Kind) (c d : List ℕ → Option ℕ) (s t : ℕ → Option ℕ) (x y : Option ℕ → ℕ → Bool) (r q : Option ℕ → Sign → List ℕ → Option Kind) (a b : List ℕ → Option Kind) (m n : List ℕ → Option ℕ) (v w : Option ℕ → List ℕ → Option FoundField)
+    → f ≡ g → h ≡ i → j ≡ k → c ≡ d → s ≡ t → x ≡ y → r ≡ q → a ≡ b → m ≡ n → v ≡ w → names f h j c s x r a m v ≡ names g i k d t y q b n w
+names_are f g h i j k c d s t x y r q a b m n v w e1 e2 e3 e4 e5 e6 e7 e8 e9 e10 = rw (e1, e2, e3, e4, e5, e6, e7, e8, e9, e10) refl
 
 pub known_is : (u : UnitTree) (table : ClassTable) → IsTableOf u table → known_in table ≡ known_of u
 known_is u table t =
-    names_are _ _ _ _ _ _ _ _ _ _ _ _ _ _ _ _ (fun_ext t.knows) (fun_ext t.numbers) (fun_ext t.superclasses) (ap descends t.classes) (fun_ext (λ from. fun_ext (λ sign. fun_ext (t.results from sign)))) (fun_ext t.any_results) (fun_ext t.selectors)
+    names_are _ _ _ _ _ _ _ _ _ _ _ _ _ _ _ _ _ _ _ _ (fun_ext t.knows) (fun_ext t.parameters) (fun_ext (λ sign. fun_ext (t.passed sign))) (fun_ext t.numbers) (fun_ext t.superclasses) (ap descends t.classes) (fun_ext (λ from. fun_ext (λ sign. fun_ext (t.results from sign)))) (fun_ext t.any_results) (fun_ext t.selectors)
     (fun_ext (λ class. fun_ext (t.named class)))
 
 -- ---- what is told of a source

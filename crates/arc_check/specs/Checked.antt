@@ -12,7 +12,7 @@ use Rattle.arc_check.specs.declared.checked.CheckedFunction.{CheckedFunction}
 use Rattle.arc_check.specs.declared.checked.Checked.{Checked}
 use Rattle.arc_spec.specs.Classes.{classes_of}
 use Rattle.arc_spec.specs.Resolved as resolved
-use Rattle.arc_spec.specs.Resolved.{Number, ReadByte, Print, Applied, Combined, Converted, Local, Assigned, Invoked, Sent, SentSuper, SentTo, SentToSuper, Field, FieldAssigned, Differ, IsObject, Nil, Itself, Variable, Stored, Made, Initialized, no_values, and_value, Sequence, Evaluate, EvaluateReference, Begin, Return, Choose, Repeat, no_commands, and_command, Bytes, Decimal, Character}
+use Rattle.arc_spec.specs.Resolved.{Number, ReadByte, Print, Applied, Combined, Choice, Converted, Local, Assigned, Invoked, Sent, SentSuper, SentTo, SentToSuper, Field, FieldAssigned, Differ, IsObject, Nil, Itself, Variable, Chosen, Stored, Made, Initialized, no_values, and_value, Sequence, Evaluate, EvaluateReference, Begin, Return, Choose, Repeat, no_commands, and_command, Bytes, Decimal, Character}
 
 abbrev pub piece : Piece → resolved.Piece
 piece (p.Bytes bytes) = Bytes bytes.items
@@ -30,6 +30,7 @@ abbrev mutual
   value (v.Print' all shape arguments) = Print (pieces all.items) (row_values arguments)
   value (v.Applied' operator kind q a) = Applied operator kind (value a)
   value (v.Combined' operator kind q a r b) = Combined operator kind (value a) (value b)
+  value (v.Choice' q c r a s b) = Choice (value c) (value a) (value b)
   value (v.Converted' kind q a) = Converted kind (value a)
   value (v.Local i) = Local i
   value (v.Assigned' i q a) = Assigned i (value a)
@@ -47,6 +48,7 @@ abbrev mutual
   reference r.Nil = Nil
   reference r.Itself = Itself
   reference (r.Variable i) = Variable i
+  reference (r.Chosen' q c r a s b) = Chosen (value c) (reference a) (reference b)
   reference (r.Stored' i q a) = Stored i (reference a)
   reference (r.Made' q a) = Made (value a)
   reference (r.Initialized' q a) = Initialized (reference a)

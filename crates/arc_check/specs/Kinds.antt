@@ -3,7 +3,7 @@ use Rattle.std.specs.Prelude.{ℤ, Bool, not, ◌&&◌, int_le, if◌then◌else
 use Rattle.arc_ast.specs.declared.tree.Kind.{Kind}
 use Rattle.arc_ast.specs.declared.tree.Kind.TheVariants as k
 use Rattle.arc_ast.specs.declared.tree.OperatorSort.{OperatorSort}
-use Rattle.arc_ast.specs.declared.tree.OperatorSort.TheVariants.{Shift, Relation, Equality}
+use Rattle.arc_ast.specs.declared.tree.OperatorSort.TheVariants.{Shift, Relation, Equality, Logic}
 use Rattle.arc_check.specs.declared.rule.TheConstants.{LARGEST_INT}
 
 -- an integer without a suffix is an int, where an int can hold it, and any other a long (C99, section 6.4.4.1; there are no unsigned kinds)
@@ -21,8 +21,9 @@ abbrev pub computing_kind : OperatorSort → Kind → Kind → Kind
 computing_kind Shift a b = wider a k.Int
 computing_kind _ a b = wider a b
 
--- the kind of what an operator gives that computes in a kind: a comparison gives an int (C99, sections 6.5.8 and 6.5.9)
+-- the kind of what an operator gives that computes in a kind: a comparison gives an int, and so do `&&` and `||` (C99, sections 6.5.8, 6.5.9, 6.5.13 and 6.5.14)
 abbrev pub given_kind : OperatorSort → Kind → Kind
 given_kind Relation kind = k.Int
 given_kind Equality kind = k.Int
+given_kind Logic kind = k.Int
 given_kind _ kind = kind

@@ -1,5 +1,5 @@
 -- The resolved program of a source that breaks no rule.
-use Rattle.std.specs.Prelude.{ℕ, ◌-◌, pos, Bool, false, List, [], ◌∷◌, ◌++◌, map, flat_map, filter_map, Option, Some, None, option_map, option_and_then, unwrap_or, if◌then◌else◌}
+use Rattle.std.specs.Prelude.{ℕ, ◌-◌, pos, Bool, false, List, [], ◌∷◌, ◌++◌, drop, map, flat_map, filter_map, Option, Some, None, option_map, option_and_then, unwrap_or, if◌then◌else◌}
 use Rattle.std.specs.Option.{option_map_or}
 use Rattle.arc_ast.specs.declared.tree.UnaryOperator.{UnaryOperator}
 use Rattle.arc_ast.specs.declared.tree.UnaryOperator.TheVariants as u
@@ -9,15 +9,15 @@ use Rattle.arc_ast.specs.Operators.{sort_of}
 use Rattle.arc_ast.specs.Types as types
 use Rattle.arc_ast.specs.Types.{type_kind}
 use Rattle.arc_ast.specs.declared.tree.OperatorSort.{OperatorSort}
-use Rattle.arc_ast.specs.declared.tree.OperatorSort.TheVariants.{Equality}
+use Rattle.arc_ast.specs.declared.tree.OperatorSort.TheVariants.{Equality, Logic}
 use Rattle.arc_ast.specs.declared.tree.Kind.{Kind}
 use Rattle.arc_ast.specs.declared.tree.Kind.TheVariants as k
 use Rattle.arc_ast.specs.declared.tree.Sign.{Sign}
 use Rattle.arc_ast.specs.declared.tree.Sign.TheVariants as signs
 use Rattle.arc_ast.specs.Tree as tree
-use Rattle.arc_ast.specs.Tree.{TypeTree, ExprTree, ExprTrees, Integer, Text, Paren, Call, Name, Unary, Cast, Binary, Arrow, Assign, Send, SendSuper, no_exprs, and_expr, VariableTree, StmtTree, StmtTrees, Block, Empty, Simple, Variables, If, IfElse, While, no_stmts, and_stmt, ParameterTree, FunctionTree, MethodTree, ImplementationTree, UnitTree}
+use Rattle.arc_ast.specs.Tree.{TypeTree, ExprTree, ExprTrees, Integer, Text, Paren, Call, Name, Unary, Cast, Binary, Conditional, Arrow, Assign, Send, SendSuper, no_exprs, and_expr, VariableTree, StmtTree, StmtTrees, Block, Empty, Simple, Variables, If, IfElse, While, no_stmts, and_stmt, ParameterTree, FunctionTree, MethodTree, ImplementationTree, UnitTree}
 use Rattle.arc_spec.specs.Classes.{same_sign}
-use Rattle.arc_spec.specs.Resolved.{Value, Reference, Number, ReadByte, Print, Applied, Combined, Converted, Local, Assigned, Invoked, Sent, SentSuper, SentTo, SentToSuper, Field, FieldAssigned, Differ, IsObject, Nil, Itself, Variable, Stored, Made, Initialized, Values, no_values, and_value, Command, Sequence, Evaluate, EvaluateReference, Begin, Return, Choose, Repeat, Commands, no_commands, and_command, Function, Program}
+use Rattle.arc_spec.specs.Resolved.{Value, Reference, Number, ReadByte, Print, Applied, Combined, Choice, Converted, Local, Assigned, Invoked, Sent, SentSuper, SentTo, SentToSuper, Field, FieldAssigned, Differ, IsObject, Nil, Itself, Variable, Chosen, Stored, Made, Initialized, Values, no_values, and_value, Command, Sequence, Evaluate, EvaluateReference, Begin, Return, Choose, Repeat, Commands, no_commands, and_command, Function, Program}
 use Rattle.arc_sites.specs.Sites.{named_parameters}
 use Rattle.arc_class.specs.Running.{classes}
 use Rattle.arc_class.specs.Names.{number_of, is_main}
@@ -105,12 +105,29 @@ abbrev pub equality : BinaryOperator → Resolution → Resolution → Resolutio
 equality operator (Refers a) (Refers b) = Gives k.Int (compared operator (Differ a b))
 equality operator a b = combined operator (wider (kind_in a) (kind_in b)) a b
 
+-- `a || b` is `a ? 1 : (BOOL) b`, and `a && b` is `a ? (BOOL) b : 0` (C99, sections 6.5.13 and 6.5.14)
+abbrev pub logic : BinaryOperator → Value → Value → Value
+logic o.Or a b = Choice a (Number (pos 1)) (Converted k.Bool b)
+logic _ a b = Choice a (Converted k.Bool b) (Number (pos 0))
+
 abbrev pub binary_of : OperatorSort → BinaryOperator → Resolution → Resolution → Resolution
 binary_of Equality operator a b = equality operator a b
+binary_of Logic operator a b = Gives k.Int (logic operator (number_in a) (number_in b))
 binary_of sort operator a b = combined operator (computing_kind sort (kind_in a) (kind_in b)) a b
 
 abbrev pub binary : BinaryOperator → Resolution → Resolution → Resolution
 binary operator a b = binary_of (sort_of operator) operator a b
+
+-- one of two numbers by a test, as numbers of the wider kind (C99, section 6.5.15)
+abbrev pub choice : Value → Resolution → Resolution → Resolution
+choice test a b =
+    let kind = wider (kind_in a) (kind_in b) in
+    Gives kind (Choice test (converted kind a) (converted kind b))
+
+-- one of two objects or numbers
+abbrev pub conditional : Value → Resolution → Resolution → Resolution
+conditional test (Refers a) (Refers b) = Refers (Chosen test a b)
+conditional test a b = choice test a b
 
 -- the bytes of a text
 abbrev pub text_of : ExprTree → List ℕ
@@ -133,9 +150,25 @@ called GetChar arguments all = ReadByte
 called (Defined result count body) arguments all = Invoked (unwrap_or body 0) all
 called Unknown arguments all = ReadByte
 
--- a value that printf prints keeps its kind, and any other argument is an int
-abbrev pub argument : (printed : Bool) → Resolution → Value
-argument printed a = if printed then number_in a else int_in a
+-- The kinds that arguments are converted to: those of the parameters, as if by assignment (C99, section 6.5.2.2, paragraph 7). What printf prints keeps its kind:
+-- None. An argument more, which breaks a rule, is as one for an int.
+abbrev pub first_wanted : Option (List Kind) → Option Kind
+first_wanted None = None
+first_wanted (Some []) = Some k.Int
+first_wanted (Some (kind ∷ others)) = Some kind
+
+abbrev pub argument : Option Kind → Resolution → Value
+argument None a = number_in a
+argument (Some kind) a = converted kind a
+
+-- what a function asks of its arguments
+abbrev pub wanted_by : Callee → List Kind → Option (List Kind)
+wanted_by function kinds = if is_printf function then None else Some kinds
+
+-- the sign of the methods that a message goes to, by the class that its receiver is
+abbrev pub receiver_sign : Option ℕ → Sign
+receiver_sign None = signs.Instance
+receiver_sign (Some class) = signs.Class
 
 -- ---- names, fields and assignments
 
@@ -200,18 +233,19 @@ abbrev mutual
   resolved s (Text at bytes) = Gives k.Int (Number (pos 0))
   resolved s (Paren at a) = resolved s a
   resolved s (Call at name arguments) =
-      Gives (result_kind (callee s.known name)) (called (callee s.known name) arguments (resolved_all s (is_printf (callee s.known name)) arguments))
+      Gives (result_kind (callee s.known name)) (called (callee s.known name) arguments (resolved_all s (wanted_by (callee s.known name) (s.known.parameters name)) arguments))
   resolved s (tree.Nil at) = Refers Nil
   resolved s (tree.Itself at) = Refers Itself
   resolved s (Name at name) = named (s.variables name) (own_field s name)
   resolved s (Unary at operator a) = unary operator (resolved s a)
   resolved s (Cast at type a) = cast (type_kind type) (resolved s a)
   resolved s (Binary at operator a b) = binary operator (resolved s a) (resolved s b)
+  resolved s (Conditional at c a b) = conditional (number_in (resolved s c)) (resolved s a) (resolved s b)
   resolved s (Arrow at name_at a name) = field (object_in (resolved s a)) (s.known.field (class_of s a) name)
   resolved s (Assign at sign a b) = assigned s a (resolved s b)
   resolved s (Send at part receiver selector arguments) =
-      sent s receiver (class_receiver s receiver) (class_of s receiver) (resolved s receiver) selector (resolved_all s false arguments)
-  resolved s (SendSuper at part super_at selector arguments) = sent_super s selector (resolved_all s false arguments)
+      sent s receiver (class_receiver s receiver) (class_of s receiver) (resolved s receiver) selector (resolved_all s (Some (s.known.passed (receiver_sign (class_receiver s receiver)) selector)) arguments)
+  resolved s (SendSuper at part super_at selector arguments) = sent_super s selector (resolved_all s (Some (s.known.passed s.sign selector)) arguments)
 
   -- An assignment to its left side; to `self` it is refused by the rules of ownership, and stands here as what is assigned.
   pub assigned : Scope → ExprTree → Resolution → Resolution
@@ -220,9 +254,9 @@ abbrev mutual
   assigned s (Arrow at name_at a name) b = field_assigned (object_in (resolved s a)) (s.known.field (class_of s a) name) b
   assigned s _ b = b
 
-  pub resolved_all : Scope → (printed : Bool) → ExprTrees → Values
-  resolved_all s printed no_exprs = no_values
-  resolved_all s printed (and_expr a others) = and_value (argument printed (resolved s a)) (resolved_all s printed others)
+  pub resolved_all : Scope → (wanted : Option (List Kind)) → ExprTrees → Values
+  resolved_all s wanted no_exprs = no_values
+  resolved_all s wanted (and_expr a others) = and_value (argument (first_wanted wanted) (resolved s a)) (resolved_all s (option_map (drop 1) wanted) others)
 
 -- ---- statements
 

@@ -7,17 +7,17 @@ use Rattle.arc_ast.specs.declared.tree.Kind.{Kind}
 use Rattle.arc_ast.specs.declared.tree.Kind.TheVariants as k
 use Rattle.arc_ast.specs.Operators.{sort_of}
 use Rattle.arc_ast.specs.declared.tree.OperatorSort.{OperatorSort}
-use Rattle.arc_ast.specs.declared.tree.OperatorSort.TheVariants.{Arithmetic, Shift, Relation, Equality}
+use Rattle.arc_ast.specs.declared.tree.OperatorSort.TheVariants.{Arithmetic, Shift, Relation, Equality, Logic}
 use Rattle.arc_ast.specs.Types.{type_kind}
 use Rattle.arc_ast.specs.Types as types
-use Rattle.arc_ast.specs.Tree.{TypeTree, ExprTree, ExprTrees, Integer, Text, Paren, Call, Nil, Itself, Name, Unary, Cast, Binary, Arrow, Assign, Send, SendSuper, no_exprs, and_expr, place, VariableTree, StmtTree, StmtTrees, Block, Empty, Simple, Return, Variables, If, IfElse, While, no_stmts, and_stmt, ParameterTree, FunctionTree, HeadTree, MethodTree, InterfaceTree, ImplementationTree, UnitTree}
+use Rattle.arc_ast.specs.Tree.{TypeTree, ExprTree, ExprTrees, Integer, Text, Paren, Call, Nil, Itself, Name, Unary, Cast, Binary, Conditional, Arrow, Assign, Send, SendSuper, no_exprs, and_expr, place, VariableTree, StmtTree, StmtTrees, Block, Empty, Simple, Return, Variables, If, IfElse, While, no_stmts, and_stmt, ParameterTree, FunctionTree, HeadTree, MethodTree, InterfaceTree, ImplementationTree, UnitTree}
 use Rattle.arc_class.specs.Broken.{broken_if, Broken}
 use Rattle.arc_sites.specs.Sites.{named_parameters}
-use Rattle.arc_class.specs.Classes.{class_number, superclass, known_result, any_result, selector_number}
+use Rattle.arc_class.specs.Classes.{kinds_passed, class_number, superclass, known_result, any_result, selector_number}
 use Rattle.arc_class.specs.Fields.{known_field}
 use Rattle.arc_class.specs.Running.{classes}
 use Rattle.arc_class.specs.declared.table.FoundField.{FoundField}
-use Rattle.arc_class.specs.Names.{known}
+use Rattle.arc_class.specs.Names.{kinds_of_parameters, known}
 use Rattle.arc_sites.specs.Violations.{violates}
 use Rattle.arc_spec.specs.Classes.{descends}
 use Rattle.arc_check.specs.declared.body.TheConstants.{MOST_PARAMETERS}
@@ -77,10 +77,15 @@ binary_kind Arithmetic a b = both_kinds (number_kind a) (number_kind b)
 binary_kind Shift a b = number_kind a
 binary_kind Relation a b = Some k.Int
 binary_kind Equality a b = Some k.Int
+binary_kind Logic a b = Some k.Int
 
 abbrev pub is_object : Option Kind → Bool
 is_object (Some k.Object) = true
 is_object _ = false
+
+-- the kind of one of two values, which are both objects or both numbers (C99, section 6.5.15)
+abbrev pub either_kind : Option Kind → Option Kind → Option Kind
+either_kind a b = if is_object a && is_object b then Some k.Object else both_kinds (number_kind a) (number_kind b)
 
 -- the kind of a field that may be named
 abbrev pub field_kind : Scope → Option FoundField → Option Kind
@@ -122,6 +127,7 @@ abbrev mutual
   kind_of s (Unary at operator a) = unary_kind operator (kind_of s a)
   kind_of s (Cast at type a) = Some (type_kind type)
   kind_of s (Binary at operator a b) = binary_kind (sort_of operator) (kind_of s a) (kind_of s b)
+  kind_of s (Conditional at c a b) = either_kind (kind_of s a) (kind_of s b)
   kind_of s (Arrow at name_at a name) = arrow_kind s (kind_of s a) (s.known.field (class_of s a) name)
   kind_of s (Assign at sign a b) = if is_assignable a then kind_of s a else None
   kind_of s (Send at part receiver selector arguments) = message_kind s (class_receiver s receiver) (kind_of s receiver) (class_of s receiver) selector
@@ -158,13 +164,16 @@ abbrev pub no_operand : UnaryOperator → Option Kind → ℕ → List Broken
 no_operand u.Not a at = no_value a at
 no_operand _ a at = no_number a at
 
--- An operator computes with numbers; `==` and `!=` compare two numbers or two objects, and report an object and a number at the second (C99, section 6.5.9).
+-- An operator computes with numbers; `==` and `!=` compare two numbers or two objects, and report an object and a number at the second (C99, section 6.5.9). So are
+-- the two values of `?:` reported (6.5.15). `&&` and `||` ask of numbers and objects (6.5.13, 6.5.14).
 abbrev pub no_left : OperatorSort → Option Kind → ℕ → List Broken
 no_left Equality a at = no_value a at
+no_left Logic a at = no_value a at
 no_left _ a at = no_number a at
 
 abbrev pub no_right : OperatorSort → Option Kind → Option Kind → ℕ → List Broken
 no_right Equality a b at = if is_object a then no_object b at else no_number b at
+no_right Logic a b at = no_value b at
 no_right _ a b at = no_number b at
 
 abbrev pub broken_at : ℕ → Option ℕ → List Broken
@@ -206,6 +215,9 @@ abbrev mutual
   broken s (Cast at type a) = broken s a ++ no_such (Some (type_kind type)) (kind_of s a) (place a)
   broken s (Binary at operator a b) =
       (broken s a ++ no_left (sort_of operator) (kind_of s a) (place a)) ++ (broken s b ++ no_right (sort_of operator) (kind_of s a) (kind_of s b) (place b))
+  broken s (Conditional at c a b) =
+      (broken s c ++ no_value (kind_of s c) (place c))
+      ++ ((broken s a ++ no_left Equality (kind_of s a) (place a)) ++ (broken s b ++ no_right Equality (kind_of s a) (kind_of s b) (place b)))
   broken s (Arrow at name_at a name) =
       (broken s a ++ no_object (kind_of s a) (place a)) ++ broken_field s (kind_of s a) (s.known.field (class_of s a) name) name_at
   broken s (Assign at sign a b) = (broken s a ++ broken_if (not (is_assignable a)) sign 44) ++ (broken s b ++ no_such (kind_of s a) (kind_of s b) (place b))
@@ -252,6 +264,7 @@ abbrev mutual
   taken s (Unary at operator a) = taken s a
   taken s (Cast at type a) = taken s a
   taken s (Binary at operator a b) = taken s a ++ taken s b
+  taken s (Conditional at c a b) = taken s c ++ (taken s a ++ taken s b)
   taken s (Arrow at name_at a name) = taken s a
   taken s (Assign at sign a b) = ((if is_unread s a then [] else taken s a) ++ at_if (is_object (kind_of s a)) sign) ++ taken s b
   taken s (Send at part receiver selector arguments) =
@@ -345,6 +358,8 @@ broken_implementation known i = flat_map (broken_method known (known.class i.nam
 abbrev pub known_of : UnitTree → Known
 known_of u = record {
   function = known u.functions;
+  parameters = kinds_of_parameters u.functions;
+  passed = kinds_passed u;
   class = class_number u.interfaces;
   superclass = superclass u.interfaces;
   descends = descends (classes u);

@@ -9,7 +9,7 @@ use Rattle.arc_ast.specs.declared.tree.Sign.TheVariants as signs
 use Rattle.arc_ast.specs.declared.tree.Visibility.{Visibility}
 use Rattle.arc_ast.specs.declared.tree.Visibility.TheVariants as v
 use Rattle.arc_ast.specs.Tree as tree
-use Rattle.arc_ast.specs.Tree.{TypeTree, ExprTree, Paren, Cast, Itself, Name, Assign, Send, SendSuper, VariableTree, StmtTree, StmtTrees, Block, Empty, Simple, Return, Variables, If, IfElse, While, no_stmts, and_stmt, ParameterTree}
+use Rattle.arc_ast.specs.Tree.{TypeTree, ExprTree, Paren, Nil, Cast, Conditional, Itself, Name, Assign, Send, SendSuper, VariableTree, StmtTree, StmtTrees, Block, Empty, Simple, Return, Variables, If, IfElse, While, no_stmts, and_stmt, ParameterTree}
 use Rattle.arc_spec.specs.Classes.{same_sign}
 use Rattle.arc_class.specs.declared.table.Declared.{Declared}
 use Rattle.arc_class.specs.declared.table.FoundField.{FoundField}
@@ -18,10 +18,12 @@ use Rattle.arc_check.specs.declared.scope.TheConstants.{MOST_VARIABLES}
 use Rattle.arc_check.specs.declared.callee.Callee.{Callee}
 use Rattle.arc_check.specs.declared.callee.Callee.TheVariants.{Printf, GetChar, Defined, Unknown}
 
--- What is known of a source's names: its functions, the numbers of its classes, their superclasses, which class comes from which, what the method gives that is
+-- What is known of a source's names: its functions, the kinds of their parameters and of those of its methods, the numbers of its classes, their superclasses, which class comes from which, what the method gives that is
 -- known for a message of a sign to a class, and to objects of any class, the numbers of its selectors, and the fields that the objects of a class have.
 pub record Known : Type 0 where
   pub function : List ℕ → Option Declared
+  pub parameters : List ℕ → List Kind
+  pub passed : Sign → List ℕ → List Kind
   pub class : List ℕ → Option ℕ
   pub superclass : ℕ → Option ℕ
   pub descends : Option ℕ → ℕ → Bool
@@ -223,12 +225,30 @@ local_class None = None
 local_class (Some (Number kind n)) = None
 local_class (Some (Object n class)) = class
 
+-- whether an expression is `nil`, parentheses aside
+abbrev pub is_nil : ExprTree → Bool
+is_nil (Paren at a) = is_nil a
+is_nil (Nil at) = true
+is_nil _ = false
+
+-- the one static class of two objects that have the same, and else none
+abbrev pub same_class : Option ℕ → Option ℕ → Option ℕ
+same_class (Some a) (Some b) = if nat_eq a b then Some a else None
+same_class _ _ = None
+
+-- the static class of one of two objects, by whether they are `nil`: that of the other, where one is (this project's own choice)
+abbrev pub either_class : (first_nil second_nil : Bool) → Option ℕ → Option ℕ → Option ℕ
+either_class true _ a b = b
+either_class false true a b = a
+either_class false false a b = same_class a b
+
 -- The static class of an expression; what has none, or gives no object, is as `id`.
 abbrev pub class_of : Scope → ExprTree → Option ℕ
 class_of s (Paren at a) = class_of s a
 class_of s (Itself at) = own_class s
 class_of s (Name at name) = local_class (s.variables name)
 class_of s (Cast at type a) = static_class s.known type
+class_of s (Conditional at c a b) = either_class (is_nil a) (is_nil b) (class_of s a) (class_of s b)
 class_of s (Assign at sign a b) = class_of s a
 class_of s (Send at part receiver selector arguments) = sent_class (class_receiver s receiver) (class_of s receiver) selector
 class_of s (SendSuper at part super_at selector arguments) = super_class s selector

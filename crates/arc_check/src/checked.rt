@@ -25,6 +25,8 @@ pub enum Value {
     Print(Vec<Piece>, Vec<Value>),
     Applied(UnaryOperator, Kind, Box<Value>),
     Combined(BinaryOperator, Kind, Box<Value>, Box<Value>),
+    /// The first of two values where the test is other than 0, else the second.
+    Choice(Box<Value>, Box<Value>, Box<Value>),
     Converted(Kind, Box<Value>),
     /// The variable of the running function with this number.
     Local(usize),
@@ -61,6 +63,8 @@ pub enum Reference {
     Itself,
     /// The variable of the running function with this number among those that name objects.
     Variable(usize),
+    /// The first of two objects where the test is other than 0, else the second.
+    Chosen(Box<Value>, Box<Reference>, Box<Reference>),
     /// An assignment to such a variable.
     Stored(usize, Box<Reference>),
     /// `alloc` or `new`: what gives the class's number.

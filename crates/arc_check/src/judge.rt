@@ -1,7 +1,7 @@
 //! Finds the first rule that is broken in an expression.
 ghost use Rattle.std.specs.Prelude.{◌≡◌, ℕ, None, Some, not, is_none, is_some, option_map, if◌then◌else◌, []};
 ghost use Rattle.arc_ast.specs.Tree as tree;
-ghost use Rattle.arc_ast.specs.Tree.{Arrow, Assign, Cast, Itself, Name, Send, SendSuper, expr_tree, expr_trees, type_tree};
+ghost use Rattle.arc_ast.specs.Tree.{Arrow, Assign, Cast, Conditional, Itself, Name, Send, SendSuper, expr_tree, expr_trees, type_tree};
 ghost use Rattle.arc_class.specs.Broken.{broken_if, earlier_of, first};
 ghost use Rattle.arc_class.specs.declared.table.ClassTable.{ClassTable};
 ghost use Rattle.arc_class.specs.Table.{number_of_class};
@@ -22,12 +22,15 @@ use crate::message::{
     class_receiver, sent_class, sent_kind, static_class, super_class, super_kind,
 };
 use crate::rule::{
-    binary_kind, call_fault, is_assignable, is_object, is_unread, literal_kind, no_left, no_number,
-    no_object, no_operand, no_right, no_such, no_value, place, unary_kind,
+    binary_kind, call_fault, either_class, either_kind, is_assignable, is_nil, is_object,
+    is_unread, literal_kind, no_left, no_number, no_object, no_operand, no_right, no_such,
+    no_value, place, unary_kind,
 };
 use crate::scope::{Local, Visible};
 use crate::taken::Taken;
-use arc_ast::tree::{BinaryOperator, Expr, Kind, TypeName, UnaryOperator, operator_sort};
+use arc_ast::tree::{
+    BinaryOperator, Expr, Kind, OperatorSort, TypeName, UnaryOperator, operator_sort,
+};
 use arc_class::table::{ClassId, ClassTable, FoundField};
 use arc_fault::check::CheckFault;
 use arc_sites::violation::earlier;
@@ -193,6 +196,9 @@ pub fn judge<'a>(
             let second = judge(table, visible, first.taken, right);
             combined(*operator, first, place(left), second, place(right))
         }
+        Expr::Conditional(_, test, first, second) => {
+            judge_choice(table, visible, before, test, first, second)
+        }
         Expr::Arrow(_, name_at, base, name) => {
             judge_arrow(table, visible, before, *name_at, base, name)
         }
@@ -227,6 +233,63 @@ fn judge_unary<'a>(
             no_operand(operator, judged.kind, place(operand)),
         ),
         judged.taken,
+    )
+}
+
+/// The judgement on one of two values, from the judgements on the test and on both.
+fn chosen(
+    test: Judged,
+    test_at: usize,
+    one: Judged,
+    one_at: usize,
+    other: Judged,
+    other_at: usize,
+    class: Option<ClassId>,
+) -> Judged
+    ensures kind { result.kind ≡ rules.either_kind one.kind other.kind }
+    ensures class { result.class ≡ class }
+    ensures taken { result.taken ≡ other.taken }
+    ensures fault { option_map told result.fault
+        ≡ earlier_of (earlier_of (option_map told test.fault) (first (no_value test.kind test_at)))
+        (earlier_of (earlier_of (option_map told one.fault) (first (no_left OperatorSort.Equality one.kind one_at)))
+        (earlier_of (option_map told other.fault) (first (no_right OperatorSort.Equality one.kind other.kind other_at)))) }
+{
+    let sort = OperatorSort::Equality;
+    let by_test = earlier(test.fault, no_value(test.kind, test_at));
+    let of_one = earlier(one.fault, no_left(sort, one.kind, one_at));
+    let of_other = earlier(other.fault, no_right(sort, one.kind, other.kind, other_at));
+    Judged {
+        kind: either_kind(one.kind, other.kind),
+        class,
+        fault: earlier(by_test, earlier(of_one, of_other)),
+        taken: other.taken,
+    }
+}
+
+/// The judgement on one of two values by a test.
+#[cycle(judge)]
+fn judge_choice<'a>(
+    table: &ClassTable<'a>,
+    visible: &Visible<'a>,
+    before: Taken,
+    test: &'a Expr,
+    first: &'a Expr,
+    second: &'a Expr,
+) -> Judged
+    ensures { (at : ℕ) → Judges (seen table.now visible.now) before (Conditional at (expr_tree test.now) (expr_tree first.now) (expr_tree second.now)) result }
+{
+    let by_test = judge(table, visible, before, test);
+    let one = judge(table, visible, by_test.taken, first);
+    let other = judge(table, visible, one.taken, second);
+    let class = either_class(is_nil(first), is_nil(second), one.class, other.class);
+    chosen(
+        by_test,
+        place(test),
+        one,
+        place(first),
+        other,
+        place(second),
+        class,
     )
 }
 

@@ -105,7 +105,10 @@ fn computing_kind(sort: OperatorSort, a: Kind, b: Kind) -> Kind
 {
     match sort {
         OperatorSort::Shift => wider(a, Kind::Int),
-        OperatorSort::Arithmetic | OperatorSort::Relation | OperatorSort::Equality => wider(a, b),
+        OperatorSort::Arithmetic
+        | OperatorSort::Relation
+        | OperatorSort::Equality
+        | OperatorSort::Logic => wider(a, b),
     }
 }
 
@@ -114,7 +117,7 @@ fn given_kind(sort: OperatorSort, kind: Kind) -> Kind
     ensures { result ≡ kinds.given_kind sort kind }
 {
     match sort {
-        OperatorSort::Relation | OperatorSort::Equality => Kind::Int,
+        OperatorSort::Relation | OperatorSort::Equality | OperatorSort::Logic => Kind::Int,
         OperatorSort::Arithmetic | OperatorSort::Shift => kind,
     }
 }
@@ -232,6 +235,78 @@ fn equality(
     }
 }
 
+/// What `&&` or `||` gives, from its operands: a choice by the first, in which the second becomes 0 or 1.
+fn logic_value(
+    alloc: Global,
+    operator: BinaryOperator,
+    left: Box<Value>,
+    right: Box<Value>,
+) -> Result<Value, AllocError>
+    ensures { IfOk result (λ new. checked.value new ≡ resolving.logic operator (checked.value left.value) (checked.value right.value)) }
+{
+    let second = Box::new(alloc, Value::Converted(Kind::Bool, right))?;
+    match operator {
+        BinaryOperator::Or => {
+            let one = Box::new(alloc, Value::Number(1))?;
+            Ok(Value::Choice(left, one, second))
+        }
+        _ => {
+            let zero = Box::new(alloc, Value::Number(0))?;
+            Ok(Value::Choice(left, second, zero))
+        }
+    }
+}
+
+/// An expression with `&&` or `||`, from its operands.
+fn logic(
+    alloc: Global,
+    operator: BinaryOperator,
+    left: Resolution,
+    right: Resolution,
+) -> Result<Resolution, AllocError>
+    ensures { IfOk result (λ new. resolution new ≡ resolving.binary_of OperatorSort.Logic operator (resolution left) (resolution right)) }
+{
+    let left = number_in(alloc, left)?;
+    let right = number_in(alloc, right)?;
+    let value = logic_value(alloc, operator, left, right)?;
+    given(alloc, Kind::Int, value)
+}
+
+/// One of two values by a test.
+pub fn conditional(
+    alloc: Global,
+    test: Resolution,
+    first: Resolution,
+    second: Resolution,
+) -> Result<Resolution, AllocError>
+    ensures { IfOk result (λ new. resolution new ≡ resolving.conditional (resolving.number_in (resolution test)) (resolution first) (resolution second)) }
+{
+    let test = number_in(alloc, test)?;
+    match (first, second) {
+        (Resolution::Refers(first), Resolution::Refers(second)) => {
+            let first = Box::new(alloc, first)?;
+            let second = Box::new(alloc, second)?;
+            Ok(Resolution::Refers(Reference::Chosen(test, first, second)))
+        }
+        (first, second) => chosen_number(alloc, test, first, second),
+    }
+}
+
+/// One of two numbers by a test, as numbers of the wider kind.
+fn chosen_number(
+    alloc: Global,
+    test: Box<Value>,
+    first: Resolution,
+    second: Resolution,
+) -> Result<Resolution, AllocError>
+    ensures { IfOk result (λ new. resolution new ≡ resolving.choice (checked.value test.value) (resolution first) (resolution second)) }
+{
+    let kind = wider(kind_in(&first), kind_in(&second));
+    let first = converted(alloc, kind, first)?;
+    let second = converted(alloc, kind, second)?;
+    given(alloc, kind, Value::Choice(test, first, second))
+}
+
 /// An operator's expression, from its operands.
 pub fn binary(
     alloc: Global,
@@ -244,6 +319,7 @@ pub fn binary(
     let sort = operator_sort(operator);
     match sort {
         OperatorSort::Equality => equality(alloc, operator, left, right),
+        OperatorSort::Logic => logic(alloc, operator, left, right),
         OperatorSort::Arithmetic | OperatorSort::Shift | OperatorSort::Relation => {
             let kind = computing_kind(sort, kind_in(&left), kind_in(&right));
             combined(alloc, operator, kind, left, right)

@@ -1,8 +1,8 @@
 //! Builds the resolved expressions of a source that breaks no rule.
-ghost use Rattle.std.specs.Prelude.{◌≡◌, ℕ, List, Option, Some, None, option_map, IfOk};
-ghost use Rattle.arc_ast.specs.Tree.{ExprTree, type_tree, expr_tree, expr_trees, Integer, Text, Name, Unary, Cast, Binary, Arrow, Assign, Call, Send, SendSuper};
+ghost use Rattle.std.specs.Prelude.{◌≡◌, ℕ, List, Option, Some, None, drop, option_map, IfOk};
+ghost use Rattle.arc_ast.specs.Tree.{ExprTree, type_tree, expr_tree, expr_trees, Integer, Text, Name, Unary, Cast, Binary, Conditional, Arrow, Assign, Call, Send, SendSuper};
 ghost use Rattle.arc_class.specs.Table.{number_of_class};
-ghost use Rattle.arc_check.specs.private.Building.{Resolves, printing, resolution};
+ghost use Rattle.arc_check.specs.private.Building.{Resolves, kinds_wanted, printing, resolution};
 ghost use Rattle.arc_check.specs.Checked as checked;
 ghost use Rattle.arc_check.specs.Resolving as resolving;
 ghost use Rattle.arc_check.specs.Resolving.{number_as, resolved, resolved_all};
@@ -18,13 +18,13 @@ use crate::message::{
     above, class_receiver, sent_class, sent_kind, static_class, super_class, super_kind,
 };
 use crate::resolution::{
-    Resolution, Typed, binary, cast as cast_to, class_number, class_value, converted, field,
-    field_assigned, given, name_assigned, named, number, number_in, object_in, selector_number,
-    to_class, to_object, to_super, unary,
+    Resolution, Typed, binary, cast as cast_to, class_number, class_value, conditional, converted,
+    field, field_assigned, given, name_assigned, named, number, number_in, object_in,
+    selector_number, to_class, to_object, to_super, unary,
 };
-use crate::rule::literal_kind;
+use crate::rule::{either_class, is_nil, literal_kind};
 use crate::scope::{Local, Visible};
-use arc_ast::tree::{BinaryOperator, Expr, Kind, TypeName, UnaryOperator};
+use arc_ast::tree::{BinaryOperator, Expr, Kind, Parameter, Sign, TypeName, UnaryOperator};
 use arc_class::table::{ClassId, ClassTable};
 use std::alloc::{AllocError, Global};
 
@@ -94,6 +94,9 @@ pub fn expression<'a>(
         Expr::Binary(_, operator, left, right) => {
             operation(alloc, table, visible, *operator, left, right)
         }
+        Expr::Conditional(_, test, first, second) => {
+            choice(alloc, table, visible, test, first, second)
+        }
         Expr::Arrow(_, _, base, name) => arrow(alloc, table, visible, base, name),
         Expr::Assign(_, _, left, right) => assignment(alloc, table, visible, left, right),
         Expr::Send(_, _, receiver, selector, arguments) => {
@@ -156,6 +159,28 @@ fn operation<'a>(
     let right = expression(alloc, table, visible, right)?;
     let value = binary(alloc, operator, left.value, right.value)?;
     Ok(Typed { class: None, value })
+}
+
+/// A resolved choice of two values by a test.
+#[cycle(resolve)]
+fn choice<'a>(
+    alloc: Global,
+    table: &ClassTable<'a>,
+    visible: &Visible<'a>,
+    test: &'a Expr,
+    first: &'a Expr,
+    second: &'a Expr,
+) -> Result<Typed, AllocError>
+    ensures { IfOk result (λ typed. (at : ℕ) → Resolves (seen table.now visible.now) (Conditional at (expr_tree test.now) (expr_tree first.now) (expr_tree second.now)) typed) }
+{
+    let one_nil = is_nil(first);
+    let other_nil = is_nil(second);
+    let test = expression(alloc, table, visible, test)?;
+    let first = expression(alloc, table, visible, first)?;
+    let second = expression(alloc, table, visible, second)?;
+    let class = either_class(one_nil, other_nil, first.class, second.class);
+    let value = conditional(alloc, test.value, first.value, second.value)?;
+    Ok(Typed { class, value })
 }
 
 /// A resolved field of an object.
@@ -320,9 +345,10 @@ fn call<'a>(
     let value = match callee {
         Callee::Printf => print(alloc, table, visible, arguments)?,
         Callee::Defined(_, _, body) => {
+            let wanted = Some(table.parameters(name));
             Value::Invoked(
                 number(body),
-                values(alloc, table, visible, false, arguments)?,
+                values(alloc, table, visible, wanted, arguments)?,
             )
         }
         Callee::GetChar => Value::ReadByte,
@@ -381,8 +407,10 @@ fn message<'a>(
 ) -> Result<Typed, AllocError>
     ensures { IfOk result (λ typed. (at part : ℕ) → Resolves (seen table.now visible.now) (Send at part (expr_tree receiver.now) selector.now (expr_trees arguments.now)) typed) }
 {
-    let all = values(alloc, table, visible, false, arguments)?;
-    match class_receiver(table, visible, receiver) {
+    let class = class_receiver(table, visible, receiver);
+    let wanted = Some(table.parameters_passed(receiver_sign(class), selector));
+    let all = values(alloc, table, visible, wanted, arguments)?;
+    match class {
         Some(class) => Ok(Typed {
             class: sent_class(Some(class), None, selector),
             value: class_message(alloc, table, receiver, class, selector, all)?,
@@ -408,7 +436,8 @@ fn super_message<'a>(
 ) -> Result<Typed, AllocError>
     ensures { IfOk result (λ typed. (at part super_at : ℕ) → Resolves (seen table.now visible.now) (SendSuper at part super_at selector.now (expr_trees arguments.now)) typed) }
 {
-    let all = values(alloc, table, visible, false, arguments)?;
+    let wanted = Some(table.parameters_passed(visible.sign, selector));
+    let all = values(alloc, table, visible, wanted, arguments)?;
     let kind = super_kind(table, visible, selector);
     let from = class_number(above(table, visible.class));
     let number = selector_number(table.selector(selector));
@@ -441,57 +470,92 @@ fn print<'a>(
     match arguments.split_first() {
         None => Ok(Value::Print(
             Vec::new(alloc),
-            values(alloc, table, visible, true, arguments)?,
+            values(alloc, table, visible, None, arguments)?,
         )),
         Some((first, others)) => {
-            let values = values(alloc, table, visible, true, others)?;
+            let values = values(alloc, table, visible, None, others)?;
             let pieces = pieces(alloc, text_of(first))?;
             Ok(Value::Print(pieces, values))
         }
     }
 }
 
-/// The number that is passed, which is an int where it isn't printed.
-fn passed(alloc: Global, printed: bool, of: Resolution) -> Result<Box<Value>, AllocError>
-    ensures { IfOk result (λ new. checked.value new.value ≡ resolving.argument printed (resolution of)) }
+/// The kind that the first argument is converted to, by the parameters that it is passed to. What is printed keeps its
+/// kind: None.
+fn first_wanted(wanted: Option<&[Parameter]>) -> Option<Kind>
+    ensures { result ≡ resolving.first_wanted (kinds_wanted wanted.entry) }
 {
-    if printed {
-        number_in(alloc, of)
-    } else {
-        converted(alloc, Kind::Int, of)
+    let parameters = wanted?;
+    match parameters.split_first() {
+        None => Some(Kind::Int),
+        Some((first, _)) => Some(first.type_name.kind()),
     }
 }
 
-/// A resolved argument, which is an int where it isn't printed.
+/// The parameters that the others are passed to.
+fn after_first(wanted: Option<&[Parameter]>) -> Option<&[Parameter]>
+    ensures { kinds_wanted result ≡ option_map (drop 1) (kinds_wanted wanted.entry) }
+{
+    let parameters = wanted?;
+    match parameters.split_first() {
+        None => Some(&[]),
+        Some((_, others)) => Some(others),
+    }
+}
+
+/// The sign of the methods that a message goes to, by the class that its receiver is.
+fn receiver_sign(class: Option<ClassId>) -> Sign
+    ensures { result ≡ resolving.receiver_sign (option_map number_of_class class) }
+{
+    match class {
+        None => Sign::Instance,
+        Some(_) => Sign::Class,
+    }
+}
+
+/// The number that is passed, converted to the kind, if there is one.
+fn passed(alloc: Global, wanted: Option<Kind>, of: Resolution) -> Result<Box<Value>, AllocError>
+    ensures { IfOk result (λ new. checked.value new.value ≡ resolving.argument wanted (resolution of)) }
+{
+    match wanted {
+        None => number_in(alloc, of),
+        Some(kind) => converted(alloc, kind, of),
+    }
+}
+
+/// A resolved argument, converted to the kind, if there is one.
 #[cycle(resolve)]
 fn argument<'a>(
     alloc: Global,
     table: &ClassTable<'a>,
     visible: &Visible<'a>,
-    printed: bool,
+    wanted: Option<Kind>,
     expr: &'a Expr,
 ) -> Result<Value, AllocError>
-    ensures { IfOk result (λ new. checked.value new ≡ resolving.argument printed (resolved (seen table.now visible.now) (expr_tree expr.now))) }
+    ensures { IfOk result (λ new. checked.value new ≡ resolving.argument wanted (resolved (seen table.now visible.now) (expr_tree expr.now))) }
 {
     let typed = expression(alloc, table, visible, expr)?;
-    let value = passed(alloc, printed, typed.value)?;
+    let value = passed(alloc, wanted, typed.value)?;
     Ok(Box::into_inner(value))
 }
 
-/// Resolved arguments.
+/// Resolved arguments, which are passed to these parameters or, without any, printed.
 #[cycle(resolve)]
 fn values<'a>(
     alloc: Global,
     table: &ClassTable<'a>,
     visible: &Visible<'a>,
-    printed: bool,
+    wanted: Option<&'a [Parameter]>,
     arguments: &'a [Expr],
 ) -> Result<Vec<Value>, AllocError>
-    ensures { IfOk result (λ all. checked.values all.items ≡ resolved_all (seen table.now visible.now) printed (expr_trees arguments.now)) }
+    ensures { IfOk result (λ all. checked.values all.items ≡ resolved_all (seen table.now visible.now) (kinds_wanted wanted.entry) (expr_trees arguments.now)) }
 {
     let mut all = Vec::new(alloc);
+    let mut rest = wanted;
     for one in arguments {
-        all.push(argument(alloc, table, visible, printed, one)?)?;
+        let kind = first_wanted(rest);
+        all.push(argument(alloc, table, visible, kind, one)?)?;
+        rest = after_first(rest);
     }
     Ok(all)
 }

@@ -7,6 +7,8 @@ ghost use Rattle.arc_class.specs.declared.table.ClassTable.{ClassTable};
 ghost use Rattle.arc_check.specs.Fault.{told};
 ghost use Rattle.arc_check.specs.Kinds as kinds;
 ghost use Rattle.arc_check.specs.Rules as rules;
+ghost use Rattle.arc_check.specs.Scopes as scopes;
+ghost use Rattle.arc_class.specs.Table.{number_of_class};
 ghost use Rattle.arc_check.specs.Rules.{broken_at, no_left, no_number, no_operand, no_right, no_value, number_kind, unary_kind};
 ghost use Rattle.arc_check.specs.private.Judging.{other_rule};
 ghost use Rattle.arc_check.specs.private.Views.{seen};
@@ -14,6 +16,7 @@ ghost use Rattle.arc_check.specs.private.Views.{seen};
 use crate::callee::Callee;
 use crate::scope::Visible;
 use arc_ast::tree::{Expr, Kind, OperatorSort, UnaryOperator};
+use arc_class::table::ClassId;
 use arc_fault::check::CheckFault;
 
 /// The largest int.
@@ -56,6 +59,7 @@ pub fn place(expr: &Expr) -> usize
         | Expr::Unary(at, _, _)
         | Expr::Cast(at, _, _)
         | Expr::Binary(at, _, _, _)
+        | Expr::Conditional(at, _, _, _)
         | Expr::Arrow(_, at, _, _)
         | Expr::Assign(_, at, _, _)
         | Expr::Send(_, at, _, _, _)
@@ -71,6 +75,49 @@ pub fn is_assignable(expr: &Expr) -> bool
         Expr::Paren(_, inside) => is_assignable(inside),
         Expr::Itself(_) | Expr::Name(_, _) | Expr::Arrow(_, _, _, _) => true,
         _ => false,
+    }
+}
+
+/// Whether an expression is `nil`, parentheses aside.
+pub fn is_nil(expr: &Expr) -> bool
+    ensures { result ≡ scopes.is_nil (expr_tree expr.now) }
+{
+    match expr {
+        Expr::Paren(_, inside) => is_nil(inside),
+        Expr::Nil(_) => true,
+        _ => false,
+    }
+}
+
+/// The static class of one of two objects, by whether they are `nil`, and by their static classes.
+pub fn either_class(
+    first_nil: bool,
+    second_nil: bool,
+    first: Option<ClassId>,
+    second: Option<ClassId>,
+) -> Option<ClassId>
+    ensures { option_map number_of_class result ≡ scopes.either_class first_nil second_nil (option_map number_of_class first) (option_map number_of_class second) }
+{
+    if first_nil {
+        return second;
+    }
+    if second_nil {
+        return first;
+    }
+    match (first, second) {
+        (Some(a), Some(b)) if a.0 == b.0 => Some(a),
+        _ => None,
+    }
+}
+
+/// The kind of one of two values.
+pub fn either_kind(a: Option<Kind>, b: Option<Kind>) -> Option<Kind>
+    ensures { result ≡ rules.either_kind a b }
+{
+    if is_object(a) && is_object(b) {
+        Some(Kind::Object)
+    } else {
+        both_kinds(number_kind(a), number_kind(b))
     }
 }
 
@@ -133,7 +180,7 @@ pub fn binary_kind(sort: OperatorSort, a: Option<Kind>, b: Option<Kind>) -> Opti
     match sort {
         OperatorSort::Arithmetic => both_kinds(number_kind(a), number_kind(b)),
         OperatorSort::Shift => number_kind(a),
-        OperatorSort::Relation | OperatorSort::Equality => Some(Kind::Int),
+        OperatorSort::Relation | OperatorSort::Equality | OperatorSort::Logic => Some(Kind::Int),
     }
 }
 
@@ -195,7 +242,7 @@ pub fn no_left(sort: OperatorSort, kind: Option<Kind>, at: usize) -> Option<Chec
     ensures { option_map told result ≡ first (no_left sort kind at) }
 {
     match sort {
-        OperatorSort::Equality => no_value(kind, at),
+        OperatorSort::Equality | OperatorSort::Logic => no_value(kind, at),
         OperatorSort::Arithmetic | OperatorSort::Shift | OperatorSort::Relation => {
             no_number(kind, at)
         }
@@ -203,7 +250,7 @@ pub fn no_left(sort: OperatorSort, kind: Option<Kind>, at: usize) -> Option<Chec
 }
 
 /// The rule that the second of two things breaks, of these kinds, that are compared.
-fn no_other(left: Option<Kind>, right: Option<Kind>, at: usize) -> Option<CheckFault>
+pub fn no_other(left: Option<Kind>, right: Option<Kind>, at: usize) -> Option<CheckFault>
     ensures { option_map told result ≡ first (no_right OperatorSort.Equality left right at) }
 {
     match (left, right) {
@@ -224,6 +271,7 @@ pub fn no_right(
 {
     match sort {
         OperatorSort::Equality => no_other(left, right, at),
+        OperatorSort::Logic => no_value(right, at),
         OperatorSort::Arithmetic | OperatorSort::Shift | OperatorSort::Relation => {
             no_number(right, at)
         }

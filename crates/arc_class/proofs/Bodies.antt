@@ -2,7 +2,7 @@
 use Rattle.std.proofs.Common.{◌≡◌, ℕ, Bool, true, false, List, [], ◌∷◌, ◌++◌, Option, Some, None, append_assoc, refl, sym, ap, ◌∙◌}
 use Rattle.std.specs.List.{flat_map}
 use Rattle.arc_ast.specs.Tree as t
-use Rattle.arc_ast.specs.Tree.{TypeTree, ExprTree, ExprTrees, Integer, Text, Paren, Call, Nil, Itself, Name, Unary, Cast, Binary, Arrow, Assign, Send, SendSuper, no_exprs, and_expr, VariableTree, StmtTree, StmtTrees, Block, Empty, Simple, Return, Variables, If, IfElse, While, no_stmts, and_stmt, ParameterTree, FunctionTree, HeadTree, MethodTree, InterfaceTree, ImplementationTree, UnitTree}
+use Rattle.arc_ast.specs.Tree.{TypeTree, ExprTree, ExprTrees, Integer, Text, Paren, Call, Nil, Itself, Name, Unary, Cast, Binary, Conditional, Arrow, Assign, Send, SendSuper, no_exprs, and_expr, VariableTree, StmtTree, StmtTrees, Block, Empty, Simple, Return, Variables, If, IfElse, While, no_stmts, and_stmt, ParameterTree, FunctionTree, HeadTree, MethodTree, InterfaceTree, ImplementationTree, UnitTree}
 use Rattle.arc_sites.specs.Finding.{violations_of}
 use Rattle.arc_sites.specs.Sites as sites
 use Rattle.arc_ast.specs.Operators.{sort_of}
@@ -82,6 +82,12 @@ module _ (u : UnitTree) where
         let y = sites.sites m s (right_need (sort_of operator) a) b in
         quiet (broken_expr missing a ++ broken_expr missing b) (x ++ y) (value m s need (Binary at operator a b)) refl
         (pair (broken_expr missing a) (broken_expr missing b) x y (expr_is a m s (left_need (sort_of operator))) (expr_is b m s (right_need (sort_of operator) a)))
+    expr_is (Conditional at c a b) m s need =
+        let x = sites.sites m s AValue c in
+        let y = sites.sites m s AValue a in
+        let z = sites.sites m s (Like a) b in
+        quiet (broken_expr missing c ++ (broken_expr missing a ++ broken_expr missing b)) (x ++ (y ++ z)) (value m s need (Conditional at c a b)) refl
+        (pair (broken_expr missing c) (broken_expr missing a ++ broken_expr missing b) x (y ++ z) (expr_is c m s AValue) (pair (broken_expr missing a) (broken_expr missing b) y z (expr_is a m s AValue) (expr_is b m s (Like a))))
     expr_is (Arrow at name_at a name) m s need = quiet (broken_expr missing a) (sites.sites m s AnObject a) (value m s need (Arrow at name_at a name)) refl (expr_is a m s AnObject)
     expr_is (Assign at sign a b) m s need =
         let x = sites.sites m s Anything a in

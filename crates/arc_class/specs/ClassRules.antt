@@ -14,14 +14,18 @@ use Rattle.arc_class.specs.Bodies.{broken_bodies}
 use Rattle.arc_class.specs.Broken.{Broken, broken_if}
 use Rattle.arc_class.specs.Classes.{is_root, interface_number, class_number, superclasses, first_head, result_of, built_in_result, or_else, declared, defined}
 use Rattle.arc_class.specs.Fields.{own_fields, fields_declared, fields}
-use Rattle.arc_class.specs.Functions.{is_library, same_kind, duplicates, missing_main}
-use Rattle.arc_class.specs.Names.{first_named, number_of, is_main}
+use Rattle.arc_class.specs.Functions.{is_library, same_kind, same_kinds, duplicates, missing_main}
+use Rattle.arc_class.specs.Names.{first_named, parameter_kinds, listed_kinds, number_of, is_main}
 
 -- ---- methods
 
--- whether a method stands before another and gives another kind of value
+-- whether two methods give the same kind of value, and have parameters of the same kinds
+abbrev pub same_kinds_of : HeadTree → HeadTree → Bool
+same_kinds_of e h = same_kind (result_of e) (result_of h) && same_kinds (parameter_kinds e.parameters) (parameter_kinds h.parameters)
+
+-- whether a method stands before another, and they differ in a kind
 abbrev pub differs_before : Option HeadTree → HeadTree → Bool
-differs_before earlier h = option_map_or (λ e. nat_lt e.at h.at && not (same_kind (result_of e) (result_of h))) earlier false
+differs_before earlier h = option_map_or (λ e. nat_lt e.at h.at && not (same_kinds_of e h)) earlier false
 
 -- whether a method that is built in gives another kind of value
 abbrev pub differs_from : Option Kind → HeadTree → Bool
@@ -40,8 +44,8 @@ told_kind sign selector = if same_sign sign signs.Instance && tells_class select
 abbrev pub built_in_kind : Sign → List ℕ → Option Kind
 built_in_kind sign selector = or_else (built_in_result sign selector) (told_kind sign selector)
 
--- 24 SelectorKinds: a method whose result is of another kind than that of an earlier method of its sign with its selector, those of the root being built in, at
--- its `+` or `-` (this project's own choice)
+-- 24 SelectorKinds: a method whose result or one of whose parameters is of another kind than that of an earlier method of its sign with its selector, those of
+-- the root being built in, at its `+` or `-` (this project's own choice)
 abbrev pub changes_kind : UnitTree → HeadTree → Bool
 changes_kind u h = differs_before (first_head h.sign h.selector (declared u.interfaces)) h
     || (differs_before (first_head h.sign h.selector (defined u.implementations)) h || differs_from (built_in_kind h.sign h.selector) h)
@@ -150,11 +154,19 @@ interface_before (i ∷ others) name at = if bytes_eq name i.name then nat_lt i.
 abbrev pub class_before : List InterfaceTree → List ℕ → ℕ → Bool
 class_before interfaces name at = is_root name || interface_before interfaces name at
 
--- 21 Duplicate: a function with the name of the root or of an earlier interface's class, at its name (this project's own choice)
-abbrev pub named_as_classes : List InterfaceTree → List FunctionTree → List Broken
-named_as_classes interfaces = flat_map (λ f. broken_if (class_before interfaces f.name f.at) f.at 21)
+-- whether a function's parameters are of other kinds than those of the first function of its name
+abbrev pub other_parameters : Option FunctionTree → FunctionTree → Bool
+other_parameters first f = option_map_or (λ e. not (same_kinds (listed_kinds e) (listed_kinds f))) first false
+
+-- 21 Duplicate: a function with the name of the root or of an earlier interface's class (this project's own choice), or whose parameters are of other kinds than
+-- those of the first function of its name (C99, section 6.7.5.3), at its name
+abbrev pub clashes_with : List InterfaceTree → List FunctionTree → FunctionTree → Bool
+clashes_with interfaces functions f = class_before interfaces f.name f.at || other_parameters (first_named f.name functions) f
+
+abbrev pub clashing_functions : List InterfaceTree → (all : List FunctionTree) → List FunctionTree → List Broken
+clashing_functions interfaces all = flat_map (λ f. broken_if (clashes_with interfaces all f) f.at 21)
 
 -- all that is wrong with what a source declares, and inside its functions and methods with names of variables, with types and with calls
 abbrev pub broken : UnitTree → List Broken
 broken u = (duplicates [] u.functions ++ (missing_main (number_of is_main u.functions) ++ broken_bodies u))
-    ++ (named_as_classes u.interfaces u.functions ++ (broken_interfaces u [] u.interfaces ++ broken_implementations u [] u.implementations))
+    ++ (clashing_functions u.interfaces u.functions u.functions ++ (broken_interfaces u [] u.interfaces ++ broken_implementations u [] u.implementations))

@@ -1,6 +1,7 @@
 -- The classes of a source, their methods and their selectors.
 use Rattle.std.specs.Prelude.{ℕ, zero, suc, ◌+◌, Bool, ◌&&◌, ◌||◌, nat_lt, List, [], ◌∷◌, ◌++◌, length, map, fold, flat_map, Option, Some, None, option_map, option_and_then, slice_get, codes, if◌then◌else◌}
 use Rattle.std.specs.List.{find, list_any}
+use Rattle.std.specs.Option.{option_map_or}
 use Rattle.std.specs.Str.{bytes_eq}
 use Rattle.arc_ast.specs.declared.tree.Kind.{Kind}
 use Rattle.arc_ast.specs.declared.tree.Kind.TheVariants as k
@@ -10,7 +11,7 @@ use Rattle.arc_ast.specs.Types.{result_kind}
 use Rattle.arc_ast.specs.Tree.{FunctionTree, HeadTree, MethodTree, InterfaceTree, ImplementationTree, UnitTree}
 use Rattle.arc_spec.specs.Classes.{same_sign, ancestry, first_that_has}
 pub use Rattle.arc_spec.specs.Classes.{or_else}
-use Rattle.arc_class.specs.Names.{has_body}
+use Rattle.arc_class.specs.Names.{has_body, parameter_kinds}
 
 -- the one root class, which is built in (this project's own choice)
 abbrev pub is_root : List ℕ → Bool
@@ -102,6 +103,11 @@ source_result u selector = or_else (option_map result_of (first_head signs.Insta
 
 abbrev pub any_result : UnitTree → List ℕ → Option Kind
 any_result u selector = or_else (counting_result selector) (source_result u selector)
+
+-- the kinds of the parameters of the methods of a sign with a selector, of which all have those of the first that is declared, or else defined
+abbrev pub kinds_passed : UnitTree → Sign → List ℕ → List Kind
+kinds_passed u sign selector =
+    option_map_or (λ h. parameter_kinds h.parameters) (or_else (first_head sign selector (declared u.interfaces)) (first_head sign selector (defined u.implementations))) []
 
 -- ---- selectors
 

@@ -1,11 +1,13 @@
 -- Functions by their names.
-use Rattle.std.specs.Prelude.{ℕ, zero, suc, Bool, true, false, ◌&&◌, List, [], ◌∷◌, length, Option, Some, None, is_some, option_map, codes, if◌then◌else◌}
+use Rattle.std.specs.Prelude.{ℕ, zero, suc, Bool, true, false, ◌&&◌, List, [], ◌∷◌, length, map, Option, Some, None, is_some, option_map, codes, if◌then◌else◌}
 use Rattle.std.specs.List.{find}
+use Rattle.std.specs.Option.{option_map_or}
 use Rattle.std.specs.Str.{bytes_eq}
 use Rattle.arc_ast.specs.declared.tree.Kind.{Kind}
 use Rattle.arc_ast.specs.declared.tree.Kind.TheVariants as k
-use Rattle.arc_ast.specs.Types.{result_kind}
-use Rattle.arc_ast.specs.Tree.{FunctionTree, ParametersTree, Listed, CountAndTexts}
+use Rattle.arc_ast.specs.Types.{type_kind, result_kind}
+use Rattle.arc_ast.specs.Tree.{FunctionTree, ParameterTree, ParametersTree, Listed, CountAndTexts}
+use Rattle.arc_sites.specs.Sites.{named_parameters}
 use Rattle.arc_class.specs.declared.table.Signature.{Signature}
 use Rattle.arc_class.specs.declared.table.Declared.{Declared}
 
@@ -37,6 +39,18 @@ number_of test (f ∷ others) =
 -- what is known of a name: the signature of the first function with it, and the number of the first one with a body
 abbrev pub known : List FunctionTree → List ℕ → Option Declared
 known functions name = option_map (λ f. record { signature = signature f; body = number_of (is_named name) functions }) (first_named name functions)
+
+-- the kinds of parameters, in their order
+abbrev pub parameter_kinds : List ParameterTree → List Kind
+parameter_kinds = map (λ p. type_kind p.type)
+
+-- the kinds of the parameters that a function lists
+abbrev pub listed_kinds : FunctionTree → List Kind
+listed_kinds f = parameter_kinds (named_parameters f.parameters)
+
+-- the kinds of the parameters of the functions of a name, of which all have those of the first
+abbrev pub kinds_of_parameters : List FunctionTree → List ℕ → List Kind
+kinds_of_parameters functions name = option_map_or listed_kinds (first_named name functions) []
 
 abbrev pub is_int : Kind → Bool
 is_int k.Int = true

@@ -1,6 +1,7 @@
 -- What a table of a source is.
 pub use Rattle.arc_class.specs.Lookups.{number_of_class, number_of_selector, number_of_method, at_name, class_number_in, head_at, result_at, own_result_in, superclass_among, superclass_of_entry, result_among, own_field_in, own_place_in, superclass_of_fields, field_among, place_among, field_tree, list_of, items_at, list_at, list_among, colons, nearest_dealloc, ends_object, built_in_at, names_of, built_in_from}
 use Rattle.std.specs.Prelude.{◌≡◌, ℕ, List, [], position, slice_get, Option, Some, None, if◌then◌else◌}
+use Rattle.std.specs.Option.{option_map_or}
 use Rattle.std.specs.Str.{bytes_eq}
 use Rattle.std.specs.Borrow.{Bor}
 use Rattle.arc_ast.specs.declared.tree.Kind.{Kind}
@@ -12,14 +13,22 @@ use Rattle.arc_class.specs.declared.owners.Owners.{Owners}
 use Rattle.arc_class.specs.declared.table.ClassTable.{ClassTable}
 use Rattle.arc_class.specs.declared.table.Declared.{Declared}
 use Rattle.arc_class.specs.declared.table.FoundField.{FoundField}
-use Rattle.arc_class.specs.Classes.{and_name, class_number, superclass, or_else, built_in_result, counting_result, known_result, any_result, selector_number, function_count}
+use Rattle.arc_class.specs.Kept.{function_kept, head_in}
+use Rattle.arc_class.specs.Classes.{kinds_passed, and_name, class_number, superclass, or_else, built_in_result, counting_result, known_result, any_result, selector_number, function_count}
 use Rattle.arc_class.specs.Fields.{ClassField, fields, known_field}
-use Rattle.arc_class.specs.Names.{known, number_of, is_main}
+use Rattle.arc_class.specs.Names.{known, parameter_kinds, listed_kinds, kinds_of_parameters, number_of, is_main}
 use Rattle.arc_class.specs.Running.{classes}
 
 -- what a table knows of the functions of a name
 abbrev pub function_in : ClassTable → List ℕ → Option Declared
 function_in table = at_name table.functions
+
+-- the kinds of the parameters of the functions of a name, and of the methods of a sign with a selector
+abbrev pub parameters_in : ClassTable → List ℕ → List Kind
+parameters_in table name = option_map_or listed_kinds (function_kept table.first_functions name) []
+
+abbrev pub passed_in : ClassTable → Sign → List ℕ → List Kind
+passed_in table sign selector = option_map_or (λ h. parameter_kinds h.parameters) (or_else (head_in table.declared sign selector) (head_in table.defined sign selector)) []
 
 abbrev pub class_in : ClassTable → List ℕ → Option ℕ
 class_in table = class_number_in table.names
@@ -82,6 +91,7 @@ selector_names table = names_of table.selectors.keys
 -- a table with the same functions and classes, of whose selectors nothing is said
 pub record KeepsDeclared (old new : ClassTable) : Type 0 where
   pub functions : new.functions ≡ old.functions
+  pub first_functions : new.first_functions ≡ old.first_functions
   pub main : new.main ≡ old.main
   pub names : new.names ≡ old.names
   pub entries : new.entries ≡ old.entries
@@ -107,6 +117,8 @@ pub record Registers (old : ClassTable) (name : List ℕ) (new : ClassTable) (nu
 -- The table is one of a source: it knows what is known of each name, which function is `main`, and the classes, their methods, their fields and the selectors.
 pub record IsTableOf (u : UnitTree) (table : ClassTable) : Type 0 where
   pub knows : (name : List ℕ) → function_in table name ≡ known u.functions name
+  pub parameters : (name : List ℕ) → parameters_in table name ≡ kinds_of_parameters u.functions name
+  pub passed : (sign : Sign) (selector : List ℕ) → passed_in table sign selector ≡ kinds_passed u sign selector
   pub main : number_of is_main u.functions ≡ Some table.main
   pub numbers : (name : List ℕ) → class_in table name ≡ class_number u.interfaces name
   pub superclasses : (class : ℕ) → superclass_in table class ≡ superclass u.interfaces class

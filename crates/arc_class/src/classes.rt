@@ -3,7 +3,7 @@ ghost use Rattle.std.specs.Prelude.{◌≡◌, ◌≤◌, ◌||◌, List, ℕ, [
 ghost use Rattle.arc_ast.specs.Tree.{InterfaceTree, ImplementationTree, unit_tree, function_tree, interface_tree, implementation_tree};
 ghost use Rattle.arc_class.specs.Broken.{first};
 ghost use Rattle.arc_class.specs.ClassRules as rules;
-ghost use Rattle.arc_class.specs.ClassRules.{broken_names, broken_members, broken_interfaces, broken_own_names, broken_own_fields, broken_implementations, named_as_classes};
+ghost use Rattle.arc_class.specs.ClassRules.{broken_names, broken_members, broken_interfaces, broken_own_names, broken_own_fields, broken_implementations, clashing_functions};
 ghost use Rattle.arc_class.specs.Classes as classes;
 ghost use Rattle.arc_class.specs.Classes.{interface_number};
 ghost use Rattle.arc_class.specs.Entries.{fields_tree, all_class_fields};
@@ -15,7 +15,7 @@ ghost use Rattle.arc_class.specs.Walk.{holds};
 use crate::fault::fault_if;
 use crate::fields::{ClassFields, count_among, field_places, fields_fault};
 use crate::kept::Source;
-use crate::look::is_library;
+use crate::look::{is_library, listed, same_parameters};
 use crate::owners::Owners;
 use crate::table::{Place, at_name, class_number, is_root};
 use crate::walk::{Scope, stands};
@@ -47,6 +47,16 @@ fn place_before(place: Option<Place>, at: usize) -> bool
     }
 }
 
+/// Whether a function's parameters are of other kinds than those of the first function of its name.
+fn other_parameters(first: Option<&Function>, function: &Function) -> bool
+    ensures { result ≡ rules.other_parameters (option_map (λ f. function_tree f.now) first.entry) (function_tree function.now) }
+{
+    match first {
+        None => false,
+        Some(first) => !same_parameters(listed(&first.parameters), listed(&function.parameters)),
+    }
+}
+
 /// Whether this is the root's name or one of those before.
 fn is_known<'a>(before: &Scope<'a>, name: &'a [u8]) -> bool
     ensures { result ≡ (classes.is_root name.now || holds before.now name.now) }
@@ -63,15 +73,25 @@ impl<'a> Source<'a> {
         is_root(name) || place_before(at_name(&self.names, name), at)
     }
 
-    /// The first function with the name of the root or of an earlier interface's class.
-    fn function_names_fault(&self) -> Option<ClassFault>
+    /// Whether the function has the name of the root or of an earlier interface's class, or parameters of other kinds
+    /// than the first function of its name.
+    fn clashes_with(&self, function: &'a Function) -> bool
         requires { Knows (unit_tree self.now.unit.now) self.now }
-        ensures { option_map told result ≡ first (named_as_classes (unit_tree self.now.unit.now).interfaces (unit_tree self.now.unit.now).functions) }
+        ensures { result ≡ rules.clashes_with (unit_tree self.now.unit.now).interfaces (unit_tree self.now.unit.now).functions (function_tree function.now) }
+    {
+        self.class_before(&function.name, function.at)
+            || other_parameters(at_name(&self.functions, &function.name), function)
+    }
+
+    /// The first function that clashes with a class, or with the first function of its name.
+    fn functions_fault(&self) -> Option<ClassFault>
+        requires { Knows (unit_tree self.now.unit.now) self.now }
+        ensures { option_map told result ≡ first (clashing_functions (unit_tree self.now.unit.now).interfaces (unit_tree self.now.unit.now).functions (unit_tree self.now.unit.now).functions) }
     {
         let mut fault = None;
         for function in &self.unit.functions {
-            let taken = self.class_before(&function.name, function.at);
-            fault = earlier(fault, fault_if(taken, ClassFault::Duplicate(function.at)));
+            let clashes = self.clashes_with(function);
+            fault = earlier(fault, fault_if(clashes, ClassFault::Duplicate(function.at)));
         }
         fault
     }
@@ -220,13 +240,13 @@ impl<'a> Source<'a> {
         requires knows { Knows (unit_tree self.now.unit.now) self.now }
         requires fields { map fields_tree fields.now ≡ all_class_fields (unit_tree self.now.unit.now) }
         requires owners { TellsFields fields.now owners.now }
-        ensures { IfOk result (λ fault. option_map told fault ≡ first (named_as_classes (unit_tree self.now.unit.now).interfaces (unit_tree self.now.unit.now).functions
+        ensures { IfOk result (λ fault. option_map told fault ≡ first (clashing_functions (unit_tree self.now.unit.now).interfaces (unit_tree self.now.unit.now).functions (unit_tree self.now.unit.now).functions
             ++ (broken_interfaces (unit_tree self.now.unit.now) [] (unit_tree self.now.unit.now).interfaces
             ++ broken_implementations (unit_tree self.now.unit.now) [] (unit_tree self.now.unit.now).implementations))) }
     {
         let interfaces = self.interfaces_fault(alloc, fields, owners)?;
         let implementations = self.implementations_fault(alloc)?;
         let inside = earlier(interfaces, implementations);
-        Ok(earlier(self.function_names_fault(), inside))
+        Ok(earlier(self.functions_fault(), inside))
     }
 }

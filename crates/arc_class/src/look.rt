@@ -1,11 +1,13 @@
 //! One look at the functions of a source, before their bodies.
 ghost use Rattle.std.specs.Prelude.{◌≡◌, ◌<◌, suc, option_map, if◌then◌else◌, IfOk};
 ghost use Rattle.arc_ast.specs.declared.tree.Kind.{Kind};
-ghost use Rattle.arc_ast.specs.Tree.{function_tree, function_trees, parameters_tree};
+ghost use Rattle.arc_ast.specs.Tree.{function_tree, function_trees, parameter_trees, parameters_tree};
+ghost use Rattle.arc_sites.specs.Sites.{named_parameters};
 ghost use Rattle.arc_class.specs.Fault.{told};
 ghost use Rattle.arc_class.specs.Functions as rules;
 ghost use Rattle.arc_class.specs.Look.{Sums, IsMore, joined, fault_with, main_with};
 ghost use Rattle.arc_class.specs.Names as names;
+ghost use Rattle.arc_class.specs.Names.{parameter_kinds};
 
 use crate::table::{Declared, Known, Signature, at_name};
 use arc_ast::tree::{Function, Kind, Parameter, Parameters};
@@ -38,6 +40,23 @@ pub(crate) fn same_kind(a: Kind, b: Kind) -> bool
     )
 }
 
+/// Whether the kinds of these parameters are those of the others, in their order.
+pub(crate) fn same_parameters(first: &[Parameter], second: &[Parameter]) -> bool
+    ensures { result ≡ rules.same_kinds (parameter_kinds (parameter_trees first.now)) (parameter_kinds (parameter_trees second.now)) }
+{
+    let mut rest = second;
+    for parameter in first {
+        let Some((other, others)) = rest.split_first() else {
+            return false;
+        };
+        if !same_kind(parameter.type_name.kind(), other.type_name.kind()) {
+            return false;
+        }
+        rest = others;
+    }
+    rest.is_empty()
+}
+
 fn same_number(a: Option<usize>, b: Option<usize>) -> bool
     ensures { result ≡ rules.same_number a b }
 {
@@ -58,6 +77,16 @@ pub(crate) fn is_library(name: &[u8]) -> bool
     ensures { result ≡ rules.is_library name.now }
 {
     name == b"printf".as_slice() || name == b"getchar".as_slice()
+}
+
+/// The parameters that are listed.
+pub(crate) fn listed(parameters: &Parameters) -> &[Parameter]
+    ensures { parameter_trees result.now ≡ named_parameters (parameters_tree parameters.now) }
+{
+    match parameters {
+        Parameters::Listed(all) => all,
+        Parameters::CountAndTexts => &[],
+    }
 }
 
 /// How many parameters a function has, where they are listed.

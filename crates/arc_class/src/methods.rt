@@ -12,7 +12,7 @@ ghost use Rattle.arc_class.specs.Kept.{head_in, Knows};
 use crate::fault::fault_if;
 use crate::heads::Heads;
 use crate::kept::Source;
-use crate::look::same_kind;
+use crate::look::{same_kind, same_parameters};
 use crate::root::built_in_result;
 use arc_ast::tree::{Kind, Method, MethodHead, Sign};
 use arc_fault::class::ClassFault;
@@ -82,14 +82,21 @@ fn is_hook(head: &MethodHead) -> bool
     is_hook_of(head.sign, selector) || selector == b"class".as_slice()
 }
 
-/// Whether the earlier method stands before this one and gives another kind of value.
+/// Whether two methods give the same kind of value, and have parameters of the same kinds.
+fn same_kinds_of(earlier: &MethodHead, head: &MethodHead) -> bool
+    ensures { result ≡ rules.same_kinds_of (head_tree earlier.now) (head_tree head.now) }
+{
+    same_kind(earlier.result.kind(), head.result.kind())
+        && same_parameters(&earlier.parameters, &head.parameters)
+}
+
+/// Whether the earlier method stands before this one, and they differ in a kind.
 fn differs_before(earlier: Option<&MethodHead>, head: &MethodHead) -> bool
     ensures { result ≡ rules.differs_before (option_map (λ h. head_tree h.now) earlier.entry) (head_tree head.now) }
 {
     match earlier {
         None => false,
-        Some(earlier) => earlier.at < head.at
-            && !same_kind(earlier.result.kind(), head.result.kind()),
+        Some(earlier) => earlier.at < head.at && !same_kinds_of(earlier, head),
     }
 }
 
@@ -104,7 +111,7 @@ fn differs_from(built_in: Option<Kind>, head: &MethodHead) -> bool
 }
 
 impl<'a> Source<'a> {
-    /// Whether the method gives another kind of value than an earlier one of its sign with its selector.
+    /// Whether the method differs in a kind from an earlier one of its sign with its selector.
     fn changes_kind(&self, head: &'a MethodHead) -> bool
         requires { Knows (unit_tree self.now.unit.now) self.now }
         ensures { result ≡ rules.changes_kind (unit_tree self.now.unit.now) (head_tree head.now) }

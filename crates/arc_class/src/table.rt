@@ -1,6 +1,6 @@
 //! The table that the later stages look names up in.
 ghost use Rattle.std.specs.Prelude.{◌≡◌, [], Some, map, option_map, slice_get, IfOk, IfErr, OnErr};
-ghost use Rattle.arc_ast.specs.Tree.{unit_tree};
+ghost use Rattle.arc_ast.specs.Tree.{parameter_trees, unit_tree};
 ghost use Rattle.arc_spec.specs.Classes.{classes_of};
 ghost use Rattle.arc_class.specs.Broken.{first};
 ghost use Rattle.arc_class.specs.Classes.{is_root};
@@ -10,22 +10,23 @@ ghost use Rattle.arc_class.specs.Entries.{fields_tree, all_class_fields};
 ghost use Rattle.arc_class.specs.Fault.{Refuses, told};
 ghost use Rattle.arc_class.specs.Functions.{missing_main};
 ghost use Rattle.arc_class.specs.Kept.{Knows};
-ghost use Rattle.arc_class.specs.Names.{number_of, is_main};
+ghost use Rattle.arc_class.specs.Names.{parameter_kinds, number_of, is_main};
 ghost use Rattle.arc_ast.specs.declared.tree.Sign.TheVariants as signs;
-ghost use Rattle.arc_class.specs.Lookups.{at_name, class_number_in, own_result_in, result_at, result_among, field_tree, items_at, ends_object, nearest_dealloc, colons, number_of_class, number_of_selector, number_of_method};
+ghost use Rattle.arc_class.specs.Classes.{or_else};
+ghost use Rattle.arc_class.specs.Lookups.{head_at, at_name, class_number_in, own_result_in, result_at, result_among, field_tree, items_at, ends_object, nearest_dealloc, colons, number_of_class, number_of_selector, number_of_method};
 ghost use Rattle.arc_class.specs.Owners.{TellsMethods, TellsFields};
 ghost use Rattle.std.proofs.Props.{props};
 
 use crate::building::{Parts, Selectors};
 use crate::fields::{ClassFields, field_of};
 use crate::heads::Heads;
-use crate::kept::Source;
-use crate::look::look;
+use crate::kept::{Functions, Source};
+use crate::look::{listed, look};
 use crate::nearest::{field_owners, method_owners};
 use crate::owners::Owners;
 use crate::root::{BuiltIn, built_in_result, counting_result};
 use crate::walk::walk;
-use arc_ast::tree::{Kind, Qual, Sign, TranslationUnit, Visibility};
+use arc_ast::tree::{Kind, MethodHead, Parameter, Qual, Sign, TranslationUnit, Visibility};
 use arc_fault::class::ClassFault;
 use arc_sites::violation::earlier;
 use arc_spec::class::{Class, descends_from, look_up};
@@ -276,6 +277,8 @@ fn items_at<T>(lists: &[Vec<T>], number: usize) -> &[T]
 #[derive(Drop)]
 pub struct ClassTable<'a> {
     functions: Known<'a>,
+    /// The first function of each name.
+    first_functions: Functions<'a>,
     /// Which of the functions with a body is `main`, counted from 0.
     pub main: usize,
     names: Names<'a>,
@@ -302,13 +305,45 @@ pub struct ClassTable<'a> {
 }
 
 impl<'a> ClassTable<'a> {
-    ghost use Rattle.arc_class.specs.Table.{IsTableOf, function_in, class_in, superclass_in, nearest_result_in, result_in_table, owners_in, any_result_in, field_in_table, fields_in, defined_in, built_in_method, method_in, selector_in, selector_name, IsSameTable, Registers};
+    ghost use Rattle.arc_class.specs.Table.{IsTableOf, function_in, parameters_in, passed_in, class_in, superclass_in, nearest_result_in, result_in_table, owners_in, any_result_in, field_in_table, fields_in, defined_in, built_in_method, method_in, selector_in, selector_name, IsSameTable, Registers};
 
     /// What is known of the functions of the name, if there are any. The name lies in the source, or lives as long.
     pub fn function(&self, name: &'a [u8]) -> Option<Declared>
         ensures { result ≡ function_in self.now name.now }
     {
         at_name(&self.functions, name)
+    }
+
+    /// The parameters of the functions of the name, as the first of them lists these: none where no function has the name, and none of a
+    /// count and texts.
+    pub fn parameters(&self, name: &'a [u8]) -> &'a [Parameter]
+        ensures { parameter_kinds (parameter_trees result.now) ≡ parameters_in self.now name.now }
+    {
+        match at_name(&self.first_functions, name) {
+            None => &[],
+            Some(function) => listed(&function.parameters),
+        }
+    }
+
+    /// The parameters of the methods of the sign with the selector, as the first of them that is declared, or else defined, lists these;
+    /// none where the source has no such method.
+    pub fn parameters_passed(&self, sign: Sign, selector: &'a [u8]) -> &'a [Parameter]
+        ensures { parameter_kinds (parameter_trees result.now) ≡ passed_in self.now sign selector.now }
+    {
+        match self.first_method(sign, selector) {
+            None => &[],
+            Some(head) => &head.parameters,
+        }
+    }
+
+    /// The first method of the sign with the selector that is declared, or else defined.
+    fn first_method(&self, sign: Sign, selector: &'a [u8]) -> Option<&'a MethodHead>
+        ensures { result ≡ or_else (head_at self.now.declared sign selector.now) (head_at self.now.defined sign selector.now) }
+    {
+        match self.declared.get(sign, selector) {
+            Some(head) => Some(head),
+            None => self.defined.get(sign, selector),
+        }
     }
 
     /// The class with the name, where it has an interface or is the root (Runtime Reference, `objc_getClass`).
@@ -488,6 +523,7 @@ impl<'a> ClassTable<'a> {
         let instance_methods = method_owners(alloc, &parts.entries, Sign::Instance)?;
         let Source {
             known,
+            functions,
             names,
             declared,
             defined,
@@ -502,6 +538,7 @@ impl<'a> ClassTable<'a> {
         } = parts;
         Ok(ClassTable {
             functions: known,
+            first_functions: functions,
             main,
             names,
             entries,

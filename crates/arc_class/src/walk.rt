@@ -66,6 +66,12 @@ fn expression<'a>(source: &Source<'a>, expr: &'a Expr) -> Option<ClassFault>
             let left = expression(source, left);
             earlier(left, expression(source, right))
         }
+        Expr::Conditional(_, test, first, second) => {
+            let test = expression(source, test);
+            let first = expression(source, first);
+            let second = expression(source, second);
+            earlier(test, earlier(first, second))
+        }
         Expr::Assign(_, _, left, right) => {
             let left = expression(source, left);
             earlier(left, expression(source, right))

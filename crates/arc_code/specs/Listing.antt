@@ -35,6 +35,8 @@ operator_number o.Equal = 12
 operator_number o.BitAnd = 13
 operator_number o.BitXor = 14
 operator_number o.BitOr = 15
+operator_number o.And = 16
+operator_number o.Or = 17
 
 abbrev pub kind_number : Kind → ℕ
 kind_number k.Void = 0

@@ -270,6 +270,8 @@ fn number_of_operator(operator: BinaryOperator) -> u64
         BinaryOperator::BitAnd => 13,
         BinaryOperator::BitXor => 14,
         BinaryOperator::BitOr => 15,
+        BinaryOperator::And => 16,
+        BinaryOperator::Or => 17,
     }
 }
 

@@ -14,7 +14,7 @@ use Rattle.arc_form.proofs.Sets.{sees_neither}
 use Rattle.arc_form.proofs.Static.{nullable, decided}
 use Rattle.arc_form.proofs.Local.{Local, weaker, then, local_token, local_ret}
 use Rattle.arc_form.proofs.FormLocal.{solid, read_is, form_front, fronts}
-use Rattle.arc_grammar.specs.Grammar.{Part, Sent, rules, reads_free, reads_on, body, expr, unary, binary, table, marks_up_to, join, further, more, up_to, operations, expression, prefixed, field_name, with_field, arrows, next_argument, more_arguments, add, argument_part, next_part, more_parts, add_part}
+use Rattle.arc_grammar.specs.Grammar.{Part, Sent, rules, reads_free, reads_on, body, expr, unary, binary, condition, table, marks_up_to, join, further, more, up_to, choice, continued, conditional_expr, operations, expression, prefixed, field_name, with_field, arrows, next_argument, more_arguments, add, argument_part, next_part, more_parts, add_part}
 use Rattle.arc_grammar.proofs.Fits.{facts, sure}
 use Rattle.arc_expr.specs.declared.operator.TheConstants.{LOOSEST}
 
@@ -39,6 +39,15 @@ unfolding body table
 read_binary l ts p =
     let same : min l LOOSEST ≡ l = omega (arith, p) in
     read_is facts body sure unlimited (binary l) ts ∙ ap (λ k. reads_free (operations k) ts) same
+
+pub read_condition : (ts : List Tok) → rules unlimited condition ts ≡ reads_free conditional_expr ts
+unfolding body
+read_condition ts = read_is facts body sure unlimited condition ts
+
+-- the operators of all levels, and then what they choose
+pub read_continued : (left : ExprTree) (ts : List Tok) → reads_on continued left ts ≡ (reads_on (up_to LOOSEST) left >>= (λ test. reads_on choice test)) ts
+unfolding continued table
+read_continued left ts = in_turn ExprTree (reads_free (up_to LOOSEST)) (reads_free choice) left ts
 
 -- the operators of a level after a left operand, one by one
 pub read_more : (l : ℕ) (left : ExprTree) (ts : List Tok)

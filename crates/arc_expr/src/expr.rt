@@ -35,6 +35,7 @@ fn place_of(expr: &Expr) -> usize
         | Expr::Unary(at, _, _)
         | Expr::Cast(at, _, _)
         | Expr::Binary(at, _, _, _)
+        | Expr::Conditional(at, _, _, _)
         | Expr::Arrow(at, _, _, _)
         | Expr::Assign(at, _, _, _)
         | Expr::Send(at, _, _, _, _)
@@ -81,14 +82,58 @@ fn assigned<'a>(alloc: Global, left: Expr, tokens: &'a [Token]) -> Read<'a, Expr
     Ok((Expr::Assign(at, sign, left, Box::new(alloc, right)?), rest))
 }
 
-/// The operators of all levels after this unary expression, with their right operands.
+/// The operators of all levels after this unary expression, with their right operands, and what they choose.
 #[cycle(exprs)]
-#[tactic(auto, unfolding(arc_grammar::specs::Grammar::continued, arc_grammar::specs::Grammar::table))]
+#[tactic(auto, using(crate::proofs::Fix::read_continued))]
 fn continued<'a>(alloc: Global, left: Expr, tokens: &'a [Token]) -> Read<'a, Expr>
     ensures gives { Gives (λ x. (expr_tree x.0, toks x.1.now)) result (reads_on grammar.continued (expr_tree left) (toks tokens.now)) }
     ensures shorter { IfOk result (λ x. length x.1.now ≤ length tokens.now) }
 {
-    up_to(alloc, LOOSEST, left, tokens)
+    let (left, rest) = up_to(alloc, LOOSEST, left, tokens)?;
+    choice(alloc, left, rest)
+}
+
+/// What this test chooses, where `?` is after it.
+#[cycle(exprs)]
+#[tactic(auto, unfolding(arc_grammar::specs::Grammar::choice))]
+fn choice<'a>(alloc: Global, test: Expr, tokens: &'a [Token]) -> Read<'a, Expr>
+    ensures gives { Gives (λ x. (expr_tree x.0, toks x.1.now)) result (reads_on grammar.choice (expr_tree test) (toks tokens.now)) }
+    ensures shorter { IfOk result (λ x. length x.1.now ≤ length tokens.now) }
+{
+    if sees_mark(Mark::Question, tokens) {
+        chosen(alloc, test, tokens)
+    } else {
+        Ok((test, tokens))
+    }
+}
+
+/// The two expressions of which this test chooses.
+#[cycle(exprs)]
+#[tactic(auto, unfolding(arc_grammar::specs::Grammar::chosen))]
+fn chosen<'a>(alloc: Global, test: Expr, tokens: &'a [Token]) -> Read<'a, Expr>
+    ensures gives { Gives (λ x. (expr_tree x.0, toks x.1.now)) result (reads_on grammar.chosen (expr_tree test) (toks tokens.now)) }
+    ensures shorter { IfOk result (λ x. length x.1.now ≤ length tokens.now) }
+{
+    let at = place_of(&test);
+    let test = Box::new(alloc, test)?;
+    let (_, rest) = expect(Mark::Question, tokens)?;
+    let (first, rest) = expr(alloc, rest)?;
+    let first = Box::new(alloc, first)?;
+    let (_, rest) = expect(Mark::Colon, rest)?;
+    let (second, rest) = condition(alloc, rest)?;
+    let second = Box::new(alloc, second)?;
+    Ok((Expr::Conditional(at, test, first, second), rest))
+}
+
+/// An expression that is no assignment.
+#[cycle(exprs)]
+#[tactic(auto, using(crate::proofs::Fix::read_condition), unfolding(arc_grammar::specs::Grammar::conditional_expr))]
+fn condition<'a>(alloc: Global, tokens: &'a [Token]) -> Read<'a, Expr>
+    ensures gives { Gives (λ x. (expr_tree x.0, toks x.1.now)) result (rules unlimited grammar.condition (toks tokens.now)) }
+    ensures shorter { IfOk result (λ x. length x.1.now < length tokens.now) }
+{
+    let (left, rest) = prefixed(alloc, tokens)?;
+    continued(alloc, left, rest)
 }
 
 /// The operators of the levels up to this one after this left operand, with their right operands.

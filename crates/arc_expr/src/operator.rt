@@ -12,7 +12,7 @@ use arc_form::fail::{Fail, Read};
 use arc_lex::token::{Mark, Token, TokenKind};
 
 /// The loosest level of an operator.
-pub const LOOSEST: usize = 8;
+pub const LOOSEST: usize = 10;
 
 /// The level and the operator of a mark.
 #[tactic(auto, unfolding(arc_grammar::specs::Grammar::table))]
@@ -36,6 +36,8 @@ fn of_mark(mark: Mark) -> Option<(usize, BinaryOperator)>
         Mark::Ampersand => Some((6, BinaryOperator::BitAnd)),
         Mark::Caret => Some((7, BinaryOperator::BitXor)),
         Mark::Bar => Some((8, BinaryOperator::BitOr)),
+        Mark::And => Some((9, BinaryOperator::And)),
+        Mark::Or => Some((10, BinaryOperator::Or)),
         _ => None,
     }
 }

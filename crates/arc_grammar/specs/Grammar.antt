@@ -16,7 +16,7 @@ use Rattle.arc_ast.specs.declared.tree.BinaryOperator.{BinaryOperator}
 use Rattle.arc_ast.specs.declared.tree.BinaryOperator.TheVariants as operators
 use Rattle.arc_ast.specs.declared.tree.UnaryOperator.{UnaryOperator}
 use Rattle.arc_ast.specs.declared.tree.UnaryOperator.TheVariants as unary_operators
-use Rattle.arc_ast.specs.Tree.{TypeTree, ResultTree, ExprTree, ExprTrees, VariableTree, StmtTree, StmtTrees, ParameterTree, ParametersTree, FunctionTree, HeadTree, MethodTree, FieldTree, InterfaceTree, ImplementationTree, UnitTree, Boolean, Int, Long, Id, Object, Void, Value, Integer, Text, Paren, Call, Nil, Itself, Name, Unary, Cast, Binary, Arrow, Assign, Send, SendSuper, no_exprs, and_expr, Block, Empty, Simple, Return, Variables, If, IfElse, While, no_stmts, and_stmt, Listed, CountAndTexts, begins}
+use Rattle.arc_ast.specs.Tree.{TypeTree, ResultTree, ExprTree, ExprTrees, VariableTree, StmtTree, StmtTrees, ParameterTree, ParametersTree, FunctionTree, HeadTree, MethodTree, FieldTree, InterfaceTree, ImplementationTree, UnitTree, Boolean, Int, Long, Id, Object, Void, Value, Integer, Text, Paren, Call, Nil, Itself, Name, Unary, Cast, Binary, Conditional, Arrow, Assign, Send, SendSuper, no_exprs, and_expr, Block, Empty, Simple, Return, Variables, If, IfElse, While, no_stmts, and_stmt, Listed, CountAndTexts, begins}
 use Rattle.arc_grammar.specs.declared.limits.TheConstants.{DEEPEST, MOST_TOKENS}
 use Rattle.arc_form.specs.Kinds.{Kinds, none, ◌∪◌, mark, word, at, name, main, other_name, integer, text}
 use Rattle.arc_form.specs.Reader.{Reader, ◌>>=◌, ret, from}
@@ -24,18 +24,19 @@ use Rattle.arc_form.specs.Reader as readers
 use Rattle.arc_form.specs.Operators.{Row, marks_at, operator_of, fold}
 use Rattle.arc_form.specs.Form.{Limits, unlimited, Form, Rules, Bodies, token, give, call, map, ◌⨾◌, choose, many, or_none, nest, bounded, two_ahead, avoid, run, read}
 
--- What is recursive: an expression, a unary one, one whose operators are of a level or tighter, and a statement that is nested
--- so deep.
+-- What is recursive: an expression, a unary one, one whose operators are of a level or tighter, one that is no assignment, and a statement that is nested so deep.
 pub data Rule : Type 0 where
   expr : Rule
   unary : Rule
   binary : ℕ → Rule
+  condition : Rule
   stmt : ℕ → Rule
 
 abbrev pub Node : Rule → Type 0
 Node expr = ExprTree
 Node unary = ExprTree
 Node (binary l) = ExprTree
+Node condition = ExprTree
 Node (stmt d) = StmtTree
 
 abbrev pub Part : Type 0 → Type 1
@@ -56,7 +57,7 @@ at_key w = token (at w) from
 abbrev pub called : Part (ℕ × List ℕ)
 called = token name readers.named
 
--- ---- operators between two operands (C99, sections 6.5.5 to 6.5.12), the tightest first
+-- ---- operators between two operands (C99, sections 6.5.5 to 6.5.14), the tightest first
 
 unfoldable pub table : List (Row BinaryOperator)
 table =
@@ -75,7 +76,9 @@ table =
     record { mark = m.NotEqual; level = 5; operator = operators.NotEqual } ∷
     record { mark = m.Ampersand; level = 6; operator = operators.BitAnd } ∷
     record { mark = m.Caret; level = 7; operator = operators.BitXor } ∷
-    record { mark = m.Bar; level = 8; operator = operators.BitOr } ∷ []
+    record { mark = m.Bar; level = 8; operator = operators.BitOr } ∷
+    record { mark = m.And; level = 9; operator = operators.And } ∷
+    record { mark = m.Or; level = 10; operator = operators.Or } ∷ []
 
 -- the loosest of these levels
 abbrev pub loosest_of : List (Row BinaryOperator) → ℕ
@@ -110,9 +113,16 @@ unfoldable pub up_to : ℕ → Part (ExprTree → ExprTree)
 up_to zero = give (λ left. left)
 up_to (suc l) = map (λ (tighter, make) left. make (tighter left)) (up_to l ⨾ more (suc l))
 
--- the operators of all levels after a unary expression
+-- the two expressions of which a test before them chooses (6.5.15); `?:` groups from the right
+unfoldable pub chosen : Part (ExprTree → ExprTree)
+chosen = map (λ (question, (a, (colon, b))) test. Conditional (begins test) test a b) (the m.Question ⨾ call expr ⨾ the m.Colon ⨾ call condition)
+
+unfoldable pub choice : Part (ExprTree → ExprTree)
+choice = choose (mark m.Question) chosen (give (λ test. test))
+
+-- the operators of all levels after a unary expression, and what they choose
 unfoldable pub continued : Part (ExprTree → ExprTree)
-continued = up_to loosest
+continued = map (λ (make, choose_by) left. choose_by (make left)) (up_to loosest ⨾ choice)
 
 -- ---- types (C99, section 6.7.2; `BOOL` and `NSInteger` are names of types of the library, which are words here)
 
@@ -326,6 +336,10 @@ prefixed = choose begins_signed signed (choose (mark m.OpenParen) parenthesized 
 unfoldable pub operations : ℕ → Part ExprTree
 operations l = map (λ (left, make). make left) (prefixed ⨾ up_to l)
 
+-- an expression that is no assignment (6.5.15)
+unfoldable pub conditional_expr : Part ExprTree
+conditional_expr = map (λ (left, make). make left) (prefixed ⨾ continued)
+
 -- an assignment (6.5.16), of which the left side is a unary expression
 unfoldable pub assigned : Part (ExprTree → ExprTree)
 assigned = map (λ (sign, right) left. Assign (begins left) sign left right) (the m.Assign ⨾ call expr)
@@ -446,8 +460,9 @@ statement d = choose (mark m.OpenBrace) (block d) (choose (mark m.Semicolon) emp
 unfoldable pub result_type : Part ResultTree
 result_type = choose (word w.Void) (map (λ void. Void) (key w.Void)) (map (λ type. Value type.1) number_type)
 
+-- a type of numbers and a name
 unfoldable pub parameter : Part ParameterTree
-parameter = map (λ (int, n). record { at = n.0; type = Int; name = n.1 }) (key w.Int ⨾ called)
+parameter = map (λ (type, n). record { at = n.0; type = type.1; name = n.1 }) (number_type ⨾ called)
 
 unfoldable pub next_parameter : Part ParameterTree
 next_parameter = map (λ (comma, p). p) (the m.Comma ⨾ parameter)
@@ -462,7 +477,7 @@ unfoldable pub some_parameters : Part ParametersTree
 some_parameters = map (λ (p, others). Listed (p ∷ others)) (parameter ⨾ more_parameters)
 
 unfoldable pub parameters : Part ParametersTree
-parameters = choose (word w.Void) void_parameters (choose (word w.Int) some_parameters (give (Listed [])))
+parameters = choose (word w.Void) void_parameters (choose begins_number_type some_parameters (give (Listed [])))
 
 -- `name[]` or `*name`
 unfoldable pub texts_name : Part (Unit {0})
@@ -478,12 +493,16 @@ texts = map (λ _ count. CountAndTexts) (perhaps_const ⨾ key w.Char ⨾ the m.
 unfoldable pub further_parameters : Part (ParameterTree → ParametersTree)
 further_parameters = map (λ (q, others) p. Listed (p ∷ q ∷ others)) (parameter ⨾ more_parameters)
 
--- what is after the first parameter of `main` and a comma
+-- the first parameter of `main`, which is an `int`, as the count of texts is (this project's own choice)
+unfoldable pub count : Part ParameterTree
+count = map (λ (int, n). record { at = n.0; type = Int; name = n.1 }) (key w.Int ⨾ called)
+
+-- what is after it and a comma
 unfoldable pub second : Part (ParameterTree → ParametersTree)
 second = map (λ (comma, make). make) (the m.Comma ⨾ choose (word w.Const ∪ word w.Char) texts further_parameters)
 
 unfoldable pub some_of_main : Part ParametersTree
-some_of_main = map (λ (p, make). make p) (parameter ⨾ choose (mark m.Comma) second (give (λ p. Listed (p ∷ []))))
+some_of_main = map (λ (p, make). make p) (count ⨾ choose (mark m.Comma) second (give (λ p. Listed (p ∷ []))))
 
 unfoldable pub parameters_of_main : Part ParametersTree
 parameters_of_main = choose (word w.Void) void_parameters (choose (word w.Int) some_of_main (give (Listed [])))
@@ -507,14 +526,18 @@ braces = map (λ (start, (all, end)). stmts all) (the m.OpenBrace ⨾ items 2 �
 unfoldable pub function_body : Part (Option StmtTrees)
 function_body = choose (mark m.Semicolon) (map (λ end. None) (the m.Semicolon)) (map Some braces)
 
+-- a name that is `static` is known in its file alone (C99, section 6.2.2), which is the whole program
+unfoldable pub perhaps_static : Part (Unit {0})
+perhaps_static = choose (word w.Static) (map (λ _. tt) (key w.Static)) (give tt)
+
 unfoldable pub function : Part FunctionTree
-function = map (λ (type, (s, b)). record { at = s.0.0; name = s.0.1; result = type; parameters = s.1; body = b }) (result_type ⨾ signature ⨾ function_body)
+function = map (λ (static, (type, (s, b))). record { at = s.0.0; name = s.0.1; result = type; parameters = s.1; body = b }) (perhaps_static ⨾ result_type ⨾ signature ⨾ function_body)
 
 -- ---- methods (OPL, "Defining a Class")
 
--- a colon, `int` in parentheses and the parameter's name
+-- a colon, a type of numbers in parentheses and the parameter's name
 unfoldable pub typed : Part ParameterTree
-typed = map (λ (colon, (start, (int, (end, n)))). record { at = n.0; type = Int; name = n.1 }) (the m.Colon ⨾ the m.OpenParen ⨾ key w.Int ⨾ the m.CloseParen ⨾ called)
+typed = map (λ (colon, (start, (type, (end, n)))). record { at = n.0; type = type.1; name = n.1 }) (the m.Colon ⨾ the m.OpenParen ⨾ number_type ⨾ the m.CloseParen ⨾ called)
 
 unfoldable pub next_typed : Part (List ℕ × ParameterTree)
 next_typed = map (λ (n, p). (n.1, p)) (called ⨾ typed)
@@ -628,7 +651,7 @@ top = choose (at words.Class) (map (λ _. OfNames) class_names) (choose (at word
     (choose (at words.Implementation) (map OfImplementation implementation) (map OfFunction function)))
 
 abbrev pub begins_top : Kinds
-begins_top = at words.Class ∪ at words.Interface ∪ at words.Implementation ∪ word w.Void ∪ begins_number_type
+begins_top = at words.Class ∪ at words.Interface ∪ at words.Implementation ∪ word w.Static ∪ word w.Void ∪ begins_number_type
 
 unfoldable pub tops : Part (List TopTree)
 tops = many begins_top top
@@ -658,6 +681,7 @@ unfoldable pub body : Bodies Rule Node
 body expr = expression
 body unary = prefixed
 body (binary l) = operations (min l loosest)
+body condition = conditional_expr
 body (stmt d) = nest d begins_stmt (statement d)
 
 -- This compiler's own limits (C99, section 5.2.4.1, asks for 127 levels of blocks and 63 of parentheses): a statement of a

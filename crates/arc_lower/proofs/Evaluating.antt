@@ -1,13 +1,14 @@
 -- The blocks of expressions mean what these mean.
 use Rattle.std.proofs.Common.{◌≡◌, ℕ, suc, ℤ, false, List, ◌∷◌, length, Some, refl, ap, ◌∙◌}
 use Rattle.arc_spec.specs.Classes.{class_at}
-use Rattle.arc_spec.specs.Resolved.{Piece, Value, Number, ReadByte, Print, Applied, Combined, Converted, Local, Assigned, Invoked, Sent, SentSuper, SentTo, SentToSuper, Field, FieldAssigned, Reference, Itself, Variable, Stored, Made, Initialized, Values, no_values, and_value}
+use Rattle.arc_spec.specs.Resolved.{Piece, Value, Number, ReadByte, Print, Applied, Combined, Choice, Converted, Local, Assigned, Invoked, Sent, SentSuper, SentTo, SentToSuper, Field, FieldAssigned, Reference, Itself, Variable, Chosen, Stored, Made, Initialized, Values, no_values, and_value}
 use Rattle.arc_spec.specs.Resolved as resolved
 use Rattle.arc_spec.specs.World.{World, Outcome, Done, Faulted, Cut, Finished, then_do, prints, local_at, takes}
+use Rattle.arc_spec.specs.Number.{is_zero}
 use Rattle.arc_spec.specs.Meaning.{Deeper, dispatched, finds, sent_to, sent_from, formatted, byte_count, assigned, evaluated, referred, all_evaluated}
 use Rattle.arc_code.specs.declared.instr.Op.TheVariants.{Hold}
 use Rattle.arc_lower.specs.Lowered.{Message, ToClass, ToSuperClass, ToObject, ToSuper, Block, One, Format, Calls, Tells, Then, value_count, value_block, reference_block, values_block}
-use Rattle.arc_lower.proofs.Shaping.{Operands, push, name, pushed, Way, On, Lost, left_by, and_then, pushes, passes_by, told, block, after, same_depth, on_pushed, Holds, after_known}
+use Rattle.arc_lower.proofs.Shaping.{Operands, push, name, pushed, Way, On, Lost, left_by, and_then, pushes, passes_by, told, block, after, chosen_by, same_depth, on_pushed, Holds, after_known}
 
 module _ (D : Deeper) (bound : ℕ) where
   abbrev run : Block → Operands → World → Outcome Way
@@ -63,6 +64,9 @@ module _ (D : Deeper) (bound : ℕ) where
     value_is (Applied operator kind a) s w = after (λ v. push v s) (above s) _ (evaluated D a w) _ _ (value_is a s w) (λ x w1. refl)
     value_is (Combined operator kind a b) s w = after (λ v. push v s) (above s) _ (evaluated D a w) _ _ (value_is a s w) (λ x w1.
         after (λ v. push v (push x s)) (above s) _ (evaluated D b w1) _ _ (value_is b (push x s) w1) (λ y w2. refl))
+    value_is (Choice c a b) s w = after (λ v. push v s) (above s) _ (evaluated D c w) _ _ (value_is c s w) (λ x w1.
+        let rest : Operands = record { numbers = s.numbers; names = s.names } in
+        chosen_by (above s) (is_zero x) _ _ (evaluated D a w1) (evaluated D b w1) (value_is a rest w1) (value_is b rest w1))
     value_is (Converted kind a) s w = after (λ v. push v s) (above s) _ (evaluated D a w) _ _ (value_is a s w) (λ x w1. refl)
     value_is (Local i) s w = same_depth (length s.numbers) _ _
     value_is (Assigned i a) s w = after (λ v. push v s) (above s) _ (evaluated D a w) _ _ (value_is a s w) (λ x w1. same_depth (length s.numbers) _ _)
@@ -89,6 +93,9 @@ module _ (D : Deeper) (bound : ℕ) where
     reference_is resolved.Nil s w = refl
     reference_is Itself s w = refl
     reference_is (Variable i) s w = refl
+    reference_is (Chosen c a b) s w = after (λ v. push v s) (beside s) _ (evaluated D c w) _ _ (value_is c s w) (λ x w1.
+        let rest : Operands = record { numbers = s.numbers; names = s.names } in
+        chosen_by (beside s) (is_zero x) _ _ (referred D a w1) (referred D b w1) (reference_is a rest w1) (reference_is b rest w1))
     reference_is (Stored i a) s w = after (λ r. name r s) (beside s) _ (referred D a w) _ _ (reference_is a s w) (λ r w1. held r s (assigned D i r w1))
     reference_is (Made a) s w = after (λ v. push v s) (beside s) _ (evaluated D a w) _ _ (value_is a s w) (λ class w1. refl)
     reference_is (Initialized a) s w = after (λ r. name r s) (beside s) _ (referred D a w) _ _ (reference_is a s w) (λ r w1. refl)

@@ -1,16 +1,16 @@
 -- What each form of expression and of statement needs and leaves.
-use Rattle.std.proofs.Common.{◌≡◌, ℕ, zero, suc, ◌+◌, ◌-◌, ◌≤◌, Bool, true, false, List, [], ◌∷◌, length, Some, None, refl, sym, ap, ◌∙◌, subst, arith, pos}
+use Rattle.std.proofs.Common.{◌≡◌, ℕ, suc, ◌+◌, ◌-◌, ◌≤◌, Bool, true, false, List, Some, None, refl, subst, arith, pos}
 use Rattle.std.specs.List.{list_any}
-use Rattle.arc_spec.specs.Resolved.{Value, Number, ReadByte, Print, Applied, Combined, Converted, Local, Assigned, Invoked, Sent, SentSuper, SentTo, SentToSuper, Field, FieldAssigned, Reference, Itself, Variable, Stored, Made, Initialized, Values, no_values, and_value, Command, Sequence, Evaluate, EvaluateReference, Begin, Choose, Repeat, Commands, no_commands, and_command, Program}
+use Rattle.arc_spec.specs.Resolved.{Value, Number, ReadByte, Print, Applied, Combined, Choice, Converted, Local, Assigned, Invoked, Sent, SentSuper, SentTo, SentToSuper, Field, FieldAssigned, Reference, Itself, Variable, Chosen, Stored, Made, Initialized, Values, no_values, and_value, Command, Sequence, Evaluate, EvaluateReference, Begin, Choose, Repeat, Commands, no_commands, and_command, Program}
 use Rattle.arc_spec.specs.Resolved as resolved
 use Rattle.arc_code.specs.declared.instr.Op.{Op}
-use Rattle.arc_code.specs.declared.instr.Op.TheVariants.{Num, Bin, Un, Narrow, Pop, GetChar, Nil, ReadSelf, Hold, Forget, Alloc, GetField, SetField, Differ, IsObject}
+use Rattle.arc_code.specs.declared.instr.Op.TheVariants.{Num, Bin, Un, Narrow, GetChar, Nil, ReadSelf, Hold, Forget, Alloc, GetField, SetField, Differ, IsObject}
 use Rattle.arc_code.specs.declared.effect.Height.{Height}
 use Rattle.arc_code.specs.Effects.{on_numbers, of_names, operation_effect}
-use Rattle.arc_lower.specs.Lowered.{value_count, order_takes, Block, Idle, One, Then, Fork, Full, Leave, Assign, flat, value_block, reference_block, values_block, whole_block, whole_reference_block, begin_block, command_block, commands_block}
+use Rattle.arc_lower.specs.Lowered.{value_count, order_takes, Block, Idle, One, Then, Fork, Full, Assign, flat, value_block, reference_block, values_block, whole_block, whole_reference_block, begin_block, command_block, commands_block}
 use Rattle.arc_lower.specs.Heights.{height, between, after_effect, walk, last_walk}
 use Rattle.arc_lower.specs.Lowered.{whole_orders, whole_reference_orders}
-use Rattle.arc_lower.proofs.Typing.{heights_same, Reaches, Types, zeros_type, print_types, get_types, set_types, call_types, store_types, read_types, all_empty_type, drop_types, tested, Forks, BlockTypes}
+use Rattle.arc_lower.proofs.Typing.{heights_same, Reaches, print_types, get_types, set_types, call_types, store_types, read_types, all_empty_type, drop_types, tested, Forks, BlockTypes}
 use Rattle.arc_lower.proofs.HeightsEnd.{within_ends, quiet_types}
 
 module _ (P : Program) (r s slots names exit d : ℕ) (room : names ≤ d + s) where
@@ -60,6 +60,7 @@ module _ (P : Program) (r s slots names exit d : ℕ) (room : names ≤ d + s) w
     value_types (Print pieces arguments) depth a b c h = next (values_type arguments depth a b c h) (λ t. plain (print_types P r s b t d pieces (value_count arguments) a))
     value_types (Applied operator kind v) depth a b c h = next (value_types v depth a b c h) (λ t. op (Un operator kind) (omega arith) (omega arith) (omega arith) refl)
     value_types (Combined operator kind v u) depth a b c h = next (value_types v depth a b c h) (λ t. next (value_types u (suc depth) (suc a) b t (omega (arith, h))) (λ q. op (Bin operator kind) (omega arith) (omega arith) (omega arith) refl))
+    value_types (Choice v u w) depth a b c h = next (value_types v depth a b c h) (λ t. choice (value_types u depth a b t h) (λ q. value_types w depth a b q h))
     value_types (Converted kind v) depth a b c h = next (value_types v depth a b c h) (λ t. op (Narrow kind) (omega arith) (omega arith) (omega arith) refl)
     value_types (Local i) depth a b c h = plain (get_types P r s b c d slots depth i a h)
     value_types (Assigned i v) depth a b c h = next (value_types v depth a b c h) (λ t. plain (set_types P r s b t d slots depth i a h))
@@ -77,6 +78,7 @@ module _ (P : Program) (r s slots names exit d : ℕ) (room : names ≤ d + s) w
     reference_types resolved.Nil depth a b c h = op Nil tt (omega arith) (omega arith) refl
     reference_types Itself depth a b c h = op ReadSelf tt (omega arith) (omega arith) refl
     reference_types (Variable i) depth a b c h = record { more = c + 1; most = omega arith; types = read_types P r s names i a b c d room }
+    reference_types (Chosen v u w) depth a b c h = next (value_types v depth a b c h) (λ t. choice (reference_types u depth a b t h) (λ q. reference_types w depth a b q h))
     reference_types (Stored i v) depth a b c h = next (reference_types v depth a b c h) (λ t. next (plain (store_types P r s names a (suc b) t d room i (omega arith))) (λ q. op Hold (omega arith) (omega arith) (omega arith) refl))
     reference_types (Made v) depth a b c h = next (value_types v depth a b c h) (λ t. op Alloc (omega arith) (omega arith) (omega arith) refl)
     reference_types (Initialized v) depth a b c h = next (reference_types v depth a b c h) (λ t. op Hold (omega arith) (omega arith) (omega arith) refl)

@@ -1,5 +1,5 @@
 -- Where a walk over the orders of a block ends: at the height that its type says, and with the parts before it that tests may lead to.
-use Rattle.std.proofs.Common.{◌≡◌, ℕ, suc, ◌+◌, ◌≤◌, Bool, true, false, List, [], ◌∷◌, ◌++◌, length, drop, get_or, refl, sym, ap, ◌∙◌, subst, arith}
+use Rattle.std.proofs.Common.{◌≡◌, ℕ, suc, ◌+◌, ◌≤◌, Bool, true, false, List, [], ◌∷◌, ◌++◌, length, drop, get_or, refl, sym, ap, ◌∙◌, arith}
 use Rattle.std.proofs.lemmas.Bool.{ltb-false, true≢false}
 use Rattle.std.specs.List.{list_any}
 use Rattle.arc_spec.specs.Resolved.{Program}
@@ -25,7 +25,7 @@ module _ (P : Program) (r s slots names exit : ℕ) where
   abbrev test : Height
   test = tested slots names
 
-  -- what is behind a choice stands between two statements
+  -- what stands after a choice stands between two statements
   pub chosen_same : (to : Target) → next_height P (JumpZero to) test ≡ base
   chosen_same to = heights_same _ _ _ _ slots 0 0 names (omega arith) (omega arith) (omega arith) (omega arith)
 
@@ -57,7 +57,7 @@ module _ (P : Program) (r s slots names exit : ℕ) where
     keeps_then true before after last first next = (first.0, first.1, next.2)
     keeps_then false before after last first next = first ∙ next
 
-    -- a test leads to one more, and the jump behind the first part to that
+    -- a test leads to one more, and the jump after its first part to that
     pub keeps_test : (statement : Bool) (i : Height) (before : List Height) → Leaves P r s slots names exit statement i → Keeps statement before before → Keeps statement (i ∷ before) (i ∷ before)
     keeps_test true i before leaves keeps = (keeps.0, (leaves, keeps.1), (leaves, keeps.1))
     keeps_test false i before leaves keeps = refl

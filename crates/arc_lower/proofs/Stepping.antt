@@ -5,7 +5,6 @@ use Rattle.arc_spec.specs.Resolved as resolved
 use Rattle.arc_code.specs.declared.effect.Height.{Height}
 use Rattle.arc_code.specs.declared.instr.Op.TheVariants.{Pop, Set}
 use Rattle.arc_code.specs.declared.instr.Instr.TheVariants.{Plain, Jump, JumpZero, Return, Empty, EndStep}
-use Rattle.arc_ir.specs.declared.action.Target.{Target}
 use Rattle.arc_ir.specs.declared.action.Target.TheVariants.{Skip, Back}
 use Rattle.arc_ir.specs.Acting.{lands}
 use Rattle.arc_lower.specs.Order.{Order}
@@ -317,7 +316,7 @@ module _ (R : resolved.Program) (all : List Order) (table : List Height) where
       abbrev Keeps_on : (statement : Bool) → (before after : List Height) → Type 0
       Keeps_on = Keeps R 0 0 slots names exit base
 
-      -- what is behind a block
+      -- what stands after a block
       behind : (statement : Bool) (x : Block) (h g : Height) (pc : ℕ) (pending : List Height) (ys : List Order) → Keeps_on statement pending pending → Block_types statement h x g → Follows base pc (walk h pending) (orders x ++ ys) → (after : List Height) × Keeps_on statement pending after × Follows base (pc + length (orders x)) (walk g after) ys
       behind statement x h g pc pending ys keeps t f =
           let ends = block_ends R 0 0 slots names exit base statement x h g pending keeps t in

@@ -5,7 +5,7 @@ use Rattle.arc_ast.specs.declared.tree.UnaryOperator.{UnaryOperator}
 use Rattle.arc_ast.specs.declared.tree.BinaryOperator.{BinaryOperator}
 use Rattle.arc_check.specs.declared.checked.Value as c
 use Rattle.arc_check.specs.declared.checked.Reference as r
-use Rattle.arc_spec.specs.Resolved.{Value, Number, ReadByte, Print, Applied, Combined, Converted, Local, Assigned, Invoked, Sent, SentSuper, SentTo, SentToSuper, Field, FieldAssigned, Differ, IsObject, Reference, Nil, Itself, Variable, Stored, Made, Initialized, Values, no_values, and_value}
+use Rattle.arc_spec.specs.Resolved.{Value, Number, ReadByte, Print, Applied, Combined, Choice, Converted, Local, Assigned, Invoked, Sent, SentSuper, SentTo, SentToSuper, Field, FieldAssigned, Differ, IsObject, Reference, Nil, Itself, Variable, Chosen, Stored, Made, Initialized, Values, no_values, and_value}
 use Rattle.arc_check.specs.Checked.{value, values, reference}
 
 abbrev mutual
@@ -15,6 +15,7 @@ abbrev mutual
   value_weight (Print pieces arguments) = 2 + values_weight arguments
   value_weight (Applied operator kind a) = 2 + value_weight a
   value_weight (Combined operator kind a b) = 2 + value_weight a + value_weight b
+  value_weight (Choice c a b) = 2 + value_weight c + value_weight a + value_weight b
   value_weight (Converted kind a) = 2 + value_weight a
   value_weight (Local i) = 1
   value_weight (Assigned i a) = 2 + value_weight a
@@ -32,6 +33,7 @@ abbrev mutual
   reference_weight Nil = 1
   reference_weight Itself = 1
   reference_weight (Variable i) = 1
+  reference_weight (Chosen c a b) = 2 + value_weight c + reference_weight a + reference_weight b
   reference_weight (Stored i a) = suc (reference_weight a)
   reference_weight (Made a) = 2 + value_weight a
   reference_weight (Initialized a) = 2 + reference_weight a
@@ -53,6 +55,16 @@ is_applied v operator kind a this is same = ap value is ∙ ap (λ x. Applied op
 
 pub is_converted : (v : c.Value) (kind : Kind) (a : Box c.Value Global) (this : c.Value) → v ≡ c.Converted kind a → this ≡ a.value → value v ≡ Converted kind (value this)
 is_converted v kind a this is same = ap value is ∙ ap (λ x. Converted kind (value x)) (sym same)
+
+pub is_choice : (v : c.Value) (t a b : Box c.Value Global) (test left right : c.Value)
+    → v ≡ c.Choice t a b → test ≡ t.value → left ≡ a.value → right ≡ b.value → value v ≡ Choice (value test) (value left) (value right)
+is_choice v t a b test left right is same_test same_left same_right =
+    ap value is ∙ ap (λ x. Choice (value x) (value a.value) (value b.value)) (sym same_test) ∙ ap (λ x. Choice (value test) (value x) (value b.value)) (sym same_left) ∙ ap (λ x. Choice (value test) (value left) (value x)) (sym same_right)
+
+pub is_chosen : (v : r.Reference) (t : Box c.Value Global) (a b : Box r.Reference Global) (test : c.Value) (left right : r.Reference)
+    → v ≡ r.Chosen t a b → test ≡ t.value → left ≡ a.value → right ≡ b.value → reference v ≡ Chosen (value test) (reference left) (reference right)
+is_chosen v t a b test left right is same_test same_left same_right =
+    ap reference is ∙ ap (λ x. Chosen (value x) (reference a.value) (reference b.value)) (sym same_test) ∙ ap (λ x. Chosen (value test) (reference x) (reference b.value)) (sym same_left) ∙ ap (λ x. Chosen (value test) (reference left) (reference x)) (sym same_right)
 
 pub is_combined : (v : c.Value) (operator : BinaryOperator) (kind : Kind) (a b : Box c.Value Global) (left right : c.Value)
     → v ≡ c.Combined operator kind a b → left ≡ a.value → right ≡ b.value → value v ≡ Combined operator kind (value left) (value right)

@@ -4,7 +4,7 @@
 use Rattle.std.specs.Prelude.{ℕ, zero, suc, pred, ◌+◌, ◌-◌, ◌/◌, Bool, nat_lt, if◌then◌else◌, pos, List, [], ◌∷◌, ◌++◌, length, take, drop, slice_index_or, Option, Some, None}
 use Rattle.std.specs.List.{list_any}
 use Rattle.arc_ast.specs.declared.tree.Kind.TheVariants as k
-use Rattle.arc_spec.specs.Resolved.{Piece, Bytes, Decimal, Character, Value, Number, ReadByte, Print, Applied, Combined, Converted, Local, Assigned, Invoked, Sent, SentSuper, SentTo, SentToSuper, Field, FieldAssigned, Reference, Itself, Variable, Stored, Made, Initialized, Values, no_values, and_value, Command, Sequence, Evaluate, EvaluateReference, Begin, Choose, Repeat, Commands, no_commands, and_command, Function, Program}
+use Rattle.arc_spec.specs.Resolved.{Piece, Bytes, Decimal, Character, Value, Number, ReadByte, Print, Applied, Combined, Choice, Converted, Local, Assigned, Invoked, Sent, SentSuper, SentTo, SentToSuper, Field, FieldAssigned, Reference, Itself, Variable, Chosen, Stored, Made, Initialized, Values, no_values, and_value, Command, Sequence, Evaluate, EvaluateReference, Begin, Choose, Repeat, Commands, no_commands, and_command, Function, Program}
 use Rattle.arc_spec.specs.Resolved as resolved
 use Rattle.arc_spec.specs.declared.class.Method.{Method}
 use Rattle.arc_spec.specs.Classes.{Class}
@@ -204,6 +204,7 @@ abbrev mutual
   value_block depth (Print pieces arguments) = Then (values_block depth arguments) (Format pieces (value_count arguments))
   value_block depth (Applied operator kind a) = Then (value_block depth a) (One (Un operator kind))
   value_block depth (Combined operator kind a b) = Then (value_block depth a) (Then (value_block (suc depth) b) (One (Bin operator kind)))
+  value_block depth (Choice c a b) = Then (value_block depth c) (Fork (value_block depth a) (value_block depth b))
   value_block depth (Converted kind a) = Then (value_block depth a) (One (Narrow kind))
   value_block depth (Local i) = Load depth i
   value_block depth (Assigned i a) = Then (value_block depth a) (Store depth i)
@@ -226,6 +227,7 @@ abbrev mutual
   reference_block depth resolved.Nil = One Nil
   reference_block depth Itself = One ReadSelf
   reference_block depth (Variable i) = Read i
+  reference_block depth (Chosen c a b) = Then (value_block depth c) (Fork (reference_block depth a) (reference_block depth b))
   reference_block depth (Stored i a) = Then (reference_block depth a) (Then (Assign i) (One Hold))
   reference_block depth (Made a) = Then (value_block depth a) (One Alloc)
   reference_block depth (Initialized a) = Then (reference_block depth a) (One Hold)

@@ -8,12 +8,13 @@ ghost use Rattle.arc_lower.specs.Lowered.{value_orders, reference_orders, all_va
 
 use crate::call::append_call;
 use crate::frame::Frame;
+use crate::jump::join;
 use crate::place::{append_read, append_store};
 use crate::print::append_print;
 use crate::variable::{append_get, append_set, one_more};
 use arc_check::checked::{Checked, Piece, Reference, Value};
 use arc_code::instr::{Instr, Op};
-use arc_ir::action::Action;
+use arc_ir::action::{Action, Target};
 use arc_spec::event::NoMemory;
 use std::alloc::Global;
 
@@ -55,6 +56,9 @@ pub(crate) fn append_value(
         Value::Combined(operator, kind, left, right) => {
             let action = Instr::Plain(Op::Bin(*operator, *kind));
             append_both(alloc, actions, program, frame, left, right, action)
+        }
+        Value::Choice(test, first, second) => {
+            append_choice(alloc, actions, program, frame, test, first, second)
         }
         Value::Converted(kind, operand) => {
             let action = Instr::Plain(Op::Narrow(*kind));
@@ -169,6 +173,54 @@ fn append_both(
     let above = Frame { operands, ..frame };
     append_value(alloc, actions, program, above, right)?;
     append(actions, action)
+}
+
+/// Appends the actions of a choice of two numbers by a test, of which a run goes through one way.
+#[cycle(expression)]
+fn append_choice(
+    alloc: Global,
+    actions: &mut Vec<Action>,
+    program: &Checked,
+    frame: Frame,
+    test: &Value,
+    first: &Value,
+    second: &Value,
+) -> Result<(), NoMemory>
+    ensures { OnOk result (orders actions.new.items ≡ orders actions.old.items ++ value_orders (program_of program.now) frame.slots frame.names frame.operands (resolved.Choice (value test.now) (value first.now) (value second.now))) }
+{
+    append_value(alloc, actions, program, frame, test)?;
+    let branch = actions.len();
+    append(actions, Instr::JumpZero(Target::Skip(0)))?;
+    append_value(alloc, actions, program, frame, first)?;
+    let skip = actions.len();
+    append(actions, Instr::Jump(Target::Skip(0)))?;
+    let other = actions.len();
+    append_value(alloc, actions, program, frame, second)?;
+    join(actions, branch, skip, other)
+}
+
+/// Appends the actions of a choice of two objects by a test, of which a run goes through one way.
+#[cycle(expression)]
+fn append_chosen(
+    alloc: Global,
+    actions: &mut Vec<Action>,
+    program: &Checked,
+    frame: Frame,
+    test: &Value,
+    first: &Reference,
+    second: &Reference,
+) -> Result<(), NoMemory>
+    ensures { OnOk result (orders actions.new.items ≡ orders actions.old.items ++ reference_orders (program_of program.now) frame.slots frame.names frame.operands (resolved.Chosen (value test.now) (reference first.now) (reference second.now))) }
+{
+    append_value(alloc, actions, program, frame, test)?;
+    let branch = actions.len();
+    append(actions, Instr::JumpZero(Target::Skip(0)))?;
+    append_reference(alloc, actions, program, frame, first)?;
+    let skip = actions.len();
+    append(actions, Instr::Jump(Target::Skip(0)))?;
+    let other = actions.len();
+    append_reference(alloc, actions, program, frame, second)?;
+    join(actions, branch, skip, other)
 }
 
 /// Appends the actions of an assignment to a variable that holds a number.
@@ -349,6 +401,9 @@ pub(crate) fn append_reference(
         Reference::Initialized(operand) => {
             let action = Instr::Plain(Op::Hold);
             append_reference_then(alloc, actions, program, frame, operand, action)
+        }
+        Reference::Chosen(test, first, second) => {
+            append_chosen(alloc, actions, program, frame, test, first, second)
         }
     }
 }

@@ -5,6 +5,7 @@ mod call;
 mod expression;
 mod frame;
 pub mod height;
+mod jump;
 pub mod law;
 pub mod lower;
 mod place;

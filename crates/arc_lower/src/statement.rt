@@ -1,5 +1,5 @@
 //! From statements to actions.
-ghost use Rattle.std.specs.Prelude.{◌≡◌, [], ◌∷◌, ◌++◌, ◌-◌, ◌<◌, length, OnOk, IfOk, option_map, slice_set};
+ghost use Rattle.std.specs.Prelude.{◌≡◌, [], ◌∷◌, ◌++◌, OnOk, option_map};
 ghost use Rattle.arc_spec.specs.Resolved.{Return};
 ghost use Rattle.arc_check.specs.Checked.{value as value_of, reference as reference_of, command, commands, program_of};
 ghost use Rattle.arc_code.specs.declared.instr.Instr.TheVariants.{Jump};
@@ -9,6 +9,7 @@ ghost use Rattle.arc_lower.specs.Lowered.{whole_orders, whole_reference_orders, 
 
 use crate::expression::{append, append_reference, append_value};
 use crate::frame::{Body, Frame};
+use crate::jump::{distance, join, replace};
 use crate::place::{append_all_empty, append_drops, append_forget, append_store, take_some};
 use arc_check::checked::{Checked, Command, Reference, Value};
 use arc_code::instr::{Instr, Op};
@@ -117,11 +118,7 @@ pub(crate) fn append_command(
             append(actions, Instr::Jump(Target::Skip(0)))?;
             let other = actions.len();
             append_command(alloc, actions, program, body, second)?;
-            let past_first = distance(branch, skip)?;
-            let past_second = distance(other, actions.len())?;
-            replace(actions, branch, Instr::JumpZero(Target::Skip(past_first)));
-            replace(actions, skip, Instr::Jump(Target::Skip(past_second)));
-            Ok(())
+            join(actions, branch, skip, other)
         }
         Command::Repeat(test, turn) => {
             let begin = actions.len();
@@ -178,22 +175,4 @@ fn append_exit(actions: &mut Vec<Action>, body: Body) -> Result<(), NoMemory>
     ensures { OnOk result (orders actions.new.items ≡ orders actions.old.items ++ Jump (At body.exit) ∷ []) }
 {
     append(actions, Instr::Jump(Target::At(body.exit)))
-}
-
-/// How many actions there are from one number to another. NoMemory: no jump goes over so many.
-fn distance(from: usize, to: usize) -> Result<u32, NoMemory>
-    ensures { IfOk result (λ count. count ≡ to - from) }
-{
-    let Ok(count) = u32::try_from(to.saturating_sub(from)) else {
-        return Err(NoMemory);
-    };
-    Ok(count)
-}
-
-/// Puts another action in the place of the one with this number.
-fn replace(actions: &mut Vec<Action>, place: usize, action: Action)
-    requires { place < length (orders actions.old.items) }
-    ensures { orders actions.new.items ≡ slice_set (orders actions.old.items) place (order action) }
-{
-    actions[place] = action;
 }

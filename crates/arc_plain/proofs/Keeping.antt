@@ -4,7 +4,7 @@ use Rattle.std.specs.Prelude.{slice_set, slice_index_or, if◌then◌else◌}
 use Rattle.arc_spec.specs.Classes.{superclasses, ancestry, own_dealloc, class_at, descends}
 use Rattle.arc_spec.specs.Number.{converted, applied, combined, is_zero}
 use Rattle.arc_spec.specs.Objects.{Object, Phase, object_at, is_live, names, with_object, with_fields}
-use Rattle.arc_spec.specs.Resolved.{Value, Number, ReadByte, Print, Applied, Combined, Converted, Local, Assigned, Invoked, Sent, SentSuper, SentTo, SentToSuper, Field, FieldAssigned, Differ, IsObject, Reference, Nil, Itself, Variable, Stored, Made, Initialized, Values, no_values, and_value, Command, Sequence, Evaluate, EvaluateReference, Begin, Return, Choose, Repeat, Commands, no_commands, and_command, Function, Program}
+use Rattle.arc_spec.specs.Resolved.{Value, Number, ReadByte, Print, Applied, Combined, Choice, Converted, Local, Assigned, Invoked, Sent, SentSuper, SentTo, SentToSuper, Field, FieldAssigned, Differ, IsObject, Reference, Nil, Itself, Variable, Chosen, Stored, Made, Initialized, Values, no_values, and_value, Command, Sequence, Evaluate, EvaluateReference, Begin, Return, Choose, Repeat, Commands, no_commands, and_command, Function, Program}
 use Rattle.arc_spec.specs.World.{World, Outcome, Done, Faulted, Cut, then_do, Finished, finished, places, prints, entered, left, takes, stores, with_temporaries, with_locals, with_objects, local_at, name_at}
 use Rattle.arc_spec.specs.Meaning.{Deeper, formatted, byte_count, or_fault, released, temporaries_dropped, all_dropped, assigned, variables_dropped, dispatched, finds, runs_found, class_in, sent_from, sent_to, made, in_object, field_read, field_set, difference, evaluated, referred, all_evaluated, whole, whole_reference, begun, Flow, Normal, Returned, if_normal, chosen, turns, scope_left, normally, executed, all_executed, given, function_at, called, dealloc_run, deallocs_run, turned, gone, dying, ended, level}
 
@@ -174,6 +174,9 @@ module _ (D : Deeper) (steady : Steady D) where
     value_waits (Combined operator kind a b) w =
         waits_then w (evaluated D a w) (λ x w1. then_do (evaluated D b w1) (λ y w2. or_fault (combined operator kind x y) w2)) (value_waits a w)
         (λ x w1. waits_then w1 (evaluated D b w1) (λ y w2. or_fault (combined operator kind x y) w2) (value_waits b w1) (λ y w2. fault_waits (combined operator kind x y) w2))
+    value_waits (Choice c a b) w =
+        waits_then w (evaluated D c w) (λ x w1. chosen (is_zero x) (evaluated D a w1) (evaluated D b w1)) (value_waits c w)
+        (λ x w1. after_chosen (Waits w1) (is_zero x) (evaluated D a w1) (evaluated D b w1) (value_waits a w1) (value_waits b w1))
     value_waits (Converted kind a) w = waits_then w (evaluated D a w) (λ x w1. Done (converted kind x) w1) (value_waits a w) (λ x w1. refl)
     value_waits (Local i) w = refl
     value_waits (Assigned i a) w = waits_then w (evaluated D a w) (λ x w1. Done x (with_locals w1 (slice_set w1.frame.locals i x))) (value_waits a w) (λ x w1. refl)
@@ -208,6 +211,9 @@ module _ (D : Deeper) (steady : Steady D) where
     reference_waits Nil w = refl
     reference_waits Itself w = refl
     reference_waits (Variable i) w = refl
+    reference_waits (Chosen c a b) w =
+        waits_then w (evaluated D c w) (λ x w1. chosen (is_zero x) (referred D a w1) (referred D b w1)) (value_waits c w)
+        (λ x w1. after_chosen (Waits w1) (is_zero x) (referred D a w1) (referred D b w1) (reference_waits a w1) (reference_waits b w1))
     reference_waits (Stored i a) w =
         waits_then w (referred D a w) (λ r w1. then_do (assigned D i r w1) (λ _ w2. Done r (takes r w2))) (reference_waits a w)
         (λ r w1. waits_then w1 (assigned D i r w1) (λ _ w2. Done r (takes r w2)) (assigned_wait i r w1) (λ _ w2. refl))

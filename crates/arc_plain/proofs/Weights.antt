@@ -6,7 +6,7 @@ use Rattle.arc_check.specs.declared.checked.Command as d
 use Rattle.arc_check.specs.declared.checked.Piece.{Piece}
 use Rattle.arc_check.specs.declared.checked.CheckedFunction.{CheckedFunction}
 use Rattle.arc_check.specs.declared.checked.Checked.{Checked}
-use Rattle.arc_spec.specs.Resolved.{Value, Number, ReadByte, Print, Applied, Combined, Converted, Local, Assigned, Invoked, Sent, SentSuper, SentTo, SentToSuper, Field, FieldAssigned, Differ, IsObject, Reference, Nil, Itself, Variable, Stored, Made, Initialized, Values, no_values, and_value, Command, Sequence, Evaluate, EvaluateReference, Begin, Return, Choose, Repeat, Commands, no_commands, and_command, Function}
+use Rattle.arc_spec.specs.Resolved.{Value, Number, ReadByte, Print, Applied, Combined, Choice, Converted, Local, Assigned, Invoked, Sent, SentSuper, SentTo, SentToSuper, Field, FieldAssigned, Differ, IsObject, Reference, Nil, Itself, Variable, Chosen, Stored, Made, Initialized, Values, no_values, and_value, Command, Sequence, Evaluate, EvaluateReference, Begin, Return, Choose, Repeat, Commands, no_commands, and_command, Function}
 use Rattle.arc_check.specs.Checked.{program_of, functions, value, values, reference, command, commands}
 use Rattle.arc_check.proofs.Trees.{is_print, is_invoked, is_sent, is_sent_super, is_sent_to, is_sent_to_super, is_sequence}
 use Rattle.arc_plain.proofs.Turns.{nothing_below}
@@ -19,6 +19,7 @@ abbrev mutual
   value_weight (Print pieces arguments) = 2 + values_weight arguments
   value_weight (Applied operator kind a) = suc (value_weight a)
   value_weight (Combined operator kind a b) = 2 + value_weight a + value_weight b
+  value_weight (Choice c a b) = 2 + value_weight c + value_weight a + value_weight b
   value_weight (Converted kind a) = suc (value_weight a)
   value_weight (Local i) = 1
   value_weight (Assigned i a) = suc (value_weight a)
@@ -36,6 +37,7 @@ abbrev mutual
   reference_weight Nil = 1
   reference_weight Itself = 1
   reference_weight (Variable i) = 1
+  reference_weight (Chosen c a b) = 2 + value_weight c + reference_weight a + reference_weight b
   reference_weight (Stored i a) = 2 + reference_weight a
   reference_weight (Made a) = suc (value_weight a)
   reference_weight (Initialized a) = suc (reference_weight a)

@@ -52,6 +52,13 @@ fn evaluate(
         Value::Combined(operator, kind, left, right) => {
             evaluate_both(alloc, context, progress, *operator, *kind, left, right)
         }
+        Value::Choice(test, first, second) => {
+            if evaluate(alloc, context, progress, test)? == 0 {
+                evaluate(alloc, context, progress, second)
+            } else {
+                evaluate(alloc, context, progress, first)
+            }
+        }
         Value::Converted(kind, operand) => {
             let number = evaluate(alloc, context, progress, operand)?;
             Ok(convert(*kind, number))
@@ -196,6 +203,13 @@ fn refer(
         Reference::Variable(slot) => {
             let object = name(progress, *slot);
             take(progress, object)
+        }
+        Reference::Chosen(test, first, second) => {
+            if evaluate(alloc, context, progress, test)? == 0 {
+                refer(alloc, context, progress, second)
+            } else {
+                refer(alloc, context, progress, first)
+            }
         }
         Reference::Stored(slot, operand) => {
             let object = refer(alloc, context, progress, operand)?;

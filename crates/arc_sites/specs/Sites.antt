@@ -5,9 +5,9 @@ use Rattle.arc_ast.specs.Operators.{sort_of}
 use Rattle.arc_ast.specs.declared.tree.UnaryOperator.{UnaryOperator}
 use Rattle.arc_ast.specs.declared.tree.UnaryOperator.TheVariants as u
 use Rattle.arc_ast.specs.declared.tree.OperatorSort.{OperatorSort}
-use Rattle.arc_ast.specs.declared.tree.OperatorSort.TheVariants.{Equality}
+use Rattle.arc_ast.specs.declared.tree.OperatorSort.TheVariants.{Equality, Logic}
 use Rattle.arc_ast.specs.Tree as t
-use Rattle.arc_ast.specs.Tree.{TypeTree, ExprTree, ExprTrees, Paren, Call, Unary, Cast, Binary, Arrow, Assign, Send, SendSuper, no_exprs, and_expr, VariableTree, StmtTree, StmtTrees, Block, Empty, Simple, Return, Variables, If, IfElse, While, no_stmts, and_stmt, ParameterTree, ParametersTree, Listed, CountAndTexts, FunctionTree, HeadTree, MethodTree, InterfaceTree, ImplementationTree, UnitTree}
+use Rattle.arc_ast.specs.Tree.{TypeTree, ExprTree, ExprTrees, Paren, Call, Unary, Cast, Binary, Conditional, Arrow, Assign, Send, SendSuper, no_exprs, and_expr, VariableTree, StmtTree, StmtTrees, Block, Empty, Simple, Return, Variables, If, IfElse, While, no_stmts, and_stmt, ParameterTree, ParametersTree, Listed, CountAndTexts, FunctionTree, HeadTree, MethodTree, InterfaceTree, ImplementationTree, UnitTree}
 
 -- ---- what surrounds a node
 
@@ -29,8 +29,8 @@ pub record Scope : Type 0 where
   pub outer : List Bound
   pub in_loop : Bool  -- in the body of a `while`; not in its test, where no rule asks for it
 
--- What an expression is needed for: nothing more, a test, the operand of `!` or the left side of `==` or `!=`, a number, an object, what goes with another expression (the right side of `=`,
--- `==` and `!=`), the first value of a variable of a type, what the function or the method returns, what a message is sent to, and the first argument or another one
+-- What an expression is needed for: nothing more, a test, an operand of `!`, `&&` or `||`, the first value of `?:` or the left side of `==` or `!=`, a number, an object, what goes with another expression (the right side of `=`,
+-- `==` and `!=`, the second value of `?:`), the first value of a variable of a type, what the function or the method returns, what a message is sent to, and the first argument or another one
 -- of a function with a name. An expression in parentheses is needed for what they are needed for.
 pub data Need : Type 0 where
   Anything : Need
@@ -110,10 +110,12 @@ cast_need _ = ANumber
 -- what the operands of an operator are needed for, by its sort
 abbrev pub left_need : OperatorSort → Need
 left_need Equality = AValue
+left_need Logic = AValue
 left_need _ = ANumber
 
 abbrev pub right_need : OperatorSort → ExprTree → Need
 right_need Equality left = Like left
+right_need Logic left = AValue
 right_need _ left = ANumber
 
 -- the sites inside an expression that is needed for something, each one after those inside it
@@ -126,6 +128,8 @@ abbrev mutual
   inside m s need (Binary at operator a b) =
       (inside m s (left_need (sort_of operator)) a ++ value m s (left_need (sort_of operator)) a)
       ++ (inside m s (right_need (sort_of operator) a) b ++ value m s (right_need (sort_of operator) a) b)
+  inside m s need (Conditional at c a b) =
+      (inside m s AValue c ++ value m s AValue c) ++ ((inside m s AValue a ++ value m s AValue a) ++ (inside m s (Like a) b ++ value m s (Like a) b))
   inside m s need (Arrow at name_at a name) = inside m s AnObject a ++ value m s AnObject a
   inside m s need (Assign at sign a b) = (inside m s Anything a ++ value m s Anything a) ++ (inside m s (Like a) b ++ value m s (Like a) b)
   inside m s need (Send at part receiver selector all) =

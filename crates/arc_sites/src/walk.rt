@@ -57,6 +57,11 @@ fn inside<V: Visitor>(visitor: &mut V, enclosing: Enclosing, expr: &Expr)
             expression(visitor, enclosing, left);
             expression(visitor, enclosing, right);
         }
+        Expr::Conditional(_, test, first, second) => {
+            expression(visitor, enclosing, test);
+            expression(visitor, enclosing, first);
+            expression(visitor, enclosing, second);
+        }
         Expr::Assign(_, _, left, right) => {
             expression(visitor, enclosing, left);
             expression(visitor, enclosing, right);

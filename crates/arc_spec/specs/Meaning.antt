@@ -8,7 +8,7 @@ use Rattle.arc_spec.specs.declared.event.Fault.TheVariants.{Arithmetic, Unrecogn
 use Rattle.arc_spec.specs.Classes.{Class, superclasses, ancestry, own_dealloc, lookup, descends, class_at}
 use Rattle.arc_spec.specs.Number.{converted, applied, combined, low_byte, is_zero}
 use Rattle.arc_spec.specs.Objects.{Object, Phase, Dying, Gone, object_at, with_object, in_phase, with_fields, is_live, new_object, names}
-use Rattle.arc_spec.specs.Resolved.{Piece, Bytes, Decimal, Character, Value, Number, ReadByte, Print, Applied, Combined, Converted, Local, Assigned, Invoked, Sent, SentSuper, SentTo, SentToSuper, Field, FieldAssigned, Differ, IsObject, Reference, Nil, Itself, Variable, Stored, Made, Initialized, Values, no_values, and_value, Command, Sequence, Evaluate, EvaluateReference, Begin, Return, Choose, Repeat, Commands, no_commands, and_command, Function, Program}
+use Rattle.arc_spec.specs.Resolved.{Piece, Bytes, Decimal, Character, Value, Number, ReadByte, Print, Applied, Combined, Choice, Converted, Local, Assigned, Invoked, Sent, SentSuper, SentTo, SentToSuper, Field, FieldAssigned, Differ, IsObject, Reference, Nil, Itself, Variable, Chosen, Stored, Made, Initialized, Values, no_values, and_value, Command, Sequence, Evaluate, EvaluateReference, Begin, Return, Choose, Repeat, Commands, no_commands, and_command, Function, Program}
 use Rattle.arc_spec.specs.World.{World, Outcome, Done, Faulted, Cut, then_do, Finished, finished, shows, prints, places, first_world, entered, left, takes, stores, with_objects, with_locals, with_temporaries, local_at, name_at, next_number, has_read}
 
 -- what a format writes of these values, of which each number takes the next (C99, section 7.19.6.1)
@@ -122,10 +122,15 @@ field_set D r class index v w =
 abbrev pub difference : ℕ → ℕ → ℤ
 difference a b = if nat_eq a b then pos 0 else pos 1
 
+-- `true` says that the test is 0: then the second, and else the first (C99, sections 6.5.15 and 6.8.4.1)
+abbrev pub chosen : {A : Type 0} → Bool → A → A → A
+chosen true a b = b
+chosen false a b = a
+
 -- Evaluation goes from left to right. printf evaluates all values, then writes the bytes, and gives their number. The value of an assignment is its right side (C99, section 6.5.16).
 -- A message evaluates its receiver and then its arguments; one to `super` goes to `self`, in a class method the first variable (OPL, "Messages to self and super").
 -- Each object that a variable, `self`, an assignment or a message gives is taken by a temporary (this project's own choice, stronger than ARC). A field's object is
--- evaluated before what is assigned to it.
+-- evaluated before what is assigned to it. A choice evaluates its test, and then one of the two alone (C99, section 6.5.15).
 abbrev mutual
   pub evaluated : Deeper → Value → World → Outcome ℤ
   evaluated D (Number n) w = Done n w
@@ -135,6 +140,7 @@ abbrev mutual
   evaluated D (Applied operator kind a) w = then_do (evaluated D a w) (λ x w1. Done (applied operator kind x) w1)
   evaluated D (Combined operator kind a b) w =
       then_do (evaluated D a w) (λ x w1. then_do (evaluated D b w1) (λ y w2. or_fault (combined operator kind x y) w2))
+  evaluated D (Choice c a b) w = then_do (evaluated D c w) (λ x w1. chosen (is_zero x) (evaluated D a w1) (evaluated D b w1))
   evaluated D (Converted kind a) w = then_do (evaluated D a w) (λ x w1. Done (converted kind x) w1)
   evaluated D (Local i) w = Done (local_at w.frame.locals i) w
   evaluated D (Assigned i a) w = then_do (evaluated D a w) (λ x w1. Done x (with_locals w1 (slice_set w1.frame.locals i x)))
@@ -155,6 +161,7 @@ abbrev mutual
   referred D Nil w = Done 0 w
   referred D Itself w = Done w.frame.self (takes w.frame.self w)
   referred D (Variable i) w = Done (name_at w.frame.strong i) (takes (name_at w.frame.strong i) w)
+  referred D (Chosen c a b) w = then_do (evaluated D c w) (λ x w1. chosen (is_zero x) (referred D a w1) (referred D b w1))
   referred D (Stored i a) w = then_do (referred D a w) (λ r w1. then_do (assigned D i r w1) (λ _ w2. Done r (takes r w2)))
   referred D (Made a) w = then_do (evaluated D a w) (λ class w1. made D (class_at class) w1)
   referred D (Initialized a) w = then_do (referred D a w) (λ r w1. Done r (takes r w1))
@@ -184,11 +191,6 @@ pub data Flow : Type 0 where
 abbrev pub if_normal : Flow → (World → Outcome Flow) → World → Outcome Flow
 if_normal Normal go w = go w
 if_normal (Returned v) go w = Done (Returned v) w
-
--- `true` says that the test is 0: then the second, and else the first (C99, section 6.8.4.1)
-abbrev pub chosen : {A : Type 0} → Bool → A → A → A
-chosen true a b = b
-chosen false a b = a
 
 -- a loop (C99, section 6.8.5.1), which is cut where one turn more than the bound would begin
 abbrev pub turns : (bound : ℕ) → (World → Outcome ℤ) → (World → Outcome Flow) → World → Outcome Flow

@@ -1,5 +1,5 @@
 -- The numbers of a program, and arithmetic on them.
-use Rattle.std.specs.Prelude.{ℕ, suc, ◌+◌, ◌%◌, ◌^◌, ℤ, pos, negsuc, Bool, false, true, not, nat_eq, int_lt, int_le, int_rem, List, length, Option, Some, None, if◌then◌else◌, ◌&&◌}
+use Rattle.std.specs.Prelude.{ℕ, suc, ◌+◌, ◌%◌, ◌^◌, ℤ, pos, negsuc, Bool, false, true, not, nat_eq, int_lt, int_le, int_rem, List, length, Option, Some, None, if◌then◌else◌, ◌&&◌, ◌||◌}
 use Rattle.std.specs.Int.{w32, w64, cast_signed, cast_unsigned, int_wrapping_add, int_wrapping_sub, int_wrapping_mul, int_wrapping_neg, int_wrapping_div, int_shl, int_shr, int_bit_and, int_bit_or, int_bit_xor, int_bit_not}
 use Rattle.arc_ast.specs.declared.tree.Kind.{Kind}
 use Rattle.arc_ast.specs.declared.tree.Kind.TheVariants as k
@@ -73,7 +73,7 @@ applied u.Negate kind z = converted kind (int_wrapping_neg w64 z)
 applied u.Complement kind z = converted kind (int_bit_not w64 z)
 applied u.Not kind z = answer (is_zero z)
 
--- What an operator gives (C99, sections 6.5.5 to 6.5.12), computed in 64 bits, of which the kind keeps its own: so sums, products and shifts to the left wrap, where
+-- What an operator gives (C99, sections 6.5.5 to 6.5.14), computed in 64 bits, of which the kind keeps its own: so sums, products and shifts to the left wrap, where
 -- C99, section 6.5, leaves a result that is too large undefined (this project's own choice). A shift to the right keeps the sign, which C99, section 6.5.7, leaves to
 -- an implementation.
 abbrev pub combined : BinaryOperator → Kind → ℤ → ℤ → Option ℤ
@@ -93,6 +93,8 @@ combined o.NotEqual kind x y = Some (answer (not (is_same x y)))
 combined o.BitAnd kind x y = Some (converted kind (int_bit_and w64 x y))
 combined o.BitXor kind x y = Some (converted kind (int_bit_xor w64 x y))
 combined o.BitOr kind x y = Some (converted kind (int_bit_or w64 x y))
+combined o.And kind x y = Some (answer (not (is_zero x) && not (is_zero y)))
+combined o.Or kind x y = Some (answer (not (is_zero x) || not (is_zero y)))
 
 -- whether an operator has no answer for some numbers
 abbrev pub may_fault : BinaryOperator → Bool

@@ -21,6 +21,7 @@ mutual
     Print : List Piece → Values → Value
     Applied : UnaryOperator → Kind → Value → Value
     Combined : BinaryOperator → Kind → Value → Value → Value
+    Choice : Value → Value → Value → Value
     Converted : Kind → Value → Value
     Local : ℕ → Value
     Assigned : ℕ → Value → Value
@@ -39,6 +40,7 @@ mutual
     Nil : Reference
     Itself : Reference
     Variable : ℕ → Reference
+    Chosen : Value → Reference → Reference → Reference
     Stored : ℕ → Reference → Reference
     Made : Value → Reference
     Initialized : Reference → Reference

@@ -36,7 +36,7 @@ pub fn apply(operator: UnaryOperator, kind: Kind, number: i64) -> i64
 }
 
 /// The answer of an operator, computed as this kind, where sums, products and shifts to the left wrap
-/// (C99, sections 6.5.5 to 6.5.12); None is a quotient that is no number of the kind, and its
+/// (C99, sections 6.5.5 to 6.5.14); None is a quotient that is no number of the kind, and its
 /// remainder.
 pub fn combine(operator: BinaryOperator, kind: Kind, left: i64, right: i64) -> Option<i64>
     ensures { result ≡ combined operator kind left right }
@@ -58,6 +58,8 @@ pub fn combine(operator: BinaryOperator, kind: Kind, left: i64, right: i64) -> O
         BinaryOperator::BitAnd => Some(convert(kind, left & right)),
         BinaryOperator::BitXor => Some(convert(kind, left ^ right)),
         BinaryOperator::BitOr => Some(convert(kind, left | right)),
+        BinaryOperator::And => Some(answer(!is_zero(left) && !is_zero(right))),
+        BinaryOperator::Or => Some(answer(!is_zero(left) || !is_zero(right))),
     }
 }
 

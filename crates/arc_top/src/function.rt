@@ -23,7 +23,8 @@ pub fn function<'a>(alloc: Global, tokens: &'a [Token]) -> Read<'a, Function>
     ensures gives { Gives (λ x. (function_tree x.0, toks x.1.now)) result (reads grammar.function (toks tokens.now)) }
     ensures shorter { IfOk result (λ x. length x.1.now < length tokens.now) }
 {
-    let (result, rest) = result_type(tokens)?;
+    let (_, rest) = perhaps_static(tokens)?;
+    let (result, rest) = result_type(rest)?;
     let (((at, called), parameters), rest) = signature(alloc, rest)?;
     let name = Vec::from_slice(alloc, called)?;
     let (body, rest) = function_body(alloc, rest)?;
@@ -37,6 +38,19 @@ pub fn function<'a>(alloc: Global, tokens: &'a [Token]) -> Read<'a, Function>
         },
         rest,
     ))
+}
+
+/// Perhaps `static`.
+#[tactic(auto, unfolding(arc_grammar::specs::Grammar::perhaps_static))]
+fn perhaps_static(tokens: &[Token]) -> Read<'_, ()>
+    ensures gives { Gives (λ x. (x.0, toks x.1.now)) result (reads grammar.perhaps_static (toks tokens.now)) }
+    ensures shorter { IfOk result (λ x. length x.1.now ≤ length tokens.now) }
+{
+    if !sees_word(Word::Static, tokens) {
+        return Ok(((), tokens));
+    }
+    let (_, rest) = keyword(Word::Static, tokens)?;
+    Ok(((), rest))
 }
 
 /// `void`, or a type of numbers.

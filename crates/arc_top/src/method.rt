@@ -10,10 +10,11 @@ ghost use Rattle.arc_top.specs.Signatures.{reads_after};
 ghost use Rattle.arc_top.specs.Signatures as signatures;
 
 use crate::function::{braces, result_type};
-use arc_ast::tree::{Method, MethodHead, Parameter, Sign, TypeName};
+use arc_ast::tree::{Method, MethodHead, Parameter, Sign};
+use arc_expr::type_name::number_type;
 use arc_form::fail::Read;
-use arc_form::step::{expect, keyword, name, sees_mark, sees_name};
-use arc_lex::token::{Mark, Token, Word};
+use arc_form::step::{expect, name, sees_mark, sees_name};
+use arc_lex::token::{Mark, Token};
 use std::alloc::Global;
 
 /// Whether a method can begin with the first token.
@@ -192,7 +193,7 @@ fn next_typed<'a>(alloc: Global, tokens: &'a [Token]) -> Read<'a, (&'a [u8], Par
     Ok(((called, parameter), rest))
 }
 
-/// A colon, `int` in parentheses and a name
+/// A colon, a type of numbers in parentheses and a name
 #[tactic(auto, unfolding(arc_grammar::specs::Grammar::typed))]
 fn typed<'a>(alloc: Global, tokens: &'a [Token]) -> Read<'a, Parameter>
     ensures gives { Gives (λ x. (parameter_tree x.0, toks x.1.now)) result (reads grammar.typed (toks tokens.now)) }
@@ -200,13 +201,13 @@ fn typed<'a>(alloc: Global, tokens: &'a [Token]) -> Read<'a, Parameter>
 {
     let (_, rest) = expect(Mark::Colon, tokens)?;
     let (_, rest) = expect(Mark::OpenParen, rest)?;
-    let (_, rest) = keyword(Word::Int, rest)?;
+    let ((_, type_name), rest) = number_type(rest)?;
     let (_, rest) = expect(Mark::CloseParen, rest)?;
     let ((at, called), rest) = name(rest)?;
     Ok((
         Parameter {
             at,
-            type_name: TypeName::Int,
+            type_name,
             name: Vec::from_slice(alloc, called)?,
         },
         rest,

@@ -12,6 +12,7 @@ ghost use Rattle.arc_grammar.specs.Grammar as grammar;
 ghost use Rattle.arc_top.specs.Signatures.{reads_after};
 
 use arc_ast::tree::{Parameter, Parameters, TypeName};
+use arc_expr::type_name::{begins_number_type, number_type};
 use arc_form::fail::Read;
 use arc_form::step::{expect, keyword, name, sees_mark, sees_word};
 use arc_lex::token::{Mark, Token, Word};
@@ -25,7 +26,7 @@ pub fn parameters<'a>(alloc: Global, tokens: &'a [Token]) -> Read<'a, Parameters
 {
     if sees_word(Word::Void, tokens) {
         void_parameters(alloc, tokens)
-    } else if sees_word(Word::Int, tokens) {
+    } else if begins_number_type(tokens) {
         some_parameters(alloc, tokens)
     } else {
         Ok((Parameters::Listed(Vec::new(alloc)), tokens))
@@ -70,18 +71,18 @@ fn some_parameters<'a>(alloc: Global, tokens: &'a [Token]) -> Read<'a, Parameter
     Ok((Parameters::Listed(all), rest))
 }
 
-/// `int` and a name
+/// A type of numbers and a name
 #[tactic(auto, unfolding(arc_grammar::specs::Grammar::parameter))]
 fn parameter<'a>(alloc: Global, tokens: &'a [Token]) -> Read<'a, Parameter>
     ensures gives { Gives (λ x. (parameter_tree x.0, toks x.1.now)) result (reads grammar.parameter (toks tokens.now)) }
     ensures shorter { IfOk result (λ x. length x.1.now < length tokens.now) }
 {
-    let (_, rest) = keyword(Word::Int, tokens)?;
+    let ((_, type_name), rest) = number_type(tokens)?;
     let ((at, called), rest) = name(rest)?;
     Ok((
         Parameter {
             at,
-            type_name: TypeName::Int,
+            type_name,
             name: Vec::from_slice(alloc, called)?,
         },
         rest,
@@ -117,13 +118,31 @@ fn more_parameters<'a>(
     Ok((all, rest))
 }
 
-/// One parameter of `main`, and what may come after it.
+/// `int` and a name
+#[tactic(auto, unfolding(arc_grammar::specs::Grammar::count))]
+fn count<'a>(alloc: Global, tokens: &'a [Token]) -> Read<'a, Parameter>
+    ensures gives { Gives (λ x. (parameter_tree x.0, toks x.1.now)) result (reads grammar.count (toks tokens.now)) }
+    ensures shorter { IfOk result (λ x. length x.1.now < length tokens.now) }
+{
+    let (_, rest) = keyword(Word::Int, tokens)?;
+    let ((at, called), rest) = name(rest)?;
+    Ok((
+        Parameter {
+            at,
+            type_name: TypeName::Int,
+            name: Vec::from_slice(alloc, called)?,
+        },
+        rest,
+    ))
+}
+
+/// One parameter of `main`, which is an `int`, and what may come after it.
 #[tactic(auto, unfolding(arc_grammar::specs::Grammar::some_of_main))]
 fn some_of_main<'a>(alloc: Global, tokens: &'a [Token]) -> Read<'a, Parameters>
     ensures gives { Gives (λ x. (parameters_tree x.0, toks x.1.now)) result (reads grammar.some_of_main (toks tokens.now)) }
     ensures shorter { IfOk result (λ x. length x.1.now < length tokens.now) }
 {
-    let (first, rest) = parameter(alloc, tokens)?;
+    let (first, rest) = count(alloc, tokens)?;
     if sees_mark(Mark::Comma, rest) {
         return second(alloc, first, rest);
     }

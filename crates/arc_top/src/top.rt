@@ -32,6 +32,7 @@ pub fn begins_top(tokens: &[Token]) -> bool
     sees_at(AtWord::Class, tokens)
         || sees_at(AtWord::Interface, tokens)
         || sees_at(AtWord::Implementation, tokens)
+        || sees_word(Word::Static, tokens)
         || sees_word(Word::Void, tokens)
         || begins_number_type(tokens)
 }

@@ -1,6 +1,10 @@
 -- What is built of expressions and statements.
-use Rattle.std.specs.Prelude.{◌≡◌, List, [], ◌∷◌, option_map, true}
-use Rattle.arc_ast.specs.Tree.{ExprTree, ExprTrees}
+use Rattle.std.specs.Prelude.{◌≡◌, List, [], ◌∷◌, Option, None, option_map}
+use Rattle.std.specs.Borrow.{Bor}
+use Rattle.arc_ast.specs.declared.tree.Kind.{Kind}
+use Rattle.arc_ast.specs.declared.tree.Parameter.{Parameter}
+use Rattle.arc_class.specs.Names.{parameter_kinds}
+use Rattle.arc_ast.specs.Tree.{ExprTree, ExprTrees, parameter_trees}
 use Rattle.arc_class.specs.Table.{number_of_class}
 use Rattle.arc_spec.specs.Resolved as spec
 use Rattle.arc_spec.specs.Resolved.{Values, and_value, Commands, and_command}
@@ -34,9 +38,13 @@ abbrev pub functions_ahead : List CheckedFunction → List spec.Function → Lis
 functions_ahead [] others = others
 functions_ahead (a ∷ all) others = function_of a ∷ functions_ahead all others
 
+-- the kinds of the parameters that are there
+abbrev pub kinds_wanted : Option (Bor (List Parameter)) → Option (List Kind)
+kinds_wanted = option_map (λ all. parameter_kinds (parameter_trees all.now))
+
 -- a call of printf with these arguments
 abbrev pub printing : Scope → ExprTrees → spec.Value
-printing s arguments = called Printf arguments (resolved_all s true arguments)
+printing s arguments = called Printf arguments (resolved_all s None arguments)
 
 -- values in front of others
 abbrev pub in_front : List checked_value.Value → Values → Values

@@ -7,8 +7,9 @@ use Rattle.arc_check.specs.Fault.{told}
 use Rattle.arc_check.specs.Formats.{wanted}
 use Rattle.arc_check.specs.private.Judging.{Judges, counted}
 use Rattle.arc_check.specs.Rules.{at_if, kind_if, no_such}
+use Rattle.arc_check.specs.Scopes.{either_class, is_nil}
 use Rattle.arc_check.specs.private.Views.{seen}
-use Rattle.arc_check.proofs.Judgements.{judges_call, judges_send, judges_super, judges_unary, judges_cast, judges_arrow, judges_message, judges_super_message, judges_binary, judges_assign, judges_other, fit_turn, fault_turn, taken_turn}
+use Rattle.arc_check.proofs.Judgements.{judges_call, judges_send, judges_super, judges_unary, judges_cast, judges_arrow, judges_message, judges_super_message, judges_binary, judges_choice, judges_assign, judges_other, fit_turn, fault_turn, taken_turn}
 use Rattle.arc_check.proofs.judge.+judge.Goals as goal
 use Rattle.arc_check.proofs.judge.+judge.Goals.{judge_arguments-then-told, judge_arguments-else-told}
 
@@ -59,6 +60,19 @@ judge-returns-in-Binary t c =
     let here : c.place.result ≡ place a = c.place.ensures ∙ ap (λ e. place (expr_tree e)) c.deref-in-Binary-3.ensures in
     let there : c.place-in-Binary.result ≡ place b = c.place-in-Binary.ensures ∙ ap (λ e. place (expr_tree e)) c.deref-in-Binary-4.ensures in
     rw c.in-Binary.is (judges_binary s c.args.before _ _ a b one two c.combined.result c.place.result c.place-in-Binary.result left right here there c.combined.ensures.kind c.combined.ensures.class c.combined.ensures.fault c.combined.ensures.taken)
+
+pub judge-returns-in-Conditional : goal.judge-returns-in-Conditional
+judge-returns-in-Conditional t c = rw c.in-Conditional.is (rw (c.deref-in-Conditional.ensures, c.deref-in-Conditional-2.ensures, c.deref-in-Conditional-3.ensures) at (c.judge_choice.ensures c.in-Conditional.field-0))
+
+pub judge_choice-returns : goal.judge_choice-returns
+judge_choice-returns t c = λ at.
+    let a = expr_tree c.args.first.now in
+    let b = expr_tree c.args.second.now in
+    let one = option_map number_of_class c.judge-one.result.class in
+    let other = option_map number_of_class c.judge-other.result.class in
+    judges_choice (seen c.args.table.now c.args.visible.now) c.args.before at (expr_tree c.args.test.now) a b c.judge-by_test.result c.judge-one.result c.judge-other.result c.chosen.result c.place.result c.place-2.result c.place-3.result c.judge-by_test.ensures c.judge-one.ensures c.judge-other.ensures
+    c.place.ensures c.place-2.ensures c.place-3.ensures c.chosen.ensures.kind
+    (ap (option_map number_of_class) c.chosen.ensures.class ∙ c.either_class-class.ensures ∙ ap (λ p. either_class p c.is_nil-2.result one other) c.is_nil.ensures ∙ ap (λ p. either_class (is_nil a) p one other) c.is_nil-2.ensures) c.chosen.ensures.fault c.chosen.ensures.taken
 
 pub judge_unary-returns : goal.judge_unary-returns
 judge_unary-returns t c = λ at.

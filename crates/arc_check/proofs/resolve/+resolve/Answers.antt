@@ -1,17 +1,17 @@
-use Rattle.std.proofs.Common.{None, refl, sym, ap, ◌∙◌}
+use Rattle.std.proofs.Common.{Some, None, option_map, refl, sym, ap, ◌∙◌}
 use Rattle.std.specs.Option.{unwrap_or}
 use Rattle.std.proofs.lemmas.Result.{IfOk-weaker}
 use Rattle.arc_class.specs.Table.{number_of_class}
 use Rattle.arc_spec.specs.Resolved.{Invoked}
 use Rattle.arc_check.specs.declared.callee.Callee.TheVariants.{Printf, GetChar, Defined, Unknown}
 use Rattle.arc_check.specs.declared.resolution.Typed.{Typed}
-use Rattle.arc_check.specs.private.Building.{resolution}
+use Rattle.arc_check.specs.private.Building.{resolution, kinds_wanted}
 use Rattle.arc_check.specs.Checked as checked
 use Rattle.arc_ast.specs.Tree.{expr_tree, expr_trees, type_tree}
 use Rattle.arc_ast.specs.Types.{type_kind}
 use Rattle.arc_check.specs.Resolving as resolving
-use Rattle.arc_check.specs.Resolving.{unary, binary, cast, resolved, resolved_all}
-use Rattle.arc_check.specs.Scopes.{class_of, result_kind}
+use Rattle.arc_check.specs.Resolving.{unary, binary, cast, conditional, resolved, resolved_all}
+use Rattle.arc_check.specs.Scopes.{class_of, either_class, is_nil, result_kind}
 use Rattle.arc_check.specs.private.Views.{seen}
 use Rattle.arc_ast.proofs.Trees.{call_tree, send_tree, send_super_tree}
 use Rattle.arc_check.proofs.Trees.{print_value, invoked_value}
@@ -55,6 +55,9 @@ expression-returns-in-Cast t c = IfOk-weaker c.cast.result _ _ (λ typed h. rw (
 pub expression-returns-in-Binary : goal.expression-returns-in-Binary
 expression-returns-in-Binary t c = IfOk-weaker c.operation.result _ _ (λ typed h. rw (c.in-Binary.is, sym c.deref-in-Binary.ensures, sym c.deref-in-Binary-2.ensures) (h c.in-Binary.field-0)) c.operation.ensures
 
+pub expression-returns-in-Conditional : goal.expression-returns-in-Conditional
+expression-returns-in-Conditional t c = IfOk-weaker c.choice.result _ _ (λ typed h. rw (c.in-Conditional.is, sym c.deref-in-Conditional.ensures, sym c.deref-in-Conditional-2.ensures, sym c.deref-in-Conditional-3.ensures) (h c.in-Conditional.field-0)) c.choice.ensures
+
 pub expression-returns-in-Arrow : goal.expression-returns-in-Arrow
 expression-returns-in-Arrow t c = IfOk-weaker c.arrow.result _ _ (λ typed h. rw (c.in-Arrow.is, sym c.deref-in-Arrow.ensures, sym c.deref-in-Arrow-2.ensures.value) (h c.in-Arrow.field-0 c.in-Arrow.field-1)) c.arrow.ensures
 
@@ -75,11 +78,26 @@ operation-returns t c = λ at.
           ∙ ap (binary c.args.operator (resolved (seen c.args.table.now c.args.visible.now) (expr_tree c.args.left.now))) c.in_ok-right.ensures.value;
     }
 
+pub choice-returns : goal.choice-returns
+choice-returns t c = λ at.
+    let s = seen c.args.table.now c.args.visible.now in
+    let a = expr_tree c.args.first.now in
+    let b = expr_tree c.args.second.now in
+    let test = resolving.number_in (resolved s (expr_tree c.args.test.now)) in
+    let one = option_map number_of_class c.in_ok-first.first.class in
+    let other = option_map number_of_class c.in_ok-second.second.class in
+    record {
+      class = c.either_class-class.ensures ∙ ap (λ p. either_class p c.is_nil-other_nil.result one other) c.is_nil-one_nil.ensures ∙ ap (λ p. either_class (is_nil a) p one other) c.is_nil-other_nil.ensures
+          ∙ ap (λ k. either_class (is_nil a) (is_nil b) k other) c.in_ok-first.ensures.class ∙ ap (either_class (is_nil a) (is_nil b) (class_of s a)) c.in_ok-second.ensures.class;
+      value = c.in_ok-value.ensures ∙ ap (λ x. conditional (resolving.number_in x) (resolution c.in_ok-first.first.value) (resolution c.in_ok-second.second.value)) c.in_ok-test.ensures.value
+          ∙ ap (λ x. conditional test x (resolution c.in_ok-second.second.value)) c.in_ok-first.ensures.value ∙ ap (conditional test (resolved s a)) c.in_ok-second.ensures.value;
+    }
+
 pub class_in-returns : goal.class_in-returns
 class_in-returns t c = c.in_ok-typed.ensures.class
 
 pub argument-returns : goal.argument-returns
-argument-returns t c = ap checked.value c.into_inner.ensures ∙ c.in_ok-value.ensures ∙ ap (resolving.argument c.args.printed) c.in_ok-typed.ensures.value
+argument-returns t c = ap checked.value c.into_inner.ensures ∙ c.in_ok-value.ensures ∙ ap (resolving.argument c.args.wanted) c.in_ok-typed.ensures.value
 
 pub assigned-returns-in-Name-clause-class : goal.assigned-returns-in-Name-clause-class
 assigned-returns-in-Name-clause-class t c = rw (c.in-Name.is, sym c.deref-in-Name.ensures.value) c.to_name.ensures.class
@@ -100,20 +118,29 @@ pub message-returns-in_ok-class_message-in-Some : goal.message-returns-in_ok-cla
 message-returns-in_ok-class_message-in-Some t c = λ at part.
     let s = seen c.args.table.now c.args.visible.now in
     let r = expr_tree c.args.receiver.now in
-    resolves_class s at part r c.args.selector.now (expr_trees c.args.arguments.now) (number_of_class c.in-Some.class) (checked.values c.in_ok-all.all.items) (record { class = c.sent_class.result; value = c.in_ok-class_message-in-Some.field-0 })
-    c.in-Some.ensures c.in_ok-all.ensures c.sent_class.ensures (c.in_ok-class_message-in-Some.ensures c.args.visible.now (class_of s r) (resolved s r))
+    let args = expr_trees c.args.arguments.now in
+    let name = c.args.selector.now in
+    let class = c.class_receiver-class.ensures in
+    let passed = c.in_ok-all.ensures ∙ ap (λ k. resolved_all s (Some k) args) (c.parameters_passed.ensures ∙ ap (λ g. s.known.passed g name) (c.receiver_sign.ensures ∙ ap resolving.receiver_sign class)) in
+    resolves_class s at part r name args (number_of_class c.in-Some.class) (checked.values c.in_ok-all.all.items) (record { class = c.sent_class.result; value = c.in_ok-class_message-in-Some.field-0 })
+    (sym (ap (option_map number_of_class) c.in-Some.is) ∙ class) passed c.sent_class.ensures (c.in_ok-class_message-in-Some.ensures c.args.visible.now (class_of s r) (resolved s r))
 
 pub message-returns-in_ok-object_message-in-None : goal.message-returns-in_ok-object_message-in-None
 message-returns-in_ok-object_message-in-None t c = λ at part.
     let s = seen c.args.table.now c.args.visible.now in
     let r = expr_tree c.args.receiver.now in
-    resolves_object s at part r c.args.selector.now (expr_trees c.args.arguments.now) c.in_ok-object-in-None.object (record { class = c.sent_class-in-None.result; value = c.in_ok-object_message-in-None.field-0 }) (checked.values c.in_ok-all.all.items)
-    c.in-None.ensures c.in_ok-object-in-None.ensures c.in_ok-all.ensures c.sent_class-in-None.ensures (c.in_ok-object_message-in-None.ensures c.args.visible.now r)
+    let args = expr_trees c.args.arguments.now in
+    let name = c.args.selector.now in
+    let class = c.class_receiver-class.ensures in
+    let passed = c.in_ok-all.ensures ∙ ap (λ k. resolved_all s (Some k) args) (c.parameters_passed.ensures ∙ ap (λ g. s.known.passed g name) (c.receiver_sign.ensures ∙ ap resolving.receiver_sign class)) in
+    resolves_object s at part r name args c.in_ok-object-in-None.object (record { class = c.sent_class-in-None.result; value = c.in_ok-object_message-in-None.field-0 }) (checked.values c.in_ok-all.all.items)
+    (sym (ap (option_map number_of_class) c.in-None.is) ∙ class) c.in_ok-object-in-None.ensures passed c.sent_class-in-None.ensures (c.in_ok-object_message-in-None.ensures c.args.visible.now r)
 
 pub super_message-returns : goal.super_message-returns
 super_message-returns t c = λ at part super_at.
     resolves_super (seen c.args.table.now c.args.visible.now) at part super_at c.args.selector.now (expr_trees c.args.arguments.now) c.super_kind-kind.result c.class_number-from.result c.selector_number-number.result (checked.values c.in_ok-all.all.items)
-    (record { class = c.super_class.result; value = c.in_ok-to_super.field-0 }) c.super_kind-kind.ensures (c.class_number-from.ensures ∙ ap (λ n. unwrap_or n 0) c.above.ensures) (c.selector_number-number.ensures ∙ ap (λ n. unwrap_or n 0) c.selector.ensures) c.in_ok-all.ensures
+    (record { class = c.super_class.result; value = c.in_ok-to_super.field-0 }) c.super_kind-kind.ensures (c.class_number-from.ensures ∙ ap (λ n. unwrap_or n 0) c.above.ensures) (c.selector_number-number.ensures ∙ ap (λ n. unwrap_or n 0) c.selector.ensures)
+    (c.in_ok-all.ensures ∙ ap (λ k. resolved_all (seen c.args.table.now c.args.visible.now) (Some k) (expr_trees c.args.arguments.now)) c.parameters_passed.ensures)
     (c.super_class.ensures c.args.table.now) c.in_ok-to_super.ensures
 
 pub call-returns : goal.call-returns
@@ -126,7 +153,7 @@ call-returns t c = λ at.
     elim c.match-callee.branch [
       | call-in-Printf+in_ok-value-in-Printf w ↦ resolves_call s at c.args.name.now all Printf k v typed (sym w.in-Printf.ensures) (c.result_kind.ensures ∙ ap result_kind (w.callee-is ∙ c.callee_of-callee.ensures ∙ sym w.in-Printf.ensures)) (ap checked.value w.value-is ∙ w.in_ok-value-in-Printf.ensures) refl c.in_ok-given.ensures
       | call-in-Defined+in_ok-values-in-Defined w ↦ resolves_call s at c.args.name.now all (Defined w.in-Defined.field-0 w.in-Defined.field-1 w.in-Defined.body) k v typed (sym w.in-Defined.ensures) (c.result_kind.ensures ∙ ap result_kind w.callee-is)
-          (ap checked.value w.value-is ∙ invoked_value w.number.result w.in_ok-values-in-Defined.field-0 ∙ ap (λ f. Invoked f (checked.values w.in_ok-values-in-Defined.field-0.items)) w.number.ensures ∙ ap (Invoked (unwrap_or w.in-Defined.body 0)) w.in_ok-values-in-Defined.ensures) refl c.in_ok-given.ensures
+          (ap checked.value w.value-is ∙ invoked_value w.number.result w.in_ok-values-in-Defined.field-0 ∙ ap (λ f. Invoked f (checked.values w.in_ok-values-in-Defined.field-0.items)) w.number.ensures ∙ ap (Invoked (unwrap_or w.in-Defined.body 0)) (w.in_ok-values-in-Defined.ensures ∙ ap (λ k. resolved_all s (Some k) all) w.parameters.ensures)) refl c.in_ok-given.ensures
       | call-in-GetChar w ↦ resolves_call s at c.args.name.now all GetChar k v typed (sym w.in-GetChar.ensures) (c.result_kind.ensures ∙ ap result_kind (w.callee-is ∙ c.callee_of-callee.ensures ∙ sym w.in-GetChar.ensures)) (ap checked.value w.value-is) refl c.in_ok-given.ensures
       | call-in-Unknown w ↦ resolves_call s at c.args.name.now all Unknown k v typed (sym w.in-Unknown.ensures) (c.result_kind.ensures ∙ ap result_kind (w.callee-is ∙ c.callee_of-callee.ensures ∙ sym w.in-Unknown.ensures)) (ap checked.value w.value-is) refl c.in_ok-given.ensures
     ]
@@ -142,10 +169,11 @@ print-returns-in_ok-values-in-None t c = print_value c.new.result c.in_ok-values
 pub values-loop-one-preserved : goal.values-loop-one-preserved
 values-loop-one-preserved t c =
     let s = seen c.args.table.now c.args.visible.now in
-    values_turn s c.args.printed c.args.arguments.now c.loop-one.one-index c.one-item.result c.loop-one.all.items c.push.new.self.items c.in_ok-argument.field-0 (resolved_all s c.args.printed (expr_trees c.args.arguments.now)) c.loop-one-test.true c.one-item.is
-    c.loop-one.invariant c.in_ok-push.ensures.items c.in_ok-argument.ensures
+    values_turn s (kinds_wanted c.loop-one.rest) (kinds_wanted c.after_first-rest.result) c.args.arguments.now c.loop-one.one-index c.one-item.result c.loop-one.all.items c.push.new.self.items c.in_ok-argument.field-0
+    (resolved_all s (kinds_wanted c.args.wanted) (expr_trees c.args.arguments.now)) c.loop-one-test.true c.one-item.is c.loop-one.invariant c.in_ok-push.ensures.items
+    (c.in_ok-argument.ensures ∙ ap (λ k. resolving.argument k (resolving.resolved s (expr_tree c.one-item.result))) c.first_wanted-kind.ensures) c.after_first-rest.ensures
 
 pub values-returns : goal.values-returns
 values-returns t c =
     let s = seen c.args.table.now c.args.visible.now in
-    values_end s c.args.printed c.args.arguments.now c.loop-one.one-index c.loop-one.all.items (resolved_all s c.args.printed (expr_trees c.args.arguments.now)) c.loop-one-test.false c.loop-one.invariant
+    values_end s (kinds_wanted c.loop-one.rest) c.args.arguments.now c.loop-one.one-index c.loop-one.all.items (resolved_all s (kinds_wanted c.args.wanted) (expr_trees c.args.arguments.now)) c.loop-one-test.false c.loop-one.invariant

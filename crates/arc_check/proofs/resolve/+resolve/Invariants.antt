@@ -2,7 +2,7 @@ use Rattle.std.proofs.Common.{◌≡◌, ◌+◌, ◌*◌, max, drop}
 use denote.Param.Weighed.{most}
 use Rattle.arc_ast.specs.declared.tree.Expr.{size-Expr}
 use Rattle.arc_ast.specs.Tree.{expr_trees}
-use Rattle.arc_check.specs.private.Building.{in_front}
+use Rattle.arc_check.specs.private.Building.{in_front, kinds_wanted}
 use Rattle.arc_check.specs.Resolving.{resolved_all}
 use Rattle.arc_check.specs.private.Views.{seen}
 use Rattle.arc_check.proofs.resolve.+resolve.Given as goal
@@ -28,6 +28,9 @@ decreases-cast l = 8 * size-Expr l.operand.now + 1
 
 abbrev pub decreases-operation : goal.decreases-operation
 decreases-operation l = 8 * max (size-Expr l.left.now) (size-Expr l.right.now) + 1
+
+abbrev pub decreases-choice : goal.decreases-choice
+decreases-choice l = 8 * max (size-Expr l.test.now) (max (size-Expr l.first.now) (size-Expr l.second.now)) + 1
 
 abbrev pub decreases-arrow : goal.decreases-arrow
 decreases-arrow l = 8 * size-Expr l.base.now + 1
@@ -56,4 +59,4 @@ decreases-message l = 8 * max (size-Expr l.receiver.now) (most size-Expr l.argum
 -- the values so far and those of the rest are all
 abbrev pub invariant-values-loop-one : goal.invariant-values-loop-one
 invariant-values-loop-one l =
-    let s = seen l.table l.visible in resolved_all s l.printed (expr_trees l.arguments) ≡ in_front l.all.items (resolved_all s l.printed (expr_trees (drop l.one-index l.arguments)))
+    let s = seen l.table l.visible in resolved_all s (kinds_wanted l.wanted) (expr_trees l.arguments) ≡ in_front l.all.items (resolved_all s (kinds_wanted l.rest) (expr_trees (drop l.one-index l.arguments)))

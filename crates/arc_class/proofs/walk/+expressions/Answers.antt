@@ -1,4 +1,4 @@
-use Rattle.std.proofs.Common.{◌≡◌, ◌∙◌, option_map}
+use Rattle.std.proofs.Common.{◌≡◌, ◌∙◌, ◌++◌, option_map}
 use Rattle.arc_ast.specs.Tree.{type_tree, expr_tree}
 use Rattle.arc_class.specs.Broken.{first}
 use Rattle.arc_class.specs.Walk.{broken_type, broken_expr, missing_in}
@@ -17,6 +17,15 @@ expression-returns-in-Binary t c =
     let left : option_map told c.expression-left.result ≡ first (broken_expr L (expr_tree c.in-Binary.left.value)) = rw c.deref-in-Binary.ensures at c.expression-left.ensures in
     let right : option_map told c.expression-in-Binary.result ≡ first (broken_expr L (expr_tree c.in-Binary.right.value)) = rw c.deref-in-Binary-2.ensures at c.expression-in-Binary.ensures in
     rw c.in-Binary.is (first_both (broken_expr L (expr_tree c.in-Binary.left.value)) (broken_expr L (expr_tree c.in-Binary.right.value)) (option_map told c.expression-left.result) (option_map told c.expression-in-Binary.result) (option_map told c.earlier-in-Binary.result) left right c.earlier-in-Binary.ensures)
+
+pub expression-returns-in-Conditional : goal.expression-returns-in-Conditional
+expression-returns-in-Conditional t c =
+    let L = missing_in c.args.source.now in
+    let test : option_map told c.expression-test.result ≡ first (broken_expr L (expr_tree c.in-Conditional.test.value)) = rw c.deref-in-Conditional.ensures at c.expression-test.ensures in
+    let one : option_map told c.expression-first.result ≡ first (broken_expr L (expr_tree c.in-Conditional.first.value)) = rw c.deref-in-Conditional-2.ensures at c.expression-first.ensures in
+    let other : option_map told c.expression-second.result ≡ first (broken_expr L (expr_tree c.in-Conditional.second.value)) = rw c.deref-in-Conditional-3.ensures at c.expression-second.ensures in
+    let both = first_both (broken_expr L (expr_tree c.in-Conditional.first.value)) (broken_expr L (expr_tree c.in-Conditional.second.value)) (option_map told c.expression-first.result) (option_map told c.expression-second.result) (option_map told c.earlier-in-Conditional.result) one other c.earlier-in-Conditional.ensures in
+    rw c.in-Conditional.is (first_both (broken_expr L (expr_tree c.in-Conditional.test.value)) (broken_expr L (expr_tree c.in-Conditional.first.value) ++ broken_expr L (expr_tree c.in-Conditional.second.value)) (option_map told c.expression-test.result) (option_map told c.earlier-in-Conditional.result) (option_map told c.earlier-in-Conditional-2.result) test both c.earlier-in-Conditional-2.ensures)
 
 pub expression-returns-in-Assign : goal.expression-returns-in-Assign
 expression-returns-in-Assign t c =

@@ -5,13 +5,22 @@ abbrev pub decreases-expr : goal.decreases-expr
 decreases-expr l = 16 * length l.tokens.now + 7
 
 abbrev pub decreases-operation : goal.decreases-operation
-decreases-operation l = 16 * length l.tokens.now + 11
+decreases-operation l = 16 * length l.tokens.now + 13
 
 abbrev pub decreases-assigned : goal.decreases-assigned
 decreases-assigned l = 16 * length l.tokens.now + 1
 
 abbrev pub decreases-continued : goal.decreases-continued
-decreases-continued l = 16 * length l.tokens.now + 10
+decreases-continued l = 16 * length l.tokens.now + 12
+
+abbrev pub decreases-choice : goal.decreases-choice
+decreases-choice l = 16 * length l.tokens.now + 2
+
+abbrev pub decreases-chosen : goal.decreases-chosen
+decreases-chosen l = 16 * length l.tokens.now + 1
+
+abbrev pub decreases-condition : goal.decreases-condition
+decreases-condition l = 16 * length l.tokens.now + 4
 
 abbrev pub decreases-up_to : goal.decreases-up_to
 decreases-up_to l = 16 * length l.tokens.now + 1 + l.level

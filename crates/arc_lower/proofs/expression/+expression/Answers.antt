@@ -1,5 +1,5 @@
-use Rattle.std.proofs.Common.{◌≡◌, suc, ◌+◌, List, [], ◌∷◌, ◌++◌, length, Result, drop, ap, sym, subst, ◌∙◌, append_assoc, arith, OnOk}
-use Rattle.std.proofs.lemmas.List.{drop_more}
+use Rattle.std.proofs.Common.{◌≡◌, suc, ◌+◌, List, [], ◌∷◌, ◌++◌, length, Result, drop, refl, ap, sym, subst, ◌∙◌, append_assoc, arith, OnOk}
+use Rattle.std.proofs.lemmas.List.{drop_more, length-map}
 use Rattle.arc_spec.specs.Resolved as resolved
 use Rattle.arc_spec.specs.Resolved.{and_value}
 use Rattle.arc_check.specs.declared.checked.Value.{Value}
@@ -8,9 +8,10 @@ use Rattle.arc_code.specs.declared.instr.Op.TheVariants.{ReadSelf, SetField, Dif
 use Rattle.arc_code.specs.declared.instr.Instr.TheVariants.{Plain, Send, SendSuper, SendTo, SendToSuper}
 use Rattle.arc_lower.specs.Order.{Order, order, orders}
 use Rattle.arc_lower.specs.Lowered.{value_orders, reference_orders, all_value_orders, print_orders, call_orders, get_orders, set_orders, value_count}
+use Rattle.arc_lower.proofs.Patching.{patch_fork}
 use Rattle.arc_lower.proofs.Rows.{values_counted}
 use Rattle.arc_check.proofs.Trees.{is_print, is_invoked, is_sent, is_sent_super, is_sent_to, is_sent_to_super}
-use Rattle.arc_lower.proofs.Weights.{value_weight, reference_weight, value_in, is_applied, is_combined, is_converted, is_assigned, is_field, is_field_assigned, is_differ, is_object, is_stored, is_made, is_initialized}
+use Rattle.arc_lower.proofs.Weights.{value_weight, reference_weight, value_in, is_applied, is_combined, is_choice, is_chosen, is_converted, is_assigned, is_field, is_field_assigned, is_differ, is_object, is_stored, is_made, is_initialized}
 use Rattle.arc_lower.proofs.expression.+expression.Goals as goal
 
 behind_two : (old o1 o2 a b last : List Order) → o1 ≡ old ++ a → o2 ≡ o1 ++ b → o2 ++ last ≡ old ++ (a ++ (b ++ last))
@@ -162,6 +163,80 @@ append_value-returns-in-IsObject t c =
     let f = c.args.frame in
     told (λ x. OnOk c.append_reference_then-in-IsObject.result (orders c.append_reference_then-in-IsObject.new.actions.items ≡ orders c.args.actions.now.items ++ value_orders (program_of c.args.program.now) f.slots f.names f.operands x)) c.args.expression.now _
     (is_object c.args.expression.now c.in-IsObject.object c.deref-in-IsObject.result.now c.in-IsObject.is c.deref-in-IsObject.ensures) c.append_reference_then-in-IsObject.ensures
+
+pub append_choice-returns : goal.append_choice-returns
+append_choice-returns t c =
+    let P = program_of c.args.program.now in
+    let f = c.args.frame in
+    let old = orders c.args.actions.now.items in
+    let v1 = c.append_value.new.actions in
+    let v2 = c.append.new.actions in
+    let v3 = c.append_value-2.new.actions in
+    let v4 = c.append-2.new.actions in
+    let v5 = c.append_value-3.new.actions in
+    let e = patch_fork old (orders v1.items) (orders v2.items) (orders v3.items) (orders v4.items) (orders v5.items) (value_orders P f.slots f.names f.operands (value c.args.test.now)) (value_orders P f.slots f.names f.operands (value c.args.first.now)) (value_orders P f.slots f.names f.operands (value c.args.second.now)) c.len-branch.result c.len-skip.result c.len-other.result _ _ (length (orders v5.items))
+    c.in_ok-append_value.ensures (c.len-branch.ensures ∙ v1.ok.0 ∙ sym (length-map v1.items order)) c.in_ok-append.ensures c.in_ok-append_value-2.ensures (c.len-skip.ensures ∙ v3.ok.0 ∙ sym (length-map v3.items order)) c.in_ok-append-2.ensures (c.len-other.ensures ∙ v4.ok.0 ∙ sym (length-map v4.items order)) c.in_ok-append_value-3.ensures refl refl refl
+    in
+    subst (λ l. OnOk c.join.result (orders c.join.new.actions.items ≡ l)) e c.join.ensures
+
+pub append_chosen-returns : goal.append_chosen-returns
+append_chosen-returns t c =
+    let P = program_of c.args.program.now in
+    let f = c.args.frame in
+    let old = orders c.args.actions.now.items in
+    let v1 = c.append_value.new.actions in
+    let v2 = c.append.new.actions in
+    let v3 = c.append_reference.new.actions in
+    let v4 = c.append-2.new.actions in
+    let v5 = c.append_reference-2.new.actions in
+    let e = patch_fork old (orders v1.items) (orders v2.items) (orders v3.items) (orders v4.items) (orders v5.items) (value_orders P f.slots f.names f.operands (value c.args.test.now)) (reference_orders P f.slots f.names f.operands (reference c.args.first.now)) (reference_orders P f.slots f.names f.operands (reference c.args.second.now)) c.len-branch.result c.len-skip.result c.len-other.result _ _ (length (orders v5.items))
+    c.in_ok-append_value.ensures (c.len-branch.ensures ∙ v1.ok.0 ∙ sym (length-map v1.items order)) c.in_ok-append.ensures c.in_ok-append_reference.ensures (c.len-skip.ensures ∙ v3.ok.0 ∙ sym (length-map v3.items order)) c.in_ok-append-2.ensures (c.len-other.ensures ∙ v4.ok.0 ∙ sym (length-map v4.items order)) c.in_ok-append_reference-2.ensures refl refl refl
+    in
+    subst (λ l. OnOk c.join.result (orders c.join.new.actions.items ≡ l)) e c.join.ensures
+
+pub append_value-append_choice-requires : goal.append_value-append_choice-requires
+append_value-append_choice-requires t c =
+    (omega (arith, ap value_weight (is_choice c.args.expression.now c.in-Choice.test c.in-Choice.first c.in-Choice.second c.deref-in-Choice.result.now c.deref-in-Choice-2.result.now c.deref-in-Choice-3.result.now c.in-Choice.is c.deref-in-Choice.ensures c.deref-in-Choice-2.ensures c.deref-in-Choice-3.ensures), c.decreases), tt)
+
+pub append_value-returns-in-Choice : goal.append_value-returns-in-Choice
+append_value-returns-in-Choice t c =
+    let f = c.args.frame in
+    told (λ x. OnOk c.append_choice.result (orders c.append_choice.new.actions.items ≡ orders c.args.actions.now.items ++ value_orders (program_of c.args.program.now) f.slots f.names f.operands x)) c.args.expression.now _
+    (is_choice c.args.expression.now c.in-Choice.test c.in-Choice.first c.in-Choice.second c.deref-in-Choice.result.now c.deref-in-Choice-2.result.now c.deref-in-Choice-3.result.now c.in-Choice.is c.deref-in-Choice.ensures c.deref-in-Choice-2.ensures c.deref-in-Choice-3.ensures) c.append_choice.ensures
+
+pub append_reference-append_chosen-requires : goal.append_reference-append_chosen-requires
+append_reference-append_chosen-requires t c =
+    (omega (arith, ap reference_weight (is_chosen c.args.expression.now c.in-Chosen.test c.in-Chosen.first c.in-Chosen.second c.deref-in-Chosen.result.now c.deref-in-Chosen-2.result.now c.deref-in-Chosen-3.result.now c.in-Chosen.is c.deref-in-Chosen.ensures c.deref-in-Chosen-2.ensures c.deref-in-Chosen-3.ensures), c.decreases), tt)
+
+pub append_reference-returns-in-Chosen : goal.append_reference-returns-in-Chosen
+append_reference-returns-in-Chosen t c =
+    let f = c.args.frame in
+    subst (λ x. OnOk c.append_chosen.result (orders c.append_chosen.new.actions.items ≡ orders c.args.actions.now.items ++ reference_orders (program_of c.args.program.now) f.slots f.names f.operands x))
+    (sym (is_chosen c.args.expression.now c.in-Chosen.test c.in-Chosen.first c.in-Chosen.second c.deref-in-Chosen.result.now c.deref-in-Chosen-2.result.now c.deref-in-Chosen-3.result.now c.in-Chosen.is c.deref-in-Chosen.ensures c.deref-in-Chosen-2.ensures c.deref-in-Chosen-3.ensures)) c.append_chosen.ensures
+
+pub append_choice-append_value-requires : goal.append_choice-append_value-requires
+append_choice-append_value-requires t c =
+    (omega (arith, c.decreases), tt)
+
+pub append_choice-append_value-requires-2 : goal.append_choice-append_value-requires-2
+append_choice-append_value-requires-2 t c =
+    (omega (arith, c.decreases), tt)
+
+pub append_choice-append_value-requires-3 : goal.append_choice-append_value-requires-3
+append_choice-append_value-requires-3 t c =
+    (omega (arith, c.decreases), tt)
+
+pub append_chosen-append_value-requires : goal.append_chosen-append_value-requires
+append_chosen-append_value-requires t c =
+    (omega (arith, c.decreases), tt)
+
+pub append_chosen-append_reference-requires : goal.append_chosen-append_reference-requires
+append_chosen-append_reference-requires t c =
+    (omega (arith, c.decreases), tt)
+
+pub append_chosen-append_reference-requires-2 : goal.append_chosen-append_reference-requires-2
+append_chosen-append_reference-requires-2 t c =
+    (omega (arith, c.decreases), tt)
 
 pub append_printed-append_values-requires : goal.append_printed-append_values-requires
 append_printed-append_values-requires t c =

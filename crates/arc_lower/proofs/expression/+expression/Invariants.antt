@@ -38,6 +38,12 @@ decreases-append_reference_then l = suc (reference_weight (reference l.object.no
 abbrev pub decreases-append_both : goal.decreases-append_both
 decreases-append_both l = suc (value_weight (value l.left.now) + value_weight (value l.right.now))
 
+abbrev pub decreases-append_choice : goal.decreases-append_choice
+decreases-append_choice l = suc (value_weight (value l.test.now) + value_weight (value l.first.now) + value_weight (value l.second.now))
+
+abbrev pub decreases-append_chosen : goal.decreases-append_chosen
+decreases-append_chosen l = suc (value_weight (value l.test.now) + reference_weight (reference l.first.now) + reference_weight (reference l.second.now))
+
 abbrev pub decreases-append_sent : goal.decreases-append_sent
 decreases-append_sent l = suc (value_weight (value l.receiver.now) + values_weight (values l.arguments.now))
 

@@ -1,4 +1,4 @@
-use Rattle.std.proofs.Common.{◌+◌, true, false, drop, refl, sym, ap, ◌∙◌}
+use Rattle.std.proofs.Common.{◌+◌, ◌++◌, true, false, drop, refl, sym, ap, ◌∙◌}
 use Rattle.arc_ast.specs.Tree.{expr_tree, expr_trees}
 use Rattle.arc_sites.specs.Sites as sites
 use Rattle.arc_ast.specs.Operators.{sort_of}
@@ -22,6 +22,18 @@ inside-returns-in-Binary g t c = λ scope need.
     let left = left_need (sort_of c.in-Binary.field-1) in
     let right = right_need (sort_of c.in-Binary.field-1) a in
     rw c.in-Binary.is (found_both g.V.Visitor.violations _ _ _ (sites.sites m scope left a) (sites.sites m scope right b) (rw c.deref-in-Binary.ensures at c.expression-in-Binary.ensures scope left) (rw c.deref-in-Binary-2.ensures at c.expression-in-Binary-2.ensures scope right))
+
+pub inside-returns-in-Conditional : goal.inside-returns-in-Conditional
+inside-returns-in-Conditional g t c = λ scope need.
+    let m = enclosing_of c.args.enclosing in
+    let test = expr_tree c.in-Conditional.test.value in
+    let a = expr_tree c.in-Conditional.first.value in
+    let b = expr_tree c.in-Conditional.second.value in
+    let one = sites.sites m scope AValue a in
+    let other = sites.sites m scope (Like a) b in
+    rw c.in-Conditional.is (found_both g.V.Visitor.violations _ _ _ (sites.sites m scope AValue test) (one ++ other)
+    (rw c.deref-in-Conditional.ensures at c.expression-in-Conditional.ensures scope AValue)
+    (found_both g.V.Visitor.violations _ _ _ one other (rw c.deref-in-Conditional-2.ensures at c.expression-in-Conditional-2.ensures scope AValue) (rw c.deref-in-Conditional-3.ensures at c.expression-in-Conditional-3.ensures scope (Like a))))
 
 pub inside-returns-in-Assign : goal.inside-returns-in-Assign
 inside-returns-in-Assign g t c = λ scope need.

@@ -1,18 +1,23 @@
-use Rattle.std.proofs.Common.{List, ap, subst, ◌∙◌}
-use Rattle.arc_ast.specs.Tree.{unit_tree}
+use Rattle.std.proofs.Common.{◌≡◌, List, [], Option, refl, ap, subst, ◌∙◌}
+use Rattle.std.specs.Option.{option_map_or}
+use Rattle.arc_ast.specs.Tree.{HeadTree, unit_tree}
 use Rattle.arc_ast.specs.declared.tree.Sign.TheVariants as signs
 use Rattle.arc_class.specs.declared.table.ClassTable.{ClassTable}
 use Rattle.arc_class.specs.declared.table.Entry.{Entry}
 use Rattle.arc_class.specs.Lookups.{superclass_among}
 use Rattle.arc_class.specs.Owners.{TellsMethods}
 use Rattle.arc_class.proofs.Asking.{root_is_top}
-use Rattle.arc_class.specs.Classes.{number_among}
+use Rattle.arc_class.specs.Classes.{number_among, or_else}
+use Rattle.arc_class.specs.Names.{parameter_kinds, listed_kinds}
 use Rattle.arc_class.specs.Table.{built_in_from}
 use Rattle.arc_class.proofs.FieldLists.{field_kept, lists_kept}
 use Rattle.arc_class.proofs.Names.{position_number}
 use Rattle.arc_class.proofs.Rules.{class_number_kept}
 use Rattle.arc_class.proofs.Tables.{superclass_is, result_is, any_is}
 use Rattle.arc_class.proofs.table.ClassTable.of.Goals as goal
+
+first_passed : {a b x y : Option HeadTree} → a ≡ x → b ≡ y → option_map_or (λ h. parameter_kinds h.parameters) (or_else a b) [] ≡ option_map_or (λ h. parameter_kinds h.parameters) (or_else x y) []
+first_passed e f = rw (e, f) refl
 
 pub method_owners-requires : goal.method_owners-requires
 method_owners-requires c = ap (λ es. superclass_among es 0) c.deref-2.ensures.value ∙ root_is_top c.in_ok-parts.parts.entries.items _ c.in_ok-parts.ensures.entries
@@ -38,6 +43,7 @@ returns-clause-table c =
     let Instance : List Entry → Type 0 = λ es. TellsMethods es signs.Instance c.in_ok-instance_methods.instance_methods in
     let table : ClassTable = record {
       functions = c.args.source.known;
+      first_functions = c.args.source.functions;
       main = c.args.main;
       names = c.args.source.names;
       entries = parts.entries;
@@ -57,6 +63,8 @@ returns-clause-table c =
     } in
     record {
       knows = c.requires.knows.knows;
+      parameters = λ name. ap (λ f. option_map_or listed_kinds f []) (c.requires.knows.first_functions name);
+      passed = λ sign selector. first_passed (c.requires.knows.declared_heads sign selector) (c.requires.knows.defined_heads sign selector);
       main = c.requires.main;
       numbers = λ name. class_number_kept table.names u.interfaces name (c.requires.knows.class_places name);
       superclasses = λ class. superclass_is u table class c.in_ok-parts.ensures.entries;
