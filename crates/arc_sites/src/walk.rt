@@ -1,6 +1,6 @@
 //! A walk through all sites of a source.
-ghost use Rattle.std.specs.Prelude.{◌≡◌, List, Option, flat_map, option_map};
-ghost use Rattle.arc_ast.specs.Tree.{expr_tree, expr_trees, variable_trees, type_tree, stmt_tree, stmt_trees, parameter_trees, parameters_tree, function_tree, function_trees, head_trees, method_tree, method_trees, interface_tree, interface_trees, implementation_tree, implementation_trees, unit_tree};
+ghost use Rattle.std.specs.Prelude.{◌≡◌, ℕ, List, Option, flat_map, option_map};
+ghost use Rattle.arc_ast.specs.Tree.{For, expr_tree, expr_trees, variable_trees, type_tree, stmt_tree, stmt_trees, parameter_trees, parameters_tree, function_tree, function_trees, head_trees, method_tree, method_trees, interface_tree, interface_trees, implementation_tree, implementation_trees, unit_tree};
 ghost use Rattle.arc_sites.specs.Violations.{first, earlier_of};
 ghost use Rattle.arc_sites.specs.Sites as sites;
 ghost use Rattle.arc_sites.specs.Sites.{Scope, Need};
@@ -119,7 +119,7 @@ fn within<V: Visitor>(visitor: &mut V, enclosing: Enclosing, stmt: &Stmt)
 {
     match stmt {
         Stmt::Block(_, all) => statements(visitor, enclosing, all),
-        Stmt::Empty(_) => {}
+        Stmt::Empty(_) | Stmt::Break(_) | Stmt::Continue(_) => {}
         Stmt::Expr(expr) => expression(visitor, enclosing, expr),
         Stmt::Return(_, expr) => maybe(visitor, enclosing, expr),
         Stmt::Variables(_, type_name, all) => variables(visitor, enclosing, type_name, all),
@@ -136,7 +136,32 @@ fn within<V: Visitor>(visitor: &mut V, enclosing: Enclosing, stmt: &Stmt)
             expression(visitor, enclosing, test);
             statement(visitor, enclosing, body);
         }
+        Stmt::Do(_, body, test) => {
+            statement(visitor, enclosing, body);
+            expression(visitor, enclosing, test);
+        }
+        Stmt::For(_, beginning, test, step, body) => {
+            within_for(visitor, enclosing, beginning, test, step, body)
+        }
     }
+}
+
+/// Visits what is inside a `for`.
+#[cycle(statements)]
+fn within_for<V: Visitor>(
+    visitor: &mut V,
+    enclosing: Enclosing,
+    beginning: &Stmt,
+    test: &Option<Expr>,
+    step: &Option<Expr>,
+    body: &Stmt,
+)
+    ensures { (at : ℕ) (scope : Scope) → V.found visitor.new ≡ found_from V.violations (V.found visitor.old) (sites.within (enclosing_of enclosing.entry) scope (For at (stmt_tree beginning.now) (option_map expr_tree test.now) (option_map expr_tree step.now) (stmt_tree body.now))) }
+{
+    statement(visitor, enclosing, beginning);
+    maybe(visitor, enclosing, test);
+    maybe(visitor, enclosing, step);
+    statement(visitor, enclosing, body);
 }
 
 /// Visits the statements of a block.
