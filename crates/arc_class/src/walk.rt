@@ -233,30 +233,13 @@ fn in_scope<'a>(
             Ok(earlier(inside, expression(source, test)))
         }
         Stmt::For(_, beginning, test, step, body) => {
-            inside_for(alloc, source, beginning, test, step, body)
+            let before = scoped(alloc, source, beginning)?;
+            let inside = scoped(alloc, source, body)?;
+            let inside = earlier(maybe(source, step), inside);
+            let inside = earlier(maybe(source, test), inside);
+            Ok(earlier(before, inside))
         }
     }
-}
-
-/// The first rule that is broken in a `for`, which is a scope of its own.
-#[cycle(statements)]
-fn inside_for<'a>(
-    alloc: Global,
-    source: &Source<'a>,
-    beginning: &'a Stmt,
-    test: &'a Option<Expr>,
-    step: &'a Option<Expr>,
-    body: &'a Stmt,
-) -> Result<Option<ClassFault>, AllocError>
-    ensures { IfOk result (λ fault. option_map told fault
-        ≡ first (broken_stmt (missing_in source.now) no_name (stmt_tree beginning.now) ++ (broken_maybe (missing_in source.now) (option_map expr_tree test.now)
-        ++ (broken_maybe (missing_in source.now) (option_map expr_tree step.now) ++ broken_stmt (missing_in source.now) no_name (stmt_tree body.now))))) }
-{
-    let before = scoped(alloc, source, beginning)?;
-    let inside = scoped(alloc, source, body)?;
-    let inside = earlier(maybe(source, step), inside);
-    let inside = earlier(maybe(source, test), inside);
-    Ok(earlier(before, inside))
 }
 
 /// The first rule that is broken in the statements of a block.

@@ -1,6 +1,6 @@
 //! A walk through all sites of a source.
-ghost use Rattle.std.specs.Prelude.{◌≡◌, ℕ, List, Option, flat_map, option_map};
-ghost use Rattle.arc_ast.specs.Tree.{For, expr_tree, expr_trees, variable_trees, type_tree, stmt_tree, stmt_trees, parameter_trees, parameters_tree, function_tree, function_trees, head_trees, method_tree, method_trees, interface_tree, interface_trees, implementation_tree, implementation_trees, unit_tree};
+ghost use Rattle.std.specs.Prelude.{◌≡◌, List, Option, flat_map, option_map};
+ghost use Rattle.arc_ast.specs.Tree.{expr_tree, expr_trees, variable_trees, type_tree, stmt_tree, stmt_trees, parameter_trees, parameters_tree, function_tree, function_trees, head_trees, method_tree, method_trees, interface_tree, interface_trees, implementation_tree, implementation_trees, unit_tree};
 ghost use Rattle.arc_sites.specs.Violations.{first, earlier_of};
 ghost use Rattle.arc_sites.specs.Sites as sites;
 ghost use Rattle.arc_sites.specs.Sites.{Scope, Need};
@@ -141,27 +141,12 @@ fn within<V: Visitor>(visitor: &mut V, enclosing: Enclosing, stmt: &Stmt)
             expression(visitor, enclosing, test);
         }
         Stmt::For(_, beginning, test, step, body) => {
-            within_for(visitor, enclosing, beginning, test, step, body)
+            statement(visitor, enclosing, beginning);
+            maybe(visitor, enclosing, test);
+            maybe(visitor, enclosing, step);
+            statement(visitor, enclosing, body);
         }
     }
-}
-
-/// Visits what is inside a `for`.
-#[cycle(statements)]
-fn within_for<V: Visitor>(
-    visitor: &mut V,
-    enclosing: Enclosing,
-    beginning: &Stmt,
-    test: &Option<Expr>,
-    step: &Option<Expr>,
-    body: &Stmt,
-)
-    ensures { (at : ℕ) (scope : Scope) → V.found visitor.new ≡ found_from V.violations (V.found visitor.old) (sites.within (enclosing_of enclosing.entry) scope (For at (stmt_tree beginning.now) (option_map expr_tree test.now) (option_map expr_tree step.now) (stmt_tree body.now))) }
-{
-    statement(visitor, enclosing, beginning);
-    maybe(visitor, enclosing, test);
-    maybe(visitor, enclosing, step);
-    statement(visitor, enclosing, body);
 }
 
 /// Visits the statements of a block.

@@ -41,18 +41,17 @@ in_scope-returns-in_ok-inside-in-Do-clause-fault t c =
     let inside : option_map told c.in_ok-inside-in-Do.inside ≡ first (broken_stmt L no_name (stmt_tree c.in-Do.body.value)) = rw c.deref-in-Do.ensures at c.in_ok-inside-in-Do.ensures in
     rw c.in-Do.is (first_both (broken_stmt L no_name (stmt_tree c.in-Do.body.value)) (broken_expr L (expr_tree c.in-Do.test)) (option_map told c.in_ok-inside-in-Do.inside) (option_map told c.expression-in-Do.result) (option_map told c.earlier-in-Do.result) inside c.expression-in-Do.ensures c.earlier-in-Do.ensures)
 
-pub in_scope-returns-in-For-clause-fault : goal.in_scope-returns-in-For-clause-fault
-in_scope-returns-in-For-clause-fault t c = rw c.in-For.is (rw (c.deref-in-For.ensures, c.deref-in-For-2.ensures) at c.inside_for.ensures)
-
-pub inside_for-returns-in_ok-inside : goal.inside_for-returns-in_ok-inside
-inside_for-returns-in_ok-inside t c =
+pub in_scope-returns-in_ok-inside-in-For-clause-fault : goal.in_scope-returns-in_ok-inside-in-For-clause-fault
+in_scope-returns-in_ok-inside-in-For-clause-fault t c =
     let L = missing_in c.args.source.now in
-    let A = broken_stmt L no_name (stmt_tree c.args.beginning.now) in
-    let T = broken_maybe L (option_map expr_tree c.args.test.now) in
-    let S = broken_maybe L (option_map expr_tree c.args.step.now) in
-    let B = broken_stmt L no_name (stmt_tree c.args.body.now) in
-    first_both A (T ++ (S ++ B)) _ _ _ c.in_ok-before.ensures
-    (first_both T (S ++ B) _ _ _ c.maybe-2.ensures (first_both S B _ _ _ c.maybe.ensures c.in_ok-inside.ensures c.earlier-inside.ensures) c.earlier-inside-2.ensures) c.earlier.ensures
+    let A = broken_stmt L no_name (stmt_tree c.in-For.beginning.value) in
+    let T = broken_maybe L (option_map expr_tree c.in-For.test) in
+    let S = broken_maybe L (option_map expr_tree c.in-For.step) in
+    let B = broken_stmt L no_name (stmt_tree c.in-For.body.value) in
+    let before : option_map told c.in_ok-before-in-For.before ≡ first A = rw c.deref-in-For.ensures at c.in_ok-before-in-For.ensures in
+    let inside : option_map told c.in_ok-inside-in-For.inside ≡ first B = rw c.deref-in-For-2.ensures at c.in_ok-inside-in-For.ensures in
+    rw c.in-For.is (first_both A (T ++ (S ++ B)) _ _ _ before
+    (first_both T (S ++ B) _ _ _ c.maybe-in-For-2.ensures (first_both S B _ _ _ c.maybe-in-For.ensures inside c.earlier-inside-in-For.ensures) c.earlier-inside-in-For-2.ensures) c.earlier-in-For.ensures)
 
 pub statements-loop-statement-preserved : goal.statements-loop-statement-preserved
 statements-loop-statement-preserved t c =

@@ -1,4 +1,4 @@
-use Rattle.std.proofs.Common.{◌+◌, true, false, drop, option_map, refl, sym, ap, ◌∙◌}
+use Rattle.std.proofs.Common.{◌+◌, ◌++◌, true, false, drop, option_map, refl, sym, ap, ◌∙◌}
 use Rattle.arc_ast.specs.Tree.{expr_tree, stmt_tree, stmt_trees}
 use Rattle.arc_sites.specs.Sites as sites
 use Rattle.arc_sites.specs.Sites.{AValue, Anything, Statement, site, inner, after, maybe_sites, stmt_sites, all_sites}
@@ -35,20 +35,17 @@ within-returns-in-Do g t c = λ scope.
     (rw c.deref-in-Do.ensures at c.statement-in-Do.ensures (inner true scope)) (c.expression-in-Do.ensures scope AValue))
 
 pub within-returns-in-For : goal.within-returns-in-For
-within-returns-in-For g t c = λ scope. rw c.in-For.is (rw (c.deref-in-For.ensures, c.deref-in-For-2.ensures) at c.within_for.ensures c.in-For.field-0 scope)
-
-pub within_for-returns : goal.within_for-returns
-within_for-returns g t c = λ at scope.
+within-returns-in-For g t c = λ scope.
     let m = enclosing_of c.args.enclosing in
     let rules = g.V.Visitor.violations in
     let outer = inner false scope in
-    let beginning = stmt_tree c.args.beginning.now in
+    let beginning = stmt_tree c.in-For.beginning.value in
     let own = after outer beginning in
-    let test = maybe_sites m own AValue (option_map expr_tree c.args.test.now) in
-    let step = maybe_sites m own Anything (option_map expr_tree c.args.step.now) in
-    let body = stmt_sites m (inner true own) (stmt_tree c.args.body.now) in
-    found_both rules _ _ _ (stmt_sites m outer beginning) _ (c.statement.ensures outer)
-    (found_three rules _ _ _ _ test step body (c.maybe.ensures own AValue) (c.maybe-2.ensures own Anything) (c.statement-2.ensures (inner true own)))
+    let test = maybe_sites m own AValue (option_map expr_tree c.in-For.test) in
+    let step = maybe_sites m own Anything (option_map expr_tree c.in-For.step) in
+    let body = stmt_sites m (inner true own) (stmt_tree c.in-For.body.value) in
+    rw c.in-For.is (found_both rules _ _ _ (stmt_sites m outer beginning) (test ++ (step ++ body)) (rw c.deref-in-For.ensures at c.statement-in-For.ensures outer)
+    (found_three rules _ _ _ _ test step body (c.maybe-in-For.ensures own AValue) (c.maybe-in-For-2.ensures own Anything) (rw c.deref-in-For-2.ensures at c.statement-in-For-2.ensures (inner true own))))
 
 pub within-returns-in-IfElse : goal.within-returns-in-IfElse
 within-returns-in-IfElse g t c = λ scope.
