@@ -18,7 +18,7 @@ use std::alloc::Global;
 
 /// What is in the parentheses of a `for`.
 #[derive(Drop)]
-pub struct Clauses {
+pub struct ForClauses {
     /// A declaration, an expression or `;` alone.
     pub beginning: Box<Stmt>,
     pub test: Option<Expr>,
@@ -84,7 +84,7 @@ fn step<'a>(alloc: Global, tokens: &'a [Token]) -> Read<'a, Option<Expr>>
 
 /// What is in the parentheses of a `for`.
 #[tactic(auto, unfolding(arc_grammar::specs::Grammar::clauses))]
-pub fn clauses<'a>(alloc: Global, tokens: &'a [Token]) -> Read<'a, Clauses>
+pub fn clauses<'a>(alloc: Global, tokens: &'a [Token]) -> Read<'a, ForClauses>
     ensures gives { Gives (λ x. ((stmt_tree x.0.beginning.value, (option_map expr_tree x.0.test, option_map expr_tree x.0.step)), toks x.1.now)) result (reads grammar.clauses (toks tokens.now)) }
     ensures shorter { IfOk result (λ x. length x.1.now < length tokens.now) }
 {
@@ -94,7 +94,7 @@ pub fn clauses<'a>(alloc: Global, tokens: &'a [Token]) -> Read<'a, Clauses>
     let (test, rest) = value(alloc, rest)?;
     let (step, rest) = step(alloc, rest)?;
     Ok((
-        Clauses {
+        ForClauses {
             beginning,
             test,
             step,
