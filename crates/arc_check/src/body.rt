@@ -1,5 +1,5 @@
 //! Finds the first rule that is broken in the functions of a source.
-ghost use Rattle.std.specs.Prelude.{◌≡◌, [], ◌++◌, IfOk, OnOk, nat_lt, not, option_map, take, length};
+ghost use Rattle.std.specs.Prelude.{◌≡◌, true, false, [], ◌++◌, IfOk, OnOk, nat_lt, not, option_map, take, length};
 ghost use Rattle.std.specs.Option.{option_map_or};
 ghost use Rattle.std.specs.List.{flat_map};
 ghost use Rattle.arc_ast.specs.Tree.{expr_tree, type_tree, variable_trees, parameter_trees, parameters_tree, stmt_tree, stmt_trees, function_tree, function_trees};

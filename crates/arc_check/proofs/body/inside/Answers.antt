@@ -1,4 +1,4 @@
-use Rattle.std.proofs.Common.{option_map, ap, ◌∙◌}
+use Rattle.std.proofs.Common.{false, option_map, ap, ◌∙◌}
 use Rattle.arc_ast.specs.Tree.{parameter_trees, stmt_trees}
 use Rattle.arc_class.specs.Broken.{first}
 use Rattle.arc_class.proofs.Firsts.{first_both}
