@@ -105,7 +105,7 @@ abbrev pub equality : BinaryOperator → Resolution → Resolution → Resolutio
 equality operator (Refers a) (Refers b) = Gives k.Int (compared operator (Differ a b))
 equality operator a b = combined operator (wider (kind_in a) (kind_in b)) a b
 
--- `a || b` is `a ? 1 : (BOOL) b`, and `a && b` is `a ? (BOOL) b : 0` (C99, sections 6.5.13 and 6.5.14)
+-- By its first operand `||` chooses 1 or else the second one as a BOOL, and `&&` the second one as a BOOL or else 0 (C99, sections 6.5.13 and 6.5.14).
 abbrev pub logic : BinaryOperator → Value → Value → Value
 logic o.Or a b = Choice a (Number (pos 1)) (Converted k.Bool b)
 logic _ a b = Choice a (Converted k.Bool b) (Number (pos 0))
