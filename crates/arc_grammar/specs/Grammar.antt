@@ -493,7 +493,7 @@ texts = map (λ _ count. CountAndTexts) (perhaps_const ⨾ key w.Char ⨾ the m.
 unfoldable pub further_parameters : Part (ParameterTree → ParametersTree)
 further_parameters = map (λ (q, others) p. Listed (p ∷ q ∷ others)) (parameter ⨾ more_parameters)
 
--- the first parameter of `main`, which is an `int`, as the count of texts is (this project's own choice)
+-- the first parameter of `main`, which is an `int`, as the count of texts is; another type isn't read there yet
 unfoldable pub count : Part ParameterTree
 count = map (λ (int, n). record { at = n.0; type = Int; name = n.1 }) (key w.Int ⨾ called)
 
