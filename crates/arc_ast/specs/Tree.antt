@@ -70,7 +70,8 @@ pub record VariableTree : Type 0 where
   pub initial : Option ExprTree
 
 mutual
-  -- a statement, with the place of its first byte (C99, section 6.8)
+  -- A statement, with the place of its first byte (C99, section 6.8). A `for` has what comes before it, as a statement, its test, its step and its body (section
+  -- 6.8.5.3).
   pub data StmtTree : Type 0 where
     Block : ℕ → StmtTrees → StmtTree
     Empty : ℕ → StmtTree
@@ -80,6 +81,10 @@ mutual
     If : ℕ → ExprTree → StmtTree → StmtTree
     IfElse : ℕ → ExprTree → StmtTree → StmtTree → StmtTree
     While : ℕ → ExprTree → StmtTree → StmtTree
+    Do : ℕ → StmtTree → ExprTree → StmtTree
+    For : ℕ → StmtTree → (test step : Option ExprTree) → StmtTree → StmtTree
+    Break : ℕ → StmtTree
+    Continue : ℕ → StmtTree
 
   pub data StmtTrees : Type 0 where
     no_stmts : StmtTrees
@@ -238,6 +243,10 @@ abbrev mutual
   stmt_tree (s.If' at c q a) = If at (expr_tree c) (stmt_tree a)
   stmt_tree (s.IfElse' at c q a r b) = IfElse at (expr_tree c) (stmt_tree a) (stmt_tree b)
   stmt_tree (s.While' at c q a) = While at (expr_tree c) (stmt_tree a)
+  stmt_tree (s.Do' at q a c) = Do at (stmt_tree a) (expr_tree c)
+  stmt_tree (s.For' at q a c e r b) = For at (stmt_tree a) (option_map expr_tree c) (option_map expr_tree e) (stmt_tree b)
+  stmt_tree (s.Break at) = Break at
+  stmt_tree (s.Continue at) = Continue at
 
   pub row_stmts : {n : _} → Row_of-Stmt n → StmtTrees
   row_stmts end_of-Stmt = no_stmts

@@ -188,6 +188,13 @@ pub enum Stmt {
     If(usize, Expr, Box<Stmt>),
     IfElse(usize, Expr, Box<Stmt>, Box<Stmt>),
     While(usize, Expr, Box<Stmt>),
+    /// The body, and the test after it.
+    Do(usize, Box<Stmt>, Expr),
+    /// What comes before the loop, which is a declaration, an expression or `;` alone, the test and the
+    /// step, if they are there, and the body.
+    For(usize, Box<Stmt>, Option<Expr>, Option<Expr>, Box<Stmt>),
+    Break(usize),
+    Continue(usize),
 }
 
 /// A parameter of a function or a method, with its type and the place of its name.

@@ -17,7 +17,7 @@ use Rattle.arc_check.specs.declared.checked.Command.{Command}
 use Rattle.arc_check.specs.declared.checked.CheckedFunction.{CheckedFunction}
 use Rattle.arc_check.specs.private.Building.{ahead_of, function_of, functions_ahead}
 use Rattle.arc_check.specs.Checked as checked
-use Rattle.arc_check.specs.Resolving.{declared, resolved_variables, resolved_stmt, resolved_stmts, resolved_body, resolved_function}
+use Rattle.arc_check.specs.Resolving.{declared, resolved_variables, resolved_stmt, resolved_stmts, resolved_body, resolved_function, with_loop}
 use Rattle.arc_check.specs.Scopes.{Known, Scope, declare, with_parameters, leave, behind, behind_all, outermost}
 use Rattle.arc_check.proofs.Lists.{drop_turn, drop_end}
 use Rattle.arc_ast.proofs.Trees.{block_tree}
@@ -79,6 +79,14 @@ declaration_command s a at type all items made e m h = sequence_command 0 0 made
 
 pub choose_is : (test other : resolved.Value) (a b c d : resolved.Command) → test ≡ other → a ≡ b → c ≡ d → resolved.Choose test a c ≡ resolved.Choose other b d
 choose_is test other a b c d t e f = rw (t, e, f) refl
+
+pub repeat_is : (test other : resolved.Value) (a b c d : resolved.Command) → test ≡ other → a ≡ b → c ≡ d → resolved.Repeat test a c ≡ resolved.Repeat other b d
+repeat_is test other a b c d t e f = rw (t, e, f) refl
+
+-- what comes before a loop, and the loop
+pub loop_command : (s own : Scope) (first count : ℕ) (all : Vec Command Global) (a b : Command) (one loop : resolved.Command) → all.items ≡ a ∷ b ∷ [] → first ≡ s.names → count ≡ own.names - s.names → checked.command a ≡ one → checked.command b ≡ loop
+    → checked.command (command.Sequence first count all) ≡ with_loop s own one loop
+loop_command s own first count all a b one loop i n m e f = sequence_command first count all ∙ rw (i, n, m, e, f) refl
 
 -- ---- functions
 

@@ -1,7 +1,7 @@
 -- Where a scope stands stays the same behind its statements.
 use Rattle.std.proofs.Common.{◌≡◌, ℕ, Bool, true, false, List, [], ◌∷◌, option_map, refl, ap, ◌∙◌}
 use Rattle.arc_ast.specs.Tree as tree
-use Rattle.arc_ast.specs.Tree.{TypeTree, VariableTree, StmtTree, StmtTrees, Block, Empty, Simple, Return, Variables, If, IfElse, While, no_stmts, and_stmt}
+use Rattle.arc_ast.specs.Tree.{TypeTree, VariableTree, StmtTree, StmtTrees, Block, Empty, Simple, Return, Variables, If, IfElse, While, Do, For, Break, Continue, no_stmts, and_stmt}
 use Rattle.arc_class.specs.declared.table.ClassTable.{ClassTable}
 use Rattle.arc_class.specs.Table.{number_of_class}
 use Rattle.arc_check.specs.declared.scope.Visible.{Visible}
@@ -49,6 +49,10 @@ behind_same s (Variables at type all) = variables_same type s all
 behind_same s (If at c a) = record { class = refl; sign = refl; result = refl; hidden = refl }
 behind_same s (IfElse at c a b) = record { class = refl; sign = refl; result = refl; hidden = refl }
 behind_same s (While at c a) = record { class = refl; sign = refl; result = refl; hidden = refl }
+behind_same s (Do at a c) = record { class = refl; sign = refl; result = refl; hidden = refl }
+behind_same s (For at a c e b) = record { class = refl; sign = refl; result = refl; hidden = refl }
+behind_same s (Break at) = same s
+behind_same s (Continue at) = same s
 
 pub behind_all_same : (s : Scope) (all : StmtTrees) → SameBody (behind_all s all) s
 behind_all_same s no_stmts = same s
@@ -67,3 +71,7 @@ pub leave_is : (table : ClassTable) (old mid new : Visible) (inner : Scope) → 
 leave_is table old mid new inner t e b l =
     scope_is _ _ _ _ _ _ _ _ _ _ _ _ _ _ _ (ap (option_map number_of_class) l.class ∙ ap (λ s. s.class) e ∙ t.class) (l.sign ∙ ap (λ s. s.sign) e ∙ t.sign) (l.gives ∙ ap (λ s. s.result) e ∙ t.result) (l.hidden ∙ ap (λ s. s.hidden) e ∙ t.hidden) (ap local_in b)
     (l.next ∙ ap (λ s. s.next) e) (l.names ∙ ap (λ s. s.names) e)
+
+-- the same after a scope in another
+pub inner_same : (r s t : Scope) → SameBody s r → SameBody (leave s t) r
+inner_same r s t h = record { class = h.class; sign = h.sign; result = h.result; hidden = h.hidden }

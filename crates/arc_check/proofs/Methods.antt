@@ -1,5 +1,5 @@
 -- What is told of methods, and one more.
-use Rattle.std.proofs.Common.{◌≡◌, Some, ℕ, ◌+◌, ◌<◌, Bool, List, ◌++◌, length, get_or, drop, Option, refl, ap, ◌∙◌}
+use Rattle.std.proofs.Common.{◌≡◌, false, Some, ℕ, ◌+◌, ◌<◌, Bool, List, ◌++◌, length, get_or, drop, Option, refl, ap, ◌∙◌}
 use Rattle.std.specs.List.{flat_map}
 use Rattle.arc_ast.specs.declared.tree.Implementation.{Implementation}
 use Rattle.arc_ast.specs.declared.tree.Interface.{Interface}
@@ -29,12 +29,12 @@ interfaces_turn xs i x items so_far one now whole l e m o n w =
 
 -- a method's parameters and its body stand in Vecs
 pub method_is : (known : Known) (class : Option ℕ) (m : Method) (s : Scope) (gives : Kind) (gives_nothing : Bool) (named : List Parameter) (body : List Stmt) (own inside both : Option Broken) → own ≡ first (broken_head (head_tree m.head)) → s ≡ in_method known class m.head.sign gives → gives ≡ result_of (head_tree m.head) → gives_nothing ≡ is_nothing (Some gives)
-    → named ≡ m.head.parameters.items → body ≡ m.body.items → inside ≡ first (broken_parameters s (parameter_trees named) ++ broken_stmts gives_nothing (with_parameters s (parameter_trees named)) (stmt_trees body)) → both ≡ earlier_of own inside
+    → named ≡ m.head.parameters.items → body ≡ m.body.items → inside ≡ first (broken_parameters s (parameter_trees named) ++ broken_stmts gives_nothing false (with_parameters s (parameter_trees named)) (stmt_trees body)) → both ≡ earlier_of own inside
     → both ≡ first (broken_method known class (method_tree m))
 method_is known class m s gives gives_nothing named body own inside both o p k g n b h e =
     let start = in_method known class m.head.sign (result_of (head_tree m.head)) in
     let ps = parameter_trees m.head.parameters.items in
-    first_both (broken_head (head_tree m.head)) (broken_parameters start ps ++ broken_stmts (is_nothing (Some (result_of (head_tree m.head)))) (with_parameters start ps) (stmt_trees m.body.items)) own inside both o (h ∙ rw (g, p, k, n, b) refl) e
+    first_both (broken_head (head_tree m.head)) (broken_parameters start ps ++ broken_stmts (is_nothing (Some (result_of (head_tree m.head)))) false (with_parameters start ps) (stmt_trees m.body.items)) own inside both o (h ∙ rw (g, p, k, n, b) refl) e
 
 pub methods_turn : (known : Known) (class : Option ℕ) (xs : List Method) (i : ℕ) (x : Method) (so_far one now whole : Option Broken) → i < length xs → x ≡ get_or xs i x → one ≡ first (broken_method known class (method_tree x)) → now ≡ earlier_of so_far one
     → whole ≡ earlier_of so_far (first (flat_map (broken_method known class) (method_trees (drop i xs)))) → whole ≡ earlier_of now (first (flat_map (broken_method known class) (method_trees (drop (i + 1) xs))))

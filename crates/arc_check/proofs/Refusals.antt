@@ -32,6 +32,7 @@ refuses all (f.KindMismatch at) h = h
 refuses all (f.NotAssignable at) h = h
 refuses all (f.ArgumentCount at) h = h
 refuses all (f.Format at) h = h
+refuses all (f.OutsideLoop at) h = h
 refuses all (f.FieldHidden at) h = h
 refuses all (f.TooManyLocals at) h = h
 refuses all f.Memory h = tt

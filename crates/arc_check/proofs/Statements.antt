@@ -1,5 +1,5 @@
 -- What is told of statements and of functions.
-use Rattle.std.proofs.Common.{◌≡◌, ℕ, ◌+◌, ◌<◌, Bool, List, ◌++◌, length, get_or, drop, Vec, Global, Option, Some, option_map, refl, sym, ap, ◌∙◌}
+use Rattle.std.proofs.Common.{◌≡◌, ℕ, ◌+◌, ◌<◌, Bool, false, List, ◌++◌, length, get_or, drop, Vec, Global, Option, Some, option_map, refl, sym, ap, ◌∙◌}
 use Rattle.std.specs.List.{flat_map}
 use Rattle.arc_ast.specs.declared.tree.Kind.{Kind}
 use Rattle.arc_ast.specs.declared.tree.Stmt as stmt
@@ -14,19 +14,19 @@ use Rattle.arc_check.proofs.Lists.{drop_turn}
 use Rattle.arc_ast.proofs.Trees.{block_tree}
 
 -- one statement more is told
-pub statements_turn : (gives_nothing : Bool) (s after : Scope) (xs : List Stmt) (i : ℕ) (x : Stmt) (so_far one now whole : Option Broken) → i < length xs → x ≡ get_or xs i x → one ≡ first (broken_stmt gives_nothing s (stmt_tree x))
-    → after ≡ behind s (stmt_tree x) → now ≡ earlier_of so_far one → whole ≡ earlier_of so_far (first (broken_stmts gives_nothing s (stmt_trees (drop i xs)))) → whole ≡ earlier_of now (first (broken_stmts gives_nothing after (stmt_trees (drop (i + 1) xs))))
-statements_turn gives_nothing s after xs i x so_far one now whole l e o a n w =
-    first_turn (broken_stmt gives_nothing s (stmt_tree x)) (broken_stmts gives_nothing (behind s (stmt_tree x)) (stmt_trees (drop (i + 1) xs))) so_far one now whole o n
-    (w ∙ ap (λ us. earlier_of so_far (first (broken_stmts gives_nothing s (stmt_trees us)))) (drop_turn xs i x l e))
-    ∙ ap (λ p. earlier_of now (first (broken_stmts gives_nothing p (stmt_trees (drop (i + 1) xs))))) (sym a)
+pub statements_turn : (gives_nothing in_loop : Bool) (s after : Scope) (xs : List Stmt) (i : ℕ) (x : Stmt) (so_far one now whole : Option Broken) → i < length xs → x ≡ get_or xs i x → one ≡ first (broken_stmt gives_nothing in_loop s (stmt_tree x))
+    → after ≡ behind s (stmt_tree x) → now ≡ earlier_of so_far one → whole ≡ earlier_of so_far (first (broken_stmts gives_nothing in_loop s (stmt_trees (drop i xs)))) → whole ≡ earlier_of now (first (broken_stmts gives_nothing in_loop after (stmt_trees (drop (i + 1) xs))))
+statements_turn gives_nothing in_loop s after xs i x so_far one now whole l e o a n w =
+    first_turn (broken_stmt gives_nothing in_loop s (stmt_tree x)) (broken_stmts gives_nothing in_loop (behind s (stmt_tree x)) (stmt_trees (drop (i + 1) xs))) so_far one now whole o n
+    (w ∙ ap (λ us. earlier_of so_far (first (broken_stmts gives_nothing in_loop s (stmt_trees us)))) (drop_turn xs i x l e))
+    ∙ ap (λ p. earlier_of now (first (broken_stmts gives_nothing in_loop p (stmt_trees (drop (i + 1) xs))))) (sym a)
 
 pub behind_turn : (s after whole : Scope) (xs : List Stmt) (i : ℕ) (x : Stmt) → i < length xs → x ≡ get_or xs i x → after ≡ behind s (stmt_tree x) → whole ≡ behind_all s (stmt_trees (drop i xs)) → whole ≡ behind_all after (stmt_trees (drop (i + 1) xs))
 behind_turn s after whole xs i x l e a w = w ∙ ap (λ us. behind_all s (stmt_trees us)) (drop_turn xs i x l e) ∙ ap (λ p. behind_all p (stmt_trees (drop (i + 1) xs))) (sym a)
 
 -- a block's statements stand in a Vec
-pub block_is : (a : Stmt) (at : ℕ) (all : Vec Stmt Global) (items : List Stmt) → a ≡ stmt.Block at all → items ≡ all.items → (gives_nothing : Bool) (s : Scope) → first (broken_stmts gives_nothing s (stmt_trees items)) ≡ first (broken_stmt gives_nothing s (stmt_tree a))
-block_is a at all items e m gives_nothing s = ap (λ us. first (broken_stmts gives_nothing s (stmt_trees us))) m ∙ sym (ap (λ t. first (broken_stmt gives_nothing s t)) (ap stmt_tree e ∙ block_tree at all))
+pub block_is : (a : Stmt) (at : ℕ) (all : Vec Stmt Global) (items : List Stmt) → a ≡ stmt.Block at all → items ≡ all.items → (gives_nothing in_loop : Bool) (s : Scope) → first (broken_stmts gives_nothing in_loop s (stmt_trees items)) ≡ first (broken_stmt gives_nothing in_loop s (stmt_tree a))
+block_is a at all items e m gives_nothing in_loop s = ap (λ us. first (broken_stmts gives_nothing in_loop s (stmt_trees us))) m ∙ sym (ap (λ t. first (broken_stmt gives_nothing in_loop s t)) (ap stmt_tree e ∙ block_tree at all))
 
 pub block_behind : (a : Stmt) (at : ℕ) (all : Vec Stmt Global) (items : List Stmt) → a ≡ stmt.Block at all → items ≡ all.items → (s : Scope) → leave s (behind_all s (stmt_trees items)) ≡ behind s (stmt_tree a)
 block_behind a at all items e m s = ap (λ us. leave s (behind_all s (stmt_trees us))) m ∙ sym (ap (behind s) (ap stmt_tree e ∙ block_tree at all))
@@ -39,5 +39,5 @@ functions_turn known xs i x so_far one now whole l e o n w =
 
 -- a function's body stands in a Vec, if there is one
 pub body_is : (gives : Kind) (gives_nothing : Bool) (known : Known) (s : Scope) (named : List ParameterTree) (maybe : Option (Vec Stmt Global)) (body : Vec Stmt Global) (items : List Stmt) → maybe ≡ Some body → items ≡ body.items → gives_nothing ≡ is_nothing (Some gives) → s ≡ outermost known gives
-    → first (broken_parameters s named ++ broken_stmts gives_nothing (with_parameters s named) (stmt_trees items)) ≡ first (broken_body gives known named (option_map (λ b. stmt_trees b.items) maybe))
+    → first (broken_parameters s named ++ broken_stmts gives_nothing false (with_parameters s named) (stmt_trees items)) ≡ first (broken_body gives known named (option_map (λ b. stmt_trees b.items) maybe))
 body_is gives gives_nothing known s named maybe body items e m g n = rw (g, n, m, e) refl

@@ -12,7 +12,7 @@ use Rattle.arc_check.specs.declared.checked.CheckedFunction.{CheckedFunction}
 use Rattle.arc_check.specs.declared.checked.Checked.{Checked}
 use Rattle.arc_spec.specs.Classes.{classes_of}
 use Rattle.arc_spec.specs.Resolved as resolved
-use Rattle.arc_spec.specs.Resolved.{Number, ReadByte, Print, Applied, Combined, Choice, Converted, Local, Assigned, Invoked, Sent, SentSuper, SentTo, SentToSuper, Field, FieldAssigned, Differ, IsObject, Nil, Itself, Variable, Chosen, Stored, Made, Initialized, no_values, and_value, Sequence, Evaluate, EvaluateReference, Begin, Return, Choose, Repeat, no_commands, and_command, Bytes, Decimal, Character}
+use Rattle.arc_spec.specs.Resolved.{Number, ReadByte, Print, Applied, Combined, Choice, Converted, Local, Assigned, Invoked, Sent, SentSuper, SentTo, SentToSuper, Field, FieldAssigned, Differ, IsObject, Nil, Itself, Variable, Chosen, Stored, Made, Initialized, no_values, and_value, Sequence, Evaluate, EvaluateReference, Begin, Return, Choose, Repeat, RepeatAfter, Break, Continue, no_commands, and_command, Bytes, Decimal, Character}
 
 abbrev pub piece : Piece → resolved.Piece
 piece (p.Bytes bytes) = Bytes bytes.items
@@ -69,7 +69,10 @@ abbrev mutual
   command (c.Begin i a) = Begin i (reference a)
   command (c.Return a) = Return (option_map value a)
   command (c.Choose' test q a r b) = Choose (value test) (command a) (command b)
-  command (c.Repeat' test q a) = Repeat (value test) (command a)
+  command (c.Repeat' test q a r b) = Repeat (value test) (command a) (command b)
+  command (c.RepeatAfter' q a test) = RepeatAfter (command a) (value test)
+  command c.Break = Break
+  command c.Continue = Continue
 
   pub row_commands : {n : _} → Row_of-Command n → resolved.Commands
   row_commands end_of-Command = no_commands

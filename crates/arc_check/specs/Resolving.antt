@@ -15,9 +15,9 @@ use Rattle.arc_ast.specs.declared.tree.Kind.TheVariants as k
 use Rattle.arc_ast.specs.declared.tree.Sign.{Sign}
 use Rattle.arc_ast.specs.declared.tree.Sign.TheVariants as signs
 use Rattle.arc_ast.specs.Tree as tree
-use Rattle.arc_ast.specs.Tree.{TypeTree, ExprTree, ExprTrees, Integer, Text, Paren, Call, Name, Unary, Cast, Binary, Conditional, Arrow, Assign, Send, SendSuper, no_exprs, and_expr, VariableTree, StmtTree, StmtTrees, Block, Empty, Simple, Variables, If, IfElse, While, no_stmts, and_stmt, ParameterTree, FunctionTree, MethodTree, ImplementationTree, UnitTree}
+use Rattle.arc_ast.specs.Tree.{TypeTree, ExprTree, ExprTrees, Integer, Text, Paren, Call, Name, Unary, Cast, Binary, Conditional, Arrow, Assign, Send, SendSuper, no_exprs, and_expr, VariableTree, StmtTree, StmtTrees, Block, Empty, Simple, Variables, If, IfElse, While, Do, For, no_stmts, and_stmt, ParameterTree, FunctionTree, MethodTree, ImplementationTree, UnitTree}
 use Rattle.arc_spec.specs.Classes.{same_sign}
-use Rattle.arc_spec.specs.Resolved.{Value, Reference, Number, ReadByte, Print, Applied, Combined, Choice, Converted, Local, Assigned, Invoked, Sent, SentSuper, SentTo, SentToSuper, Field, FieldAssigned, Differ, IsObject, Nil, Itself, Variable, Chosen, Stored, Made, Initialized, Values, no_values, and_value, Command, Sequence, Evaluate, EvaluateReference, Begin, Return, Choose, Repeat, Commands, no_commands, and_command, Function, Program}
+use Rattle.arc_spec.specs.Resolved.{Value, Reference, Number, ReadByte, Print, Applied, Combined, Choice, Converted, Local, Assigned, Invoked, Sent, SentSuper, SentTo, SentToSuper, Field, FieldAssigned, Differ, IsObject, Nil, Itself, Variable, Chosen, Stored, Made, Initialized, Values, no_values, and_value, Command, Sequence, Evaluate, EvaluateReference, Begin, Return, Choose, Repeat, RepeatAfter, Break, Continue, Commands, no_commands, and_command, Function, Program}
 use Rattle.arc_sites.specs.Sites.{named_parameters}
 use Rattle.arc_class.specs.Running.{classes}
 use Rattle.arc_class.specs.Names.{number_of, is_main}
@@ -301,7 +301,18 @@ abbrev pub resolved_variables : TypeTree → Scope → List VariableTree → Com
 resolved_variables type s [] = no_commands
 resolved_variables type s (v ∷ others) = declared type s (declare v.name type s) v.initial (resolved_variables type (declare v.name type s) others)
 
--- A statement. A block's own variables that name objects are those that got their numbers in it.
+-- the test of a `for`, which isn't 0 where there is none, and its step, which does nothing where there is none (C99, section 6.8.5.3)
+abbrev pub tested : Scope → Option ExprTree → Value
+tested s c = option_map_or (λ a. number_in (resolved s a)) c (Number (pos 1))
+
+abbrev pub stepped : Scope → Option ExprTree → Command
+stepped s e = option_map_or (λ a. evaluated (resolved s a)) e nothing
+
+-- A `for` is what comes before its loop, and the loop, in a scope with the variables that are declared before the loop (C99, section 6.8.5.3).
+abbrev pub with_loop : (before inside : Scope) → (first loop : Command) → Command
+with_loop before inside first loop = Sequence before.names (inside.names - before.names) (and_command first (and_command loop no_commands))
+
+-- A statement. A block's own variables that name objects are those that got their numbers in it. A `while` is a loop whose step does nothing.
 abbrev mutual
   pub resolved_stmt : Scope → StmtTree → Command
   resolved_stmt s (Block at all) = Sequence s.names ((behind_all s all).names - s.names) (resolved_stmts s all)
@@ -311,7 +322,12 @@ abbrev mutual
   resolved_stmt s (Variables at type all) = Sequence 0 0 (resolved_variables type s all)
   resolved_stmt s (If at c a) = Choose (number_in (resolved s c)) (resolved_stmt s a) nothing
   resolved_stmt s (IfElse at c a b) = Choose (number_in (resolved s c)) (resolved_stmt s a) (resolved_stmt (leave s (behind s a)) b)
-  resolved_stmt s (While at c a) = Repeat (number_in (resolved s c)) (resolved_stmt s a)
+  resolved_stmt s (While at c a) = Repeat (number_in (resolved s c)) nothing (resolved_stmt s a)
+  resolved_stmt s (Do at a c) = RepeatAfter (resolved_stmt s a) (number_in (resolved s c))
+  resolved_stmt s (For at a c e b) =
+      with_loop s (behind s a) (resolved_stmt s a) (Repeat (tested (behind s a) c) (stepped (behind s a) e) (resolved_stmt (behind s a) b))
+  resolved_stmt s (tree.Break at) = Break
+  resolved_stmt s (tree.Continue at) = Continue
 
   pub resolved_stmts : Scope → StmtTrees → Commands
   resolved_stmts s no_stmts = no_commands

@@ -10,7 +10,7 @@ use Rattle.arc_ast.specs.declared.tree.OperatorSort.{OperatorSort}
 use Rattle.arc_ast.specs.declared.tree.OperatorSort.TheVariants.{Arithmetic, Shift, Relation, Equality, Logic}
 use Rattle.arc_ast.specs.Types.{type_kind}
 use Rattle.arc_ast.specs.Types as types
-use Rattle.arc_ast.specs.Tree.{TypeTree, ExprTree, ExprTrees, Integer, Text, Paren, Call, Nil, Itself, Name, Unary, Cast, Binary, Conditional, Arrow, Assign, Send, SendSuper, no_exprs, and_expr, place, VariableTree, StmtTree, StmtTrees, Block, Empty, Simple, Return, Variables, If, IfElse, While, no_stmts, and_stmt, ParameterTree, FunctionTree, HeadTree, MethodTree, InterfaceTree, ImplementationTree, UnitTree}
+use Rattle.arc_ast.specs.Tree.{TypeTree, ExprTree, ExprTrees, Integer, Text, Paren, Call, Nil, Itself, Name, Unary, Cast, Binary, Conditional, Arrow, Assign, Send, SendSuper, no_exprs, and_expr, place, VariableTree, StmtTree, StmtTrees, Block, Empty, Simple, Return, Variables, If, IfElse, While, Do, For, Break, Continue, no_stmts, and_stmt, ParameterTree, FunctionTree, HeadTree, MethodTree, InterfaceTree, ImplementationTree, UnitTree}
 use Rattle.arc_class.specs.Broken.{broken_if, Broken}
 use Rattle.arc_sites.specs.Sites.{named_parameters}
 use Rattle.arc_class.specs.Classes.{kinds_passed, class_number, superclass, known_result, any_result, selector_number}
@@ -312,27 +312,37 @@ broken_result gives_nothing s None = []
 broken_result true s (Some a) = broken_whole s a ++ record { at = place a; number = 43 } ∷ []
 broken_result false s (Some a) = broken_number s a
 
--- all that is wrong with a statement
-abbrev mutual
-  pub broken_stmt : (gives_nothing : Bool) → Scope → StmtTree → List Broken
-  broken_stmt gives_nothing s (Block at all) = broken_stmts gives_nothing s all
-  broken_stmt gives_nothing s (Empty at) = []
-  broken_stmt gives_nothing s (Simple a) = broken_whole s a
-  broken_stmt gives_nothing s (Return at a) = broken_result gives_nothing s a
-  broken_stmt gives_nothing s (Variables at type all) = broken_variables type s all
-  broken_stmt gives_nothing s (If at c a) = broken_test s c ++ broken_stmt gives_nothing s a
-  broken_stmt gives_nothing s (IfElse at c a b) = broken_test s c ++ (broken_stmt gives_nothing s a ++ broken_stmt gives_nothing (leave s (behind s a)) b)
-  broken_stmt gives_nothing s (While at c a) = broken_test s c ++ broken_stmt gives_nothing s a
+-- all that is wrong with the test and the step of a `for`, if they are there (C99, section 6.8.5.3)
+abbrev pub broken_clauses : Scope → (test step : Option ExprTree) → List Broken
+broken_clauses s test step = option_map_or (broken_test s) test [] ++ option_map_or (broken_whole s) step []
 
-  pub broken_stmts : (gives_nothing : Bool) → Scope → StmtTrees → List Broken
-  broken_stmts gives_nothing s no_stmts = []
-  broken_stmts gives_nothing s (and_stmt a others) = broken_stmt gives_nothing s a ++ broken_stmts gives_nothing (behind s a) others
+-- All that is wrong with a statement, which is in the body of a loop or isn't. 48 OutsideLoop: a `break` or a `continue` in no such body, at its first byte (C99,
+-- sections 6.8.6.2 and 6.8.6.3).
+abbrev mutual
+  pub broken_stmt : (gives_nothing in_loop : Bool) → Scope → StmtTree → List Broken
+  broken_stmt gives_nothing in_loop s (Block at all) = broken_stmts gives_nothing in_loop s all
+  broken_stmt gives_nothing in_loop s (Empty at) = []
+  broken_stmt gives_nothing in_loop s (Simple a) = broken_whole s a
+  broken_stmt gives_nothing in_loop s (Return at a) = broken_result gives_nothing s a
+  broken_stmt gives_nothing in_loop s (Variables at type all) = broken_variables type s all
+  broken_stmt gives_nothing in_loop s (If at c a) = broken_test s c ++ broken_stmt gives_nothing in_loop s a
+  broken_stmt gives_nothing in_loop s (IfElse at c a b) = broken_test s c ++ (broken_stmt gives_nothing in_loop s a ++ broken_stmt gives_nothing in_loop (leave s (behind s a)) b)
+  broken_stmt gives_nothing in_loop s (While at c a) = broken_test s c ++ broken_stmt gives_nothing true s a
+  broken_stmt gives_nothing in_loop s (Do at a c) = broken_test s c ++ broken_stmt gives_nothing true s a
+  broken_stmt gives_nothing in_loop s (For at a c e b) =
+      broken_stmt gives_nothing false s a ++ (broken_clauses (behind s a) c e ++ broken_stmt gives_nothing true (behind s a) b)
+  broken_stmt gives_nothing in_loop s (Break at) = broken_if (not in_loop) at 48
+  broken_stmt gives_nothing in_loop s (Continue at) = broken_if (not in_loop) at 48
+
+  pub broken_stmts : (gives_nothing in_loop : Bool) → Scope → StmtTrees → List Broken
+  broken_stmts gives_nothing in_loop s no_stmts = []
+  broken_stmts gives_nothing in_loop s (and_stmt a others) = broken_stmt gives_nothing in_loop s a ++ broken_stmts gives_nothing in_loop (behind s a) others
 
 -- the parameters of a mere declaration are counted alone
 abbrev pub broken_body : (result : Kind) → Known → List ParameterTree → Option StmtTrees → List Broken
 broken_body result known parameters None = []
 broken_body result known parameters (Some body) =
-    broken_parameters (outermost known result) parameters ++ broken_stmts (is_nothing (Some result)) (with_parameters (outermost known result) parameters) body
+    broken_parameters (outermost known result) parameters ++ broken_stmts (is_nothing (Some result)) false (with_parameters (outermost known result) parameters) body
 
 -- 45 ArgumentCount too: a function with more parameters than are allowed, at its name (this project's own choice)
 abbrev pub broken_function : Known → FunctionTree → List Broken
@@ -349,7 +359,7 @@ broken_interface i = flat_map broken_head i.methods
 abbrev pub broken_method : Known → (class : Option ℕ) → MethodTree → List Broken
 broken_method known class m = broken_head m.head
     ++ (broken_parameters (in_method known class m.head.sign (types.result_kind m.head.result)) m.head.parameters
-    ++ broken_stmts (is_nothing (Some (types.result_kind m.head.result))) (with_parameters (in_method known class m.head.sign (types.result_kind m.head.result)) m.head.parameters) m.body)
+    ++ broken_stmts (is_nothing (Some (types.result_kind m.head.result))) false (with_parameters (in_method known class m.head.sign (types.result_kind m.head.result)) m.head.parameters) m.body)
 
 abbrev pub broken_implementation : Known → ImplementationTree → List Broken
 broken_implementation known i = flat_map (broken_method known (known.class i.name)) i.methods

@@ -9,7 +9,7 @@ use Rattle.arc_ast.specs.declared.tree.Sign.TheVariants as signs
 use Rattle.arc_ast.specs.declared.tree.Visibility.{Visibility}
 use Rattle.arc_ast.specs.declared.tree.Visibility.TheVariants as v
 use Rattle.arc_ast.specs.Tree as tree
-use Rattle.arc_ast.specs.Tree.{TypeTree, ExprTree, Paren, Nil, Cast, Conditional, Itself, Name, Assign, Send, SendSuper, VariableTree, StmtTree, StmtTrees, Block, Empty, Simple, Return, Variables, If, IfElse, While, no_stmts, and_stmt, ParameterTree}
+use Rattle.arc_ast.specs.Tree.{TypeTree, ExprTree, Paren, Nil, Cast, Conditional, Itself, Name, Assign, Send, SendSuper, VariableTree, StmtTree, StmtTrees, Block, Empty, Simple, Return, Variables, If, IfElse, While, Do, For, Break, Continue, no_stmts, and_stmt, ParameterTree}
 use Rattle.arc_spec.specs.Classes.{same_sign}
 use Rattle.arc_class.specs.declared.table.Declared.{Declared}
 use Rattle.arc_class.specs.declared.table.FoundField.{FoundField}
@@ -105,6 +105,10 @@ abbrev mutual
   behind s (If at c a) = leave s (behind s a)
   behind s (IfElse at c a b) = leave s (behind (leave s (behind s a)) b)
   behind s (While at c a) = leave s (behind s a)
+  behind s (Do at a c) = leave s (behind s a)
+  behind s (For at a c e b) = leave s (behind (behind s a) b)
+  behind s (Break at) = s
+  behind s (Continue at) = s
 
   pub behind_all : Scope → StmtTrees → Scope
   behind_all s no_stmts = s

@@ -1,5 +1,6 @@
 //! Finds the first rule that is broken in the functions of a source.
-ghost use Rattle.std.specs.Prelude.{◌≡◌, ◌++◌, IfOk, OnOk, nat_lt, option_map, take, length};
+ghost use Rattle.std.specs.Prelude.{◌≡◌, true, false, [], ◌++◌, IfOk, OnOk, nat_lt, not, option_map, take, length};
+ghost use Rattle.std.specs.Option.{option_map_or};
 ghost use Rattle.std.specs.List.{flat_map};
 ghost use Rattle.arc_ast.specs.Tree.{expr_tree, type_tree, variable_trees, parameter_trees, parameters_tree, stmt_tree, stmt_trees, function_tree, function_trees};
 ghost use Rattle.arc_class.specs.Broken.{broken_if, first};
@@ -7,7 +8,7 @@ ghost use Rattle.arc_class.specs.declared.table.ClassTable.{ClassTable};
 ghost use Rattle.arc_sites.specs.Sites as sites;
 ghost use Rattle.arc_check.specs.Fault.{told};
 ghost use Rattle.arc_check.specs.Rules as rules;
-ghost use Rattle.arc_check.specs.Rules.{broken_initial, broken_variables, broken_parameters, broken_result, broken_stmt, broken_stmts, broken_body, broken_function};
+ghost use Rattle.arc_check.specs.Rules.{broken_clauses, broken_test, broken_whole, broken_initial, broken_variables, broken_parameters, broken_result, broken_stmt, broken_stmts, broken_body, broken_function};
 ghost use Rattle.arc_check.specs.Scopes.{is_full, leave, behind, behind_all, with_variables, with_parameters};
 ghost use Rattle.arc_check.specs.private.Views.{known_in, seen};
 
@@ -103,20 +104,73 @@ fn parameters<'a>(
     Ok(fault)
 }
 
+/// The rule that a `break` or a `continue` at this place breaks, which is in the body of a loop or isn't.
+fn loop_fault(in_loop: bool, at: usize) -> Option<CheckFault>
+    ensures { option_map told result ≡ first (broken_if (not in_loop) at 48) }
+{
+    if in_loop {
+        None
+    } else {
+        Some(CheckFault::OutsideLoop(at))
+    }
+}
+
+/// The first rule that is broken in the test of a `for`, if there is one.
+fn maybe_test<'a>(
+    table: &ClassTable<'a>,
+    visible: &Visible<'a>,
+    expr: &'a Option<Expr>,
+) -> Option<CheckFault>
+    ensures { option_map told result ≡ first (option_map_or (broken_test (seen table.now visible.now)) (option_map expr_tree expr.now) []) }
+{
+    match expr {
+        None => None,
+        Some(expr) => test_fault(table, visible, expr),
+    }
+}
+
+/// The first rule that is broken in the step of a `for`, if there is one.
+fn maybe_step<'a>(
+    table: &ClassTable<'a>,
+    visible: &Visible<'a>,
+    expr: &'a Option<Expr>,
+) -> Option<CheckFault>
+    ensures { option_map told result ≡ first (option_map_or (broken_whole (seen table.now visible.now)) (option_map expr_tree expr.now) []) }
+{
+    match expr {
+        None => None,
+        Some(expr) => judge_whole(table, visible, expr).fault,
+    }
+}
+
+/// The first rule that is broken in the test and the step of a `for`.
+fn clauses<'a>(
+    table: &ClassTable<'a>,
+    visible: &Visible<'a>,
+    test: &'a Option<Expr>,
+    step: &'a Option<Expr>,
+) -> Option<CheckFault>
+    ensures { option_map told result ≡ first (broken_clauses (seen table.now visible.now) (option_map expr_tree test.now) (option_map expr_tree step.now)) }
+{
+    let test = maybe_test(table, visible, test);
+    earlier(test, maybe_step(table, visible, step))
+}
+
 /// The first rule that is broken in a statement that is a scope of its own.
 #[cycle(statements)]
 fn scoped<'a>(
     table: &ClassTable<'a>,
     gives_nothing: bool,
+    in_loop: bool,
     visible: &mut Visible<'a>,
     inner: &'a Stmt,
 ) -> Result<Option<CheckFault>, AllocError>
-    ensures fault { IfOk result (λ fault. option_map told fault ≡ first (broken_stmt gives_nothing (seen table.now visible.old) (stmt_tree inner.now))) }
+    ensures fault { IfOk result (λ fault. option_map told fault ≡ first (broken_stmt gives_nothing in_loop (seen table.now visible.old) (stmt_tree inner.now))) }
     ensures scope { OnOk result (seen table.now visible.new ≡ leave (seen table.now visible.old) (behind (seen table.now visible.old) (stmt_tree inner.now))) }
     ensures keeps { OnOk result (visible.new.bound.items ≡ visible.old.bound.items) }
 {
     let count = visible.bound.len();
-    let fault = statement(table, gives_nothing, visible, inner)?;
+    let fault = statement(table, gives_nothing, in_loop, visible, inner)?;
     visible.leave(count);
     Ok(fault)
 }
@@ -126,15 +180,16 @@ fn scoped<'a>(
 fn block<'a>(
     table: &ClassTable<'a>,
     gives_nothing: bool,
+    in_loop: bool,
     visible: &mut Visible<'a>,
     all: &'a [Stmt],
 ) -> Result<Option<CheckFault>, AllocError>
-    ensures fault { IfOk result (λ fault. option_map told fault ≡ first (broken_stmts gives_nothing (seen table.now visible.old) (stmt_trees all.now))) }
+    ensures fault { IfOk result (λ fault. option_map told fault ≡ first (broken_stmts gives_nothing in_loop (seen table.now visible.old) (stmt_trees all.now))) }
     ensures scope { OnOk result (seen table.now visible.new ≡ leave (seen table.now visible.old) (behind_all (seen table.now visible.old) (stmt_trees all.now))) }
     ensures keeps { OnOk result (visible.new.bound.items ≡ visible.old.bound.items) }
 {
     let count = visible.bound.len();
-    let fault = statements(table, gives_nothing, visible, all)?;
+    let fault = statements(table, gives_nothing, in_loop, visible, all)?;
     visible.leave(count);
     Ok(fault)
 }
@@ -144,36 +199,72 @@ fn block<'a>(
 fn statement<'a>(
     table: &ClassTable<'a>,
     gives_nothing: bool,
+    in_loop: bool,
     visible: &mut Visible<'a>,
     statement: &'a Stmt,
 ) -> Result<Option<CheckFault>, AllocError>
-    ensures fault { IfOk result (λ fault. option_map told fault ≡ first (broken_stmt gives_nothing (seen table.now visible.old) (stmt_tree statement.now))) }
+    ensures fault { IfOk result (λ fault. option_map told fault ≡ first (broken_stmt gives_nothing in_loop (seen table.now visible.old) (stmt_tree statement.now))) }
     ensures scope { OnOk result (seen table.now visible.new ≡ behind (seen table.now visible.old) (stmt_tree statement.now)) }
     ensures keeps { OnOk result (take (length visible.old.bound.items) visible.new.bound.items ≡ visible.old.bound.items) }
 {
     match statement {
-        Stmt::Block(_, all) => block(table, gives_nothing, visible, all),
+        Stmt::Block(_, all) => block(table, gives_nothing, in_loop, visible, all),
         Stmt::Empty(_) => Ok(None),
         Stmt::Expr(expr) => Ok(judge_whole(table, visible, expr).fault),
         Stmt::Return(_, expr) => Ok(returned(table, gives_nothing, visible, expr)),
         Stmt::Variables(_, type_name, all) => variables(table, visible, type_name, all),
         Stmt::If(_, test, then) => {
             let fault = test_fault(table, visible, test);
-            let inside = scoped(table, gives_nothing, visible, then)?;
+            let inside = scoped(table, gives_nothing, in_loop, visible, then)?;
             Ok(earlier(fault, inside))
         }
         Stmt::IfElse(_, test, then, other) => {
             let fault = test_fault(table, visible, test);
-            let first = scoped(table, gives_nothing, visible, then)?;
-            let second = scoped(table, gives_nothing, visible, other)?;
+            let first = scoped(table, gives_nothing, in_loop, visible, then)?;
+            let second = scoped(table, gives_nothing, in_loop, visible, other)?;
             Ok(earlier(fault, earlier(first, second)))
         }
         Stmt::While(_, test, body) => {
             let fault = test_fault(table, visible, test);
-            let inside = scoped(table, gives_nothing, visible, body)?;
+            let inside = scoped(table, gives_nothing, true, visible, body)?;
             Ok(earlier(fault, inside))
         }
+        Stmt::Do(_, body, test) => {
+            let fault = test_fault(table, visible, test);
+            let inside = scoped(table, gives_nothing, true, visible, body)?;
+            Ok(earlier(fault, inside))
+        }
+        Stmt::For(_, beginning, test, step, body) => {
+            stepped(table, gives_nothing, visible, beginning, test, step, body)
+        }
+        Stmt::Break(at) => Ok(loop_fault(in_loop, *at)),
+        Stmt::Continue(at) => Ok(loop_fault(in_loop, *at)),
     }
+}
+
+/// The first rule that is broken in a `for`, which is a scope of its own.
+#[cycle(statements)]
+fn stepped<'a>(
+    table: &ClassTable<'a>,
+    gives_nothing: bool,
+    visible: &mut Visible<'a>,
+    beginning: &'a Stmt,
+    test: &'a Option<Expr>,
+    step: &'a Option<Expr>,
+    body: &'a Stmt,
+) -> Result<Option<CheckFault>, AllocError>
+    ensures fault { let s = seen table.now visible.old in let own = behind s (stmt_tree beginning.now) in
+        IfOk result (λ fault. option_map told fault ≡ first (broken_stmt gives_nothing false s (stmt_tree beginning.now)
+        ++ (broken_clauses own (option_map expr_tree test.now) (option_map expr_tree step.now) ++ broken_stmt gives_nothing true own (stmt_tree body.now)))) }
+    ensures scope { let s = seen table.now visible.old in OnOk result (seen table.now visible.new ≡ leave s (behind (behind s (stmt_tree beginning.now)) (stmt_tree body.now))) }
+    ensures keeps { OnOk result (visible.new.bound.items ≡ visible.old.bound.items) }
+{
+    let count = visible.bound.len();
+    let before = statement(table, gives_nothing, false, visible, beginning)?;
+    let clauses = clauses(table, visible, test, step);
+    let inside = scoped(table, gives_nothing, true, visible, body)?;
+    visible.leave(count);
+    Ok(earlier(before, earlier(clauses, inside)))
 }
 
 /// The first rule that is broken in the statements of a block.
@@ -181,16 +272,17 @@ fn statement<'a>(
 fn statements<'a>(
     table: &ClassTable<'a>,
     gives_nothing: bool,
+    in_loop: bool,
     visible: &mut Visible<'a>,
     all: &'a [Stmt],
 ) -> Result<Option<CheckFault>, AllocError>
-    ensures fault { IfOk result (λ fault. option_map told fault ≡ first (broken_stmts gives_nothing (seen table.now visible.old) (stmt_trees all.now))) }
+    ensures fault { IfOk result (λ fault. option_map told fault ≡ first (broken_stmts gives_nothing in_loop (seen table.now visible.old) (stmt_trees all.now))) }
     ensures scope { OnOk result (seen table.now visible.new ≡ behind_all (seen table.now visible.old) (stmt_trees all.now)) }
     ensures keeps { OnOk result (take (length visible.old.bound.items) visible.new.bound.items ≡ visible.old.bound.items) }
 {
     let mut fault = None;
     for one in all {
-        fault = earlier(fault, statement(table, gives_nothing, visible, one)?);
+        fault = earlier(fault, statement(table, gives_nothing, in_loop, visible, one)?);
     }
     Ok(fault)
 }
@@ -236,10 +328,10 @@ pub fn inside<'a>(
 ) -> Result<Option<CheckFault>, AllocError>
     ensures { IfOk result (λ fault. option_map told fault
         ≡ first (broken_parameters (seen table.now visible.entry) (parameter_trees named.now)
-        ++ broken_stmts gives_nothing (with_parameters (seen table.now visible.entry) (parameter_trees named.now)) (stmt_trees all.now))) }
+        ++ broken_stmts gives_nothing false (with_parameters (seen table.now visible.entry) (parameter_trees named.now)) (stmt_trees all.now))) }
 {
     let fault = parameters(table, &mut visible, named)?;
-    Ok(earlier(fault, statements(table, gives_nothing, &mut visible, all)?))
+    Ok(earlier(fault, statements(table, gives_nothing, false, &mut visible, all)?))
 }
 
 /// The first rule that is broken in the body of a function that gives a value of the kind.

@@ -86,8 +86,12 @@ pub enum Command {
     Return(Option<Value>),
     /// The first where the value isn't 0, else the second.
     Choose(Value, Box<Command>, Box<Command>),
-    /// Again and again, while the value isn't 0.
-    Repeat(Value, Box<Command>),
+    /// Again and again, while the value isn't 0: the body, which is the last one, and then the step.
+    Repeat(Value, Box<Command>, Box<Command>),
+    /// The body, and again while the value isn't 0.
+    RepeatAfter(Box<Command>, Value),
+    Break,
+    Continue,
 }
 
 /// A function with how many variables it has that hold numbers, of which the first are its parameters,

@@ -3,7 +3,7 @@ ghost use Rattle.std.specs.Prelude.{◌≡◌, ◌-◌, List, ◌++◌, IfOk, On
 ghost use Rattle.std.specs.List.{flat_map, filter_map};
 ghost use Rattle.arc_ast.specs.Tree.{expr_tree, type_tree, variable_trees, parameter_trees, stmt_tree, stmt_trees, function_trees, method_trees, implementation_trees};
 ghost use Rattle.arc_class.specs.Table.{number_of_class};
-ghost use Rattle.arc_spec.specs.Resolved.{Sequence, Choose, Repeat};
+ghost use Rattle.arc_spec.specs.Resolved.{Sequence, Choose, Repeat, RepeatAfter};
 ghost use Rattle.arc_spec.specs.Resolved as spec;
 ghost use Rattle.arc_check.specs.private.Building.{ahead_of, function_of, functions_ahead, resolution};
 ghost use Rattle.arc_check.specs.Checked as checked;
@@ -194,6 +194,36 @@ fn nothing(alloc: Global) -> Command
     Command::Sequence(0, 0, Vec::new(alloc))
 }
 
+/// The resolved test of a `for`, which is 1 where there is none.
+fn test_or_one<'a>(
+    alloc: Global,
+    table: &ClassTable<'a>,
+    visible: &Visible<'a>,
+    expr: &'a Option<Expr>,
+) -> Result<Box<Value>, AllocError>
+    ensures { IfOk result (λ new. checked.value new.value ≡ resolving.tested (seen table.now visible.now) (option_map expr_tree expr.now)) }
+{
+    match expr {
+        None => Ok(Box::new(alloc, Value::Number(1))?),
+        Some(expr) => test(alloc, table, visible, expr),
+    }
+}
+
+/// The resolved step of a `for`, which does nothing where there is none.
+fn step_or_nothing<'a>(
+    alloc: Global,
+    table: &ClassTable<'a>,
+    visible: &Visible<'a>,
+    expr: &'a Option<Expr>,
+) -> Result<Box<Command>, AllocError>
+    ensures { IfOk result (λ new. checked.command new.value ≡ resolving.stepped (seen table.now visible.now) (option_map expr_tree expr.now)) }
+{
+    match expr {
+        None => Ok(Box::new(alloc, nothing(alloc))?),
+        Some(expr) => Ok(Box::new(alloc, evaluation(alloc, table, visible, expr)?)?),
+    }
+}
+
 /// A resolved statement that is a scope of its own.
 #[cycle(commands)]
 fn scoped<'a>(
@@ -286,13 +316,81 @@ fn repeated<'a>(
     body: &'a Stmt,
 ) -> Result<Command, AllocError>
     ensures command { IfOk result (λ new. checked.command new
-        ≡ Repeat (resolving.number_in (resolving.resolved (seen table.now visible.old) (expr_tree condition.now))) (resolved_stmt (seen table.now visible.old) (stmt_tree body.now))) }
+        ≡ Repeat (resolving.number_in (resolving.resolved (seen table.now visible.old) (expr_tree condition.now))) resolving.nothing (resolved_stmt (seen table.now visible.old) (stmt_tree body.now))) }
     ensures scope { OnOk result (seen table.now visible.new ≡ leave (seen table.now visible.old) (behind (seen table.now visible.old) (stmt_tree body.now))) }
     ensures keeps { OnOk result (visible.new.bound.items ≡ visible.old.bound.items) }
 {
     let test = test(alloc, table, visible, condition)?;
     let body = scoped(alloc, table, visible, body)?;
-    Ok(Command::Repeat(Box::into_inner(test), body))
+    let step = Box::new(alloc, nothing(alloc))?;
+    Ok(Command::Repeat(Box::into_inner(test), step, body))
+}
+
+/// A resolved loop that begins with its body.
+#[cycle(commands)]
+fn repeated_after<'a>(
+    alloc: Global,
+    table: &ClassTable<'a>,
+    visible: &mut Visible<'a>,
+    condition: &'a Expr,
+    body: &'a Stmt,
+) -> Result<Command, AllocError>
+    ensures command { IfOk result (λ new. checked.command new
+        ≡ RepeatAfter (resolved_stmt (seen table.now visible.old) (stmt_tree body.now)) (resolving.number_in (resolving.resolved (seen table.now visible.old) (expr_tree condition.now)))) }
+    ensures scope { OnOk result (seen table.now visible.new ≡ leave (seen table.now visible.old) (behind (seen table.now visible.old) (stmt_tree body.now))) }
+    ensures keeps { OnOk result (visible.new.bound.items ≡ visible.old.bound.items) }
+{
+    let test = test(alloc, table, visible, condition)?;
+    let body = scoped(alloc, table, visible, body)?;
+    Ok(Command::RepeatAfter(body, Box::into_inner(test)))
+}
+
+/// The resolved loop of a `for`, without what comes before it.
+#[cycle(commands)]
+fn turns<'a>(
+    alloc: Global,
+    table: &ClassTable<'a>,
+    visible: &mut Visible<'a>,
+    test: &'a Option<Expr>,
+    step: &'a Option<Expr>,
+    body: &'a Stmt,
+) -> Result<Command, AllocError>
+    ensures command { IfOk result (λ new. checked.command new
+        ≡ Repeat (resolving.tested (seen table.now visible.old) (option_map expr_tree test.now)) (resolving.stepped (seen table.now visible.old) (option_map expr_tree step.now)) (resolved_stmt (seen table.now visible.old) (stmt_tree body.now))) }
+    ensures scope { OnOk result (seen table.now visible.new ≡ leave (seen table.now visible.old) (behind (seen table.now visible.old) (stmt_tree body.now))) }
+    ensures keeps { OnOk result (visible.new.bound.items ≡ visible.old.bound.items) }
+{
+    let test = test_or_one(alloc, table, visible, test)?;
+    let step = step_or_nothing(alloc, table, visible, step)?;
+    let body = scoped(alloc, table, visible, body)?;
+    Ok(Command::Repeat(Box::into_inner(test), step, body))
+}
+
+/// A resolved `for`.
+#[cycle(commands)]
+fn stepped<'a>(
+    alloc: Global,
+    table: &ClassTable<'a>,
+    visible: &mut Visible<'a>,
+    beginning: &'a Stmt,
+    test: &'a Option<Expr>,
+    step: &'a Option<Expr>,
+    body: &'a Stmt,
+) -> Result<Command, AllocError>
+    ensures command { let s = seen table.now visible.old in let own = behind s (stmt_tree beginning.now) in
+        IfOk result (λ new. checked.command new ≡ resolving.with_loop s own (resolved_stmt s (stmt_tree beginning.now))
+        (Repeat (resolving.tested own (option_map expr_tree test.now)) (resolving.stepped own (option_map expr_tree step.now)) (resolved_stmt own (stmt_tree body.now)))) }
+    ensures scope { let s = seen table.now visible.old in OnOk result (seen table.now visible.new ≡ leave s (behind (behind s (stmt_tree beginning.now)) (stmt_tree body.now))) }
+    ensures keeps { OnOk result (visible.new.bound.items ≡ visible.old.bound.items) }
+{
+    let count = visible.bound.len();
+    let first = usize::from(visible.names);
+    let mut all = Vec::new(alloc);
+    all.push(command(alloc, table, visible, beginning)?)?;
+    let own = usize::from(visible.names).saturating_sub(first);
+    all.push(turns(alloc, table, visible, test, step, body)?)?;
+    visible.leave(count);
+    Ok(Command::Sequence(first, own, all))
 }
 
 /// A resolved statement.
@@ -320,6 +418,12 @@ fn command<'a>(
             chosen(alloc, table, visible, condition, then, other)
         }
         Stmt::While(_, condition, body) => repeated(alloc, table, visible, condition, body),
+        Stmt::Do(_, body, condition) => repeated_after(alloc, table, visible, condition, body),
+        Stmt::For(_, beginning, test, step, body) => {
+            stepped(alloc, table, visible, beginning, test, step, body)
+        }
+        Stmt::Break(_) => Ok(Command::Break),
+        Stmt::Continue(_) => Ok(Command::Continue),
     }
 }
 

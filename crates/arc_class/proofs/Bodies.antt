@@ -2,7 +2,7 @@
 use Rattle.std.proofs.Common.{◌≡◌, ℕ, Bool, true, false, List, [], ◌∷◌, ◌++◌, Option, Some, None, append_assoc, refl, sym, ap, ◌∙◌}
 use Rattle.std.specs.List.{flat_map}
 use Rattle.arc_ast.specs.Tree as t
-use Rattle.arc_ast.specs.Tree.{TypeTree, ExprTree, ExprTrees, Integer, Text, Paren, Call, Nil, Itself, Name, Unary, Cast, Binary, Conditional, Arrow, Assign, Send, SendSuper, no_exprs, and_expr, VariableTree, StmtTree, StmtTrees, Block, Empty, Simple, Return, Variables, If, IfElse, While, no_stmts, and_stmt, ParameterTree, FunctionTree, HeadTree, MethodTree, InterfaceTree, ImplementationTree, UnitTree}
+use Rattle.arc_ast.specs.Tree.{TypeTree, ExprTree, ExprTrees, Integer, Text, Paren, Call, Nil, Itself, Name, Unary, Cast, Binary, Conditional, Arrow, Assign, Send, SendSuper, no_exprs, and_expr, VariableTree, StmtTree, StmtTrees, Block, Empty, Simple, Return, Variables, If, IfElse, While, Do, For, Break, Continue, no_stmts, and_stmt, ParameterTree, FunctionTree, HeadTree, MethodTree, InterfaceTree, ImplementationTree, UnitTree}
 use Rattle.arc_sites.specs.Finding.{violations_of}
 use Rattle.arc_sites.specs.Sites as sites
 use Rattle.arc_ast.specs.Operators.{sort_of}
@@ -137,6 +137,10 @@ module _ (u : UnitTree) where
   after_is (If at c a) s = refl
   after_is (IfElse at c a b) s = refl
   after_is (While at c a) s = refl
+  after_is (Do at a c) s = refl
+  after_is (For at a c e b) s = refl
+  after_is (Break at) s = refl
+  after_is (Continue at) s = refl
 
   mutual
     stmt_is : (a : StmtTree) (m : Enclosing) (s : Scope) → first (broken_stmt missing (names_of s) a) ≡ found (stmt_sites m s a)
@@ -156,6 +160,20 @@ module _ (u : UnitTree) where
         (pair (broken_stmt missing names a) (broken_stmt missing names b) x y (stmt_is a m (inner false s)) (stmt_is b m (inner false s)))
     stmt_is (While at c a) m s =
         pair (broken_expr missing c) (broken_stmt missing (names_of (inner true s)) a) (sites.sites m s AValue c) (stmt_sites m (inner true s) a) (expr_is c m s AValue) (stmt_is a m (inner true s))
+
+    stmt_is (Do at a c) m s =
+        pair (broken_stmt missing (names_of (inner true s)) a) (broken_expr missing c) (stmt_sites m (inner true s) a) (sites.sites m s AValue c) (stmt_is a m (inner true s)) (expr_is c m s AValue)
+    stmt_is (For at a c e b) m s =
+        let outer = inner false s in
+        let own = after outer a in
+        let test = maybe_sites m own AValue c in
+        let step = maybe_sites m own Anything e in
+        let body = stmt_sites m (inner true own) b in
+        pair (broken_stmt missing (names_of outer) a) (broken_maybe missing c ++ (broken_maybe missing e ++ broken_stmt missing (names_of (inner true own)) b)) (stmt_sites m outer a) (test ++ (step ++ body)) (stmt_is a m outer)
+        (pair (broken_maybe missing c) (broken_maybe missing e ++ broken_stmt missing (names_of (inner true own)) b) test (step ++ body) (maybe_is c m own AValue)
+        (pair (broken_maybe missing e) (broken_stmt missing (names_of (inner true own)) b) step body (maybe_is e m own Anything) (stmt_is b m (inner true own))))
+    stmt_is (Break at) m s = refl
+    stmt_is (Continue at) m s = refl
 
     stmts_are : (all : StmtTrees) (m : Enclosing) (s : Scope) → first (broken_stmts missing (names_of s) all) ≡ found (all_sites m s all)
     stmts_are no_stmts m s = refl

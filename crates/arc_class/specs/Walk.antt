@@ -4,7 +4,7 @@ use Rattle.std.specs.Str.{bytes_eq}
 use Rattle.std.specs.BTreeMap.{BTreeMap}
 use Rattle.std.specs.Borrow.{Bor}
 use Rattle.arc_ast.specs.Tree as t
-use Rattle.arc_ast.specs.Tree.{TypeTree, ExprTree, ExprTrees, Integer, Text, Paren, Call, Nil, Itself, Name, Unary, Cast, Binary, Conditional, Arrow, Assign, Send, SendSuper, no_exprs, and_expr, VariableTree, StmtTree, StmtTrees, Block, Empty, Simple, Return, Variables, If, IfElse, While, no_stmts, and_stmt, ParameterTree, FunctionTree, MethodTree, ImplementationTree, UnitTree}
+use Rattle.arc_ast.specs.Tree.{TypeTree, ExprTree, ExprTrees, Integer, Text, Paren, Call, Nil, Itself, Name, Unary, Cast, Binary, Conditional, Arrow, Assign, Send, SendSuper, no_exprs, and_expr, VariableTree, StmtTree, StmtTrees, Block, Empty, Simple, Return, Variables, If, IfElse, While, Do, For, Break, Continue, no_stmts, and_stmt, ParameterTree, FunctionTree, MethodTree, ImplementationTree, UnitTree}
 use Rattle.arc_sites.specs.Sites.{named_parameters}
 use Rattle.arc_class.specs.declared.kept.Source.{Source}
 use Rattle.arc_class.specs.declared.table.Declared.{Declared}
@@ -76,7 +76,8 @@ abbrev pub names_after : (List ℕ → Bool) → StmtTree → List ℕ → Bool
 names_after names (Variables at type all) = names_with names all
 names_after names _ = names
 
--- All that is wrong with a statement in a scope with these names. A block is a scope of its own, and so is what an `if` or a `while` runs (C99, section 6.8).
+-- All that is wrong with a statement in a scope with these names. A block is a scope of its own, and so are what an `if` or a loop runs (C99, section 6.8) and a
+-- `for` with what comes before it (section 6.8.5.3).
 abbrev mutual
   pub broken_stmt : Missing → (names : List ℕ → Bool) → StmtTree → List Broken
   broken_stmt missing names (Block at all) = broken_stmts missing no_name all
@@ -87,6 +88,10 @@ abbrev mutual
   broken_stmt missing names (If at c a) = broken_expr missing c ++ broken_stmt missing no_name a
   broken_stmt missing names (IfElse at c a b) = broken_expr missing c ++ (broken_stmt missing no_name a ++ broken_stmt missing no_name b)
   broken_stmt missing names (While at c a) = broken_expr missing c ++ broken_stmt missing no_name a
+  broken_stmt missing names (Do at a c) = broken_stmt missing no_name a ++ broken_expr missing c
+  broken_stmt missing names (For at a c e b) = broken_stmt missing no_name a ++ (broken_maybe missing c ++ (broken_maybe missing e ++ broken_stmt missing no_name b))
+  broken_stmt missing names (Break at) = []
+  broken_stmt missing names (Continue at) = []
 
   pub broken_stmts : Missing → (names : List ℕ → Bool) → StmtTrees → List Broken
   broken_stmts missing names no_stmts = []

@@ -214,7 +214,7 @@ fn in_scope<'a>(
             let mut inner = Scope::new(alloc);
             statements(alloc, source, &mut inner, all)
         }
-        Stmt::Empty(_) => Ok(None),
+        Stmt::Empty(_) | Stmt::Break(_) | Stmt::Continue(_) => Ok(None),
         Stmt::Expr(expr) => Ok(expression(source, expr)),
         Stmt::Return(_, expr) => Ok(maybe(source, expr)),
         Stmt::Variables(_, written, all) => {
@@ -233,6 +233,17 @@ fn in_scope<'a>(
         Stmt::While(_, test, body) => {
             let inside = scoped(alloc, source, body)?;
             Ok(earlier(expression(source, test), inside))
+        }
+        Stmt::Do(_, body, test) => {
+            let inside = scoped(alloc, source, body)?;
+            Ok(earlier(inside, expression(source, test)))
+        }
+        Stmt::For(_, beginning, test, step, body) => {
+            let before = scoped(alloc, source, beginning)?;
+            let inside = scoped(alloc, source, body)?;
+            let inside = earlier(maybe(source, step), inside);
+            let inside = earlier(maybe(source, test), inside);
+            Ok(earlier(before, inside))
         }
     }
 }

@@ -16,7 +16,7 @@ use Rattle.arc_ast.specs.declared.tree.BinaryOperator.{BinaryOperator}
 use Rattle.arc_ast.specs.declared.tree.BinaryOperator.TheVariants as operators
 use Rattle.arc_ast.specs.declared.tree.UnaryOperator.{UnaryOperator}
 use Rattle.arc_ast.specs.declared.tree.UnaryOperator.TheVariants as unary_operators
-use Rattle.arc_ast.specs.Tree.{TypeTree, ResultTree, ExprTree, ExprTrees, VariableTree, StmtTree, StmtTrees, ParameterTree, ParametersTree, FunctionTree, HeadTree, MethodTree, FieldTree, InterfaceTree, ImplementationTree, UnitTree, Boolean, Int, Long, Id, Object, Void, Value, Integer, Text, Paren, Call, Nil, Itself, Name, Unary, Cast, Binary, Conditional, Arrow, Assign, Send, SendSuper, no_exprs, and_expr, Block, Empty, Simple, Return, Variables, If, IfElse, While, no_stmts, and_stmt, Listed, CountAndTexts, begins}
+use Rattle.arc_ast.specs.Tree.{TypeTree, ResultTree, ExprTree, ExprTrees, VariableTree, StmtTree, StmtTrees, ParameterTree, ParametersTree, FunctionTree, HeadTree, MethodTree, FieldTree, InterfaceTree, ImplementationTree, UnitTree, Boolean, Int, Long, Id, Object, Void, Value, Integer, Text, Paren, Call, Nil, Itself, Name, Unary, Cast, Binary, Conditional, Arrow, Assign, Send, SendSuper, no_exprs, and_expr, Block, Empty, Simple, Return, Variables, If, IfElse, While, Do, For, Break, Continue, no_stmts, and_stmt, Listed, CountAndTexts, begins}
 use Rattle.arc_grammar.specs.declared.limits.TheConstants.{DEEPEST, MOST_TOKENS}
 use Rattle.arc_form.specs.Kinds.{Kinds, none, ◌∪◌, mark, word, at, name, main, other_name, integer, text}
 use Rattle.arc_form.specs.Reader.{Reader, ◌>>=◌, ret, from}
@@ -393,8 +393,12 @@ objects = map (λ (n, (v, (others, end))). Variables n.0 (Object n.0 n.1) (v ∷
 
 -- ---- statements (C99, section 6.8)
 
+-- the words with which statements begin
+abbrev pub begins_worded : Kinds
+begins_worded = word w.Return ∪ word w.If ∪ word w.While ∪ word w.Do ∪ word w.For ∪ word w.Break ∪ word w.Continue
+
 abbrev pub begins_stmt : Kinds
-begins_stmt = mark m.OpenBrace ∪ mark m.Semicolon ∪ word w.Return ∪ word w.If ∪ word w.While ∪ begins_expr
+begins_stmt = mark m.OpenBrace ∪ mark m.Semicolon ∪ begins_worded ∪ begins_expr
 
 -- a list as the trees hold it
 abbrev pub stmts : List StmtTree → StmtTrees
@@ -432,6 +436,36 @@ if_else d = map (λ (at, (c, (a, b))). conditional at c a b) (key w.If ⨾ contr
 unfoldable pub while_do : ℕ → Part StmtTree
 while_do d = map (λ (at, (c, a)). While at c a) (key w.While ⨾ controlling ⨾ call (stmt (suc d)))
 
+-- what is after the body of a `do`
+unfoldable pub test_after : Part ExprTree
+test_after = map (λ (again, (c, end)). c) (key w.While ⨾ controlling ⨾ the m.Semicolon)
+
+-- a body, and the test after it (6.8.5.2)
+unfoldable pub do_while : ℕ → Part StmtTree
+do_while d = map (λ (at, (a, c)). Do at a c) (key w.Do ⨾ call (stmt (suc d)) ⨾ test_after)
+
+-- what comes before a `for`: a declaration, an expression or nothing, and `;` (6.8.5.3)
+unfoldable pub beginning : Part StmtTree
+beginning = choose begins_plain_type declaration (two_ahead name (mark m.Star) objects (choose (mark m.Semicolon) empty simple))
+
+-- what comes after each turn of a `for`, and `)`
+unfoldable pub step : Part (Option ExprTree)
+step = choose (mark m.CloseParen) (map (λ end. None) (the m.CloseParen)) (map (λ (e, end). Some e) (full ⨾ the m.CloseParen))
+
+-- what is in the parentheses of a `for`, of which the test is an expression or nothing, and `;`
+unfoldable pub clauses : Part (StmtTree × (Option ExprTree × Option ExprTree))
+clauses = map (λ (start, all). all) (the m.OpenParen ⨾ beginning ⨾ value ⨾ step)
+
+unfoldable pub for_do : ℕ → Part StmtTree
+for_do d = map (λ (at, ((a, (c, e)), b)). For at a c e b) (key w.For ⨾ clauses ⨾ call (stmt (suc d)))
+
+-- `break` and `continue` (6.8.6.2 and 6.8.6.3)
+unfoldable pub breaking : Part StmtTree
+breaking = map (λ (at, end). Break at) (key w.Break ⨾ the m.Semicolon)
+
+unfoldable pub continuing : Part StmtTree
+continuing = map (λ (at, end). Continue at) (key w.Continue ⨾ the m.Semicolon)
+
 -- a declaration, where a name and `*` are ahead, or a statement
 unfoldable pub by_name : ℕ → Part StmtTree
 by_name d = two_ahead name (mark m.Star) objects (call (stmt d))
@@ -448,8 +482,12 @@ items d = many begins_item (item d)
 unfoldable pub block : ℕ → Part StmtTree
 block d = map (λ (at, (all, end)). Block at (stmts all)) (the m.OpenBrace ⨾ items (suc d) ⨾ the m.CloseBrace)
 
+-- a loop, or an expression
+unfoldable pub looped : ℕ → Part StmtTree
+looped d = choose (word w.While) (while_do d) (choose (word w.Do) (do_while d) (choose (word w.For) (for_do d) simple))
+
 unfoldable pub worded : ℕ → Part StmtTree
-worded d = choose (word w.Return) returned (choose (word w.If) (if_else d) (choose (word w.While) (while_do d) simple))
+worded d = choose (word w.Return) returned (choose (word w.If) (if_else d) (choose (word w.Break) breaking (choose (word w.Continue) continuing (looped d))))
 
 unfoldable pub statement : ℕ → Part StmtTree
 statement d = choose (mark m.OpenBrace) (block d) (choose (mark m.Semicolon) empty (worded d))

@@ -4,9 +4,9 @@ use Rattle.std.specs.Prelude.{slice_set, slice_index_or, if◌then◌else◌}
 use Rattle.arc_spec.specs.Classes.{superclasses, ancestry, own_dealloc, class_at, descends}
 use Rattle.arc_spec.specs.Number.{converted, applied, combined, is_zero}
 use Rattle.arc_spec.specs.Objects.{Object, Phase, object_at, is_live, names, with_object, with_fields}
-use Rattle.arc_spec.specs.Resolved.{Value, Number, ReadByte, Print, Applied, Combined, Choice, Converted, Local, Assigned, Invoked, Sent, SentSuper, SentTo, SentToSuper, Field, FieldAssigned, Differ, IsObject, Reference, Nil, Itself, Variable, Chosen, Stored, Made, Initialized, Values, no_values, and_value, Command, Sequence, Evaluate, EvaluateReference, Begin, Return, Choose, Repeat, Commands, no_commands, and_command, Function, Program}
+use Rattle.arc_spec.specs.Resolved.{Value, Number, ReadByte, Print, Applied, Combined, Choice, Converted, Local, Assigned, Invoked, Sent, SentSuper, SentTo, SentToSuper, Field, FieldAssigned, Differ, IsObject, Reference, Nil, Itself, Variable, Chosen, Stored, Made, Initialized, Values, no_values, and_value, Command, Sequence, Evaluate, EvaluateReference, Begin, Return, Choose, Repeat, RepeatAfter, Break, Continue, Commands, no_commands, and_command, Function, Program}
 use Rattle.arc_spec.specs.World.{World, Outcome, Done, Faulted, Cut, then_do, Finished, finished, places, prints, entered, left, takes, stores, with_temporaries, with_locals, with_objects, local_at, name_at}
-use Rattle.arc_spec.specs.Meaning.{Deeper, formatted, byte_count, or_fault, released, temporaries_dropped, all_dropped, assigned, variables_dropped, dispatched, finds, runs_found, class_in, sent_from, sent_to, made, in_object, field_read, field_set, difference, evaluated, referred, all_evaluated, whole, whole_reference, begun, Flow, Normal, Returned, if_normal, chosen, turns, scope_left, normally, executed, all_executed, given, function_at, called, dealloc_run, deallocs_run, turned, gone, dying, ended, level}
+use Rattle.arc_spec.specs.Meaning.{Deeper, formatted, byte_count, or_fault, released, temporaries_dropped, all_dropped, assigned, variables_dropped, dispatched, finds, runs_found, class_in, sent_from, sent_to, made, in_object, field_read, field_set, difference, evaluated, referred, all_evaluated, whole, whole_reference, begun, Flow, Normal, Broken, Continued, Returned, if_normal, in_turn, after_body, chosen, turns, turns_after, scope_left, normally, executed, all_executed, given, function_at, called, dealloc_run, deallocs_run, turned, gone, dying, ended, level}
 
 -- what holds of the world behind a part that was done
 abbrev pub After : {A : Type 0} → (World → Type 0) → Outcome A → Type 0
@@ -249,20 +249,44 @@ module _ (D : Deeper) (steady : Steady D) where
 
   scope_waits : (first count : ℕ) (flow : Flow) (w : World) → After (Waits w) (scope_left D first count flow w)
   scope_waits first count Normal w = normally_waits (variables_dropped D first count w) w (variables_wait first count w)
+  scope_waits first count Broken w = waits_then w (variables_dropped D first count w) (λ _ w1. Done Broken w1) (variables_wait first count w) (λ _ w1. refl)
+  scope_waits first count Continued w = waits_then w (variables_dropped D first count w) (λ _ w1. Done Continued w1) (variables_wait first count w) (λ _ w1. refl)
   scope_waits first count (Returned v) w = refl
 
   flow_waits : (flow : Flow) (go : World → Outcome Flow) (w : World) → ((w1 : World) → After (Waits w1) (go w1)) → After (Waits w) (if_normal flow go w)
   flow_waits Normal go w h = h w
+  flow_waits Broken go w h = refl
+  flow_waits Continued go w h = refl
   flow_waits (Returned v) go w h = refl
 
-  turns_wait : (bound : ℕ) (test : World → Outcome ℤ) (body : World → Outcome Flow) (w : World)
-      → ((w1 : World) → After (Waits w1) (test w1)) → ((w1 : World) → After (Waits w1) (body w1)) → After (Waits w) (turns bound test body w)
-  turns_wait zero test body w tests bodies =
+  body_waits : (flow : Flow) (go : World → Outcome Flow) (w : World) → ((w1 : World) → After (Waits w1) (go w1)) → After (Waits w) (after_body flow go w)
+  body_waits Normal go w h = h w
+  body_waits Broken go w h = refl
+  body_waits Continued go w h = h w
+  body_waits (Returned v) go w h = refl
+
+  in_turn_waits : (one other : World → Outcome Flow) (w : World) → ((w1 : World) → After (Waits w1) (one w1)) → ((w1 : World) → After (Waits w1) (other w1)) → After (Waits w) (in_turn one other w)
+  in_turn_waits one other w h k = waits_then w (one w) (λ flow w1. if_normal flow other w1) (h w) (λ flow w1. flow_waits flow other w1 k)
+
+  turns_wait : (bound : ℕ) (test : World → Outcome ℤ) (step body : World → Outcome Flow) (w : World)
+      → ((w1 : World) → After (Waits w1) (test w1)) → ((w1 : World) → After (Waits w1) (step w1)) → ((w1 : World) → After (Waits w1) (body w1)) → After (Waits w) (turns bound test step body w)
+  turns_wait zero test step body w tests steps bodies =
       waits_then w (test w) (λ v w1. chosen (is_zero v) (Cut w1) (Done Normal w1)) (tests w) (λ v w1. after_chosen (Waits w1) (is_zero v) (Cut w1) (Done Normal w1) tt refl)
-  turns_wait (suc n) test body w tests bodies =
-      waits_then w (test w) (λ v w1. chosen (is_zero v) (then_do (body w1) (λ flow w2. if_normal flow (turns n test body) w2)) (Done Normal w1)) (tests w)
-      (λ v w1. after_chosen (Waits w1) (is_zero v) (then_do (body w1) (λ flow w2. if_normal flow (turns n test body) w2)) (Done Normal w1)
-      (waits_then w1 (body w1) (λ flow w2. if_normal flow (turns n test body) w2) (bodies w1) (λ flow w2. flow_waits flow (turns n test body) w2 (λ w3. turns_wait n test body w3 tests bodies))) refl)
+  turns_wait (suc n) test step body w tests steps bodies =
+      let next = in_turn step (turns n test step body) in
+      waits_then w (test w) (λ v w1. chosen (is_zero v) (then_do (body w1) (λ flow w2. after_body flow next w2)) (Done Normal w1)) (tests w)
+      (λ v w1. after_chosen (Waits w1) (is_zero v) (then_do (body w1) (λ flow w2. after_body flow next w2)) (Done Normal w1)
+      (waits_then w1 (body w1) (λ flow w2. after_body flow next w2) (bodies w1)
+      (λ flow w2. body_waits flow next w2 (λ w3. in_turn_waits step (turns n test step body) w3 steps (λ w4. turns_wait n test step body w4 tests steps bodies)))) refl)
+
+  turns_after_wait : (bound : ℕ) (test : World → Outcome ℤ) (body : World → Outcome Flow) (w : World)
+      → ((w1 : World) → After (Waits w1) (test w1)) → ((w1 : World) → After (Waits w1) (body w1)) → After (Waits w) (turns_after bound test body w)
+  turns_after_wait zero test body w tests bodies = tt
+  turns_after_wait (suc n) test body w tests bodies =
+      let next = λ (w2 : World). then_do (test w2) (λ v w3. chosen (is_zero v) (turns_after n test body w3) (Done Normal w3)) in
+      waits_then w (body w) (λ flow w1. after_body flow next w1) (bodies w)
+      (λ flow w1. body_waits flow next w1 (λ w2. waits_then w2 (test w2) (λ v w3. chosen (is_zero v) (turns_after n test body w3) (Done Normal w3)) (tests w2)
+      (λ v w3. after_chosen (Waits w3) (is_zero v) (turns_after n test body w3) (Done Normal w3) (turns_after_wait n test body w3 tests bodies) refl)))
 
   mutual
     command_waits : (bound : ℕ) (c : Command) (w : World) → After (Waits w) (executed D bound c w)
@@ -276,7 +300,11 @@ module _ (D : Deeper) (steady : Steady D) where
     command_waits bound (Choose test a b) w =
         waits_then w (whole D test w) (λ v w1. chosen (is_zero v) (executed D bound a w1) (executed D bound b w1)) (whole_waits test w)
         (λ v w1. after_chosen (Waits w1) (is_zero v) (executed D bound a w1) (executed D bound b w1) (command_waits bound a w1) (command_waits bound b w1))
-    command_waits bound (Repeat test body) w = turns_wait bound (whole D test) (executed D bound body) w (λ w1. whole_waits test w1) (λ w1. command_waits bound body w1)
+    command_waits bound (Repeat test step body) w =
+        turns_wait bound (whole D test) (executed D bound step) (executed D bound body) w (λ w1. whole_waits test w1) (λ w1. command_waits bound step w1) (λ w1. command_waits bound body w1)
+    command_waits bound (RepeatAfter body test) w = turns_after_wait bound (whole D test) (executed D bound body) w (λ w1. whole_waits test w1) (λ w1. command_waits bound body w1)
+    command_waits bound Break w = refl
+    command_waits bound Continue w = refl
 
     pub commands_wait : (bound : ℕ) (all : Commands) (w : World) → After (Waits w) (all_executed D bound all w)
     commands_wait bound no_commands w = refl

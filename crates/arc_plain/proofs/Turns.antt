@@ -1,5 +1,5 @@
 -- The interpreter's loops, and its parts' failures.
-use Rattle.std.proofs.Common.{rules, ◌≡◌, ℕ, zero, suc, ◌+◌, ◌-◌, ◌<◌, ◌≤◌, ℤ, false, List, [], ◌∷◌, ◌++◌, length, get_or, drop, Option, Result, Err, append_assoc, refl, sym, ap, subst, ◌∙◌}
+use Rattle.std.proofs.Common.{rules, Bool, true, ◌≡◌, ℕ, zero, suc, ◌+◌, ◌-◌, ◌<◌, ◌≤◌, ℤ, false, List, [], ◌∷◌, ◌++◌, length, get_or, drop, Option, Some, None, option_map, Result, Err, append_assoc, refl, sym, ap, subst, ◌∙◌}
 use Rattle.std.proofs.lemmas.List.{drop_more}
 use native.Mathlib.Omega.{arith}
 use Rattle.arc_check.specs.declared.checked.Value.{Value}
@@ -13,9 +13,9 @@ use Rattle.arc_check.specs.declared.checked.CheckedFunction.{CheckedFunction}
 use Rattle.arc_plain.specs.declared.halt.Halt.{Halt}
 use Rattle.arc_plain.specs.declared.halt.Halt.TheVariants.{Stopped, Cut, Memory}
 use Rattle.arc_spec.specs.Meaning as meaning
-use Rattle.arc_spec.specs.Meaning.{Deeper, Normal, level, called, dispatched, finds, turns, chosen, if_normal, function_at, ended, evaluated, all_evaluated, executed}
+use Rattle.arc_spec.specs.Meaning.{Deeper, Normal, Broken, Continued, Returned, level, called, dispatched, finds, turns, turns_after, chosen, if_normal, in_turn, after_body, function_at, ended, evaluated, all_evaluated, executed}
 use Rattle.arc_plain.specs.declared.run.Flow.{Flow}
-use Rattle.arc_plain.specs.Views.{Tells, flow_of, function_of}
+use Rattle.arc_plain.specs.Views.{Tells, flow_of, function_of, leaving, step_of, test_of, behind_body, turn_of}
 
 -- the values that were found, in front of those to come
 abbrev pub front : List ℤ → Outcome (List ℤ) → Outcome (List ℤ)
@@ -71,31 +71,112 @@ values_step D vs i v found more n whole w after below is old done grown =
     ∙ front_one found n (all_evaluated D rest after)
     ∙ ap (λ l. front l (all_evaluated D rest after)) (sym grown)
 
--- one turn more
-pub turns_step : (bound i : ℕ) (test : World → Outcome ℤ) (body : World → Outcome meaning.Flow) (whole : Outcome meaning.Flow) (n : ℤ) (w between after : World)
-    → i < bound → whole ≡ turns (bound - i) test body w → test w ≡ Done n between → is_zero n ≡ false → body between ≡ Done Normal after
-    → whole ≡ turns (bound - (i + 1)) test body after
-turns_step bound i test body whole n w between after below old tested holds done =
-    let left = bound - (i + 1) in
-    let one : bound - i ≡ suc left = omega (arith, below) in
-    old ∙ ap (λ m. turns m test body w) one
-    ∙ ap (λ o. then_do o (λ v w1. chosen (is_zero v) (then_do (body w1) (λ flow w2. if_normal flow (turns left test body) w2)) (Done Normal w1))) tested
-    ∙ ap (λ b. chosen b (then_do (body between) (λ flow w2. if_normal flow (turns left test body) w2)) (Done Normal between)) holds
-    ∙ ap (λ o. then_do o (λ flow w2. if_normal flow (turns left test body) w2)) done
+-- a loop goes on with this, unless it was left
+abbrev pub goes_on : Option meaning.Flow → (World → Outcome meaning.Flow) → World → Outcome meaning.Flow
+goes_on None next w = next w
+goes_on (Some flow) next w = Done flow w
 
--- a turn whose body fails
-pub turn_failed : (bound i : ℕ) (test : World → Outcome ℤ) (body : World → Outcome meaning.Flow) (whole : Outcome meaning.Flow) (n : ℤ) (e : Halt) (r : Result Flow Halt) (w between after : World)
-    → i < bound → whole ≡ turns (bound - i) test body w → test w ≡ Done n between → is_zero n ≡ false → r ≡ Err e → Tells flow_of (Err e) (body between) after
-    → Tells flow_of r whole after
-turn_failed bound i test body whole n e r w between after below old tested holds failed h =
+-- what follows a body that was left so
+rest_is : (flow : meaning.Flow) (rest : World → Outcome (Option meaning.Flow)) (go next : World → Outcome meaning.Flow) (w : World) → ((w1 : World) → go w1 ≡ then_do (rest w1) (λ o w2. goes_on o next w2))
+    → after_body flow go w ≡ then_do (behind_body flow rest w) (λ o w1. goes_on o next w1)
+rest_is Normal rest go next w h = h w
+rest_is Continued rest go next w h = h w
+rest_is Broken rest go next w h = refl
+rest_is (Returned v) rest go next w h = refl
+
+-- a turn, and what comes after it
+turn_is : (rest : World → Outcome (Option meaning.Flow)) (body go next : World → Outcome meaning.Flow) (w : World) → ((w1 : World) → go w1 ≡ then_do (rest w1) (λ o w2. goes_on o next w2))
+    → then_do (body w) (λ flow w1. after_body flow go w1) ≡ then_do (turn_of rest body w) (λ o w1. goes_on o next w1)
+turn_is rest body go next w h = of (body w)
+  where
+    of : (o : Outcome meaning.Flow) → then_do o (λ flow w1. after_body flow go w1) ≡ then_do (then_do o (λ flow w1. behind_body flow rest w1)) (λ o w1. goes_on o next w1)
+    of (Done flow w1) = rest_is flow rest go next w1 h
+    of (Faulted f w1) = refl
+    of (Cut w1) = refl
+
+step_is : (step next : World → Outcome meaning.Flow) (w : World) → in_turn step next w ≡ then_do (step_of step w) (λ o w1. goes_on o next w1)
+step_is step next w = of (step w)
+  where
+    of : (o : Outcome meaning.Flow) → then_do o (λ flow w1. if_normal flow next w1) ≡ then_do (then_do o (λ flow w1. Done (leaving flow) w1)) (λ o w1. goes_on o next w1)
+    of (Done Normal w1) = refl
+    of (Done Broken w1) = refl
+    of (Done Continued w1) = refl
+    of (Done (Returned v) w1) = refl
+    of (Faulted f w1) = refl
+    of (Cut w1) = refl
+
+test_is : (test : World → Outcome ℤ) (next : World → Outcome meaning.Flow) (w : World)
+    → then_do (test w) (λ v w1. chosen (is_zero v) (next w1) (Done Normal w1)) ≡ then_do (test_of test w) (λ o w1. goes_on o next w1)
+test_is test next w = of (test w)
+  where
+    chosen_is : (b : Bool) (w1 : World) → chosen b (next w1) (Done Normal w1) ≡ goes_on (chosen b None (Some Normal)) next w1
+    chosen_is true w1 = refl
+    chosen_is false w1 = refl
+
+    of : (o : Outcome ℤ) → then_do o (λ v w1. chosen (is_zero v) (next w1) (Done Normal w1)) ≡ then_do (then_do o (λ v w1. Done (chosen (is_zero v) None (Some Normal)) w1)) (λ o w1. goes_on o next w1)
+    of (Done v w1) = chosen_is (is_zero v) w1
+    of (Faulted f w1) = refl
+    of (Cut w1) = refl
+
+-- what a loop comes to, once its test isn't 0
+turns_on : (bound i : ℕ) (test : World → Outcome ℤ) (step body : World → Outcome meaning.Flow) (whole : Outcome meaning.Flow) (n : ℤ) (w between : World)
+    → i < bound → whole ≡ turns (bound - i) test step body w → test w ≡ Done n between → is_zero n ≡ false
+    → whole ≡ then_do (turn_of (step_of step) body between) (λ o w1. goes_on o (turns (bound - (i + 1)) test step body) w1)
+turns_on bound i test step body whole n w between below old tested holds =
     let left = bound - (i + 1) in
+    let next = turns left test step body in
     let one : bound - i ≡ suc left = omega (arith, below) in
-    let meant : whole ≡ then_do (body between) (λ flow w2. if_normal flow (turns left test body) w2) =
-    old ∙ ap (λ m. turns m test body w) one
-    ∙ ap (λ o. then_do o (λ v w1. chosen (is_zero v) (then_do (body w1) (λ flow w2. if_normal flow (turns left test body) w2)) (Done Normal w1))) tested
-    ∙ ap (λ b. chosen b (then_do (body between) (λ flow w2. if_normal flow (turns left test body) w2)) (Done Normal between)) holds in
+    old ∙ ap (λ m. turns m test step body w) one
+    ∙ ap (λ o. then_do o (λ v w1. chosen (is_zero v) (then_do (body w1) (λ flow w2. after_body flow (in_turn step next) w2)) (Done Normal w1))) tested
+    ∙ ap (λ b. chosen b (then_do (body between) (λ flow w2. after_body flow (in_turn step next) w2)) (Done Normal between)) holds
+    ∙ turn_is (step_of step) body (in_turn step next) next between (step_is step next)
+
+-- one turn more
+pub turns_step : (bound i : ℕ) (test : World → Outcome ℤ) (step body : World → Outcome meaning.Flow) (whole : Outcome meaning.Flow) (n : ℤ) (w between after : World)
+    → i < bound → whole ≡ turns (bound - i) test step body w → test w ≡ Done n between → is_zero n ≡ false → turn_of (step_of step) body between ≡ Done None after
+    → whole ≡ turns (bound - (i + 1)) test step body after
+turns_step bound i test step body whole n w between after below old tested holds done =
+    turns_on bound i test step body whole n w between below old tested holds ∙ ap (λ o. then_do o (λ l w1. goes_on l (turns (bound - (i + 1)) test step body) w1)) done
+
+-- a turn that leaves the loop
+pub turns_left : (bound i : ℕ) (test : World → Outcome ℤ) (step body : World → Outcome meaning.Flow) (whole : Outcome meaning.Flow) (n : ℤ) (flow : meaning.Flow) (w between after : World)
+    → i < bound → whole ≡ turns (bound - i) test step body w → test w ≡ Done n between → is_zero n ≡ false → turn_of (step_of step) body between ≡ Done (Some flow) after → whole ≡ Done flow after
+turns_left bound i test step body whole n flow w between after below old tested holds done =
+    turns_on bound i test step body whole n w between below old tested holds ∙ ap (λ o. then_do o (λ l w1. goes_on l (turns (bound - (i + 1)) test step body) w1)) done
+
+-- a turn that fails
+pub turn_failed : {A : Type 0} (view : A → Option meaning.Flow) (bound i : ℕ) (test : World → Outcome ℤ) (step body : World → Outcome meaning.Flow) (whole : Outcome meaning.Flow) (n : ℤ) (e : Halt) (r : Result Flow Halt) (w between after : World)
+    → i < bound → whole ≡ turns (bound - i) test step body w → test w ≡ Done n between → is_zero n ≡ false → r ≡ Err e → Tells view (Err e) (turn_of (step_of step) body between) after
+    → Tells flow_of r whole after
+turn_failed view bound i test step body whole n e r w between after below old tested holds failed h =
     subst (λ x. Tells flow_of x whole after) (sym failed)
-    (tells_through e flow_of flow_of after (λ flow w2. if_normal flow (turns left test body) w2) (body between) whole meant h)
+    (tells_through e view flow_of after (λ o w1. goes_on o (turns (bound - (i + 1)) test step body) w1) (turn_of (step_of step) body between) whole (turns_on bound i test step body whole n w between below old tested holds) h)
+
+-- the same of a loop that begins with its body
+turns_after_on : (bound i : ℕ) (test : World → Outcome ℤ) (body : World → Outcome meaning.Flow) (whole : Outcome meaning.Flow) (w : World)
+    → i < bound → whole ≡ turns_after (bound - i) test body w → whole ≡ then_do (turn_of (test_of test) body w) (λ o w1. goes_on o (turns_after (bound - (i + 1)) test body) w1)
+turns_after_on bound i test body whole w below old =
+    let left = bound - (i + 1) in
+    let next = turns_after left test body in
+    let one : bound - i ≡ suc left = omega (arith, below) in
+    old ∙ ap (λ m. turns_after m test body w) one
+    ∙ turn_is (test_of test) body (λ w2. then_do (test w2) (λ v w3. chosen (is_zero v) (next w3) (Done Normal w3))) next w (test_is test next)
+
+pub turns_after_step : (bound i : ℕ) (test : World → Outcome ℤ) (body : World → Outcome meaning.Flow) (whole : Outcome meaning.Flow) (w after : World)
+    → i < bound → whole ≡ turns_after (bound - i) test body w → turn_of (test_of test) body w ≡ Done None after → whole ≡ turns_after (bound - (i + 1)) test body after
+turns_after_step bound i test body whole w after below old done =
+    turns_after_on bound i test body whole w below old ∙ ap (λ o. then_do o (λ l w1. goes_on l (turns_after (bound - (i + 1)) test body) w1)) done
+
+pub turns_after_left : (bound i : ℕ) (test : World → Outcome ℤ) (body : World → Outcome meaning.Flow) (whole : Outcome meaning.Flow) (flow : meaning.Flow) (w after : World)
+    → i < bound → whole ≡ turns_after (bound - i) test body w → turn_of (test_of test) body w ≡ Done (Some flow) after → whole ≡ Done flow after
+turns_after_left bound i test body whole flow w after below old done =
+    turns_after_on bound i test body whole w below old ∙ ap (λ o. then_do o (λ l w1. goes_on l (turns_after (bound - (i + 1)) test body) w1)) done
+
+pub turn_after_failed : {A : Type 0} (view : A → Option meaning.Flow) (bound i : ℕ) (test : World → Outcome ℤ) (body : World → Outcome meaning.Flow) (whole : Outcome meaning.Flow) (e : Halt) (r : Result Flow Halt) (w after : World)
+    → i < bound → whole ≡ turns_after (bound - i) test body w → r ≡ Err e → Tells view (Err e) (turn_of (test_of test) body w) after → Tells flow_of r whole after
+turn_after_failed view bound i test body whole e r w after below old failed h =
+    subst (λ x. Tells flow_of x whole after) (sym failed)
+    (tells_through e view flow_of after (λ o w1. goes_on o (turns_after (bound - (i + 1)) test body) w1) (turn_of (test_of test) body w) whole (turns_after_on bound i test body whole w below old) h)
 
 -- a call and an end, one level deeper
 pub call_is : (P : resolved.Program) (bound levels n f self : ℕ) (arguments : List ℤ) (w : World) → levels ≡ suc n

@@ -6,7 +6,7 @@ use Rattle.arc_check.specs.declared.checked.Command as d
 use Rattle.arc_check.specs.declared.checked.Piece.{Piece}
 use Rattle.arc_check.specs.declared.checked.CheckedFunction.{CheckedFunction}
 use Rattle.arc_check.specs.declared.checked.Checked.{Checked}
-use Rattle.arc_spec.specs.Resolved.{Value, Number, ReadByte, Print, Applied, Combined, Choice, Converted, Local, Assigned, Invoked, Sent, SentSuper, SentTo, SentToSuper, Field, FieldAssigned, Differ, IsObject, Reference, Nil, Itself, Variable, Chosen, Stored, Made, Initialized, Values, no_values, and_value, Command, Sequence, Evaluate, EvaluateReference, Begin, Return, Choose, Repeat, Commands, no_commands, and_command, Function}
+use Rattle.arc_spec.specs.Resolved.{Value, Number, ReadByte, Print, Applied, Combined, Choice, Converted, Local, Assigned, Invoked, Sent, SentSuper, SentTo, SentToSuper, Field, FieldAssigned, Differ, IsObject, Reference, Nil, Itself, Variable, Chosen, Stored, Made, Initialized, Values, no_values, and_value, Command, Sequence, Evaluate, EvaluateReference, Begin, Return, Choose, Repeat, RepeatAfter, Break, Continue, Commands, no_commands, and_command, Function}
 use Rattle.arc_check.specs.Checked.{program_of, functions, value, values, reference, command, commands}
 use Rattle.arc_check.proofs.Trees.{is_print, is_invoked, is_sent, is_sent_super, is_sent_to, is_sent_to_super, is_sequence}
 use Rattle.arc_plain.proofs.Turns.{nothing_below}
@@ -55,7 +55,10 @@ abbrev mutual
   command_weight (Return None) = 1
   command_weight (Return (Some a)) = 4 + value_weight a
   command_weight (Choose test a b) = 4 + value_weight test + command_weight a + command_weight b
-  command_weight (Repeat test a) = 5 + value_weight test + command_weight a
+  command_weight (Repeat test a b) = 6 + value_weight test + command_weight a + command_weight b
+  command_weight (RepeatAfter a test) = 7 + value_weight test + command_weight a
+  command_weight Break = 1
+  command_weight Continue = 1
 
   pub commands_weight : Commands → ℕ
   commands_weight no_commands = 0

@@ -6,9 +6,9 @@ use Rattle.arc_spec.specs.Objects.{object_at, with_object}
 use Rattle.arc_spec.specs.World as worlds
 use Rattle.arc_spec.specs.World.{World, Outcome, Done, Faulted, Cut, then_do, Finished, finished, prints}
 use Rattle.arc_ast.specs.declared.tree.Kind.TheVariants as k
-use Rattle.arc_spec.specs.Number.{converted}
+use Rattle.arc_spec.specs.Number.{converted, is_zero}
 use Rattle.arc_spec.specs.Meaning as meaning
-use Rattle.arc_spec.specs.Meaning.{formatted, byte_count, Deeper, level}
+use Rattle.arc_spec.specs.Meaning.{formatted, byte_count, Deeper, chosen, level}
 use Rattle.arc_check.specs.declared.checked.CheckedFunction.{CheckedFunction}
 use Rattle.arc_check.specs.Checked.{program_of, commands}
 use Rattle.arc_plain.specs.declared.context.Context.{Context}
@@ -22,7 +22,7 @@ use Rattle.arc_plain.specs.declared.halt.Halt.{Halt}
 use Rattle.arc_plain.specs.declared.halt.Halt.TheVariants as halt
 use Rattle.arc_plain.specs.declared.halt.Halt.TheVariants.{Stopped, Memory}
 use Rattle.arc_plain.specs.declared.run.Flow.{Flow}
-use Rattle.arc_plain.specs.declared.run.Flow.TheVariants.{Normal, Returned}
+use Rattle.arc_plain.specs.declared.run.Flow.TheVariants.{Normal, Broken, Continued, Returned}
 use Rattle.arc_plain.specs.declared.interpret.Answer.{Answer}
 use Rattle.arc_plain.specs.declared.interpret.PlainStop.{PlainStop}
 use Rattle.arc_plain.specs.declared.interpret.PlainStop.TheVariants as stops
@@ -74,7 +74,34 @@ deeper context = level (program_of context.program.now) context.bound context.le
 -- how a statement was left
 abbrev pub flow_of : Flow → meaning.Flow
 flow_of Normal = meaning.Normal
+flow_of Broken = meaning.Broken
+flow_of Continued = meaning.Continued
 flow_of (Returned n) = meaning.Returned n
+
+-- how a loop is left after a part of it that was left so, if it is
+abbrev pub leaving : meaning.Flow → Option meaning.Flow
+leaving meaning.Normal = None
+leaving meaning.Broken = Some meaning.Broken
+leaving meaning.Continued = Some meaning.Continued
+leaving (meaning.Returned n) = Some (meaning.Returned n)
+
+-- its step, and its test after a turn
+abbrev pub step_of : (World → Outcome meaning.Flow) → World → Outcome (Option meaning.Flow)
+step_of step w = then_do (step w) (λ flow w1. Done (leaving flow) w1)
+
+abbrev pub test_of : (World → Outcome ℤ) → World → Outcome (Option meaning.Flow)
+test_of test w = then_do (test w) (λ v w1. Done (chosen (is_zero v) None (Some meaning.Normal)) w1)
+
+-- what follows its body
+abbrev pub behind_body : meaning.Flow → (World → Outcome (Option meaning.Flow)) → World → Outcome (Option meaning.Flow)
+behind_body meaning.Normal rest w = rest w
+behind_body meaning.Continued rest w = rest w
+behind_body meaning.Broken rest w = Done (Some meaning.Normal) w
+behind_body (meaning.Returned n) rest w = Done (Some (meaning.Returned n)) w
+
+-- a turn, with what follows the body
+abbrev pub turn_of : (rest : World → Outcome (Option meaning.Flow)) → (body : World → Outcome meaning.Flow) → World → Outcome (Option meaning.Flow)
+turn_of rest body w = then_do (body w) (λ flow w1. behind_body flow rest w1)
 
 -- what ends without a value
 abbrev pub nothing_of : Unit {0} → Finished

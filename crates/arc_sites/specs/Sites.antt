@@ -7,7 +7,7 @@ use Rattle.arc_ast.specs.declared.tree.UnaryOperator.TheVariants as u
 use Rattle.arc_ast.specs.declared.tree.OperatorSort.{OperatorSort}
 use Rattle.arc_ast.specs.declared.tree.OperatorSort.TheVariants.{Equality, Logic}
 use Rattle.arc_ast.specs.Tree as t
-use Rattle.arc_ast.specs.Tree.{TypeTree, ExprTree, ExprTrees, Paren, Call, Unary, Cast, Binary, Conditional, Arrow, Assign, Send, SendSuper, no_exprs, and_expr, VariableTree, StmtTree, StmtTrees, Block, Empty, Simple, Return, Variables, If, IfElse, While, no_stmts, and_stmt, ParameterTree, ParametersTree, Listed, CountAndTexts, FunctionTree, HeadTree, MethodTree, InterfaceTree, ImplementationTree, UnitTree}
+use Rattle.arc_ast.specs.Tree.{TypeTree, ExprTree, ExprTrees, Paren, Call, Unary, Cast, Binary, Conditional, Arrow, Assign, Send, SendSuper, no_exprs, and_expr, VariableTree, StmtTree, StmtTrees, Block, Empty, Simple, Return, Variables, If, IfElse, While, Do, For, Break, Continue, no_stmts, and_stmt, ParameterTree, ParametersTree, Listed, CountAndTexts, FunctionTree, HeadTree, MethodTree, InterfaceTree, ImplementationTree, UnitTree}
 
 -- ---- what surrounds a node
 
@@ -27,7 +27,7 @@ pub record Bound : Type 0 where
 pub record Scope : Type 0 where
   pub own : List Bound
   pub outer : List Bound
-  pub in_loop : Bool  -- in the body of a `while`; not in its test, where no rule asks for it
+  pub in_loop : Bool  -- in the body of a loop; not in its test and its step, where no rule asks for it
 
 -- What an expression is needed for: nothing more, a test, an operand of `!`, `&&` or `||`, the first value of `?:` or the left side of `==` or `!=`, a number, an object, what goes with another expression (the right side of `=`,
 -- `==` and `!=`, the second value of `?:`), the first value of a variable of a type, what the function or the method returns, what a message is sent to, and the first argument or another one
@@ -157,7 +157,8 @@ variable_sites m type s [] = []
 variable_sites m type s (v ∷ others) =
     (site m s (Variable type v) ++ maybe_sites m (declare v.name type s) (Initial type) v.initial) ++ variable_sites m type (declare v.name type s) others
 
--- the sites inside a statement, and of statements; a block is a scope of its own, and so is what an `if` or a `while` runs (C99, section 6.8)
+-- The sites inside a statement, and of statements. A block is a scope of its own, and so is what an `if` or a loop runs (C99, section 6.8); a `for` is one around
+-- its body, with the variables that are declared before it (section 6.8.5.3).
 abbrev mutual
   pub within : Enclosing → Scope → StmtTree → List Site
   within m s (Block at all) = all_sites m (inner false s) all
@@ -169,6 +170,13 @@ abbrev mutual
   within m s (IfElse at c a b) =
       sites m s AValue c ++ ((site m (inner false s) (Statement a) ++ within m (inner false s) a) ++ (site m (inner false s) (Statement b) ++ within m (inner false s) b))
   within m s (While at c a) = sites m s AValue c ++ (site m (inner true s) (Statement a) ++ within m (inner true s) a)
+  within m s (Do at a c) = (site m (inner true s) (Statement a) ++ within m (inner true s) a) ++ sites m s AValue c
+  within m s (For at a c e b) =
+      let own = after (inner false s) a in
+      (site m (inner false s) (Statement a) ++ within m (inner false s) a)
+      ++ (maybe_sites m own AValue c ++ (maybe_sites m own Anything e ++ (site m (inner true own) (Statement b) ++ within m (inner true own) b)))
+  within m s (Break at) = []
+  within m s (Continue at) = []
 
   pub all_sites : Enclosing → Scope → StmtTrees → List Site
   all_sites m s no_stmts = []

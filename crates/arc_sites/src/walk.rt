@@ -124,7 +124,7 @@ fn within<V: Visitor>(visitor: &mut V, enclosing: Enclosing, stmt: &Stmt)
 {
     match stmt {
         Stmt::Block(_, all) => statements(visitor, enclosing, all),
-        Stmt::Empty(_) => {}
+        Stmt::Empty(_) | Stmt::Break(_) | Stmt::Continue(_) => {}
         Stmt::Expr(expr) => expression(visitor, enclosing, expr),
         Stmt::Return(_, expr) => maybe(visitor, enclosing, expr),
         Stmt::Variables(_, type_name, all) => variables(visitor, enclosing, type_name, all),
@@ -139,6 +139,16 @@ fn within<V: Visitor>(visitor: &mut V, enclosing: Enclosing, stmt: &Stmt)
         }
         Stmt::While(_, test, body) => {
             expression(visitor, enclosing, test);
+            statement(visitor, enclosing, body);
+        }
+        Stmt::Do(_, body, test) => {
+            statement(visitor, enclosing, body);
+            expression(visitor, enclosing, test);
+        }
+        Stmt::For(_, beginning, test, step, body) => {
+            statement(visitor, enclosing, beginning);
+            maybe(visitor, enclosing, test);
+            maybe(visitor, enclosing, step);
             statement(visitor, enclosing, body);
         }
     }

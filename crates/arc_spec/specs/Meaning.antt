@@ -8,7 +8,7 @@ use Rattle.arc_spec.specs.declared.event.Fault.TheVariants.{Arithmetic, Unrecogn
 use Rattle.arc_spec.specs.Classes.{Class, superclasses, ancestry, own_dealloc, lookup, descends, class_at}
 use Rattle.arc_spec.specs.Number.{converted, applied, combined, low_byte, is_zero}
 use Rattle.arc_spec.specs.Objects.{Object, Phase, Dying, Gone, object_at, with_object, in_phase, with_fields, is_live, new_object, names}
-use Rattle.arc_spec.specs.Resolved.{Piece, Bytes, Decimal, Character, Value, Number, ReadByte, Print, Applied, Combined, Choice, Converted, Local, Assigned, Invoked, Sent, SentSuper, SentTo, SentToSuper, Field, FieldAssigned, Differ, IsObject, Reference, Nil, Itself, Variable, Chosen, Stored, Made, Initialized, Values, no_values, and_value, Command, Sequence, Evaluate, EvaluateReference, Begin, Return, Choose, Repeat, Commands, no_commands, and_command, Function, Program}
+use Rattle.arc_spec.specs.Resolved.{Piece, Bytes, Decimal, Character, Value, Number, ReadByte, Print, Applied, Combined, Choice, Converted, Local, Assigned, Invoked, Sent, SentSuper, SentTo, SentToSuper, Field, FieldAssigned, Differ, IsObject, Reference, Nil, Itself, Variable, Chosen, Stored, Made, Initialized, Values, no_values, and_value, Command, Sequence, Evaluate, EvaluateReference, Begin, Return, Choose, Repeat, RepeatAfter, Break, Continue, Commands, no_commands, and_command, Function, Program}
 use Rattle.arc_spec.specs.World.{World, Outcome, Done, Faulted, Cut, then_do, Finished, finished, shows, prints, places, first_world, entered, left, takes, stores, with_objects, with_locals, with_temporaries, local_at, name_at, next_number, has_read}
 
 -- what a format writes of these values, of which each number takes the next (C99, section 7.19.6.1)
@@ -182,25 +182,48 @@ whole_reference D a w = then_do (referred D a w) (λ _ w1. all_dropped D w1)
 abbrev pub begun : Deeper → ℕ → Reference → World → Outcome Finished
 begun D i a w = then_do (referred D a w) (λ r w1. then_do (assigned D i r w1) (λ _ w2. all_dropped D w2))
 
--- how a statement is left: at its end, or by a return with a value (C99, section 6.8.6.4)
+-- how a statement is left: at its end, by a `break`, by a `continue`, or by a return with a value (C99, section 6.8.6)
 pub data Flow : Type 0 where
   Normal : Flow
+  Broken : Flow
+  Continued : Flow
   Returned : ℤ → Flow
 
 -- what follows a statement that was left at its end
 abbrev pub if_normal : Flow → (World → Outcome Flow) → World → Outcome Flow
 if_normal Normal go w = go w
+if_normal Broken go w = Done Broken w
+if_normal Continued go w = Done Continued w
 if_normal (Returned v) go w = Done (Returned v) w
 
--- a loop (C99, section 6.8.5.1), which is cut where one turn more than the bound would begin
-abbrev pub turns : (bound : ℕ) → (World → Outcome ℤ) → (World → Outcome Flow) → World → Outcome Flow
-turns zero test body w = then_do (test w) (λ v w1. chosen (is_zero v) (Cut w1) (Done Normal w1))
-turns (suc n) test body w =
-    then_do (test w) (λ v w1. chosen (is_zero v) (then_do (body w1) (λ flow w2. if_normal flow (turns n test body) w2)) (Done Normal w1))
+-- one after the other
+abbrev pub in_turn : (one other : World → Outcome Flow) → World → Outcome Flow
+in_turn one other w = then_do (one w) (λ flow w1. if_normal flow other w1)
 
--- a block's own variables are dropped at its end; where a return leaves it, the function drops them
+-- what follows the body of a loop: a `continue` leaves the body alone, and a `break` the loop (C99, sections 6.8.6.2 and 6.8.6.3)
+abbrev pub after_body : Flow → (World → Outcome Flow) → World → Outcome Flow
+after_body Normal go w = go w
+after_body Continued go w = go w
+after_body Broken go w = Done Normal w
+after_body (Returned v) go w = Done (Returned v) w
+
+-- a loop that begins with its test (C99, sections 6.8.5.1 and 6.8.5.3), which is cut where one turn more than the bound would begin
+abbrev pub turns : (bound : ℕ) → (World → Outcome ℤ) → (step body : World → Outcome Flow) → World → Outcome Flow
+turns zero test step body w = then_do (test w) (λ v w1. chosen (is_zero v) (Cut w1) (Done Normal w1))
+turns (suc n) test step body w =
+    then_do (test w) (λ v w1. chosen (is_zero v) (then_do (body w1) (λ flow w2. after_body flow (in_turn step (turns n test step body)) w2)) (Done Normal w1))
+
+-- a loop that begins with its body, and tests after each turn (C99, section 6.8.5.2)
+abbrev pub turns_after : (bound : ℕ) → (World → Outcome ℤ) → (body : World → Outcome Flow) → World → Outcome Flow
+turns_after zero test body w = Cut w
+turns_after (suc n) test body w =
+    then_do (body w) (λ flow w1. after_body flow (λ w2. then_do (test w2) (λ v w3. chosen (is_zero v) (turns_after n test body w3) (Done Normal w3))) w1)
+
+-- a block's own variables are dropped at its end, and where a `break` or a `continue` leaves it; where a return does, the function drops them
 abbrev pub scope_left : Deeper → (first count : ℕ) → Flow → World → Outcome Flow
 scope_left D first count Normal w = then_do (variables_dropped D first count w) (λ _ w1. Done Normal w1)
+scope_left D first count Broken w = then_do (variables_dropped D first count w) (λ _ w1. Done Broken w1)
+scope_left D first count Continued w = then_do (variables_dropped D first count w) (λ _ w1. Done Continued w1)
 scope_left D first count (Returned v) w = Done (Returned v) w
 
 abbrev pub normally : Outcome Finished → Outcome Flow
@@ -216,16 +239,19 @@ abbrev mutual
   executed D bound (Return None) w = Done (Returned (pos 0)) w
   executed D bound (Return (Some a)) w = then_do (whole D a w) (λ v w1. Done (Returned v) w1)
   executed D bound (Choose test a b) w = then_do (whole D test w) (λ v w1. chosen (is_zero v) (executed D bound a w1) (executed D bound b w1))
-  executed D bound (Repeat test body) w = turns bound (whole D test) (executed D bound body) w
+  executed D bound (Repeat test step body) w = turns bound (whole D test) (executed D bound step) (executed D bound body) w
+  executed D bound (RepeatAfter body test) w = turns_after bound (whole D test) (executed D bound body) w
+  executed D bound Break w = Done Broken w
+  executed D bound Continue w = Done Continued w
 
   pub all_executed : Deeper → (bound : ℕ) → Commands → World → Outcome Flow
   all_executed D bound no_commands w = Done Normal w
   all_executed D bound (and_command c others) w = then_do (executed D bound c w) (λ flow w1. if_normal flow (all_executed D bound others) w1)
 
--- a function that reaches its end gives 0 (C99, section 5.1.2.2.3, for main; for all others this project's choice)
+-- a function that reaches its end gives 0 (C99, section 5.1.2.2.3, for main; for all others this project's choice); a `break` and a `continue` are in loops alone
 abbrev pub given : Flow → ℤ
-given Normal = pos 0
 given (Returned v) = v
+given _ = pos 0
 
 -- the function of a number; one that there isn't does nothing
 abbrev pub function_at : Program → ℕ → Function

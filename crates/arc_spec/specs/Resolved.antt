@@ -51,6 +51,7 @@ mutual
 
 mutual
   -- A statement. A sequence has so many variables of its own that name objects, from the first one on; the beginning of such a variable is what it names first.
+  -- `Repeat` is a loop that begins with its test, whose step comes after each turn of its body; `RepeatAfter` begins with its body, and tests after each turn.
   pub data Command : Type 0 where
     Sequence : (first count : ℕ) → Commands → Command
     Evaluate : Value → Command
@@ -58,7 +59,10 @@ mutual
     Begin : ℕ → Reference → Command
     Return : Option Value → Command
     Choose : Value → Command → Command → Command
-    Repeat : Value → Command → Command
+    Repeat : Value → (step body : Command) → Command
+    RepeatAfter : (body : Command) → Value → Command
+    Break : Command
+    Continue : Command
 
   pub data Commands : Type 0 where
     no_commands : Commands

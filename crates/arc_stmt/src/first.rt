@@ -26,6 +26,20 @@ fn begins_expr(tokens: &[Token]) -> bool
         || sees_sign(tokens)
 }
 
+/// Whether a statement can begin with the first token, which is a word.
+#[tactic(auto, using(arc_form::proofs::Sets::sees_or))]
+fn begins_worded(tokens: &[Token]) -> bool
+    ensures { result ≡ sees grammar.begins_worded (toks tokens.now) }
+{
+    sees_word(Word::Return, tokens)
+        || sees_word(Word::If, tokens)
+        || sees_word(Word::While, tokens)
+        || sees_word(Word::Do, tokens)
+        || sees_word(Word::For, tokens)
+        || sees_word(Word::Break, tokens)
+        || sees_word(Word::Continue, tokens)
+}
+
 /// Whether a statement can begin with the first token.
 #[tactic(auto, using(arc_form::proofs::Sets::sees_or))]
 pub fn begins_stmt(tokens: &[Token]) -> bool
@@ -33,9 +47,7 @@ pub fn begins_stmt(tokens: &[Token]) -> bool
 {
     sees_mark(Mark::OpenBrace, tokens)
         || sees_mark(Mark::Semicolon, tokens)
-        || sees_word(Word::Return, tokens)
-        || sees_word(Word::If, tokens)
-        || sees_word(Word::While, tokens)
+        || begins_worded(tokens)
         || begins_expr(tokens)
 }
 

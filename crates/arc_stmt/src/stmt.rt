@@ -8,13 +8,13 @@ ghost use Rattle.arc_grammar.specs.Grammar.{reads, rules, these};
 ghost use Rattle.arc_grammar.specs.Grammar as grammar;
 ghost use Rattle.arc_grammar.specs.declared.limits.TheConstants.{DEEPEST};
 
+use crate::clauses::{clauses, controlling, test_after};
 use crate::first::{begins_item, begins_stmt};
+use crate::simple::{breaking, continuing, empty, returned, simple};
 use crate::variable::{declaration, objects};
 use arc_ast::tree::{Expr, Stmt};
-use arc_expr::full::full;
 use arc_expr::type_name::begins_plain_type;
 use arc_form::fail::{Fail, Read};
-use arc_form::slice::after_first;
 use arc_form::step::{expect, keyword, sees_mark, sees_reference, sees_word};
 use arc_grammar::limits::DEEPEST;
 use arc_lex::token::{Mark, Token, Word};
@@ -64,8 +64,29 @@ fn worded<'a>(alloc: Global, depth: usize, tokens: &'a [Token]) -> Read<'a, Stmt
         returned(alloc, tokens)
     } else if sees_word(Word::If, tokens) {
         conditional(alloc, depth, tokens)
-    } else if sees_word(Word::While, tokens) {
+    } else if sees_word(Word::Break, tokens) {
+        breaking(tokens)
+    } else if sees_word(Word::Continue, tokens) {
+        continuing(tokens)
+    } else {
+        looped(alloc, depth, tokens)
+    }
+}
+
+/// A loop, or an expression.
+#[cycle(stmts)]
+#[tactic(auto, unfolding(arc_grammar::specs::Grammar::looped))]
+fn looped<'a>(alloc: Global, depth: usize, tokens: &'a [Token]) -> Read<'a, Stmt>
+    requires { depth ≤ DEEPEST }
+    ensures gives { Gives (λ x. (stmt_tree x.0, toks x.1.now)) result (reads (grammar.looped depth) (toks tokens.now)) }
+    ensures shorter { IfOk result (λ x. length x.1.now < length tokens.now) }
+{
+    if sees_word(Word::While, tokens) {
         repeated(alloc, depth, tokens)
+    } else if sees_word(Word::Do, tokens) {
+        repeated_after(alloc, depth, tokens)
+    } else if sees_word(Word::For, tokens) {
+        stepped(alloc, depth, tokens)
     } else {
         simple(alloc, tokens)
     }
@@ -127,6 +148,37 @@ fn repeated<'a>(alloc: Global, depth: usize, tokens: &'a [Token]) -> Read<'a, St
     Ok((Stmt::While(at, Box::into_inner(condition), body), rest))
 }
 
+/// `do`, a body, and the test after it
+#[cycle(stmts)]
+#[tactic(auto, unfolding(arc_grammar::specs::Grammar::do_while))]
+fn repeated_after<'a>(alloc: Global, depth: usize, tokens: &'a [Token]) -> Read<'a, Stmt>
+    requires { depth ≤ DEEPEST }
+    ensures gives { Gives (λ x. (stmt_tree x.0, toks x.1.now)) result (reads (grammar.do_while depth) (toks tokens.now)) }
+    ensures shorter { IfOk result (λ x. length x.1.now < length tokens.now) }
+{
+    let (at, rest) = keyword(Word::Do, tokens)?;
+    let (body, rest) = branch(alloc, depth + 1, rest)?;
+    let (condition, rest) = test_after(alloc, rest)?;
+    Ok((Stmt::Do(at, body, Box::into_inner(condition)), rest))
+}
+
+/// `for`, its clauses and a body
+#[cycle(stmts)]
+#[tactic(auto, unfolding(arc_grammar::specs::Grammar::for_do))]
+fn stepped<'a>(alloc: Global, depth: usize, tokens: &'a [Token]) -> Read<'a, Stmt>
+    requires { depth ≤ DEEPEST }
+    ensures gives { Gives (λ x. (stmt_tree x.0, toks x.1.now)) result (reads (grammar.for_do depth) (toks tokens.now)) }
+    ensures shorter { IfOk result (λ x. length x.1.now < length tokens.now) }
+{
+    let (at, rest) = keyword(Word::For, tokens)?;
+    let (clauses, rest) = clauses(alloc, rest)?;
+    let (body, rest) = branch(alloc, depth + 1, rest)?;
+    Ok((
+        Stmt::For(at, clauses.beginning, clauses.test, clauses.step, body),
+        rest,
+    ))
+}
+
 /// A statement in a box.
 #[cycle(stmts)]
 fn branch<'a>(alloc: Global, depth: usize, tokens: &'a [Token]) -> Read<'a, Box<Stmt>>
@@ -135,19 +187,6 @@ fn branch<'a>(alloc: Global, depth: usize, tokens: &'a [Token]) -> Read<'a, Box<
 {
     let (read, rest) = stmt(alloc, depth, tokens)?;
     Ok((Box::new(alloc, read)?, rest))
-}
-
-/// A controlling expression in parentheses, boxed, so that a branch that is refused after it drops no more than a box.
-#[tactic(auto, unfolding(arc_grammar::specs::Grammar::controlling))]
-fn controlling<'a>(alloc: Global, tokens: &'a [Token]) -> Read<'a, Box<Expr>>
-    ensures gives { Gives (λ x. (expr_tree x.0.value, toks x.1.now)) result (reads grammar.controlling (toks tokens.now)) }
-    ensures shorter { IfOk result (λ x. length x.1.now < length tokens.now) }
-{
-    let (_, rest) = expect(Mark::OpenParen, tokens)?;
-    let (condition, rest) = full(alloc, rest)?;
-    let condition = Box::new(alloc, condition)?;
-    let (_, rest) = expect(Mark::CloseParen, rest)?;
-    Ok((condition, rest))
 }
 
 /// Items in braces.
@@ -196,54 +235,4 @@ fn item<'a>(alloc: Global, depth: usize, tokens: &'a [Token]) -> Read<'a, Stmt>
     } else {
         stmt(alloc, depth, tokens)
     }
-}
-
-/// `;` alone
-#[tactic(auto, unfolding(arc_grammar::specs::Grammar::empty))]
-fn empty<'a>(tokens: &'a [Token]) -> Read<'a, Stmt>
-    ensures gives { Gives (λ x. (stmt_tree x.0, toks x.1.now)) result (reads grammar.empty (toks tokens.now)) }
-    ensures shorter { IfOk result (λ x. length x.1.now < length tokens.now) }
-{
-    let (at, rest) = expect(Mark::Semicolon, tokens)?;
-    Ok((Stmt::Empty(at), rest))
-}
-
-/// An expression and `;`. What begins with a name and `*` is refused at the `*`: it would be a declaration.
-#[tactic(auto, unfolding(arc_grammar::specs::Grammar::simple))]
-fn simple<'a>(alloc: Global, tokens: &'a [Token]) -> Read<'a, Stmt>
-    ensures gives { Gives (λ x. (stmt_tree x.0, toks x.1.now)) result (reads grammar.simple (toks tokens.now)) }
-    ensures shorter { IfOk result (λ x. length x.1.now < length tokens.now) }
-{
-    if sees_reference(tokens) {
-        return Err(Fail::Unexpected(after_first(tokens)));
-    }
-    let (value, rest) = full(alloc, tokens)?;
-    let (_, rest) = expect(Mark::Semicolon, rest)?;
-    Ok((Stmt::Expr(value), rest))
-}
-
-/// `return` with a value or without
-#[tactic(auto, unfolding(arc_grammar::specs::Grammar::returned))]
-fn returned<'a>(alloc: Global, tokens: &'a [Token]) -> Read<'a, Stmt>
-    ensures gives { Gives (λ x. (stmt_tree x.0, toks x.1.now)) result (reads grammar.returned (toks tokens.now)) }
-    ensures shorter { IfOk result (λ x. length x.1.now < length tokens.now) }
-{
-    let (at, rest) = keyword(Word::Return, tokens)?;
-    let (value, rest) = value(alloc, rest)?;
-    Ok((Stmt::Return(at, value), rest))
-}
-
-/// What `return` gives, if it gives something, and `;`.
-#[tactic(auto, unfolding(arc_grammar::specs::Grammar::value))]
-fn value<'a>(alloc: Global, tokens: &'a [Token]) -> Read<'a, Option<Expr>>
-    ensures gives { Gives (λ x. (option_map expr_tree x.0, toks x.1.now)) result (reads grammar.value (toks tokens.now)) }
-    ensures shorter { IfOk result (λ x. length x.1.now < length tokens.now) }
-{
-    if sees_mark(Mark::Semicolon, tokens) {
-        let (_, rest) = expect(Mark::Semicolon, tokens)?;
-        return Ok((None, rest));
-    }
-    let (value, rest) = full(alloc, tokens)?;
-    let (_, rest) = expect(Mark::Semicolon, rest)?;
-    Ok((Some(value), rest))
 }

@@ -1,13 +1,13 @@
-use Rattle.std.proofs.Common.{◌≡◌, ◌-◌, OnOk, IfOk, take, refl, ap, subst, ◌∙◌}
+use Rattle.std.proofs.Common.{◌≡◌, ◌-◌, [], ◌∷◌, ◌++◌, OnOk, IfOk, length, option_map, take, refl, ap, subst, ◌∙◌}
 use Rattle.std.proofs.lemmas.Result.{on_ok_weaker}
 use Rattle.arc_ast.specs.Tree.{expr_tree, stmt_tree, stmt_trees}
 use Rattle.arc_spec.specs.Resolved as spec
 use Rattle.arc_check.specs.Checked as checked
-use Rattle.arc_check.specs.Resolving.{nothing, number_in, resolved, resolved_stmt, resolved_stmts}
+use Rattle.arc_check.specs.Resolving.{nothing, number_in, resolved, resolved_stmt, resolved_stmts, stepped, tested}
 use Rattle.arc_check.specs.Scopes.{Scope, leave, behind, behind_all}
 use Rattle.arc_check.specs.private.Views.{seen}
-use Rattle.arc_check.proofs.Commands.{commands_turn, commands_end, behind_turn, block_command, block_scope, choose_is}
-use Rattle.arc_check.proofs.Leaving.{behind_same, behind_all_same, leave_is}
+use Rattle.arc_check.proofs.Commands.{commands_turn, commands_end, behind_turn, block_command, block_scope, choose_is, loop_command, repeat_is}
+use Rattle.arc_check.proofs.Leaving.{behind_same, behind_all_same, inner_same, leave_is}
 use Rattle.arc_check.proofs.Scoping.{keeps_turn, keeps_same}
 use Rattle.arc_check.proofs.Trees.{sequence_command}
 use Rattle.arc_check.proofs.program.+commands.Goals as goal
@@ -79,6 +79,55 @@ repeated-returns-clause-scope t c = c.in_ok-body.ensures.scope
 pub repeated-returns-clause-keeps : goal.repeated-returns-clause-keeps
 repeated-returns-clause-keeps t c = c.in_ok-body.ensures.keeps
 
+pub repeated_after-returns-clause-scope : goal.repeated_after-returns-clause-scope
+repeated_after-returns-clause-scope t c = c.in_ok-body.ensures.scope
+
+pub repeated_after-returns-clause-keeps : goal.repeated_after-returns-clause-keeps
+repeated_after-returns-clause-keeps t c = c.in_ok-body.ensures.keeps
+
+pub turns-returns-clause-command : goal.turns-returns-clause-command
+turns-returns-clause-command t c =
+    let s = seen c.args.table.now c.args.visible.now in
+    repeat_is (checked.value c.into_inner.result) (tested s (option_map expr_tree c.args.test.now)) (checked.command c.in_ok-step.step.value) (stepped s (option_map expr_tree c.args.step.now)) (checked.command c.in_ok-body.body.value)
+    (resolved_stmt s (stmt_tree c.args.body.now)) (ap checked.value c.into_inner.ensures ∙ c.in_ok-test.ensures) c.in_ok-step.ensures c.in_ok-body.ensures.command
+
+pub turns-returns-clause-scope : goal.turns-returns-clause-scope
+turns-returns-clause-scope t c = c.in_ok-body.ensures.scope
+
+pub turns-returns-clause-keeps : goal.turns-returns-clause-keeps
+turns-returns-clause-keeps t c = c.in_ok-body.ensures.keeps
+
+pub stepped-returns-clause-command : goal.stepped-returns-clause-command
+stepped-returns-clause-command t c =
+    let s = seen c.args.table.now c.args.visible.now in
+    let a = stmt_tree c.args.beginning.now in
+    let b = stmt_tree c.args.body.now in
+    let own = behind s a in
+    let test = option_map expr_tree c.args.test.now in
+    let step = option_map expr_tree c.args.step.now in
+    let count : c.saturating_sub-own.result ≡ (own.names - s.names) = c.saturating_sub-own.ensures ∙ ap (λ n. n - c.from-first.result) (c.from.ensures ∙ ap (λ q. q.names) c.in_ok-command.ensures.scope) ∙ ap (λ n. own.names - n) c.from-first.ensures in
+    let loop : checked.command c.in_ok-turns.field-0 ≡ spec.Repeat (tested own test) (stepped own step) (resolved_stmt own b) = c.in_ok-turns.ensures.command ∙ ap (λ p. spec.Repeat (tested p test) (stepped p step) (resolved_stmt p b)) c.in_ok-command.ensures.scope in
+    loop_command s own c.from-first.result c.saturating_sub-own.result c.push-2.new.self c.in_ok-command.field-0 c.in_ok-turns.field-0 (resolved_stmt s a) (spec.Repeat (tested own test) (stepped own step) (resolved_stmt own b))
+    (c.in_ok-push-2.ensures.items ∙ ap (λ us. us ++ c.in_ok-turns.field-0 ∷ []) (c.in_ok-push.ensures.items ∙ ap (λ us. us ++ c.in_ok-command.field-0 ∷ []) c.new-all.ensures.items)) c.from-first.ensures count c.in_ok-command.ensures.command loop
+
+pub stepped-returns-clause-scope : goal.stepped-returns-clause-scope
+stepped-returns-clause-scope t c =
+    let table = c.args.table.now in
+    let old = c.args.visible.now in
+    let s = seen table old in
+    let a = stmt_tree c.args.beginning.now in
+    let b = stmt_tree c.args.body.now in
+    let own = behind s a in
+    leave_is table old c.turns.new.visible c.leave.new.self (leave own (behind own b)) (inner_same s own (behind own b) (behind_same s a))
+    (c.in_ok-turns.ensures.scope ∙ ap (λ p. leave p (behind p b)) c.in_ok-command.ensures.scope)
+    (c.leave.ensures.bound ∙ ap (λ n. take n c.turns.new.visible.bound.items) (c.len-count.ensures ∙ old.bound.ok.0) ∙ ap (take (length old.bound.items)) c.in_ok-turns.ensures.keeps ∙ c.in_ok-command.ensures.keeps)
+    (record { next = c.leave.ensures.next; names = c.leave.ensures.names; class = c.leave.ensures.class; sign = c.leave.ensures.sign; gives = c.leave.ensures.gives; hidden = c.leave.ensures.hidden })
+
+pub stepped-returns-clause-keeps : goal.stepped-returns-clause-keeps
+stepped-returns-clause-keeps t c =
+    let old = c.args.visible.now in
+    c.leave.ensures.bound ∙ ap (λ n. take n c.turns.new.visible.bound.items) (c.len-count.ensures ∙ old.bound.ok.0) ∙ ap (take (length old.bound.items)) c.in_ok-turns.ensures.keeps ∙ c.in_ok-command.ensures.keeps
+
 pub commands-loop-statement-preserved : goal.commands-loop-statement-preserved
 commands-loop-statement-preserved t c =
     let table = c.args.table.now in
@@ -139,3 +188,27 @@ command-returns-in-While-clause-scope t c = rw c.in-While.is (rw c.deref-in-Whil
 
 pub command-returns-in-While-clause-keeps : goal.command-returns-in-While-clause-keeps
 command-returns-in-While-clause-keeps t c = on_ok_weaker c.repeated.result (keeps_same c.args.visible.now.bound.items c.repeated.new.visible.bound.items) c.repeated.ensures.keeps
+
+pub command-returns-in-Do-clause-command : goal.command-returns-in-Do-clause-command
+command-returns-in-Do-clause-command t c = rw c.in-Do.is (rw c.deref-in-Do.ensures at c.repeated_after.ensures.command)
+
+pub command-returns-in-Do-clause-scope : goal.command-returns-in-Do-clause-scope
+command-returns-in-Do-clause-scope t c = rw c.in-Do.is (rw c.deref-in-Do.ensures at c.repeated_after.ensures.scope)
+
+pub command-returns-in-Do-clause-keeps : goal.command-returns-in-Do-clause-keeps
+command-returns-in-Do-clause-keeps t c = on_ok_weaker c.repeated_after.result (keeps_same c.args.visible.now.bound.items c.repeated_after.new.visible.bound.items) c.repeated_after.ensures.keeps
+
+pub command-returns-in-For-clause-command : goal.command-returns-in-For-clause-command
+command-returns-in-For-clause-command t c = rw c.in-For.is (rw (c.deref-in-For.ensures, c.deref-in-For-2.ensures) at c.stepped.ensures.command)
+
+pub command-returns-in-For-clause-scope : goal.command-returns-in-For-clause-scope
+command-returns-in-For-clause-scope t c = rw c.in-For.is (rw (c.deref-in-For.ensures, c.deref-in-For-2.ensures) at c.stepped.ensures.scope)
+
+pub command-returns-in-For-clause-keeps : goal.command-returns-in-For-clause-keeps
+command-returns-in-For-clause-keeps t c = on_ok_weaker c.stepped.result (keeps_same c.args.visible.now.bound.items c.stepped.new.visible.bound.items) c.stepped.ensures.keeps
+
+pub command-returns-in-Break-clause-keeps : goal.command-returns-in-Break-clause-keeps
+command-returns-in-Break-clause-keeps t c = keeps_same c.args.visible.now.bound.items _ refl
+
+pub command-returns-in-Continue-clause-keeps : goal.command-returns-in-Continue-clause-keeps
+command-returns-in-Continue-clause-keeps t c = keeps_same c.args.visible.now.bound.items _ refl

@@ -29,6 +29,15 @@ decreases-chosen l = 4 * max (size-Stmt l.then.now) (size-Stmt l.other.now) + 2
 abbrev pub decreases-repeated : goal.decreases-repeated
 decreases-repeated l = 4 * size-Stmt l.body.now + 2
 
+abbrev pub decreases-repeated_after : goal.decreases-repeated_after
+decreases-repeated_after l = 4 * size-Stmt l.body.now + 2
+
+abbrev pub decreases-turns : goal.decreases-turns
+decreases-turns l = 4 * size-Stmt l.body.now + 2
+
+abbrev pub decreases-stepped : goal.decreases-stepped
+decreases-stepped l = 4 * max (size-Stmt l.beginning.now) (size-Stmt l.body.now) + 3
+
 -- the commands so far and those of the rest are all, and the outer variables are there still
 abbrev pub invariant-commands-loop-statement : goal.invariant-commands-loop-statement
 invariant-commands-loop-statement l = record {

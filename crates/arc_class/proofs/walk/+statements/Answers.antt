@@ -1,7 +1,7 @@
-use Rattle.std.proofs.Common.{◌≡◌, option_map, subst, Option, IfOk}
+use Rattle.std.proofs.Common.{◌≡◌, ◌++◌, option_map, subst, Option, IfOk}
 use Rattle.arc_ast.specs.Tree.{stmt_tree, expr_tree}
 use Rattle.arc_class.specs.Broken.{Broken, first}
-use Rattle.arc_class.specs.Walk.{broken_expr, broken_stmt, no_name, missing_in, holds}
+use Rattle.arc_class.specs.Walk.{broken_expr, broken_maybe, broken_stmt, no_name, missing_in, holds}
 use Rattle.arc_class.specs.Fault.{told}
 use Rattle.arc_class.proofs.Firsts.{first_both}
 use Rattle.arc_class.proofs.Scopes.{holds-none}
@@ -34,6 +34,24 @@ in_scope-returns-in_ok-inside-in-While-clause-fault t c =
     let L = missing_in c.args.source.now in
     let inside : option_map told c.in_ok-inside-in-While.inside ≡ first (broken_stmt L no_name (stmt_tree c.in-While.body.value)) = rw c.deref-in-While.ensures at c.in_ok-inside-in-While.ensures in
     rw c.in-While.is (first_both (broken_expr L (expr_tree c.in-While.test)) (broken_stmt L no_name (stmt_tree c.in-While.body.value)) (option_map told c.expression-in-While.result) (option_map told c.in_ok-inside-in-While.inside) (option_map told c.earlier-in-While.result) c.expression-in-While.ensures inside c.earlier-in-While.ensures)
+
+pub in_scope-returns-in_ok-inside-in-Do-clause-fault : goal.in_scope-returns-in_ok-inside-in-Do-clause-fault
+in_scope-returns-in_ok-inside-in-Do-clause-fault t c =
+    let L = missing_in c.args.source.now in
+    let inside : option_map told c.in_ok-inside-in-Do.inside ≡ first (broken_stmt L no_name (stmt_tree c.in-Do.body.value)) = rw c.deref-in-Do.ensures at c.in_ok-inside-in-Do.ensures in
+    rw c.in-Do.is (first_both (broken_stmt L no_name (stmt_tree c.in-Do.body.value)) (broken_expr L (expr_tree c.in-Do.test)) (option_map told c.in_ok-inside-in-Do.inside) (option_map told c.expression-in-Do.result) (option_map told c.earlier-in-Do.result) inside c.expression-in-Do.ensures c.earlier-in-Do.ensures)
+
+pub in_scope-returns-in_ok-inside-in-For-clause-fault : goal.in_scope-returns-in_ok-inside-in-For-clause-fault
+in_scope-returns-in_ok-inside-in-For-clause-fault t c =
+    let L = missing_in c.args.source.now in
+    let A = broken_stmt L no_name (stmt_tree c.in-For.beginning.value) in
+    let T = broken_maybe L (option_map expr_tree c.in-For.test) in
+    let S = broken_maybe L (option_map expr_tree c.in-For.step) in
+    let B = broken_stmt L no_name (stmt_tree c.in-For.body.value) in
+    let before : option_map told c.in_ok-before-in-For.before ≡ first A = rw c.deref-in-For.ensures at c.in_ok-before-in-For.ensures in
+    let inside : option_map told c.in_ok-inside-in-For.inside ≡ first B = rw c.deref-in-For-2.ensures at c.in_ok-inside-in-For.ensures in
+    rw c.in-For.is (first_both A (T ++ (S ++ B)) _ _ _ before
+    (first_both T (S ++ B) _ _ _ c.maybe-in-For-2.ensures (first_both S B _ _ _ c.maybe-in-For.ensures inside c.earlier-inside-in-For.ensures) c.earlier-inside-in-For-2.ensures) c.earlier-in-For.ensures)
 
 pub statements-loop-statement-preserved : goal.statements-loop-statement-preserved
 statements-loop-statement-preserved t c =

@@ -1,4 +1,4 @@
-use Rattle.std.proofs.Common.{rules, arith, suc, length, map, take, vec_len, to_z, of_z, w64, ◌∷◌, ◌++◌, [], refl, ◌≡◌, ◌-◌, ◌<◌, ◌≤◌, Err, sym, subst, ap, ◌∙◌}
+use Rattle.std.proofs.Common.{rules, arith, option_map, suc, length, map, take, vec_len, to_z, of_z, w64, ◌∷◌, ◌++◌, [], refl, ◌≡◌, ◌-◌, ◌<◌, ◌≤◌, Err, sym, subst, ap, ◌∙◌}
 use Rattle.std.proofs.lemmas.Int.{to_z-of_z}
 use Rattle.std.proofs.lemmas.Bool.{ltb-true, ltb-false}
 use Rattle.std.proofs.lemmas.Result.{err_from_is_err_and}
@@ -7,7 +7,7 @@ use Rattle.arc_spec.specs.Classes.{superclasses, ancestry}
 use Rattle.arc_spec.specs.Number.{is_zero}
 use Rattle.arc_spec.proofs.Ancestry.{all_classes}
 use Rattle.arc_check.specs.Checked.{program_of}
-use Rattle.arc_spec.specs.Meaning.{whole, all_evaluated, all_executed, executed, turns, called, function_at, all_dropped, variables_dropped, class_in, deallocs_run, dying, gone, level}
+use Rattle.arc_spec.specs.Meaning.{whole, all_evaluated, all_executed, executed, turns, turns_after, called, function_at, all_dropped, variables_dropped, class_in, deallocs_run, dying, gone, level}
 use Rattle.arc_spec.specs.Resolved.{Function}
 use Rattle.arc_spec.specs.Objects.{object_at}
 use Rattle.arc_spec.specs.World.{Done, then_do}
@@ -15,7 +15,7 @@ use Rattle.arc_plain.specs.Views.{world, Tells, deeper, flow_of, nothing_of, obj
 use Rattle.arc_plain.proofs.Calls.{call_told, body_failed, drop_failed, nothing_called, function_there, function_absent, temporary_step, temporaries_fewer, no_temporary, variable_step, variable_failed, layer_done, layer_failed}
 use Rattle.arc_plain.proofs.Keeping.{level_steady}
 use Rattle.arc_check.proofs.Trees.{is_print, is_invoked, is_sent, is_sent_super, is_sent_to, is_sent_to_super, is_sequence}
-use Rattle.arc_plain.proofs.Turns.{value_told, message_told, command_told, values_step, turns_step, turn_failed, call_is, end_is, tells_through}
+use Rattle.arc_plain.proofs.Turns.{value_told, message_told, command_told, values_step, turns_step, turns_left, turn_failed, turns_after_step, turns_after_left, turn_after_failed, call_is, end_is, tells_through}
 use Rattle.arc_plain.proofs.Weights.{print_lighter, call_lighter, sent_lighter, super_lighter, sent_to_lighter, to_super_lighter, sequence_lighter, value_in, command_in, commands_weight, level_lighter, body_lighter}
 use Rattle.arc_plain.proofs.run.+running.Goals as goal
 
@@ -107,22 +107,64 @@ evaluate_all-loop-value-preserved t c =
 
 pub repeat-loop-preserved : goal.repeat-loop-preserved
 repeat-loop-preserved t c =
+    let bound = c.args.context.now.bound in
+    let run = executed (deeper c.args.context.now) bound in
     let test = whole (deeper c.args.context.now) (checked.value c.args.test.now) in
-    let body = executed (deeper c.args.context.now) c.args.context.now.bound (checked.command c.args.body.now) in
+    let step = run (checked.command c.args.step.now) in
+    let body = run (checked.command c.args.body.now) in
     let same : to_z w64 (of_z w64 c.in_ok-number.number) ≡ c.in_ok-number.number = grind (arith, to_z-of_z) in
-    turns_step c.args.context.now.bound c.loop.counter test body (turns c.args.context.now.bound test body (world c.args.progress.now)) c.in_ok-number.number
-    (world c.loop.progress) (world c.evaluate_whole.new.progress) (world c.execute.new.progress)
+    turns_step bound c.loop.counter test step body (turns bound test step body (world c.args.progress.now)) c.in_ok-number.number
+    (world c.loop.progress) (world c.evaluate_whole.new.progress) (world c.turn.new.progress)
     c.loop-test.true c.loop.invariant c.in_ok-number.ensures (ap is_zero (sym same) ∙ sym c.is_zero.ensures ∙ c.if-is_zero.false) (search rules)
 
-pub repeat-returns-in_err-returned : goal.repeat-returns-in_err-returned
-repeat-returns-in_err-returned t c =
+pub repeat-returns-in-Some : goal.repeat-returns-in-Some
+repeat-returns-in-Some t c =
+    let bound = c.args.context.now.bound in
+    let run = executed (deeper c.args.context.now) bound in
     let test = whole (deeper c.args.context.now) (checked.value c.args.test.now) in
-    let body = executed (deeper c.args.context.now) c.args.context.now.bound (checked.command c.args.body.now) in
+    let step = run (checked.command c.args.step.now) in
+    let body = run (checked.command c.args.body.now) in
     let same : to_z w64 (of_z w64 c.in_ok-number.number) ≡ c.in_ok-number.number = grind (arith, to_z-of_z) in
-    let p = err_from_is_err_and c.from_residual-in_err-returned.result c.from_residual-in_err-returned.ensures.1 in
-    turn_failed c.args.context.now.bound c.loop.counter test body (turns c.args.context.now.bound test body (world c.args.progress.now)) c.in_ok-number.number
-    c.in_err-returned.field-0.0 c.from_residual-in_err-returned.result (world c.loop.progress) (world c.evaluate_whole.new.progress) (world c.execute.new.progress)
-    c.loop-test.true c.loop.invariant c.in_ok-number.ensures (ap is_zero (sym same) ∙ sym c.is_zero.ensures ∙ c.if-is_zero.false) (p.1 ∙ ap Err p.2) c.in_err-returned.ensures
+    turns_left bound c.loop.counter test step body (turns bound test step body (world c.args.progress.now)) c.in_ok-number.number (flow_of c.in-Some.flow)
+    (world c.loop.progress) (world c.evaluate_whole.new.progress) (world c.turn.new.progress)
+    c.loop-test.true c.loop.invariant c.in_ok-number.ensures (ap is_zero (sym same) ∙ sym c.is_zero.ensures ∙ c.if-is_zero.false) (search rules)
+
+pub repeat-returns-in_err-turn : goal.repeat-returns-in_err-turn
+repeat-returns-in_err-turn t c =
+    let bound = c.args.context.now.bound in
+    let run = executed (deeper c.args.context.now) bound in
+    let test = whole (deeper c.args.context.now) (checked.value c.args.test.now) in
+    let step = run (checked.command c.args.step.now) in
+    let body = run (checked.command c.args.body.now) in
+    let same : to_z w64 (of_z w64 c.in_ok-number.number) ≡ c.in_ok-number.number = grind (arith, to_z-of_z) in
+    let p = err_from_is_err_and c.from_residual-in_err-turn.result c.from_residual-in_err-turn.ensures.1 in
+    turn_failed (option_map flow_of) bound c.loop.counter test step body (turns bound test step body (world c.args.progress.now)) c.in_ok-number.number
+    c.in_err-turn.field-0.0 c.from_residual-in_err-turn.result (world c.loop.progress) (world c.evaluate_whole.new.progress) (world c.turn.new.progress)
+    c.loop-test.true c.loop.invariant c.in_ok-number.ensures (ap is_zero (sym same) ∙ sym c.is_zero.ensures ∙ c.if-is_zero.false) (p.1 ∙ ap Err p.2) c.in_err-turn.ensures
+
+pub repeat_after-loop-preserved : goal.repeat_after-loop-preserved
+repeat_after-loop-preserved t c =
+    let bound = c.args.context.now.bound in
+    let test = whole (deeper c.args.context.now) (checked.value c.args.test.now) in
+    let body = executed (deeper c.args.context.now) bound (checked.command c.args.body.now) in
+    turns_after_step bound c.loop.counter test body (turns_after bound test body (world c.args.progress.now)) (world c.loop.progress) (world c.turn_after.new.progress) c.loop-test.true c.loop.invariant (search rules)
+
+pub repeat_after-returns-in-Some : goal.repeat_after-returns-in-Some
+repeat_after-returns-in-Some t c =
+    let bound = c.args.context.now.bound in
+    let test = whole (deeper c.args.context.now) (checked.value c.args.test.now) in
+    let body = executed (deeper c.args.context.now) bound (checked.command c.args.body.now) in
+    turns_after_left bound c.loop.counter test body (turns_after bound test body (world c.args.progress.now)) (flow_of c.in-Some.flow) (world c.loop.progress) (world c.turn_after.new.progress) c.loop-test.true c.loop.invariant (search rules)
+
+pub repeat_after-returns-in_err-turn_after : goal.repeat_after-returns-in_err-turn_after
+repeat_after-returns-in_err-turn_after t c =
+    let bound = c.args.context.now.bound in
+    let test = whole (deeper c.args.context.now) (checked.value c.args.test.now) in
+    let body = executed (deeper c.args.context.now) bound (checked.command c.args.body.now) in
+    let p = err_from_is_err_and c.from_residual.result c.from_residual.ensures.1 in
+    turn_after_failed (option_map flow_of) bound c.loop.counter test body (turns_after bound test body (world c.args.progress.now))
+    c.in_err-turn_after.field-0.0 c.from_residual.result (world c.loop.progress) (world c.turn_after.new.progress)
+    c.loop-test.true c.loop.invariant (p.1 ∙ ap Err p.2) c.in_err-turn_after.ensures
 
 pub call-returns : goal.call-returns
 call-returns t c =

@@ -2,7 +2,7 @@ use Rattle.std.proofs.Common.{◌≡◌, ◌+◌, ◌-◌, suc, drop, length, ve
 use Rattle.arc_check.specs.Checked as checked
 use Rattle.arc_check.specs.Checked.{program_of}
 use Rattle.arc_spec.specs.Classes.{superclasses, ancestry, ancestry_within}
-use Rattle.arc_spec.specs.Meaning.{all_evaluated, whole, executed, all_executed, turns, all_dropped, variables_dropped, deallocs_run}
+use Rattle.arc_spec.specs.Meaning.{all_evaluated, whole, executed, all_executed, turns, turns_after, all_dropped, variables_dropped, deallocs_run}
 use Rattle.arc_plain.specs.Views.{world, deeper}
 use Rattle.arc_plain.proofs.Turns.{front}
 use Rattle.arc_plain.proofs.Weights.{levels_left, program_weight, value_weight, values_weight, reference_weight, command_weight, commands_weight}
@@ -87,7 +87,22 @@ abbrev pub decreases-execute_all : goal.decreases-execute_all
 decreases-execute_all l = levels_left l.context.now + commands_weight (checked.commands l.commands.now)
 
 abbrev pub decreases-repeat : goal.decreases-repeat
-decreases-repeat l = levels_left l.context.now + (4 + value_weight (checked.value l.test.now) + command_weight (checked.command l.body.now))
+decreases-repeat l = levels_left l.context.now + (5 + value_weight (checked.value l.test.now) + command_weight (checked.command l.step.now) + command_weight (checked.command l.body.now))
+
+abbrev pub decreases-turn : goal.decreases-turn
+decreases-turn l = levels_left l.context.now + (3 + command_weight (checked.command l.step.now) + command_weight (checked.command l.body.now))
+
+abbrev pub decreases-run_step : goal.decreases-run_step
+decreases-run_step l = levels_left l.context.now + (1 + command_weight (checked.command l.step.now))
+
+abbrev pub decreases-repeat_after : goal.decreases-repeat_after
+decreases-repeat_after l = levels_left l.context.now + (6 + value_weight (checked.value l.test.now) + command_weight (checked.command l.body.now))
+
+abbrev pub decreases-turn_after : goal.decreases-turn_after
+decreases-turn_after l = levels_left l.context.now + (5 + value_weight (checked.value l.test.now) + command_weight (checked.command l.body.now))
+
+abbrev pub decreases-run_test : goal.decreases-run_test
+decreases-run_test l = levels_left l.context.now + (4 + value_weight (checked.value l.test.now))
 
 -- the whole is what was found in front of what is to come
 abbrev pub invariant-evaluate_all-loop-value : goal.invariant-evaluate_all-loop-value
@@ -104,7 +119,14 @@ abbrev pub invariant-repeat-loop : goal.invariant-repeat-loop
 invariant-repeat-loop l =
     let test = whole (deeper l.context) (checked.value l.test) in
     let body = executed (deeper l.context) l.context.bound (checked.command l.body) in
-    turns l.context.bound test body (world l.initial.progress) ≡ turns (l.context.bound - l.counter) test body (world l.progress)
+    let step = executed (deeper l.context) l.context.bound (checked.command l.step) in
+    turns l.context.bound test step body (world l.initial.progress) ≡ turns (l.context.bound - l.counter) test step body (world l.progress)
+
+abbrev pub invariant-repeat_after-loop : goal.invariant-repeat_after-loop
+invariant-repeat_after-loop l =
+    let test = whole (deeper l.context) (checked.value l.test) in
+    let body = executed (deeper l.context) l.context.bound (checked.command l.body) in
+    turns_after l.context.bound test body (world l.initial.progress) ≡ turns_after (l.context.bound - l.counter) test body (world l.progress)
 
 -- the temporaries that are left are the whole
 abbrev pub invariant-drop_temporaries-loop-object : goal.invariant-drop_temporaries-loop-object

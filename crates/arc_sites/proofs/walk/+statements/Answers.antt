@@ -1,7 +1,7 @@
-use Rattle.std.proofs.Common.{◌+◌, true, false, drop, refl, sym, ap, ◌∙◌}
+use Rattle.std.proofs.Common.{◌+◌, ◌++◌, true, false, drop, option_map, refl, sym, ap, ◌∙◌}
 use Rattle.arc_ast.specs.Tree.{expr_tree, stmt_tree, stmt_trees}
 use Rattle.arc_sites.specs.Sites as sites
-use Rattle.arc_sites.specs.Sites.{AValue, Anything, Statement, site, inner, after, stmt_sites, all_sites}
+use Rattle.arc_sites.specs.Sites.{AValue, Anything, Statement, site, inner, after, maybe_sites, stmt_sites, all_sites}
 use Rattle.arc_sites.specs.Finding.{enclosing_of, found_from}
 use Rattle.arc_ast.proofs.Trees.{block_tree}
 use Rattle.arc_sites.proofs.Found.{found_both, found_three, turn, ended}
@@ -26,6 +26,26 @@ within-returns-in-While g t c = λ scope.
     let body = stmt_tree c.in-While.body.value in
     rw c.in-While.is (found_both g.V.Visitor.violations _ _ _ (sites.sites m scope AValue (expr_tree c.in-While.test)) (stmt_sites m (inner true scope) body)
     (c.expression-in-While.ensures scope AValue) (rw c.deref-in-While.ensures at c.statement-in-While.ensures (inner true scope)))
+
+pub within-returns-in-Do : goal.within-returns-in-Do
+within-returns-in-Do g t c = λ scope.
+    let m = enclosing_of c.args.enclosing in
+    let body = stmt_tree c.in-Do.body.value in
+    rw c.in-Do.is (found_both g.V.Visitor.violations _ _ _ (stmt_sites m (inner true scope) body) (sites.sites m scope AValue (expr_tree c.in-Do.test))
+    (rw c.deref-in-Do.ensures at c.statement-in-Do.ensures (inner true scope)) (c.expression-in-Do.ensures scope AValue))
+
+pub within-returns-in-For : goal.within-returns-in-For
+within-returns-in-For g t c = λ scope.
+    let m = enclosing_of c.args.enclosing in
+    let rules = g.V.Visitor.violations in
+    let outer = inner false scope in
+    let beginning = stmt_tree c.in-For.beginning.value in
+    let own = after outer beginning in
+    let test = maybe_sites m own AValue (option_map expr_tree c.in-For.test) in
+    let step = maybe_sites m own Anything (option_map expr_tree c.in-For.step) in
+    let body = stmt_sites m (inner true own) (stmt_tree c.in-For.body.value) in
+    rw c.in-For.is (found_both rules _ _ _ (stmt_sites m outer beginning) (test ++ (step ++ body)) (rw c.deref-in-For.ensures at c.statement-in-For.ensures outer)
+    (found_three rules _ _ _ _ test step body (c.maybe-in-For.ensures own AValue) (c.maybe-in-For-2.ensures own Anything) (rw c.deref-in-For-2.ensures at c.statement-in-For-2.ensures (inner true own))))
 
 pub within-returns-in-IfElse : goal.within-returns-in-IfElse
 within-returns-in-IfElse g t c = λ scope.

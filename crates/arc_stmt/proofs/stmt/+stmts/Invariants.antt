@@ -15,6 +15,9 @@ decreases-statement l = 16 * length l.tokens.now + 5
 abbrev pub decreases-worded : goal.decreases-worded
 decreases-worded l = 16 * length l.tokens.now + 4
 
+abbrev pub decreases-looped : goal.decreases-looped
+decreases-looped l = 16 * length l.tokens.now + 3
+
 abbrev pub decreases-conditional : goal.decreases-conditional
 decreases-conditional l = 16 * length l.tokens.now + 3
 
@@ -22,7 +25,13 @@ abbrev pub decreases-otherwise : goal.decreases-otherwise
 decreases-otherwise l = 16 * length l.tokens.now + 9
 
 abbrev pub decreases-repeated : goal.decreases-repeated
-decreases-repeated l = 16 * length l.tokens.now + 3
+decreases-repeated l = 16 * length l.tokens.now + 2
+
+abbrev pub decreases-repeated_after : goal.decreases-repeated_after
+decreases-repeated_after l = 16 * length l.tokens.now + 2
+
+abbrev pub decreases-stepped : goal.decreases-stepped
+decreases-stepped l = 16 * length l.tokens.now + 2
 
 abbrev pub decreases-branch : goal.decreases-branch
 decreases-branch l = 16 * length l.tokens.now + 7

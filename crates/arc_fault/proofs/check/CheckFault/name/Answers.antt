@@ -20,6 +20,9 @@ returns-in-ArgumentCount c = ap (λ f. (report f).name) (sym c.in-ArgumentCount.
 pub returns-in-Format : goal.returns-in-Format
 returns-in-Format c = ap (λ f. (report f).name) (sym c.in-Format.is)
 
+pub returns-in-OutsideLoop : goal.returns-in-OutsideLoop
+returns-in-OutsideLoop c = ap (λ f. (report f).name) (sym c.in-OutsideLoop.is)
+
 pub returns-in-FieldHidden : goal.returns-in-FieldHidden
 returns-in-FieldHidden c = ap (λ f. (report f).name) (sym c.in-FieldHidden.is)
 
