@@ -1,7 +1,8 @@
 #!/usr/bin/env bash
-# Times `arcc run` on a loop of calls, on recursion, on a loop of messages to an object, and on a loop
-# that makes objects and drops them, next to Lua 5.4 and Python 3 where these are installed, and `arcc check`
-# on sources of 1 KiB, 32 KiB and 1 MiB. Prints seconds (the least of five runs) and ratios. It isn't part of
+# Times `arcc run` on a loop of calls, on recursion, on a loop of messages to an object, on a loop that
+# makes objects and drops them, on primes by trial division, and on a loop of 64-bit arithmetic with all
+# operators, next to Lua 5.4 and Python 3 where these are installed, and `arcc check` on sources of 1 KiB,
+# 32 KiB and 1 MiB. Prints seconds (the least of five runs) and ratios. It isn't part of
 # the gate.
 set -eu
 top=$(cd "$(dirname "${BASH_SOURCE[0]}")/.." && pwd)
@@ -146,8 +147,93 @@ def main():
 main()
 END
 
+cat >"$work/primes.m" <<'END'
+int most = 200000;
+int count;
+int main(void) {
+  for (int n = 2; n < most; n++) {
+    BOOL prime = YES;
+    for (int d = 2; prime && d * d <= n; d++) prime = n % d != 0;
+    if (prime) count++;
+  }
+  printf("%d\n", count);
+}
+END
+cat >"$work/primes.lua" <<'END'
+most = 200000
+count = 0
+for n = 2, most - 1 do
+  local prime = true
+  local d = 2
+  while prime and d * d <= n do prime = n % d ~= 0; d = d + 1 end
+  if prime then count = count + 1 end
+end
+print(count)
+END
+cat >"$work/primes.py" <<'END'
+most = 200000
+count = 0
+def main():
+    global count
+    for n in range(2, most):
+        prime = True
+        d = 2
+        while prime and d * d <= n:
+            prime = n % d != 0
+            d += 1
+        if prime:
+            count += 1
+    print(count)
+main()
+END
+cat >"$work/longs.m" <<'END'
+int main(void) {
+  long a = 1, b = 3, sum = 0;
+  for (long i = 1; i <= 1000000; i++) {
+    a = (a * 1103515245 + 12345) & 2147483647;
+    b = ((a >> 3) ^ (b << 2)) & 1073741823;
+    sum += (a & 65535) | (b % 1000);
+    sum -= b / i;
+    if (a < b || b == i) sum = ~sum;
+    if (b >= 5000 && !(a != b)) sum -= -b;
+    if (a > b && b <= i) sum--;
+  }
+  printf("%ld\n", sum);
+}
+END
+cat >"$work/longs.lua" <<'END'
+local a, b, sum = 1, 3, 0
+for i = 1, 1000000 do
+  a = (a * 1103515245 + 12345) & 2147483647
+  b = ((a >> 3) ~ (b << 2)) & 1073741823
+  sum = sum + ((a & 65535) | (b % 1000))
+  sum = sum - b // i
+  if a < b or b == i then sum = ~sum end
+  if b >= 5000 and not (a ~= b) then sum = sum - -b end
+  if a > b and b <= i then sum = sum - 1 end
+end
+print(sum)
+END
+cat >"$work/longs.py" <<'END'
+def main():
+    a, b, total = 1, 3, 0
+    for i in range(1, 1000001):
+        a = (a * 1103515245 + 12345) & 2147483647
+        b = ((a >> 3) ^ (b << 2)) & 1073741823
+        total += (a & 65535) | (b % 1000)
+        total -= b // i
+        if a < b or b == i:
+            total = ~total
+        if b >= 5000 and not (a != b):
+            total -= -b
+        if a > b and b <= i:
+            total -= 1
+    print(total)
+main()
+END
+
 echo "machine: $(uname -m), $(nproc) processors, $(awk -F': ' '/model name/ { print $2; exit }' /proc/cpuinfo)"
-for name in calls fib sends objects; do
+for name in calls fib sends objects primes longs; do
   ours=$(least "$arcc" run "$work/$name.m" --steps 9000000000)
   line="$name: arcc $ours s"
   if command -v lua5.4 >/dev/null; then
