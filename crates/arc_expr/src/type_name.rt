@@ -7,19 +7,25 @@ ghost use Rattle.arc_grammar.specs.Grammar.{reads, reads_free};
 ghost use Rattle.arc_grammar.specs.Grammar as grammar;
 
 use arc_ast::tree::TypeName;
-use arc_form::fail::{Fail, Read};
+use arc_form::fail::Read;
 use arc_form::step::{keyword, sees_word};
-use arc_lex::token::{Token, TokenKind, Word};
+use arc_lex::token::{Token, Word};
 
 /// Whether a type of numbers can begin with the first token.
 #[tactic(auto, using(arc_form::proofs::Sets::sees_or))]
 pub fn begins_number_type(tokens: &[Token]) -> bool
     ensures { result ≡ sees grammar.begins_number_type (toks tokens.now) }
 {
+    sees_word(Word::Int, tokens) || begins_other_type(tokens)
+}
+
+/// Whether a type of numbers but `int` can begin with the first token.
+#[tactic(auto, using(arc_form::proofs::Sets::sees_or))]
+pub fn begins_other_type(tokens: &[Token]) -> bool
+    ensures { result ≡ sees grammar.begins_other_type (toks tokens.now) }
+{
     sees_word(Word::Long, tokens)
-        || (sees_word(Word::Int, tokens)
-            || sees_word(Word::Bool, tokens)
-            || sees_word(Word::NsInteger, tokens))
+        || (sees_word(Word::Bool, tokens) || sees_word(Word::NsInteger, tokens))
 }
 
 /// Whether a type that names no class can begin with the first token.
@@ -51,11 +57,60 @@ pub fn number_type(tokens: &[Token]) -> Read<'_, (usize, TypeName)>
     ensures within { Gives (λ x. ((x.0.0, type_tree x.0.1), toks x.1.now)) result (reads grammar.number_type (toks tokens.now)) }
     ensures shorter { IfOk result (λ x. length x.1.now < length tokens.now) }
 {
+    if sees_word(Word::Int, tokens) {
+        int_type(tokens)
+    } else {
+        other_type(tokens)
+    }
+}
+
+/// A type of numbers but `int`, with its place.
+#[tactic(auto, unfolding(arc_grammar::specs::Grammar::other_type))]
+pub fn other_type(tokens: &[Token]) -> Read<'_, (usize, TypeName)>
+    ensures gives { Gives (λ x. ((x.0.0, type_tree x.0.1), toks x.1.now)) result (reads_free grammar.other_type (toks tokens.now)) }
+    ensures within { Gives (λ x. ((x.0.0, type_tree x.0.1), toks x.1.now)) result (reads grammar.other_type (toks tokens.now)) }
+    ensures shorter { IfOk result (λ x. length x.1.now < length tokens.now) }
+{
     if sees_word(Word::Long, tokens) {
         long_type(tokens)
+    } else if sees_word(Word::Bool, tokens) {
+        bool_type(tokens)
     } else {
-        word_type(tokens)
+        integer_type(tokens)
     }
+}
+
+/// `int`, with its place.
+#[tactic(auto, unfolding(arc_grammar::specs::Grammar::int_type))]
+fn int_type(tokens: &[Token]) -> Read<'_, (usize, TypeName)>
+    ensures gives { Gives (λ x. ((x.0.0, type_tree x.0.1), toks x.1.now)) result (reads_free grammar.int_type (toks tokens.now)) }
+    ensures within { Gives (λ x. ((x.0.0, type_tree x.0.1), toks x.1.now)) result (reads grammar.int_type (toks tokens.now)) }
+    ensures shorter { IfOk result (λ x. length x.1.now < length tokens.now) }
+{
+    let (at, rest) = keyword(Word::Int, tokens)?;
+    Ok(((at, TypeName::Int), rest))
+}
+
+/// `BOOL`, with its place.
+#[tactic(auto, unfolding(arc_grammar::specs::Grammar::bool_type))]
+fn bool_type(tokens: &[Token]) -> Read<'_, (usize, TypeName)>
+    ensures gives { Gives (λ x. ((x.0.0, type_tree x.0.1), toks x.1.now)) result (reads_free grammar.bool_type (toks tokens.now)) }
+    ensures within { Gives (λ x. ((x.0.0, type_tree x.0.1), toks x.1.now)) result (reads grammar.bool_type (toks tokens.now)) }
+    ensures shorter { IfOk result (λ x. length x.1.now < length tokens.now) }
+{
+    let (at, rest) = keyword(Word::Bool, tokens)?;
+    Ok(((at, TypeName::Bool), rest))
+}
+
+/// `NSInteger`, with its place.
+#[tactic(auto, unfolding(arc_grammar::specs::Grammar::integer_type))]
+fn integer_type(tokens: &[Token]) -> Read<'_, (usize, TypeName)>
+    ensures gives { Gives (λ x. ((x.0.0, type_tree x.0.1), toks x.1.now)) result (reads_free grammar.integer_type (toks tokens.now)) }
+    ensures within { Gives (λ x. ((x.0.0, type_tree x.0.1), toks x.1.now)) result (reads grammar.integer_type (toks tokens.now)) }
+    ensures shorter { IfOk result (λ x. length x.1.now < length tokens.now) }
+{
+    let (at, rest) = keyword(Word::NsInteger, tokens)?;
+    Ok(((at, TypeName::Long), rest))
 }
 
 /// `long`, perhaps another `long`, and perhaps `int`.
@@ -97,45 +152,4 @@ fn perhaps_int(tokens: &[Token]) -> Read<'_, ()>
     }
     let (_, rest) = keyword(Word::Int, tokens)?;
     Ok(((), rest))
-}
-
-/// The first token, which is a type of numbers, with its place.
-///
-/// `Unexpected` comes with all of the tokens where it is not.
-#[tactic(auto, unfolding(arc_grammar::specs::Grammar::word_type))]
-fn word_type(tokens: &[Token]) -> Read<'_, (usize, TypeName)>
-    ensures gives { Gives (λ x. ((x.0.0, type_tree x.0.1), toks x.1.now)) result (reads_free grammar.word_type (toks tokens.now)) }
-    ensures within { Gives (λ x. ((x.0.0, type_tree x.0.1), toks x.1.now)) result (reads grammar.word_type (toks tokens.now)) }
-    ensures shorter { IfOk result (λ x. length x.1.now < length tokens.now) }
-{
-    match tokens.split_first() {
-        Some(
-            (
-                Token {
-                    kind: TokenKind::Word(Word::Int),
-                    span,
-                },
-                rest,
-            ),
-        ) => Ok(((span.from, TypeName::Int), rest)),
-        Some(
-            (
-                Token {
-                    kind: TokenKind::Word(Word::Bool),
-                    span,
-                },
-                rest,
-            ),
-        ) => Ok(((span.from, TypeName::Bool), rest)),
-        Some(
-            (
-                Token {
-                    kind: TokenKind::Word(Word::NsInteger),
-                    span,
-                },
-                rest,
-            ),
-        ) => Ok(((span.from, TypeName::Long), rest)),
-        _ => Err(Fail::Unexpected(tokens)),
-    }
 }

@@ -138,24 +138,28 @@ perhaps_long = choose (word w.Long) (map (λ _. tt) (key w.Long)) (give tt)
 unfoldable pub long_type : Part (ℕ × TypeTree)
 long_type = map (λ (at, _). (at, Long)) (key w.Long ⨾ perhaps_long ⨾ perhaps_int)
 
--- types of numbers that are one word
-abbrev pub begins_word_type : Kinds
-begins_word_type = word w.Int ∪ word w.Bool ∪ word w.NsInteger
+unfoldable pub bool_type : Part (ℕ × TypeTree)
+bool_type = map (λ at. (at, Boolean)) (key w.Bool)
 
-abbrev pub word_type_of : Sort → TypeTree
-word_type_of (tokens.Key w.Bool) = Boolean
-word_type_of (tokens.Key w.NsInteger) = Long
-word_type_of _ = Int
+unfoldable pub integer_type : Part (ℕ × TypeTree)
+integer_type = map (λ at. (at, Long)) (key w.NsInteger)
 
-unfoldable pub word_type : Part (ℕ × TypeTree)
-word_type = token begins_word_type (λ t. (t.from, word_type_of t.sort))
+unfoldable pub int_type : Part (ℕ × TypeTree)
+int_type = map (λ at. (at, Int)) (key w.Int)
+
+-- a type of numbers but `int`, with its place
+unfoldable pub other_type : Part (ℕ × TypeTree)
+other_type = choose (word w.Long) long_type (choose (word w.Bool) bool_type integer_type)
+
+abbrev pub begins_other_type : Kinds
+begins_other_type = word w.Long ∪ word w.Bool ∪ word w.NsInteger
 
 -- a type of numbers, with its place
 unfoldable pub number_type : Part (ℕ × TypeTree)
-number_type = choose (word w.Long) long_type word_type
+number_type = choose (word w.Int) int_type other_type
 
 abbrev pub begins_number_type : Kinds
-begins_number_type = word w.Long ∪ begins_word_type
+begins_number_type = word w.Int ∪ begins_other_type
 
 -- a type that names no class, with its place
 unfoldable pub plain_type : Part (ℕ × TypeTree)
@@ -531,7 +535,7 @@ texts = map (λ _ count. CountAndTexts) (perhaps_const ⨾ key w.Char ⨾ the m.
 unfoldable pub further_parameters : Part (ParameterTree → ParametersTree)
 further_parameters = map (λ (q, others) p. Listed (p ∷ q ∷ others)) (parameter ⨾ more_parameters)
 
--- the first parameter of `main`, which is an `int`, as the count of texts is; another type isn't read there yet
+-- a first parameter of `main` that is an `int`, as the count of texts is
 unfoldable pub count : Part ParameterTree
 count = map (λ (int, n). record { at = n.0; type = Int; name = n.1 }) (key w.Int ⨾ called)
 
@@ -542,8 +546,12 @@ second = map (λ (comma, make). make) (the m.Comma ⨾ choose (word w.Const ∪ 
 unfoldable pub some_of_main : Part ParametersTree
 some_of_main = map (λ (p, make). make p) (count ⨾ choose (mark m.Comma) second (give (λ p. Listed (p ∷ []))))
 
+-- a first parameter of another type, with which no program begins, and further ones
+unfoldable pub others_of_main : Part ParametersTree
+others_of_main = map (λ ((type, n), others). Listed (record { at = n.0; type = type.1; name = n.1 } ∷ others)) ((other_type ⨾ called) ⨾ more_parameters)
+
 unfoldable pub parameters_of_main : Part ParametersTree
-parameters_of_main = choose (word w.Void) void_parameters (choose (word w.Int) some_of_main (give (Listed [])))
+parameters_of_main = choose (word w.Void) void_parameters (choose (word w.Int) some_of_main (choose begins_other_type others_of_main (give (Listed []))))
 
 abbrev pub Signature : Type 0
 Signature = (ℕ × List ℕ) × ParametersTree

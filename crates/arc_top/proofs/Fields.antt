@@ -11,7 +11,7 @@ use Rattle.arc_form.specs.Form.{map}
 use Rattle.arc_form.specs.Operators.{fold}
 use Rattle.arc_form.specs.Reader.{Read, Reader, bind, ◌>>=◌, ret, sees, if_sees, take_one, from, named}
 use Rattle.arc_form.proofs.Local.{Local}
-use Rattle.arc_grammar.specs.Grammar.{FieldGroup, OfWord, OfType, reads, perhaps_int, perhaps_long, long_type, word_type, number_type, begins_number_type, next_name, more_names, group, groups, fields, fields_of, named_fields, visibility_of, begins_visibility, class_names}
+use Rattle.arc_grammar.specs.Grammar.{FieldGroup, OfWord, OfType, reads, perhaps_int, perhaps_long, long_type, bool_type, integer_type, int_type, other_type, number_type, begins_number_type, next_name, more_names, group, groups, fields, fields_of, named_fields, visibility_of, begins_visibility, class_names}
 use Rattle.arc_top.proofs.Rests.{front}
 use Rattle.arc_form.specs.Joining.{joining}
 use Rattle.arc_top.specs.Fields.{begins_group, add_field, add_group, numbers_on, group_on, names_skipped}
@@ -21,7 +21,7 @@ unfolding next_name
 name_front j = front next_name refl refl j
 
 pub group_front : (j : ℕ) → Local ⊥ 1 j (reads group) (reads group)
-unfolding group number_type long_type word_type perhaps_long perhaps_int more_names next_name
+unfolding group number_type int_type other_type bool_type integer_type long_type perhaps_long perhaps_int more_names next_name
 group_front j = front group refl refl j
 
 -- the fields of a class after these
