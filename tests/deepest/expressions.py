@@ -37,6 +37,13 @@ def chain(size, sign, change):
     return first + [sign, "1"] * further, value
 
 
+def increments(size):
+    """The sum of what `a` is before each of its increments, of which the first finds 0, and of what is left of the tokens."""
+    times = (size - 1) // 3
+    last, value = number(size - 3 * times)
+    return ["a", "++", "+"] * times + last, times * (times - 1) // 2 + value
+
+
 def shifted(value, count):
     """An int that is shifted to the left."""
     return ((value << count % 32) + 2**31) % 2**32 - 2**31
@@ -98,6 +105,10 @@ NUMBERS = {
     "assignments": lambda n: around(n, ["a", "="], [], lambda v: v),
     "assignments in parentheses": lambda n: around(n, ["a", "=", "("], [")"], lambda v: v),
     "sums of assignments": lambda n: around(n, ["1", "+", "(", "a", "="], [")"], lambda v: v + 1),
+    "sums with an operator": lambda n: around(n, ["a", "+="], [], lambda v: v),
+    "differences with an operator": lambda n: around(n, ["a", "-="], [], lambda v: -v),
+    "updates in parentheses": lambda n: around(n, ["a", "|=", "("], [")"], lambda v: v),
+    "sums of increments": lambda n: increments(n),
     "calls": lambda n: around(n, ["f", "("], [")"], lambda v: v + 1),
     "calls in the first of 16 arguments": lambda n: around(n, *wide_layer(0), lambda v: v + 15),
     "calls in the last of 16 arguments": lambda n: around(n, *wide_layer(15), lambda v: v + 15),
@@ -268,6 +279,19 @@ def messages_to_casts(size):
     return ["-"] * spare + ["["] + tokens + ["v", "]"]
 
 
+def update_cases(runner):
+    """Updates of updates, which are no variables; the limit is reported before that."""
+    head, tail = b"int main(void) { int a; ", b"; }"
+    for size in (MOST_TOKENS, MOST_TOKENS + 1):
+        for name, tokens, at in (
+            ("++ before an operand", ["++"] * (size - 1) + ["a"], size - 3),
+            ("-- after an operand", ["a"] + ["--"] * (size - 1), 2),
+        ):
+            source, places = spelled(head, tokens, tail)
+            stop = Refused(44, places[at]) if size == MOST_TOKENS else Refused(12, places[MOST_TOKENS])
+            runner.case(f"{size} tokens: {name}", source, stop=stop)
+
+
 def printf_cases(runner):
     head, tail = b"int main(void) { return ", b"; }"
 
@@ -313,6 +337,7 @@ def run(runner):
                 number_case(runner, name, form, method_head, b" } @end int main(void) { B *b = [B new]; int r = [b go]; b = nil; return r; }", place, [(1, b"B")])
     object_cases(runner)
     cast_cases(runner)
+    update_cases(runner)
     printf_cases(runner)
     nested_cases(runner)
     begun_cases(runner)
@@ -341,7 +366,7 @@ def nested_cases(runner):
 def begun_cases(runner):
     """Sources of 1 MiB whose one expression never ends: the 1,001st token is too deep."""
     head = b"int main(void) { return "
-    for part in ("(", "-", "+", "[", "f (", "1 + (", "1 +", "a = (", "a =", "[ A m :", "f ( 1 ,", "( id )", "( A * )"):
+    for part in ("(", "-", "+", "[", "f (", "1 + (", "1 +", "a = (", "a =", "a += (", "a -=", "++", "a ++ +", "[ A m :", "f ( 1 ,", "( id )", "( A * )"):
         tokens = part.split()
         source = padded(head + (part.encode() + b" ") * ((MOST_SOURCE - len(head)) // (len(part) + 1)))
         whole, place = divmod(MOST_TOKENS, len(tokens))
