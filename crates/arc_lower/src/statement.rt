@@ -1,14 +1,15 @@
 //! From statements to actions.
-ghost use Rattle.std.specs.Prelude.{◌≡◌, [], ◌∷◌, ◌++◌, OnOk, option_map};
-ghost use Rattle.arc_spec.specs.Resolved.{Return};
+ghost use Rattle.std.specs.Prelude.{◌≡◌, ℕ, List, [], ◌∷◌, ◌++◌, length, reverse, OnOk, IfOk, option_map};
+ghost use Rattle.arc_spec.specs.Resolved.{Program, Sequence, Return, Choose, Repeat, RepeatAfter, Break, Continue};
 ghost use Rattle.arc_check.specs.Checked.{value as value_of, reference as reference_of, command, commands, program_of};
 ghost use Rattle.arc_code.specs.declared.instr.Instr.TheVariants.{Jump};
 ghost use Rattle.arc_ir.specs.declared.action.Target.TheVariants.{At};
 ghost use Rattle.arc_lower.specs.Order.{order, orders};
-ghost use Rattle.arc_lower.specs.Lowered.{whole_orders, whole_reference_orders, begin_orders, command_orders, commands_orders};
+ghost use Rattle.arc_lower.specs.Lowered.{whole_orders, whole_reference_orders, begin_orders, scopes_orders, does_nothing, command_orders, commands_orders};
+ghost use Rattle.arc_lower.specs.Surroundings.{surroundings, Turned};
 
 use crate::expression::{append, append_reference, append_value};
-use crate::frame::{Body, Frame};
+use crate::frame::{Body, Frame, Scope, Turn};
 use crate::jump::{distance, join, replace};
 use crate::place::{append_all_empty, append_drops, append_forget, append_store, take_some};
 use arc_check::checked::{Checked, Command, Reference, Value};
@@ -82,21 +83,27 @@ fn append_begin(
     append_forget(actions, taken)
 }
 
-/// Appends the actions of a statement in a function.
+/// Appends the actions of a statement in a function, within the scopes that stand between it and the
+/// function, or the body of the loop; the innermost is the last one.
 #[cycle(statement)]
 pub(crate) fn append_command(
     alloc: Global,
     actions: &mut Vec<Action>,
     program: &Checked,
     body: Body,
+    scopes: &mut Vec<Scope>,
     statement: &Command,
 ) -> Result<(), NoMemory>
-    ensures { OnOk result (orders actions.new.items ≡ orders actions.old.items ++ command_orders (program_of program.now) body.slots body.names body.exit (command statement.now)) }
+    ensures actions { OnOk result (orders actions.new.items ≡ orders actions.old.items ++ command_orders (program_of program.now) body.slots body.names (length (orders actions.old.items)) (surroundings body scopes.old.items) (command statement.now)) }
+    ensures scopes { OnOk result (scopes.new.items ≡ scopes.old.items) }
 {
     match statement {
         Command::Sequence(first, count, all) => {
-            append_commands(alloc, actions, program, body, all)?;
-            append_all_empty(actions, body.names, *first, *count)
+            let scope = Scope {
+                first: *first,
+                count: *count,
+            };
+            append_sequence(alloc, actions, program, body, scopes, scope, all)
         }
         Command::Evaluate(value) => {
             append_whole(alloc, actions, program, body, value)?;
@@ -110,30 +117,144 @@ pub(crate) fn append_command(
         }
         Command::Return(value) => append_return(alloc, actions, program, body, value),
         Command::Choose(test, first, second) => {
-            append_whole(alloc, actions, program, body, test)?;
-            let branch = actions.len();
-            append(actions, Instr::JumpZero(Target::Skip(0)))?;
-            append_command(alloc, actions, program, body, first)?;
-            let skip = actions.len();
-            append(actions, Instr::Jump(Target::Skip(0)))?;
-            let other = actions.len();
-            append_command(alloc, actions, program, body, second)?;
-            join(actions, branch, skip, other)
+            append_choice(alloc, actions, program, body, scopes, test, first, second)
         }
-        Command::Repeat(test, turn) => {
-            let begin = actions.len();
-            append_whole(alloc, actions, program, body, test)?;
-            let branch = actions.len();
-            append(actions, Instr::JumpZero(Target::Skip(0)))?;
-            append_command(alloc, actions, program, body, turn)?;
-            let again = actions.len();
-            let past_turn = distance(branch, again)?;
-            let back = distance(begin, again)?;
-            append(actions, Instr::Jump(Target::Back(back)))?;
-            replace(actions, branch, Instr::JumpZero(Target::Skip(past_turn)));
-            Ok(())
+        Command::Repeat(test, step, turn) => {
+            append_repeat(alloc, actions, program, body, scopes, test, step, turn)
         }
+        Command::RepeatAfter(turn, test) => {
+            append_repeat_after(alloc, actions, program, body, turn, test)
+        }
+        Command::Break => append_break(actions, body, scopes),
+        Command::Continue => append_continue(actions, body, scopes),
     }
+}
+
+/// Appends the actions of a block, whose variables are emptied at its end.
+#[cycle(statement)]
+fn append_sequence(
+    alloc: Global,
+    actions: &mut Vec<Action>,
+    program: &Checked,
+    body: Body,
+    scopes: &mut Vec<Scope>,
+    scope: Scope,
+    all: &[Command],
+) -> Result<(), NoMemory>
+    ensures actions { OnOk result (orders actions.new.items ≡ orders actions.old.items ++ command_orders (program_of program.now) body.slots body.names (length (orders actions.old.items)) (surroundings body scopes.old.items) (Sequence scope.first scope.count (commands all.now))) }
+    ensures scopes { OnOk result (scopes.new.items ≡ scopes.old.items) }
+{
+    scopes.push(scope)?;
+    append_commands(alloc, actions, program, body, scopes, all)?;
+    scopes.pop();
+    append_all_empty(actions, body.names, scope.first, scope.count)
+}
+
+/// Appends the actions of a test and of the two statements of which it chooses.
+#[cycle(statement)]
+fn append_choice(
+    alloc: Global,
+    actions: &mut Vec<Action>,
+    program: &Checked,
+    body: Body,
+    scopes: &mut Vec<Scope>,
+    test: &Value,
+    first: &Command,
+    second: &Command,
+) -> Result<(), NoMemory>
+    ensures actions { OnOk result (orders actions.new.items ≡ orders actions.old.items ++ command_orders (program_of program.now) body.slots body.names (length (orders actions.old.items)) (surroundings body scopes.old.items) (Choose (value_of test.now) (command first.now) (command second.now))) }
+    ensures scopes { OnOk result (scopes.new.items ≡ scopes.old.items) }
+{
+    append_whole(alloc, actions, program, body, test)?;
+    let branch = actions.len();
+    append(actions, Instr::JumpZero(Target::Skip(0)))?;
+    append_command(alloc, actions, program, body, scopes, first)?;
+    let skip = actions.len();
+    append(actions, Instr::Jump(Target::Skip(0)))?;
+    let other = actions.len();
+    append_command(alloc, actions, program, body, scopes, second)?;
+    join(actions, branch, skip, other)
+}
+
+/// Appends the actions of a loop that begins with its test, after which the step comes first in each
+/// turn, where there is one.
+#[cycle(statement)]
+fn append_repeat(
+    alloc: Global,
+    actions: &mut Vec<Action>,
+    program: &Checked,
+    body: Body,
+    scopes: &mut Vec<Scope>,
+    test: &Value,
+    step: &Command,
+    turn: &Command,
+) -> Result<(), NoMemory>
+    ensures actions { OnOk result (orders actions.new.items ≡ orders actions.old.items ++ command_orders (program_of program.now) body.slots body.names (length (orders actions.old.items)) (surroundings body scopes.old.items) (Repeat (value_of test.now) (command step.now) (command turn.now))) }
+    ensures scopes { OnOk result (scopes.new.items ≡ scopes.old.items) }
+{
+    let enter = actions.len();
+    if does_nothing(step) {
+        append_turn(alloc, actions, program, body, enter, test, turn)?;
+        return Ok(());
+    }
+    append(actions, Instr::Jump(Target::Skip(0)))?;
+    let begin = actions.len();
+    append_command(alloc, actions, program, body, scopes, step)?;
+    let steps = distance(begin, actions.len())?;
+    append_turn(alloc, actions, program, body, begin, test, turn)?;
+    replace(actions, enter, Instr::Jump(Target::Skip(steps)));
+    Ok(())
+}
+
+/// Appends the actions of a loop that begins with its body.
+#[cycle(statement)]
+fn append_repeat_after(
+    alloc: Global,
+    actions: &mut Vec<Action>,
+    program: &Checked,
+    body: Body,
+    turn: &Command,
+    test: &Value,
+) -> Result<(), NoMemory>
+    ensures { (scopes : List Scope) → OnOk result (orders actions.new.items ≡ orders actions.old.items ++ command_orders (program_of program.now) body.slots body.names (length (orders actions.old.items)) (surroundings body scopes) (RepeatAfter (command turn.now) (value_of test.now))) }
+{
+    let enter = actions.len();
+    append(actions, Instr::Jump(Target::Skip(0)))?;
+    let begin = actions.len();
+    let out = append_turn(alloc, actions, program, body, begin, test, turn)?;
+    let over = distance(enter, out)?;
+    replace(actions, enter, Instr::Jump(Target::Skip(over)));
+    Ok(())
+}
+
+/// Appends the actions of a loop's turn, which began at `begin` with its step: those of its test and of
+/// its body, and the jump back; and the number of the action that leaves the loop by what the test leaves.
+#[cycle(statement)]
+fn append_turn(
+    alloc: Global,
+    actions: &mut Vec<Action>,
+    program: &Checked,
+    body: Body,
+    begin: usize,
+    test: &Value,
+    turn: &Command,
+) -> Result<usize, NoMemory>
+    ensures { IfOk result (λ out. Turned (program_of program.now) body begin (value_of test.now) (command turn.now) (orders actions.old.items) (orders actions.new.items) out) }
+{
+    append_whole(alloc, actions, program, body, test)?;
+    let out = actions.len();
+    append(actions, Instr::JumpZero(Target::Skip(0)))?;
+    let inner = Body {
+        turn: Some(Turn { begin, out }),
+        ..body
+    };
+    append_command(alloc, actions, program, inner, &mut Vec::new(alloc), turn)?;
+    let again = actions.len();
+    let past_turn = distance(out, again)?;
+    let back = distance(begin, again)?;
+    append(actions, Instr::Jump(Target::Back(back)))?;
+    replace(actions, out, Instr::JumpZero(Target::Skip(past_turn)));
+    Ok(out)
 }
 
 /// Appends the actions of statements, in their order.
@@ -143,14 +264,77 @@ pub(crate) fn append_commands(
     actions: &mut Vec<Action>,
     program: &Checked,
     body: Body,
+    scopes: &mut Vec<Scope>,
     all: &[Command],
 ) -> Result<(), NoMemory>
-    ensures { OnOk result (orders actions.new.items ≡ orders actions.old.items ++ commands_orders (program_of program.now) body.slots body.names body.exit (commands all.now)) }
+    ensures actions { OnOk result (orders actions.new.items ≡ orders actions.old.items ++ commands_orders (program_of program.now) body.slots body.names (length (orders actions.old.items)) (surroundings body scopes.old.items) (commands all.now)) }
+    ensures scopes { OnOk result (scopes.new.items ≡ scopes.old.items) }
 {
     for statement in all {
-        append_command(alloc, actions, program, body, statement)?;
+        append_command(alloc, actions, program, body, scopes, statement)?;
     }
     Ok(())
+}
+
+/// Whether a statement is one that does nothing.
+fn does_nothing(statement: &Command) -> bool
+    ensures { result ≡ does_nothing (command statement.now) }
+{
+    match statement {
+        Command::Sequence(_, 0, all) => all.is_empty(),
+        _ => false,
+    }
+}
+
+/// Appends the actions that empty the variables of these scopes, the last one first.
+fn append_clears(
+    actions: &mut Vec<Action>,
+    names: usize,
+    scopes: &[Scope],
+) -> Result<(), NoMemory>
+    ensures { OnOk result (orders actions.new.items ≡ orders actions.old.items ++ scopes_orders names (reverse scopes.now)) }
+{
+    let Some((scope, outer)) = scopes.split_last() else {
+        return Ok(());
+    };
+    append_all_empty(actions, names, scope.first, scope.count)?;
+    append_clears(actions, names, outer)
+}
+
+/// Appends the actions of a `break`, which goes to the loop's test with 0; in no loop it leaves the
+/// function.
+fn append_break(
+    actions: &mut Vec<Action>,
+    body: Body,
+    scopes: &[Scope],
+) -> Result<(), NoMemory>
+    ensures { (P : Program) (here : ℕ) → OnOk result (orders actions.new.items ≡ orders actions.old.items ++ command_orders P body.slots body.names here (surroundings body scopes.now) Break) }
+{
+    append_clears(actions, body.names, scopes)?;
+    append(actions, Instr::Plain(Op::Num(0)))?;
+    match body.turn {
+        Some(turn) => append(actions, Instr::Jump(Target::At(turn.out))),
+        None => append_exit(actions, body),
+    }
+}
+
+/// Appends the actions of a `continue`, which goes to where the loop's next turn begins; in no loop it
+/// leaves the function.
+fn append_continue(
+    actions: &mut Vec<Action>,
+    body: Body,
+    scopes: &[Scope],
+) -> Result<(), NoMemory>
+    ensures { (P : Program) (here : ℕ) → OnOk result (orders actions.new.items ≡ orders actions.old.items ++ command_orders P body.slots body.names here (surroundings body scopes.now) Continue) }
+{
+    append_clears(actions, body.names, scopes)?;
+    match body.turn {
+        Some(turn) => append(actions, Instr::Jump(Target::At(turn.begin))),
+        None => {
+            append(actions, Instr::Plain(Op::Num(0)))?;
+            append_exit(actions, body)
+        }
+    }
 }
 
 /// Appends the actions of a return, which gives 0 where it has no value.
@@ -161,7 +345,7 @@ fn append_return(
     body: Body,
     value: &Option<Value>,
 ) -> Result<(), NoMemory>
-    ensures { OnOk result (orders actions.new.items ≡ orders actions.old.items ++ command_orders (program_of program.now) body.slots body.names body.exit (Return (option_map value_of value.now))) }
+    ensures { (scopes : List Scope) → OnOk result (orders actions.new.items ≡ orders actions.old.items ++ command_orders (program_of program.now) body.slots body.names (length (orders actions.old.items)) (surroundings body scopes) (Return (option_map value_of value.now))) }
 {
     match value {
         None => append(actions, Instr::Plain(Op::Num(0)))?,
