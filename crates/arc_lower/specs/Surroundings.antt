@@ -1,28 +1,34 @@
 -- What the functions that write statements are given, and what they write.
-use Rattle.std.specs.Prelude.{◌≡◌, ℕ, suc, ◌+◌, ◌-◌, List, [], ◌∷◌, ◌++◌, length, reverse, Some}
-use Rattle.arc_spec.specs.Resolved.{Value, Command, Program}
+use Rattle.std.specs.Prelude.{ℕ, ◌+◌, ◌-◌, if◌then◌else◌, List, [], ◌∷◌, ◌++◌, length, reverse, slice_set, Some}
+use Rattle.arc_spec.specs.Resolved.{Command, Program}
 use Rattle.arc_code.specs.declared.instr.Instr.TheVariants.{Jump, JumpZero}
 use Rattle.arc_ir.specs.declared.action.Target.TheVariants.{Skip, Back}
 use Rattle.arc_lower.specs.declared.frame.Turn.{Turn}
 use Rattle.arc_lower.specs.declared.frame.Scope.{Scope}
 use Rattle.arc_lower.specs.declared.frame.Body.{Body}
 use Rattle.arc_lower.specs.Order.{Order}
-use Rattle.arc_lower.specs.Lowered.{Surroundings, whole_orders, command_orders}
+use Rattle.arc_lower.specs.Lowered.{Surroundings, does_nothing, command_orders}
 
 -- where a statement of a body stands, within these scopes, of which the last one is the innermost
 abbrev pub surroundings : Body → (scopes : List Scope) → Surroundings
 surroundings b scopes = record { exit = b.exit; turn = b.turn; scopes = reverse scopes }
 
--- the body of a loop whose turn begins at one place, and which is left at another
-abbrev pub turn_orders_of : (P : Program) → Body → (begin out : ℕ) → Command → List Order
-turn_orders_of P b begin out turn =
-    command_orders P b.slots b.names (suc out) (record { exit = b.exit; turn = Some (record { begin = begin; out = out }); scopes = [] }) turn
+-- where a loop's turn begins whose first actions stand here: behind the jump over its step, where it has one
+abbrev pub step_begin : (here : ℕ) → Command → ℕ
+step_begin here step = if does_nothing step then here else here + 1
 
--- a loop's turn but for its step: the test, where the loop is left, the body, and the jump back
-abbrev pub turned_orders : (tests turns : List Order) → (begin out : ℕ) → List Order
-turned_orders tests turns begin out = tests ++ (JumpZero (Skip (suc (length turns))) ∷ (turns ++ Jump (Back (suc out + length turns - begin)) ∷ []))
+-- that jump and the step
+abbrev pub step_orders : (P : Program) → Body → (scopes : List Scope) → (here : ℕ) → Command → List Order
+step_orders P b scopes here step =
+    let steps = command_orders P b.slots b.names (here + 1) (surroundings b scopes) step in
+    if does_nothing step then [] else Jump (Skip (length steps)) ∷ steps
 
--- these stand after the actions that were there
-pub record Turned (P : Program) (b : Body) (begin : ℕ) (test : Value) (turn : Command) (old new : List Order) (out : ℕ) : Type 0 where
-  pub place : out ≡ length old + length (whole_orders P b.slots b.names test)
-  pub actions : new ≡ old ++ turned_orders (whole_orders P b.slots b.names test) (turn_orders_of P b begin out turn) begin out
+-- the body of a loop with this turn, which stands here
+abbrev pub turn_orders_of : (P : Program) → Body → Turn → (here : ℕ) → Command → List Order
+turn_orders_of P b turn here body = command_orders P b.slots b.names here (record { exit = b.exit; turn = Some turn; scopes = [] }) body
+
+-- after these actions the body of a loop, and the jump back to where its turn begins; what leaves the loop goes over them
+abbrev pub with_turn : (before : List Order) → Turn → (body : List Order) → List Order
+with_turn before turn body =
+    let again = length before + length body in
+    slice_set (before ++ (body ++ Jump (Back (again - turn.begin)) ∷ [])) turn.out (JumpZero (Skip (again - turn.out)))

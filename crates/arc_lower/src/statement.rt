@@ -1,12 +1,12 @@
 //! From statements to actions.
-ghost use Rattle.std.specs.Prelude.{◌≡◌, ℕ, List, [], ◌∷◌, ◌++◌, length, reverse, OnOk, IfOk, option_map};
-ghost use Rattle.arc_spec.specs.Resolved.{Program, Sequence, Return, Choose, Repeat, RepeatAfter, Break, Continue};
+ghost use Rattle.std.specs.Prelude.{◌≡◌, ℕ, ◌+◌, ◌<◌, List, [], ◌∷◌, ◌++◌, length, reverse, OnOk, IfOk, option_map};
+ghost use Rattle.arc_spec.specs.Resolved.{Program, Sequence, Return, Break, Continue};
 ghost use Rattle.arc_check.specs.Checked.{value as value_of, reference as reference_of, command, commands, program_of};
-ghost use Rattle.arc_code.specs.declared.instr.Instr.TheVariants.{Jump};
-ghost use Rattle.arc_ir.specs.declared.action.Target.TheVariants.{At};
+ghost use Rattle.arc_code.specs.declared.instr.Instr.TheVariants.{Jump, JumpZero};
+ghost use Rattle.arc_ir.specs.declared.action.Target.TheVariants.{At, Skip};
 ghost use Rattle.arc_lower.specs.Order.{order, orders};
 ghost use Rattle.arc_lower.specs.Lowered.{whole_orders, whole_reference_orders, begin_orders, scopes_orders, does_nothing, command_orders, commands_orders};
-ghost use Rattle.arc_lower.specs.Surroundings.{surroundings, Turned};
+ghost use Rattle.arc_lower.specs.Surroundings.{surroundings, step_begin, step_orders, turn_orders_of, with_turn};
 
 use crate::expression::{append, append_reference, append_value};
 use crate::frame::{Body, Frame, Scope, Turn};
@@ -117,13 +117,30 @@ pub(crate) fn append_command(
         }
         Command::Return(value) => append_return(alloc, actions, program, body, value),
         Command::Choose(test, first, second) => {
-            append_choice(alloc, actions, program, body, scopes, test, first, second)
+            append_whole(alloc, actions, program, body, test)?;
+            let branch = actions.len();
+            append(actions, Instr::JumpZero(Target::Skip(0)))?;
+            append_command(alloc, actions, program, body, scopes, first)?;
+            let skip = actions.len();
+            append(actions, Instr::Jump(Target::Skip(0)))?;
+            let other = actions.len();
+            append_command(alloc, actions, program, body, scopes, second)?;
+            join(actions, branch, skip, other)
         }
         Command::Repeat(test, step, turn) => {
-            append_repeat(alloc, actions, program, body, scopes, test, step, turn)
+            let begin = append_step(alloc, actions, program, body, scopes, step)?;
+            let out = append_test(alloc, actions, program, body, test)?;
+            append_turn(alloc, actions, program, body, Turn { begin, out }, turn)
         }
         Command::RepeatAfter(turn, test) => {
-            append_repeat_after(alloc, actions, program, body, turn, test)
+            let enter = actions.len();
+            append(actions, Instr::Jump(Target::Skip(0)))?;
+            let begin = actions.len();
+            let out = append_test(alloc, actions, program, body, test)?;
+            append_turn(alloc, actions, program, body, Turn { begin, out }, turn)?;
+            let over = distance(enter, out)?;
+            replace(actions, enter, Instr::Jump(Target::Skip(over)));
+            Ok(())
         }
         Command::Break => append_break(actions, body, scopes),
         Command::Continue => append_continue(actions, body, scopes),
@@ -150,111 +167,58 @@ fn append_sequence(
     append_all_empty(actions, body.names, scope.first, scope.count)
 }
 
-/// Appends the actions of a test and of the two statements of which it chooses.
+/// Appends the actions of a loop's step, where there is one, and before them the jump over them to the
+/// test, with which the loop begins; and the number of the action with which a turn begins.
 #[cycle(statement)]
-fn append_choice(
+fn append_step(
     alloc: Global,
     actions: &mut Vec<Action>,
     program: &Checked,
     body: Body,
     scopes: &mut Vec<Scope>,
-    test: &Value,
-    first: &Command,
-    second: &Command,
-) -> Result<(), NoMemory>
-    ensures actions { OnOk result (orders actions.new.items ≡ orders actions.old.items ++ command_orders (program_of program.now) body.slots body.names (length (orders actions.old.items)) (surroundings body scopes.old.items) (Choose (value_of test.now) (command first.now) (command second.now))) }
-    ensures scopes { OnOk result (scopes.new.items ≡ scopes.old.items) }
-{
-    append_whole(alloc, actions, program, body, test)?;
-    let branch = actions.len();
-    append(actions, Instr::JumpZero(Target::Skip(0)))?;
-    append_command(alloc, actions, program, body, scopes, first)?;
-    let skip = actions.len();
-    append(actions, Instr::Jump(Target::Skip(0)))?;
-    let other = actions.len();
-    append_command(alloc, actions, program, body, scopes, second)?;
-    join(actions, branch, skip, other)
-}
-
-/// Appends the actions of a loop that begins with its test, after which the step comes first in each
-/// turn, where there is one.
-#[cycle(statement)]
-fn append_repeat(
-    alloc: Global,
-    actions: &mut Vec<Action>,
-    program: &Checked,
-    body: Body,
-    scopes: &mut Vec<Scope>,
-    test: &Value,
     step: &Command,
-    turn: &Command,
-) -> Result<(), NoMemory>
-    ensures actions { OnOk result (orders actions.new.items ≡ orders actions.old.items ++ command_orders (program_of program.now) body.slots body.names (length (orders actions.old.items)) (surroundings body scopes.old.items) (Repeat (value_of test.now) (command step.now) (command turn.now))) }
+) -> Result<usize, NoMemory>
+    ensures begin { IfOk result (λ begin. begin ≡ step_begin (length (orders actions.old.items)) (command step.now)) }
+    ensures actions { OnOk result (orders actions.new.items ≡ orders actions.old.items ++ step_orders (program_of program.now) body scopes.old.items (length (orders actions.old.items)) (command step.now)) }
     ensures scopes { OnOk result (scopes.new.items ≡ scopes.old.items) }
 {
     let enter = actions.len();
     if does_nothing(step) {
-        append_turn(alloc, actions, program, body, enter, test, turn)?;
-        return Ok(());
+        return Ok(enter);
     }
     append(actions, Instr::Jump(Target::Skip(0)))?;
     let begin = actions.len();
     append_command(alloc, actions, program, body, scopes, step)?;
     let steps = distance(begin, actions.len())?;
-    append_turn(alloc, actions, program, body, begin, test, turn)?;
     replace(actions, enter, Instr::Jump(Target::Skip(steps)));
-    Ok(())
+    Ok(begin)
 }
 
-/// Appends the actions of a loop that begins with its body.
-#[cycle(statement)]
-fn append_repeat_after(
-    alloc: Global,
-    actions: &mut Vec<Action>,
-    program: &Checked,
-    body: Body,
-    turn: &Command,
-    test: &Value,
-) -> Result<(), NoMemory>
-    ensures { (scopes : List Scope) → OnOk result (orders actions.new.items ≡ orders actions.old.items ++ command_orders (program_of program.now) body.slots body.names (length (orders actions.old.items)) (surroundings body scopes) (RepeatAfter (command turn.now) (value_of test.now))) }
-{
-    let enter = actions.len();
-    append(actions, Instr::Jump(Target::Skip(0)))?;
-    let begin = actions.len();
-    let out = append_turn(alloc, actions, program, body, begin, test, turn)?;
-    let over = distance(enter, out)?;
-    replace(actions, enter, Instr::Jump(Target::Skip(over)));
-    Ok(())
-}
-
-/// Appends the actions of a loop's turn, which began at `begin` with its step: those of its test and of
-/// its body, and the jump back; and the number of the action that leaves the loop by what the test leaves.
+/// Appends the actions of a loop's body and the jump back to where a turn begins; the action at
+/// `turn.out`, with which the test leaves the loop, goes over them.
 #[cycle(statement)]
 fn append_turn(
     alloc: Global,
     actions: &mut Vec<Action>,
     program: &Checked,
     body: Body,
-    begin: usize,
-    test: &Value,
-    turn: &Command,
-) -> Result<usize, NoMemory>
-    ensures { IfOk result (λ out. Turned (program_of program.now) body begin (value_of test.now) (command turn.now) (orders actions.old.items) (orders actions.new.items) out) }
+    turn: Turn,
+    statement: &Command,
+) -> Result<(), NoMemory>
+    requires { turn.out < length (orders actions.old.items) }
+    ensures { OnOk result (orders actions.new.items ≡ with_turn (orders actions.old.items) turn (turn_orders_of (program_of program.now) body turn (length (orders actions.old.items)) (command statement.now))) }
 {
-    append_whole(alloc, actions, program, body, test)?;
-    let out = actions.len();
-    append(actions, Instr::JumpZero(Target::Skip(0)))?;
     let inner = Body {
-        turn: Some(Turn { begin, out }),
+        turn: Some(turn),
         ..body
     };
-    append_command(alloc, actions, program, inner, &mut Vec::new(alloc), turn)?;
+    append_command(alloc, actions, program, inner, &mut Vec::new(alloc), statement)?;
     let again = actions.len();
-    let past_turn = distance(out, again)?;
-    let back = distance(begin, again)?;
+    let past_body = distance(turn.out, again)?;
+    let back = distance(turn.begin, again)?;
     append(actions, Instr::Jump(Target::Back(back)))?;
-    replace(actions, out, Instr::JumpZero(Target::Skip(past_turn)));
-    Ok(out)
+    replace(actions, turn.out, Instr::JumpZero(Target::Skip(past_body)));
+    Ok(())
 }
 
 /// Appends the actions of statements, in their order.
@@ -276,12 +240,30 @@ pub(crate) fn append_commands(
     Ok(())
 }
 
+/// Appends the actions of a loop's test, and the one that leaves the loop by what the test leaves, which
+/// goes nowhere yet; and the number of that one.
+fn append_test(
+    alloc: Global,
+    actions: &mut Vec<Action>,
+    program: &Checked,
+    body: Body,
+    test: &Value,
+) -> Result<usize, NoMemory>
+    ensures out { IfOk result (λ out. out ≡ length (orders actions.old.items) + length (whole_orders (program_of program.now) body.slots body.names (value_of test.now))) }
+    ensures actions { OnOk result (orders actions.new.items ≡ orders actions.old.items ++ (whole_orders (program_of program.now) body.slots body.names (value_of test.now) ++ JumpZero (Skip 0) ∷ [])) }
+{
+    append_whole(alloc, actions, program, body, test)?;
+    let out = actions.len();
+    append(actions, Instr::JumpZero(Target::Skip(0)))?;
+    Ok(out)
+}
+
 /// Whether a statement is one that does nothing.
 fn does_nothing(statement: &Command) -> bool
     ensures { result ≡ does_nothing (command statement.now) }
 {
     match statement {
-        Command::Sequence(_, 0, all) => all.is_empty(),
+        Command::Sequence(_, count, all) => *count == 0 && all.is_empty(),
         _ => false,
     }
 }
