@@ -30,7 +30,7 @@ turn_written o1 o2 zs ts xs begin out e2 eo eb =
     let home : again - begin ≡ suc (length zs + length ts + length xs) = omega (arith, size, more, eb) in
     let place : out ≡ length (o1 ++ ts) = omega (arith, eo, length-append o1 ts) in
     let whole : o2 ++ rest ≡ (o1 ++ ts) ++ open_jump ∷ rest =
-        ap (λ l. l ++ rest) e2 ∙ append_assoc o1 (ts ++ open_jump ∷ []) rest ∙ ap (λ l. o1 ++ l) (append_assoc ts (open_jump ∷ []) rest) ∙ sym (append_assoc o1 ts (open_jump ∷ rest)) in
+    ap (λ l. l ++ rest) e2 ∙ append_assoc o1 (ts ++ open_jump ∷ []) rest ∙ ap (λ l. o1 ++ l) (append_assoc ts (open_jump ∷ []) rest) ∙ sym (append_assoc o1 ts (open_jump ∷ rest)) in
     patched (o1 ++ ts) (o2 ++ rest) rest out open_jump (JumpZero (Skip (again - out))) whole place
     ∙ ap (λ n. (o1 ++ ts) ++ JumpZero (Skip n) ∷ rest) over
     ∙ ap (λ n. (o1 ++ ts) ++ JumpZero (Skip (suc (length xs))) ∷ (xs ++ Jump (Back n) ∷ [])) home
@@ -49,25 +49,25 @@ module _ (P : Program) (slots names : ℕ) where
 
   loop_flat : (entry : Entry) (here : ℕ) (turn : Option Turn) (step : Block) (test : Value) (body : Block)
       → let begin = here + enter_size entry in
-        let zs = at begin turn step in
-        let ts = whole_orders P slots names test in
-        let out = begin + length zs + length ts in
-        at here turn (Loop entry step (whole_block test) body) ≡ enter_orders entry (length zs) (length ts) ++ turn_orders zs ts (in_turn (out + 1) begin out body)
+      let zs = at begin turn step in
+      let ts = whole_orders P slots names test in
+      let out = begin + length zs + length ts in
+      at here turn (Loop entry step (whole_block test) body) ≡ enter_orders entry (length zs) (length ts) ++ turn_orders zs ts (in_turn (out + 1) begin out body)
   loop_flat entry here turn step test body =
       let begin = here + enter_size entry in
       let zs = at begin turn step in
       let ts = whole_orders P slots names test in
       ap (λ e.
-          let steps = flat P slots names e step in
-          enter_orders entry (length steps) (length ts) ++ turn_orders steps ts (flat P slots names (body_spot (length steps) (length ts) e) body)) (past_spot (enter_size entry) here turn)
+      let steps = flat P slots names e step in
+      enter_orders entry (length steps) (length ts) ++ turn_orders steps ts (flat P slots names (body_spot (length steps) (length ts) e) body)) (past_spot (enter_size entry) here turn)
       ∙ ap (λ e. enter_orders entry (length zs) (length ts) ++ turn_orders zs ts (flat P slots names e body)) (body_at (length zs) (length ts) begin turn)
 
   choice_flat : (here : ℕ) (turn : Option Turn) (test : Value) (a b : Block)
       → let ts = whole_orders P slots names test in
-        let one = here + length ts + 1 in
-        let xs = at one turn a in
-        let ys = at (one + length xs + 1) turn b in
-        at here turn (Then (whole_block test) (Fork a b)) ≡ ts ++ (JumpZero (Skip (suc (length xs))) ∷ (xs ++ Jump (Skip (length ys)) ∷ ys))
+      let one = here + length ts + 1 in
+      let xs = at one turn a in
+      let ys = at (one + length xs + 1) turn b in
+      at here turn (Then (whole_block test) (Fork a b)) ≡ ts ++ (JumpZero (Skip (suc (length xs))) ∷ (xs ++ Jump (Skip (length ys)) ∷ ys))
   choice_flat here turn test a b =
       let ts = whole_orders P slots names test in
       let one = here + length ts + 1 in
@@ -94,8 +94,8 @@ module _ (P : Program) (b : Body) (scopes : List Scope) where
 
   pub choice_written : (old o2 o4 : List Order) (test : Value) (first second : Command) → length o2 ≡ length old + length (tests test) + 1 → length o4 ≡ length o2 + length (of_command (length o2) first) + 1
       → let xs = of_command (length o2) first in
-        let ys = of_command (length o4) second in
-        old ++ (tests test ++ (JumpZero (Skip (suc (length xs))) ∷ (xs ++ Jump (Skip (length ys)) ∷ ys))) ≡ old ++ of_command (length old) (Choose test first second)
+      let ys = of_command (length o4) second in
+      old ++ (tests test ++ (JumpZero (Skip (suc (length xs))) ∷ (xs ++ Jump (Skip (length ys)) ∷ ys))) ≡ old ++ of_command (length old) (Choose test first second)
   choice_written old o2 o4 test first second e2 e4 =
       let ts = tests test in
       let one = length old + length ts + 1 in
@@ -119,7 +119,7 @@ module _ (P : Program) (b : Body) (scopes : List Scope) where
     -- after a step, or none
     behind_step : (zs : List Order) (begin' : ℕ) → begin ≡ begin' → length o1 ≡ begin' + length zs
         → let out' = begin' + length zs + length (tests test) in
-          written ≡ o1 ++ (tests test ++ (JumpZero (Skip (suc (length (in_turn P b.slots b.names (out' + 1) begin' out' (body_of body))))) ∷ (in_turn P b.slots b.names (out' + 1) begin' out' (body_of body) ++ Jump (Back (suc (length zs + length (tests test) + length (in_turn P b.slots b.names (out' + 1) begin' out' (body_of body))))) ∷ [])))
+        written ≡ o1 ++ (tests test ++ (JumpZero (Skip (suc (length (in_turn P b.slots b.names (out' + 1) begin' out' (body_of body))))) ∷ (in_turn P b.slots b.names (out' + 1) begin' out' (body_of body) ++ Jump (Back (suc (length zs + length (tests test) + length (in_turn P b.slots b.names (out' + 1) begin' out' (body_of body))))) ∷ [])))
     behind_step zs begin' eb e1 =
         let ts = tests test in
         let out' = begin' + length zs + length ts in
@@ -129,7 +129,7 @@ module _ (P : Program) (b : Body) (scopes : List Scope) where
 
     repeat_by : (step : Command) (n : Bool)
         → let zs = of_command (length old + 1) step in
-          o1 ≡ old ++ (if n then [] else Jump (Skip (length zs)) ∷ zs) → begin ≡ (if n then length old else length old + 1)
+        o1 ≡ old ++ (if n then [] else Jump (Skip (length zs)) ∷ zs) → begin ≡ (if n then length old else length old + 1)
         → written ≡ old ++ flat P b.slots b.names (spot (length old) b.turn) (loop_block n (step_of step) (whole_block test) (body_of body))
     repeat_by step true e1 eb =
         let bare = e1 ∙ append-nil old in

@@ -196,6 +196,7 @@ fn append_body(
 ) -> Result<(), NoMemory>
     ensures { OnOk result (orders actions.new.items ≡ orders actions.old.items ++ body_orders (program_of program.now) body.exit (length (orders actions.old.items)) (record { slots = body.slots; names = body.names; body = commands all.now })) }
 {
+    let body = Body { turn: None, ..body };
     append_declares(actions, body.names)?;
     append_commands(alloc, actions, program, body, &mut Vec::new(alloc), all)?;
     append(actions, Instr::Plain(Op::Num(0)))?;

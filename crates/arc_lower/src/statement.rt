@@ -212,7 +212,14 @@ fn append_turn(
         turn: Some(turn),
         ..body
     };
-    append_command(alloc, actions, program, inner, &mut Vec::new(alloc), statement)?;
+    append_command(
+        alloc,
+        actions,
+        program,
+        inner,
+        &mut Vec::new(alloc),
+        statement,
+    )?;
     let again = actions.len();
     let past_body = distance(turn.out, again)?;
     let back = distance(turn.begin, again)?;
@@ -269,11 +276,7 @@ fn does_nothing(statement: &Command) -> bool
 }
 
 /// Appends the actions that empty the variables of these scopes, the last one first.
-fn append_clears(
-    actions: &mut Vec<Action>,
-    names: usize,
-    scopes: &[Scope],
-) -> Result<(), NoMemory>
+fn append_clears(actions: &mut Vec<Action>, names: usize, scopes: &[Scope]) -> Result<(), NoMemory>
     ensures { OnOk result (orders actions.new.items ≡ orders actions.old.items ++ scopes_orders names (reverse scopes.now)) }
 {
     let Some((scope, outer)) = scopes.split_last() else {
@@ -285,11 +288,7 @@ fn append_clears(
 
 /// Appends the actions of a `break`, which goes to the loop's test with 0; in no loop it leaves the
 /// function.
-fn append_break(
-    actions: &mut Vec<Action>,
-    body: Body,
-    scopes: &[Scope],
-) -> Result<(), NoMemory>
+fn append_break(actions: &mut Vec<Action>, body: Body, scopes: &[Scope]) -> Result<(), NoMemory>
     ensures { (P : Program) (here : ℕ) → OnOk result (orders actions.new.items ≡ orders actions.old.items ++ command_orders P body.slots body.names here (surroundings body scopes.now) Break) }
 {
     append_clears(actions, body.names, scopes)?;
@@ -302,11 +301,7 @@ fn append_break(
 
 /// Appends the actions of a `continue`, which goes to where the loop's next turn begins; in no loop it
 /// leaves the function.
-fn append_continue(
-    actions: &mut Vec<Action>,
-    body: Body,
-    scopes: &[Scope],
-) -> Result<(), NoMemory>
+fn append_continue(actions: &mut Vec<Action>, body: Body, scopes: &[Scope]) -> Result<(), NoMemory>
     ensures { (P : Program) (here : ℕ) → OnOk result (orders actions.new.items ≡ orders actions.old.items ++ command_orders P body.slots body.names here (surroundings body scopes.now) Continue) }
 {
     append_clears(actions, body.names, scopes)?;

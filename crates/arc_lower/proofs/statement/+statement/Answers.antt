@@ -95,7 +95,7 @@ append_command-returns-in_ok-over-in-RepeatAfter-clause-actions t c =
     let made = λ (x : _). old ++ command_orders P b.slots b.names (length old) (surroundings b scopes) x in
     c.replace.ensures
     ∙ repeat_after_written P b scopes old (orders v1.items) o2 c.len-begin.result last.out test body last.ensures.actions last.ensures.out o3 c.len-enter.result c.in_ok-over-in-RepeatAfter.over c.in_ok-append-in-RepeatAfter.ensures
-        (c.len-begin.ensures ∙ v1.ok.0 ∙ sym (length-map v1.items order)) c.in_ok-append_turn-in-RepeatAfter.ensures (c.len-enter.ensures ∙ v0.ok.0 ∙ sym (length-map v0.items order)) c.in_ok-over-in-RepeatAfter.ensures
+    (c.len-begin.ensures ∙ v1.ok.0 ∙ sym (length-map v1.items order)) c.in_ok-append_turn-in-RepeatAfter.ensures (c.len-enter.ensures ∙ v0.ok.0 ∙ sym (length-map v0.items order)) c.in_ok-over-in-RepeatAfter.ensures
     ∙ ap (λ a. made (RepeatAfter (command a) test)) c.deref-in-RepeatAfter.ensures
     ∙ ap (λ x. made (command x)) (sym c.in-RepeatAfter.is)
 
@@ -107,4 +107,4 @@ append_step-returns-clause-actions t c =
     c.replace.ensures
     ∙ ap (λ n. Rattle.std.proofs.Common.slice_set (orders v2.items) c.len-enter.result (Jump (Skip n))) c.in_ok-steps.ensures
     ∙ step_written (program_of c.args.program.now) c.args.body c.args.scopes.now.items (orders v0.items) (orders v1.items) (orders v2.items) (command c.args.step.now) c.len-enter.result c.len-begin.result c.len.result
-        (sym c.does_nothing.ensures ∙ c.if-does_nothing.false) (c.len-enter.ensures ∙ v0.ok.0 ∙ sym (length-map v0.items order)) c.in_ok-append.ensures (c.len-begin.ensures ∙ v1.ok.0 ∙ sym (length-map v1.items order)) c.in_ok-append_command.ensures.actions (c.len.ensures ∙ v2.ok.0 ∙ sym (length-map v2.items order))
+    (sym c.does_nothing.ensures ∙ c.if-does_nothing.false) (c.len-enter.ensures ∙ v0.ok.0 ∙ sym (length-map v0.items order)) c.in_ok-append.ensures (c.len-begin.ensures ∙ v1.ok.0 ∙ sym (length-map v1.items order)) c.in_ok-append_command.ensures.actions (c.len.ensures ∙ v2.ok.0 ∙ sym (length-map v2.items order))

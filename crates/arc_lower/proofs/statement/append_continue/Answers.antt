@@ -16,8 +16,8 @@ returns-in-Some c = λ P here.
     let cs = scopes_orders b.names scopes in
     let next : Order = Jump (At c.in-Some.turn.begin) in
     let e = ap (λ l. l ++ next ∷ []) c.in_ok-append_clears.ensures ∙ append_assoc old cs (next ∷ [])
-        ∙ ap (λ l. old ++ l) (sym (continue_in P b.slots b.names here b.exit scopes c.in-Some.turn))
-        ∙ ap (λ t. old ++ command_orders P b.slots b.names here (record { exit = b.exit; turn = t; scopes = scopes }) Continue) (sym c.in-Some.is) in
+    ∙ ap (λ l. old ++ l) (sym (continue_in P b.slots b.names here b.exit scopes c.in-Some.turn))
+    ∙ ap (λ t. old ++ command_orders P b.slots b.names here (record { exit = b.exit; turn = t; scopes = scopes }) Continue) (sym c.in-Some.is) in
     subst (λ l. OnOk c.append.result (orders c.append.new.actions.items ≡ l)) e c.append.ensures
 
 pub returns-in_ok-append-in-None : goal.returns-in_ok-append-in-None
@@ -29,7 +29,7 @@ returns-in_ok-append-in-None c = λ P here.
     let zero : Order = Plain (Num (pos 0)) in
     let out : Order = Jump (At b.exit) in
     let e = ap (λ l. l ++ out ∷ []) (c.in_ok-append-in-None.ensures ∙ ap (λ l. l ++ zero ∷ []) c.in_ok-append_clears.ensures)
-        ∙ append_assoc (old ++ cs) (zero ∷ []) (out ∷ []) ∙ append_assoc old cs (zero ∷ out ∷ [])
-        ∙ ap (λ l. old ++ l) (sym (continue_out P b.slots b.names here b.exit scopes))
-        ∙ ap (λ t. old ++ command_orders P b.slots b.names here (record { exit = b.exit; turn = t; scopes = scopes }) Continue) (sym c.in-None.is) in
+    ∙ append_assoc (old ++ cs) (zero ∷ []) (out ∷ []) ∙ append_assoc old cs (zero ∷ out ∷ [])
+    ∙ ap (λ l. old ++ l) (sym (continue_out P b.slots b.names here b.exit scopes))
+    ∙ ap (λ t. old ++ command_orders P b.slots b.names here (record { exit = b.exit; turn = t; scopes = scopes }) Continue) (sym c.in-None.is) in
     subst (λ l. OnOk c.append_exit.result (orders c.append_exit.new.actions.items ≡ l)) e c.append_exit.ensures

@@ -19,6 +19,6 @@ none_left first (a ∷ others) = no_zero (length others) _ refl
 pub returns-then-count-eq0 : goal.returns-then-count-eq0
 returns-then-count-eq0 c =
     let s = c.in-Sequence in
-    c.is_empty.ensures ∙ none_left s.field-0 s.all.items
+    c.is_empty.ensures ∙ ap (λ n. n == 0) s.all.ok.0 ∙ none_left s.field-0 s.all.items
     ∙ ap (λ n. does_nothing (Sequence s.field-0 n (commands s.all.items))) (sym c.if-count-eq0.true)
     ∙ ap does_nothing (sym (sequence_command s.field-0 s.count s.all)) ∙ ap (λ x. does_nothing (command x)) (sym s.is)
