@@ -2,6 +2,8 @@
 use Rattle.std.specs.Prelude.{ℕ, ℤ, List, [], ◌∷◌, Bool, Option, option_map}
 use Rattle.arc_ast.specs.declared.tree.BinaryOperator.{BinaryOperator}
 use Rattle.arc_ast.specs.declared.tree.UnaryOperator.{UnaryOperator}
+use Rattle.arc_ast.specs.declared.tree.Moment.{Moment}
+use Rattle.arc_ast.specs.declared.tree.Moment.TheVariants.{Before, After}
 use Rattle.arc_ast.specs.declared.tree.Sign.{Sign}
 use Rattle.arc_ast.specs.declared.tree.Visibility.{Visibility}
 use Rattle.arc_ast.specs.declared.tree.TypeName.{TypeName}
@@ -39,9 +41,9 @@ pub data ResultTree : Type 0 where
   Value : TypeTree → ResultTree
 
 mutual
-  -- An expression, with the place of its first byte (C99, section 6.5). An integer has its value, and whether it is written with a suffix. An assignment has the
-  -- place of its `=` too, a field that of its name, and a message that of its selector's first part, and to `super` that of `super`; a selector is written with
-  -- all its colons.
+  -- An expression, with the place of its first byte (C99, section 6.5). An integer has its value, and whether it is written with a suffix. An assignment and
+  -- an update have the place of their operator too, a field that of its name, and a message that of its selector's first part, and to `super` that of `super`; a
+  -- selector is written with all its colons. `++` and `--` are updates by 1 (sections 6.5.2.4 and 6.5.3.1), of which the former kind gives what was before.
   pub data ExprTree : Type 0 where
     Integer : ℕ → ℤ → Bool → ExprTree
     Text : ℕ → List ℕ → ExprTree
@@ -56,6 +58,7 @@ mutual
     Conditional : ℕ → ExprTree → ExprTree → ExprTree → ExprTree
     Arrow : ℕ → ℕ → ExprTree → List ℕ → ExprTree
     Assign : ℕ → ℕ → ExprTree → ExprTree → ExprTree
+    Update : ℕ → ℕ → Moment → BinaryOperator → ExprTree → ExprTree → ExprTree
     Send : ℕ → ℕ → ExprTree → List ℕ → ExprTrees → ExprTree
     SendSuper : ℕ → ℕ → ℕ → List ℕ → ExprTrees → ExprTree
 
@@ -165,6 +168,7 @@ begins (Binary at _ _ _) = at
 begins (Conditional at _ _ _) = at
 begins (Arrow at _ _ _) = at
 begins (Assign at _ _ _) = at
+begins (Update at _ _ _ _ _) = at
 begins (Send at _ _ _ _) = at
 begins (SendSuper at _ _ _ _) = at
 
@@ -184,6 +188,8 @@ place (Binary at _ _ _) = at
 place (Conditional at _ _ _) = at
 place (Arrow _ name _ _) = name
 place (Assign _ sign _ _) = sign
+place (Update at _ Before _ _ _) = at
+place (Update _ sign After _ _ _) = sign
 place (Send _ part _ _ _) = part
 place (SendSuper _ part _ _ _) = part
 
@@ -215,6 +221,7 @@ abbrev mutual
   expr_tree (e.Conditional' at q c r a u b) = Conditional at (expr_tree c) (expr_tree a) (expr_tree b)
   expr_tree (e.Arrow' at name_at q a name) = Arrow at name_at (expr_tree a) name.items
   expr_tree (e.Assign' at sign q a r b) = Assign at sign (expr_tree a) (expr_tree b)
+  expr_tree (e.Update' at sign moment operator q a r b) = Update at sign moment operator (expr_tree a) (expr_tree b)
   expr_tree (e.Send' at part q a selector shape args) = Send at part (expr_tree a) selector.items (row_exprs args)
   expr_tree (e.SendSuper' at part super_at selector shape args) = SendSuper at part super_at selector.items (row_exprs args)
 

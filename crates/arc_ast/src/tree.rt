@@ -52,6 +52,14 @@ pub enum UnaryOperator {
     Not,
 }
 
+/// Which number of a place an update gives: the one before it, as `++` and `--` do after their operand, or the one after
+/// it, as they do before their operand, and all other updates (C99, sections 6.5.2.4, 6.5.3.1 and 6.5.16.2).
+#[derive(Clone, Copy, Debug, PartialEq, Eq)]
+pub enum Moment {
+    Before,
+    After,
+}
+
 /// What an operator asks of its operands, in which kind it computes, and the kind of what it gives.
 #[derive(Clone, Copy, Debug, PartialEq, Eq)]
 pub enum OperatorSort {
@@ -160,6 +168,9 @@ pub enum Expr {
     Arrow(usize, usize, Box<Expr>, Vec<u8>),
     /// An assignment: the place of its first byte and that of its `=`, the left side and the right one.
     Assign(usize, usize, Box<Expr>, Box<Expr>),
+    /// An assignment with an operator, as `+=`, and `++` and `--`, which add or subtract 1: the place of its first
+    /// byte and that of its operator, what it gives, the operator, the left side and the right one.
+    Update(usize, usize, Moment, BinaryOperator, Box<Expr>, Box<Expr>),
     /// A message: the place of its `[` and that of its selector's first part, what it is sent to, its
     /// selector with all colons, and the arguments.
     Send(usize, usize, Box<Expr>, Vec<u8>, Vec<Expr>),

@@ -12,7 +12,7 @@ use Rattle.arc_check.specs.declared.checked.CheckedFunction.{CheckedFunction}
 use Rattle.arc_check.specs.declared.checked.Checked.{Checked}
 use Rattle.arc_spec.specs.Classes.{classes_of}
 use Rattle.arc_spec.specs.Resolved as resolved
-use Rattle.arc_spec.specs.Resolved.{Number, ReadByte, Print, Applied, Combined, Choice, Converted, Local, Assigned, Invoked, Sent, SentSuper, SentTo, SentToSuper, Field, FieldAssigned, Differ, IsObject, Nil, Itself, Variable, Chosen, Stored, Made, Initialized, no_values, and_value, Sequence, Evaluate, EvaluateReference, Begin, Return, Choose, Repeat, RepeatAfter, Break, Continue, no_commands, and_command, Bytes, Decimal, Character}
+use Rattle.arc_spec.specs.Resolved.{Number, ReadByte, Print, Applied, Combined, Choice, Converted, Local, Assigned, Updated, Invoked, Sent, SentSuper, SentTo, SentToSuper, Field, FieldAssigned, FieldUpdated, Differ, IsObject, Nil, Itself, Variable, Chosen, Stored, Made, Initialized, no_values, and_value, Sequence, Evaluate, EvaluateReference, Begin, Return, Choose, Repeat, RepeatAfter, Break, Continue, no_commands, and_command, Bytes, Decimal, Character}
 
 abbrev pub piece : Piece → resolved.Piece
 piece (p.Bytes bytes) = Bytes bytes.items
@@ -34,6 +34,7 @@ abbrev mutual
   value (v.Converted' kind q a) = Converted kind (value a)
   value (v.Local i) = Local i
   value (v.Assigned' i q a) = Assigned i (value a)
+  value (v.Updated' moment i operator computed kept q a) = Updated moment i operator computed kept (value a)
   value (v.Invoked' f shape arguments) = Invoked f (row_values arguments)
   value (v.Sent' q a selector shape arguments) = Sent (value a) selector (row_values arguments)
   value (v.SentSuper' from selector shape arguments) = SentSuper from selector (row_values arguments)
@@ -41,6 +42,7 @@ abbrev mutual
   value (v.SentToSuper' from selector shape arguments) = SentToSuper from selector (row_values arguments)
   value (v.Field' q a class index) = Field (reference a) class index
   value (v.FieldAssigned' q a class index s b) = FieldAssigned (reference a) class index (value b)
+  value (v.FieldUpdated' moment q a class index operator computed kept s b) = FieldUpdated moment (reference a) class index operator computed kept (value b)
   value (v.Differ' q a s b) = Differ (reference a) (reference b)
   value (v.IsObject' q a) = IsObject (reference a)
 

@@ -1,6 +1,6 @@
 //! A program whose names are resolved, whose kinds are known and whose conversions are written.
 
-use arc_ast::tree::{BinaryOperator, Kind, TranslationUnit, UnaryOperator};
+use arc_ast::tree::{BinaryOperator, Kind, Moment, TranslationUnit, UnaryOperator};
 use arc_spec::class::Class;
 
 /// What a format prints in turn.
@@ -31,6 +31,9 @@ pub enum Value {
     /// The variable of the running function with this number.
     Local(usize),
     Assigned(usize, Box<Value>),
+    /// An update of such a variable: what it gives, the variable, the operator, the kind in which it computes and
+    /// that of the variable, and the right operand.
+    Updated(Moment, usize, BinaryOperator, Kind, Kind, Box<Value>),
     /// A call of the function with this number.
     Invoked(usize, Vec<Value>),
     /// A message: what gets it, which gives a class's number, the selector's number, and the
@@ -48,6 +51,9 @@ pub enum Value {
     Field(Box<Reference>, usize, usize),
     /// The same, and what is assigned to the field.
     FieldAssigned(Box<Reference>, usize, usize, Box<Value>),
+    /// An update of a field: what it gives, the object, the class and the field's number, the operator, the kind in
+    /// which it computes and that of the field, and the right operand.
+    FieldUpdated(Moment, Box<Reference>, usize, usize, BinaryOperator, Kind, Kind, Box<Value>),
     /// 1 where the two differ, else 0.
     Differ(Box<Reference>, Box<Reference>),
     /// 1 where it isn't nil, else 0.

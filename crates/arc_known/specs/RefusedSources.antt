@@ -86,6 +86,10 @@ object_as_number = codes "int main(void) { return nil; }"
 abbrev pub number_assigned : List ℕ
 number_assigned = codes "int main(void) { 1 = 2; }"
 
+-- an object that is counted up (C99, section 6.5.2.4, for what is no number)
+abbrev pub object_counted : List ℕ
+object_counted = codes "int main(void) { id a = nil; a++; }"
+
 -- a call with too few arguments (C99, section 6.5.2.2)
 abbrev pub argument_count : List ℕ
 argument_count = codes "int f(int n) { return n; } int main(void) { return f(); }"

@@ -1,14 +1,18 @@
 -- What a program means: the events that it shows on an input, and how it ends.
 use Rattle.std.specs.Prelude.{ℕ, zero, suc, ◌+◌, ℤ, pos, List, [], ◌∷◌, ◌++◌, length, Option, Some, None, Bool, true, false, not, ◌&&◌, nat_eq, slice_get, slice_set, slice_index_or, if◌then◌else◌}
 use Rattle.std.specs.Fmt.{signed_decimal}
+use Rattle.arc_ast.specs.declared.tree.BinaryOperator.{BinaryOperator}
+use Rattle.arc_ast.specs.declared.tree.Kind.{Kind}
 use Rattle.arc_ast.specs.declared.tree.Kind.TheVariants as k
+use Rattle.arc_ast.specs.declared.tree.Moment.{Moment}
+use Rattle.arc_ast.specs.declared.tree.Moment.TheVariants.{Before, After}
 use Rattle.arc_ast.specs.declared.tree.Sign.TheVariants as signs
 use Rattle.arc_spec.specs.declared.event.Event.TheVariants.{Dealloc}
 use Rattle.arc_spec.specs.declared.event.Fault.TheVariants.{Arithmetic, Unrecognized, NilField, FieldClass, Depth, Resurrected}
 use Rattle.arc_spec.specs.Classes.{Class, superclasses, ancestry, own_dealloc, lookup, descends, class_at}
 use Rattle.arc_spec.specs.Number.{converted, applied, combined, low_byte, is_zero}
 use Rattle.arc_spec.specs.Objects.{Object, Phase, Dying, Gone, object_at, with_object, in_phase, with_fields, is_live, new_object, names}
-use Rattle.arc_spec.specs.Resolved.{Piece, Bytes, Decimal, Character, Value, Number, ReadByte, Print, Applied, Combined, Choice, Converted, Local, Assigned, Invoked, Sent, SentSuper, SentTo, SentToSuper, Field, FieldAssigned, Differ, IsObject, Reference, Nil, Itself, Variable, Chosen, Stored, Made, Initialized, Values, no_values, and_value, Command, Sequence, Evaluate, EvaluateReference, Begin, Return, Choose, Repeat, RepeatAfter, Break, Continue, Commands, no_commands, and_command, Function, Program}
+use Rattle.arc_spec.specs.Resolved.{Piece, Bytes, Decimal, Character, Value, Number, ReadByte, Print, Applied, Combined, Choice, Converted, Local, Assigned, Updated, Invoked, Sent, SentSuper, SentTo, SentToSuper, Field, FieldAssigned, FieldUpdated, Differ, IsObject, Reference, Nil, Itself, Variable, Chosen, Stored, Made, Initialized, Values, no_values, and_value, Command, Sequence, Evaluate, EvaluateReference, Begin, Return, Choose, Repeat, RepeatAfter, Break, Continue, Commands, no_commands, and_command, Function, Program}
 use Rattle.arc_spec.specs.World.{World, Outcome, Done, Faulted, Cut, then_do, Finished, finished, shows, prints, places, first_world, entered, left, takes, stores, with_objects, with_locals, with_temporaries, local_at, name_at, next_number, has_read}
 
 -- what a format writes of these values, of which each number takes the next (C99, section 7.19.6.1)
@@ -28,6 +32,15 @@ byte_count bytes = converted k.Int (pos (length bytes))
 abbrev pub or_fault : Option ℤ → World → Outcome ℤ
 or_fault (Some v) w = Done v w
 or_fault None w = Faulted Arithmetic w
+
+-- the new number of a place that held a number, by an operator and its right operand, as one of the kind that the place keeps (C99, section 6.5.16.2)
+abbrev pub updated : BinaryOperator → (computed kept : Kind) → (old x : ℤ) → World → Outcome ℤ
+updated operator computed kept old x w = then_do (or_fault (combined operator computed old x) w) (λ v w1. Done (converted kept v) w1)
+
+-- what an update gives of the two (C99, sections 6.5.2.4 and 6.5.3.1)
+abbrev pub given_by : Moment → (old new : ℤ) → ℤ
+given_by Before old new = old
+given_by After old new = new
 
 -- what a call does, one level deeper, with the number of the function, its `self` and what it is given; what the end of an object does; and the classes of the program
 pub record Deeper : Type 0 where
@@ -130,7 +143,8 @@ chosen false a b = a
 -- Evaluation goes from left to right. printf evaluates all values, then writes the bytes, and gives their number. The value of an assignment is its right side (C99, section 6.5.16).
 -- A message evaluates its receiver and then its arguments; one to `super` goes to `self`, in a class method the first variable (OPL, "Messages to self and super").
 -- Each object that a variable, `self`, an assignment or a message gives is taken by a temporary (this project's own choice, stronger than ARC). A field's object is
--- evaluated before what is assigned to it. A choice evaluates its test, and then one of the two alone (C99, section 6.5.15).
+-- evaluated before what is assigned to it, and once where it is updated, after which its number is read, then the right side evaluated, and then the new number
+-- stored (C99, section 6.5.16.2; that the old number is read first is this project's own choice). A choice evaluates its test, and then one of the two alone (C99, section 6.5.15).
 abbrev mutual
   pub evaluated : Deeper → Value → World → Outcome ℤ
   evaluated D (Number n) w = Done n w
@@ -144,6 +158,10 @@ abbrev mutual
   evaluated D (Converted kind a) w = then_do (evaluated D a w) (λ x w1. Done (converted kind x) w1)
   evaluated D (Local i) w = Done (local_at w.frame.locals i) w
   evaluated D (Assigned i a) w = then_do (evaluated D a w) (λ x w1. Done x (with_locals w1 (slice_set w1.frame.locals i x)))
+  evaluated D (Updated moment i operator computed kept a) w =
+      let old = local_at w.frame.locals i in
+      then_do (evaluated D a w) (λ x w1. then_do (updated operator computed kept old x w1)
+      (λ new w2. Done (given_by moment old new) (with_locals w2 (slice_set w2.frame.locals i new))))
   evaluated D (Invoked f arguments) w = then_do (all_evaluated D arguments w) (λ given w1. D.call f 0 given w1)
   evaluated D (Sent a selector arguments) w =
       then_do (evaluated D a w) (λ self w1. then_do (all_evaluated D arguments w1) (λ given w2. dispatched D (finds D (class_at self) selector given) self given w2))
@@ -154,6 +172,9 @@ abbrev mutual
       then_do (all_evaluated D arguments (takes w.frame.self w)) (λ given w1. sent_from D (Some from) w.frame.self selector given w1)
   evaluated D (Field a class index) w = then_do (referred D a w) (λ r w1. field_read D r class index w1)
   evaluated D (FieldAssigned a class index b) w = then_do (referred D a w) (λ r w1. then_do (evaluated D b w1) (λ v w2. field_set D r class index v w2))
+  evaluated D (FieldUpdated moment a class index operator computed kept b) w =
+      then_do (referred D a w) (λ r w1. then_do (field_read D r class index w1) (λ old w2. then_do (evaluated D b w2) (λ x w3.
+      then_do (updated operator computed kept old x w3) (λ new w4. then_do (field_set D r class index new w4) (λ _ w5. Done (given_by moment old new) w5)))))
   evaluated D (Differ a b) w = then_do (referred D a w) (λ x w1. then_do (referred D b w1) (λ y w2. Done (difference x y) w2))
   evaluated D (IsObject a) w = then_do (referred D a w) (λ x w1. Done (difference x 0) w1)
 

@@ -1,6 +1,7 @@
 -- A program whose names are resolved, whose kinds are known and whose conversions are written.
 use Rattle.std.specs.Prelude.{ℕ, ℤ, List, Option}
 use Rattle.arc_ast.specs.declared.tree.Kind.{Kind}
+use Rattle.arc_ast.specs.declared.tree.Moment.{Moment}
 use Rattle.arc_ast.specs.declared.tree.UnaryOperator.{UnaryOperator}
 use Rattle.arc_ast.specs.declared.tree.BinaryOperator.{BinaryOperator}
 use Rattle.arc_spec.specs.Classes.{Class}
@@ -14,7 +15,8 @@ pub data Piece : Type 0 where
 mutual
   -- An expression that gives a number; an operator has the kind in which it computes. A variable goes by its number in its function; functions, classes and
   -- selectors go by their numbers in the program, and a class is a value by its number. A message to `super` has the class from which its method is looked up.
-  -- A field goes by its number in the objects that have it, with the class whose own field it is.
+  -- A field goes by its number in the objects that have it, with the class whose own field it is. An update has the kind in which it computes, and that of what it
+  -- updates.
   pub data Value : Type 0 where
     Number : ℤ → Value
     ReadByte : Value
@@ -25,6 +27,7 @@ mutual
     Converted : Kind → Value → Value
     Local : ℕ → Value
     Assigned : ℕ → Value → Value
+    Updated : Moment → ℕ → BinaryOperator → (computed kept : Kind) → Value → Value
     Invoked : ℕ → Values → Value
     Sent : Value → (selector : ℕ) → Values → Value
     SentSuper : (from selector : ℕ) → Values → Value
@@ -32,6 +35,7 @@ mutual
     SentToSuper : (from selector : ℕ) → Values → Value
     Field : Reference → (class index : ℕ) → Value
     FieldAssigned : Reference → (class index : ℕ) → Value → Value
+    FieldUpdated : Moment → Reference → (class index : ℕ) → BinaryOperator → (computed kept : Kind) → Value → Value
     Differ : Reference → Reference → Value
     IsObject : Reference → Value
 

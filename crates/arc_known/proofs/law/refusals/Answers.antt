@@ -84,6 +84,10 @@ pub returns-clause-number_assigned : goal.returns-clause-number_assigned
 unfolding reading
 returns-clause-number_assigned c = by.refused refused.number_assigned 44 19 refl refl
 
+pub returns-clause-object_counted : goal.returns-clause-object_counted
+unfolding reading
+returns-clause-object_counted c = by.refused refused.object_counted 44 30 refl refl
+
 pub returns-clause-argument_count : goal.returns-clause-argument_count
 unfolding reading
 returns-clause-argument_count c = by.refused refused.argument_count 45 51 refl refl
