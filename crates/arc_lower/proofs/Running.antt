@@ -21,6 +21,7 @@ use Rattle.arc_ir.specs.Acting.{Program, State, lands, onward, goes, keeps, answ
 use Rattle.arc_ir.specs.Acting as acting
 use Rattle.arc_code.specs.declared.instr.Op.{Op}
 use Rattle.arc_code.specs.declared.instr.Op.TheVariants.{Num, Bin, Un, Narrow, Pop, Get, Set, GetChar, Nil, ReadSelf, ReadRef, Hold, Forget, Alloc, GetField, SetField, Differ, IsObject}
+use Rattle.arc_code.specs.declared.instr.Op.TheVariants as ops
 use Rattle.arc_code.specs.declared.instr.Instr.TheVariants.{Plain, Jump, JumpZero, Call, StoreStrong, DropAll}
 use Rattle.arc_code.specs.Effects.{passes}
 use Rattle.arc_lower.specs.Order.{Order}
@@ -196,6 +197,8 @@ module _ (p : Program) (frames : List Frame) (bound : ℕ) (R : resolved.Program
   operation_runs turn calm (Narrow kind) pc (x ∷ numbers) rs w free g = quietly turn calm (pc + 1) (record { numbers = converted kind x ∷ numbers; names = rs }) w g
   operation_runs turn calm Pop pc [] rs w free g = lost turn calm _ (pc + 1) w
   operation_runs turn calm Pop pc (x ∷ numbers) rs w free g = quietly turn calm (pc + 1) (record { numbers = numbers; names = rs }) w g
+  operation_runs turn calm (Get zero) pc [] rs w free g = lost turn calm _ (pc + 1) w
+  operation_runs turn calm (Get zero) pc (x ∷ numbers) rs w free g = quietly turn calm (pc + 1) (record { numbers = x ∷ x ∷ numbers; names = rs }) w g
   operation_runs turn calm GetChar pc numbers rs w free g = reading turn calm pc (record { numbers = numbers; names = rs }) w w.input refl g
   operation_runs turn calm Nil pc numbers rs w free g = quietly turn calm (pc + 1) (record { numbers = numbers; names = 0 ∷ rs }) w g
   operation_runs turn calm ReadSelf pc numbers rs w free g =
@@ -206,6 +209,8 @@ module _ (p : Program) (frames : List Frame) (bound : ℕ) (R : resolved.Program
   operation_runs turn calm Hold pc numbers (r ∷ rs) w free g =
       let s : Operands = record { numbers = numbers; names = rs } in
       named_runs p bound w.input w.trace (Leaves turn calm (pc + 1)) (Done (On (name r s)) (takes r w)) r (held_of (r ∷ rs) w) _ (holding turn calm r (pc + 1) s w free g)
+  operation_runs turn calm ops.Again pc numbers [] w free g = lost turn calm _ (pc + 1) w
+  operation_runs turn calm ops.Again pc numbers (r ∷ rs) w free g = quietly turn calm (pc + 1) (record { numbers = numbers; names = r ∷ r ∷ rs }) w g
   operation_runs turn calm Forget pc numbers [] w free g = lost turn calm _ (pc + 1) w
   operation_runs turn calm Forget pc numbers (r ∷ rs) w free g = quietly turn calm (pc + 1) (record { numbers = numbers; names = rs }) w g
   operation_runs turn calm Alloc pc [] rs w free g = lost turn calm _ (pc + 1) w
