@@ -6,7 +6,7 @@ use Rattle.arc_spec.specs.Resolved as resolved
 use Rattle.arc_spec.specs.World.{World, Outcome, Done, Faulted, Cut, Finished, finished, then_do}
 use Rattle.arc_spec.specs.Meaning.{Deeper, Flow, Normal, Broken, Continued, Returned, given, chosen, if_normal, in_turn, after_body, turns, turns_after, normally, assigned, all_dropped, variables_dropped, scope_left, evaluated, referred, whole, whole_reference, begun, executed, all_executed}
 use Rattle.arc_code.specs.declared.instr.Op.TheVariants.{Num, Forget}
-use Rattle.arc_lower.specs.Lowered.{Block, Idle, One, Clear, Then, Quit, Again, Leave, nothing_given, does_nothing, loop_block, whole_block, whole_reference_block, begin_block, command_block, commands_block, body_block}
+use Rattle.arc_lower.specs.Lowered.{Block, Idle, One, Clear, Then, Quit, Advance, Leave, nothing_given, does_nothing, loop_block, whole_block, whole_reference_block, begin_block, command_block, commands_block, body_block}
 use Rattle.arc_lower.proofs.Shaping.{Operands, push, name, Way, On, Out, left_by, on_way, and_then, passes_by, after_turn, on_test, only_on, block_turns, block, after}
 use Rattle.arc_lower.proofs.Evaluating.{above, value_is, reference_is}
 
@@ -132,10 +132,10 @@ module _ (D : Deeper) (bound : ℕ) where
         by (Returned v) w = refl
 
     -- what follows the body of a loop
-    body_left : (breaks continues : Block) (x : Outcome Way) (o : Outcome Flow) (k : Operands → World → Outcome Way) (go : World → Outcome Flow) → x ≡ then_do o (ends Quit Again) → ((w : World) → k s w ≡ then_do (go w) (ends breaks continues)) → then_do x (after_turn k) ≡ then_do (then_do o (λ flow w. after_body flow go w)) (ends breaks continues)
-    body_left breaks continues x o k go e h = parts (ends Quit Again) (ends breaks continues) x o (after_turn k) _ e by
+    body_left : (breaks continues : Block) (x : Outcome Way) (o : Outcome Flow) (k : Operands → World → Outcome Way) (go : World → Outcome Flow) → x ≡ then_do o (ends Quit Advance) → ((w : World) → k s w ≡ then_do (go w) (ends breaks continues)) → then_do x (after_turn k) ≡ then_do (then_do o (λ flow w. after_body flow go w)) (ends breaks continues)
+    body_left breaks continues x o k go e h = parts (ends Quit Advance) (ends breaks continues) x o (after_turn k) _ e by
       where
-        by : (flow : Flow) (w : World) → then_do (ends Quit Again flow w) (after_turn k) ≡ then_do (after_body flow go w) (ends breaks continues)
+        by : (flow : Flow) (w : World) → then_do (ends Quit Advance flow w) (after_turn k) ≡ then_do (after_body flow go w) (ends breaks continues)
         by Normal w = h w
         by Broken w = refl
         by Continued w = h w
@@ -143,7 +143,7 @@ module _ (D : Deeper) (bound : ℕ) where
 
     -- a loop
     module _ (breaks continues : Block) (quits : Stops breaks) (turns_on : Stops continues) (step test body : Operands → World → Outcome Way) (test' : World → Outcome ℤ) (body' : World → Outcome Flow)
-        (tests : (w : World) → test s w ≡ left_by (λ v. On (push v s)) (test' w)) (turn : (w : World) → body s w ≡ then_do (body' w) (ends Quit Again)) where
+        (tests : (w : World) → test s w ≡ left_by (λ v. On (push v s)) (test' w)) (turn : (w : World) → body s w ≡ then_do (body' w) (ends Quit Advance)) where
       abbrev out : Flow → World → Outcome Way
       out = ends breaks continues
 
@@ -168,9 +168,9 @@ module _ (D : Deeper) (bound : ℕ) where
     nothing_is _ w e = cc
 
     -- a loop that begins with its test, with or without a step
-    repeat_is : (breaks continues : Block) → Stops breaks → Stops continues → (test : Value) (step body : Command) → ((w : World) → run (command_block exit breaks continues step) s w ≡ then_do (executed D bound step w) (ends breaks continues)) → ((w : World) → run (command_block exit Quit Again body) s w ≡ then_do (executed D bound body w) (ends Quit Again)) → (w : World) → (b : Bool) → does_nothing step ≡ b → run (loop_block b (command_block exit breaks continues step) (whole_block test) (command_block exit Quit Again body)) s w ≡ then_do (executed D bound (Repeat test step body) w) (ends breaks continues)
-    repeat_is breaks continues quits turns test step body steps turn w true e = turns_is breaks continues quits turns (run Idle) (run (whole_block test)) (run (command_block exit Quit Again body)) (whole D test) (executed D bound body) (whole_is test names) turn (executed D bound step) (λ w1. ap (λ o. then_do o (ends breaks continues)) (sym (nothing_is step w1 e))) bound w
-    repeat_is breaks continues quits turns test step body steps turn w false e = turns_is breaks continues quits turns (run (command_block exit breaks continues step)) (run (whole_block test)) (run (command_block exit Quit Again body)) (whole D test) (executed D bound body) (whole_is test names) turn (executed D bound step) steps bound w
+    repeat_is : (breaks continues : Block) → Stops breaks → Stops continues → (test : Value) (step body : Command) → ((w : World) → run (command_block exit breaks continues step) s w ≡ then_do (executed D bound step w) (ends breaks continues)) → ((w : World) → run (command_block exit Quit Advance body) s w ≡ then_do (executed D bound body w) (ends Quit Advance)) → (w : World) → (b : Bool) → does_nothing step ≡ b → run (loop_block b (command_block exit breaks continues step) (whole_block test) (command_block exit Quit Advance body)) s w ≡ then_do (executed D bound (Repeat test step body) w) (ends breaks continues)
+    repeat_is breaks continues quits turns test step body steps turn w true e = turns_is breaks continues quits turns (run Idle) (run (whole_block test)) (run (command_block exit Quit Advance body)) (whole D test) (executed D bound body) (whole_is test names) turn (executed D bound step) (λ w1. ap (λ o. then_do o (ends breaks continues)) (sym (nothing_is step w1 e))) bound w
+    repeat_is breaks continues quits turns test step body steps turn w false e = turns_is breaks continues quits turns (run (command_block exit breaks continues step)) (run (whole_block test)) (run (command_block exit Quit Advance body)) (whole D test) (executed D bound body) (whole_is test names) turn (executed D bound step) steps bound w
 
     mutual
       pub command_is : (breaks continues : Block) → Stops breaks → Stops continues → (c : Command) (w : World) → run (command_block exit breaks continues c) s w ≡ then_do (executed D bound c w) (ends breaks continues)
@@ -184,8 +184,8 @@ module _ (D : Deeper) (bound : ℕ) where
       command_is breaks continues quits turns (resolved.Return (Some a)) w = onward (λ v. push v s) (ends breaks continues) _ (whole D a w) _ _ (whole_is a names w) (λ v w1. refl)
       command_is breaks continues quits turns (Choose test a b) w = onward (λ v. push v s) (ends breaks continues) _ (whole D test w) _ _ (whole_is test names w) (λ v w1.
           either (ends breaks continues) (is_zero v) _ _ _ _ (command_is breaks continues quits turns a w1) (command_is breaks continues quits turns b w1))
-      command_is breaks continues quits turns (Repeat test step body) w = repeat_is breaks continues quits turns test step body (command_is breaks continues quits turns step) (command_is Quit Again (λ w1 k. refl) (λ w1 k. refl) body) w (does_nothing step) refl
-      command_is breaks continues quits turns (RepeatAfter body test) w = turns_after_is breaks continues quits turns (run Idle) (run (whole_block test)) (run (command_block exit Quit Again body)) (whole D test) (executed D bound body) (whole_is test names) (command_is Quit Again (λ w1 k. refl) (λ w1 k. refl) body) bound w
+      command_is breaks continues quits turns (Repeat test step body) w = repeat_is breaks continues quits turns test step body (command_is breaks continues quits turns step) (command_is Quit Advance (λ w1 k. refl) (λ w1 k. refl) body) w (does_nothing step) refl
+      command_is breaks continues quits turns (RepeatAfter body test) w = turns_after_is breaks continues quits turns (run Idle) (run (whole_block test)) (run (command_block exit Quit Advance body)) (whole D test) (executed D bound body) (whole_is test names) (command_is Quit Advance (λ w1 k. refl) (λ w1 k. refl) body) bound w
       command_is breaks continues quits turns Break w = refl
       command_is breaks continues quits turns Continue w = refl
 

@@ -14,7 +14,7 @@ use Rattle.arc_code.specs.declared.effect.Height.{Height}
 use Rattle.arc_code.specs.Effects.{on_numbers, of_names, operation_effect}
 use Rattle.arc_lower.specs.declared.frame.Turn.{Turn}
 use Rattle.arc_lower.specs.declared.frame.Scope.{Scope}
-use Rattle.arc_lower.specs.Lowered.{value_count, order_takes, Inside, Block, Idle, One, Clear, Then, Fork, Loop, Quit, Again, Full, Assign, flat, old_block, given_block, below_new, update_block, value_block, reference_block, values_block, whole_block, whole_reference_block, begin_block, nothing_given, does_nothing, loop_block, command_block, commands_block, Surroundings, within_scopes, leaving, breaking, continuing}
+use Rattle.arc_lower.specs.Lowered.{value_count, order_takes, Inside, Block, Idle, One, Clear, Then, Fork, Loop, Quit, Advance, Full, Assign, flat, old_block, given_block, below_new, update_block, value_block, reference_block, values_block, whole_block, whole_reference_block, begin_block, nothing_given, does_nothing, loop_block, command_block, commands_block, Surroundings, within_scopes, leaving, breaking, continuing}
 use Rattle.arc_lower.specs.Heights.{height, between, after_effect, walk, last_walk}
 use Rattle.arc_lower.specs.Lowered.{whole_orders, whole_reference_orders}
 use Rattle.arc_lower.proofs.Typing.{heights_same, Reaches, print_types, get_types, set_types, call_types, store_types, read_types, all_empty_type, drop_types, tested, Forks, BlockTypes}
@@ -195,8 +195,8 @@ module _ (P : Program) (slots names exit : ℕ) where
     command_types l b n t u (resolved.Return None) = nothing_types l
     command_types l b n t u (resolved.Return (Some a)) = (test, test_types l a, (refl, refl, refl, refl))
     command_types l b n t u (Choose v x y) = (test, test_types l v, (base, 0, record { some = omega arith; left = less; first = omega arith; next = omega arith }, refl, command_types l b n t u x, command_types l b n t u y))
-    command_types l b n t u (Repeat v step body) = loop_types l (does_nothing step) (command_block exit b n step) (whole_block v) (command_block exit Quit Again body) (command_types l b n t u step) (test_types l v) (command_types true Quit Again (refl, refl, refl, refl) (refl, refl, refl, refl) body)
-    command_types l b n t u (RepeatAfter body v) = (refl, refl, refl, test_types l v, command_types true Quit Again (refl, refl, refl, refl) (refl, refl, refl, refl) body, refl)
+    command_types l b n t u (Repeat v step body) = loop_types l (does_nothing step) (command_block exit b n step) (whole_block v) (command_block exit Quit Advance body) (command_types l b n t u step) (test_types l v) (command_types true Quit Advance (refl, refl, refl, refl) (refl, refl, refl, refl) body)
+    command_types l b n t u (RepeatAfter body v) = (refl, refl, refl, test_types l v, command_types true Quit Advance (refl, refl, refl, refl) (refl, refl, refl, refl) body, refl)
     command_types l b n t u Break = t
     command_types l b n t u Continue = u
 
@@ -221,4 +221,4 @@ module _ (P : Program) (slots names exit : ℕ) where
   breaking_type turn scopes = scopes_type (is_some turn) scopes (leaving exit turn Quit) (leaving_type turn Quit (refl, refl, refl, refl))
 
   pub continuing_type : (turn : Option Turn) (scopes : List Scope) → Statement (is_some turn) base (continuing (within turn scopes)) base
-  continuing_type turn scopes = scopes_type (is_some turn) scopes (leaving exit turn Again) (leaving_type turn Again (refl, refl, refl, refl))
+  continuing_type turn scopes = scopes_type (is_some turn) scopes (leaving exit turn Advance) (leaving_type turn Advance (refl, refl, refl, refl))

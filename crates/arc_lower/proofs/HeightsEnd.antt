@@ -9,7 +9,7 @@ use Rattle.arc_code.specs.Effects.{effect}
 use Rattle.arc_ir.specs.declared.action.Target.{Target}
 use Rattle.arc_ir.specs.declared.action.Target.TheVariants.{Skip, Back, At}
 use Rattle.arc_lower.specs.Order.{Order}
-use Rattle.arc_lower.specs.Lowered.{order_takes, drop_orders, Entry, AtStep, AtTest, AtBody, enter_orders, enter_size, Spot, Inside, past, turn_at, body_spot, Block, Then, Fork, Loop, Quit, Again, Full, Leave, flat}
+use Rattle.arc_lower.specs.Lowered.{order_takes, drop_orders, Entry, AtStep, AtTest, AtBody, enter_orders, enter_size, Spot, Inside, past, turn_at, body_spot, Block, Then, Fork, Loop, Quit, Advance, Full, Leave, flat}
 use Rattle.arc_lower.specs.Heights.{between, next_height, Walk, walk, other_part, next_walk, last_walk}
 use Rattle.arc_lower.proofs.Quiet.{or_first, or_second}
 use Rattle.arc_lower.proofs.Typing.{heights_same, tested, types_last, with_temporaries, Leaves, BlockTypes}
@@ -143,9 +143,9 @@ module _ (P : Program) (r s slots names exit : ℕ) where
       ap (λ n. last_walk P from (walk n pending) (flat P slots names e Quit)) t.2 ∙ ap (λ n. walk (with_temporaries n 0) (drop 1 pending)) (first_base from pending keeps.0 keeps.1) ∙ ap (λ n. walk n (drop 1 pending)) (sym t.3),
       (keeps.0, keeps.1, rest_base pending keeps.1),
     )
-    block_ends e l true Again h g pending keeps t = (
+    block_ends e l true Advance h g pending keeps t = (
       drop 1 pending,
-      ap (λ n. last_walk P from (walk n pending) (flat P slots names e Again)) t.2 ∙ ap (λ n. walk (with_temporaries n 0) (drop 1 pending)) (first_base from pending keeps.0 keeps.1) ∙ ap (λ n. walk n (drop 1 pending)) (sym t.3),
+      ap (λ n. last_walk P from (walk n pending) (flat P slots names e Advance)) t.2 ∙ ap (λ n. walk (with_temporaries n 0) (drop 1 pending)) (first_base from pending keeps.0 keeps.1) ∙ ap (λ n. walk n (drop 1 pending)) (sym t.3),
       (keeps.0, keeps.1, rest_base pending keeps.1),
     )
     block_ends e l true (Leave to) h g pending keeps t = (
@@ -155,7 +155,7 @@ module _ (P : Program) (r s slots names exit : ℕ) where
     )
     block_ends e l false (Loop entry z x y) h g pending keeps t = absurd (true≢false (sym t.0))
     block_ends e l false Quit h g pending keeps t = absurd (true≢false (sym t.0))
-    block_ends e l false Again h g pending keeps t = absurd (true≢false (sym t.0))
+    block_ends e l false Advance h g pending keeps t = absurd (true≢false (sym t.0))
     block_ends e l false (Leave to) h g pending keeps t = absurd (true≢false (sym t.0))
     block_ends e l statement (Full x y) h g pending keeps t =
         let xs = flat P slots names Inside x in

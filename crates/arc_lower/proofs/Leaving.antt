@@ -11,7 +11,7 @@ use Rattle.arc_ir.specs.Acting.{Program, State}
 use Rattle.arc_ir.specs.Acting as acting
 use Rattle.arc_code.specs.declared.instr.Op.TheVariants.{Declare}
 use Rattle.arc_code.specs.declared.instr.Instr.TheVariants.{Plain, Return}
-use Rattle.arc_lower.specs.Lowered.{all_empty_orders, keep_orders, leave_orders, declare_orders, no_turn, Between, Block, Clear, Then, Quit, Again, flat, whole_block, nothing_given, does_nothing, loop_block, command_block, commands_block, body_block, body_orders}
+use Rattle.arc_lower.specs.Lowered.{all_empty_orders, keep_orders, leave_orders, declare_orders, no_turn, Between, Block, Clear, Then, Quit, Advance, flat, whole_block, nothing_given, does_nothing, loop_block, command_block, commands_block, body_block, body_orders}
 use Rattle.arc_lower.proofs.Leading as leading
 use Rattle.arc_lower.proofs.Leading.{Runs, leads_runs, stuck_runs, ends_here, then_runs, then_at}
 use Rattle.arc_lower.proofs.Recounting.{recount, moves, at, held_of}
@@ -43,8 +43,8 @@ mutual
   command_quiet exit b n e f (resolved.Return None) = refl
   command_quiet exit b n e f (resolved.Return (Some a)) = refl
   command_quiet exit b n e f (Choose test x y) = both_true (takes_none (command_block exit b n x)) (takes_none (command_block exit b n y)) (command_quiet exit b n e f x) (command_quiet exit b n e f y)
-  command_quiet exit b n e f (Repeat test step body) = loop_quiet (does_nothing step) (command_block exit b n step) (command_block exit Quit Again body) test (command_quiet exit b n e f step) (command_quiet exit Quit Again refl refl body)
-  command_quiet exit b n e f (RepeatAfter body test) = command_quiet exit Quit Again refl refl body
+  command_quiet exit b n e f (Repeat test step body) = loop_quiet (does_nothing step) (command_block exit b n step) (command_block exit Quit Advance body) test (command_quiet exit b n e f step) (command_quiet exit Quit Advance refl refl body)
+  command_quiet exit b n e f (RepeatAfter body test) = command_quiet exit Quit Advance refl refl body
   command_quiet exit b n e f Break = e
   command_quiet exit b n e f Continue = f
 

@@ -26,7 +26,7 @@ use Rattle.arc_code.specs.declared.instr.Instr.TheVariants.{Plain, Jump, JumpZer
 use Rattle.arc_code.specs.Effects.{passes}
 use Rattle.arc_lower.specs.Order.{Order}
 use Rattle.arc_lower.specs.declared.frame.Turn.{Turn}
-use Rattle.arc_lower.specs.Lowered.{Message, ToClass, ToSuperClass, ToObject, ToSuper, message_order, Block, Idle, One, Load, Store, Read, Assign, Clear, Format, Calls, Tells, Then, Fork, Loop, Quit, Again, Full, Leave, Entry, AtStep, AtTest, AtBody, enter_orders, enter_size, no_turn, Spot, Inside, Between, past, turn_at, body_spot, flat, print_orders, get_orders, set_orders, fit_orders, read_orders, store_orders, all_empty_orders, order_takes, number_of, slots_of, call_orders}
+use Rattle.arc_lower.specs.Lowered.{Message, ToClass, ToSuperClass, ToObject, ToSuper, message_order, Block, Idle, One, Load, Store, Read, Assign, Clear, Format, Calls, Tells, Then, Fork, Loop, Quit, Advance, Full, Leave, Entry, AtStep, AtTest, AtBody, enter_orders, enter_size, no_turn, Spot, Inside, Between, past, turn_at, body_spot, flat, print_orders, get_orders, set_orders, fit_orders, read_orders, store_orders, all_empty_orders, order_takes, number_of, slots_of, call_orders}
 use Rattle.std.specs.List.{list_any}
 use Rattle.arc_lower.proofs.Leading.{Leads, leads_same, leads_trans, leads_step, Runs, leads_runs, later_runs, fewer_runs, ends_here, then_runs}
 use Rattle.arc_lower.proofs.Recounting.{fresh, recount, moves, at, held_of}
@@ -725,7 +725,7 @@ module _ (p : Program) (frames : List Frame) (bound : ℕ) (R : resolved.Program
       (quiet_runs p frames bound s.names (pc + 1) (pos 0 ∷ (s.numbers ++ vars w)) w (Leaves turn calm (pc + 2)) (Done (Quits s) w)
       (leads_runs (moves p) bound (standing (pc + 1) (push (pos 0) s) w) (standing (turn_at e).out (push (pos 0) s) w) (Leaves turn calm (pc + 2)) (Done (Quits s) w) (moving (pc + 1) (At (turn_at e).out) (push (pos 0) s) w has.1)
       (ends_here (moves p) bound (standing (turn_at e).out (push (pos 0) s) w) (Leaves turn calm (pc + 2)) (Quits s) w (ap (λ (t : Turn). standing t.out (push (pos 0) s) w) (turn_is m pc turn e stands), g))))
-  block_runs e turn calm m h Again free pc stands s w g has =
+  block_runs e turn calm m h Advance free pc stands s w g has =
       leads_runs (moves p) bound (standing pc s w) (standing (turn_at e).begin s w) (Leaves turn calm (pc + 1)) (Done (Turns s) w) (moving pc (At (turn_at e).begin) s w has)
       (ends_here (moves p) bound (standing (turn_at e).begin s w) (Leaves turn calm (pc + 1)) (Turns s) w (ap (λ (t : Turn). standing t.begin s w) (turn_is m pc turn e stands), g))
   block_runs e turn calm false h (Full a b) free pc stands s w g has = lost turn calm (standing pc s w) (pc + length (actions e (Full a b))) w

@@ -8,7 +8,7 @@ use Rattle.arc_spec.specs.Meaning.{Deeper, chosen, dispatched, finds, sent_to, s
 use Rattle.arc_code.specs.declared.instr.Op.{Op}
 use Rattle.arc_code.specs.declared.instr.Op.TheVariants as ops
 use Rattle.arc_code.specs.declared.instr.Op.TheVariants.{Num, Bin, Un, Narrow, Pop, Get, GetChar, Nil, ReadSelf, Hold, Forget, Alloc, GetField, SetField, Differ, IsObject}
-use Rattle.arc_lower.specs.Lowered.{Message, ToClass, ToSuperClass, ToObject, ToSuper, Entry, AtStep, AtTest, AtBody, Block, Idle, One, Load, Store, Read, Assign, Clear, Format, Calls, Tells, Then, Fork, Loop, Quit, Again, Full, Leave}
+use Rattle.arc_lower.specs.Lowered.{Message, ToClass, ToSuperClass, ToObject, ToSuper, Entry, AtStep, AtTest, AtBody, Block, Idle, One, Load, Store, Read, Assign, Clear, Format, Calls, Tells, Then, Fork, Loop, Quit, Advance, Full, Leave}
 use Rattle.arc_lower.proofs.Stacking.{onto}
 
 -- operands: numbers and references, the last one first
@@ -150,7 +150,7 @@ block D bound m (Fork a b) s w = on_number s w (λ v rest. chosen (is_zero v) (b
 block D bound true (Loop entry step test body) s w = loop_entered entry bound (block D bound true step) (block D bound true test) (block D bound true body) s w
 block D bound false (Loop entry step test body) s w = Done Lost w
 block D bound m Quit s w = Done (Quits s) w
-block D bound m Again s w = Done (Turns s) w
+block D bound m Advance s w = Done (Turns s) w
 block D bound true (Full a b) s w = then_do (and_then (block D bound false a s w) (block D bound false b)) (only_on (λ s1 w1. passes_by s1 (all_dropped D w1)))
 block D bound false (Full a b) s w = Done Lost w
 block D bound m (Leave exit) s w = Done (Out exit s) w

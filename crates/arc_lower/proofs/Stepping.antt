@@ -8,7 +8,7 @@ use Rattle.arc_code.specs.declared.instr.Instr.TheVariants.{Plain, Jump, JumpZer
 use Rattle.arc_ir.specs.declared.action.Target.TheVariants.{Skip, Back, At}
 use Rattle.arc_ir.specs.Acting.{lands}
 use Rattle.arc_lower.specs.Order.{Order}
-use Rattle.arc_lower.specs.Lowered.{drop_orders, Entry, AtStep, AtTest, AtBody, enter_orders, enter_size, Spot, Inside, Between, past, turn_at, body_spot, Block, Then, Fork, Loop, Quit, Again, Full, Leave, flat}
+use Rattle.arc_lower.specs.Lowered.{drop_orders, Entry, AtStep, AtTest, AtBody, enter_orders, enter_size, Spot, Inside, Between, past, turn_at, body_spot, Block, Then, Fork, Loop, Quit, Advance, Full, Leave, flat}
 use Rattle.arc_lower.specs.declared.frame.Turn.{Turn}
 use Rattle.arc_lower.specs.Heights.{between, next_height, Walk, walk, next_walk, walk_heights, last_walk}
 use Rattle.arc_lower.proofs.Typing.{heights_same, tested, over, over_none, Reaches, Needs, Types, next_same, with_temporaries, BlockTypes}
@@ -322,7 +322,7 @@ module _ (R : resolved.Program) (all : List Order) (table : List Height) where
         ordinary_then (enter_orders entry (length zs) (length ts)) _ (enter_ordinary entry (length zs) (length ts))
         (ordinary_then zs _ (block_ordinary begin l statement z base base t.2) (ordinary_then ts _ (block_ordinary at_test l statement x base test t.3) (tt, ordinary_then (orders at_body y) _ (block_ordinary at_body true statement y base base t.4) (tt, tt))))
     block_ordinary e l statement Quit h g t = (tt, (tt, tt))
-    block_ordinary e l statement Again h g t = (tt, tt)
+    block_ordinary e l statement Advance h g t = (tt, tt)
     block_ordinary e l statement (Full x y) h g t = ordinary_then (orders Inside x) _ (block_ordinary Inside false false x h t.0 t.2) (ordinary_then (orders Inside y) _ (block_ordinary Inside false false y t.0 t.1 t.3) (types_ordinary R t.1 (drop_orders (orders Inside x)) g t.4))
     block_ordinary e l statement (Leave to) h g t = (tt, tt)
     block_ordinary e l statement x h g t = types_ordinary R h (orders e x) g t
@@ -446,13 +446,13 @@ module _ (R : resolved.Program) (all : List Order) (table : List Height) where
           let up : next_height R (Plain (Num (pos 0))) base ≡ test = heights_same _ _ _ _ (suc slots) 0 0 names (omega arith) (omega arith) (omega arith) (omega arith) in
           let next = opens_goes (pc + 1) _ (Jump (At (turn_at e).out)) tt f.2.0 f.2.1 in
           ((h, f.0, (tt, (next.0, λ k c. inr (next.1 k c)))), ((next_height R (Plain (Num (pos 0))) h, f.2.0, subst (λ n. Leads (turn_at e).out n) (sym (ap (next_height R (Plain (Num (pos 0)))) t.2 ∙ up)) (0, omega arith, goes)), tt))
-      block_steps e turn l true Again h g pc pending here ways keeps t f =
+      block_steps e turn l true Advance h g pc pending here ways keeps t f =
           let goes = subst (λ n. Goes n base) (sym (ap (λ e. (turn_at e).begin) (here refl))) (ways t.1).1 in
           ((h, f.0, subst (λ n. Leads (turn_at e).begin n) (sym t.2) (0, omega arith, goes)), tt)
       block_steps e turn l true (Leave to) h g pc pending here ways keeps t f = ((h, f.0, subst (λ n. Leads to n) (sym t.2) (0, omega arith, subst (λ q. Goes q test) (sym t.1) leaves)), tt)
       block_steps e turn l false (Loop entry z x y) h g pc pending here ways keeps t f = absurd (true≢false (sym t.0))
       block_steps e turn l false Quit h g pc pending here ways keeps t f = absurd (true≢false (sym t.0))
-      block_steps e turn l false Again h g pc pending here ways keeps t f = absurd (true≢false (sym t.0))
+      block_steps e turn l false Advance h g pc pending here ways keeps t f = absurd (true≢false (sym t.0))
       block_steps e turn l false (Leave to) h g pc pending here ways keeps t f = absurd (true≢false (sym t.0))
       block_steps e turn l statement (Full x y) h g pc pending here ways keeps t f =
           let xs = orders Inside x in

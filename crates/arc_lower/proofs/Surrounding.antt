@@ -7,7 +7,7 @@ use Rattle.arc_ir.specs.declared.action.Target.TheVariants.{At}
 use Rattle.arc_lower.specs.declared.frame.Turn.{Turn}
 use Rattle.arc_lower.specs.declared.frame.Scope.{Scope}
 use Rattle.arc_lower.specs.Order.{Order}
-use Rattle.arc_lower.specs.Lowered.{Block, Quit, Again, past, flat, all_empty_orders, nothing_given, spot, within_scopes, leaving, scopes_orders, Surroundings, command_orders}
+use Rattle.arc_lower.specs.Lowered.{Block, Quit, Advance, past, flat, all_empty_orders, nothing_given, spot, within_scopes, leaving, scopes_orders, Surroundings, command_orders}
 
 pub past_spot : (n here : ℕ) (turn : Option Turn) → past n (spot here turn) ≡ spot (here + n) turn
 past_spot n here None = refl
@@ -37,7 +37,7 @@ module _ (P : Program) (slots names : ℕ) where
     break_out = scopes_flat here None scopes (nothing_given exit) _ (λ n. refl)
 
     pub continue_in : (turn : Turn) → command_orders P slots names here (within (Some turn)) Continue ≡ scopes_orders names scopes ++ Jump (At turn.begin) ∷ []
-    continue_in turn = scopes_flat here (Some turn) scopes Again _ (λ n. refl)
+    continue_in turn = scopes_flat here (Some turn) scopes Advance _ (λ n. refl)
 
     pub continue_out : command_orders P slots names here (within None) Continue ≡ scopes_orders names scopes ++ gives_nothing
     continue_out = scopes_flat here None scopes (nothing_given exit) _ (λ n. refl)

@@ -8,7 +8,7 @@ use Rattle.arc_lower.specs.declared.frame.Turn.{Turn}
 use Rattle.arc_lower.specs.declared.frame.Scope.{Scope}
 use Rattle.arc_lower.specs.declared.frame.Body.{Body}
 use Rattle.arc_lower.specs.Order.{Order}
-use Rattle.arc_lower.specs.Lowered.{Entry, AtStep, AtTest, AtBody, enter_orders, enter_size, turn_orders, Between, past, body_spot, Block, Idle, Then, Fork, Loop, Quit, Again, flat, whole_block, whole_orders, does_nothing, loop_block, command_block, spot, Surroundings, breaking, continuing, command_orders}
+use Rattle.arc_lower.specs.Lowered.{Entry, AtStep, AtTest, AtBody, enter_orders, enter_size, turn_orders, Between, past, body_spot, Block, Idle, Then, Fork, Loop, Quit, Advance, flat, whole_block, whole_orders, does_nothing, loop_block, command_block, spot, Surroundings, breaking, continuing, command_orders}
 use Rattle.arc_lower.specs.Surroundings.{surroundings, step_begin, step_orders, turn_orders_of, with_turn}
 use Rattle.arc_lower.proofs.Patching.{patched}
 use Rattle.arc_lower.proofs.Surrounding.{past_spot}
@@ -87,7 +87,7 @@ module _ (P : Program) (b : Body) (scopes : List Scope) where
   tests test = whole_orders P b.slots b.names test
 
   abbrev body_of : Command → Block
-  body_of body = command_block b.exit Quit Again body
+  body_of body = command_block b.exit Quit Advance body
 
   abbrev step_of : Command → Block
   step_of step = command_block b.exit (breaking around) (continuing around) step

@@ -13,7 +13,7 @@ use Rattle.arc_code.specs.declared.effect.Height.{Height}
 use Rattle.arc_code.specs.Effects.{on_numbers, operation_effect, passes}
 use Rattle.arc_ir.specs.declared.action.Target.TheVariants.{Skip}
 use Rattle.arc_lower.specs.Order.{Order}
-use Rattle.arc_lower.specs.Lowered.{conversion_orders, part_orders, piece_orders, left_behind, format_orders, pop_orders, keep_orders, print_orders, get_orders, set_orders, zero_orders, fit_orders, declare_orders, read_orders, store_orders, drop_orders, empty_orders, all_empty_orders, number_of, slots_of, call_orders, Inside, Block, Then, Fork, Loop, Quit, Again, Full, Leave, flat}
+use Rattle.arc_lower.specs.Lowered.{conversion_orders, part_orders, piece_orders, left_behind, format_orders, pop_orders, keep_orders, print_orders, get_orders, set_orders, zero_orders, fit_orders, declare_orders, read_orders, store_orders, drop_orders, empty_orders, all_empty_orders, number_of, slots_of, call_orders, Inside, Block, Then, Fork, Loop, Quit, Advance, Full, Leave, flat}
 use Rattle.arc_lower.specs.Heights.{height, between, after_effect, next_height, Walk, walk, next_walk, last_walk}
 use Rattle.arc_lower.proofs.Linking.{out_of_list}
 
@@ -286,7 +286,7 @@ module _ (P : Program) (r s slots names exit : ℕ) where
   BlockTypes looping statement h (Loop entry z x y) g =
       (statement ≡ true) × (h ≡ base) × BlockTypes looping statement base z base × BlockTypes looping statement base x test × BlockTypes true statement base y base × (g ≡ base)
   BlockTypes looping statement h Quit g = (statement ≡ true) × (looping ≡ true) × (h ≡ base) × (g ≡ base)
-  BlockTypes looping statement h Again g = (statement ≡ true) × (looping ≡ true) × (h ≡ base) × (g ≡ base)
+  BlockTypes looping statement h Advance g = (statement ≡ true) × (looping ≡ true) × (h ≡ base) × (g ≡ base)
   BlockTypes looping statement h (Full x y) g = (i : Height) × (j : Height) × BlockTypes false false h x i × BlockTypes false false i y j × Types P r s j (drop_orders (flat P slots names Inside x)) g
   BlockTypes looping statement h (Leave to) g = (statement ≡ true) × (to ≡ exit) × (h ≡ test) × (g ≡ base)
   BlockTypes looping statement h x g = Types P r s h (flat P slots names Inside x) g

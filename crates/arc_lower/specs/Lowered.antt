@@ -175,7 +175,7 @@ pub data Block : Type 0 where
   -- leaves the loop in whose body it stands
   Quit : Block
   -- goes on with the next turn of that loop
-  Again : Block
+  Advance : Block
   -- a full-expression and what is done with its value; then the temporaries are dropped, where it takes any
   Full : Block → Block → Block
   -- leaves the function at its exit, with its result on top
@@ -253,7 +253,7 @@ flat P slots names e (Loop entry step test body) =
     let tests = flat P slots names (past (length steps) begin) test in
     enter_orders entry (length steps) (length tests) ++ turn_orders steps tests (flat P slots names (body_spot (length steps) (length tests) begin) body)
 flat P slots names e Quit = Plain (Num (pos 0)) ∷ Jump (At (turn_at e).out) ∷ []
-flat P slots names e Again = Jump (At (turn_at e).begin) ∷ []
+flat P slots names e Advance = Jump (At (turn_at e).begin) ∷ []
 flat P slots names e (Full a b) =
     let xs = flat P slots names Inside a in
     xs ++ (flat P slots names Inside b ++ drop_orders xs)
@@ -363,8 +363,8 @@ abbrev mutual
   command_block exit breaks continues (resolved.Return (Some a)) = Then (whole_block a) (Leave exit)
   command_block exit breaks continues (Choose test a b) = Then (whole_block test) (Fork (command_block exit breaks continues a) (command_block exit breaks continues b))
   command_block exit breaks continues (Repeat test step body) =
-      loop_block (does_nothing step) (command_block exit breaks continues step) (whole_block test) (command_block exit Quit Again body)
-  command_block exit breaks continues (RepeatAfter body test) = Loop AtBody Idle (whole_block test) (command_block exit Quit Again body)
+      loop_block (does_nothing step) (command_block exit breaks continues step) (whole_block test) (command_block exit Quit Advance body)
+  command_block exit breaks continues (RepeatAfter body test) = Loop AtBody Idle (whole_block test) (command_block exit Quit Advance body)
   command_block exit breaks continues Break = breaks
   command_block exit breaks continues Continue = continues
 
@@ -429,7 +429,7 @@ abbrev pub breaking : Surroundings → Block
 breaking s = within_scopes s.scopes (leaving s.exit s.turn Quit)
 
 abbrev pub continuing : Surroundings → Block
-continuing s = within_scopes s.scopes (leaving s.exit s.turn Again)
+continuing s = within_scopes s.scopes (leaving s.exit s.turn Advance)
 
 abbrev pub spot : (here : ℕ) → Option Turn → Spot
 spot here None = Between here no_turn
