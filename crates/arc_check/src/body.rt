@@ -282,7 +282,10 @@ fn statements<'a>(
 {
     let mut fault = None;
     for one in all {
-        fault = earlier(fault, statement(table, gives_nothing, in_loop, visible, one)?);
+        fault = earlier(
+            fault,
+            statement(table, gives_nothing, in_loop, visible, one)?,
+        );
     }
     Ok(fault)
 }
@@ -331,7 +334,10 @@ pub fn inside<'a>(
         ++ broken_stmts gives_nothing false (with_parameters (seen table.now visible.entry) (parameter_trees named.now)) (stmt_trees all.now))) }
 {
     let fault = parameters(table, &mut visible, named)?;
-    Ok(earlier(fault, statements(table, gives_nothing, false, &mut visible, all)?))
+    Ok(earlier(
+        fault,
+        statements(table, gives_nothing, false, &mut visible, all)?,
+    ))
 }
 
 /// The first rule that is broken in the body of a function that gives a value of the kind.
