@@ -1,22 +1,22 @@
 -- What the rules read, as the code asks for it.
-use Rattle.std.proofs.Common.{◌≡◌, ◌≤◌, ◌-◌, min, ℕ, zero, suc, List, [], ◌∷◌, ◌++◌, true, false, cond, Ok, refl, ap, ◌∙◌, arith}
+use Rattle.std.proofs.Common.{◌≡◌, ◌≤◌, ◌-◌, min, ℕ, zero, suc, List, [], ◌∷◌, ◌++◌, true, false, cond, Ok, Err, refl, ap, ◌∙◌, arith}
 use Rattle.arc_lex.specs.Tokens.{Tok}
 use Rattle.arc_lex.specs.declared.token.Mark.TheVariants as m
 use Rattle.arc_ast.specs.declared.tree.BinaryOperator.TheVariants as operators
-use Rattle.arc_ast.specs.Tree.{ExprTree, Binary, Arrow, begins}
+use Rattle.arc_ast.specs.Tree.{ExprTree, Binary, begins}
 use Rattle.arc_form.specs.Form.{unlimited}
 use Rattle.arc_form.specs.Kinds.{mark, name}
-use Rattle.arc_form.specs.Reader.{bind, ◌>>=◌, ret, sees, if_sees, take_one, from, named}
-use Rattle.arc_form.specs.Operators.{marks_at, operator_of}
+use Rattle.arc_form.specs.Reader.{Read, bind, ◌>>=◌, ret, sees, if_sees, take_one, from, named}
+use Rattle.arc_form.specs.Operators.{marks_at, placed_operator}
 use Rattle.arc_form.specs.Views.{all}
 use Rattle.arc_form.proofs.Operators.{joined_is, pair_then, in_turn, second_then}
 use Rattle.arc_form.proofs.Sets.{sees_neither}
 use Rattle.arc_form.proofs.Static.{nullable, decided}
 use Rattle.arc_form.proofs.Local.{Local, weaker, then, local_token, local_ret}
 use Rattle.arc_form.proofs.FormLocal.{solid, read_is, form_front, fronts}
-use Rattle.arc_grammar.specs.Grammar.{Part, Sent, rules, reads_free, reads_on, body, expr, unary, binary, condition, table, marks_up_to, join, further, more, up_to, choice, continued, conditional_expr, operations, expression, prefixed, field_name, with_field, arrows, next_argument, more_arguments, add, argument_part, next_part, more_parts, add_part}
+use Rattle.arc_grammar.specs.Grammar.{Part, Sent, rules, reads_free, reads_on, body, expr, unary, binary, condition, table, assigning, marks_up_to, join, further, more, up_to, choice, continued, conditional_expr, operations, expression, prefixed, counting, field_name, begins_suffix, suffix, suffixes, next_argument, more_arguments, add, argument_part, next_part, more_parts, add_part}
 use Rattle.arc_grammar.proofs.Fits.{facts, sure}
-use Rattle.arc_expr.specs.declared.operator.TheConstants.{LOOSEST}
+use Rattle.arc_expr.specs.declared.operator.TheConstants.{ASSIGNING, LOOSEST}
 
 -- a part that is some token at least takes one
 front : {A : Type 0} (part : Part A) → decided facts part ≡ true → nullable facts part ≡ false → (j : ℕ) → Local ⊥ 1 j (reads_free part) (reads_free part)
@@ -24,7 +24,7 @@ front part d n j = solid (nullable facts part) n (form_front facts body sure unl
 
 further_front : (l j : ℕ) → Local ⊥ 1 j (reads_free (further l)) (reads_free (further l))
 unfolding further
-further_front l j = weaker 1 (omega arith) (then (local_token (marks_at l table) (operator_of operators.Add table)) (λ o. then (fronts facts body sure j unlimited (binary (l - 1))) (λ right. local_ret (o, right))))
+further_front l j = weaker 1 (omega arith) (then (local_token (marks_at l table) (placed_operator operators.Add table)) (λ o. then (fronts facts body sure j unlimited (binary (l - 1))) (λ right. local_ret (o, right))))
 
 pub read_expr : (ts : List Tok) → rules unlimited expr ts ≡ reads_free expression ts
 unfolding body
@@ -44,6 +44,11 @@ pub read_condition : (ts : List Tok) → rules unlimited condition ts ≡ reads_
 unfolding body
 read_condition ts = read_is facts body sure unlimited condition ts
 
+-- the level of the operators that assign
+pub assigning_is : assigning ≡ ASSIGNING
+unfolding table
+assigning_is = refl
+
 -- the operators of all levels, and then what they choose
 pub read_continued : (left : ExprTree) (ts : List Tok) → reads_on continued left ts ≡ (reads_on (up_to LOOSEST) left >>= (λ test. reads_on choice test)) ts
 unfolding continued table
@@ -51,14 +56,14 @@ read_continued left ts = in_turn ExprTree (reads_free (up_to LOOSEST)) (reads_fr
 
 -- the operators of a level after a left operand, one by one
 pub read_more : (l : ℕ) (left : ExprTree) (ts : List Tok)
-    → reads_on (more l) left ts ≡ if_sees (marks_at l table) (take_one (marks_at l table) (operator_of operators.Add table) >>= (λ o. rules unlimited (binary (l - 1)) >>= (λ right. reads_on (more l) (Binary (begins left) o left right)))) (ret left) ts
+    → reads_on (more l) left ts ≡ if_sees (marks_at l table) (take_one (marks_at l table) (placed_operator operators.Add table) >>= (λ o. rules unlimited (binary (l - 1)) >>= (λ right. reads_on (more l) (Binary (begins left) o.1 left right)))) (ret left) ts
 unfolding more further
 read_more l left ts =
     let K = marks_at l table in
     joined_is K (reads_free (further l)) join (further_front l) left ts ∙ ap (λ y. cond (sees K ts) y (ret left ts)) (pairs l left ts)
   where
-    pairs : (l : ℕ) (left : ExprTree) (ts : List Tok) → bind (reads_free (further l) ts) (λ a. reads_on (more l) (join left a)) ≡ (take_one (marks_at l table) (operator_of operators.Add table) >>= (λ o. rules unlimited (binary (l - 1)) >>= (λ right. reads_on (more l) (Binary (begins left) o left right)))) ts
-    pairs l left ts = pair_then (take_one (marks_at l table) (operator_of operators.Add table) ts) (rules unlimited (binary (l - 1))) (λ a. reads_on (more l) (join left a))
+    pairs : (l : ℕ) (left : ExprTree) (ts : List Tok) → bind (reads_free (further l) ts) (λ a. reads_on (more l) (join left a)) ≡ (take_one (marks_at l table) (placed_operator operators.Add table) >>= (λ o. rules unlimited (binary (l - 1)) >>= (λ right. reads_on (more l) (Binary (begins left) o.1 left right)))) ts
+    pairs l left ts = pair_then (take_one (marks_at l table) (placed_operator operators.Add table) ts) (rules unlimited (binary (l - 1))) (λ a. reads_on (more l) (join left a))
 
 more_past : (l : ℕ) (left : ExprTree) (ts : List Tok) → sees (marks_at l table) ts ≡ false → reads_on (more l) left ts ≡ Ok (left, ts)
 more_past l left ts s = read_more l left ts ∙ rw s refl
@@ -81,18 +86,19 @@ read_past (suc l) left ts s =
     ∙ ap (λ x. bind x (λ tighter. reads_on (more (suc l)) tighter)) (read_past l left ts p.0)
     ∙ more_past (suc l) left ts p.1
 
--- the fields after an object, one by one
-field_front : (j : ℕ) → Local ⊥ 1 j (reads_free field_name) (reads_free field_name)
-unfolding field_name
-field_front j = front field_name refl refl j
+-- the suffixes after an operand, one by one
+suffix_front : (j : ℕ) → Local ⊥ 1 j (reads_free suffix) (reads_free suffix)
+unfolding suffix field_name counting
+suffix_front j = front suffix refl refl j
 
-pub read_arrows : (object : ExprTree) (ts : List Tok)
-    → reads_on arrows object ts ≡ if_sees (mark m.Arrow) (take_one (mark m.Arrow) from >>= (λ arrow. take_one name named >>= (λ n. reads_on arrows (Arrow (begins object) n.0 object n.1)))) (ret object) ts
-unfolding arrows field_name
-read_arrows object ts = joined_is (mark m.Arrow) (reads_free field_name) with_field field_front object ts ∙ ap (λ y. cond (sees (mark m.Arrow) ts) y (ret object ts)) (pairs object ts)
+pub read_suffixes : (operand : ExprTree) (ts : List Tok)
+    → reads_on suffixes operand ts ≡ if_sees begins_suffix (reads_on suffix operand >>= (λ whole. reads_on suffixes whole)) (ret operand) ts
+unfolding suffixes
+read_suffixes operand ts = joined_is begins_suffix (reads_free suffix) (λ a make. make a) suffix_front operand ts ∙ ap (λ y. cond (sees begins_suffix ts) y (ret operand ts)) (pairs (reads_free suffix ts))
   where
-    pairs : (object : ExprTree) (ts : List Tok) → bind (reads_free field_name ts) (λ n. reads_on arrows (with_field object n)) ≡ (take_one (mark m.Arrow) from >>= (λ arrow. take_one name named >>= (λ n. reads_on arrows (with_field object n)))) ts
-    pairs object ts = second_then (take_one (mark m.Arrow) from ts) (take_one name named) (λ n. reads_on arrows (with_field object n))
+    pairs : (x : Read (ExprTree → ExprTree)) → bind x (λ make. reads_on suffixes (make operand)) ≡ bind (bind x (λ make. ret (make operand))) (λ whole. reads_on suffixes whole)
+    pairs (Ok x) = refl
+    pairs (Err x) = refl
 
 -- further arguments, one by one
 argument_front : (j : ℕ) → Local ⊥ 1 j (reads_free next_argument) (reads_free next_argument)

@@ -3,7 +3,7 @@ use Rattle.std.proofs.Common.{◌≡◌, ◌<◌, ◌≤◌, ℕ, zero, suc, Lis
 use Rattle.std.proofs.lemmas.Bool.{leb-true, leb-false, eqb-true, eqb-false}
 use Rattle.arc_lex.specs.Tokens.{Tok, tok, toks}
 use Rattle.arc_lex.specs.declared.token.Token.{Token}
-use Rattle.arc_form.specs.Operators.{entry_of, marks_at, operator_of}
+use Rattle.arc_form.specs.Operators.{entry_of, marks_at, placed_operator}
 use Rattle.arc_form.specs.Reader.{sees, take_one}
 use Rattle.arc_form.proofs.Operators.{is_at, taken_entry, sees_operator, takes_operator}
 use Rattle.arc_grammar.specs.Grammar.{table, marks_up_to}
@@ -14,7 +14,7 @@ pub sees_table : (l : ℕ) (t : Tok) (ts : List Tok) → sees (marks_at l table)
 unfolding table
 sees_table l t ts = sees_operator table refl l t ts
 
-pub takes_table : (l : ℕ) (t : Tok) (ts : List Tok) → take_one (marks_at l table) (operator_of Add table) (t ∷ ts) ≡ taken_entry l (entry_of table t.sort) (t ∷ ts)
+pub takes_table : (l : ℕ) (t : Tok) (ts : List Tok) → take_one (marks_at l table) (placed_operator Add table) (t ∷ ts) ≡ taken_entry l t.from (entry_of table t.sort) (t ∷ ts)
 unfolding table
 takes_table l t ts = takes_operator table refl Add l t ts
 

@@ -4,17 +4,17 @@ ghost use Rattle.arc_lex.specs.Tokens.{toks};
 ghost use Rattle.arc_ast.specs.Tree.{expr_tree, begins, Binary, Name};
 ghost use Rattle.arc_ast.specs.declared.tree.BinaryOperator.TheVariants.{Multiply};
 ghost use Rattle.arc_form.specs.Form.{unlimited};
-ghost use Rattle.arc_form.specs.Reader.{Gives};
+ghost use Rattle.arc_form.specs.Reader.{Gives, sees};
 ghost use Rattle.arc_form.specs.Views.{all};
 ghost use Rattle.arc_grammar.specs.Grammar.{reads_free, reads_on, rules};
 ghost use Rattle.arc_grammar.specs.Grammar as grammar;
-ghost use Rattle.arc_expr.specs.declared.operator.TheConstants.{LOOSEST};
+ghost use Rattle.arc_expr.specs.declared.operator.TheConstants.{ASSIGNING, LOOSEST};
 
 use crate::literal::literal;
-use crate::operator::{LOOSEST, operator, sees_operator, sees_operator_up_to};
-use crate::sign::{sees_sign, sign};
+use crate::operator::{ASSIGNING, LOOSEST, operator, sees_operator, sees_operator_up_to};
+use crate::sign::{counting, sees_counting, sees_sign, sign};
 use crate::type_name::{begins_plain_type, plain_type};
-use arc_ast::tree::{BinaryOperator, Expr, TypeName};
+use arc_ast::tree::{BinaryOperator, Expr, Moment, TypeName};
 use arc_form::fail::Read;
 use arc_form::step::{expect, keyword, name, sees_mark, sees_name, sees_reference, sees_word};
 use arc_lex::token::{Mark, Token, Word};
@@ -38,6 +38,7 @@ fn place_of(expr: &Expr) -> usize
         | Expr::Conditional(at, _, _, _)
         | Expr::Arrow(at, _, _, _)
         | Expr::Assign(at, _, _, _)
+        | Expr::Update(at, _, _, _, _, _)
         | Expr::Send(at, _, _, _, _)
         | Expr::SendSuper(at, _, _, _, _) => *at,
     }
@@ -56,13 +57,15 @@ pub fn expr<'a>(alloc: Global, tokens: &'a [Token]) -> Read<'a, Expr>
 
 /// An expression of this unary expression and what comes after it.
 #[cycle(exprs)]
-#[tactic(auto, unfolding(arc_grammar::specs::Grammar::operation))]
+#[tactic(auto, using(crate::proofs::Fix::assigning_is), unfolding(arc_grammar::specs::Grammar::operation))]
 fn operation<'a>(alloc: Global, left: Expr, tokens: &'a [Token]) -> Read<'a, Expr>
     ensures gives { Gives (λ x. (expr_tree x.0, toks x.1.now)) result (reads_on grammar.operation (expr_tree left) (toks tokens.now)) }
     ensures shorter { IfOk result (λ x. length x.1.now ≤ length tokens.now) }
 {
     if sees_mark(Mark::Assign, tokens) {
         assigned(alloc, left, tokens)
+    } else if sees_operator(ASSIGNING, tokens) {
+        updated(alloc, left, tokens)
     } else {
         continued(alloc, left, tokens)
     }
@@ -80,6 +83,24 @@ fn assigned<'a>(alloc: Global, left: Expr, tokens: &'a [Token]) -> Read<'a, Expr
     let (sign, rest) = expect(Mark::Assign, tokens)?;
     let (right, rest) = expr(alloc, rest)?;
     Ok((Expr::Assign(at, sign, left, Box::new(alloc, right)?), rest))
+}
+
+/// An update of what is before its operator.
+#[cycle(exprs)]
+#[tactic(auto, using(crate::proofs::Fix::assigning_is), unfolding(arc_grammar::specs::Grammar::updated))]
+fn updated<'a>(alloc: Global, left: Expr, tokens: &'a [Token]) -> Read<'a, Expr>
+    ensures gives { Gives (λ x. (expr_tree x.0, toks x.1.now)) result (reads_on grammar.updated (expr_tree left) (toks tokens.now)) }
+    ensures shorter { IfOk result (λ x. length x.1.now ≤ length tokens.now) }
+{
+    let at = place_of(&left);
+    let left = Box::new(alloc, left)?;
+    let ((sign, operator), rest) = operator(ASSIGNING, tokens)?;
+    let (right, rest) = expr(alloc, rest)?;
+    let right = Box::new(alloc, right)?;
+    Ok((
+        Expr::Update(at, sign, Moment::After, operator, left, right),
+        rest,
+    ))
 }
 
 /// The operators of all levels after this unary expression, with their right operands, and what they choose.
@@ -164,7 +185,7 @@ fn more<'a>(alloc: Global, level: usize, left: Expr, tokens: &'a [Token]) -> Rea
     }
     let at = place_of(&left);
     let left = Box::new(alloc, left)?;
-    let (operator, rest) = operator(level, tokens)?;
+    let ((_, operator), rest) = operator(level, tokens)?;
     let (right, rest) = binary(alloc, level - 1, rest)?;
     let right = Box::new(alloc, right)?;
     more(alloc, level, Expr::Binary(at, operator, left, right), rest)
@@ -191,6 +212,8 @@ fn prefixed<'a>(alloc: Global, tokens: &'a [Token]) -> Read<'a, Expr>
 {
     if sees_sign(tokens) {
         signed(alloc, tokens)
+    } else if sees_counting(tokens) {
+        counted(alloc, tokens)
     } else if sees_mark(Mark::OpenParen, tokens) {
         parenthesized(alloc, tokens)
     } else {
@@ -210,7 +233,38 @@ fn signed<'a>(alloc: Global, tokens: &'a [Token]) -> Read<'a, Expr>
     Ok((Expr::Unary(at, operator, Box::new(alloc, operand)?), rest))
 }
 
-/// An expression in parentheses with fields after it, or a cast.
+/// `++` or `--` and the unary expression after it.
+#[cycle(exprs)]
+#[tactic(auto, using(crate::proofs::Fix::read_unary), unfolding(arc_grammar::specs::Grammar::counted))]
+fn counted<'a>(alloc: Global, tokens: &'a [Token]) -> Read<'a, Expr>
+    ensures gives { Gives (λ x. (expr_tree x.0, toks x.1.now)) result (reads_free grammar.counted (toks tokens.now)) }
+    ensures shorter { IfOk result (λ x. length x.1.now < length tokens.now) }
+{
+    let (operator, rest) = counting(tokens)?;
+    let (operand, rest) = prefixed(alloc, rest)?;
+    Ok((
+        by_one(alloc, operator.0, operator, Moment::After, operand)?,
+        rest,
+    ))
+}
+
+/// An update of an operand by 1, with the operator and its place, which begins at this place.
+fn by_one(
+    alloc: Global,
+    at: usize,
+    operator: (usize, BinaryOperator),
+    moment: Moment,
+    operand: Expr,
+) -> Result<Expr, AllocError>
+    ensures { IfOk result (λ made. expr_tree made ≡ grammar.by_one at operator moment (expr_tree operand)) }
+{
+    let (sign, operator) = operator;
+    let one = Box::new(alloc, Expr::Integer(sign, 1, false))?;
+    let operand = Box::new(alloc, operand)?;
+    Ok(Expr::Update(at, sign, moment, operator, operand, one))
+}
+
+/// An expression in parentheses with what may come after one, or a cast.
 #[cycle(exprs)]
 #[tactic(auto, unfolding(arc_grammar::specs::Grammar::parenthesized))]
 fn parenthesized<'a>(alloc: Global, tokens: &'a [Token]) -> Read<'a, Expr>
@@ -237,7 +291,7 @@ fn inside<'a>(alloc: Global, at: usize, tokens: &'a [Token]) -> Read<'a, Expr>
     let (inside, rest) = expr(alloc, tokens)?;
     let inside = Box::new(alloc, inside)?;
     let (_, rest) = expect(Mark::CloseParen, rest)?;
-    arrows(alloc, Expr::Paren(at, inside), rest)
+    suffixes(alloc, Expr::Paren(at, inside), rest)
 }
 
 /// What is after the `(`, which is at this place, of a cast to a type that names no class.
@@ -306,7 +360,7 @@ fn product<'a>(
     let (inside, rest) = continued(alloc, first, rest)?;
     let inside = Box::new(alloc, inside)?;
     let (_, rest) = expect(Mark::CloseParen, rest)?;
-    arrows(alloc, Expr::Paren(at, inside), rest)
+    suffixes(alloc, Expr::Paren(at, inside), rest)
 }
 
 /// The product of a variable of this name and an operand.
@@ -319,7 +373,7 @@ fn times(alloc: Global, at: usize, called: &[u8], right: Expr) -> Result<Expr, A
     Ok(Expr::Binary(at, BinaryOperator::Multiply, left, right))
 }
 
-/// A primary expression, a call or a message, and fields after it.
+/// A primary expression, a call or a message, and the suffixes after it.
 #[cycle(exprs)]
 #[tactic(auto, unfolding(arc_grammar::specs::Grammar::postfix))]
 fn postfix<'a>(alloc: Global, tokens: &'a [Token]) -> Read<'a, Expr>
@@ -327,24 +381,55 @@ fn postfix<'a>(alloc: Global, tokens: &'a [Token]) -> Read<'a, Expr>
     ensures shorter { IfOk result (λ x. length x.1.now < length tokens.now) }
 {
     let (object, rest) = primary(alloc, tokens)?;
-    arrows(alloc, object, rest)
+    suffixes(alloc, object, rest)
 }
 
-/// The fields after an object, each of them after `->`.
-#[tactic(auto, using(crate::proofs::Fix::read_arrows))]
-fn arrows<'a>(alloc: Global, object: Expr, tokens: &'a [Token]) -> Read<'a, Expr>
-    ensures gives { Gives (λ x. (expr_tree x.0, toks x.1.now)) result (reads_on grammar.arrows (expr_tree object) (toks tokens.now)) }
+/// The suffixes after an operand: fields, each of them after `->`, and `++` and `--`.
+#[tactic(auto, using(crate::proofs::Fix::read_suffixes))]
+fn suffixes<'a>(alloc: Global, operand: Expr, tokens: &'a [Token]) -> Read<'a, Expr>
+    ensures gives { Gives (λ x. (expr_tree x.0, toks x.1.now)) result (reads_on grammar.suffixes (expr_tree operand) (toks tokens.now)) }
     ensures shorter { IfOk result (λ x. length x.1.now ≤ length tokens.now) }
 {
-    if !sees_mark(Mark::Arrow, tokens) {
-        return Ok((object, tokens));
+    if !sees_suffix(tokens) {
+        return Ok((operand, tokens));
     }
-    let at = place_of(&object);
-    let object = Box::new(alloc, object)?;
-    let (_, rest) = expect(Mark::Arrow, tokens)?;
-    let ((name_at, called), rest) = name(rest)?;
+    let (whole, rest) = suffix(alloc, operand, tokens)?;
+    suffixes(alloc, whole, rest)
+}
+
+/// Whether the first token begins a suffix.
+#[tactic(auto, using(arc_form::proofs::Sets::sees_or))]
+fn sees_suffix(tokens: &[Token]) -> bool
+    ensures { result ≡ sees grammar.begins_suffix (toks tokens.now) }
+{
+    sees_mark(Mark::Arrow, tokens) || sees_counting(tokens)
+}
+
+/// One suffix after an operand.
+#[tactic(auto, unfolding(arc_grammar::specs::Grammar::suffix))]
+fn suffix<'a>(alloc: Global, operand: Expr, tokens: &'a [Token]) -> Read<'a, Expr>
+    ensures gives { Gives (λ x. (expr_tree x.0, toks x.1.now)) result (reads_on grammar.suffix (expr_tree operand) (toks tokens.now)) }
+    ensures shorter { IfOk result (λ x. length x.1.now < length tokens.now) }
+{
+    let at = place_of(&operand);
+    if !sees_mark(Mark::Arrow, tokens) {
+        let (operator, rest) = counting(tokens)?;
+        return Ok((by_one(alloc, at, operator, Moment::Before, operand)?, rest));
+    }
+    let object = Box::new(alloc, operand)?;
+    let ((name_at, called), rest) = field_name(tokens)?;
     let called = Vec::from_slice(alloc, called)?;
-    arrows(alloc, Expr::Arrow(at, name_at, object, called), rest)
+    Ok((Expr::Arrow(at, name_at, object, called), rest))
+}
+
+/// `->` and the name of a field, with its place.
+#[tactic(auto, unfolding(arc_grammar::specs::Grammar::field_name))]
+fn field_name<'a>(tokens: &'a [Token]) -> Read<'a, (usize, &'a [u8])>
+    ensures gives { Gives (λ x. ((x.0.0, x.0.1.now), toks x.1.now)) result (reads_free grammar.field_name (toks tokens.now)) }
+    ensures shorter { IfOk result (λ x. length x.1.now < length tokens.now) }
+{
+    let (_, rest) = expect(Mark::Arrow, tokens)?;
+    name(rest)
 }
 
 /// A name, a call, a message or a literal.

@@ -1,9 +1,9 @@
-//! Reads the operators between two operands.
+//! Reads the operators between two operands, and those that assign what they compute.
 ghost use Rattle.std.specs.Prelude.{◌≡◌, ◌<◌, ◌≤◌, true, length, IfOk};
 ghost use Rattle.arc_lex.specs.Tokens.{tok, toks};
 ghost use Rattle.arc_form.specs.Operators.{entry, entry_of, marks_at};
 ghost use Rattle.arc_form.specs.Reader.{Gives, sees, take_one};
-ghost use Rattle.arc_form.specs.Operators.{operator_of};
+ghost use Rattle.arc_form.specs.Operators.{placed_operator};
 ghost use Rattle.arc_grammar.specs.Grammar.{table, marks_up_to};
 ghost use Rattle.arc_ast.specs.declared.tree.BinaryOperator.TheVariants.{Add};
 
@@ -11,8 +11,11 @@ use arc_ast::tree::BinaryOperator;
 use arc_form::fail::{Fail, Read};
 use arc_lex::token::{Mark, Token, TokenKind};
 
-/// The loosest level of an operator.
+/// The loosest level of an operator that doesn't assign.
 pub const LOOSEST: usize = 10;
+
+/// The level of the operators that assign.
+pub const ASSIGNING: usize = 11;
 
 /// The level and the operator of a mark.
 #[tactic(auto, unfolding(arc_grammar::specs::Grammar::table))]
@@ -38,6 +41,16 @@ fn of_mark(mark: Mark) -> Option<(usize, BinaryOperator)>
         Mark::Bar => Some((8, BinaryOperator::BitOr)),
         Mark::And => Some((9, BinaryOperator::And)),
         Mark::Or => Some((10, BinaryOperator::Or)),
+        Mark::StarAssign => Some((11, BinaryOperator::Multiply)),
+        Mark::SlashAssign => Some((11, BinaryOperator::Divide)),
+        Mark::PercentAssign => Some((11, BinaryOperator::Remainder)),
+        Mark::PlusAssign => Some((11, BinaryOperator::Add)),
+        Mark::MinusAssign => Some((11, BinaryOperator::Subtract)),
+        Mark::ShiftLeftAssign => Some((11, BinaryOperator::ShiftLeft)),
+        Mark::ShiftRightAssign => Some((11, BinaryOperator::ShiftRight)),
+        Mark::AmpersandAssign => Some((11, BinaryOperator::BitAnd)),
+        Mark::CaretAssign => Some((11, BinaryOperator::BitXor)),
+        Mark::BarAssign => Some((11, BinaryOperator::BitOr)),
         _ => None,
     }
 }
@@ -79,17 +92,17 @@ pub fn sees_operator_up_to(level: usize, tokens: &[Token]) -> bool
     }
 }
 
-/// The first token, which is an operator of this level.
+/// The first token, which is an operator of this level, with its place.
 ///
 /// `Unexpected` comes with all of the tokens where it is not.
 #[tactic(auto, using(crate::proofs::Table::takes_table))]
-pub fn operator(level: usize, tokens: &[Token]) -> Read<'_, BinaryOperator>
-    ensures gives { Gives (λ x. (x.0, toks x.1.now)) result (take_one (marks_at level table) (operator_of Add table) (toks tokens.now)) }
+pub fn operator(level: usize, tokens: &[Token]) -> Read<'_, (usize, BinaryOperator)>
+    ensures gives { Gives (λ x. (x.0, toks x.1.now)) result (take_one (marks_at level table) (placed_operator Add table) (toks tokens.now)) }
     ensures shorter { IfOk result (λ x. length x.1.now < length tokens.now) }
 {
     match tokens.split_first() {
         Some((token, rest)) => match of_token(token) {
-            Some((found, operator)) if found == level => Ok((operator, rest)),
+            Some((found, operator)) if found == level => Ok(((token.span.from, operator), rest)),
             _ => Err(Fail::Unexpected(tokens)),
         },
         None => Err(Fail::Unexpected(tokens)),

@@ -5,7 +5,7 @@ use Rattle.arc_lex.specs.Tokens.{Tok, Sort, Name, Integer, Text, Key, At, Sign}
 use Rattle.arc_lex.specs.Spellings.{mark_bytes}
 use Rattle.arc_form.specs.Kinds.{Kind, Kinds, ◌∪◌, mark, has, kind, is}
 use Rattle.arc_form.specs.Reader.{Read, Reader, Fault, misfit, bind, ◌>>=◌, ret, sees, if_sees, taken, take_one, loop}
-use Rattle.arc_form.specs.Operators.{Row, entry, entry_of, marks_at, operator_of, fold}
+use Rattle.arc_form.specs.Operators.{Row, entry, entry_of, marks_at, operator_of, placed_operator, fold}
 use Rattle.arc_form.proofs.Sets.{both, same_is}
 use Rattle.arc_form.proofs.Local.{Local}
 use Rattle.arc_form.proofs.FormBegins.{loop_end}
@@ -24,10 +24,10 @@ abbrev pub distinct : {O : Type 0} → List (Row O) → Bool
 distinct [] = true
 distinct (r ∷ rows) = is_none (entry rows r.mark) && distinct rows
 
--- a token of this entry, if it is of the level
-abbrev pub taken_entry : {O : Type 0} → ℕ → Option (ℕ × O) → Reader O
-taken_entry l None ts = Err (misfit, ts)
-taken_entry l (Some e) ts = if nat_eq e.0 l then Ok (e.1, drop 1 ts) else Err (misfit, ts)
+-- a token of this place and this entry, if it is of the level
+abbrev pub taken_entry : {O : Type 0} → ℕ → ℕ → Option (ℕ × O) → Reader (ℕ × O)
+taken_entry l at None ts = Err (misfit, ts)
+taken_entry l at (Some e) ts = if nat_eq e.0 l then Ok ((at, e.1), drop 1 ts) else Err (misfit, ts)
 
 abbrev second : Kind → List ℕ
 second k = k.1
@@ -107,17 +107,17 @@ module _ {O : Type 0} where
   sees_operator rows d l t ts = is_operator rows d l t.sort
 
   pub takes_operator : (rows : List (Row O)) → distinct rows ≡ true → (other : O) (l : ℕ) (t : Tok) (ts : List Tok)
-      → take_one (marks_at l rows) (operator_of other rows) (t ∷ ts) ≡ taken_entry l (entry_of rows t.sort) (t ∷ ts)
+      → take_one (marks_at l rows) (placed_operator other rows) (t ∷ ts) ≡ taken_entry l t.from (entry_of rows t.sort) (t ∷ ts)
   takes_operator rows d other l t ts = go (entry_of rows t.sort) refl (is_operator rows d l t.sort)
     where
-      at : (e : ℕ × O) → entry_of rows t.sort ≡ Some e → (b : Bool) → nat_eq e.0 l ≡ b → is (marks_at l rows) t ≡ nat_eq e.0 l → taken (is (marks_at l rows) t) (operator_of other rows) t ts ≡ taken_entry l (Some e) (t ∷ ts)
+      at : (e : ℕ × O) → entry_of rows t.sort ≡ Some e → (b : Bool) → nat_eq e.0 l ≡ b → is (marks_at l rows) t ≡ nat_eq e.0 l → taken (is (marks_at l rows) t) (placed_operator other rows) t ts ≡ taken_entry l t.from (Some e) (t ∷ ts)
       at e q true f h =
-          ap (λ b. taken b (operator_of other rows) t ts) (h ∙ f) ∙ ap (λ o. Ok (o, ts)) (operator_is rows other t e q) ∙ sym (ap (λ b. cond b (Ok (e.1, ts)) (Err (misfit, t ∷ ts))) f)
-      at e q false f h = ap (λ b. taken b (operator_of other rows) t ts) (h ∙ f) ∙ sym (ap (λ b. cond b (Ok (e.1, ts)) (Err (misfit, t ∷ ts))) f)
+          ap (λ b. taken b (placed_operator other rows) t ts) (h ∙ f) ∙ ap (λ o. Ok ((t.from, o), ts)) (operator_is rows other t e q) ∙ sym (ap (λ b. cond b (Ok ((t.from, e.1), ts)) (Err (misfit, t ∷ ts))) f)
+      at e q false f h = ap (λ b. taken b (placed_operator other rows) t ts) (h ∙ f) ∙ sym (ap (λ b. cond b (Ok ((t.from, e.1), ts)) (Err (misfit, t ∷ ts))) f)
 
-      go : (e : Option (ℕ × O)) → entry_of rows t.sort ≡ e → is (marks_at l rows) t ≡ is_at l (entry_of rows t.sort) → take_one (marks_at l rows) (operator_of other rows) (t ∷ ts) ≡ taken_entry l (entry_of rows t.sort) (t ∷ ts)
-      go None q h = ap (λ b. taken b (operator_of other rows) t ts) (h ∙ ap (is_at l) q) ∙ ap (λ x. taken_entry l x (t ∷ ts)) (sym q)
-      go (Some e) q h = at e q (nat_eq e.0 l) refl (h ∙ ap (is_at l) q) ∙ ap (λ x. taken_entry l x (t ∷ ts)) (sym q)
+      go : (e : Option (ℕ × O)) → entry_of rows t.sort ≡ e → is (marks_at l rows) t ≡ is_at l (entry_of rows t.sort) → take_one (marks_at l rows) (placed_operator other rows) (t ∷ ts) ≡ taken_entry l t.from (entry_of rows t.sort) (t ∷ ts)
+      go None q h = ap (λ b. taken b (placed_operator other rows) t ts) (h ∙ ap (is_at l) q) ∙ ap (λ x. taken_entry l t.from x (t ∷ ts)) (sym q)
+      go (Some e) q h = at e q (nat_eq e.0 l) refl (h ∙ ap (is_at l) q) ∙ ap (λ x. taken_entry l t.from x (t ∷ ts)) (sym q)
 
 -- ---- two changes of a value, one after the other
 

@@ -30,6 +30,10 @@ abbrev pub operator_of : {O : Type 0} → O → List (Row O) → Tok → O
 operator_of other [] t = other
 operator_of other (r ∷ rows) t = if is (mark r.mark) t then r.operator else operator_of other rows t
 
+-- and its place
+abbrev pub placed_operator : {O : Type 0} → O → List (Row O) → Tok → ℕ × O
+placed_operator other rows t = (t.from, operator_of other rows t)
+
 -- what is joined from the left
 abbrev pub fold : {A B : Type 0} → (B → A → B) → B → List A → B
 fold join b [] = b

@@ -15,14 +15,16 @@ use Rattle.arc_ast.specs.declared.tree.Visibility.{Visibility}
 use Rattle.arc_ast.specs.declared.tree.Visibility.TheVariants as seen
 use Rattle.arc_ast.specs.declared.tree.BinaryOperator.{BinaryOperator}
 use Rattle.arc_ast.specs.declared.tree.BinaryOperator.TheVariants as operators
+use Rattle.arc_ast.specs.declared.tree.Moment.{Moment}
+use Rattle.arc_ast.specs.declared.tree.Moment.TheVariants.{Before, After}
 use Rattle.arc_ast.specs.declared.tree.UnaryOperator.{UnaryOperator}
 use Rattle.arc_ast.specs.declared.tree.UnaryOperator.TheVariants as unary_operators
-use Rattle.arc_ast.specs.Tree.{TypeTree, ResultTree, ExprTree, ExprTrees, VariableTree, StmtTree, StmtTrees, ParameterTree, ParametersTree, FunctionTree, GlobalTree, HeadTree, MethodTree, FieldTree, InterfaceTree, ImplementationTree, UnitTree, Boolean, Int, Long, Id, Object, Void, Value, Integer, Text, Paren, Call, Nil, Itself, Name, Unary, Cast, Binary, Conditional, Arrow, Assign, Send, SendSuper, no_exprs, and_expr, Block, Empty, Simple, Return, Variables, If, IfElse, While, Do, For, Break, Continue, no_stmts, and_stmt, Listed, CountAndTexts, begins}
+use Rattle.arc_ast.specs.Tree.{TypeTree, ResultTree, ExprTree, ExprTrees, VariableTree, StmtTree, StmtTrees, ParameterTree, ParametersTree, FunctionTree, GlobalTree, HeadTree, MethodTree, FieldTree, InterfaceTree, ImplementationTree, UnitTree, Boolean, Int, Long, Id, Object, Void, Value, Integer, Text, Paren, Call, Nil, Itself, Name, Unary, Cast, Binary, Conditional, Arrow, Assign, Update, Send, SendSuper, no_exprs, and_expr, Block, Empty, Simple, Return, Variables, If, IfElse, While, Do, For, Break, Continue, no_stmts, and_stmt, Listed, CountAndTexts, begins}
 use Rattle.arc_grammar.specs.declared.limits.TheConstants.{DEEPEST, MOST_TOKENS}
 use Rattle.arc_form.specs.Kinds.{Kinds, none, ◌∪◌, mark, word, at, name, main, other_name, integer, text}
 use Rattle.arc_form.specs.Reader.{Reader, ◌>>=◌, ret, from}
 use Rattle.arc_form.specs.Reader as readers
-use Rattle.arc_form.specs.Operators.{Row, marks_at, operator_of, fold}
+use Rattle.arc_form.specs.Operators.{Row, marks_at, placed_operator, fold}
 use Rattle.arc_form.specs.Form.{Limits, unlimited, Form, Rules, Bodies, token, give, call, map, ◌⨾◌, choose, many, or_none, nest, bounded, two_ahead, avoid, run, read}
 
 -- What is recursive: an expression, a unary one, one whose operators are of a level or tighter, one that is no assignment, and a statement that is nested so deep.
@@ -58,7 +60,7 @@ at_key w = token (at w) from
 abbrev pub called : Part (ℕ × List ℕ)
 called = token name readers.named
 
--- ---- operators between two operands (C99, sections 6.5.5 to 6.5.14), the tightest first
+-- ---- operators between two operands (C99, sections 6.5.5 to 6.5.14), the tightest first; those of the last level assign what they compute (6.5.16)
 
 unfoldable pub table : List (Row BinaryOperator)
 table =
@@ -79,30 +81,44 @@ table =
     record { mark = m.Caret; level = 7; operator = operators.BitXor } ∷
     record { mark = m.Bar; level = 8; operator = operators.BitOr } ∷
     record { mark = m.And; level = 9; operator = operators.And } ∷
-    record { mark = m.Or; level = 10; operator = operators.Or } ∷ []
+    record { mark = m.Or; level = 10; operator = operators.Or } ∷
+    record { mark = m.StarAssign; level = 11; operator = operators.Multiply } ∷
+    record { mark = m.SlashAssign; level = 11; operator = operators.Divide } ∷
+    record { mark = m.PercentAssign; level = 11; operator = operators.Remainder } ∷
+    record { mark = m.PlusAssign; level = 11; operator = operators.Add } ∷
+    record { mark = m.MinusAssign; level = 11; operator = operators.Subtract } ∷
+    record { mark = m.ShiftLeftAssign; level = 11; operator = operators.ShiftLeft } ∷
+    record { mark = m.ShiftRightAssign; level = 11; operator = operators.ShiftRight } ∷
+    record { mark = m.AmpersandAssign; level = 11; operator = operators.BitAnd } ∷
+    record { mark = m.CaretAssign; level = 11; operator = operators.BitXor } ∷
+    record { mark = m.BarAssign; level = 11; operator = operators.BitOr } ∷ []
 
--- the loosest of these levels
 abbrev pub loosest_of : List (Row BinaryOperator) → ℕ
 loosest_of [] = 0
 loosest_of (r ∷ rows) = max r.level (loosest_of rows)
 
+-- the level of the operators that assign
+abbrev pub assigning : ℕ
+assigning = loosest_of table
+
+-- the loosest level of the others
 abbrev pub loosest : ℕ
-loosest = loosest_of table
+loosest = assigning - 1
 
 -- the operators of the levels up to this one
 abbrev pub marks_up_to : ℕ → Kinds
 marks_up_to zero = none
 marks_up_to (suc l) = marks_up_to l ∪ marks_at (suc l) table
 
--- an operator of a level
-abbrev pub between : ℕ → Part BinaryOperator
-between l = token (marks_at l table) (operator_of operators.Add table)
+-- an operator of a level, with its place
+abbrev pub between : ℕ → Part (ℕ × BinaryOperator)
+between l = token (marks_at l table) (placed_operator operators.Add table)
 
-abbrev pub join : ExprTree → BinaryOperator × ExprTree → ExprTree
-join left (o, right) = Binary (begins left) o left right
+abbrev pub join : ExprTree → (ℕ × BinaryOperator) × ExprTree → ExprTree
+join left (o, right) = Binary (begins left) o.1 left right
 
 -- an operator of a level and its right operand
-unfoldable pub further : ℕ → Part (BinaryOperator × ExprTree)
+unfoldable pub further : ℕ → Part ((ℕ × BinaryOperator) × ExprTree)
 further l = between l ⨾ call (binary (l - 1))
 
 -- the operators of a level after a left operand, with their right operands; they group from the left
@@ -186,6 +202,22 @@ begins_literal = integer ∪ text ∪ word w.Nil ∪ word w.SelfWord ∪ word w.
 unfoldable pub literal : Part ExprTree
 literal = token begins_literal (λ t. literal_of t.from t.sort)
 
+-- `++` and `--`, which count a variable or a field up and down
+abbrev pub begins_counting : Kinds
+begins_counting = mark m.Increment ∪ mark m.Decrement
+
+abbrev pub counting_operator : Sort → BinaryOperator
+counting_operator (tokens.Sign m.Increment) = operators.Add
+counting_operator _ = operators.Subtract
+
+-- such an operator, with its place
+unfoldable pub counting : Part (ℕ × BinaryOperator)
+counting = token begins_counting (λ t. (t.from, counting_operator t.sort))
+
+-- an update by 1 (6.5.2.4 and 6.5.3.1)
+abbrev pub by_one : ℕ → ℕ × BinaryOperator → Moment → ExprTree → ExprTree
+by_one at o moment a = Update at o.0 moment o.1 a (Integer o.0 (pos 1) false)
+
 -- a field after an object (6.5.2.3)
 unfoldable pub field_name : Part (ℕ × List ℕ)
 field_name = map (λ (arrow, n). n) (the m.Arrow ⨾ called)
@@ -193,8 +225,15 @@ field_name = map (λ (arrow, n). n) (the m.Arrow ⨾ called)
 abbrev pub with_field : ExprTree → ℕ × List ℕ → ExprTree
 with_field object n = Arrow (begins object) n.0 object n.1
 
-unfoldable pub arrows : Part (ExprTree → ExprTree)
-arrows = map (λ all object. fold with_field object all) (many (mark m.Arrow) field_name)
+-- what may come after a primary expression (6.5.2)
+abbrev pub begins_suffix : Kinds
+begins_suffix = mark m.Arrow ∪ begins_counting
+
+unfoldable pub suffix : Part (ExprTree → ExprTree)
+suffix = choose (mark m.Arrow) (map (λ n object. with_field object n) field_name) (map (λ o a. by_one (begins a) o Before a) counting)
+
+unfoldable pub suffixes : Part (ExprTree → ExprTree)
+suffixes = map (λ all a. fold (λ b make. make b) a all) (many begins_suffix suffix)
 
 -- a list as the trees hold it
 abbrev pub exprs : List ExprTree → ExprTrees
@@ -284,7 +323,7 @@ message = map (λ (at, make). make at) (the m.OpenSquare ⨾ choose (word w.Supe
 
 -- what is after the `(` of an expression in parentheses
 unfoldable pub inside : Part (ℕ → ExprTree)
-inside = map (λ (a, (end, make)) at. make (Paren at a)) (call expr ⨾ the m.CloseParen ⨾ arrows)
+inside = map (λ (a, (end, make)) at. make (Paren at a)) (call expr ⨾ the m.CloseParen ⨾ suffixes)
 
 -- what is after the `(` of a cast to a type that names no class
 unfoldable pub cast_to_plain : Part (ℕ → ExprTree)
@@ -296,7 +335,7 @@ cast = map (λ (end, a) (at, name_at, called). Cast at (Object name_at called) a
 
 -- what is after `( name *` in a product in parentheses
 unfoldable pub product : Part (ℕ × ℕ × List ℕ → ExprTree)
-product = map (λ (right, (make, (end, fields))) (at, name_at, called). fields (Paren at (make (Binary name_at operators.Multiply (Name name_at called) right)))) (call unary ⨾ continued ⨾ the m.CloseParen ⨾ arrows)
+product = map (λ (right, (make, (end, others))) (at, name_at, called). others (Paren at (make (Binary name_at operators.Multiply (Name name_at called) right)))) (call unary ⨾ continued ⨾ the m.CloseParen ⨾ suffixes)
 
 -- what is after the `(` where a name and `*` come
 unfoldable pub starred : Part (ℕ → ExprTree)
@@ -311,7 +350,7 @@ unfoldable pub primary : Part ExprTree
 primary = choose name named (choose (mark m.OpenSquare) message literal)
 
 unfoldable pub postfix : Part ExprTree
-postfix = map (λ (a, make). make a) (primary ⨾ arrows)
+postfix = map (λ (a, make). make a) (primary ⨾ suffixes)
 
 -- the operators before an operand (6.5.3.3)
 abbrev pub begins_signed : Kinds
@@ -330,8 +369,12 @@ operator_before = token begins_signed (λ t. (t.from, unary_operator t.sort))
 unfoldable pub signed : Part ExprTree
 signed = map (λ (o, a). Unary o.0 o.1 a) (operator_before ⨾ call unary)
 
+-- `++` or `--` before an operand (6.5.3.1)
+unfoldable pub counted : Part ExprTree
+counted = map (λ (o, a). by_one o.0 o After a) (counting ⨾ call unary)
+
 unfoldable pub prefixed : Part ExprTree
-prefixed = choose begins_signed signed (choose (mark m.OpenParen) parenthesized postfix)
+prefixed = choose begins_signed signed (choose begins_counting counted (choose (mark m.OpenParen) parenthesized postfix))
 
 -- an expression whose operators bind as loosely as this level, or tighter
 unfoldable pub operations : ℕ → Part ExprTree
@@ -345,15 +388,19 @@ conditional_expr = map (λ (left, make). make left) (prefixed ⨾ continued)
 unfoldable pub assigned : Part (ExprTree → ExprTree)
 assigned = map (λ (sign, right) left. Assign (begins left) sign left right) (the m.Assign ⨾ call expr)
 
+-- and one of what an operator computes with the left side and the right one (6.5.16.2)
+unfoldable pub updated : Part (ExprTree → ExprTree)
+updated = map (λ (o, right) left. Update (begins left) o.0 After o.1 left right) (between assigning ⨾ call expr)
+
 -- what comes after a unary expression
 unfoldable pub operation : Part (ExprTree → ExprTree)
-operation = choose (mark m.Assign) assigned continued
+operation = choose (mark m.Assign) assigned (choose (marks_at assigning table) updated continued)
 
 unfoldable pub expression : Part ExprTree
 expression = map (λ (left, make). make left) (prefixed ⨾ operation)
 
 abbrev pub begins_expr : Kinds
-begins_expr = name ∪ begins_literal ∪ mark m.OpenParen ∪ mark m.OpenSquare ∪ begins_signed
+begins_expr = name ∪ begins_literal ∪ mark m.OpenParen ∪ mark m.OpenSquare ∪ begins_signed ∪ begins_counting
 
 -- a full-expression (6.8, paragraph 4), within the limit
 unfoldable pub full : Part ExprTree

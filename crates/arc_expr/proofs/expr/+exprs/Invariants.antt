@@ -10,6 +10,9 @@ decreases-operation l = 16 * length l.tokens.now + 13
 abbrev pub decreases-assigned : goal.decreases-assigned
 decreases-assigned l = 16 * length l.tokens.now + 1
 
+abbrev pub decreases-updated : goal.decreases-updated
+decreases-updated l = 16 * length l.tokens.now + 1
+
 abbrev pub decreases-continued : goal.decreases-continued
 decreases-continued l = 16 * length l.tokens.now + 12
 
@@ -36,6 +39,9 @@ decreases-prefixed l = 16 * length l.tokens.now + 3
 
 abbrev pub decreases-signed : goal.decreases-signed
 decreases-signed l = 16 * length l.tokens.now + 1
+
+abbrev pub decreases-counted : goal.decreases-counted
+decreases-counted l = 16 * length l.tokens.now + 1
 
 abbrev pub decreases-parenthesized : goal.decreases-parenthesized
 decreases-parenthesized l = 16 * length l.tokens.now + 1
