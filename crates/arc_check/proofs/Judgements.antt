@@ -4,11 +4,12 @@ use Rattle.arc_ast.specs.declared.tree.Kind.{Kind}
 use Rattle.arc_ast.specs.declared.tree.Kind.TheVariants as kinds_of
 use Rattle.arc_ast.specs.declared.tree.Expr as ast
 use Rattle.arc_ast.specs.declared.tree.Expr.{Expr}
+use Rattle.arc_ast.specs.declared.tree.Moment.{Moment}
 use Rattle.arc_ast.specs.declared.tree.UnaryOperator.{UnaryOperator}
 use Rattle.arc_ast.specs.declared.tree.BinaryOperator.{BinaryOperator}
 use Rattle.arc_ast.specs.declared.tree.OperatorSort.TheVariants.{Equality}
 use Rattle.arc_ast.specs.Operators.{sort_of}
-use Rattle.arc_ast.specs.Tree.{ExprTree, ExprTrees, Arrow, Assign, Binary, Cast, Conditional, Itself, Send, Unary, SendSuper, TypeTree, expr_tree, expr_trees, place}
+use Rattle.arc_ast.specs.Tree.{ExprTree, ExprTrees, Arrow, Assign, Update, Binary, Cast, Conditional, Itself, Send, Unary, SendSuper, TypeTree, expr_tree, expr_trees, place}
 use Rattle.arc_ast.specs.Types.{type_kind}
 use Rattle.arc_class.specs.Broken.{broken_if, Broken, first, earlier_of}
 use Rattle.arc_class.specs.Table.{number_of_class}
@@ -24,7 +25,7 @@ use Rattle.arc_check.specs.declared.taken.Taken.{Taken}
 use Rattle.arc_check.specs.Fault.{told}
 use Rattle.arc_check.specs.Formats.{fits}
 use Rattle.arc_check.specs.private.Judging.{Judges, JudgesCall, JudgesWhole, counted, none_counted, other_rule}
-use Rattle.arc_check.specs.Rules.{all_taken, arrow_kind, at_if, binary_kind, broken, broken_arguments, broken_at, broken_field, call_rule, either_kind, is_assignable, is_object, is_unread, kind_if, kind_of, kinds, message_kind, no_left, no_method, no_number, no_object, no_right, no_such, no_value, number_kind, taken, no_operand, unary_kind}
+use Rattle.arc_check.specs.Rules.{all_taken, arrow_kind, at_if, binary_kind, broken, broken_arguments, broken_at, broken_field, call_rule, either_kind, is_assignable, is_object, is_unread, is_updatable, kind_if, kind_of, kinds, message_kind, no_left, no_method, no_number, no_object, no_right, no_such, no_value, number_kind, taken, no_operand, unary_kind}
 use Rattle.arc_check.specs.Scopes.{Scope, callee, class_of, class_receiver, either_class, is_nil, is_printf, own_class, result_kind, sent_class, static_class, super_class, super_kind}
 use Rattle.arc_check.proofs.Counting.{counted_both, past_is}
 use Rattle.arc_check.proofs.Lists.{drop_turn}
@@ -187,6 +188,23 @@ judges_assign s before between at sign a b assignable left right both right_at l
           (with_rule s (broken s b) b (no_such (kind_of s a)) (option_map told right.fault) two right.kind right_at r.fault r.kind p (ap (λ o. earlier_of (option_map told right.fault) (first (no_such o right.kind right_at))) l.kind)) f;
       taken = t ∙ counted_both before between right.taken (reads ++ sets) (taken s b)
           (counted_both before read between reads sets (taken_read (is_unread s a) before left.taken (taken s a) l.taken) (g ∙ ap (λ o. counted read (at_if (is_object o) sign)) l.kind)) r.taken;
+    }
+
+pub judges_update : (s : Scope) (before : Taken) (at sign : ℕ) (moment : Moment) (operator : BinaryOperator) (a b : ExprTree) (updatable : Bool) (left right both : Judged) (right_at : ℕ) → Judges s before a left → Judges s left.taken b right → updatable ≡ is_updatable a left.kind → right_at ≡ place b
+    → both.kind ≡ cond updatable left.kind None → both.class ≡ None
+    → option_map told both.fault ≡ earlier_of (earlier_of (option_map told left.fault) (first (broken_if (not updatable) sign 44))) (earlier_of (option_map told right.fault) (first (no_number right.kind right_at))) → both.taken ≡ right.taken
+    → Judges s before (Update at sign moment operator a b) both
+judges_update s before at sign moment operator a b updatable left right both right_at l r v p k c f t =
+    let is = v ∙ ap (is_updatable a) l.kind in
+    let own = broken_if (not (is_updatable a (kind_of s a))) sign 44 in
+    let two = earlier_of (option_map told right.fault) (first (no_number right.kind right_at)) in
+    record {
+      kind = k ∙ ap (λ o. cond updatable o None) l.kind ∙ ap (λ p. cond p (kind_of s a) None) is;
+      class = ap (option_map number_of_class) c;
+      fault = first_both (broken s a ++ own) (broken s b ++ no_number (kind_of s b) (place b)) (earlier_of (option_map told left.fault) (first (broken_if (not updatable) sign 44))) two (option_map told both.fault)
+          (first_both (broken s a) own (option_map told left.fault) (first (broken_if (not updatable) sign 44)) _ l.fault (ap (λ p. first (broken_if (not p) sign 44)) is) refl)
+          (with_rule s (broken s b) b no_number (option_map told right.fault) two right.kind right_at r.fault r.kind p refl) f;
+      taken = t ∙ counted_both before left.taken right.taken (taken s a) (taken s b) l.taken r.taken;
     }
 
 -- ---- messages

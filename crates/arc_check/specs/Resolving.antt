@@ -1,6 +1,7 @@
 -- The resolved program of a source that breaks no rule.
 use Rattle.std.specs.Prelude.{ℕ, ◌-◌, pos, Bool, false, List, [], ◌∷◌, ◌++◌, drop, map, flat_map, filter_map, Option, Some, None, option_map, option_and_then, unwrap_or, if◌then◌else◌}
 use Rattle.std.specs.Option.{option_map_or}
+use Rattle.arc_ast.specs.declared.tree.Moment.{Moment}
 use Rattle.arc_ast.specs.declared.tree.UnaryOperator.{UnaryOperator}
 use Rattle.arc_ast.specs.declared.tree.UnaryOperator.TheVariants as u
 use Rattle.arc_ast.specs.declared.tree.BinaryOperator.{BinaryOperator}
@@ -15,9 +16,9 @@ use Rattle.arc_ast.specs.declared.tree.Kind.TheVariants as k
 use Rattle.arc_ast.specs.declared.tree.Sign.{Sign}
 use Rattle.arc_ast.specs.declared.tree.Sign.TheVariants as signs
 use Rattle.arc_ast.specs.Tree as tree
-use Rattle.arc_ast.specs.Tree.{TypeTree, ExprTree, ExprTrees, Integer, Text, Paren, Call, Name, Unary, Cast, Binary, Conditional, Arrow, Assign, Send, SendSuper, no_exprs, and_expr, VariableTree, StmtTree, StmtTrees, Block, Empty, Simple, Variables, If, IfElse, While, Do, For, no_stmts, and_stmt, ParameterTree, FunctionTree, MethodTree, ImplementationTree, UnitTree}
+use Rattle.arc_ast.specs.Tree.{TypeTree, ExprTree, ExprTrees, Integer, Text, Paren, Call, Name, Unary, Cast, Binary, Conditional, Arrow, Assign, Update, Send, SendSuper, no_exprs, and_expr, VariableTree, StmtTree, StmtTrees, Block, Empty, Simple, Variables, If, IfElse, While, Do, For, no_stmts, and_stmt, ParameterTree, FunctionTree, MethodTree, ImplementationTree, UnitTree}
 use Rattle.arc_spec.specs.Classes.{same_sign}
-use Rattle.arc_spec.specs.Resolved.{Value, Reference, Number, ReadByte, Print, Applied, Combined, Choice, Converted, Local, Assigned, Invoked, Sent, SentSuper, SentTo, SentToSuper, Field, FieldAssigned, Differ, IsObject, Nil, Itself, Variable, Chosen, Stored, Made, Initialized, Values, no_values, and_value, Command, Sequence, Evaluate, EvaluateReference, Begin, Return, Choose, Repeat, RepeatAfter, Break, Continue, Commands, no_commands, and_command, Function, Program}
+use Rattle.arc_spec.specs.Resolved.{Value, Reference, Number, ReadByte, Print, Applied, Combined, Choice, Converted, Local, Assigned, Updated, Invoked, Sent, SentSuper, SentTo, SentToSuper, Field, FieldAssigned, FieldUpdated, Differ, IsObject, Nil, Itself, Variable, Chosen, Stored, Made, Initialized, Values, no_values, and_value, Command, Sequence, Evaluate, EvaluateReference, Begin, Return, Choose, Repeat, RepeatAfter, Break, Continue, Commands, no_commands, and_command, Function, Program}
 use Rattle.arc_sites.specs.Sites.{named_parameters}
 use Rattle.arc_class.specs.Running.{classes}
 use Rattle.arc_class.specs.Names.{number_of, is_main}
@@ -190,6 +191,24 @@ name_assigned None own a = field_assigned Itself own a
 name_assigned (Some (scopes.Number kind n)) own a = Gives kind (Assigned n (converted kind a))
 name_assigned (Some (scopes.Object n class)) own a = Refers (Stored n (object_in a))
 
+-- ---- updates
+
+-- the kind in which an update of a number of a kind computes: that of its operator between two operands (C99, section 6.5.16.2)
+abbrev pub updating_kind : BinaryOperator → Kind → Resolution → Kind
+updating_kind operator kind a = computing_kind (sort_of operator) kind (kind_in a)
+
+-- What is updated is what the left side reads: a variable, or a field of an object, which is evaluated once.
+abbrev pub place_updated : Moment → BinaryOperator → (computed kept : Kind) → (place operand : Value) → Value
+place_updated moment operator computed kept (Local n) a = Updated moment n operator computed kept a
+place_updated moment operator computed kept (Field r class index) a = FieldUpdated moment r class index operator computed kept a
+place_updated moment operator computed kept _ a = a
+
+-- an update of a number, by an operand that becomes one of the kind in which the operator computes; an object, which breaks a rule, stays as it is
+abbrev pub updated : Moment → BinaryOperator → Resolution → Resolution → Resolution
+updated moment operator (Refers r) a = Refers r
+updated moment operator (Gives kind place) a =
+    Gives kind (place_updated moment operator (updating_kind operator kind a) kind place (converted (updating_kind operator kind a) a))
+
 -- ---- messages
 
 -- the value of a receiver that is the class of a number: that number, where it is a name, and else `self`, the first int of a class method
@@ -243,6 +262,7 @@ abbrev mutual
   resolved s (Conditional at c a b) = conditional (number_in (resolved s c)) (resolved s a) (resolved s b)
   resolved s (Arrow at name_at a name) = field (object_in (resolved s a)) (s.known.field (class_of s a) name)
   resolved s (Assign at sign a b) = assigned s a (resolved s b)
+  resolved s (Update at sign moment operator a b) = updated moment operator (resolved s a) (resolved s b)
   resolved s (Send at part receiver selector arguments) =
       sent s receiver (class_receiver s receiver) (class_of s receiver) (resolved s receiver) selector (resolved_all s (Some (s.known.passed (receiver_sign (class_receiver s receiver)) selector)) arguments)
   resolved s (SendSuper at part super_at selector arguments) = sent_super s selector (resolved_all s (Some (s.known.passed s.sign selector)) arguments)

@@ -10,7 +10,7 @@ use Rattle.arc_ast.specs.declared.tree.OperatorSort.{OperatorSort}
 use Rattle.arc_ast.specs.declared.tree.OperatorSort.TheVariants.{Arithmetic, Shift, Relation, Equality, Logic}
 use Rattle.arc_ast.specs.Types.{type_kind}
 use Rattle.arc_ast.specs.Types as types
-use Rattle.arc_ast.specs.Tree.{TypeTree, ExprTree, ExprTrees, Integer, Text, Paren, Call, Nil, Itself, Name, Unary, Cast, Binary, Conditional, Arrow, Assign, Send, SendSuper, no_exprs, and_expr, place, VariableTree, StmtTree, StmtTrees, Block, Empty, Simple, Return, Variables, If, IfElse, While, Do, For, Break, Continue, no_stmts, and_stmt, ParameterTree, FunctionTree, HeadTree, MethodTree, InterfaceTree, ImplementationTree, UnitTree}
+use Rattle.arc_ast.specs.Tree.{TypeTree, ExprTree, ExprTrees, Integer, Text, Paren, Call, Nil, Itself, Name, Unary, Cast, Binary, Conditional, Arrow, Assign, Update, Send, SendSuper, no_exprs, and_expr, place, VariableTree, StmtTree, StmtTrees, Block, Empty, Simple, Return, Variables, If, IfElse, While, Do, For, Break, Continue, no_stmts, and_stmt, ParameterTree, FunctionTree, HeadTree, MethodTree, InterfaceTree, ImplementationTree, UnitTree}
 use Rattle.arc_class.specs.Broken.{broken_if, Broken}
 use Rattle.arc_sites.specs.Sites.{named_parameters}
 use Rattle.arc_class.specs.Classes.{kinds_passed, class_number, superclass, known_result, any_result, selector_number}
@@ -113,8 +113,12 @@ is_assignable (Name at name) = true
 is_assignable (Arrow at name_at a name) = true
 is_assignable _ = false
 
--- The kind of an expression, where it has one: it breaks no rule itself, and those have one on whose kinds its own rests. An assignment has its left side's
--- kind (C99, section 6.5.16).
+-- whether an update's left side, which is of a kind, is a variable or a field that holds a number; what has no kind breaks another rule
+abbrev pub is_updatable : ExprTree → Option Kind → Bool
+is_updatable a kind = is_assignable a && not (is_object kind)
+
+-- The kind of an expression, where it has one: it breaks no rule itself, and those have one on whose kinds its own rests. An assignment and an update have their
+-- left side's kind (C99, section 6.5.16).
 abbrev mutual
   pub kind_of : Scope → ExprTree → Option Kind
   kind_of s (Integer at n suffixed) = Some (literal_kind n suffixed)
@@ -130,6 +134,7 @@ abbrev mutual
   kind_of s (Conditional at c a b) = either_kind (kind_of s a) (kind_of s b)
   kind_of s (Arrow at name_at a name) = arrow_kind s (kind_of s a) (s.known.field (class_of s a) name)
   kind_of s (Assign at sign a b) = if is_assignable a then kind_of s a else None
+  kind_of s (Update at sign moment operator a b) = if is_updatable a (kind_of s a) then kind_of s a else None
   kind_of s (Send at part receiver selector arguments) = message_kind s (class_receiver s receiver) (kind_of s receiver) (class_of s receiver) selector
   kind_of s (SendSuper at part super_at selector arguments) = super_kind s selector
 
@@ -201,8 +206,8 @@ no_method s class kind static selector part =
     broken_if ((is_some class || is_object kind) && is_none (sent_kind s.known class static selector)) part 42
 
 -- All that is wrong with an expression but for the number of objects that it takes. 43 KindMismatch: a text stands anywhere but as the first argument of printf
--- (this project's own choice). 44 NotAssignable, at the `=`: the left side is no variable, no field and not `self` (C99, section 6.5.16). A receiver is a class
--- or has to be an object.
+-- (this project's own choice). 44 NotAssignable, at the `=`: the left side is no variable, no field and not `self` (C99, section 6.5.16); at the operator
+-- of an update: it is none of these, or an object (6.5.16.2; with objects nothing is computed). A receiver is a class or has to be an object.
 abbrev mutual
   pub broken : Scope → ExprTree → List Broken
   broken s (Text at bytes) = record { at = at; number = 43 } ∷ []
@@ -221,6 +226,8 @@ abbrev mutual
   broken s (Arrow at name_at a name) =
       (broken s a ++ no_object (kind_of s a) (place a)) ++ broken_field s (kind_of s a) (s.known.field (class_of s a) name) name_at
   broken s (Assign at sign a b) = (broken s a ++ broken_if (not (is_assignable a)) sign 44) ++ (broken s b ++ no_such (kind_of s a) (kind_of s b) (place b))
+  broken s (Update at sign moment operator a b) =
+      (broken s a ++ broken_if (not (is_updatable a (kind_of s a))) sign 44) ++ (broken s b ++ no_number (kind_of s b) (place b))
   broken s (Send at part receiver selector arguments) =
       ((if is_some (class_receiver s receiver) then [] else broken s receiver ++ no_object (kind_of s receiver) (place receiver))
       ++ no_method s (class_receiver s receiver) (kind_of s receiver) (class_of s receiver) selector part)
@@ -267,6 +274,7 @@ abbrev mutual
   taken s (Conditional at c a b) = taken s c ++ (taken s a ++ taken s b)
   taken s (Arrow at name_at a name) = taken s a
   taken s (Assign at sign a b) = ((if is_unread s a then [] else taken s a) ++ at_if (is_object (kind_of s a)) sign) ++ taken s b
+  taken s (Update at sign moment operator a b) = taken s a ++ taken s b
   taken s (Send at part receiver selector arguments) =
       (taken s receiver ++ at_if (is_object (message_kind s (class_receiver s receiver) (kind_of s receiver) (class_of s receiver) selector)) part) ++ all_taken s arguments
   taken s (SendSuper at part super_at selector arguments) =

@@ -1,7 +1,7 @@
 //! Finds the first rule that is broken in an expression.
 ghost use Rattle.std.specs.Prelude.{◌≡◌, ℕ, None, Some, not, is_none, is_some, option_map, if◌then◌else◌, []};
 ghost use Rattle.arc_ast.specs.Tree as tree;
-ghost use Rattle.arc_ast.specs.Tree.{Arrow, Assign, Cast, Conditional, Itself, Name, Send, SendSuper, expr_tree, expr_trees, type_tree};
+ghost use Rattle.arc_ast.specs.Tree.{Arrow, Assign, Cast, Conditional, Itself, Name, Send, SendSuper, Update, expr_tree, expr_trees, type_tree};
 ghost use Rattle.arc_class.specs.Broken.{broken_if, earlier_of, first};
 ghost use Rattle.arc_class.specs.declared.table.ClassTable.{ClassTable};
 ghost use Rattle.arc_class.specs.Table.{number_of_class};
@@ -10,6 +10,7 @@ ghost use Rattle.arc_check.specs.Formats.{wanted};
 ghost use Rattle.arc_check.specs.private.Judging.{Judges, JudgesWhole, JudgesAll, JudgesCall, counted};
 ghost use Rattle.arc_check.specs.Rules as rules;
 ghost use Rattle.arc_ast.specs.Operators.{sort_of};
+ghost use Rattle.arc_ast.specs.declared.tree.Moment.{Moment};
 ghost use Rattle.arc_check.specs.Rules.{kind_if, no_left, no_number, no_right, no_value};
 ghost use Rattle.arc_check.specs.Scopes as scopes;
 ghost use Rattle.arc_check.specs.declared.scope.Visible.{Visible};
@@ -23,8 +24,8 @@ use crate::message::{
 };
 use crate::rule::{
     binary_kind, call_fault, either_class, either_kind, is_assignable, is_nil, is_object,
-    is_unread, literal_kind, no_left, no_number, no_object, no_operand, no_right, no_such,
-    no_value, place, unary_kind,
+    is_unread, is_updatable, literal_kind, no_left, no_number, no_object, no_operand, no_right,
+    no_such, no_value, place, unary_kind,
 };
 use crate::scope::{Local, Visible};
 use crate::taken::Taken;
@@ -204,6 +205,9 @@ pub fn judge<'a>(
         }
         Expr::Assign(_, sign, left, right) => {
             judge_assignment(table, visible, before, *sign, left, right)
+        }
+        Expr::Update(_, sign, _, _, left, right) => {
+            judge_update(table, visible, before, *sign, left, right)
         }
         Expr::Send(_, part, receiver, selector, arguments) => {
             judge_send(table, visible, before, *part, receiver, selector, arguments)
@@ -422,6 +426,41 @@ fn judge_assignment<'a>(
     let between = taken_by_left(visible, before, left, first, sign);
     let second = judge(table, visible, between, right);
     assigned(is_assignable(left), sign, first, second, place(right))
+}
+
+/// The judgement on an update, from its sides.
+fn updated(is_updatable: bool, sign: usize, left: Judged, right: Judged, right_at: usize) -> Judged
+    ensures kind { result.kind ≡ (if is_updatable then left.kind else None) }
+    ensures class { result.class ≡ None }
+    ensures fault { option_map told result.fault
+        ≡ earlier_of (earlier_of (option_map told left.fault) (first (broken_if (not is_updatable) sign 44)))
+        (earlier_of (option_map told right.fault) (first (rules.no_number right.kind right_at))) }
+    ensures taken { result.taken ≡ right.taken }
+{
+    let other = earlier(right.fault, no_number(right.kind, right_at));
+    if is_updatable {
+        return number(left.kind, earlier(left.fault, other), right.taken);
+    }
+    let own = Some(CheckFault::NotAssignable(sign));
+    number(None, earlier(earlier(left.fault, own), other), right.taken)
+}
+
+/// The judgement on an update.
+#[cycle(judge)]
+fn judge_update<'a>(
+    table: &ClassTable<'a>,
+    visible: &Visible<'a>,
+    before: Taken,
+    sign: usize,
+    left: &'a Expr,
+    right: &'a Expr,
+) -> Judged
+    ensures { (at : ℕ) (moment : Moment) (operator : BinaryOperator) → Judges (seen table.now visible.now) before (Update at sign moment operator (expr_tree left.now) (expr_tree right.now)) result }
+{
+    let first = judge(table, visible, before, left);
+    let second = judge(table, visible, first.taken, right);
+    let is_updatable = is_updatable(left, first.kind);
+    updated(is_updatable, sign, first, second, place(right))
 }
 
 /// The kind of a message to the class or, with none, to what this judgement is on.

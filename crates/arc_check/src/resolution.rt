@@ -13,7 +13,9 @@ ghost use Rattle.arc_check.specs.private.Views.{local_of};
 use crate::checked::{Reference, Value};
 use crate::rule::{is_object, wider};
 use crate::scope::Local;
-use arc_ast::tree::{BinaryOperator, Expr, Kind, OperatorSort, Sign, UnaryOperator, operator_sort};
+use arc_ast::tree::{
+    BinaryOperator, Expr, Kind, Moment, OperatorSort, Sign, UnaryOperator, operator_sort,
+};
 use arc_class::table::{ClassId, FoundField, Sel};
 use std::alloc::{AllocError, Global};
 
@@ -428,6 +430,49 @@ pub fn name_assigned(
         Some(Local::Object(number, _)) => {
             let object = Box::new(alloc, object_in(of))?;
             Ok(Resolution::Refers(Reference::Stored(number, object)))
+        }
+    }
+}
+
+/// An update of the variable or the field that is read here. What reads no such thing breaks a rule; then the operand stands for it.
+fn place_updated(
+    moment: Moment,
+    operator: BinaryOperator,
+    computed: Kind,
+    kept: Kind,
+    place: Value,
+    operand: Box<Value>,
+) -> Value
+    ensures { checked.value result ≡ resolving.place_updated moment operator computed kept (checked.value place) (checked.value operand.value) }
+{
+    match place {
+        Value::Local(number) => {
+            Value::Updated(moment, number, operator, computed, kept, operand)
+        }
+        Value::Field(object, class, index) => Value::FieldUpdated(
+            moment, object, class, index, operator, computed, kept, operand,
+        ),
+        _ => *operand,
+    }
+}
+
+/// An update, from its sides.
+pub fn updated(
+    alloc: Global,
+    moment: Moment,
+    operator: BinaryOperator,
+    left: Resolution,
+    right: Resolution,
+) -> Result<Resolution, AllocError>
+    ensures { IfOk result (λ new. resolution new ≡ resolving.updated moment operator (resolution left) (resolution right)) }
+{
+    match left {
+        Resolution::Refers(object) => Ok(Resolution::Refers(object)),
+        Resolution::Gives(kind, place) => {
+            let computed = computing_kind(operator_sort(operator), kind, kind_in(&right));
+            let operand = converted(alloc, computed, right)?;
+            let value = place_updated(moment, operator, computed, kind, *place, operand);
+            given(alloc, kind, value)
         }
     }
 }

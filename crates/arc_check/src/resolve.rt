@@ -1,6 +1,6 @@
 //! Builds the resolved expressions of a source that breaks no rule.
 ghost use Rattle.std.specs.Prelude.{◌≡◌, ℕ, List, Option, Some, None, drop, option_map, IfOk};
-ghost use Rattle.arc_ast.specs.Tree.{ExprTree, type_tree, expr_tree, expr_trees, Integer, Text, Name, Unary, Cast, Binary, Conditional, Arrow, Assign, Call, Send, SendSuper};
+ghost use Rattle.arc_ast.specs.Tree.{ExprTree, type_tree, expr_tree, expr_trees, Integer, Text, Name, Unary, Cast, Binary, Conditional, Arrow, Assign, Update, Call, Send, SendSuper};
 ghost use Rattle.arc_class.specs.Table.{number_of_class};
 ghost use Rattle.arc_check.specs.private.Building.{Resolves, kinds_wanted, printing, resolution};
 ghost use Rattle.arc_check.specs.Checked as checked;
@@ -20,11 +20,11 @@ use crate::message::{
 use crate::resolution::{
     Resolution, Typed, binary, cast as cast_to, class_number, class_value, conditional, converted,
     field, field_assigned, given, name_assigned, named, number, number_in, object_in,
-    selector_number, to_class, to_object, to_super, unary,
+    selector_number, to_class, to_object, to_super, unary, updated,
 };
 use crate::rule::{either_class, is_nil, literal_kind};
 use crate::scope::{Local, Visible};
-use arc_ast::tree::{BinaryOperator, Expr, Kind, Parameter, Sign, TypeName, UnaryOperator};
+use arc_ast::tree::{BinaryOperator, Expr, Kind, Moment, Parameter, Sign, TypeName, UnaryOperator};
 use arc_class::table::{ClassId, ClassTable};
 use std::alloc::{AllocError, Global};
 
@@ -99,6 +99,9 @@ pub fn expression<'a>(
         }
         Expr::Arrow(_, _, base, name) => arrow(alloc, table, visible, base, name),
         Expr::Assign(_, _, left, right) => assignment(alloc, table, visible, left, right),
+        Expr::Update(_, _, moment, operator, left, right) => {
+            update(alloc, table, visible, *moment, *operator, left, right)
+        }
         Expr::Send(_, _, receiver, selector, arguments) => {
             message(alloc, table, visible, receiver, selector, arguments)
         }
@@ -213,6 +216,25 @@ fn assignment<'a>(
 {
     let right = expression(alloc, table, visible, right)?;
     assigned(alloc, table, visible, left, right.value)
+}
+
+/// A resolved update.
+#[cycle(resolve)]
+fn update<'a>(
+    alloc: Global,
+    table: &ClassTable<'a>,
+    visible: &Visible<'a>,
+    moment: Moment,
+    operator: BinaryOperator,
+    left: &'a Expr,
+    right: &'a Expr,
+) -> Result<Typed, AllocError>
+    ensures { IfOk result (λ typed. (at sign : ℕ) → Resolves (seen table.now visible.now) (Update at sign moment operator (expr_tree left.now) (expr_tree right.now)) typed) }
+{
+    let left = expression(alloc, table, visible, left)?;
+    let right = expression(alloc, table, visible, right)?;
+    let value = updated(alloc, moment, operator, left.value, right.value)?;
+    Ok(Typed { class: None, value })
 }
 
 /// The static class of the variable, if there is one.

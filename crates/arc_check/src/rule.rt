@@ -15,7 +15,7 @@ ghost use Rattle.arc_check.specs.private.Views.{seen};
 
 use crate::callee::Callee;
 use crate::scope::Visible;
-use arc_ast::tree::{Expr, Kind, OperatorSort, UnaryOperator};
+use arc_ast::tree::{Expr, Kind, Moment, OperatorSort, UnaryOperator};
 use arc_class::table::ClassId;
 use arc_fault::check::CheckFault;
 
@@ -43,7 +43,7 @@ pub fn wider(a: Kind, b: Kind) -> Kind
     }
 }
 
-/// The place at which an expression that breaks a rule is reported: an assignment's `=`, a field's name, a message's first selector part, and else
+/// The place at which an expression that breaks a rule is reported: an assignment's operator, a field's name, a message's first selector part, and else
 /// the first byte.
 pub fn place(expr: &Expr) -> usize
     ensures { result ≡ tree.place (expr_tree expr.now) }
@@ -62,6 +62,8 @@ pub fn place(expr: &Expr) -> usize
         | Expr::Conditional(at, _, _, _)
         | Expr::Arrow(_, at, _, _)
         | Expr::Assign(_, at, _, _)
+        | Expr::Update(at, _, Moment::Before, _, _, _)
+        | Expr::Update(_, at, Moment::After, _, _, _)
         | Expr::Send(_, at, _, _, _)
         | Expr::SendSuper(_, at, _, _, _) => *at,
     }
@@ -76,6 +78,13 @@ pub fn is_assignable(expr: &Expr) -> bool
         Expr::Itself(_) | Expr::Name(_, _) | Expr::Arrow(_, _, _, _) => true,
         _ => false,
     }
+}
+
+/// Whether an update's left side, which is of a kind, is a variable or a field that holds a number.
+pub fn is_updatable(expr: &Expr, kind: Option<Kind>) -> bool
+    ensures { result ≡ rules.is_updatable (expr_tree expr.now) kind }
+{
+    is_assignable(expr) && !is_object(kind)
 }
 
 /// Whether an expression is `nil`, parentheses aside.

@@ -2,7 +2,7 @@
 use Rattle.std.proofs.Common.{◌≡◌, ℕ, Bool, true, false, List, [], ◌∷◌, ◌++◌, Option, Some, None, append_assoc, refl, sym, ap, ◌∙◌}
 use Rattle.std.specs.List.{flat_map}
 use Rattle.arc_ast.specs.Tree as t
-use Rattle.arc_ast.specs.Tree.{TypeTree, ExprTree, ExprTrees, Integer, Text, Paren, Call, Nil, Itself, Name, Unary, Cast, Binary, Conditional, Arrow, Assign, Send, SendSuper, no_exprs, and_expr, VariableTree, StmtTree, StmtTrees, Block, Empty, Simple, Return, Variables, If, IfElse, While, Do, For, Break, Continue, no_stmts, and_stmt, ParameterTree, FunctionTree, HeadTree, MethodTree, InterfaceTree, ImplementationTree, UnitTree}
+use Rattle.arc_ast.specs.Tree.{TypeTree, ExprTree, ExprTrees, Integer, Text, Paren, Call, Nil, Itself, Name, Unary, Cast, Binary, Conditional, Arrow, Assign, Update, Send, SendSuper, no_exprs, and_expr, VariableTree, StmtTree, StmtTrees, Block, Empty, Simple, Return, Variables, If, IfElse, While, Do, For, Break, Continue, no_stmts, and_stmt, ParameterTree, FunctionTree, HeadTree, MethodTree, InterfaceTree, ImplementationTree, UnitTree}
 use Rattle.arc_sites.specs.Finding.{violations_of}
 use Rattle.arc_sites.specs.Sites as sites
 use Rattle.arc_ast.specs.Operators.{sort_of}
@@ -94,6 +94,11 @@ module _ (u : UnitTree) where
         let y = sites.sites m s (Like a) b in
         quiet (broken_expr missing a ++ broken_expr missing b) (x ++ y) (value m s need (Assign at sign a b)) refl
         (pair (broken_expr missing a) (broken_expr missing b) x y (expr_is a m s Anything) (expr_is b m s (Like a)))
+    expr_is (Update at sign moment operator a b) m s need =
+        let x = sites.sites m s Anything a in
+        let y = sites.sites m s ANumber b in
+        quiet (broken_expr missing a ++ broken_expr missing b) (x ++ y) (value m s need (Update at sign moment operator a b)) refl
+        (pair (broken_expr missing a) (broken_expr missing b) x y (expr_is a m s Anything) (expr_is b m s ANumber))
     expr_is (Send at part receiver selector all) m s need =
         let x = sites.sites m s Receiver receiver in
         let y = arguments m s ANumber ANumber all in
@@ -160,7 +165,6 @@ module _ (u : UnitTree) where
         (pair (broken_stmt missing names a) (broken_stmt missing names b) x y (stmt_is a m (inner false s)) (stmt_is b m (inner false s)))
     stmt_is (While at c a) m s =
         pair (broken_expr missing c) (broken_stmt missing (names_of (inner true s)) a) (sites.sites m s AValue c) (stmt_sites m (inner true s) a) (expr_is c m s AValue) (stmt_is a m (inner true s))
-
     stmt_is (Do at a c) m s =
         pair (broken_stmt missing (names_of (inner true s)) a) (broken_expr missing c) (stmt_sites m (inner true s) a) (sites.sites m s AValue c) (stmt_is a m (inner true s)) (expr_is c m s AValue)
     stmt_is (For at a c e b) m s =

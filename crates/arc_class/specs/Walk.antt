@@ -4,7 +4,7 @@ use Rattle.std.specs.Str.{bytes_eq}
 use Rattle.std.specs.BTreeMap.{BTreeMap}
 use Rattle.std.specs.Borrow.{Bor}
 use Rattle.arc_ast.specs.Tree as t
-use Rattle.arc_ast.specs.Tree.{TypeTree, ExprTree, ExprTrees, Integer, Text, Paren, Call, Nil, Itself, Name, Unary, Cast, Binary, Conditional, Arrow, Assign, Send, SendSuper, no_exprs, and_expr, VariableTree, StmtTree, StmtTrees, Block, Empty, Simple, Return, Variables, If, IfElse, While, Do, For, Break, Continue, no_stmts, and_stmt, ParameterTree, FunctionTree, MethodTree, ImplementationTree, UnitTree}
+use Rattle.arc_ast.specs.Tree.{TypeTree, ExprTree, ExprTrees, Integer, Text, Paren, Call, Nil, Itself, Name, Unary, Cast, Binary, Conditional, Arrow, Assign, Update, Send, SendSuper, no_exprs, and_expr, VariableTree, StmtTree, StmtTrees, Block, Empty, Simple, Return, Variables, If, IfElse, While, Do, For, Break, Continue, no_stmts, and_stmt, ParameterTree, FunctionTree, MethodTree, ImplementationTree, UnitTree}
 use Rattle.arc_sites.specs.Sites.{named_parameters}
 use Rattle.arc_class.specs.declared.kept.Source.{Source}
 use Rattle.arc_class.specs.declared.table.Declared.{Declared}
@@ -43,6 +43,7 @@ abbrev mutual
   broken_expr missing (Conditional at c a b) = broken_expr missing c ++ (broken_expr missing a ++ broken_expr missing b)
   broken_expr missing (Arrow at name_at a name) = broken_expr missing a
   broken_expr missing (Assign at sign a b) = broken_expr missing a ++ broken_expr missing b
+  broken_expr missing (Update at sign moment operator a b) = broken_expr missing a ++ broken_expr missing b
   broken_expr missing (Send at part receiver selector arguments) = broken_expr missing receiver ++ broken_exprs missing arguments
   broken_expr missing (SendSuper at part super_at selector arguments) = broken_exprs missing arguments
 

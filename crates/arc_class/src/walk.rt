@@ -76,6 +76,10 @@ fn expression<'a>(source: &Source<'a>, expr: &'a Expr) -> Option<ClassFault>
             let left = expression(source, left);
             earlier(left, expression(source, right))
         }
+        Expr::Update(_, _, _, _, left, right) => {
+            let left = expression(source, left);
+            earlier(left, expression(source, right))
+        }
         Expr::Arrow(_, _, object, _) => expression(source, object),
         Expr::Send(_, _, receiver, _, arguments) => {
             let receiver = expression(source, receiver);

@@ -45,6 +45,28 @@ factorials = codes "int f(int n) {\n"
     ++ codes "}\n"
     ++ codes "int main(void) { printf(\"%d\", f(5)); return f(13); }\n"
 
+-- `++` gives the number before it or after it (C99, sections 6.5.2.4 and 6.5.3.1). An update computes as its operator does, and then keeps the kind of its left side
+-- (6.5.16.2): a Long holds 2147483647 + 1, and 0 + 7 is 1 as a BOOL (6.3.1.2). The value of `-=` is 7 - 6.
+abbrev pub updates : List ℕ
+updates = codes "@interface A : NSObject { @public long v; } @end\n"
+    ++ codes "@implementation A @end\n"
+    ++ codes "int main(void) {\n"
+    ++ codes "    A *a = [A new];\n"
+    ++ codes "    int x = 5;\n"
+    ++ codes "    BOOL b = NO;\n"
+    ++ codes "    printf(\"%d \", x++);\n"
+    ++ codes "    printf(\"%d \", ++x);\n"
+    ++ codes "    a->v += 2147483647;\n"
+    ++ codes "    printf(\"%ld \", a->v++);\n"
+    ++ codes "    printf(\"%ld \", a->v);\n"
+    ++ codes "    b += x;\n"
+    ++ codes "    printf(\"%d\", b);\n"
+    ++ codes "    return x -= 3 << 1;\n"
+    ++ codes "}\n"
+
+abbrev pub updates_show : List Event
+updates_show = printed (codes "5 7 2147483647 2147483648 1") ++ Dealloc 1 1 ∷ []
+
 -- ---- statements
 
 -- Operands are evaluated from the left (this project's own choice, where C99, section 6.5, leaves it open); the product is 98 * 97.
@@ -67,6 +89,22 @@ echo = codes "int main(void) {\n"
     ++ codes "    int c;\n"
     ++ codes "    while ((c = getchar()) != -1) printf(\"%c\", c);\n"
     ++ codes "    return c + getchar();\n"
+    ++ codes "}\n"
+
+-- The step of a `for` comes after each turn, also after one that a `continue` ends (C99, sections 6.8.5.3 and 6.8.6.2), `break` leaves the innermost loop (6.8.6.3), and
+-- `do` tests after each turn (6.8.5.2). The sum is 0 + 2 + 3, and then 10 is added until it is 30 or more.
+abbrev pub loops : List ℕ
+loops = codes "int main(void) {\n"
+    ++ codes "    int sum = 0;\n"
+    ++ codes "    for (int i = 0; i < 9; i = i + 1) {\n"
+    ++ codes "        if (i == 1) continue;\n"
+    ++ codes "        for (;;) break;\n"
+    ++ codes "        if (i == 4) break;\n"
+    ++ codes "        printf(\"%d\", i);\n"
+    ++ codes "        sum = sum + i;\n"
+    ++ codes "    }\n"
+    ++ codes "    do sum = sum + 10; while (sum < 30);\n"
+    ++ codes "    return sum;\n"
     ++ codes "}\n"
 
 -- blocks that nest as deep as they may (this project's own limit)

@@ -86,6 +86,10 @@ object_as_number = codes "int main(void) { return nil; }"
 abbrev pub number_assigned : List ℕ
 number_assigned = codes "int main(void) { 1 = 2; }"
 
+-- an object that is counted up (C99, section 6.5.2.4, for what is no number)
+abbrev pub object_counted : List ℕ
+object_counted = codes "int main(void) { id a = nil; a++; }"
+
 -- a call with too few arguments (C99, section 6.5.2.2)
 abbrev pub argument_count : List ℕ
 argument_count = codes "int f(int n) { return n; } int main(void) { return f(); }"
@@ -97,6 +101,10 @@ format = codes "int main(void) { printf(\"%ld\", 1); }"
 -- an assignment to self outside of the init methods (ARC, "self")
 abbrev pub self_assigned : List ℕ
 self_assigned = codes "@interface A : NSObject @end @implementation A - (void)f { self = nil; } @end int main(void) { }"
+
+-- a `break` in no body of a loop (C99, section 6.8.6.3)
+abbrev pub outside_loop : List ℕ
+outside_loop = codes "int main(void) { while (0) ; break; }"
 
 -- a private field outside of its class (OPL, "The Scope of Instance Variables")
 abbrev pub private_field : List ℕ

@@ -14,6 +14,7 @@ pub fn numbers()
     ensures tokens { HasTrace program.tokens [] 0 (printed (codes "A42\n")) (Ends (pos 4)) }
     ensures wrapped_sum { HasTrace program.wrapped_sum [] 0 (printed (codes "-2147483648")) (Ends (pos 11)) }
     ensures factorials { HasTrace program.factorials [] 0 (printed (codes "120")) (Ends (pos 1932053504)) }
+    ensures updates { HasTrace program.updates [] 0 program.updates_show (Ends (pos 1)) }
 {}
 
 /// Operands, scopes, loops and the input.
@@ -21,6 +22,7 @@ pub fn statements()
     ensures operands { HasTrace program.operands [] 0 (printed (codes "cba")) (Ends (pos 9506)) }
     ensures scopes { HasTrace program.scopes [] 0 (printed (codes "27b")) (Ends (pos 0)) }
     ensures echo { HasTrace program.echo (codes "hi") 2 (printed (codes "hi")) (Ends (negsuc 1)) }
+    ensures loops { HasTrace program.loops [] 5 (printed (codes "023")) (Ends (pos 35)) }
     ensures deepest_blocks { HasTrace program.deepest_blocks [] 0 [] (Ends (pos 0)) }
 {}
 
@@ -71,10 +73,12 @@ pub fn refusals()
     ensures no_method { IsRefused refused.no_method 42 72 }
     ensures object_as_number { IsRefused refused.object_as_number 43 24 }
     ensures number_assigned { IsRefused refused.number_assigned 44 19 }
+    ensures object_counted { IsRefused refused.object_counted 44 30 }
     ensures argument_count { IsRefused refused.argument_count 45 51 }
     ensures too_many_parameters { IsRefused refused.too_many_parameters 45 4 }
     ensures format { IsRefused refused.format 46 17 }
     ensures self_assigned { IsRefused refused.self_assigned 47 64 }
+    ensures outside_loop { IsRefused refused.outside_loop 48 29 }
     ensures private_field { IsRefused refused.private_field 49 111 }
     ensures manual_release { IsRefused refused.manual_release 61 32 }
     ensures dealloc_sent { IsRefused refused.dealloc_sent 62 32 }

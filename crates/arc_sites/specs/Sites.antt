@@ -7,7 +7,7 @@ use Rattle.arc_ast.specs.declared.tree.UnaryOperator.TheVariants as u
 use Rattle.arc_ast.specs.declared.tree.OperatorSort.{OperatorSort}
 use Rattle.arc_ast.specs.declared.tree.OperatorSort.TheVariants.{Equality, Logic}
 use Rattle.arc_ast.specs.Tree as t
-use Rattle.arc_ast.specs.Tree.{TypeTree, ExprTree, ExprTrees, Paren, Call, Unary, Cast, Binary, Conditional, Arrow, Assign, Send, SendSuper, no_exprs, and_expr, VariableTree, StmtTree, StmtTrees, Block, Empty, Simple, Return, Variables, If, IfElse, While, Do, For, Break, Continue, no_stmts, and_stmt, ParameterTree, ParametersTree, Listed, CountAndTexts, FunctionTree, HeadTree, MethodTree, InterfaceTree, ImplementationTree, UnitTree}
+use Rattle.arc_ast.specs.Tree.{TypeTree, ExprTree, ExprTrees, Paren, Call, Unary, Cast, Binary, Conditional, Arrow, Assign, Update, Send, SendSuper, no_exprs, and_expr, VariableTree, StmtTree, StmtTrees, Block, Empty, Simple, Return, Variables, If, IfElse, While, Do, For, Break, Continue, no_stmts, and_stmt, ParameterTree, ParametersTree, Listed, CountAndTexts, FunctionTree, HeadTree, MethodTree, InterfaceTree, ImplementationTree, UnitTree}
 
 -- ---- what surrounds a node
 
@@ -132,6 +132,7 @@ abbrev mutual
       (inside m s AValue c ++ value m s AValue c) ++ ((inside m s AValue a ++ value m s AValue a) ++ (inside m s (Like a) b ++ value m s (Like a) b))
   inside m s need (Arrow at name_at a name) = inside m s AnObject a ++ value m s AnObject a
   inside m s need (Assign at sign a b) = (inside m s Anything a ++ value m s Anything a) ++ (inside m s (Like a) b ++ value m s (Like a) b)
+  inside m s need (Update at sign moment operator a b) = (inside m s Anything a ++ value m s Anything a) ++ (inside m s ANumber b ++ value m s ANumber b)
   inside m s need (Send at part receiver selector all) =
       (inside m s Receiver receiver ++ value m s Receiver receiver) ++ arguments m s ANumber ANumber all
   inside m s need (SendSuper at part super_at selector all) = arguments m s ANumber ANumber all

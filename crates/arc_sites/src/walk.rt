@@ -66,6 +66,10 @@ fn inside<V: Visitor>(visitor: &mut V, enclosing: Enclosing, expr: &Expr)
             expression(visitor, enclosing, left);
             expression(visitor, enclosing, right);
         }
+        Expr::Update(_, _, _, _, left, right) => {
+            expression(visitor, enclosing, left);
+            expression(visitor, enclosing, right);
+        }
         Expr::Send(_, _, receiver, _, all) => {
             expression(visitor, enclosing, receiver);
             arguments(visitor, enclosing, all);

@@ -4,7 +4,7 @@ ghost use Rattle.arc_lex.specs.Tokens.{toks};
 ghost use Rattle.arc_form.specs.Reader.{sees};
 ghost use Rattle.arc_grammar.specs.Grammar as grammar;
 
-use arc_expr::sign::sees_sign;
+use arc_expr::sign::{sees_counting, sees_sign};
 use arc_expr::type_name::begins_plain_type;
 use arc_form::step::{sees_integer, sees_mark, sees_name, sees_text, sees_word};
 use arc_lex::token::{Mark, Token, Word};
@@ -24,6 +24,7 @@ fn begins_expr(tokens: &[Token]) -> bool
         || sees_mark(Mark::OpenParen, tokens)
         || sees_mark(Mark::OpenSquare, tokens)
         || sees_sign(tokens)
+        || sees_counting(tokens)
 }
 
 /// Whether a statement can begin with the first token, which is a word.

@@ -9,7 +9,7 @@ use Rattle.arc_check.specs.private.Judging.{Judges, counted}
 use Rattle.arc_check.specs.Rules.{at_if, kind_if, no_such}
 use Rattle.arc_check.specs.Scopes.{either_class, is_nil}
 use Rattle.arc_check.specs.private.Views.{seen}
-use Rattle.arc_check.proofs.Judgements.{judges_call, judges_send, judges_super, judges_unary, judges_cast, judges_arrow, judges_message, judges_super_message, judges_binary, judges_choice, judges_assign, judges_other, fit_turn, fault_turn, taken_turn}
+use Rattle.arc_check.proofs.Judgements.{judges_call, judges_send, judges_super, judges_unary, judges_cast, judges_arrow, judges_message, judges_super_message, judges_binary, judges_choice, judges_assign, judges_update, judges_other, fit_turn, fault_turn, taken_turn}
 use Rattle.arc_check.proofs.judge.+judge.Goals as goal
 use Rattle.arc_check.proofs.judge.+judge.Goals.{judge_arguments-then-told, judge_arguments-else-told}
 
@@ -33,6 +33,9 @@ judge-returns-in-Arrow t c = rw c.in-Arrow.is (rw (c.deref-in-Arrow.ensures, c.d
 
 pub judge-returns-in-Assign : goal.judge-returns-in-Assign
 judge-returns-in-Assign t c = rw c.in-Assign.is (rw (c.deref-in-Assign.ensures, c.deref-in-Assign-2.ensures) at (c.judge_assignment.ensures c.in-Assign.field-0))
+
+pub judge-returns-in-Update : goal.judge-returns-in-Update
+judge-returns-in-Update t c = rw c.in-Update.is (rw (c.deref-in-Update.ensures, c.deref-in-Update-2.ensures) at (c.judge_update.ensures c.in-Update.field-0 c.in-Update.field-2 c.in-Update.field-3))
 
 pub judge-returns-in-Call : goal.judge-returns-in-Call
 judge-returns-in-Call t c =
@@ -96,6 +99,11 @@ pub judge_assignment-returns : goal.judge_assignment-returns
 judge_assignment-returns t c = λ at.
     judges_assign (seen c.args.table.now c.args.visible.now) c.args.before c.taken_by_left-between.result at c.args.sign (expr_tree c.args.left.now) (expr_tree c.args.right.now) c.is_assignable.result c.judge-first.result c.judge-second.result c.assigned.result c.place.result c.judge-first.ensures
     (c.taken_by_left-between.ensures c.args.table.now) c.judge-second.ensures c.is_assignable.ensures c.place.ensures c.assigned.ensures.kind c.assigned.ensures.class c.assigned.ensures.fault c.assigned.ensures.taken
+
+pub judge_update-returns : goal.judge_update-returns
+judge_update-returns t c = λ at moment operator.
+    judges_update (seen c.args.table.now c.args.visible.now) c.args.before at c.args.sign moment operator (expr_tree c.args.left.now) (expr_tree c.args.right.now) c.is_updatable-is_updatable.result c.judge-first.result c.judge-second.result c.updated.result c.place.result c.judge-first.ensures c.judge-second.ensures
+    c.is_updatable-is_updatable.ensures c.place.ensures c.updated.ensures.kind c.updated.ensures.class c.updated.ensures.fault c.updated.ensures.taken
 
 pub judge_send-returns : goal.judge_send-returns
 judge_send-returns t c = λ at.

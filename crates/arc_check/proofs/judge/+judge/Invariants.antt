@@ -41,6 +41,9 @@ decreases-judge_call l = 8 * goal.size-judge_call l + 4
 abbrev pub decreases-judge_assignment : goal.decreases-judge_assignment
 decreases-judge_assignment l = 8 * max (size-Expr l.left.now) (size-Expr l.right.now) + 1
 
+abbrev pub decreases-judge_update : goal.decreases-judge_update
+decreases-judge_update l = 8 * max (size-Expr l.left.now) (size-Expr l.right.now) + 1
+
 abbrev pub decreases-judge_choice : goal.decreases-judge_choice
 decreases-judge_choice l = 8 * max (size-Expr l.test.now) (max (size-Expr l.first.now) (size-Expr l.second.now)) + 1
 

@@ -10,7 +10,7 @@ use Rattle.arc_check.specs.Checked as checked
 use Rattle.arc_ast.specs.Tree.{expr_tree, expr_trees, type_tree}
 use Rattle.arc_ast.specs.Types.{type_kind}
 use Rattle.arc_check.specs.Resolving as resolving
-use Rattle.arc_check.specs.Resolving.{unary, binary, cast, conditional, resolved, resolved_all}
+use Rattle.arc_check.specs.Resolving.{unary, binary, updated, cast, conditional, resolved, resolved_all}
 use Rattle.arc_check.specs.Scopes.{class_of, either_class, is_nil, result_kind}
 use Rattle.arc_check.specs.private.Views.{seen}
 use Rattle.arc_ast.proofs.Trees.{call_tree, send_tree, send_super_tree}
@@ -64,6 +64,9 @@ expression-returns-in-Arrow t c = IfOk-weaker c.arrow.result _ _ (λ typed h. rw
 pub expression-returns-in-Assign : goal.expression-returns-in-Assign
 expression-returns-in-Assign t c = IfOk-weaker c.assignment.result _ _ (λ typed h. rw (c.in-Assign.is, sym c.deref-in-Assign.ensures, sym c.deref-in-Assign-2.ensures) (h c.in-Assign.field-0 c.in-Assign.field-1)) c.assignment.ensures
 
+pub expression-returns-in-Update : goal.expression-returns-in-Update
+expression-returns-in-Update t c = IfOk-weaker c.update.result _ _ (λ typed h. rw (c.in-Update.is, sym c.deref-in-Update.ensures, sym c.deref-in-Update-2.ensures) (h c.in-Update.field-0 c.in-Update.field-1)) c.update.ensures
+
 pub signed-returns : goal.signed-returns
 signed-returns t c = λ at. record { class = refl; value = c.in_ok-value.ensures ∙ ap (unary c.args.operator) c.in_ok-operand.ensures.value }
 
@@ -76,6 +79,14 @@ operation-returns t c = λ at.
       class = refl;
       value = c.in_ok-value.ensures ∙ ap (λ a. binary c.args.operator a (resolution c.in_ok-right.right.value)) c.in_ok-left.ensures.value
           ∙ ap (binary c.args.operator (resolved (seen c.args.table.now c.args.visible.now) (expr_tree c.args.left.now))) c.in_ok-right.ensures.value;
+    }
+
+pub update-returns : goal.update-returns
+update-returns t c = λ at sign.
+    record {
+      class = refl;
+      value = c.in_ok-value.ensures ∙ ap (λ a. updated c.args.moment c.args.operator a (resolution c.in_ok-right.right.value)) c.in_ok-left.ensures.value
+          ∙ ap (updated c.args.moment c.args.operator (resolved (seen c.args.table.now c.args.visible.now) (expr_tree c.args.left.now))) c.in_ok-right.ensures.value;
     }
 
 pub choice-returns : goal.choice-returns

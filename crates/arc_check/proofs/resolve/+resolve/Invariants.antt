@@ -29,6 +29,9 @@ decreases-cast l = 8 * size-Expr l.operand.now + 1
 abbrev pub decreases-operation : goal.decreases-operation
 decreases-operation l = 8 * max (size-Expr l.left.now) (size-Expr l.right.now) + 1
 
+abbrev pub decreases-update : goal.decreases-update
+decreases-update l = 8 * max (size-Expr l.left.now) (size-Expr l.right.now) + 1
+
 abbrev pub decreases-choice : goal.decreases-choice
 decreases-choice l = 8 * max (size-Expr l.test.now) (max (size-Expr l.first.now) (size-Expr l.second.now)) + 1
 

@@ -34,6 +34,13 @@ expression-returns-in-Assign t c =
     let right : option_map told c.expression-in-Assign.result ≡ first (broken_expr L (expr_tree c.in-Assign.right.value)) = rw c.deref-in-Assign-2.ensures at c.expression-in-Assign.ensures in
     rw c.in-Assign.is (first_both (broken_expr L (expr_tree c.in-Assign.left.value)) (broken_expr L (expr_tree c.in-Assign.right.value)) (option_map told c.expression-left-in-Assign.result) (option_map told c.expression-in-Assign.result) (option_map told c.earlier-in-Assign.result) left right c.earlier-in-Assign.ensures)
 
+pub expression-returns-in-Update : goal.expression-returns-in-Update
+expression-returns-in-Update t c =
+    let L = missing_in c.args.source.now in
+    let left : option_map told c.expression-left-in-Update.result ≡ first (broken_expr L (expr_tree c.in-Update.left.value)) = rw c.deref-in-Update.ensures at c.expression-left-in-Update.ensures in
+    let right : option_map told c.expression-in-Update.result ≡ first (broken_expr L (expr_tree c.in-Update.right.value)) = rw c.deref-in-Update-2.ensures at c.expression-in-Update.ensures in
+    rw c.in-Update.is (first_both (broken_expr L (expr_tree c.in-Update.left.value)) (broken_expr L (expr_tree c.in-Update.right.value)) (option_map told c.expression-left-in-Update.result) (option_map told c.expression-in-Update.result) (option_map told c.earlier-in-Update.result) left right c.earlier-in-Update.ensures)
+
 pub expression-returns-in-Cast : goal.expression-returns-in-Cast
 expression-returns-in-Cast t c =
     let L = missing_in c.args.source.now in

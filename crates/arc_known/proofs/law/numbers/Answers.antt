@@ -24,3 +24,7 @@ returns-clause-wrapped_sum c = known program.wrapped_sum [] 0 (printed (codes "-
 pub returns-clause-factorials : goal.returns-clause-factorials
 unfolding reading
 returns-clause-factorials c = known program.factorials [] 0 (printed (codes "120")) (Ends (pos 1932053504)) refl refl
+
+pub returns-clause-updates : goal.returns-clause-updates
+unfolding reading
+returns-clause-updates c = known program.updates [] 0 program.updates_show (Ends (pos 1)) refl refl

@@ -84,6 +84,10 @@ pub returns-clause-number_assigned : goal.returns-clause-number_assigned
 unfolding reading
 returns-clause-number_assigned c = by.refused refused.number_assigned 44 19 refl refl
 
+pub returns-clause-object_counted : goal.returns-clause-object_counted
+unfolding reading
+returns-clause-object_counted c = by.refused refused.object_counted 44 30 refl refl
+
 pub returns-clause-argument_count : goal.returns-clause-argument_count
 unfolding reading
 returns-clause-argument_count c = by.refused refused.argument_count 45 51 refl refl
@@ -99,6 +103,10 @@ returns-clause-format c = by.refused refused.format 46 17 refl refl
 pub returns-clause-self_assigned : goal.returns-clause-self_assigned
 unfolding reading
 returns-clause-self_assigned c = by.refused refused.self_assigned 47 64 refl refl
+
+pub returns-clause-outside_loop : goal.returns-clause-outside_loop
+unfolding reading
+returns-clause-outside_loop c = by.refused refused.outside_loop 48 29 refl refl
 
 pub returns-clause-private_field : goal.returns-clause-private_field
 unfolding reading

@@ -42,6 +42,13 @@ inside-returns-in-Assign g t c = λ scope need.
     let b = expr_tree c.in-Assign.right.value in
     rw c.in-Assign.is (found_both g.V.Visitor.violations _ _ _ (sites.sites m scope Anything a) (sites.sites m scope (Like a) b) (rw c.deref-in-Assign.ensures at c.expression-in-Assign.ensures scope Anything) (rw c.deref-in-Assign-2.ensures at c.expression-in-Assign-2.ensures scope (Like a)))
 
+pub inside-returns-in-Update : goal.inside-returns-in-Update
+inside-returns-in-Update g t c = λ scope need.
+    let m = enclosing_of c.args.enclosing in
+    let a = expr_tree c.in-Update.left.value in
+    let b = expr_tree c.in-Update.right.value in
+    rw c.in-Update.is (found_both g.V.Visitor.violations _ _ _ (sites.sites m scope Anything a) (sites.sites m scope ANumber b) (rw c.deref-in-Update.ensures at c.expression-in-Update.ensures scope Anything) (rw c.deref-in-Update-2.ensures at c.expression-in-Update-2.ensures scope ANumber))
+
 pub arguments-loop-argument-preserved : goal.arguments-loop-argument-preserved
 arguments-loop-argument-preserved g t c = λ scope one others.
     let m = enclosing_of c.args.enclosing in
