@@ -15,16 +15,24 @@ fn begins_expr(tokens: &[Token]) -> bool
     ensures { result ≡ sees grammar.begins_expr (toks tokens.now) }
 {
     sees_name(tokens)
-        || (sees_integer(tokens)
-            || sees_text(tokens)
-            || sees_word(Word::Nil, tokens)
-            || sees_word(Word::SelfWord, tokens)
-            || sees_word(Word::Yes, tokens)
-            || sees_word(Word::No, tokens))
+        || begins_literal(tokens)
         || sees_mark(Mark::OpenParen, tokens)
         || sees_mark(Mark::OpenSquare, tokens)
         || sees_sign(tokens)
         || sees_counting(tokens)
+}
+
+/// Whether the first token is a literal.
+#[tactic(auto, using(arc_form::proofs::Sets::sees_or))]
+fn begins_literal(tokens: &[Token]) -> bool
+    ensures { result ≡ sees grammar.begins_literal (toks tokens.now) }
+{
+    sees_integer(tokens)
+        || sees_text(tokens)
+        || sees_word(Word::Nil, tokens)
+        || sees_word(Word::SelfWord, tokens)
+        || sees_word(Word::Yes, tokens)
+        || sees_word(Word::No, tokens)
 }
 
 /// Whether a statement can begin with the first token, which is a word.
