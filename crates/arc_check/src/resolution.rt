@@ -453,7 +453,7 @@ fn place_updated(
         Value::Field(object, class, index) => Value::FieldUpdated(
             moment, object, class, index, operator, computed, kept, operand,
         ),
-        _ => *operand,
+        _ => Box::into_inner(operand),
     }
 }
 
@@ -472,7 +472,8 @@ pub fn updated(
         Resolution::Gives(kind, place) => {
             let computed = computing_kind(operator_sort(operator), kind, kind_in(&right));
             let operand = converted(alloc, computed, right)?;
-            let value = place_updated(moment, operator, computed, kind, *place, operand);
+            let place = Box::into_inner(place);
+            let value = place_updated(moment, operator, computed, kind, place, operand);
             given(alloc, kind, value)
         }
     }

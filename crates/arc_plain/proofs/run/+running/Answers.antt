@@ -15,7 +15,7 @@ use Rattle.arc_plain.specs.Views.{world, Tells, deeper, flow_of, nothing_of, obj
 use Rattle.arc_plain.proofs.Calls.{call_told, body_failed, drop_failed, nothing_called, function_there, function_absent, temporary_step, temporaries_fewer, no_temporary, variable_step, variable_failed, layer_done, layer_failed}
 use Rattle.arc_plain.proofs.Keeping.{level_steady}
 use Rattle.arc_check.proofs.Trees.{is_print, is_invoked, is_sent, is_sent_super, is_sent_to, is_sent_to_super, is_sequence}
-use Rattle.arc_plain.proofs.Turns.{value_told, message_told, command_told, values_step, turns_step, turns_left, turn_failed, turns_after_step, turns_after_left, turn_after_failed, call_is, end_is, tells_through}
+use Rattle.arc_plain.proofs.Turns.{value_told, message_told, command_told, values_step, test_failed, turns_step, turns_left, turn_failed, turns_after_step, turns_after_left, turn_after_failed, call_is, end_is, tells_through}
 use Rattle.arc_plain.proofs.Weights.{print_lighter, call_lighter, sent_lighter, super_lighter, sent_to_lighter, to_super_lighter, sequence_lighter, value_in, command_in, commands_weight, level_lighter, body_lighter}
 use Rattle.arc_plain.proofs.run.+running.Goals as goal
 
@@ -129,18 +129,29 @@ repeat-returns-in-Some t c =
     (world c.loop.progress) (world c.evaluate_whole.new.progress) (world c.turn.new.progress)
     c.loop-test.true c.loop.invariant c.in_ok-number.ensures (ap is_zero (sym same) ∙ sym c.is_zero.ensures ∙ c.if-is_zero.false) (search rules)
 
-pub repeat-returns-in_err-turn : goal.repeat-returns-in_err-turn
-repeat-returns-in_err-turn t c =
+pub repeat-returns-in_err-number : goal.repeat-returns-in_err-number
+repeat-returns-in_err-number t c =
+    let bound = c.args.context.now.bound in
+    let run = executed (deeper c.args.context.now) bound in
+    let test = whole (deeper c.args.context.now) (checked.value c.args.test.now) in
+    let step = run (checked.command c.args.step.now) in
+    let body = run (checked.command c.args.body.now) in
+    let p = err_from_is_err_and c.from_residual.result c.from_residual.ensures.1 in
+    test_failed (λ n. n) (bound - c.loop.counter) test step body (turns bound test step body (world c.args.progress.now)) c.in_err-number.field-0.0 c.from_residual.result
+    (world c.loop.progress) (world c.evaluate_whole.new.progress) c.loop.invariant (p.1 ∙ ap Err p.2) c.in_err-number.ensures
+
+pub repeat-returns-in_err-flow : goal.repeat-returns-in_err-flow
+repeat-returns-in_err-flow t c =
     let bound = c.args.context.now.bound in
     let run = executed (deeper c.args.context.now) bound in
     let test = whole (deeper c.args.context.now) (checked.value c.args.test.now) in
     let step = run (checked.command c.args.step.now) in
     let body = run (checked.command c.args.body.now) in
     let same : to_z w64 (of_z w64 c.in_ok-number.number) ≡ c.in_ok-number.number = grind (arith, to_z-of_z) in
-    let p = err_from_is_err_and c.from_residual-in_err-turn.result c.from_residual-in_err-turn.ensures.1 in
+    let p = err_from_is_err_and c.from_residual-in_err-flow.result c.from_residual-in_err-flow.ensures.1 in
     turn_failed (option_map flow_of) bound c.loop.counter test step body (turns bound test step body (world c.args.progress.now)) c.in_ok-number.number
-    c.in_err-turn.field-0.0 c.from_residual-in_err-turn.result (world c.loop.progress) (world c.evaluate_whole.new.progress) (world c.turn.new.progress)
-    c.loop-test.true c.loop.invariant c.in_ok-number.ensures (ap is_zero (sym same) ∙ sym c.is_zero.ensures ∙ c.if-is_zero.false) (p.1 ∙ ap Err p.2) c.in_err-turn.ensures
+    c.in_err-flow.field-0.0 c.from_residual-in_err-flow.result (world c.loop.progress) (world c.evaluate_whole.new.progress) (world c.turn.new.progress)
+    c.loop-test.true c.loop.invariant c.in_ok-number.ensures (ap is_zero (sym same) ∙ sym c.is_zero.ensures ∙ c.if-is_zero.false) (p.1 ∙ ap Err p.2) c.in_err-flow.ensures
 
 pub repeat_after-loop-preserved : goal.repeat_after-loop-preserved
 repeat_after-loop-preserved t c =
@@ -156,15 +167,15 @@ repeat_after-returns-in-Some t c =
     let body = executed (deeper c.args.context.now) bound (checked.command c.args.body.now) in
     turns_after_left bound c.loop.counter test body (turns_after bound test body (world c.args.progress.now)) (flow_of c.in-Some.flow) (world c.loop.progress) (world c.turn_after.new.progress) c.loop-test.true c.loop.invariant (search rules)
 
-pub repeat_after-returns-in_err-turn_after : goal.repeat_after-returns-in_err-turn_after
-repeat_after-returns-in_err-turn_after t c =
+pub repeat_after-returns-in_err-flow : goal.repeat_after-returns-in_err-flow
+repeat_after-returns-in_err-flow t c =
     let bound = c.args.context.now.bound in
     let test = whole (deeper c.args.context.now) (checked.value c.args.test.now) in
     let body = executed (deeper c.args.context.now) bound (checked.command c.args.body.now) in
     let p = err_from_is_err_and c.from_residual.result c.from_residual.ensures.1 in
     turn_after_failed (option_map flow_of) bound c.loop.counter test body (turns_after bound test body (world c.args.progress.now))
-    c.in_err-turn_after.field-0.0 c.from_residual.result (world c.loop.progress) (world c.turn_after.new.progress)
-    c.loop-test.true c.loop.invariant (p.1 ∙ ap Err p.2) c.in_err-turn_after.ensures
+    c.in_err-flow.field-0.0 c.from_residual.result (world c.loop.progress) (world c.turn_after.new.progress)
+    c.loop-test.true c.loop.invariant (p.1 ∙ ap Err p.2) c.in_err-flow.ensures
 
 pub call-returns : goal.call-returns
 call-returns t c =
