@@ -9,6 +9,19 @@ use arc_expr::type_name::begins_plain_type;
 use arc_form::step::{sees_integer, sees_mark, sees_name, sees_text, sees_word};
 use arc_lex::token::{Mark, Token, Word};
 
+/// Whether the first token is a literal, `nil`, `self`, `YES` or `NO`.
+#[tactic(auto, using(arc_form::proofs::Sets::sees_or))]
+fn begins_literal(tokens: &[Token]) -> bool
+    ensures { result ≡ sees grammar.begins_literal (toks tokens.now) }
+{
+    sees_integer(tokens)
+        || sees_text(tokens)
+        || sees_word(Word::Nil, tokens)
+        || sees_word(Word::SelfWord, tokens)
+        || sees_word(Word::Yes, tokens)
+        || sees_word(Word::No, tokens)
+}
+
 /// Whether an expression can begin with the first token.
 #[tactic(auto, using(arc_form::proofs::Sets::sees_or))]
 fn begins_expr(tokens: &[Token]) -> bool
