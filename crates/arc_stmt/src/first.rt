@@ -35,19 +35,6 @@ fn begins_expr(tokens: &[Token]) -> bool
         || sees_counting(tokens)
 }
 
-/// Whether the first token is a literal.
-#[tactic(auto, using(arc_form::proofs::Sets::sees_or))]
-fn begins_literal(tokens: &[Token]) -> bool
-    ensures { result ≡ sees grammar.begins_literal (toks tokens.now) }
-{
-    sees_integer(tokens)
-        || sees_text(tokens)
-        || sees_word(Word::Nil, tokens)
-        || sees_word(Word::SelfWord, tokens)
-        || sees_word(Word::Yes, tokens)
-        || sees_word(Word::No, tokens)
-}
-
 /// Whether a statement can begin with the first token, which is a word.
 #[tactic(auto, using(arc_form::proofs::Sets::sees_or))]
 fn begins_worded(tokens: &[Token]) -> bool
