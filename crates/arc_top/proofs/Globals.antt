@@ -4,7 +4,7 @@ use Rattle.arc_lex.specs.Tokens.{Tok}
 use Rattle.arc_lex.specs.declared.token.Mark.TheVariants as m
 use Rattle.arc_ast.specs.declared.tree.Global.{Global}
 use Rattle.arc_ast.specs.Tree.{TypeTree, ResultTree, FunctionTree, GlobalTree, Value, global_tree, global_trees}
-use Rattle.arc_form.specs.Kinds.{mark, name, main, other_name}
+use Rattle.arc_form.specs.Kinds.{mark, main, other_name}
 use Rattle.arc_form.specs.Operators.{fold}
 use Rattle.arc_form.specs.Reader.{Read, Reader, bind, ◌>>=◌, ret, sees, sees_second, take_one, from}
 use Rattle.arc_form.proofs.Local.{Local}

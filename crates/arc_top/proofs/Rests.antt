@@ -59,6 +59,9 @@ module _ (type : ResultTree) (n : ℕ × List ℕ) where
   with_parameters (Ok x) = with_body x.0 (reads function_body x.1)
   with_parameters (Err x) = refl
 
+abbrev by_name : ResultTree → Reader FunctionTree
+by_name type = take_one name named >>= (λ n. reads (enclosed_to n.1) >>= (λ ps. reads function_body >>= (λ b. ret (with_result (n, (ps, b)) type))))
+
 -- a name, what a function of this name takes, and its body
 pub read_function : (type : ResultTree) (ts : List Tok)
     → reads_after function type ts ≡ (take_one name named >>= (λ n. reads (enclosed_to n.1) >>= (λ ps. reads function_body >>= (λ b. ret (with_result (n, (ps, b)) type))))) ts
@@ -66,15 +69,12 @@ unfolding function main_function other_function enclosed_to
 read_function type [] = refl
 read_function type (t ∷ ts) = go t.sort refl
   where
-    abbrev all : Reader FunctionTree
-    all = take_one name named >>= (λ n. reads (enclosed_to n.1) >>= (λ ps. reads function_body >>= (λ b. ret (with_result (n, (ps, b)) type))))
-
     signed : (called : List ℕ) (is_main : Bool) → kind t.sort ≡ (0, main_or_none is_main) → bytes_of t.sort ≡ called
         → reads_after function type (t ∷ ts) ≡ bind {A = ParametersTree} (reads (enclosed (parameters_if_main is_main)) ts) (λ ps. reads function_body >>= (λ b. ret (with_result ((t.from, called), (ps, b)) type)))
     signed called true k b = rw (k, b) (with_parameters type (t.from, called) (reads (enclosed parameters_of_main) ts))
     signed called false k b = rw (k, b) (with_parameters type (t.from, called) (reads (enclosed parameters) ts))
 
-    go : (s : Sort) → t.sort ≡ s → reads_after function type (t ∷ ts) ≡ all (t ∷ ts)
+    go : (s : Sort) → t.sort ≡ s → reads_after function type (t ∷ ts) ≡ by_name type (t ∷ ts)
     go (Name called) e =
         let is_main = bytes_eq called main_bytes in
         let taken : take_one name named (t ∷ ts) ≡ Ok ((t.from, called), ts) = rw (e, name_has is_main) refl in

@@ -36,11 +36,7 @@ pub fn globals<'a>(
 
 /// A name, and perhaps a first number, of a variable of a type.
 #[tactic(auto, unfolding(arc_grammar::specs::Grammar::global))]
-fn global<'a>(
-    alloc: Global,
-    type_name: &TypeName,
-    tokens: &'a [Token],
-) -> Read<'a, tree::Global>
+fn global<'a>(alloc: Global, type_name: &TypeName, tokens: &'a [Token]) -> Read<'a, tree::Global>
     ensures gives { Gives (λ x. (global_tree x.0, toks x.1.now)) result (reads_after grammar.global (type_tree type_name.now) (toks tokens.now)) }
     ensures shorter { IfOk result (λ x. length x.1.now < length tokens.now) }
 {

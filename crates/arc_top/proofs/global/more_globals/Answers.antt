@@ -1,4 +1,4 @@
-use Rattle.std.proofs.Common.{List, [], ◌∷◌, ◌++◌, sym, ap, ◌∙◌, arith}
+use Rattle.std.proofs.Common.{[], ◌∷◌, ◌++◌, sym, ap, ◌∙◌, arith}
 use Rattle.std.proofs.lemmas.Result.{err_from_is_err_and}
 use Rattle.arc_lex.specs.Tokens.{toks}
 use Rattle.arc_lex.specs.declared.token.Mark.TheVariants as m
@@ -20,7 +20,7 @@ returns-in_err-next-clause-gives c =
     let us = toks c.globals.rest.now in
     let e = c.in_err-next.field-0.0 in
     rw (p.1, p.2) (fails_is e _ _ c.globals.invariant.all (join_fails (mark m.Comma) (reads grammar.next_global) (add_global type) global_front e made us (sym c.globals-test.true ∙ c.sees_mark.ensures)
-        (fails_is e _ _ (one_more type made (reads grammar.next_global us)) (fails_then e _ (λ g. ret (made ++ g ∷ [])) c.in_err-next.ensures.gives))))
+    (fails_is e _ _ (one_more type made (reads grammar.next_global us)) (fails_then e _ (λ g. ret (made ++ g ∷ [])) c.in_err-next.ensures.gives))))
 
 pub globals-preserved : goal.globals-preserved
 globals-preserved c =
@@ -33,7 +33,7 @@ globals-preserved c =
       rest = omega (arith, c.in_ok-next.ensures.shorter, c.globals.invariant.rest);
       all = c.globals.invariant.all
           ∙ join_more (mark m.Comma) (reads grammar.next_global) (add_global type) global_front made (made ++ next ∷ []) us rest (sym c.globals-test.true ∙ c.sees_mark.ensures)
-              (one_more type made (reads grammar.next_global us) ∙ ap (λ x. bind x (λ g. ret (made ++ g ∷ []))) c.in_ok-next.ensures.gives)
+          (one_more type made (reads grammar.next_global us) ∙ ap (λ x. bind x (λ g. ret (made ++ g ∷ []))) c.in_ok-next.ensures.gives)
           ∙ ap (λ all. globals_on type all rest) (sym (ap global_trees c.in_ok-push.ensures.items ∙ globals_push c.globals.all.items c.in_ok-next.next));
     }
 
