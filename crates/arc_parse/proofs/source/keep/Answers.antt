@@ -14,7 +14,7 @@ returns-in_ok-push-in-Function c =
 pub returns-in_ok-append-in-Globals : goal.returns-in_ok-append-in-Globals
 returns-in_ok-append-in-Globals c =
     let u = unit_tree c.args.unit.now in
-    let joined : global_trees c.append.new.self.items ≡ u.globals ++ global_trees c.in-Globals.all.items = ap global_trees c.in_ok-append.ensures.items ∙ globals_append c.args.unit.now.globals.items c.in-Globals.all.items in
+    let joined : global_trees c.append.new.self.items ≡ u.globals ++ global_trees c.in-Globals.all.items = ap global_trees c.in_ok-append-in-Globals.ensures.items ∙ globals_append c.args.unit.now.globals.items c.in-Globals.all.items in
     ap (λ v. made u.functions v u.interfaces u.implementations) joined ∙ ap (λ t. and_top u (top_tree t)) (sym c.in-Globals.is)
 
 pub returns-in_ok-push-in-Interface : goal.returns-in_ok-push-in-Interface
