@@ -6,7 +6,7 @@ use Rattle.arc_spec.specs.Classes.{lookup}
 use Rattle.arc_spec.specs.Meaning.{most_levels}
 use Rattle.arc_spec.specs.Stepping.{Next, Goes, Asks, Ends, Faults, Stuck, Reached, Running, Ended, Faulted, Wedged, after_steps}
 use Rattle.arc_code.specs.declared.instr.Op.{Op}
-use Rattle.arc_code.specs.declared.instr.Op.TheVariants.{Num, Bin, Un, Narrow, Pop, Get, Set, GetGlobal, SetGlobal, PrintNum, PrintByte, GetChar, Declare, Nil, ReadSelf, ReadRef, Hold, Forget, Alloc, GetField, SetField, Differ, IsObject}
+use Rattle.arc_code.specs.declared.instr.Op.TheVariants.{Num, Bin, Un, Narrow, Pop, Get, Set, GetGlobal, SetGlobal, PrintNum, PrintByte, GetChar, Declare, Nil, ReadSelf, ReadRef, Hold, Again, Forget, Alloc, GetField, SetField, Differ, IsObject}
 use Rattle.arc_code.specs.declared.instr.Instr.{Instr}
 use Rattle.arc_code.specs.declared.instr.Instr.TheVariants.{Plain, PrintText, Jump, JumpZero, Call, Send, SendSuper, SendTo, SendToSuper, StoreStrong, Empty, DropAll, Return, EndStep}
 use Rattle.arc_spec.specs.Holding.{all_places}
@@ -44,6 +44,7 @@ operation_effect Nil = on_names 0 1 0
 operation_effect ReadSelf = on_names 0 1 1
 operation_effect (ReadRef i) = on_names 0 1 1
 operation_effect Hold = on_names 1 1 1
+operation_effect Again = on_names 1 2 0
 operation_effect Forget = on_names 1 0 0
 operation_effect Alloc = record (on_names 0 1 1) { numbers_taken = 1 }
 operation_effect (GetField class index) = of_names 0 1 1

@@ -76,6 +76,7 @@ fn operation_effect(operation: Op) -> Effect
         Op::Nil => on_names(0, 1, 0),
         Op::ReadSelf | Op::ReadRef(_) => on_names(0, 1, 1),
         Op::Hold => on_names(1, 1, 1),
+        Op::Again => on_names(1, 2, 0),
         Op::Forget => on_names(1, 0, 0),
         Op::Alloc => Effect {
             numbers_taken: 1,

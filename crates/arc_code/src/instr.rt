@@ -44,6 +44,8 @@ pub enum Op {
     ReadRef(usize),
     /// A temporary takes what the last reference names; the reference stays.
     Hold,
+    /// Gives the last reference once more; the first stays, and the second holds nothing either.
+    Again,
     /// Takes the last reference.
     Forget,
     /// Takes the number of a class, and makes an object of it, which a temporary takes. Gives the object.

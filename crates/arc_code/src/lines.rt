@@ -95,7 +95,9 @@ fn put_op_operands<W: Output>(op: Op, writer: &mut Counted<W>) -> Result<(), IoF
             put_pair(class as u64, index as u64, writer)
         }
         Op::Pop | Op::PrintNum | Op::PrintByte | Op::GetChar => put(b"", writer),
-        Op::Declare | Op::Nil | Op::ReadSelf | Op::Hold | Op::Forget => put(b"", writer),
+        Op::Declare | Op::Nil | Op::ReadSelf | Op::Hold | Op::Again | Op::Forget => {
+            put(b"", writer)
+        }
         Op::Alloc | Op::Differ | Op::IsObject => put(b"", writer),
     }
 }
@@ -234,6 +236,7 @@ fn name_of_op(op: Op) -> &'static str
         Op::ReadSelf => "ReadSelf",
         Op::ReadRef(_) => "ReadRef",
         Op::Hold => "Hold",
+        Op::Again => "Again",
         Op::Forget => "Forget",
         Op::Alloc => "Alloc",
         Op::GetField(_, _) => "GetField",

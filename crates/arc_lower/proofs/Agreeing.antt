@@ -9,6 +9,7 @@ use Rattle.arc_spec.specs.Objects.{Object, Dying, object_at, with_object, in_pha
 use Rattle.arc_spec.specs.Stepping.{Next, Goes, Faults, on_top, on_two, on_found, only_if}
 use Rattle.arc_spec.specs.Holding.{Held, Frame, Calling, Ending, Waiter, Counted, holders, all_places, is_there, all_nil, with_things, with_temporaries, with_variables, on_object, on_named, on_reference, named, declares, lets_go, on_left, on_field, with_names, resumed, gone_in}
 use Rattle.arc_ir.specs.Acting.{Action}
+use Rattle.arc_code.specs.declared.instr.Op.TheVariants as ops
 use Rattle.arc_code.specs.declared.instr.Op.TheVariants.{Num, Bin, Un, Narrow, Pop, Get, Set, PrintNum, PrintByte, GetChar, Declare, Nil, ReadSelf, ReadRef, Hold, Forget, Alloc, GetField, SetField, Differ, IsObject}
 use Rattle.arc_code.specs.declared.instr.Instr.TheVariants.{Plain, PrintText, Jump, JumpZero, Call, Send, SendSuper, SendTo, SendToSuper, StoreStrong, Empty, DropAll, Return, EndStep}
 use Rattle.arc_ir.specs.Acting.{Program, State, entry, or_fault, keeps, has_level, enters, answers, taken, sends, begins_end, releases, drops_all, ends_object, runs_dealloc, ends_class, end_goes_on, leaves, allocates, executes}
@@ -187,6 +188,7 @@ module _ (p : Program) (s : State) (right : Counted s.held) where
   acts_agree (Some (Plain ReadSelf)) dying = named_agrees s.held.self (named s.held.self s.held) places _ _ refl
   acts_agree (Some (Plain (ReadRef i))) dying = found_agrees (slice_get s.held.variables i) _ _ (λ r _. named_agrees r (named r s.held) places _ _ refl)
   acts_agree (Some (Plain Hold)) dying = reference_agrees s.held.names _ _ (λ r rest. named_agrees r s.held places _ _ refl)
+  acts_agree (Some (Plain ops.Again)) dying = reference_agrees s.held.names _ _ (λ r rest. refl)
   acts_agree (Some (Plain Forget)) dying = reference_agrees s.held.names _ _ (λ r rest. refl)
   acts_agree (Some (Plain Alloc)) dying = top_agrees s.stack _ _ (λ v rest. allocates_agree rest (class_at v))
   acts_agree (Some (Plain (GetField class index))) dying = reference_agrees s.held.names _ _ (λ r rest. field_agrees class r _ _ (λ o. refl))

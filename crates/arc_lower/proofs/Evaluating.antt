@@ -1,13 +1,19 @@
 -- The blocks of expressions mean what these mean.
-use Rattle.std.proofs.Common.{◌≡◌, ℕ, suc, ℤ, false, List, ◌∷◌, length, Some, refl, ap, ◌∙◌}
-use Rattle.arc_spec.specs.Classes.{class_at}
-use Rattle.arc_spec.specs.Resolved.{Piece, Value, Number, ReadByte, Print, Applied, Combined, Choice, Converted, Local, Assigned, Invoked, Sent, SentSuper, SentTo, SentToSuper, Field, FieldAssigned, Reference, Itself, Variable, Chosen, Stored, Made, Initialized, Values, no_values, and_value}
+use Rattle.std.proofs.Common.{◌≡◌, ℕ, suc, ℤ, Bool, true, false, if◌then◌else◌, List, ◌∷◌, length, Option, Some, None, slice_set, refl, ap, ◌∙◌}
+use Rattle.arc_ast.specs.declared.tree.BinaryOperator.{BinaryOperator}
+use Rattle.arc_ast.specs.declared.tree.Kind.{Kind}
+use Rattle.arc_ast.specs.declared.tree.Moment.{Moment}
+use Rattle.arc_ast.specs.declared.tree.Moment.TheVariants.{Before, After}
+use Rattle.arc_spec.specs.declared.event.Fault.TheVariants.{FieldClass}
+use Rattle.arc_spec.specs.Classes.{class_at, descends}
+use Rattle.arc_spec.specs.Objects.{Object, object_at}
+use Rattle.arc_spec.specs.Resolved.{Piece, Value, Number, ReadByte, Print, Applied, Combined, Choice, Converted, Local, Assigned, Updated, Invoked, Sent, SentSuper, SentTo, SentToSuper, Field, FieldAssigned, FieldUpdated, Reference, Itself, Variable, Chosen, Stored, Made, Initialized, Values, no_values, and_value}
 use Rattle.arc_spec.specs.Resolved as resolved
-use Rattle.arc_spec.specs.World.{World, Outcome, Done, Faulted, Cut, Finished, then_do, prints, local_at, takes}
-use Rattle.arc_spec.specs.Number.{is_zero}
-use Rattle.arc_spec.specs.Meaning.{Deeper, dispatched, finds, sent_to, sent_from, formatted, byte_count, assigned, evaluated, referred, all_evaluated}
-use Rattle.arc_code.specs.declared.instr.Op.TheVariants.{Hold}
-use Rattle.arc_lower.specs.Lowered.{Message, ToClass, ToSuperClass, ToObject, ToSuper, Block, One, Format, Calls, Tells, Then, value_count, value_block, reference_block, values_block}
+use Rattle.arc_spec.specs.World.{World, Outcome, Done, Faulted, Cut, Finished, then_do, prints, with_locals, local_at, takes}
+use Rattle.arc_spec.specs.Number.{converted, combined, is_zero}
+use Rattle.arc_spec.specs.Meaning.{Deeper, dispatched, finds, sent_to, sent_from, formatted, byte_count, or_fault, updated, given_by, in_object, field_read, field_set, assigned, evaluated, referred, all_evaluated}
+use Rattle.arc_code.specs.declared.instr.Op.TheVariants.{Bin, Narrow, SetField, Hold}
+use Rattle.arc_lower.specs.Lowered.{Message, ToClass, ToSuperClass, ToObject, ToSuper, Block, One, Load, Store, Format, Calls, Tells, Then, value_count, given_block, below_new, update_block, value_block, reference_block, values_block}
 use Rattle.arc_lower.proofs.Shaping.{Operands, push, name, pushed, Way, On, Lost, left_by, and_then, pushes, passes_by, told, block, after, chosen_by, same_depth, on_pushed, Holds, after_known}
 
 module _ (D : Deeper) (bound : ℕ) where
@@ -56,6 +62,55 @@ module _ (D : Deeper) (bound : ℕ) where
   tells : (message : Message) (all : Values) (s rest : Operands) (w : World) (go : List ℤ → World → Outcome ℤ) → run (values_block (length s.numbers) all) s w ≡ left_by (all_above s) (all_evaluated D all w) → ((given : List ℤ) (w1 : World) → told D message given s w1 ≡ left_by (above rest) (go given w1)) → run (Then (values_block (length s.numbers) all) (Tells message (value_count all))) s w ≡ left_by (above rest) (then_do (all_evaluated D all w) go)
   tells message all s rest w go arguments answer = passed all (Tells message (value_count all)) (above rest) s w go arguments (λ given w1 e. on_pushed (value_count all) given s w1 (λ values below. told D message values below w1) e ∙ answer given w1)
 
+  -- ---- updates
+
+  -- the operands below the new number, where the old one lay on these
+  abbrev kept_below : Moment → (old : ℤ) → Operands → Operands
+  kept_below Before old s = push old s
+  kept_below After old s = s
+
+  given_is : (moment : Moment) (old new : ℤ) (s : Operands) (w : World) → run (given_block moment) (push new (kept_below moment old s)) w ≡ Done (above s (given_by moment old new)) w
+  given_is Before old new s w = refl
+  given_is After old new s w = refl
+
+  -- where the new number is stored, and what is left then
+  abbrev Stores : Block → (from to : Operands) → (ℤ → World → Outcome ℤ) → Type 0
+  Stores store from to sets = (new : ℤ) (w : World) → run store (push new from) w ≡ left_by (λ _. On (push new to)) (sets new w)
+
+  computed_is : (moment : Moment) (kept : Kind) (old : ℤ) (store : Block) (s t : Operands) (sets : ℤ → World → Outcome ℤ) → Stores store (kept_below moment old s) (kept_below moment old t) sets
+      → (found : Option ℤ) (w : World) → and_then (pushes (kept_below moment old s) (or_fault found w)) (run (Then (One (Narrow kept)) (Then store (given_block moment))))
+      ≡ left_by (above t) (then_do (then_do (or_fault found w) (λ v w1. Done (converted kept v) w1)) (λ new w1. then_do (sets new w1) (λ _ w2. Done (given_by moment old new) w2)))
+  computed_is moment kept old store s t sets stores None w = refl
+  computed_is moment kept old store s t sets stores (Some v) w =
+      let new = converted kept v in
+      after (λ _. push new (kept_below moment old t)) (above t) _ (sets new w) _ _ (stores new w) (λ _ w1. given_is moment old new t w1)
+
+  update_is : (moment : Moment) (operator : BinaryOperator) (computed kept : Kind) (old : ℤ) (a : Value) (store : Block) (s t : Operands) (w : World) (sets : ℤ → World → Outcome ℤ)
+      → ((s1 : Operands) → run (value_block (length s1.numbers) a) s1 w ≡ left_by (above s1) (evaluated D a w)) → Stores store (kept_below moment old s) (kept_below moment old t) sets
+      → run (update_block moment (value_block (suc (below_new moment (length s.numbers))) a) operator computed kept store) (push old s) w
+      ≡ left_by (above t) (then_do (evaluated D a w) (λ x w1. then_do (updated operator computed kept old x w1) (λ new w2. then_do (sets new w2) (λ _ w3. Done (given_by moment old new) w3))))
+  update_is Before operator computed kept old a store s t w sets right stores =
+      after (λ x. push x (push old (push old s))) (above t) _ (evaluated D a w) _ _ (right (push old (push old s))) (λ x w1. computed_is Before kept old store s t sets stores (combined operator computed old x) w1)
+  update_is After operator computed kept old a store s t w sets right stores =
+      after (λ x. push x (push old s)) (above t) _ (evaluated D a w) _ _ (right (push old s)) (λ x w1. computed_is After kept old store s t sets stores (combined operator computed old x) w1)
+
+  variable_stores : (moment : Moment) (old : ℤ) (i : ℕ) (s : Operands) → Stores (Store (below_new moment (length s.numbers)) i) (kept_below moment old s) (kept_below moment old s) (λ new w. Done new (with_locals w (slice_set w.frame.locals i new)))
+  variable_stores Before old i s new w = same_depth (suc (length s.numbers)) _ _
+  variable_stores After old i s new w = same_depth (length s.numbers) _ _
+
+  -- a field that is set gives what it is set to
+  set_gives : (class : ℕ) (found : Option Object) (new : ℤ) (t : Operands) (go : Object → World) (w : World) → pushes t (in_object D class found (λ o. Done new (go o)) w) ≡ left_by (λ _. On (push new t)) (in_object D class found (λ o. Done new (go o)) w)
+  set_gives class None new t go w = refl
+  set_gives class (Some o) new t go w = by (descends D.classes (Some o.class) class)
+    where
+      by : (b : Bool) → pushes t (if b then Done new (go o) else Faulted FieldClass w) ≡ left_by (λ _. On (push new t)) (if b then Done new (go o) else Faulted FieldClass w)
+      by true = refl
+      by false = refl
+
+  field_stores : (moment : Moment) (old : ℤ) (r class index : ℕ) (s : Operands) → Stores (One (SetField class index)) (kept_below moment old (name r s)) (kept_below moment old s) (field_set D r class index)
+  field_stores Before old r class index s new w = set_gives class (object_at w.objects r) new (push old s) _ w
+  field_stores After old r class index s new w = set_gives class (object_at w.objects r) new s _ w
+
   mutual
     pub value_is : (a : Value) (s : Operands) (w : World) → run (value_block (length s.numbers) a) s w ≡ left_by (above s) (evaluated D a w)
     value_is (Number n) s w = refl
@@ -70,6 +125,12 @@ module _ (D : Deeper) (bound : ℕ) where
     value_is (Converted kind a) s w = after (λ v. push v s) (above s) _ (evaluated D a w) _ _ (value_is a s w) (λ x w1. refl)
     value_is (Local i) s w = same_depth (length s.numbers) _ _
     value_is (Assigned i a) s w = after (λ v. push v s) (above s) _ (evaluated D a w) _ _ (value_is a s w) (λ x w1. same_depth (length s.numbers) _ _)
+    value_is (Updated moment i operator computed kept a) s w =
+        let depth = length s.numbers in
+        let store = Store (below_new moment depth) i in
+        let old = local_at w.frame.locals i in
+        ap (λ x. and_then x (run (update_block moment (value_block (suc (below_new moment depth)) a) operator computed kept store))) (same_depth depth (Done (On (push old s)) w) (Done Lost w))
+        ∙ update_is moment operator computed kept old a store s s w (λ new w1. Done new (with_locals w1 (slice_set w1.frame.locals i new))) (λ s1. value_is a s1 w) (variable_stores moment old i s)
     value_is (Invoked f all) s w = passed all (Calls f (value_count all)) (above s) s w _ (values_is all s w) (λ given w1 e. on_pushed (value_count all) given s w1 (λ values rest. pushes rest (D.call f 0 values w1)) e)
     value_is (Sent a selector all) s w = after (λ v. push v s) (above s) _ (evaluated D a w) _ _ (value_is a s w) (λ self w1.
         tells (ToClass selector) all (push self s) s w1 (λ given w2. dispatched D (finds D (class_at self) selector given) self given w2) (values_is all (push self s) w1) (λ given w2. refl))
@@ -85,6 +146,9 @@ module _ (D : Deeper) (bound : ℕ) where
     value_is (Field a class index) s w = after (λ r. name r s) (above s) _ (referred D a w) _ _ (reference_is a s w) (λ r w1. refl)
     value_is (FieldAssigned a class index b) s w = after (λ r. name r s) (above s) _ (referred D a w) _ _ (reference_is a s w) (λ r w1.
         after (λ v. push v (name r s)) (above s) _ (evaluated D b w1) _ _ (value_is b (name r s) w1) (λ v w2. refl))
+    value_is (FieldUpdated moment a class index operator computed kept b) s w = after (λ r. name r s) (above s) _ (referred D a w) _ _ (reference_is a s w) (λ r w1.
+        after (λ old. push old (name r s)) (above s) _ (field_read D r class index w1) _ _ refl (λ old w2.
+        update_is moment operator computed kept old b (One (SetField class index)) (name r s) s w2 (field_set D r class index) (λ s1. value_is b s1 w2) (field_stores moment old r class index s)))
     value_is (resolved.Differ a b) s w = after (λ r. name r s) (above s) _ (referred D a w) _ _ (reference_is a s w) (λ x w1.
         after (λ r. name r (name x s)) (above s) _ (referred D b w1) _ _ (reference_is b (name x s) w1) (λ y w2. refl))
     value_is (resolved.IsObject a) s w = after (λ r. name r s) (above s) _ (referred D a w) _ _ (reference_is a s w) (λ r w1. refl)

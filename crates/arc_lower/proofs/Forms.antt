@@ -1,13 +1,18 @@
 -- What each form of expression and of statement needs and leaves.
 use Rattle.std.proofs.Common.{◌≡◌, ℕ, suc, ◌+◌, ◌-◌, ◌≤◌, Bool, true, false, List, Some, None, refl, subst, arith, pos}
 use Rattle.std.specs.List.{list_any}
-use Rattle.arc_spec.specs.Resolved.{Value, Number, ReadByte, Print, Applied, Combined, Choice, Converted, Local, Assigned, Invoked, Sent, SentSuper, SentTo, SentToSuper, Field, FieldAssigned, Reference, Itself, Variable, Chosen, Stored, Made, Initialized, Values, no_values, and_value, Command, Sequence, Evaluate, EvaluateReference, Begin, Choose, Repeat, Commands, no_commands, and_command, Program}
+use Rattle.arc_ast.specs.declared.tree.BinaryOperator.{BinaryOperator}
+use Rattle.arc_ast.specs.declared.tree.Kind.{Kind}
+use Rattle.arc_ast.specs.declared.tree.Moment.{Moment}
+use Rattle.arc_ast.specs.declared.tree.Moment.TheVariants.{Before, After}
+use Rattle.arc_spec.specs.Resolved.{Value, Number, ReadByte, Print, Applied, Combined, Choice, Converted, Local, Assigned, Updated, Invoked, Sent, SentSuper, SentTo, SentToSuper, Field, FieldAssigned, FieldUpdated, Reference, Itself, Variable, Chosen, Stored, Made, Initialized, Values, no_values, and_value, Command, Sequence, Evaluate, EvaluateReference, Begin, Choose, Repeat, Commands, no_commands, and_command, Program}
 use Rattle.arc_spec.specs.Resolved as resolved
 use Rattle.arc_code.specs.declared.instr.Op.{Op}
-use Rattle.arc_code.specs.declared.instr.Op.TheVariants.{Num, Bin, Un, Narrow, GetChar, Nil, ReadSelf, Hold, Forget, Alloc, GetField, SetField, Differ, IsObject}
+use Rattle.arc_code.specs.declared.instr.Op.TheVariants as ops
+use Rattle.arc_code.specs.declared.instr.Op.TheVariants.{Num, Bin, Un, Narrow, Pop, Get, GetChar, Nil, ReadSelf, Hold, Forget, Alloc, GetField, SetField, Differ, IsObject}
 use Rattle.arc_code.specs.declared.effect.Height.{Height}
 use Rattle.arc_code.specs.Effects.{on_numbers, of_names, operation_effect}
-use Rattle.arc_lower.specs.Lowered.{value_count, order_takes, Block, Idle, One, Then, Fork, Full, Assign, flat, value_block, reference_block, values_block, whole_block, whole_reference_block, begin_block, command_block, commands_block}
+use Rattle.arc_lower.specs.Lowered.{value_count, order_takes, Block, Idle, One, Then, Fork, Full, Assign, flat, old_block, given_block, below_new, update_block, value_block, reference_block, values_block, whole_block, whole_reference_block, begin_block, command_block, commands_block}
 use Rattle.arc_lower.specs.Heights.{height, between, after_effect, walk, last_walk}
 use Rattle.arc_lower.specs.Lowered.{whole_orders, whole_reference_orders}
 use Rattle.arc_lower.proofs.Typing.{heights_same, Reaches, print_types, get_types, set_types, call_types, store_types, read_types, all_empty_type, drop_types, tested, Forks, BlockTypes}
@@ -53,6 +58,27 @@ module _ (P : Program) (r s slots names exit d : ℕ) (room : names ≤ d + s) w
   shifted : (n a b c : ℕ) (x : Block) → Comes (suc a) b c x (n + suc a) b → Comes (suc a) b c x (suc n + a) b
   shifted n a b c x first = let e : n + suc a ≡ suc n + a = omega arith in subst (λ m. Comes (suc a) b c x m b) e first
 
+  old_types : (moment : Moment) (a b c : ℕ) → Comes (suc a) b c (old_block moment) (suc (below_new moment a)) b
+  old_types Before a b c = op (Get 0) (omega arith) (omega arith) (omega arith) refl
+  old_types After a b c = plain refl
+
+  given_types : (moment : Moment) (a b c : ℕ) → Comes (suc (below_new moment a)) b c (given_block moment) (suc a) b
+  given_types Before a b c = op Pop (omega arith) (omega arith) (omega arith) refl
+  given_types After a b c = plain refl
+
+  -- what follows the old number of an update
+  update_types : (moment : Moment) (operator : BinaryOperator) (computed kept : Kind) (right store : Block) (a b c m : ℕ)
+      → ((t : ℕ) → Comes (suc (below_new moment a)) b t right (suc (suc (below_new moment a))) b) → ((t : ℕ) → Comes (suc (below_new moment a)) b t store (suc (below_new moment a)) m)
+      → Comes (suc a) b c (update_block moment right operator computed kept store) (suc a) m
+  update_types moment operator computed kept right store a b c m rights stores =
+      let new = suc (below_new moment a) in
+      next (old_types moment a b c) (λ t. next (rights t) (λ t. next {n = new} {m = b} (op (Bin operator computed) (omega arith) (omega arith) (omega arith) refl)
+      (λ t. next {n = new} {m = b} (op (Narrow kept) (omega arith) (omega arith) (omega arith) refl) (λ t. next (stores t) (λ t. given_types moment a m t)))))
+
+  lies_below : (moment : Moment) (depth a : ℕ) → depth + slots ≤ a + r → below_new moment depth + slots ≤ below_new moment a + r
+  lies_below Before depth a h = omega (arith, h)
+  lies_below After depth a h = h
+
   mutual
     pub value_types : (e : Value) (depth a b c : ℕ) → depth + slots ≤ a + r → Comes a b c (value_block depth e) (suc a) b
     value_types (Number n) depth a b c h = op (Num n) tt (omega arith) (omega arith) refl
@@ -64,6 +90,9 @@ module _ (P : Program) (r s slots names exit d : ℕ) (room : names ≤ d + s) w
     value_types (Converted kind v) depth a b c h = next (value_types v depth a b c h) (λ t. op (Narrow kind) (omega arith) (omega arith) (omega arith) refl)
     value_types (Local i) depth a b c h = plain (get_types P r s b c d slots depth i a h)
     value_types (Assigned i v) depth a b c h = next (value_types v depth a b c h) (λ t. plain (set_types P r s b t d slots depth i a h))
+    value_types (Updated moment i operator computed kept v) depth a b c h =
+        let lies = lies_below moment depth a h in
+        next (plain (get_types P r s b c d slots depth i a h)) (λ t. update_types moment operator computed kept _ _ a b t b (λ q. value_types v (suc (below_new moment depth)) (suc (below_new moment a)) b q (omega (arith, lies))) (λ q. plain (set_types P r s b q d slots (below_new moment depth) i (below_new moment a) lies)))
     value_types (Invoked f arguments) depth a b c h = next (values_type arguments depth a b c h) (λ t. plain (call_types P r s b t d f (value_count arguments) a))
     value_types (Sent v selector arguments) depth a b c h = next (value_types v depth a b c h) (λ t. next (values_type arguments (suc depth) (suc a) b t (omega (arith, h))) (λ q. plain (omega arith, class_left (value_count arguments) a b q)))
     value_types (SentSuper from selector arguments) depth a b c h = next (plain (get_types P r s b c d slots depth 0 a h)) (λ t. next (values_type arguments (suc depth) (suc a) b t (omega (arith, h))) (λ q. plain (omega arith, class_left (value_count arguments) a b q)))
@@ -71,6 +100,10 @@ module _ (P : Program) (r s slots names exit d : ℕ) (room : names ≤ d + s) w
     value_types (SentToSuper from selector arguments) depth a b c h = next (op ReadSelf tt (omega arith) (omega arith) refl) (λ t. next (values_type arguments depth a (suc b) t h) (λ q. plain ((omega arith, omega arith), object_left (value_count arguments) a b q)))
     value_types (Field v class index) depth a b c h = next (reference_types v depth a b c h) (λ t. op (GetField class index) (omega arith) (omega arith) (omega arith) refl)
     value_types (FieldAssigned v class index u) depth a b c h = next (reference_types v depth a b c h) (λ t. next (value_types u depth a (suc b) t h) (λ q. op (SetField class index) (omega arith, omega arith) (omega arith) (omega arith) refl))
+    value_types (FieldUpdated moment v class index operator computed kept u) depth a b c h =
+        let lies = lies_below moment depth a h in
+        next (reference_types v depth a b c h) (λ t. next {n = a} {m = suc (suc b)} (op ops.Again (omega arith) (omega arith) (omega arith) refl) (λ t. next {n = suc a} {m = suc b} (op (GetField class index) (omega arith) (omega arith) (omega arith) refl)
+        (λ t. update_types moment operator computed kept _ _ a (suc b) t b (λ q. value_types u (suc (below_new moment depth)) (suc (below_new moment a)) (suc b) q (omega (arith, lies))) (λ q. op (SetField class index) (omega arith, omega arith) (omega arith) (omega arith) refl))))
     value_types (resolved.Differ v u) depth a b c h = next (reference_types v depth a b c h) (λ t. next (reference_types u depth a (suc b) t h) (λ q. op Differ (omega arith) (omega arith) (omega arith) refl))
     value_types (resolved.IsObject v) depth a b c h = next (reference_types v depth a b c h) (λ t. op IsObject (omega arith) (omega arith) (omega arith) refl)
 

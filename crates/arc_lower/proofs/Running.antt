@@ -21,6 +21,7 @@ use Rattle.arc_ir.specs.Acting.{Program, State, lands, onward, goes, keeps, answ
 use Rattle.arc_ir.specs.Acting as acting
 use Rattle.arc_code.specs.declared.instr.Op.{Op}
 use Rattle.arc_code.specs.declared.instr.Op.TheVariants.{Num, Bin, Un, Narrow, Pop, Get, Set, GetChar, Nil, ReadSelf, ReadRef, Hold, Forget, Alloc, GetField, SetField, Differ, IsObject}
+use Rattle.arc_code.specs.declared.instr.Op.TheVariants as ops
 use Rattle.arc_code.specs.declared.instr.Instr.TheVariants.{Plain, Jump, JumpZero, Call, StoreStrong, DropAll}
 use Rattle.arc_code.specs.Effects.{passes}
 use Rattle.arc_lower.specs.Order.{Order}
@@ -193,6 +194,8 @@ module _ (p : Program) (frames : List Frame) (bound : ℕ) (R : resolved.Program
   operation_runs calm (Narrow kind) pc (x ∷ numbers) rs w free g = quietly calm (pc + 1) (record { numbers = converted kind x ∷ numbers; names = rs }) w g
   operation_runs calm Pop pc [] rs w free g = lost calm _ (pc + 1) w
   operation_runs calm Pop pc (x ∷ numbers) rs w free g = quietly calm (pc + 1) (record { numbers = numbers; names = rs }) w g
+  operation_runs calm (Get zero) pc [] rs w free g = lost calm _ (pc + 1) w
+  operation_runs calm (Get zero) pc (x ∷ numbers) rs w free g = quietly calm (pc + 1) (record { numbers = x ∷ x ∷ numbers; names = rs }) w g
   operation_runs calm GetChar pc numbers rs w free g = reading calm pc (record { numbers = numbers; names = rs }) w w.input refl g
   operation_runs calm Nil pc numbers rs w free g = quietly calm (pc + 1) (record { numbers = numbers; names = 0 ∷ rs }) w g
   operation_runs calm ReadSelf pc numbers rs w free g =
@@ -203,6 +206,8 @@ module _ (p : Program) (frames : List Frame) (bound : ℕ) (R : resolved.Program
   operation_runs calm Hold pc numbers (r ∷ rs) w free g =
       let s : Operands = record { numbers = numbers; names = rs } in
       named_runs p bound w.input w.trace (Leaves calm (pc + 1)) (Done (On (name r s)) (takes r w)) r (held_of (r ∷ rs) w) _ (holding calm r (pc + 1) s w free g)
+  operation_runs calm ops.Again pc numbers [] w free g = lost calm _ (pc + 1) w
+  operation_runs calm ops.Again pc numbers (r ∷ rs) w free g = quietly calm (pc + 1) (record { numbers = numbers; names = r ∷ r ∷ rs }) w g
   operation_runs calm Forget pc numbers [] w free g = lost calm _ (pc + 1) w
   operation_runs calm Forget pc numbers (r ∷ rs) w free g = quietly calm (pc + 1) (record { numbers = numbers; names = rs }) w g
   operation_runs calm Alloc pc [] rs w free g = lost calm _ (pc + 1) w

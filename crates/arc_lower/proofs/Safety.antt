@@ -17,6 +17,7 @@ use Rattle.arc_spec.specs.Stepping.{Next, Goes, Asks, Ends, Faults, Stuck, Along
 use Rattle.arc_ir.specs.Acting.{Action, Program, State, lands, start, step, entry, keeps, goes, or_fault, has_level, enters, answers, taken, sends, allocates, difference, operates, begins_end, releases, runs_dealloc, ends_class, end_goes_on, leaves, executes}
 use Rattle.arc_code.specs.declared.effect.Height.{Height}
 use Rattle.arc_code.specs.declared.instr.Op.{Op}
+use Rattle.arc_code.specs.declared.instr.Op.TheVariants as ops
 use Rattle.arc_code.specs.declared.instr.Op.TheVariants.{Num, Bin, Un, Narrow, Pop, Get, Set, PrintNum, PrintByte, GetChar, Declare, Nil, ReadSelf, ReadRef, Hold, Forget, Alloc, GetField, SetField, Differ, IsObject}
 use Rattle.arc_code.specs.declared.instr.Instr.TheVariants.{Plain, PrintText, Jump, JumpZero, Call, Send, SendSuper, SendTo, SendToSuper, StoreStrong, Empty, DropAll, Return, EndStep}
 use Rattle.arc_code.specs.Effects.{passes}
@@ -462,6 +463,9 @@ module _ (p : Program) (R : resolved.Program) where
           let f = first_of own (omega (arith, needs, size)) in
           let there = is_held f.0 (keeps_of f.0 f.1 f.2).0 in
           reference_leads f.0 held.names (f.1 ++ deeper) _ (top_is f.0 f.1 f.2) (named_leads f.0 held _ there (takes nil Hold g f.0 held.names own o.is there (all_more f.0 own held.temporaries o.keeps) (omega arith) (omega (arith, size, needs)) (omega arith) (omega arith)))
+      operation_leads ops.Again is nil needs g =
+          let f = first_of own (omega (arith, needs, size)) in
+          reference_leads f.0 held.names (f.1 ++ deeper) _ (top_is f.0 f.1 f.2) (refers nil ops.Again g stack (named f.0 held) (f.0 ∷ own) (ap (λ l. f.0 ∷ l) o.is) refl refl refl refl ((keeps_of f.0 f.1 f.2).0, o.keeps) o.dying (sane_names held (f.0 ∷ held.names) o.sane) (omega (arith, count)) (omega (arith, size, needs)) (omega arith) (omega arith))
       operation_leads Forget is nil needs g =
           let f = first_of own (omega (arith, needs, size)) in
           let shorter = ap length f.2 in

@@ -6,7 +6,8 @@ use Rattle.arc_spec.specs.Number.{converted, applied, combined, is_zero}
 use Rattle.arc_spec.specs.World.{World, Outcome, Done, Faulted, Cut, Finished, then_do, prints, next_number, has_read, with_locals, local_at, name_at, takes}
 use Rattle.arc_spec.specs.Meaning.{Deeper, chosen, dispatched, finds, sent_to, sent_from, made, field_read, field_set, difference, formatted, byte_count, or_fault, all_dropped, assigned, variables_dropped}
 use Rattle.arc_code.specs.declared.instr.Op.{Op}
-use Rattle.arc_code.specs.declared.instr.Op.TheVariants.{Num, Bin, Un, Narrow, Pop, GetChar, Nil, ReadSelf, Hold, Forget, Alloc, GetField, SetField, Differ, IsObject}
+use Rattle.arc_code.specs.declared.instr.Op.TheVariants as ops
+use Rattle.arc_code.specs.declared.instr.Op.TheVariants.{Num, Bin, Un, Narrow, Pop, Get, GetChar, Nil, ReadSelf, Hold, Forget, Alloc, GetField, SetField, Differ, IsObject}
 use Rattle.arc_lower.specs.Lowered.{Message, ToClass, ToSuperClass, ToObject, ToSuper, Block, Idle, One, Load, Store, Read, Assign, Clear, Format, Calls, Tells, Then, Fork, Loop, Full, Leave}
 use Rattle.arc_lower.proofs.Stacking.{onto}
 
@@ -78,10 +79,12 @@ operation D (Bin operator kind) s w = on_number s w (λ y above. on_number above
 operation D (Un operator kind) s w = on_number s w (λ x rest. Done (On (push (applied operator kind x) rest)) w)
 operation D (Narrow kind) s w = on_number s w (λ x rest. Done (On (push (converted kind x) rest)) w)
 operation D Pop s w = on_number s w (λ x rest. Done (On rest) w)
+operation D (Get zero) s w = on_number s w (λ v rest. Done (On (push v (push v rest))) w)
 operation D GetChar s w = Done (On (push (next_number w.input) s)) (has_read w)
 operation D Nil s w = Done (On (name 0 s)) w
 operation D ReadSelf s w = Done (On (name w.frame.self s)) (takes w.frame.self w)
 operation D Hold s w = on_name s w (λ r rest. Done (On (name r rest)) (takes r w))
+operation D ops.Again s w = on_name s w (λ r rest. Done (On (name r (name r rest))) w)
 operation D Forget s w = on_name s w (λ r rest. Done (On rest) w)
 operation D Alloc s w = on_number s w (λ v rest. left_by (λ r. On (name r rest)) (made D (class_at v) w))
 operation D (GetField class index) s w = on_name s w (λ r rest. pushes rest (field_read D r class index w))

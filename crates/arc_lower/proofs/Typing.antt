@@ -5,6 +5,7 @@ use Rattle.arc_ast.specs.declared.tree.Kind.TheVariants as k
 use Rattle.arc_ast.specs.declared.tree.Sign.TheVariants as signs
 use Rattle.arc_spec.specs.Resolved.{Piece, Bytes, Decimal, Character, Function, Program}
 use Rattle.arc_code.specs.declared.instr.Op.{Op}
+use Rattle.arc_code.specs.declared.instr.Op.TheVariants as ops
 use Rattle.arc_code.specs.declared.instr.Op.TheVariants.{Num, Bin, Un, Narrow, Pop, Get, Set, PrintNum, PrintByte, Declare, Nil, ReadRef, Hold, Forget, Alloc, GetField, SetField, Differ, IsObject}
 use Rattle.arc_code.specs.declared.instr.Instr.TheVariants.{Plain, PrintText, Jump, JumpZero, Call, Send, SendSuper, SendTo, SendToSuper, StoreStrong, Empty, DropAll, Return}
 use Rattle.arc_code.specs.declared.effect.Effect.{Effect}
@@ -65,6 +66,7 @@ Reaches PrintByte h = 2 ≤ h.numbers
 Reaches Declare h = h.temporaries ≡ 0
 Reaches (ReadRef i) h = i < h.variables
 Reaches Hold h = 1 ≤ h.names
+Reaches ops.Again h = 1 ≤ h.names
 Reaches Forget h = 1 ≤ h.names
 Reaches Alloc h = 1 ≤ h.numbers
 Reaches (GetField class index) h = 1 ≤ h.names

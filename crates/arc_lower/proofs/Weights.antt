@@ -1,11 +1,12 @@
 -- What an expression is of its parts, and how much of it is left to lower: that falls with each call.
 use Rattle.std.proofs.Common.{rules, arith, ◌≡◌, ℕ, zero, suc, ◌+◌, ◌<◌, List, [], ◌∷◌, Box, Global, length, get_or, sym, ap, subst, ◌∙◌}
 use Rattle.arc_ast.specs.declared.tree.Kind.{Kind}
+use Rattle.arc_ast.specs.declared.tree.Moment.{Moment}
 use Rattle.arc_ast.specs.declared.tree.UnaryOperator.{UnaryOperator}
 use Rattle.arc_ast.specs.declared.tree.BinaryOperator.{BinaryOperator}
 use Rattle.arc_check.specs.declared.checked.Value as c
 use Rattle.arc_check.specs.declared.checked.Reference as r
-use Rattle.arc_spec.specs.Resolved.{Value, Number, ReadByte, Print, Applied, Combined, Choice, Converted, Local, Assigned, Invoked, Sent, SentSuper, SentTo, SentToSuper, Field, FieldAssigned, Differ, IsObject, Reference, Nil, Itself, Variable, Chosen, Stored, Made, Initialized, Values, no_values, and_value}
+use Rattle.arc_spec.specs.Resolved.{Value, Number, ReadByte, Print, Applied, Combined, Choice, Converted, Local, Assigned, Updated, Invoked, Sent, SentSuper, SentTo, SentToSuper, Field, FieldAssigned, FieldUpdated, Differ, IsObject, Reference, Nil, Itself, Variable, Chosen, Stored, Made, Initialized, Values, no_values, and_value}
 use Rattle.arc_check.specs.Checked.{value, values, reference}
 
 abbrev mutual
@@ -19,6 +20,7 @@ abbrev mutual
   value_weight (Converted kind a) = 2 + value_weight a
   value_weight (Local i) = 1
   value_weight (Assigned i a) = 2 + value_weight a
+  value_weight (Updated moment i operator computed kept a) = 3 + value_weight a
   value_weight (Invoked f arguments) = 2 + values_weight arguments
   value_weight (Sent a selector arguments) = 2 + value_weight a + values_weight arguments
   value_weight (SentSuper from selector arguments) = 2 + values_weight arguments
@@ -26,6 +28,7 @@ abbrev mutual
   value_weight (SentToSuper from selector arguments) = 2 + values_weight arguments
   value_weight (Field a class index) = 2 + reference_weight a
   value_weight (FieldAssigned a class index b) = 2 + reference_weight a + value_weight b
+  value_weight (FieldUpdated moment a class index operator computed kept b) = 3 + reference_weight a + value_weight b
   value_weight (Differ a b) = 2 + reference_weight a + reference_weight b
   value_weight (IsObject a) = 2 + reference_weight a
 
@@ -85,6 +88,17 @@ is_field_assigned v a class index b object operand is same_object same =
     ap value is
     ∙ ap (λ x. FieldAssigned (reference x) class index (value b.value)) (sym same_object)
     ∙ ap (λ x. FieldAssigned (reference object) class index (value x)) (sym same)
+
+pub is_updated : (v : c.Value) (moment : Moment) (i : ℕ) (operator : BinaryOperator) (computed kept : Kind) (a : Box c.Value Global) (this : c.Value)
+    → v ≡ c.Updated moment i operator computed kept a → this ≡ a.value → value v ≡ Updated moment i operator computed kept (value this)
+is_updated v moment i operator computed kept a this is same = ap value is ∙ ap (λ x. Updated moment i operator computed kept (value x)) (sym same)
+
+pub is_field_updated : (v : c.Value) (moment : Moment) (a : Box r.Reference Global) (class index : ℕ) (operator : BinaryOperator) (computed kept : Kind) (b : Box c.Value Global) (object : r.Reference) (operand : c.Value)
+    → v ≡ c.FieldUpdated moment a class index operator computed kept b → object ≡ a.value → operand ≡ b.value → value v ≡ FieldUpdated moment (reference object) class index operator computed kept (value operand)
+is_field_updated v moment a class index operator computed kept b object operand is same_object same =
+    ap value is
+    ∙ ap (λ x. FieldUpdated moment (reference x) class index operator computed kept (value b.value)) (sym same_object)
+    ∙ ap (λ x. FieldUpdated moment (reference object) class index operator computed kept (value x)) (sym same)
 
 pub is_differ : (v : c.Value) (a b : Box r.Reference Global) (left right : r.Reference)
     → v ≡ c.Differ a b → left ≡ a.value → right ≡ b.value → value v ≡ Differ (reference left) (reference right)

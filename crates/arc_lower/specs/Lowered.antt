@@ -3,14 +3,19 @@
 -- the end of the full-expression.
 use Rattle.std.specs.Prelude.{ℕ, zero, suc, pred, ◌+◌, ◌-◌, ◌/◌, Bool, nat_lt, if◌then◌else◌, pos, List, [], ◌∷◌, ◌++◌, length, take, drop, slice_index_or, Option, Some, None}
 use Rattle.std.specs.List.{list_any}
+use Rattle.arc_ast.specs.declared.tree.BinaryOperator.{BinaryOperator}
+use Rattle.arc_ast.specs.declared.tree.Kind.{Kind}
 use Rattle.arc_ast.specs.declared.tree.Kind.TheVariants as k
-use Rattle.arc_spec.specs.Resolved.{Piece, Bytes, Decimal, Character, Value, Number, ReadByte, Print, Applied, Combined, Choice, Converted, Local, Assigned, Invoked, Sent, SentSuper, SentTo, SentToSuper, Field, FieldAssigned, Reference, Itself, Variable, Chosen, Stored, Made, Initialized, Values, no_values, and_value, Command, Sequence, Evaluate, EvaluateReference, Begin, Choose, Repeat, Commands, no_commands, and_command, Function, Program}
+use Rattle.arc_ast.specs.declared.tree.Moment.{Moment}
+use Rattle.arc_ast.specs.declared.tree.Moment.TheVariants.{Before, After}
+use Rattle.arc_spec.specs.Resolved.{Piece, Bytes, Decimal, Character, Value, Number, ReadByte, Print, Applied, Combined, Choice, Converted, Local, Assigned, Updated, Invoked, Sent, SentSuper, SentTo, SentToSuper, Field, FieldAssigned, FieldUpdated, Reference, Itself, Variable, Chosen, Stored, Made, Initialized, Values, no_values, and_value, Command, Sequence, Evaluate, EvaluateReference, Begin, Choose, Repeat, Commands, no_commands, and_command, Function, Program}
 use Rattle.arc_spec.specs.Resolved as resolved
 use Rattle.arc_spec.specs.declared.class.Method.{Method}
 use Rattle.arc_spec.specs.Classes.{Class}
 use Rattle.arc_spec.specs.Meaning.{function_at}
 use Rattle.arc_code.specs.declared.instr.Op.{Op}
 use Rattle.arc_code.specs.declared.instr.Op.TheVariants.{Num, Bin, Un, Narrow, Pop, Get, Set, PrintNum, PrintByte, GetChar, Declare, Nil, ReadSelf, ReadRef, Hold, Forget, Alloc, GetField, SetField, Differ, IsObject}
+use Rattle.arc_code.specs.declared.instr.Op.TheVariants as ops
 use Rattle.arc_code.specs.declared.instr.Instr.TheVariants.{Plain, PrintText, Jump, JumpZero, Call, Send, SendSuper, SendTo, SendToSuper, StoreStrong, Empty, DropAll, Return, EndStep}
 use Rattle.arc_code.specs.Effects.{effect, passes}
 use Rattle.arc_ir.specs.declared.action.Target.TheVariants.{Skip, Back, At}
@@ -196,6 +201,26 @@ flat P slots names (Full a b) =
     xs ++ (flat P slots names b ++ drop_orders xs)
 flat P slots names (Leave exit) = Jump (At exit) ∷ []
 
+-- An update has the old number on top. Where it gives that, a copy of it lies below what follows,
+abbrev pub old_block : Moment → Block
+old_block Before = One (Get 0)
+old_block After = Idle
+
+-- and is left alone at the end.
+abbrev pub given_block : Moment → Block
+given_block Before = One Pop
+given_block After = Idle
+
+-- how many operands lie below the new number, where so many lie below the old one
+abbrev pub below_new : Moment → (depth : ℕ) → ℕ
+below_new Before depth = suc depth
+below_new After depth = depth
+
+-- what follows the old number: the right operand, the new number, and where it is stored
+abbrev pub update_block : Moment → (right : Block) → BinaryOperator → (computed kept : Kind) → (store : Block) → Block
+update_block moment right operator computed kept store =
+    Then (old_block moment) (Then right (Then (One (Bin operator computed)) (Then (One (Narrow kept)) (Then store (given_block moment)))))
+
 -- An expression leaves one operand more. What gets a message to a class lies below its arguments; one to `super` goes to `self`, in a class method the first variable.
 abbrev mutual
   pub value_block : (depth : ℕ) → Value → Block
@@ -208,6 +233,9 @@ abbrev mutual
   value_block depth (Converted kind a) = Then (value_block depth a) (One (Narrow kind))
   value_block depth (Local i) = Load depth i
   value_block depth (Assigned i a) = Then (value_block depth a) (Store depth i)
+  value_block depth (Updated moment i operator computed kept a) =
+      let below = below_new moment depth in
+      Then (Load depth i) (update_block moment (value_block (suc below) a) operator computed kept (Store below i))
   value_block depth (Invoked f arguments) = Then (values_block depth arguments) (Calls f (value_count arguments))
   value_block depth (Sent a selector arguments) =
       Then (value_block depth a) (Then (values_block (suc depth) arguments) (Tells (ToClass selector) (value_count arguments)))
@@ -219,6 +247,9 @@ abbrev mutual
       Then (One ReadSelf) (Then (values_block depth arguments) (Tells (ToSuper from selector) (value_count arguments)))
   value_block depth (Field a class index) = Then (reference_block depth a) (One (GetField class index))
   value_block depth (FieldAssigned a class index b) = Then (reference_block depth a) (Then (value_block depth b) (One (SetField class index)))
+  value_block depth (FieldUpdated moment a class index operator computed kept b) =
+      Then (reference_block depth a) (Then (One ops.Again) (Then (One (GetField class index))
+      (update_block moment (value_block (suc (below_new moment depth)) b) operator computed kept (One (SetField class index)))))
   value_block depth (resolved.Differ a b) = Then (reference_block depth a) (Then (reference_block depth b) (One Differ))
   value_block depth (resolved.IsObject a) = Then (reference_block depth a) (One IsObject)
 
@@ -268,6 +299,15 @@ abbrev pub body_block : (exit : ℕ) → Commands → Block
 body_block exit body = Then (commands_block exit body) (Then (One (Num (pos 0))) (Leave exit))
 
 -- ---- the actions of parts of a function
+
+-- the actions of the parts of an update
+abbrev pub old_orders : Moment → List Order
+old_orders Before = Plain (Get 0) ∷ []
+old_orders After = []
+
+abbrev pub given_orders : Moment → List Order
+given_orders Before = Plain Pop ∷ []
+given_orders After = []
 
 abbrev pub value_orders : Program → (slots names depth : ℕ) → Value → List Order
 value_orders P slots names depth a = flat P slots names (value_block depth a)

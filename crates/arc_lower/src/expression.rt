@@ -4,13 +4,16 @@ ghost use Rattle.arc_check.specs.Checked as checked;
 ghost use Rattle.arc_check.specs.Checked.{value, reference, values, program_of};
 ghost use Rattle.arc_spec.specs.Resolved as resolved;
 ghost use Rattle.arc_lower.specs.Order.{order, orders};
-ghost use Rattle.arc_lower.specs.Lowered.{value_orders, reference_orders, all_value_orders};
+ghost use Rattle.arc_code.specs.declared.instr.Op.TheVariants.{Bin, Narrow};
+ghost use Rattle.arc_code.specs.declared.instr.Instr.TheVariants.{Plain};
+ghost use Rattle.arc_lower.specs.Lowered.{old_orders, value_orders, reference_orders, all_value_orders};
 
 use crate::call::append_call;
 use crate::frame::Frame;
 use crate::jump::join;
 use crate::place::{append_read, append_store};
 use crate::print::append_print;
+use crate::update::{Update, append_given, append_new, append_old, below_new};
 use crate::variable::{append_get, append_set, one_more};
 use arc_check::checked::{Checked, Piece, Reference, Value};
 use arc_code::instr::{Instr, Op};
@@ -68,6 +71,15 @@ pub(crate) fn append_value(
         Value::Assigned(index, operand) => {
             append_assigned(alloc, actions, program, frame, *index, operand)
         }
+        Value::Updated(moment, index, operator, computed, kept, operand) => {
+            let update = Update {
+                moment: *moment,
+                operator: *operator,
+                computed: *computed,
+                kept: *kept,
+            };
+            append_updated(alloc, actions, program, frame, *index, update, operand)
+        }
         Value::Invoked(function, arguments) => {
             append_invoked(alloc, actions, program, frame, *function, arguments)
         }
@@ -90,6 +102,17 @@ pub(crate) fn append_value(
         Value::FieldAssigned(object, class, index, operand) => {
             append_field_assigned(
                 alloc, actions, program, frame, object, *class, *index, operand,
+            )
+        }
+        Value::FieldUpdated(moment, object, class, index, operator, computed, kept, operand) => {
+            let update = Update {
+                moment: *moment,
+                operator: *operator,
+                computed: *computed,
+                kept: *kept,
+            };
+            append_field_updated(
+                alloc, actions, program, frame, object, *class, *index, update, operand,
             )
         }
         Value::Differ(left, right) => append_differ(alloc, actions, program, frame, left, right),
@@ -237,6 +260,71 @@ fn append_assigned(
 {
     append_value(alloc, actions, program, frame, operand)?;
     append_set(actions, frame.slots, frame.operands, index)
+}
+
+/// Appends the actions of an update of a variable that holds a number.
+#[cycle(expression)]
+fn append_updated(
+    alloc: Global,
+    actions: &mut Vec<Action>,
+    program: &Checked,
+    frame: Frame,
+    index: usize,
+    update: Update,
+    operand: &Value,
+) -> Result<(), NoMemory>
+    ensures { OnOk result (orders actions.new.items ≡ orders actions.old.items ++ value_orders (program_of program.now) frame.slots frame.names frame.operands (resolved.Updated update.moment index update.operator update.computed update.kept (value operand.now))) }
+{
+    append_get(actions, frame.slots, frame.operands, index)?;
+    let operands = below_new(update.moment, frame.operands)?;
+    let below = Frame { operands, ..frame };
+    append_update(alloc, actions, program, below, update, operand)?;
+    append_set(actions, frame.slots, operands, index)?;
+    append_given(actions, update.moment)
+}
+
+/// Appends the actions of an update of a field of an object, which is found once.
+#[cycle(expression)]
+fn append_field_updated(
+    alloc: Global,
+    actions: &mut Vec<Action>,
+    program: &Checked,
+    frame: Frame,
+    object: &Reference,
+    class: usize,
+    index: usize,
+    update: Update,
+    operand: &Value,
+) -> Result<(), NoMemory>
+    ensures { OnOk result (orders actions.new.items ≡ orders actions.old.items ++ value_orders (program_of program.now) frame.slots frame.names frame.operands (resolved.FieldUpdated update.moment (reference object.now) class index update.operator update.computed update.kept (value operand.now))) }
+{
+    append_reference(alloc, actions, program, frame, object)?;
+    append(actions, Instr::Plain(Op::Again))?;
+    append(actions, Instr::Plain(Op::GetField(class, index)))?;
+    let operands = below_new(update.moment, frame.operands)?;
+    let below = Frame { operands, ..frame };
+    append_update(alloc, actions, program, below, update, operand)?;
+    append(actions, Instr::Plain(Op::SetField(class, index)))?;
+    append_given(actions, update.moment)
+}
+
+/// Appends the actions behind the old number that make the new one, below which lie so many operands.
+#[cycle(expression)]
+fn append_update(
+    alloc: Global,
+    actions: &mut Vec<Action>,
+    program: &Checked,
+    below: Frame,
+    update: Update,
+    operand: &Value,
+) -> Result<(), NoMemory>
+    ensures { OnOk result (orders actions.new.items ≡ orders actions.old.items ++ (old_orders update.moment ++ (value_orders (program_of program.now) below.slots below.names (suc below.operands) (value operand.now) ++ (Plain (Bin update.operator update.computed) ∷ Plain (Narrow update.kept) ∷ [])))) }
+{
+    append_old(actions, update.moment)?;
+    let operands = one_more(below.operands)?;
+    let above = Frame { operands, ..below };
+    append_value(alloc, actions, program, above, operand)?;
+    append_new(actions, update)
 }
 
 /// Appends the actions of a call, the arguments' first.

@@ -12,4 +12,5 @@ mod place;
 mod print;
 mod statement;
 mod stub;
+mod update;
 mod variable;

@@ -112,6 +112,23 @@ impl Place {
         Answer::Going
     }
 
+    /// A further reference names what the last one does.
+    #[inline(always)]
+    pub fn again<S: Store + Drop>(&mut self, _code: &Code, objects: &mut Objects<S>) -> Answer
+        requires ready { Ready S.out (program_of _code.now) (Instr.Plain Op.Again) (spot self.old objects.old) }
+        requires place { self.old.at < 2 ^ 64 - 1 }
+        requires room { _code.now.room ≤ self.old.stack.room }
+        requires places { HasPlaces _code.now objects.old }
+        ensures went { Executes S.out (program_of _code.now) (Instr.Plain Op.Again) result []
+            (spot self.old objects.old) (spot self.new objects.new) }
+        ensures room { self.new.stack.room ≡ self.old.stack.room }
+    {
+        let object = objects.reference();
+        objects.name(object);
+        self.at += 1;
+        Answer::Going
+    }
+
     /// Takes the last reference.
     #[inline(always)]
     pub fn forget<S: Store + Drop>(&mut self, _code: &Code, objects: &mut Objects<S>) -> Answer

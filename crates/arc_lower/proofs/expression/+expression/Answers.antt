@@ -1,21 +1,45 @@
-use Rattle.std.proofs.Common.{◌≡◌, suc, ◌+◌, List, [], ◌∷◌, ◌++◌, length, Result, drop, refl, ap, sym, subst, ◌∙◌, append_assoc, arith, OnOk}
+use Rattle.std.proofs.Common.{◌≡◌, ℕ, suc, ◌+◌, List, [], ◌∷◌, ◌++◌, length, Result, drop, refl, ap, sym, subst, ◌∙◌, append_assoc, arith, OnOk}
 use Rattle.std.proofs.lemmas.List.{drop_more, length-map}
+use Rattle.arc_ast.specs.declared.tree.Moment.{Moment}
+use Rattle.arc_ast.specs.declared.tree.Moment.TheVariants.{Before, After}
 use Rattle.arc_spec.specs.Resolved as resolved
 use Rattle.arc_spec.specs.Resolved.{and_value}
 use Rattle.arc_check.specs.declared.checked.Value.{Value}
 use Rattle.arc_check.specs.Checked.{pieces, value, reference, values, program_of}
-use Rattle.arc_code.specs.declared.instr.Op.TheVariants.{ReadSelf, SetField, Differ}
+use Rattle.arc_code.specs.declared.instr.Op.TheVariants as ops
+use Rattle.arc_code.specs.declared.instr.Op.TheVariants.{Bin, Narrow, ReadSelf, GetField, SetField, Differ}
 use Rattle.arc_code.specs.declared.instr.Instr.TheVariants.{Plain, Send, SendSuper, SendTo, SendToSuper}
 use Rattle.arc_lower.specs.Order.{Order, order, orders}
-use Rattle.arc_lower.specs.Lowered.{value_orders, reference_orders, all_value_orders, print_orders, call_orders, get_orders, set_orders, value_count}
+use Rattle.arc_lower.specs.Lowered.{flat, old_block, given_block, old_orders, given_orders, below_new, value_orders, reference_orders, all_value_orders, print_orders, call_orders, get_orders, set_orders, value_count}
 use Rattle.arc_lower.proofs.Patching.{patch_fork}
 use Rattle.arc_lower.proofs.Rows.{values_counted}
 use Rattle.arc_check.proofs.Trees.{is_print, is_invoked, is_sent, is_sent_super, is_sent_to, is_sent_to_super}
-use Rattle.arc_lower.proofs.Weights.{value_weight, reference_weight, value_in, is_applied, is_combined, is_choice, is_chosen, is_converted, is_assigned, is_field, is_field_assigned, is_differ, is_object, is_stored, is_made, is_initialized}
+use Rattle.arc_lower.proofs.Weights.{value_weight, reference_weight, value_in, is_applied, is_combined, is_choice, is_chosen, is_converted, is_assigned, is_updated, is_field, is_field_assigned, is_field_updated, is_differ, is_object, is_stored, is_made, is_initialized}
 use Rattle.arc_lower.proofs.expression.+expression.Goals as goal
 
 behind_two : (old o1 o2 a b last : List Order) → o1 ≡ old ++ a → o2 ≡ o1 ++ b → o2 ++ last ≡ old ++ (a ++ (b ++ last))
 behind_two old o1 o2 a b last e1 e2 = ap (λ l. l ++ last) (e2 ∙ ap (λ l. l ++ b) e1) ∙ append_assoc (old ++ a) b last ∙ append_assoc old a (b ++ last)
+
+old_is : (P : resolved.Program) (slots names : ℕ) (moment : Moment) → old_orders moment ≡ flat P slots names (old_block moment)
+old_is P slots names Before = refl
+old_is P slots names After = refl
+
+given_is : (P : resolved.Program) (slots names : ℕ) (moment : Moment) → given_orders moment ≡ flat P slots names (given_block moment)
+given_is P slots names Before = refl
+given_is P slots names After = refl
+
+-- the orders of an update behind those that have the old number on top
+behind_old : (old first copy right new store given o1 o2 o3 : List Order) → o1 ≡ old ++ first → o2 ≡ o1 ++ (copy ++ (right ++ new)) → o3 ≡ o2 ++ store → o3 ++ given ≡ old ++ (first ++ (copy ++ (right ++ (new ++ (store ++ given)))))
+behind_old old first copy right new store given o1 o2 o3 e1 e2 e3 =
+    ap (λ l. l ++ given) (e3 ∙ ap (λ l. l ++ store) (e2 ∙ ap (λ l. l ++ (copy ++ (right ++ new))) e1)) ∙ simp append_assoc
+
+-- these are the orders of an update's blocks
+updates : (P : resolved.Program) (slots names : ℕ) (moment : Moment) (old first : List Order) (right : ℕ → List Order) (new : List Order) (store : ℕ → List Order) (n m : ℕ) → n ≡ m
+    → old ++ (first ++ (old_orders moment ++ (right n ++ (new ++ (store n ++ given_orders moment))))) ≡ old ++ (first ++ (flat P slots names (old_block moment) ++ (right m ++ (new ++ (store m ++ flat P slots names (given_block moment))))))
+updates P slots names moment old first right new store n m e =
+    ap (λ k. old ++ (first ++ (old_orders moment ++ (right k ++ (new ++ (store k ++ given_orders moment)))))) e
+    ∙ ap (λ l. old ++ (first ++ (l ++ (right m ++ (new ++ (store m ++ given_orders moment)))))) (old_is P slots names moment)
+    ∙ ap (λ l. old ++ (first ++ (flat P slots names (old_block moment) ++ (right m ++ (new ++ (store m ++ l)))))) (given_is P slots names moment)
 
 -- what holds of what a value means holds of the value
 told : (Q : resolved.Value → Type 0) (v : Value) (meant : resolved.Value) → value v ≡ meant → Q meant → Q (value v)
@@ -73,6 +97,24 @@ append_value-returns-in-Assigned t c =
     let f = c.args.frame in
     told (λ x. OnOk c.append_assigned.result (orders c.append_assigned.new.actions.items ≡ orders c.args.actions.now.items ++ value_orders (program_of c.args.program.now) f.slots f.names f.operands x)) c.args.expression.now _
     (is_assigned c.args.expression.now c.in-Assigned.index c.in-Assigned.operand c.deref-in-Assigned.result.now c.in-Assigned.is c.deref-in-Assigned.ensures) c.append_assigned.ensures
+
+pub append_value-append_updated-requires : goal.append_value-append_updated-requires
+append_value-append_updated-requires t c = (omega (arith, ap value_weight (is_updated c.args.expression.now c.in-Updated.moment c.in-Updated.index c.in-Updated.operator c.in-Updated.computed c.in-Updated.kept c.in-Updated.operand c.deref-in-Updated.result.now c.in-Updated.is c.deref-in-Updated.ensures), c.decreases), tt)
+
+pub append_value-returns-in-Updated : goal.append_value-returns-in-Updated
+append_value-returns-in-Updated t c =
+    let f = c.args.frame in
+    told (λ x. OnOk c.append_updated.result (orders c.append_updated.new.actions.items ≡ orders c.args.actions.now.items ++ value_orders (program_of c.args.program.now) f.slots f.names f.operands x)) c.args.expression.now _
+    (is_updated c.args.expression.now c.in-Updated.moment c.in-Updated.index c.in-Updated.operator c.in-Updated.computed c.in-Updated.kept c.in-Updated.operand c.deref-in-Updated.result.now c.in-Updated.is c.deref-in-Updated.ensures) c.append_updated.ensures
+
+pub append_value-append_field_updated-requires : goal.append_value-append_field_updated-requires
+append_value-append_field_updated-requires t c = (omega (arith, ap value_weight (is_field_updated c.args.expression.now c.in-FieldUpdated.moment c.in-FieldUpdated.object c.in-FieldUpdated.class c.in-FieldUpdated.index c.in-FieldUpdated.operator c.in-FieldUpdated.computed c.in-FieldUpdated.kept c.in-FieldUpdated.operand c.deref-in-FieldUpdated.result.now c.deref-in-FieldUpdated-2.result.now c.in-FieldUpdated.is c.deref-in-FieldUpdated.ensures c.deref-in-FieldUpdated-2.ensures), c.decreases), tt)
+
+pub append_value-returns-in-FieldUpdated : goal.append_value-returns-in-FieldUpdated
+append_value-returns-in-FieldUpdated t c =
+    let f = c.args.frame in
+    told (λ x. OnOk c.append_field_updated.result (orders c.append_field_updated.new.actions.items ≡ orders c.args.actions.now.items ++ value_orders (program_of c.args.program.now) f.slots f.names f.operands x)) c.args.expression.now _
+    (is_field_updated c.args.expression.now c.in-FieldUpdated.moment c.in-FieldUpdated.object c.in-FieldUpdated.class c.in-FieldUpdated.index c.in-FieldUpdated.operator c.in-FieldUpdated.computed c.in-FieldUpdated.kept c.in-FieldUpdated.operand c.deref-in-FieldUpdated.result.now c.deref-in-FieldUpdated-2.result.now c.in-FieldUpdated.is c.deref-in-FieldUpdated.ensures c.deref-in-FieldUpdated-2.ensures) c.append_field_updated.ensures
 
 pub append_value-append_invoked-requires : goal.append_value-append_invoked-requires
 append_value-append_invoked-requires t c =
@@ -294,6 +336,22 @@ pub append_field_assigned-append_value-requires : goal.append_field_assigned-app
 append_field_assigned-append_value-requires t c =
     (omega (arith, c.decreases), tt)
 
+pub append_updated-append_update-requires : goal.append_updated-append_update-requires
+append_updated-append_update-requires t c =
+    (omega (arith, c.decreases), tt)
+
+pub append_field_updated-append_reference-requires : goal.append_field_updated-append_reference-requires
+append_field_updated-append_reference-requires t c =
+    (omega (arith, c.decreases), tt)
+
+pub append_field_updated-append_update-requires : goal.append_field_updated-append_update-requires
+append_field_updated-append_update-requires t c =
+    (omega (arith, c.decreases), tt)
+
+pub append_update-append_value-requires : goal.append_update-append_value-requires
+append_update-append_value-requires t c =
+    (omega (arith, c.decreases), tt)
+
 pub append_differ-append_reference-requires : goal.append_differ-append_reference-requires
 append_differ-append_reference-requires t c =
     (omega (arith, c.decreases), tt)
@@ -464,6 +522,56 @@ append_field_assigned-returns t c =
     rightly c.append.result (orders c.append.new.actions.items) _ _
     (behind_two old o1 o2 (reference_orders P f.slots f.names f.operands (reference c.args.object.now)) (value_orders P f.slots f.names f.operands (value c.args.operand.now)) (Plain (SetField c.args.class c.args.index) ∷ []) c.in_ok-append_reference.ensures c.in_ok-append_value.ensures)
     c.append.ensures
+
+pub append_update-returns : goal.append_update-returns
+append_update-returns t c =
+    let P = program_of c.args.program.now in
+    let f = c.args.below in
+    let u = c.args.update in
+    let old = orders c.args.actions.now.items in
+    let o1 = orders c.append_old.new.actions.items in
+    let o2 = orders c.append_value.new.actions.items in
+    let a = value c.args.operand.now in
+    let next = c.in_ok-append_value.ensures ∙ ap (λ n. o1 ++ value_orders P f.slots f.names n a) c.in_ok-operands.ensures in
+    rightly c.append_new.result (orders c.append_new.new.actions.items) _ _
+    (behind_two old o1 o2 (old_orders u.moment) (value_orders P f.slots f.names (suc f.operands) a) (Plain (Bin u.operator u.computed) ∷ Plain (Narrow u.kept) ∷ []) c.in_ok-append_old.ensures next)
+    c.append_new.ensures
+
+pub append_updated-returns : goal.append_updated-returns
+append_updated-returns t c =
+    let P = program_of c.args.program.now in
+    let f = c.args.frame in
+    let u = c.args.update in
+    let old = orders c.args.actions.now.items in
+    let first = get_orders f.slots f.operands c.args.index in
+    let right : ℕ → List Order = λ n. value_orders P f.slots f.names (suc n) (value c.args.operand.now) in
+    let new : List Order = Plain (Bin u.operator u.computed) ∷ Plain (Narrow u.kept) ∷ [] in
+    let store : ℕ → List Order = λ n. set_orders f.slots n c.args.index in
+    let n = c.in_ok-operands.operands in
+    rightly c.append_given.result (orders c.append_given.new.actions.items) _ _
+    (behind_old old first (old_orders u.moment) (right n) new (store n) (given_orders u.moment) _ _ _ c.in_ok-append_get.ensures c.in_ok-append_update.ensures c.in_ok-append_set.ensures
+    ∙ updates P f.slots f.names u.moment old first right new store n (below_new u.moment f.operands) c.in_ok-operands.ensures)
+    c.append_given.ensures
+
+pub append_field_updated-returns : goal.append_field_updated-returns
+append_field_updated-returns t c =
+    let P = program_of c.args.program.now in
+    let f = c.args.frame in
+    let u = c.args.update in
+    let old = orders c.args.actions.now.items in
+    let object = reference_orders P f.slots f.names f.operands (reference c.args.object.now) in
+    let read : List Order = Plain ops.Again ∷ Plain (GetField c.args.class c.args.index) ∷ [] in
+    let right : ℕ → List Order = λ n. value_orders P f.slots f.names (suc n) (value c.args.operand.now) in
+    let new : List Order = Plain (Bin u.operator u.computed) ∷ Plain (Narrow u.kept) ∷ [] in
+    let store : List Order = Plain (SetField c.args.class c.args.index) ∷ [] in
+    let n = c.in_ok-operands.operands in
+    let begun : orders c.append-2.new.actions.items ≡ old ++ (object ++ read) =
+    c.in_ok-append-2.ensures ∙ ap (λ l. l ++ Plain (GetField c.args.class c.args.index) ∷ []) (c.in_ok-append.ensures ∙ ap (λ l. l ++ Plain ops.Again ∷ []) c.in_ok-append_reference.ensures) ∙ simp append_assoc in
+    rightly c.append_given.result (orders c.append_given.new.actions.items) _ _
+    (behind_old old (object ++ read) (old_orders u.moment) (right n) new store (given_orders u.moment) _ _ _ begun c.in_ok-append_update.ensures c.in_ok-append-3.ensures
+    ∙ updates P f.slots f.names u.moment old (object ++ read) right new (λ _. store) n (below_new u.moment f.operands) c.in_ok-operands.ensures
+    ∙ ap (λ l. old ++ l) (append_assoc object read _))
+    c.append_given.ensures
 
 pub append_differ-returns : goal.append_differ-returns
 append_differ-returns t c =

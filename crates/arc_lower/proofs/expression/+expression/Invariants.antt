@@ -53,6 +53,15 @@ decreases-append_sent_to l = suc (reference_weight (reference l.receiver.now) + 
 abbrev pub decreases-append_field_assigned : goal.decreases-append_field_assigned
 decreases-append_field_assigned l = suc (reference_weight (reference l.object.now) + value_weight (value l.operand.now))
 
+abbrev pub decreases-append_updated : goal.decreases-append_updated
+decreases-append_updated l = suc (suc (value_weight (value l.operand.now)))
+
+abbrev pub decreases-append_field_updated : goal.decreases-append_field_updated
+decreases-append_field_updated l = suc (suc (reference_weight (reference l.object.now) + value_weight (value l.operand.now)))
+
+abbrev pub decreases-append_update : goal.decreases-append_update
+decreases-append_update l = suc (value_weight (value l.operand.now))
+
 abbrev pub decreases-append_differ : goal.decreases-append_differ
 decreases-append_differ l = suc (reference_weight (reference l.left.now) + reference_weight (reference l.right.now))
 
