@@ -8,4 +8,4 @@ pub pop-number-requires : goal.pop-number-requires
 pop-number-requires g c = set_some g.S.Store.out (program_of c.args._code.now) c.args.variable (spot c.args.self.now c.args.objects.now) c.requires.ready
 
 pub returns-clause-went : goal.returns-clause-went
-returns-clause-went g c = set_went g.S.Store.out (program_of c.args._code.now) c.args.variable (spot c.args.self.now c.args.objects.now) c.pop-number.result c.pop-number.new.self.stack.items _ (ap (λ x. x.items) c.pop-number.ensures.value) refl refl c.put_global.ensures
+returns-clause-went g c = set_went g.S.Store.out (program_of c.args._code.now) c.args.variable (spot c.args.self.now c.args.objects.now) c.pop-number.result c.pop-number.new.self.items _ (ap (λ x. x.items) c.pop-number.ensures.value) refl refl c.put_global.ensures
