@@ -118,7 +118,14 @@ PLACES = {
     "statement": ("a =", '; printf("%d", a);', lambda v: (str(v).encode(), 0)),
     "if": ("if (", ') printf("y"); else printf("n");', lambda v: (b"y" if v else b"n", 0)),
     "while": ("while (", ') return 5;', lambda v: (b"", 5 if v else 0)),
+    "do": ("int b = 0; do { if (b) return 5; b = 1; } while (", ");", lambda v: (b"", 5 if v else 0)),
+    "beginning of for": ("for (int b =", "; ; ) return b;", lambda v: (b"", v)),
+    "test of for": ("for (; ", "; ) return 5;", lambda v: (b"", 5 if v else 0)),
+    "step of for": ("for (int b = 1; b; a =", ') b = 0; printf("%d", a);', lambda v: (str(v).encode(), 0)),
 }
+
+# of these full-expressions so many tokens stand in front
+TAKEN = {"statement": 2, "step of for": 2}
 
 
 def spelled(head, tokens, tail):
@@ -134,8 +141,7 @@ def spelled(head, tokens, tail):
 def number_case(runner, name, form, head, tail, place, ends=()):
     """The form of 1,000 tokens, which is accepted, and of one more. These ends of objects come behind what is printed."""
     opening, closing, answer = PLACES[place]
-    # of the statement's full-expression two tokens stand in front
-    taken = 2 if place == "statement" else 0
+    taken = TAKEN.get(place, 0)
     full_head = head + opening.encode() + b" "
     tokens, value = form(MOST_TOKENS - taken)
     assert len(tokens) == MOST_TOKENS - taken
@@ -303,7 +309,7 @@ def run(runner):
     method_head = CLASSES + b"@implementation B -(int)go { int a; "
     for name, form in OF_SELF.items():
         for place in PLACES:
-            if place != "statement":
+            if place not in TAKEN:
                 number_case(runner, name, form, method_head, b" } @end int main(void) { B *b = [B new]; int r = [b go]; b = nil; return r; }", place, [(1, b"B")])
     object_cases(runner)
     cast_cases(runner)
@@ -324,6 +330,8 @@ def nested_cases(runner):
         "branches": (f"if ({one}) ", "", 198),
         "else": (f"if ({no}) return 9; else ", "", 198),
         "loops": (f"while ({one}) ", "", 198),
+        "loops with a step": (f"for (; {one}; {one}) ", "", 198),
+        "loops with the test behind": ("do ", f" while ({one});", 198),
     }
     for name, (before, after, times) in layers.items():
         source = f"int main(void) {{ {before * times} return {one}; {after * times} }}"

@@ -14,7 +14,16 @@ FORMS = {
     "else of else": [("if (0) ; else ", "")],
     "while": [("while (i) ", "")],
     "blocks of while": [("while (i) {", "}")],
-    "all of them": [("{", "}"), ("if (1) ", " else ;"), ("while (i) ", ""), ("if (0) ; else ", ""), ("{ id o; ", "}")],
+    "do": [("do ", " while (i);")],
+    "blocks of do": [("do {", "} while (i);")],
+    "for": [("for (i = 1; i; i = i) ", "")],
+    "for without its parts": [("for (;;) {", " break; }")],
+    "for with numbers": [("for (int a = i; a; a = i) ", "")],
+    "for with references": [("for (id o = nil; i; ) ", "")],
+    "loops that go on": [("while (i) {", " continue; }"), ("for (; i; i = i) {", " continue; }"), ("do {", " continue; } while (i);")],
+    "loops that are left": [("while (1) {", " break; }"), ("for (;; i = 1) {", " break; }"), ("do {", " break; } while (1);")],
+    "blocks of references that are left": [("for (;;) { id o; ", " break; }")],
+    "all of them": [("{", "}"), ("if (1) ", " else ;"), ("while (i) ", ""), ("if (0) ; else ", ""), ("{ id o; ", "}"), ("do ", " while (i);"), ("for (; i; ) ", "")],
 }
 
 
@@ -72,7 +81,8 @@ def run(runner):
         stop = Ended() if depth == MOST_DEPTH else Refused(12, len(head) + MOST_DEPTH)
         runner.case(f"{depth} blocks round a declaration", source, Shown(b"x"), stop)
     # where in a part of the source a statement begins
-    begun = {"{": [0], "if(1)": [0], "while(1)": [0], "{int a;": [0], "while(1){": [0, 8], "if(1){": [0, 5]}
+    begun = {"{": [0], "if(1)": [0], "while(1)": [0], "{int a;": [0], "while(1){": [0, 8], "if(1){": [0, 5],
+             "do ": [0], "do{": [0, 2], "for(;;)": [0], "for(int a;;)": [0], "for(;;){": [0, 7]}
     head = "int main(void){"
     for part, offsets in begun.items():
         whole, place = divmod(MOST_DEPTH - 1, len(offsets))

@@ -160,7 +160,6 @@ module _ (u : UnitTree) where
         (pair (broken_stmt missing names a) (broken_stmt missing names b) x y (stmt_is a m (inner false s)) (stmt_is b m (inner false s)))
     stmt_is (While at c a) m s =
         pair (broken_expr missing c) (broken_stmt missing (names_of (inner true s)) a) (sites.sites m s AValue c) (stmt_sites m (inner true s) a) (expr_is c m s AValue) (stmt_is a m (inner true s))
-
     stmt_is (Do at a c) m s =
         pair (broken_stmt missing (names_of (inner true s)) a) (broken_expr missing c) (stmt_sites m (inner true s) a) (sites.sites m s AValue c) (stmt_is a m (inner true s)) (expr_is c m s AValue)
     stmt_is (For at a c e b) m s =

@@ -69,6 +69,22 @@ echo = codes "int main(void) {\n"
     ++ codes "    return c + getchar();\n"
     ++ codes "}\n"
 
+-- The step of a `for` comes after each turn, also after one that a `continue` ends (C99, sections 6.8.5.3 and 6.8.6.2), `break` leaves the innermost loop (6.8.6.3), and
+-- `do` tests after each turn (6.8.5.2). The sum is 0 + 2 + 3, and then 10 is added until it is 30 or more.
+abbrev pub loops : List ℕ
+loops = codes "int main(void) {\n"
+    ++ codes "    int sum = 0;\n"
+    ++ codes "    for (int i = 0; i < 9; i = i + 1) {\n"
+    ++ codes "        if (i == 1) continue;\n"
+    ++ codes "        for (;;) break;\n"
+    ++ codes "        if (i == 4) break;\n"
+    ++ codes "        printf(\"%d\", i);\n"
+    ++ codes "        sum = sum + i;\n"
+    ++ codes "    }\n"
+    ++ codes "    do sum = sum + 10; while (sum < 30);\n"
+    ++ codes "    return sum;\n"
+    ++ codes "}\n"
+
 -- blocks that nest as deep as they may (this project's own limit)
 abbrev pub deepest_blocks : List ℕ
 deepest_blocks = codes "int main(void) " ++ (repeated 200 (codes "{") ++ repeated 200 (codes "}"))

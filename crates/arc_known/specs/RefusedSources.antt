@@ -98,6 +98,10 @@ format = codes "int main(void) { printf(\"%ld\", 1); }"
 abbrev pub self_assigned : List ℕ
 self_assigned = codes "@interface A : NSObject @end @implementation A - (void)f { self = nil; } @end int main(void) { }"
 
+-- a `break` in no body of a loop (C99, section 6.8.6.3)
+abbrev pub outside_loop : List ℕ
+outside_loop = codes "int main(void) { while (0) ; break; }"
+
 -- a private field outside of its class (OPL, "The Scope of Instance Variables")
 abbrev pub private_field : List ℕ
 private_field = codes "@interface A : NSObject { @private int v; } @end @implementation A @end int main(void) { A *a = nil; return a->v; }"

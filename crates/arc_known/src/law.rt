@@ -21,6 +21,7 @@ pub fn statements()
     ensures operands { HasTrace program.operands [] 0 (printed (codes "cba")) (Ends (pos 9506)) }
     ensures scopes { HasTrace program.scopes [] 0 (printed (codes "27b")) (Ends (pos 0)) }
     ensures echo { HasTrace program.echo (codes "hi") 2 (printed (codes "hi")) (Ends (negsuc 1)) }
+    ensures loops { HasTrace program.loops [] 5 (printed (codes "023")) (Ends (pos 35)) }
     ensures deepest_blocks { HasTrace program.deepest_blocks [] 0 [] (Ends (pos 0)) }
 {}
 
@@ -75,6 +76,7 @@ pub fn refusals()
     ensures too_many_parameters { IsRefused refused.too_many_parameters 45 4 }
     ensures format { IsRefused refused.format 46 17 }
     ensures self_assigned { IsRefused refused.self_assigned 47 64 }
+    ensures outside_loop { IsRefused refused.outside_loop 48 29 }
     ensures private_field { IsRefused refused.private_field 49 111 }
     ensures manual_release { IsRefused refused.manual_release 61 32 }
     ensures dealloc_sent { IsRefused refused.dealloc_sent 62 32 }

@@ -116,7 +116,7 @@ module _ (p : Program) (R : resolved.Program) (bound : ℕ) (begins : (f : ℕ) 
       let F = function_at R f in
       let place = (begins f).place in
       let leave = leave_orders F.slots F.names in
-      let body = body_orders R place F in
+      let body = body_orders R place (entry f) F in
       function_runs p frames bound R F.slots F.names self w stack rs (level R bound levels) deep place F.body (entry f) given (first_length F.slots given) (has_front p place leave body (begins f).code) (has_back p place leave body (begins f).code)
 
   -- a method or a function comes back behind its call

@@ -1,42 +1,36 @@
 -- The blocks of statements and functions mean what these mean.
-use Rattle.std.proofs.Common.{◌≡◌, ℕ, zero, suc, ℤ, pos, true, false, List, [], Some, None, refl, sym, ap, ◌∙◌}
+use Rattle.std.proofs.Common.{◌≡◌, ℕ, zero, suc, ℤ, pos, Bool, true, false, List, [], Some, None, refl, sym, ap, ◌∙◌}
 use Rattle.arc_spec.specs.Number.{is_zero}
-use Rattle.arc_spec.specs.Resolved.{Value, Reference, Command, Sequence, Evaluate, EvaluateReference, Begin, Choose, Repeat, Commands, no_commands, and_command}
+use Rattle.arc_spec.specs.Resolved.{Value, Reference, Command, Sequence, Evaluate, EvaluateReference, Begin, Choose, Repeat, RepeatAfter, Break, Continue, Commands, no_commands, and_command}
 use Rattle.arc_spec.specs.Resolved as resolved
 use Rattle.arc_spec.specs.World.{World, Outcome, Done, Faulted, Cut, Finished, finished, then_do}
-use Rattle.arc_spec.specs.Meaning.{Deeper, Flow, Normal, Returned, given, turns, normally, assigned, all_dropped, variables_dropped, evaluated, referred, whole, whole_reference, begun, executed, all_executed}
+use Rattle.arc_spec.specs.Meaning.{Deeper, Flow, Normal, Broken, Continued, Returned, given, chosen, if_normal, in_turn, after_body, turns, turns_after, normally, assigned, all_dropped, variables_dropped, scope_left, evaluated, referred, whole, whole_reference, begun, executed, all_executed}
 use Rattle.arc_code.specs.declared.instr.Op.TheVariants.{Num, Forget}
-use Rattle.arc_lower.specs.Lowered.{Block, One, Then, Leave, whole_block, whole_reference_block, begin_block, command_block, commands_block, body_block}
-use Rattle.arc_lower.proofs.Shaping.{Operands, push, name, Way, On, Out, left_by, and_then, passes_by, block_turns, block, after, chosen_by}
+use Rattle.arc_lower.specs.Lowered.{Block, Idle, One, Clear, Then, Quit, Again, Leave, nothing_given, does_nothing, loop_block, whole_block, whole_reference_block, begin_block, command_block, commands_block, body_block}
+use Rattle.arc_lower.proofs.Shaping.{Operands, push, name, Way, On, Out, left_by, on_way, and_then, passes_by, after_turn, on_test, only_on, block_turns, block, after}
 use Rattle.arc_lower.proofs.Evaluating.{above, value_is, reference_is}
-
--- behind a statement of a function with this exit, which leaves no operands of its own
-abbrev pub flows : (exit : ℕ) → Operands → Flow → Way
-flows exit s Normal = On s
-flows exit s (Returned v) = Out exit (push v s)
 
 -- between statements there is no number
 abbrev pub calm : List ℕ → Operands
 calm names = record { numbers = []; names = names }
 
-normal_is : (exit : ℕ) (s : Operands) (o : Outcome Finished) → passes_by s o ≡ left_by (flows exit s) (normally o)
-normal_is exit s (Done done w) = refl
-normal_is exit s (Faulted f w) = refl
-normal_is exit s (Cut w) = refl
+-- ---- what is left by one end or another
 
--- one statement behind another
-after_flow : (exit : ℕ) (s : Operands) (x : Outcome Way) (o : Outcome Flow) (k : Operands → World → Outcome Way) (go : Flow → World → Outcome Flow) → x ≡ left_by (flows exit s) o → ((w : World) → k s w ≡ left_by (flows exit s) (go Normal w)) → ((v : ℤ) (w : World) → go (Returned v) w ≡ Done (Returned v) w) → and_then x k ≡ left_by (flows exit s) (then_do o go)
-after_flow exit s x (Done Normal w) k go e h r = ap (λ y. and_then y k) e ∙ h w
-after_flow exit s x (Done (Returned v) w) k go e h r = ap (λ y. and_then y k) e ∙ ap (left_by (flows exit s)) (sym (r v w))
-after_flow exit s x (Faulted f w) k go e h r = ap (λ y. and_then y k) e
-after_flow exit s x (Cut w) k go e h r = ap (λ y. and_then y k) e
+-- one part behind another
+onward : {A B : Type 0} (exit : A → Operands) (end : B → World → Outcome Way) (x : Outcome Way) (o : Outcome A) (k : Operands → World → Outcome Way) (go : A → World → Outcome B) → x ≡ left_by (λ a. On (exit a)) o → ((a : A) (w : World) → k (exit a) w ≡ then_do (go a w) end) → and_then x k ≡ then_do (then_do o go) end
+onward exit end x (Done a w) k go e h = ap (λ y. and_then y k) e ∙ h a w
+onward exit end x (Faulted f w) k go e h = ap (λ y. and_then y k) e
+onward exit end x (Cut w) k go e h = ap (λ y. and_then y k) e
 
--- a loop
-turns_is : (exit n : ℕ) (test body : Operands → World → Outcome Way) (test' : World → Outcome ℤ) (body' : World → Outcome Flow) (s : Operands) → ((w : World) → test s w ≡ left_by (λ v. On (push v s)) (test' w)) → ((w : World) → body s w ≡ left_by (flows exit s) (body' w)) → (w : World) → block_turns n test body s w ≡ left_by (flows exit s) (turns n test' body' w)
-turns_is exit zero test body test' body' s t b w = after (λ v. push v s) (flows exit s) (test s w) (test' w) _ _ (t w) (λ v w1.
-    chosen_by (flows exit s) (is_zero v) _ _ (Cut w1) (Done Normal w1) refl refl)
-turns_is exit (suc n) test body test' body' s t b w = after (λ v. push v s) (flows exit s) (test s w) (test' w) _ _ (t w) (λ v w1.
-    chosen_by (flows exit s) (is_zero v) _ _ _ (Done Normal w1) (after_flow exit s (body s w1) (body' w1) _ _ (b w1) (turns_is exit n test body test' body' s t b) (λ u w2. refl)) refl)
+-- a part of which each end is known
+parts : {A B : Type 0} (end : A → World → Outcome Way) (last : B → World → Outcome Way) (x : Outcome Way) (o : Outcome A) (k : Way → World → Outcome Way) (go : A → World → Outcome B) → x ≡ then_do o end → ((a : A) (w : World) → then_do (end a w) k ≡ then_do (go a w) last) → then_do x k ≡ then_do (then_do o go) last
+parts end last x (Done a w) k go e h = ap (λ y. then_do y k) e ∙ h a w
+parts end last x (Faulted f w) k go e h = ap (λ y. then_do y k) e
+parts end last x (Cut w) k go e h = ap (λ y. then_do y k) e
+
+either : {A : Type 0} (end : A → World → Outcome Way) (b : Bool) (x y : Outcome Way) (m n : Outcome A) → x ≡ then_do m end → y ≡ then_do n end → chosen b x y ≡ then_do (chosen b m n) end
+either end false x y m n d e = d
+either end true x y m n d e = e
 
 module _ (D : Deeper) (bound : ℕ) where
   abbrev run : Block → Operands → World → Outcome Way
@@ -47,10 +41,10 @@ module _ (D : Deeper) (bound : ℕ) where
   inside = block D bound false
 
   -- a full-expression, what is done with its value, and the end of its temporaries
-  full : {A B C : Type 0} (exit : A → Operands) (out : B → Operands) (end : C → Way) (x : Outcome Way) (o : Outcome A) (k : Operands → World → Outcome Way) (go : A → World → Outcome B) (rest : B → World → Outcome C) → x ≡ left_by (λ a. On (exit a)) o → ((a : A) (w : World) → k (exit a) w ≡ left_by (λ b. On (out b)) (go a w)) → ((b : B) (w : World) → passes_by (out b) (all_dropped D w) ≡ left_by end (rest b w)) → and_then (and_then x k) (λ s w. passes_by s (all_dropped D w)) ≡ left_by end (then_do o (λ a w. then_do (go a w) rest))
-  full exit out end x (Done a w) k go rest e h d = ap (λ y. and_then (and_then y k) (λ s w. passes_by s (all_dropped D w))) e ∙ after out end (k (exit a) w) (go a w) _ rest (h a w) d
-  full exit out end x (Faulted f w) k go rest e h d = ap (λ y. and_then (and_then y k) (λ s w. passes_by s (all_dropped D w))) e
-  full exit out end x (Cut w) k go rest e h d = ap (λ y. and_then (and_then y k) (λ s w. passes_by s (all_dropped D w))) e
+  full : {A B C : Type 0} (exit : A → Operands) (out : B → Operands) (end : C → Way) (x : Outcome Way) (o : Outcome A) (k : Operands → World → Outcome Way) (go : A → World → Outcome B) (rest : B → World → Outcome C) → x ≡ left_by (λ a. On (exit a)) o → ((a : A) (w : World) → k (exit a) w ≡ left_by (λ b. On (out b)) (go a w)) → ((b : B) (w : World) → passes_by (out b) (all_dropped D w) ≡ left_by end (rest b w)) → then_do (and_then x k) (only_on (λ s w. passes_by s (all_dropped D w))) ≡ left_by end (then_do o (λ a w. then_do (go a w) rest))
+  full exit out end x (Done a w) k go rest e h d = ap (λ y. then_do (and_then y k) (only_on (λ s w. passes_by s (all_dropped D w)))) e ∙ parts (λ b w1. Done (On (out b)) w1) (λ c w1. Done (end c) w1) (k (exit a) w) (go a w) _ rest (h a w) d
+  full exit out end x (Faulted f w) k go rest e h d = ap (λ y. then_do (and_then y k) (only_on (λ s w. passes_by s (all_dropped D w)))) e
+  full exit out end x (Cut w) k go rest e h d = ap (λ y. then_do (and_then y k) (only_on (λ s w. passes_by s (all_dropped D w)))) e
 
   drops_is : (v : ℤ) (s : Operands) (o : Outcome Finished) → passes_by (push v s) o ≡ left_by (above D bound s) (then_do o (λ _ w. Done v w))
   drops_is v s (Done done w) = refl
@@ -81,31 +75,130 @@ module _ (D : Deeper) (bound : ℕ) where
     abbrev s : Operands
     s = calm names
 
-    abbrev out : Flow → Way
-    out = flows exit s
+    -- behind what goes on elsewhere nothing follows
+    abbrev Stops : Block → Type 0
+    Stops b = (w : World) (k : Operands → World → Outcome Way) → and_then (run b s w) k ≡ run b s w
+
+    -- where a statement is left, which leaves no operands of its own
+    abbrev ends : (breaks continues : Block) → Flow → World → Outcome Way
+    ends breaks continues Normal w = Done (On s) w
+    ends breaks continues Broken w = run breaks s w
+    ends breaks continues Continued w = run continues s w
+    ends breaks continues (Returned v) w = Done (Out exit (push v s)) w
+
+    normal_is : (breaks continues : Block) (o : Outcome Finished) → passes_by s o ≡ then_do (normally o) (ends breaks continues)
+    normal_is breaks continues (Done done w) = refl
+    normal_is breaks continues (Faulted f w) = refl
+    normal_is breaks continues (Cut w) = refl
+
+    cleared_stops : (first count : ℕ) (b : Block) → Stops b → Stops (Then (Clear first count) b)
+    cleared_stops first count b stops w k = by (variables_dropped D first count w)
+      where
+        by : (o : Outcome Finished) → and_then (and_then (passes_by s o) (run b)) k ≡ and_then (passes_by s o) (run b)
+        by (Done done w1) = stops w1 k
+        by (Faulted f w1) = refl
+        by (Cut w1) = refl
+
+    -- a block that is left empties its variables
+    scope_is : (first count : ℕ) (breaks continues : Block) → Stops breaks → Stops continues → (flow : Flow) (w : World) → and_then (ends (Then (Clear first count) breaks) (Then (Clear first count) continues) flow w) (run (Clear first count)) ≡ then_do (scope_left D first count flow w) (ends breaks continues)
+    scope_is first count breaks continues quits turns Normal w = by (variables_dropped D first count w)
+      where
+        by : (o : Outcome Finished) → passes_by s o ≡ then_do (then_do o (λ _ w1. Done Normal w1)) (ends breaks continues)
+        by (Done done w1) = refl
+        by (Faulted f w1) = refl
+        by (Cut w1) = refl
+    scope_is first count breaks continues quits turns Broken w = cleared_stops first count breaks quits w (run (Clear first count)) ∙ by (variables_dropped D first count w)
+      where
+        by : (o : Outcome Finished) → and_then (passes_by s o) (run breaks) ≡ then_do (then_do o (λ _ w1. Done Broken w1)) (ends breaks continues)
+        by (Done done w1) = refl
+        by (Faulted f w1) = refl
+        by (Cut w1) = refl
+    scope_is first count breaks continues quits turns Continued w = cleared_stops first count continues turns w (run (Clear first count)) ∙ by (variables_dropped D first count w)
+      where
+        by : (o : Outcome Finished) → and_then (passes_by s o) (run continues) ≡ then_do (then_do o (λ _ w1. Done Continued w1)) (ends breaks continues)
+        by (Done done w1) = refl
+        by (Faulted f w1) = refl
+        by (Cut w1) = refl
+    scope_is first count breaks continues quits turns (Returned v) w = refl
+
+    -- one statement behind another
+    after_flow : (breaks continues : Block) → Stops breaks → Stops continues → (x : Outcome Way) (o : Outcome Flow) (k : Operands → World → Outcome Way) (go : World → Outcome Flow) → x ≡ then_do o (ends breaks continues) → ((w : World) → k s w ≡ then_do (go w) (ends breaks continues)) → and_then x k ≡ then_do (then_do o (λ flow w. if_normal flow go w)) (ends breaks continues)
+    after_flow breaks continues quits turns x o k go e h = parts (ends breaks continues) (ends breaks continues) x o (on_way k) _ e by
+      where
+        by : (flow : Flow) (w : World) → and_then (ends breaks continues flow w) k ≡ then_do (if_normal flow go w) (ends breaks continues)
+        by Normal w = h w
+        by Broken w = quits w k
+        by Continued w = turns w k
+        by (Returned v) w = refl
+
+    -- what follows the body of a loop
+    body_left : (breaks continues : Block) (x : Outcome Way) (o : Outcome Flow) (k : Operands → World → Outcome Way) (go : World → Outcome Flow) → x ≡ then_do o (ends Quit Again) → ((w : World) → k s w ≡ then_do (go w) (ends breaks continues)) → then_do x (after_turn k) ≡ then_do (then_do o (λ flow w. after_body flow go w)) (ends breaks continues)
+    body_left breaks continues x o k go e h = parts (ends Quit Again) (ends breaks continues) x o (after_turn k) _ e by
+      where
+        by : (flow : Flow) (w : World) → then_do (ends Quit Again flow w) (after_turn k) ≡ then_do (after_body flow go w) (ends breaks continues)
+        by Normal w = h w
+        by Broken w = refl
+        by Continued w = h w
+        by (Returned v) w = refl
+
+    -- a loop
+    module _ (breaks continues : Block) (quits : Stops breaks) (turns_on : Stops continues) (step test body : Operands → World → Outcome Way) (test' : World → Outcome ℤ) (body' : World → Outcome Flow)
+        (tests : (w : World) → test s w ≡ left_by (λ v. On (push v s)) (test' w)) (turn : (w : World) → body s w ≡ then_do (body' w) (ends Quit Again)) where
+      abbrev out : Flow → World → Outcome Way
+      out = ends breaks continues
+
+      test_is : (go : Operands → World → Outcome Way) (meant : World → Outcome Flow) → ((w : World) → go s w ≡ then_do (meant w) out) → (w : World) → and_then (test s w) (on_test go) ≡ then_do (then_do (test' w) (λ v w1. chosen (is_zero v) (meant w1) (Done Normal w1))) out
+      test_is go meant h w = onward (λ v. push v s) out (test s w) (test' w) (on_test go) _ (tests w) (λ v w1. either out (is_zero v) (go s w1) (Done (On s) w1) (meant w1) (Done Normal w1) (h w1) refl)
+
+      module _ (step' : World → Outcome Flow) (steps : (w : World) → step s w ≡ then_do (step' w) out) where
+        turns_is : (n : ℕ) (w : World) → and_then (test s w) (on_test (block_turns n step test body)) ≡ then_do (turns n test' step' body' w) out
+        turns_is zero w = test_is (block_turns zero step test body) (λ w1. Cut w1) (λ w1. refl) w
+        turns_is (suc n) w = test_is (block_turns (suc n) step test body) _ (λ w1. body_left breaks continues (body s w1) (body' w1) _ (in_turn step' (turns n test' step' body')) (turn w1) (λ w2.
+            after_flow breaks continues quits turns_on (step s w2) (step' w2) _ (turns n test' step' body') (steps w2) (turns_is n))) w
+
+      turns_after_is : (n : ℕ) (w : World) → block_turns n (run Idle) test body s w ≡ then_do (turns_after n test' body' w) out
+      turns_after_is zero w = refl
+      turns_after_is (suc n) w = body_left breaks continues (body s w) (body' w) _ _ (turn w) (test_is (block_turns n (run Idle) test body) (turns_after n test' body') (turns_after_is n))
+
+    -- a statement that does nothing
+    nothing_is : (c : Command) (w : World) → does_nothing c ≡ true → executed D bound c w ≡ Done Normal w
+    nothing_is (Sequence first zero no_commands) w e = refl
+    nothing_is (Sequence first zero (and_command c others)) w e = cc
+    nothing_is (Sequence first (suc n) all) w e = cc
+    nothing_is _ w e = cc
+
+    -- a loop that begins with its test, with or without a step
+    repeat_is : (breaks continues : Block) → Stops breaks → Stops continues → (test : Value) (step body : Command) → ((w : World) → run (command_block exit breaks continues step) s w ≡ then_do (executed D bound step w) (ends breaks continues)) → ((w : World) → run (command_block exit Quit Again body) s w ≡ then_do (executed D bound body w) (ends Quit Again)) → (w : World) → (b : Bool) → does_nothing step ≡ b → run (loop_block b (command_block exit breaks continues step) (whole_block test) (command_block exit Quit Again body)) s w ≡ then_do (executed D bound (Repeat test step body) w) (ends breaks continues)
+    repeat_is breaks continues quits turns test step body steps turn w true e = turns_is breaks continues quits turns (run Idle) (run (whole_block test)) (run (command_block exit Quit Again body)) (whole D test) (executed D bound body) (whole_is test names) turn (executed D bound step) (λ w1. ap (λ o. then_do o (ends breaks continues)) (sym (nothing_is step w1 e))) bound w
+    repeat_is breaks continues quits turns test step body steps turn w false e = turns_is breaks continues quits turns (run (command_block exit breaks continues step)) (run (whole_block test)) (run (command_block exit Quit Again body)) (whole D test) (executed D bound body) (whole_is test names) turn (executed D bound step) steps bound w
 
     mutual
-      pub command_is : (c : Command) (w : World) → run (command_block exit c) s w ≡ left_by out (executed D bound c w)
-      command_is (Sequence first count all) w = after_flow exit s _ (all_executed D bound all w) _ _ (commands_is all w) (λ w1. normal_is exit s (variables_dropped D first count w1)) (λ v w1. refl)
-      command_is (Evaluate a) w = after (λ v. push v s) out _ (whole D a w) _ _ (whole_is a names w) (λ v w1. refl)
-      command_is (EvaluateReference a) w = whole_reference_is a names w ∙ normal_is exit s (whole_reference D a w)
-      command_is (Begin i a) w = begin_is i a names w ∙ normal_is exit s (begun D i a w)
-      command_is (resolved.Return None) w = refl
-      command_is (resolved.Return (Some a)) w = after (λ v. push v s) out _ (whole D a w) _ _ (whole_is a names w) (λ v w1. refl)
-      command_is (Choose test a b) w = after (λ v. push v s) out _ (whole D test w) _ _ (whole_is test names w) (λ v w1.
-          chosen_by out (is_zero v) _ _ _ _ (command_is a w1) (command_is b w1))
-      command_is (Repeat test body) w = turns_is exit bound _ _ (whole D test) (executed D bound body) s (whole_is test names) (command_is body) w
+      pub command_is : (breaks continues : Block) → Stops breaks → Stops continues → (c : Command) (w : World) → run (command_block exit breaks continues c) s w ≡ then_do (executed D bound c w) (ends breaks continues)
+      command_is breaks continues quits turns (Sequence first count all) w =
+          let clear = λ (b : Block). Then (Clear first count) b in
+          parts (ends (clear breaks) (clear continues)) (ends breaks continues) _ (all_executed D bound all w) _ _ (commands_is (clear breaks) (clear continues) (cleared_stops first count breaks quits) (cleared_stops first count continues turns) all w) (scope_is first count breaks continues quits turns)
+      command_is breaks continues quits turns (Evaluate a) w = onward (λ v. push v s) (ends breaks continues) _ (whole D a w) _ _ (whole_is a names w) (λ v w1. refl)
+      command_is breaks continues quits turns (EvaluateReference a) w = whole_reference_is a names w ∙ normal_is breaks continues (whole_reference D a w)
+      command_is breaks continues quits turns (Begin i a) w = begin_is i a names w ∙ normal_is breaks continues (begun D i a w)
+      command_is breaks continues quits turns (resolved.Return None) w = refl
+      command_is breaks continues quits turns (resolved.Return (Some a)) w = onward (λ v. push v s) (ends breaks continues) _ (whole D a w) _ _ (whole_is a names w) (λ v w1. refl)
+      command_is breaks continues quits turns (Choose test a b) w = onward (λ v. push v s) (ends breaks continues) _ (whole D test w) _ _ (whole_is test names w) (λ v w1.
+          either (ends breaks continues) (is_zero v) _ _ _ _ (command_is breaks continues quits turns a w1) (command_is breaks continues quits turns b w1))
+      command_is breaks continues quits turns (Repeat test step body) w = repeat_is breaks continues quits turns test step body (command_is breaks continues quits turns step) (command_is Quit Again (λ w1 k. refl) (λ w1 k. refl) body) w (does_nothing step) refl
+      command_is breaks continues quits turns (RepeatAfter body test) w = turns_after_is breaks continues quits turns (run Idle) (run (whole_block test)) (run (command_block exit Quit Again body)) (whole D test) (executed D bound body) (whole_is test names) (command_is Quit Again (λ w1 k. refl) (λ w1 k. refl) body) bound w
+      command_is breaks continues quits turns Break w = refl
+      command_is breaks continues quits turns Continue w = refl
 
-      pub commands_is : (all : Commands) (w : World) → run (commands_block exit all) s w ≡ left_by out (all_executed D bound all w)
-      commands_is no_commands w = refl
-      commands_is (and_command c others) w = after_flow exit s _ (executed D bound c w) _ _ (command_is c w) (commands_is others) (λ v w1. refl)
+      pub commands_is : (breaks continues : Block) → Stops breaks → Stops continues → (all : Commands) (w : World) → run (commands_block exit breaks continues all) s w ≡ then_do (all_executed D bound all w) (ends breaks continues)
+      commands_is breaks continues quits turns no_commands w = refl
+      commands_is breaks continues quits turns (and_command c others) w = after_flow breaks continues quits turns _ (executed D bound c w) _ (all_executed D bound others) (command_is breaks continues quits turns c w) (commands_is breaks continues quits turns others)
 
     -- a function gives 0 at its end
-    given_at_end : (x : Outcome Way) (o : Outcome Flow) → x ≡ left_by out o → and_then x (run (Then (One (Num (pos 0))) (Leave exit))) ≡ left_by (λ v. Out exit (push v s)) (then_do o (λ flow w. Done (given flow) w))
-    given_at_end x (Done Normal w) e = ap (λ y. and_then y (run (Then (One (Num (pos 0))) (Leave exit)))) e
-    given_at_end x (Done (Returned v) w) e = ap (λ y. and_then y (run (Then (One (Num (pos 0))) (Leave exit)))) e
-    given_at_end x (Faulted f w) e = ap (λ y. and_then y (run (Then (One (Num (pos 0))) (Leave exit)))) e
-    given_at_end x (Cut w) e = ap (λ y. and_then y (run (Then (One (Num (pos 0))) (Leave exit)))) e
-
     pub body_is : (body : Commands) (w : World) → run (body_block exit body) s w ≡ left_by (λ v. Out exit (push v s)) (then_do (all_executed D bound body w) (λ flow w1. Done (given flow) w1))
-    body_is body w = given_at_end (run (commands_block exit body) s w) (all_executed D bound body w) (commands_is body w)
+    body_is body w = parts (ends (nothing_given exit) (nothing_given exit)) (λ v w1. Done (Out exit (push v s)) w1) _ (all_executed D bound body w) (on_way (run (nothing_given exit))) _ (commands_is (nothing_given exit) (nothing_given exit) (λ w1 k. refl) (λ w1 k. refl) body w) by
+      where
+        by : (flow : Flow) (w1 : World) → and_then (ends (nothing_given exit) (nothing_given exit) flow w1) (run (nothing_given exit)) ≡ Done (Out exit (push (given flow) s)) w1
+        by Normal w1 = refl
+        by Broken w1 = refl
+        by Continued w1 = refl
+        by (Returned v) w1 = refl

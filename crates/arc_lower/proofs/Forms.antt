@@ -1,18 +1,20 @@
 -- What each form of expression and of statement needs and leaves.
-use Rattle.std.proofs.Common.{◌≡◌, ℕ, suc, ◌+◌, ◌-◌, ◌≤◌, Bool, true, false, List, Some, None, refl, subst, arith, pos}
+use Rattle.std.proofs.Common.{◌≡◌, ℕ, suc, ◌+◌, ◌-◌, ◌≤◌, Bool, true, false, List, Some, None, refl, subst, arith, pos, [], ◌∷◌, Option, is_some}
 use Rattle.std.specs.List.{list_any}
 use Rattle.arc_ast.specs.declared.tree.BinaryOperator.{BinaryOperator}
 use Rattle.arc_ast.specs.declared.tree.Kind.{Kind}
 use Rattle.arc_ast.specs.declared.tree.Moment.{Moment}
 use Rattle.arc_ast.specs.declared.tree.Moment.TheVariants.{Before, After}
-use Rattle.arc_spec.specs.Resolved.{Value, Number, ReadByte, Print, Applied, Combined, Choice, Converted, Local, Read, Assigned, Updated, Invoked, Sent, SentSuper, SentTo, SentToSuper, Field, FieldAssigned, FieldUpdated, Reference, Itself, Variable, Chosen, Stored, Made, Initialized, Values, no_values, and_value, Command, Sequence, Evaluate, EvaluateReference, Begin, Choose, Repeat, Commands, no_commands, and_command, Program}
+use Rattle.arc_spec.specs.Resolved.{Value, Number, ReadByte, Print, Applied, Combined, Choice, Converted, Local, Read, Assigned, Updated, Invoked, Sent, SentSuper, SentTo, SentToSuper, Field, FieldAssigned, FieldUpdated, Reference, Itself, Variable, Chosen, Stored, Made, Initialized, Values, no_values, and_value, Command, Sequence, Evaluate, EvaluateReference, Begin, Choose, Repeat, RepeatAfter, Break, Continue, Commands, no_commands, and_command, Program}
 use Rattle.arc_spec.specs.Resolved as resolved
 use Rattle.arc_code.specs.declared.instr.Op.{Op}
 use Rattle.arc_code.specs.declared.instr.Op.TheVariants as ops
 use Rattle.arc_code.specs.declared.instr.Op.TheVariants.{Num, Bin, Un, Narrow, Pop, Get, GetChar, Nil, ReadSelf, Hold, Forget, Alloc, GetField, SetField, Differ, IsObject}
 use Rattle.arc_code.specs.declared.effect.Height.{Height}
 use Rattle.arc_code.specs.Effects.{on_numbers, of_names, operation_effect}
-use Rattle.arc_lower.specs.Lowered.{value_count, order_takes, Block, Idle, One, Then, Fork, Full, Assign, flat, old_block, given_block, below_new, update_block, value_block, reference_block, values_block, whole_block, whole_reference_block, begin_block, command_block, commands_block}
+use Rattle.arc_lower.specs.declared.frame.Turn.{Turn}
+use Rattle.arc_lower.specs.declared.frame.Scope.{Scope}
+use Rattle.arc_lower.specs.Lowered.{value_count, order_takes, Inside, Block, Idle, One, Clear, Then, Fork, Loop, Quit, Again, Full, Assign, flat, old_block, given_block, below_new, update_block, value_block, reference_block, values_block, whole_block, whole_reference_block, begin_block, nothing_given, does_nothing, loop_block, command_block, commands_block, Surroundings, within_scopes, leaving, breaking, continuing}
 use Rattle.arc_lower.specs.Heights.{height, between, after_effect, walk, last_walk}
 use Rattle.arc_lower.specs.Lowered.{whole_orders, whole_reference_orders}
 use Rattle.arc_lower.proofs.Typing.{heights_same, Reaches, print_types, get_types, set_types, call_types, store_types, read_types, all_empty_type, drop_types, tested, Forks, BlockTypes}
@@ -20,7 +22,7 @@ use Rattle.arc_lower.proofs.HeightsEnd.{within_ends, quiet_types}
 
 module _ (P : Program) (r s slots names exit d : ℕ) (room : names ≤ d + s) where
   abbrev Within : Height → Block → Height → Type 0
-  Within = BlockTypes P r s slots names exit false
+  Within = BlockTypes P r s slots names exit false false
 
   -- from so many numbers, references and temporaries a block comes to so many numbers and references, and to no less temporaries
   pub record Comes (a b c : ℕ) (x : Block) (n m : ℕ) : Type 0 where
@@ -122,33 +124,33 @@ module _ (P : Program) (r s slots names exit d : ℕ) (room : names ≤ d + s) w
 
   -- ---- full-expressions, which end without temporaries
 
-  full : (statement : Bool) (a n m u : ℕ) (x y : Block) → Comes a 0 0 x n m → ((t : ℕ) → Within (height n m t d) y (height u 0 t d)) → BlockTypes P r s slots names exit statement (height a 0 0 d) (Full x y) (height u 0 0 d)
-  full statement a n m u x y first others =
+  full : (looping statement : Bool) (a n m u : ℕ) (x y : Block) → Comes a 0 0 x n m → ((t : ℕ) → Within (height n m t d) y (height u 0 t d)) → BlockTypes P r s slots names exit looping statement (height a 0 0 d) (Full x y) (height u 0 0 d)
+  full looping statement a n m u x y first others =
       let t = first.more in (
         height n m t d,
         height u 0 t d,
         first.types,
         others t,
-        drop_types P r s (list_any order_takes (flat P slots names x)) u t d (λ none. let le = quiet_types P r s slots names exit x (height a 0 0 d) (height n m t d) first.types none in omega (arith, le)),
+        drop_types P r s (list_any order_takes (flat P slots names Inside x)) u t d (λ none. let le = quiet_types P r s slots names exit x (height a 0 0 d) (height n m t d) first.types none in omega (arith, le)),
       )
 
   forget_types : (a t : ℕ) → Within (height a 1 t d) (One Forget) (height a 0 t d)
   forget_types a t = (omega arith, heights_same _ _ _ _ a 0 t d (omega arith) (omega arith) (omega arith) (omega arith))
 
-  pub whole_types : (statement : Bool) (e : Value) (a : ℕ) → slots ≤ a + r → BlockTypes P r s slots names exit statement (height a 0 0 d) (whole_block e) (height (suc a) 0 0 d)
-  whole_types statement e a h = full statement a (suc a) 0 (suc a) (value_block 0 e) Idle (value_types e 0 a 0 0 (omega (arith, h))) (λ t. refl)
+  pub whole_types : (looping statement : Bool) (e : Value) (a : ℕ) → slots ≤ a + r → BlockTypes P r s slots names exit looping statement (height a 0 0 d) (whole_block e) (height (suc a) 0 0 d)
+  whole_types looping statement e a h = full looping statement a (suc a) 0 (suc a) (value_block 0 e) Idle (value_types e 0 a 0 0 (omega (arith, h))) (λ t. refl)
 
-  pub whole_reference_types : (statement : Bool) (e : Reference) (a : ℕ) → slots ≤ a + r → BlockTypes P r s slots names exit statement (height a 0 0 d) (whole_reference_block e) (height a 0 0 d)
-  whole_reference_types statement e a h = full statement a a 1 a (reference_block 0 e) (One Forget) (reference_types e 0 a 0 0 (omega (arith, h))) (λ t. forget_types a t)
+  pub whole_reference_types : (looping statement : Bool) (e : Reference) (a : ℕ) → slots ≤ a + r → BlockTypes P r s slots names exit looping statement (height a 0 0 d) (whole_reference_block e) (height a 0 0 d)
+  whole_reference_types looping statement e a h = full looping statement a a 1 a (reference_block 0 e) (One Forget) (reference_types e 0 a 0 0 (omega (arith, h))) (λ t. forget_types a t)
 
-  pub begin_types : (statement : Bool) (i : ℕ) (e : Reference) (a : ℕ) → slots ≤ a + r → BlockTypes P r s slots names exit statement (height a 0 0 d) (begin_block i e) (height a 0 0 d)
-  begin_types statement i e a h = full statement a a 1 a (reference_block 0 e) (Then (Assign i) (One Forget)) (reference_types e 0 a 0 0 (omega (arith, h))) (λ t. (height a 1 t d, store_types P r s names a 1 t d room i (omega arith), forget_types a t))
+  pub begin_types : (looping statement : Bool) (i : ℕ) (e : Reference) (a : ℕ) → slots ≤ a + r → BlockTypes P r s slots names exit looping statement (height a 0 0 d) (begin_block i e) (height a 0 0 d)
+  begin_types looping statement i e a h = full looping statement a a 1 a (reference_block 0 e) (Then (Assign i) (One Forget)) (reference_types e 0 a 0 0 (omega (arith, h))) (λ t. (height a 1 t d, store_types P r s names a 1 t d room i (omega arith), forget_types a t))
 
 pub whole_ends : (P : Program) (base : Height) (pending : List Height) (slots names : ℕ) (e : Value) (a b : ℕ) → last_walk P base (walk (between a b) pending) (whole_orders P slots names e) ≡ walk (between (suc a) b) pending
-whole_ends P base pending slots names e a b = within_ends P slots names slots names 0 base (whole_block e) (between a b) (between (suc a) b) pending (whole_types P slots names slots names 0 b (omega arith) false e a (omega arith))
+whole_ends P base pending slots names e a b = within_ends P slots names slots names 0 base (whole_block e) (between a b) (between (suc a) b) pending (whole_types P slots names slots names 0 b (omega arith) false false e a (omega arith))
 
 pub whole_reference_ends : (P : Program) (base : Height) (pending : List Height) (slots names : ℕ) (e : Reference) (a b : ℕ) → last_walk P base (walk (between a b) pending) (whole_reference_orders P slots names e) ≡ walk (between a b) pending
-whole_reference_ends P base pending slots names e a b = within_ends P slots names slots names 0 base (whole_reference_block e) (between a b) (between a b) pending (whole_reference_types P slots names slots names 0 b (omega arith) false e a (omega arith))
+whole_reference_ends P base pending slots names e a b = within_ends P slots names slots names 0 base (whole_reference_block e) (between a b) (between a b) pending (whole_reference_types P slots names slots names 0 b (omega arith) false false e a (omega arith))
 
 -- ---- statements
 
@@ -159,29 +161,64 @@ module _ (P : Program) (slots names exit : ℕ) where
   abbrev test : Height
   test = tested slots names
 
-  abbrev Statement : Height → Block → Height → Type 0
-  Statement = BlockTypes P 0 0 slots names exit true
+  module _ (looping : Bool) where
+    abbrev Statement : Height → Block → Height → Type 0
+    Statement = BlockTypes P 0 0 slots names exit looping true
 
-  test_types : (e : Value) → Statement base (whole_block e) test
-  test_types e = whole_types P 0 0 slots names exit names (omega arith) true e slots (omega arith)
+    test_types : (e : Value) → Statement base (whole_block e) test
+    test_types e = whole_types P 0 0 slots names exit names (omega arith) looping true e slots (omega arith)
 
-  pub zero_types : Statement base (One (Num (pos 0))) test
-  zero_types = (tt, heights_same _ _ _ _ (suc slots) 0 0 names (omega arith) (omega arith) (omega arith) (omega arith))
+    zero_types : Statement base (One (Num (pos 0))) test
+    zero_types = (tt, heights_same _ _ _ _ (suc slots) 0 0 names (omega arith) (omega arith) (omega arith) (omega arith))
+
+    pub nothing_types : Statement base (nothing_given exit) base
+    nothing_types = (test, zero_types, (refl, refl, refl, refl))
+
+    pub clear_types : (first count : ℕ) → Statement base (Clear first count) base
+    clear_types first count = all_empty_type P 0 0 names slots 0 0 names (omega arith) first count
+
+    loop_types : (b : Bool) (step x body : Block) → Statement base step base → Statement base x test → BlockTypes P 0 0 slots names exit true true base body base → Statement base (loop_block b step x body) base
+    loop_types true step x body s t u = (refl, refl, refl, t, u, refl)
+    loop_types false step x body s t u = (refl, refl, s, t, u, refl)
 
   less : after_effect test 1 (on_numbers 1 0) ≡ base
   less = heights_same _ _ _ _ slots 0 0 names (omega arith) (omega arith) (omega arith) (omega arith)
 
   mutual
-    pub command_types : (c : Command) → Statement base (command_block exit c) base
-    command_types (Sequence first count all) = (base, commands_type all, all_empty_type P 0 0 names slots 0 0 names (omega arith) first count)
-    command_types (Evaluate a) = (test, test_types a, (omega arith, less))
-    command_types (EvaluateReference a) = whole_reference_types P 0 0 slots names exit names (omega arith) true a slots (omega arith)
-    command_types (Begin i a) = begin_types P 0 0 slots names exit names (omega arith) true i a slots (omega arith)
-    command_types (resolved.Return None) = (test, zero_types, (refl, refl, refl, refl))
-    command_types (resolved.Return (Some a)) = (test, test_types a, (refl, refl, refl, refl))
-    command_types (Choose v a b) = (test, test_types v, (base, 0, record { some = omega arith; left = less; first = omega arith; next = omega arith }, refl, command_types a, command_types b))
-    command_types (Repeat v body) = (refl, refl, test_types v, command_types body, refl)
+    pub command_types : (looping : Bool) (breaks continues : Block) → Statement looping base breaks base → Statement looping base continues base → (c : Command) → Statement looping base (command_block exit breaks continues c) base
+    command_types l b n t u (Sequence first count all) =
+        let clear = clear_types l first count in
+        (base, commands_type l (Then (Clear first count) b) (Then (Clear first count) n) (base, clear, t) (base, clear, u) all, clear)
+    command_types l b n t u (Evaluate a) = (test, test_types l a, (omega arith, less))
+    command_types l b n t u (EvaluateReference a) = whole_reference_types P 0 0 slots names exit names (omega arith) l true a slots (omega arith)
+    command_types l b n t u (Begin i a) = begin_types P 0 0 slots names exit names (omega arith) l true i a slots (omega arith)
+    command_types l b n t u (resolved.Return None) = nothing_types l
+    command_types l b n t u (resolved.Return (Some a)) = (test, test_types l a, (refl, refl, refl, refl))
+    command_types l b n t u (Choose v x y) = (test, test_types l v, (base, 0, record { some = omega arith; left = less; first = omega arith; next = omega arith }, refl, command_types l b n t u x, command_types l b n t u y))
+    command_types l b n t u (Repeat v step body) = loop_types l (does_nothing step) (command_block exit b n step) (whole_block v) (command_block exit Quit Again body) (command_types l b n t u step) (test_types l v) (command_types true Quit Again (refl, refl, refl, refl) (refl, refl, refl, refl) body)
+    command_types l b n t u (RepeatAfter body v) = (refl, refl, refl, test_types l v, command_types true Quit Again (refl, refl, refl, refl) (refl, refl, refl, refl) body, refl)
+    command_types l b n t u Break = t
+    command_types l b n t u Continue = u
 
-    pub commands_type : (cs : Commands) → Statement base (commands_block exit cs) base
-    commands_type no_commands = refl
-    commands_type (and_command c others) = (base, command_types c, commands_type others)
+    pub commands_type : (looping : Bool) (breaks continues : Block) → Statement looping base breaks base → Statement looping base continues base → (cs : Commands) → Statement looping base (commands_block exit breaks continues cs) base
+    commands_type l b n t u no_commands = refl
+    commands_type l b n t u (and_command c others) = (base, command_types l b n t u c, commands_type l b n t u others)
+
+  -- ---- what leaves a statement
+
+  scopes_type : (looping : Bool) (scopes : List Scope) (b : Block) → Statement looping base b base → Statement looping base (within_scopes scopes b) base
+  scopes_type looping [] b t = t
+  scopes_type looping (s ∷ others) b t = (base, clear_types looping s.first s.count, scopes_type looping others b t)
+
+  leaving_type : (turn : Option Turn) (b : Block) → Statement true base b base → Statement (is_some turn) base (leaving exit turn b) base
+  leaving_type None b t = nothing_types false
+  leaving_type (Some turn) b t = t
+
+  abbrev within : Option Turn → List Scope → Surroundings
+  within turn scopes = record { exit = exit; turn = turn; scopes = scopes }
+
+  pub breaking_type : (turn : Option Turn) (scopes : List Scope) → Statement (is_some turn) base (breaking (within turn scopes)) base
+  breaking_type turn scopes = scopes_type (is_some turn) scopes (leaving exit turn Quit) (leaving_type turn Quit (refl, refl, refl, refl))
+
+  pub continuing_type : (turn : Option Turn) (scopes : List Scope) → Statement (is_some turn) base (continuing (within turn scopes)) base
+  continuing_type turn scopes = scopes_type (is_some turn) scopes (leaving exit turn Again) (leaving_type turn Again (refl, refl, refl, refl))

@@ -9,7 +9,7 @@ use Rattle.arc_code.specs.Effects.{effect}
 use Rattle.arc_ir.specs.declared.action.Target.{Target}
 use Rattle.arc_ir.specs.declared.action.Target.TheVariants.{Skip, Back, At}
 use Rattle.arc_lower.specs.Order.{Order}
-use Rattle.arc_lower.specs.Lowered.{order_takes, drop_orders, Block, Then, Fork, Loop, Full, Leave, flat}
+use Rattle.arc_lower.specs.Lowered.{order_takes, drop_orders, Entry, AtStep, AtTest, AtBody, enter_orders, enter_size, Spot, Inside, past, turn_at, body_spot, Block, Then, Fork, Loop, Quit, Again, Full, Leave, flat}
 use Rattle.arc_lower.specs.Heights.{between, next_height, Walk, walk, other_part, next_walk, last_walk}
 use Rattle.arc_lower.proofs.Quiet.{or_first, or_second}
 use Rattle.arc_lower.proofs.Typing.{heights_same, tested, types_last, with_temporaries, Leaves, BlockTypes}
@@ -72,66 +72,106 @@ module _ (P : Program) (r s slots names exit : ℕ) where
 
     -- ---- blocks
 
-    abbrev Ends : (statement : Bool) → List Height → Height → Block → Height → Type 0
-    Ends statement pending h x g = (after : List Height) × (last_walk P from (walk h pending) (flat P slots names x) ≡ walk g after) × Keeps statement pending after
+    -- the parts behind the jump by which a loop is entered
+    abbrev pub entered : Entry → List Height → List Height
+    entered AtStep pending = pending
+    entered _ pending = drop 1 pending
 
-    exactly : (pending : List Height) (h : Height) (x : Block) (g : Height) → Ends false pending h x g → last_walk P from (walk h pending) (flat P slots names x) ≡ walk g pending
-    exactly pending h x g ends = ends.1 ∙ ap (walk g) (sym ends.2)
+    pub enter_keeps : (entry : Entry) (pending : List Height) → from ≡ base → AllBase pending → Keeps true (entered entry pending) (entered entry pending)
+    enter_keeps AtStep pending same all = (same, all, all)
+    enter_keeps AtTest pending same all = (same, rest_base pending all, rest_base pending all)
+    enter_keeps AtBody pending same all = (same, rest_base pending all, rest_base pending all)
 
-    pub block_ends : (statement : Bool) (x : Block) (h g : Height) (pending : List Height) → Keeps statement pending pending → BlockTypes P r s slots names exit statement h x g → Ends statement pending h x g
-    block_ends statement (Then x y) h g pending keeps t =
-        let one = block_ends statement x h t.0 pending keeps t.1 in
-        let two = block_ends statement y t.0 g one.0 (keeps_on statement pending one.0 one.2) t.2 in
-        (two.0, last_append P from (walk h pending) (flat P slots names x) (flat P slots names y) ∙ ap (λ w. last_walk P from w (flat P slots names y)) one.1 ∙ two.1, keeps_then statement pending one.0 two.0 one.2 two.2)
-    block_ends statement (Fork x y) h g pending keeps t =
-        let xs = flat P slots names x in
-        let ys = flat P slots names y in
+    pub enter_ends : (entry : Entry) (n m : ℕ) (pending : List Height) → from ≡ base → AllBase pending → last_walk P from (walk base pending) (enter_orders entry n m) ≡ walk base (entered entry pending)
+    enter_ends AtStep n m pending same all = refl
+    enter_ends AtTest n m pending same all = ap (λ h. walk (with_temporaries h 0) (drop 1 pending)) (first_base from pending same all)
+    enter_ends AtBody n m pending same all = ap (λ h. walk (with_temporaries h 0) (drop 1 pending)) (first_base from pending same all)
+
+    abbrev Ends : Spot → (statement : Bool) → List Height → Height → Block → Height → Type 0
+    Ends e statement pending h x g = (after : List Height) × (last_walk P from (walk h pending) (flat P slots names e x) ≡ walk g after) × Keeps statement pending after
+
+    exactly : (e : Spot) (pending : List Height) (h : Height) (x : Block) (g : Height) → Ends e false pending h x g → last_walk P from (walk h pending) (flat P slots names e x) ≡ walk g pending
+    exactly e pending h x g ends = ends.1 ∙ ap (walk g) (sym ends.2)
+
+    pub block_ends : (e : Spot) (looping statement : Bool) (x : Block) (h g : Height) (pending : List Height) → Keeps statement pending pending → BlockTypes P r s slots names exit looping statement h x g → Ends e statement pending h x g
+    block_ends e l statement (Then x y) h g pending keeps t =
+        let xs = flat P slots names e x in
+        let ys = flat P slots names (past (length xs) e) y in
+        let one = block_ends e l statement x h t.0 pending keeps t.1 in
+        let two = block_ends (past (length xs) e) l statement y t.0 g one.0 (keeps_on statement pending one.0 one.2) t.2 in
+        (two.0, last_append P from (walk h pending) xs ys ∙ ap (λ w. last_walk P from w ys) one.1 ∙ two.1, keeps_then statement pending one.0 two.0 one.2 two.2)
+    block_ends e l statement (Fork x y) h g pending keeps t =
+        let xs = flat P slots names (past 1 e) x in
+        let other = past 1 (past (length xs) (past 1 e)) in
+        let ys = flat P slots names other y in
         let i = t.0 in
         let m = with_temporaries g t.1 in
         let rest : List Order = Jump (Skip (length ys)) ∷ ys in
-        let one = block_ends statement x i m (i ∷ pending) (keeps_test statement i pending t.3 keeps) t.4 in
+        let one = block_ends (past 1 e) l statement x i m (i ∷ pending) (keeps_test statement i pending t.3 keeps) t.4 in
         let left = keeps_rest statement i pending one.0 keeps one.2 in
-        let two = block_ends statement y (with_temporaries i t.1) g (drop 1 one.0) (keeps_on statement pending (drop 1 one.0) left) t.5 in (
+        let two = block_ends other l statement y (with_temporaries i t.1) g (drop 1 one.0) (keeps_on statement pending (drop 1 one.0) left) t.5 in (
           two.0,
           ap (λ n. last_walk P from (walk n (n ∷ pending)) (xs ++ rest)) t.2.left ∙ last_append P from (walk i (i ∷ pending)) xs rest ∙ ap (λ w. last_walk P from w rest) one.1
               ∙ ap (λ n. last_walk P from (walk n (drop 1 one.0)) ys) (part_same statement i m pending one.0 t.3 one.2) ∙ two.1,
           keeps_then statement pending (drop 1 one.0) two.0 left two.2,
         )
-    block_ends true (Loop x y) h g pending keeps t =
-        let ts = flat P slots names x in
-        let xs = flat P slots names y in
+    block_ends e l true (Loop entry z x y) h g pending keeps t =
+        let begin = past (enter_size entry) e in
+        let zs = flat P slots names begin z in
+        let at_test = past (length zs) begin in
+        let ts = flat P slots names at_test x in
+        let at_body = body_spot (length zs) (length ts) begin in
+        let xs = flat P slots names at_body y in
         let to = Skip (suc (length xs)) in
-        let again : List Order = Jump (Back (suc (length ts + length xs))) ∷ [] in
-        let one = block_ends true x base test pending keeps t.2 in
-        let two = block_ends true y base base (base ∷ one.0) (keeps.0, (refl, one.2.2), (refl, one.2.2)) t.3 in (
+        let again : List Order = Jump (Back (suc (length zs + length ts + length xs))) ∷ [] in
+        let rest : List Order = JumpZero to ∷ (xs ++ again) in
+        let enter = enter_orders entry (length zs) (length ts) in
+        let others = entered entry pending in
+        let none = block_ends begin l true z base base others (enter_keeps entry pending keeps.0 keeps.1) t.2 in
+        let one = block_ends at_test l true x base test none.0 (keeps.0, none.2.2, none.2.2) t.3 in
+        let two = block_ends at_body true true y base base (base ∷ one.0) (keeps.0, (refl, one.2.2), (refl, one.2.2)) t.4 in (
           drop 1 two.0,
-          ap (λ n. last_walk P from (walk n pending) (ts ++ (JumpZero to ∷ (xs ++ again)))) t.1 ∙ last_append P from (walk base pending) ts (JumpZero to ∷ (xs ++ again)) ∙ ap (λ w. last_walk P from w (JumpZero to ∷ (xs ++ again))) one.1
+          ap (λ n. last_walk P from (walk n pending) (enter ++ (zs ++ (ts ++ rest)))) t.1 ∙ last_append P from (walk base pending) enter (zs ++ (ts ++ rest)) ∙ ap (λ w. last_walk P from w (zs ++ (ts ++ rest))) (enter_ends entry (length zs) (length ts) pending keeps.0 keeps.1)
+              ∙ last_append P from (walk base others) zs (ts ++ rest) ∙ ap (λ w. last_walk P from w (ts ++ rest)) none.1
+              ∙ last_append P from (walk base none.0) ts rest ∙ ap (λ w. last_walk P from w rest) one.1
               ∙ ap (λ n. last_walk P from (walk n (n ∷ one.0)) (xs ++ again)) (chosen_same to) ∙ last_append P from (walk base (base ∷ one.0)) xs again ∙ ap (λ w. last_walk P from w again) two.1
-              ∙ ap (λ n. walk (with_temporaries n 0) (drop 1 two.0)) (first_base from two.0 keeps.0 two.2.2) ∙ ap (λ n. walk n (drop 1 two.0)) (sym t.4),
+              ∙ ap (λ n. walk (with_temporaries n 0) (drop 1 two.0)) (first_base from two.0 keeps.0 two.2.2) ∙ ap (λ n. walk n (drop 1 two.0)) (sym t.5),
           (keeps.0, keeps.1, rest_base two.0 two.2.2),
         )
-    block_ends true (Leave to) h g pending keeps t = (
+    block_ends e l true Quit h g pending keeps t = (
+      drop 1 pending,
+      ap (λ n. last_walk P from (walk n pending) (flat P slots names e Quit)) t.2 ∙ ap (λ n. walk (with_temporaries n 0) (drop 1 pending)) (first_base from pending keeps.0 keeps.1) ∙ ap (λ n. walk n (drop 1 pending)) (sym t.3),
+      (keeps.0, keeps.1, rest_base pending keeps.1),
+    )
+    block_ends e l true Again h g pending keeps t = (
+      drop 1 pending,
+      ap (λ n. last_walk P from (walk n pending) (flat P slots names e Again)) t.2 ∙ ap (λ n. walk (with_temporaries n 0) (drop 1 pending)) (first_base from pending keeps.0 keeps.1) ∙ ap (λ n. walk n (drop 1 pending)) (sym t.3),
+      (keeps.0, keeps.1, rest_base pending keeps.1),
+    )
+    block_ends e l true (Leave to) h g pending keeps t = (
       drop 1 pending,
       ap (λ n. next_walk P from (Jump (At to)) (walk n pending)) t.2 ∙ ap (λ n. walk (with_temporaries n 0) (drop 1 pending)) (first_base from pending keeps.0 keeps.1) ∙ ap (λ n. walk n (drop 1 pending)) (sym t.3),
       (keeps.0, keeps.1, rest_base pending keeps.1),
     )
-    block_ends false (Loop x y) h g pending keeps t = absurd (true≢false (sym t.0))
-    block_ends false (Leave to) h g pending keeps t = absurd (true≢false (sym t.0))
-    block_ends statement (Full x y) h g pending keeps t =
-        let xs = flat P slots names x in
-        let ys = flat P slots names y in
-        let one = exactly pending h x t.0 (block_ends false x h t.0 pending refl t.2) in
-        let two = exactly pending t.0 y t.1 (block_ends false y t.0 t.1 pending refl t.3) in (
+    block_ends e l false (Loop entry z x y) h g pending keeps t = absurd (true≢false (sym t.0))
+    block_ends e l false Quit h g pending keeps t = absurd (true≢false (sym t.0))
+    block_ends e l false Again h g pending keeps t = absurd (true≢false (sym t.0))
+    block_ends e l false (Leave to) h g pending keeps t = absurd (true≢false (sym t.0))
+    block_ends e l statement (Full x y) h g pending keeps t =
+        let xs = flat P slots names Inside x in
+        let ys = flat P slots names Inside y in
+        let one = exactly Inside pending h x t.0 (block_ends Inside false false x h t.0 pending refl t.2) in
+        let two = exactly Inside pending t.0 y t.1 (block_ends Inside false false y t.0 t.1 pending refl t.3) in (
           pending,
           last_append P from (walk h pending) xs (ys ++ drop_orders xs) ∙ ap (λ w. last_walk P from w (ys ++ drop_orders xs)) one
               ∙ last_append P from (walk t.0 pending) ys (drop_orders xs) ∙ ap (λ w. last_walk P from w (drop_orders xs)) two ∙ types_last P r s from t.1 pending (drop_orders xs) g t.4,
           keeps,
         )
-    block_ends statement x h g pending keeps t = (pending, types_last P r s from h pending (flat P slots names x) g t, keeps)
+    block_ends e l statement x h g pending keeps t = (pending, types_last P r s from h pending (flat P slots names e x) g t, keeps)
 
     -- an expression keeps the parts as they are
-    pub within_ends : (x : Block) (h g : Height) (pending : List Height) → BlockTypes P r s slots names exit false h x g → last_walk P from (walk h pending) (flat P slots names x) ≡ walk g pending
-    within_ends x h g pending t = exactly pending h x g (block_ends false x h g pending refl t)
+    pub within_ends : (x : Block) (h g : Height) (pending : List Height) → BlockTypes P r s slots names exit false false h x g → last_walk P from (walk h pending) (flat P slots names Inside x) ≡ walk g pending
+    within_ends x h g pending t = exactly Inside pending h x g (block_ends Inside false false x h g pending refl t)
 
   -- ---- blocks that take no temporary
 
@@ -149,8 +189,8 @@ module _ (P : Program) (r s slots names exit : ℕ) where
       omega (arith, one, others)
 
   -- leave no more of them
-  pub quiet_types : (x : Block) (h g : Height) → BlockTypes P r s slots names exit false h x g → list_any order_takes (flat P slots names x) ≡ false → g.temporaries ≤ h.temporaries
+  pub quiet_types : (x : Block) (h g : Height) → BlockTypes P r s slots names exit false false h x g → list_any order_takes (flat P slots names Inside x) ≡ false → g.temporaries ≤ h.temporaries
   quiet_types x h g t e =
-      let le = quiet_walk (flat P slots names x) (walk h []) e in
+      let le = quiet_walk (flat P slots names Inside x) (walk h []) e in
       let same = ap (λ (w : Walk). w.height.temporaries) (within_ends base x h g [] t) in
       omega (arith, le, same)

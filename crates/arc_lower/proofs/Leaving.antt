@@ -1,7 +1,7 @@
 -- A run does what a function does, and leaves it.
 use Rattle.std.proofs.Common.{◌≡◌, ℕ, zero, suc, ◌+◌, ℤ, Bool, true, false, List, [], ◌∷◌, ◌++◌, length, Some, None, refl, sym, ap, ◌∙◌, subst, arith}
 use Rattle.arc_spec.specs.Objects.{nils}
-use Rattle.arc_spec.specs.Resolved.{Command, Sequence, Evaluate, EvaluateReference, Begin, Choose, Repeat, Commands, no_commands, and_command}
+use Rattle.arc_spec.specs.Resolved.{Value, Command, Sequence, Evaluate, EvaluateReference, Begin, Choose, Repeat, RepeatAfter, Break, Continue, Commands, no_commands, and_command}
 use Rattle.arc_spec.specs.Resolved as resolved
 use Rattle.arc_spec.specs.Meaning.{Deeper, Flow, given, variables_dropped, called, all_executed}
 use Rattle.arc_spec.specs.World.{World, Outcome, Done, Faulted, Cut, Finished, then_do, places, first_frame, first_locals, entered, left}
@@ -11,7 +11,7 @@ use Rattle.arc_ir.specs.Acting.{Program, State}
 use Rattle.arc_ir.specs.Acting as acting
 use Rattle.arc_code.specs.declared.instr.Op.TheVariants.{Declare}
 use Rattle.arc_code.specs.declared.instr.Instr.TheVariants.{Plain, Return}
-use Rattle.arc_lower.specs.Lowered.{all_empty_orders, keep_orders, leave_orders, declare_orders, flat, command_block, commands_block, body_block, body_orders}
+use Rattle.arc_lower.specs.Lowered.{all_empty_orders, keep_orders, leave_orders, declare_orders, no_turn, Between, Block, Clear, Then, Quit, Again, flat, whole_block, nothing_given, does_nothing, loop_block, command_block, commands_block, body_block, body_orders}
 use Rattle.arc_lower.proofs.Leading as leading
 use Rattle.arc_lower.proofs.Leading.{Runs, leads_runs, stuck_runs, ends_here, then_runs, then_at}
 use Rattle.arc_lower.proofs.Recounting.{recount, moves, at, held_of}
@@ -30,20 +30,27 @@ nils_length zero = refl
 nils_length (suc n) = ap suc (nils_length n)
 
 -- no statement has a temporary behind it
-mutual
-  command_quiet : (exit : ℕ) (c : Command) → takes_none (command_block exit c) ≡ true
-  command_quiet exit (Sequence first count all) = both_true (takes_none (commands_block exit all)) true (commands_quiet exit all) refl
-  command_quiet exit (Evaluate a) = refl
-  command_quiet exit (EvaluateReference a) = refl
-  command_quiet exit (Begin i a) = refl
-  command_quiet exit (resolved.Return None) = refl
-  command_quiet exit (resolved.Return (Some a)) = refl
-  command_quiet exit (Choose test a b) = both_true (takes_none (command_block exit a)) (takes_none (command_block exit b)) (command_quiet exit a) (command_quiet exit b)
-  command_quiet exit (Repeat test body) = command_quiet exit body
+loop_quiet : (without_step : Bool) (step body : Block) (test : Value) → takes_none step ≡ true → takes_none body ≡ true → takes_none (loop_block without_step step (whole_block test) body) ≡ true
+loop_quiet true step body test e f = f
+loop_quiet false step body test e f = both_true (takes_none step) (takes_none body) e f
 
-  commands_quiet : (exit : ℕ) (all : Commands) → takes_none (commands_block exit all) ≡ true
-  commands_quiet exit no_commands = refl
-  commands_quiet exit (and_command c others) = both_true (takes_none (command_block exit c)) (takes_none (commands_block exit others)) (command_quiet exit c) (commands_quiet exit others)
+mutual
+  command_quiet : (exit : ℕ) (breaks continues : Block) → takes_none breaks ≡ true → takes_none continues ≡ true → (c : Command) → takes_none (command_block exit breaks continues c) ≡ true
+  command_quiet exit b n e f (Sequence first count all) = both_true (takes_none (commands_block exit (Then (Clear first count) b) (Then (Clear first count) n) all)) true (commands_quiet exit (Then (Clear first count) b) (Then (Clear first count) n) e f all) refl
+  command_quiet exit b n e f (Evaluate a) = refl
+  command_quiet exit b n e f (EvaluateReference a) = refl
+  command_quiet exit b n e f (Begin i a) = refl
+  command_quiet exit b n e f (resolved.Return None) = refl
+  command_quiet exit b n e f (resolved.Return (Some a)) = refl
+  command_quiet exit b n e f (Choose test x y) = both_true (takes_none (command_block exit b n x)) (takes_none (command_block exit b n y)) (command_quiet exit b n e f x) (command_quiet exit b n e f y)
+  command_quiet exit b n e f (Repeat test step body) = loop_quiet (does_nothing step) (command_block exit b n step) (command_block exit Quit Again body) test (command_quiet exit b n e f step) (command_quiet exit Quit Again refl refl body)
+  command_quiet exit b n e f (RepeatAfter body test) = command_quiet exit Quit Again refl refl body
+  command_quiet exit b n e f Break = e
+  command_quiet exit b n e f Continue = f
+
+  commands_quiet : (exit : ℕ) (breaks continues : Block) → takes_none breaks ≡ true → takes_none continues ≡ true → (all : Commands) → takes_none (commands_block exit breaks continues all) ≡ true
+  commands_quiet exit b n e f no_commands = refl
+  commands_quiet exit b n e f (and_command c others) = both_true (takes_none (command_block exit b n c)) (takes_none (commands_block exit b n others)) (command_quiet exit b n e f c) (commands_quiet exit b n e f others)
 
 -- what a run does of what is left in some way
 ways_back : {S A : Type 0} (step : S → Next S) (bound : ℕ) (r : Reached S) (way : A → Way) (end : Way → World → Reached S → Type 0) (o : Outcome A) → Runs step bound r end (left_by way o) → Runs step bound r (λ a w to. end (way a) w to) o
@@ -129,21 +136,23 @@ module _ (p : Program) (frames : List Frame) (bound : ℕ) (R : resolved.Program
       (then_passes p frames bound rs (Plain Declare ∷ []) (declare_orders n) stack w stack w1 stack (entered slots (n + suc m) self arguments before) (one_passes p frames bound rs (Plain Declare) stack w stack w1 (λ pc. quiet p frames bound rs (pc + 1) stack w1)) (declares_pass n (suc m) arguments stack))
 
   -- a function that is entered comes to its last step
-  pub function_runs : (body : Commands) (entry : ℕ) (arguments : List ℤ) → length (first_locals slots arguments) ≡ slots → HasAt p exit (leave_orders slots names) → HasAt p entry (body_orders R exit (record { slots = slots; names = names; body = body })) → Runs (moves p) bound (running frames rs entry (onto (first_locals slots arguments) below) (entered slots 0 self arguments before)) Left (called D bound (record { slots = slots; names = names; body = body }) self arguments before)
+  pub function_runs : (body : Commands) (entry : ℕ) (arguments : List ℤ) → length (first_locals slots arguments) ≡ slots → HasAt p exit (leave_orders slots names) → HasAt p entry (body_orders R exit entry (record { slots = slots; names = names; body = body })) → Runs (moves p) bound (running frames rs entry (onto (first_locals slots arguments) below) (entered slots 0 self arguments before)) Left (called D bound (record { slots = slots; names = names; body = body }) self arguments before)
   function_runs body entry arguments size leave has =
       let none = declare_orders names in
       let place = entry + length none in
       let b = body_block exit body in
-      let xs = flat R slots names b in
+      let spot = Between place no_turn in
+      let xs = flat R slots names spot b in
+      let none_given = nothing_given exit in
       let w0 = entered slots names self arguments before in
       let stack = onto (first_locals slots arguments) below in
       let s = calm rs in
       let e : names + 0 ≡ names = omega arith in
       let first = subst (λ n. leading.Leads (moves p) (running frames rs entry stack (entered slots 0 self arguments before)) (running frames rs place stack (entered slots n self arguments before))) e (declares_pass names 0 arguments stack entry (has_front p entry none xs has)) in
       let good : Fine true w0 = (record { locals = size; strong = nils_length names; itself = refl; waits = refl }, λ x. refl) in
-      let end = Leaves p frames bound R slots names self (places before) below D deep true (place + length xs) in
+      let end = Leaves p frames bound R slots names self (places before) below D deep no_turn true (place + length xs) in
       let o = then_do (all_executed D bound body w0) (λ flow w1. Done (given flow) w1) in
-      let runs = subst (Runs (moves p) bound (running frames rs place stack w0) end) (body_is D bound exit rs body w0) (block_runs p frames bound R slots names self (places before) below D deep true true (λ x. x) b (λ x. both_true (takes_none (commands_block exit body)) true (commands_quiet exit body) refl) place s w0 good (has_back p entry none xs has)) in
+      let runs = subst (Runs (moves p) bound (running frames rs place stack w0) end) (body_is D bound exit rs body w0) (block_runs p frames bound R slots names self (places before) below D deep spot no_turn true true (λ x. x) b (λ x. both_true (takes_none (commands_block exit none_given none_given body)) true (commands_quiet exit none_given none_given refl refl body) refl) place refl s w0 good (has_back p entry none xs has)) in
       leads_runs (moves p) bound (running frames rs entry stack (entered slots 0 self arguments before)) (running frames rs place stack w0) Left (called D bound (record { slots = slots; names = names; body = body }) self arguments before) first
       (subst (Runs (moves p) bound (running frames rs place stack w0) Left) (given_later D names before (all_executed D bound body w0))
       (then_runs (moves p) bound (running frames rs place stack w0) (λ v w1 to. end (Out exit (push v s)) w1 to) Left o (λ v w1. then_do (variables_dropped D 0 names w1) (λ _ w2. Done v (left before w2))) (ways_back (moves p) bound (running frames rs place stack w0) (λ v. Out exit (push v s)) end o runs) (λ v w1 to m.

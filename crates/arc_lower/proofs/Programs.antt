@@ -1,6 +1,6 @@
 -- Each order of a lowered program has what it needs, with the heights before it.
 use Rattle.std.proofs.Common.{◌≡◌, inl, inr, ℕ, zero, suc, ◌+◌, ◌≤◌, pos, Bool, true, false, if◌then◌else◌, nat_lt, List, [], ◌∷◌, ◌++◌, length, Option, Some, None, refl, sym, ap, ◌∙◌, subst, arith, length-append, slice_get, slice_index_or}
-use Rattle.std.proofs.lemmas.Bool.{ltb-false}
+use Rattle.std.proofs.lemmas.Bool.{ltb-false, false≢true}
 use Rattle.arc_ast.specs.declared.tree.Sign.{Sign}
 use Rattle.arc_spec.specs.declared.class.Method.{Method}
 use Rattle.arc_spec.specs.Classes.{Class, answers, found, own_methods, or_else, first_that_has, superclasses, ancestry, lookup}
@@ -13,14 +13,14 @@ use Rattle.arc_code.specs.declared.instr.Instr.TheVariants.{Plain, Jump, Call, R
 use Rattle.arc_code.specs.Effects.{passes}
 use Rattle.arc_ir.specs.declared.action.Target.TheVariants.{At}
 use Rattle.arc_lower.specs.Order.{Order}
-use Rattle.arc_lower.specs.Lowered.{all_functions, number_of, slots_of, zero_orders, fit_orders, declare_orders, pop_orders, keep_orders, all_empty_orders, commands_block, flat, function_orders, functions_orders, entries_from, start_orders, end_step_of, entry_of, entries_of, stub_orders, methods_orders, dealloc_orders, class_orders, classes_orders, linked_methods, linked_dealloc, linked_classes, running_orders, lowered, classes_linked}
+use Rattle.arc_lower.specs.Lowered.{all_functions, number_of, slots_of, zero_orders, fit_orders, declare_orders, pop_orders, keep_orders, all_empty_orders, no_turn, Spot, Between, Block, nothing_given, commands_block, flat, function_orders, functions_orders, entries_from, start_orders, end_step_of, entry_of, entries_of, stub_orders, methods_orders, dealloc_orders, class_orders, classes_orders, linked_methods, linked_dealloc, linked_classes, running_orders, lowered, classes_linked}
 use Rattle.arc_lower.specs.Heights.{height, between, next_height, walk, Walk, next_walk, last_walk, walk_heights, heights, start_heights, function_heights, functions_heights, stub_heights, methods_heights, dealloc_heights, class_heights, classes_heights, lowered_heights}
 use Rattle.arc_lower.proofs.Rows.{zeros_length}
 use Rattle.arc_lower.proofs.Linking.{numbered}
 use Rattle.arc_lower.proofs.Finding.{passes_same}
 use Rattle.arc_lower.proofs.Typing.{heights_same, slots_same, number_there, Types, types_same, types_last, tested, keep_types, zeros_type, fit_types, declare_types, BlockTypes}
 use Rattle.arc_lower.proofs.HeightsEnd.{last_append, Keeps, block_ends}
-use Rattle.arc_lower.proofs.Forms.{commands_type}
+use Rattle.arc_lower.proofs.Forms.{nothing_types, commands_type}
 use Rattle.arc_lower.proofs.Stepping.{some_same, HasPart, part_front, part_back, has_whole, types_ordinary, Takes, Clears, Stands, Goes, StepsAt, AllStep, step_then, IsReturn, opens_goes, none_goes, Row, row_of, row_prefix, row_front, row_back, Follows, goes_here, typed_steps, AllTake, takes_stand, takes_step, block_ordinary, block_steps}
 
 heights_length : (R : resolved.Program) (base : Height) (w : Walk) (xs : List Order) → length (walk_heights R base w xs) ≡ length xs
@@ -91,8 +91,15 @@ module _ (R : resolved.Program) where
     abbrev start : ℕ
     start = entered + length declared
 
+    -- what leaves it without a value
+    abbrev none : Block
+    none = nothing_given place
+
+    abbrev here : Spot
+    here = Between start no_turn
+
     abbrev statements : List Order
-    statements = flat R slots names (commands_block place cs)
+    statements = flat R slots names here (commands_block place none none cs)
 
     abbrev end : List Order
     end = Plain (Num (pos 0)) ∷ Jump (At place) ∷ []
@@ -103,8 +110,8 @@ module _ (R : resolved.Program) where
     abbrev Rows : ℕ → Height → List Order → Type 0
     Rows pc h = Row R all table base pc (walk h [])
 
-    statements_type : BlockTypes R 0 0 slots names place true base (commands_block place cs) base
-    statements_type = commands_type R slots names place cs
+    statements_type : BlockTypes R 0 0 slots names place false true base (commands_block place none none cs) base
+    statements_type = commands_type R slots names place false none none (nothing_types R slots names place false) (nothing_types R slots names place false) cs
 
     empty_stays : (i : ℕ) → next_height R (Empty i) leaving ≡ leaving
     empty_stays i = heights_same _ _ _ _ (suc slots) 0 0 names (omega arith) (omega arith) (omega arith) (omega arith)
@@ -186,7 +193,7 @@ module _ (R : resolved.Program) where
       rows = subst (λ w. Row R all table base start w (statements ++ end)) (types_last R 0 0 base begun [] declared base declared_typed) (row_back R all table base entered (walk begun []) declared (statements ++ end) body_row)
 
       ends : (after : List Height) × (last_walk R base (walk base []) statements ≡ walk base after) × Keeps R 0 0 slots names place base true [] after
-      ends = block_ends R 0 0 slots names place base true (commands_block place cs) base base [] (refl, tt, tt) statements_type
+      ends = block_ends R 0 0 slots names place base here false true (commands_block place none none cs) base base [] (refl, tt, tt) statements_type
 
       last : Row R all table base (start + length statements) (walk base ends.0) end
       last = subst (λ w. Row R all table base (start + length statements) w end) ends.1 (row_back R all table base start (walk base []) statements end rows)
@@ -197,7 +204,7 @@ module _ (R : resolved.Program) where
       declared_follow : Follows R all table base entered (walk begun []) declared
       declared_follow =
           row_front R all table base entered (walk begun []) declared (statements ++ end)
-          (subst (λ w. Goes_to start w.height) (sym (types_last R 0 0 base begun [] declared base declared_typed)) (goes_here R all table base start (walk base []) statements (block_ordinary R all table slots names place true (commands_block place cs) base base statements_type) statements_follow)) body_row
+          (subst (λ w. Goes_to start w.height) (sym (types_last R 0 0 base begun [] declared base declared_typed)) (goes_here R all table base start (walk base []) statements (block_ordinary R all table slots names place here false true (commands_block place none none cs) base base statements_type) statements_follow)) body_row
 
       pub entry_goes : Goes_to entered begun
       entry_goes = goes_here R all table base entered (walk begun []) declared (types_ordinary R begun declared base declared_typed) declared_follow
@@ -217,7 +224,7 @@ module _ (R : resolved.Program) where
           let jump = opens_goes R all table (q + 1) _ (Jump (At place)) tt last.2.0 last.2.1 in
           step_then R all table place leave body leave_steps
           (step_then R all table entered declared (statements ++ end) (typed_steps R all table base entered begun [] declared base declared_typed declared_follow)
-          (step_then R all table start statements end (block_steps R all table slots names place exit_goes true (commands_block place cs) base base start [] (refl, tt, tt) statements_type statements_follow)
+          (step_then R all table start statements end (block_steps R all table slots names place exit_goes here no_turn false true (commands_block place none none cs) base base start [] (λ s. refl) (λ s. absurd (false≢true s)) (refl, tt, tt) statements_type statements_follow)
           ((base, last.0, (tt, (jump.0, λ k c. inr (jump.1 k c)))), ((leaving, last.2.0 ∙ ap Some up, (0, omega arith, exit_goes)), tt))))
 
   -- ---- all functions

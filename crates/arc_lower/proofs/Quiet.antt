@@ -9,7 +9,7 @@ use Rattle.arc_code.specs.declared.instr.Instr.TheVariants.{Plain, Jump, JumpZer
 use Rattle.arc_code.specs.Effects.{operation_effect}
 use Rattle.arc_ir.specs.declared.action.Target.TheVariants.{Skip, Back}
 use Rattle.arc_lower.specs.Order.{Order}
-use Rattle.arc_lower.specs.Lowered.{Block, One, Read, Then, Fork, Loop, Full, flat, order_takes, drop_orders}
+use Rattle.arc_lower.specs.Lowered.{Entry, AtStep, AtTest, AtBody, enter_orders, Inside, Block, One, Read, Then, Fork, Loop, Full, flat, order_takes, drop_orders}
 
 -- whether no temporary of a block is there behind it
 abbrev pub takes_none : Block → Bool
@@ -17,7 +17,7 @@ takes_none (One o) = not (nat_lt 0 (operation_effect o).temporaries)
 takes_none (Read i) = false
 takes_none (Then a b) = takes_none a && takes_none b
 takes_none (Fork a b) = takes_none a && takes_none b
-takes_none (Loop a b) = takes_none a && takes_none b
+takes_none (Loop entry step test body) = takes_none step && (takes_none test && takes_none body)
 takes_none (Full a b) = takes_none b
 takes_none _ = true
 
@@ -47,24 +47,33 @@ module _ (P : Program) (slots names : ℕ) where
   read_takes true i e = sym e
   read_takes false i e = sym e
 
-  pub quiet_flat : (b : Block) → none (flat P slots names b) → takes_none b ≡ true
+  behind_enter : (entry : Entry) (n m : ℕ) (xs : List Order) → none (enter_orders entry n m ++ xs) → none xs
+  behind_enter AtStep n m xs e = e
+  behind_enter AtTest n m xs e = e
+  behind_enter AtBody n m xs e = e
+
+  pub quiet_flat : (b : Block) → none (flat P slots names Inside b) → takes_none b ≡ true
   quiet_flat (One o) e = ap not (or_first (nat_lt 0 (operation_effect o).temporaries) false e)
   quiet_flat (Read i) e = read_takes (nat_lt i names) i e
   quiet_flat (Then a b) e =
-      let xs = flat P slots names a in
-      let ys = flat P slots names b in
+      let xs = flat P slots names Inside a in
+      let ys = flat P slots names Inside b in
       both_true (takes_none a) (takes_none b) (quiet_flat a (none_front xs ys e)) (quiet_flat b (none_back xs ys e))
   quiet_flat (Fork a b) e =
-      let xs = flat P slots names a in
-      let ys = flat P slots names b in
+      let xs = flat P slots names Inside a in
+      let ys = flat P slots names Inside b in
       both_true (takes_none a) (takes_none b) (quiet_flat a (none_front xs (Jump (Skip (length ys)) ∷ ys) e)) (quiet_flat b (none_back xs (Jump (Skip (length ys)) ∷ ys) e))
-  quiet_flat (Loop a b) e =
-      let xs = flat P slots names a in
-      let ys = flat P slots names b in
-      let last : List Order = Jump (Back (suc (length xs + length ys))) ∷ [] in
-      both_true (takes_none a) (takes_none b) (quiet_flat a (none_front xs (JumpZero (Skip (suc (length ys))) ∷ (ys ++ last)) e)) (quiet_flat b (none_front ys last (none_back xs (JumpZero (Skip (suc (length ys))) ∷ (ys ++ last)) e)))
+  quiet_flat (Loop entry a b c) e =
+      let xs = flat P slots names Inside a in
+      let ys = flat P slots names Inside b in
+      let zs = flat P slots names Inside c in
+      let last : List Order = Jump (Back (suc (length xs + length ys + length zs))) ∷ [] in
+      let test : Order = JumpZero (Skip (suc (length zs))) in
+      let turn = behind_enter entry (length xs) (length ys) (xs ++ (ys ++ (test ∷ (zs ++ last)))) e in
+      let rest = none_back xs (ys ++ (test ∷ (zs ++ last))) turn in
+      both_true (takes_none a) (takes_none b && takes_none c) (quiet_flat a (none_front xs (ys ++ (test ∷ (zs ++ last))) turn)) (both_true (takes_none b) (takes_none c) (quiet_flat b (none_front ys (test ∷ (zs ++ last)) rest)) (quiet_flat c (none_front zs last (none_back ys (test ∷ (zs ++ last)) rest))))
   quiet_flat (Full a b) e =
-      let xs = flat P slots names a in
-      let ys = flat P slots names b in
+      let xs = flat P slots names Inside a in
+      let ys = flat P slots names Inside b in
       quiet_flat b (none_front ys (drop_orders xs) (none_back xs (ys ++ drop_orders xs) e))
   quiet_flat _ e = refl

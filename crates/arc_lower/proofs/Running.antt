@@ -25,7 +25,8 @@ use Rattle.arc_code.specs.declared.instr.Op.TheVariants as ops
 use Rattle.arc_code.specs.declared.instr.Instr.TheVariants.{Plain, Jump, JumpZero, Call, StoreStrong, DropAll}
 use Rattle.arc_code.specs.Effects.{passes}
 use Rattle.arc_lower.specs.Order.{Order}
-use Rattle.arc_lower.specs.Lowered.{Message, ToClass, ToSuperClass, ToObject, ToSuper, message_order, Block, Idle, One, Load, Store, Read, Assign, Clear, Format, Calls, Tells, Then, Fork, Loop, Full, Leave, flat, print_orders, get_orders, set_orders, fit_orders, read_orders, store_orders, all_empty_orders, order_takes, number_of, slots_of, call_orders}
+use Rattle.arc_lower.specs.declared.frame.Turn.{Turn}
+use Rattle.arc_lower.specs.Lowered.{Message, ToClass, ToSuperClass, ToObject, ToSuper, message_order, Block, Idle, One, Load, Store, Read, Assign, Clear, Format, Calls, Tells, Then, Fork, Loop, Quit, Again, Full, Leave, Entry, AtStep, AtTest, AtBody, enter_orders, enter_size, no_turn, Spot, Inside, Between, past, turn_at, body_spot, flat, print_orders, get_orders, set_orders, fit_orders, read_orders, store_orders, all_empty_orders, order_takes, number_of, slots_of, call_orders}
 use Rattle.std.specs.List.{list_any}
 use Rattle.arc_lower.proofs.Leading.{Leads, leads_same, leads_trans, leads_step, Runs, leads_runs, later_runs, fewer_runs, ends_here, then_runs}
 use Rattle.arc_lower.proofs.Recounting.{fresh, recount, moves, at, held_of}
@@ -35,7 +36,7 @@ use Rattle.arc_lower.proofs.Stacking.{onto, Peels, peels_onto, get_onto, get_loc
 use Rattle.arc_lower.proofs.Printing.{print_passes}
 use Rattle.arc_lower.proofs.Fitting.{fit_passes}
 use Rattle.arc_lower.proofs.Releasing.{Kept, Ends, Stays, object_runs, named_runs, emptied, empties, get_front, dropped_runs, no_variable, changes_runs, empties_run}
-use Rattle.arc_lower.proofs.Shaping.{Operands, push, name, Way, On, Out, Lost, left_by, on_way, and_then, top_of, values_of, pushes, passes_by, operation, told, block_turns, block}
+use Rattle.arc_lower.proofs.Shaping.{Operands, push, name, Way, On, Out, Quits, Turns, Lost, left_by, on_way, and_then, only_on, after_turn, on_test, top_of, values_of, pushes, passes_by, operation, told, block_turns, loop_entered, block}
 use Rattle.arc_lower.proofs.Quiet.{takes_none, quiet_flat}
 
 -- behind a call, with its value on top
@@ -94,28 +95,30 @@ module _ (p : Program) (frames : List Frame) (bound : ℕ) (R : resolved.Program
   abbrev pub Good : (calm : Bool) → World → Type 0
   Good calm w = IsFramed slots names self waiting w × (calm ≡ true → w.frame.temporaries ≡ [])
 
-  -- where a block is left whose last action stands before this place
-  abbrev pub Leaves : (calm : Bool) → ℕ → Way → World → Reached State → Type 0
-  Leaves calm pc (On s) w to = (to ≡ standing pc s w) × Good calm w
-  Leaves calm pc (Out exit s) w to = (to ≡ standing exit s w) × Good false w
-  Leaves calm pc Lost w to = Unit {0}
+  -- where a block is left whose last action stands before this place, in the body of a loop with this turn
+  abbrev pub Leaves : (turn : Turn) (calm : Bool) → ℕ → Way → World → Reached State → Type 0
+  Leaves turn calm pc (On s) w to = (to ≡ standing pc s w) × Good calm w
+  Leaves turn calm pc (Out exit s) w to = (to ≡ standing exit s w) × Good false w
+  Leaves turn calm pc (Quits s) w to = (to ≡ standing turn.out (push (pos 0) s) w) × Good calm w
+  Leaves turn calm pc (Turns s) w to = (to ≡ standing turn.begin s w) × Good calm w
+  Leaves turn calm pc Lost w to = Unit {0}
 
-  abbrev pub Goes_on : (calm : Bool) → (from : Reached State) → ℕ → Outcome Way → Type 0
-  Goes_on calm from pc o = Runs (moves p) bound from (Leaves calm pc) o
+  abbrev pub Goes_on : (turn : Turn) (calm : Bool) → (from : Reached State) → ℕ → Outcome Way → Type 0
+  Goes_on turn calm from pc o = Runs (moves p) bound from (Leaves turn calm pc) o
 
   -- what a step leads to
   abbrev next_of : Next State → World → Reached State
   next_of next w = follow (recount next) w.input w.trace
 
-  lost : (calm : Bool) (from : Reached State) (pc : ℕ) (w : World) → Goes_on calm from pc (Done Lost w)
-  lost calm from pc w = ends_here (moves p) bound from (Leaves calm pc) Lost w tt
+  lost : (turn : Turn) (calm : Bool) (from : Reached State) (pc : ℕ) (w : World) → Goes_on turn calm from pc (Done Lost w)
+  lost turn calm from pc w = ends_here (moves p) bound from (Leaves turn calm pc) Lost w tt
 
-  here : (calm : Bool) (pc : ℕ) (s : Operands) (w : World) → Good calm w → Goes_on calm (standing pc s w) pc (Done (On s) w)
-  here calm pc s w g = ends_here (moves p) bound (standing pc s w) (Leaves calm pc) (On s) w (refl, g)
+  here : (turn : Turn) (calm : Bool) (pc : ℕ) (s : Operands) (w : World) → Good calm w → Goes_on turn calm (standing pc s w) pc (Done (On s) w)
+  here turn calm pc s w g = ends_here (moves p) bound (standing pc s w) (Leaves turn calm pc) (On s) w (refl, g)
 
   -- a step that shows nothing
-  quietly : (calm : Bool) (pc : ℕ) (s : Operands) (w : World) → Good calm w → Goes_on calm (follow (Goes (state pc s w) []) w.input w.trace) pc (Done (On s) w)
-  quietly calm pc s w g = quiet_runs p frames bound s.names pc (s.numbers ++ vars w) w (Leaves calm pc) (Done (On s) w) (here calm pc s w g)
+  quietly : (turn : Turn) (calm : Bool) (pc : ℕ) (s : Operands) (w : World) → Good calm w → Goes_on turn calm (follow (Goes (state pc s w) []) w.input w.trace) pc (Done (On s) w)
+  quietly turn calm pc s w g = quiet_runs p frames bound s.names pc (s.numbers ++ vars w) w (Leaves turn calm pc) (Done (On s) w) (here turn calm pc s w g)
 
   pub kept_good : (calm : Bool) (w w1 : World) → Good calm w → Kept w w1 → Good calm w1
   kept_good calm w w1 g k = (
@@ -135,104 +138,104 @@ module _ (p : Program) (frames : List Frame) (bound : ℕ) (R : resolved.Program
   taken_good calm r w free g = (record { locals = g.0.locals; strong = g.0.strong; itself = g.0.itself; waits = g.0.waits }, λ e. absurd (false≢true (free e)))
 
   -- what was called or sent leaves its value above the operands
-  returned : (calm : Bool) (pc : ℕ) (s : Operands) (w : World) (from : Reached State) (o : Outcome ℤ) → Good calm w → Runs (moves p) bound from (Returns frames s.names pc (s.numbers ++ vars w) w) o → Goes_on calm from (pc + 1) (pushes s o)
-  returned calm pc s w from o g h = then_runs (moves p) bound from (Returns frames s.names pc (s.numbers ++ vars w) w) (Leaves calm (pc + 1)) o (λ v w1. Done (On (push v s)) w1) h (λ v w1 to m.
-      ends_here (moves p) bound to (Leaves calm (pc + 1)) (On (push v s)) w1 (m.0 ∙ kept_standing (pc + 1) (push v s) w w1 m.1, kept_good calm w w1 g m.1))
+  returned : (turn : Turn) (calm : Bool) (pc : ℕ) (s : Operands) (w : World) (from : Reached State) (o : Outcome ℤ) → Good calm w → Runs (moves p) bound from (Returns frames s.names pc (s.numbers ++ vars w) w) o → Goes_on turn calm from (pc + 1) (pushes s o)
+  returned turn calm pc s w from o g h = then_runs (moves p) bound from (Returns frames s.names pc (s.numbers ++ vars w) w) (Leaves turn calm (pc + 1)) o (λ v w1. Done (On (push v s)) w1) h (λ v w1 to m.
+      ends_here (moves p) bound to (Leaves turn calm (pc + 1)) (On (push v s)) w1 (m.0 ∙ kept_standing (pc + 1) (push v s) w w1 m.1, kept_good calm w w1 g m.1))
 
   -- what drops places leaves the operands as they were
-  stayed : (calm : Bool) (pc q : ℕ) (s : Operands) (w before : World) (from : Reached State) (o : Outcome Finished) → before.frame.locals ≡ w.frame.locals → Good calm before → Runs (moves p) bound from (Stays frames s.names (s.numbers ++ vars w) q before) o → q ≡ pc → Goes_on calm from pc (passes_by s o)
-  stayed calm pc q s w before from o same g h e = then_runs (moves p) bound from (Stays frames s.names (s.numbers ++ vars w) q before) (Leaves calm pc) o (λ _ w1. Done (On s) w1) h (λ done w1 to m.
-      ends_here (moves p) bound to (Leaves calm pc) (On s) w1 (
+  stayed : (turn : Turn) (calm : Bool) (pc q : ℕ) (s : Operands) (w before : World) (from : Reached State) (o : Outcome Finished) → before.frame.locals ≡ w.frame.locals → Good calm before → Runs (moves p) bound from (Stays frames s.names (s.numbers ++ vars w) q before) o → q ≡ pc → Goes_on turn calm from pc (passes_by s o)
+  stayed turn calm pc q s w before from o same g h e = then_runs (moves p) bound from (Stays frames s.names (s.numbers ++ vars w) q before) (Leaves turn calm pc) o (λ _ w1. Done (On s) w1) h (λ done w1 to m.
+      ends_here (moves p) bound to (Leaves turn calm pc) (On s) w1 (
         m.0 ∙ ap (λ n. running frames s.names n (s.numbers ++ vars w) w1) e ∙ ap (λ l. running frames s.names pc (s.numbers ++ onto l below) w1) (sym same) ∙ kept_standing pc s before w1 m.1,
         kept_good calm before w1 g m.1,
       ))
 
   -- ---- operations
 
-  faulting : (calm : Bool) (o : Option ℤ) (pc : ℕ) (all : List ℤ) (s : Operands) (w : World) → Good calm w → Goes_on calm (next_of (acting.or_fault o (at frames pc all (held_of s.names w)) (s.numbers ++ vars w)) w) (pc + 1) (pushes s (or_fault o w))
-  faulting calm None pc all s w g = inr (leads_same (moves p) _ _ refl)
-  faulting calm (Some v) pc all s w g = quietly calm (pc + 1) (push v s) w g
+  faulting : (turn : Turn) (calm : Bool) (o : Option ℤ) (pc : ℕ) (all : List ℤ) (s : Operands) (w : World) → Good calm w → Goes_on turn calm (next_of (acting.or_fault o (at frames pc all (held_of s.names w)) (s.numbers ++ vars w)) w) (pc + 1) (pushes s (or_fault o w))
+  faulting turn calm None pc all s w g = inr (leads_same (moves p) _ _ refl)
+  faulting turn calm (Some v) pc all s w g = quietly turn calm (pc + 1) (push v s) w g
 
-  reading : (calm : Bool) (pc : ℕ) (s : Operands) (w : World) (i : List ℕ) → w.input ≡ i → Good calm w → Goes_on calm (fed (λ answer. fresh (onward (state pc s w) (byte_or_end answer ∷ (s.numbers ++ vars w)))) i w.trace) (pc + 1) (Done (On (push (next_number i) s)) (record w { input = after_next i }))
-  reading calm pc s w [] e g = here calm (pc + 1) (push (next_number []) s) (record w { input = [] }) (record { locals = g.0.locals; strong = g.0.strong; itself = g.0.itself; waits = g.0.waits }, g.1)
-  reading calm pc s w (b ∷ i) e g = here calm (pc + 1) (push (pos b) s) (record w { input = i }) (record { locals = g.0.locals; strong = g.0.strong; itself = g.0.itself; waits = g.0.waits }, g.1)
+  reading : (turn : Turn) (calm : Bool) (pc : ℕ) (s : Operands) (w : World) (i : List ℕ) → w.input ≡ i → Good calm w → Goes_on turn calm (fed (λ answer. fresh (onward (state pc s w) (byte_or_end answer ∷ (s.numbers ++ vars w)))) i w.trace) (pc + 1) (Done (On (push (next_number i) s)) (record w { input = after_next i }))
+  reading turn calm pc s w [] e g = here turn calm (pc + 1) (push (next_number []) s) (record w { input = [] }) (record { locals = g.0.locals; strong = g.0.strong; itself = g.0.itself; waits = g.0.waits }, g.1)
+  reading turn calm pc s w (b ∷ i) e g = here turn calm (pc + 1) (push (pos b) s) (record w { input = i }) (record { locals = g.0.locals; strong = g.0.strong; itself = g.0.itself; waits = g.0.waits }, g.1)
 
   -- a reference that a temporary takes
-  holding : (calm : Bool) (r pc : ℕ) (s : Operands) (w : World) → (calm ≡ true → false ≡ true) → Good calm w → Goes_on calm (follow (Goes (state pc (name r s) (takes r w)) []) w.input w.trace) pc (Done (On (name r s)) (takes r w))
-  holding calm r pc s w free g = quietly calm pc (name r s) (takes r w) (taken_good calm r w free g)
+  holding : (turn : Turn) (calm : Bool) (r pc : ℕ) (s : Operands) (w : World) → (calm ≡ true → false ≡ true) → Good calm w → Goes_on turn calm (follow (Goes (state pc (name r s) (takes r w)) []) w.input w.trace) pc (Done (On (name r s)) (takes r w))
+  holding turn calm r pc s w free g = quietly turn calm pc (name r s) (takes r w) (taken_good calm r w free g)
 
-  making : (calm : Bool) (found : Option ℕ) (pc : ℕ) (v : ℤ) (s : Operands) (w : World) → (calm ≡ true → false ≡ true) → Good calm w → Goes_on calm (next_of (allocates p.classes (state pc (push v s) w) (s.numbers ++ vars w) found) w) (pc + 1) (left_by (λ r. On (name r s)) (made D found w))
-  making calm None pc v s w free g = inr (leads_same (moves p) _ _ refl)
-  making calm (Some class) pc v s w free g =
+  making : (turn : Turn) (calm : Bool) (found : Option ℕ) (pc : ℕ) (v : ℤ) (s : Operands) (w : World) → (calm ≡ true → false ≡ true) → Good calm w → Goes_on turn calm (next_of (allocates p.classes (state pc (push v s) w) (s.numbers ++ vars w) found) w) (pc + 1) (left_by (λ r. On (name r s)) (made D found w))
+  making turn calm None pc v s w free g = inr (leads_same (moves p) _ _ refl)
+  making turn calm (Some class) pc v s w free g =
       let r = next_object w in
       let with_new : (fields : ℕ) → World = λ fields. with_objects w (w.objects ++ new_object class fields ∷ []) in
       let w1 = with_new (field_count (slice_get D.classes class)) in
       let good : Good calm w1 = (record { locals = g.0.locals; strong = g.0.strong; itself = g.0.itself; waits = g.0.waits }, g.1) in
-      subst (λ m. Goes_on calm (follow (Goes (state (pc + 1) (name r s) (takes r (with_new m))) []) w.input w.trace) (pc + 1) (Done (On (name r s)) (takes r w1))) (sym (deep.same_fields class)) (holding calm r (pc + 1) s w1 free good)
+      subst (λ m. Goes_on turn calm (follow (Goes (state (pc + 1) (name r s) (takes r (with_new m))) []) w.input w.trace) (pc + 1) (Done (On (name r s)) (takes r w1))) (sym (deep.same_fields class)) (holding turn calm r (pc + 1) s w1 free good)
 
-  by_descent : (calm : Bool) (b : Bool) (pc : ℕ) (s : Operands) (w : World) (next : Next State) (go : Outcome ℤ) → Goes_on calm (next_of next w) pc (pushes s go) → Goes_on calm (next_of (if b then next else Faults FieldClass) w) pc (pushes s (if b then go else Faulted FieldClass w))
-  by_descent calm true pc s w next go h = h
-  by_descent calm false pc s w next go h = inr (leads_same (moves p) _ _ refl)
+  by_descent : (turn : Turn) (calm : Bool) (b : Bool) (pc : ℕ) (s : Operands) (w : World) (next : Next State) (go : Outcome ℤ) → Goes_on turn calm (next_of next w) pc (pushes s go) → Goes_on turn calm (next_of (if b then next else Faults FieldClass) w) pc (pushes s (if b then go else Faulted FieldClass w))
+  by_descent turn calm true pc s w next go h = h
+  by_descent turn calm false pc s w next go h = inr (leads_same (moves p) _ _ refl)
 
   -- a field of an object
-  field_runs : (calm : Bool) (class r pc : ℕ) (rs : List ℕ) (s : Operands) (w : World) (next : Object → Next State) (go : Object → Outcome ℤ) → ((o : Object) → Goes_on calm (next_of (next o) w) pc (pushes s (go o))) → Goes_on calm (next_of (on_field p.classes class r (held_of rs w) next) w) pc (pushes s (in_object D class (object_at w.objects r) go w))
-  field_runs calm class zero pc rs s w next go h = inr (leads_same (moves p) _ _ refl)
-  field_runs calm class (suc k) pc rs s w next go h =
+  field_runs : (turn : Turn) (calm : Bool) (class r pc : ℕ) (rs : List ℕ) (s : Operands) (w : World) (next : Object → Next State) (go : Object → Outcome ℤ) → ((o : Object) → Goes_on turn calm (next_of (next o) w) pc (pushes s (go o))) → Goes_on turn calm (next_of (on_field p.classes class r (held_of rs w) next) w) pc (pushes s (in_object D class (object_at w.objects r) go w))
+  field_runs turn calm class zero pc rs s w next go h = inr (leads_same (moves p) _ _ refl)
+  field_runs turn calm class (suc k) pc rs s w next go h =
       let meant = pushes s (in_object D class (object_at w.objects (suc k)) go w) in
-      object_runs p bound w.input w.trace (Leaves calm pc) meant (object_at w.objects (suc k)) (λ o. if descends p.classes (Some o.class) class then next o else Faults FieldClass) (λ o found.
-      subst (λ f. Goes_on calm (next_of (if descends p.classes (Some o.class) class then next o else Faults FieldClass) w) pc (pushes s (in_object D class f go w))) (sym found)
-      (subst (λ b. Goes_on calm (next_of (if b then next o else Faults FieldClass) w) pc (pushes s (in_object D class (Some o) go w))) (sym (deep.same_descent (Some o.class) class)) (by_descent calm (descends D.classes (Some o.class) class) pc s w (next o) (go o) (h o))))
+      object_runs p bound w.input w.trace (Leaves turn calm pc) meant (object_at w.objects (suc k)) (λ o. if descends p.classes (Some o.class) class then next o else Faults FieldClass) (λ o found.
+      subst (λ f. Goes_on turn calm (next_of (if descends p.classes (Some o.class) class then next o else Faults FieldClass) w) pc (pushes s (in_object D class f go w))) (sym found)
+      (subst (λ b. Goes_on turn calm (next_of (if b then next o else Faults FieldClass) w) pc (pushes s (in_object D class (Some o) go w))) (sym (deep.same_descent (Some o.class) class)) (by_descent turn calm (descends D.classes (Some o.class) class) pc s w (next o) (go o) (h o))))
 
-  operation_runs : (calm : Bool) (o : Op) (pc : ℕ) (numbers : List ℤ) (rs : List ℕ) (w : World) → (calm ≡ true → takes_none (One o) ≡ true) → Good calm w → Goes_on calm (next_of (does p (Plain o) (state pc (record { numbers = numbers; names = rs }) w)) w) (pc + 1) (operation D o (record { numbers = numbers; names = rs }) w)
-  operation_runs calm (Num n) pc numbers rs w free g = quietly calm (pc + 1) (push n (record { numbers = numbers; names = rs })) w g
-  operation_runs calm (Bin operator kind) pc [] rs w free g = lost calm _ (pc + 1) w
-  operation_runs calm (Bin operator kind) pc (y ∷ []) rs w free g = lost calm _ (pc + 1) w
-  operation_runs calm (Bin operator kind) pc (y ∷ x ∷ numbers) rs w free g = faulting calm (combined operator kind x y) pc (y ∷ x ∷ numbers ++ vars w) (record { numbers = numbers; names = rs }) w g
-  operation_runs calm (Un operator kind) pc [] rs w free g = lost calm _ (pc + 1) w
-  operation_runs calm (Un operator kind) pc (x ∷ numbers) rs w free g = quietly calm (pc + 1) (record { numbers = applied operator kind x ∷ numbers; names = rs }) w g
-  operation_runs calm (Narrow kind) pc [] rs w free g = lost calm _ (pc + 1) w
-  operation_runs calm (Narrow kind) pc (x ∷ numbers) rs w free g = quietly calm (pc + 1) (record { numbers = converted kind x ∷ numbers; names = rs }) w g
-  operation_runs calm Pop pc [] rs w free g = lost calm _ (pc + 1) w
-  operation_runs calm Pop pc (x ∷ numbers) rs w free g = quietly calm (pc + 1) (record { numbers = numbers; names = rs }) w g
-  operation_runs calm (Get zero) pc [] rs w free g = lost calm _ (pc + 1) w
-  operation_runs calm (Get zero) pc (x ∷ numbers) rs w free g = quietly calm (pc + 1) (record { numbers = x ∷ x ∷ numbers; names = rs }) w g
-  operation_runs calm GetChar pc numbers rs w free g = reading calm pc (record { numbers = numbers; names = rs }) w w.input refl g
-  operation_runs calm Nil pc numbers rs w free g = quietly calm (pc + 1) (record { numbers = numbers; names = 0 ∷ rs }) w g
-  operation_runs calm ReadSelf pc numbers rs w free g =
+  operation_runs : (turn : Turn) (calm : Bool) (o : Op) (pc : ℕ) (numbers : List ℤ) (rs : List ℕ) (w : World) → (calm ≡ true → takes_none (One o) ≡ true) → Good calm w → Goes_on turn calm (next_of (does p (Plain o) (state pc (record { numbers = numbers; names = rs }) w)) w) (pc + 1) (operation D o (record { numbers = numbers; names = rs }) w)
+  operation_runs turn calm (Num n) pc numbers rs w free g = quietly turn calm (pc + 1) (push n (record { numbers = numbers; names = rs })) w g
+  operation_runs turn calm (Bin operator kind) pc [] rs w free g = lost turn calm _ (pc + 1) w
+  operation_runs turn calm (Bin operator kind) pc (y ∷ []) rs w free g = lost turn calm _ (pc + 1) w
+  operation_runs turn calm (Bin operator kind) pc (y ∷ x ∷ numbers) rs w free g = faulting turn calm (combined operator kind x y) pc (y ∷ x ∷ numbers ++ vars w) (record { numbers = numbers; names = rs }) w g
+  operation_runs turn calm (Un operator kind) pc [] rs w free g = lost turn calm _ (pc + 1) w
+  operation_runs turn calm (Un operator kind) pc (x ∷ numbers) rs w free g = quietly turn calm (pc + 1) (record { numbers = applied operator kind x ∷ numbers; names = rs }) w g
+  operation_runs turn calm (Narrow kind) pc [] rs w free g = lost turn calm _ (pc + 1) w
+  operation_runs turn calm (Narrow kind) pc (x ∷ numbers) rs w free g = quietly turn calm (pc + 1) (record { numbers = converted kind x ∷ numbers; names = rs }) w g
+  operation_runs turn calm Pop pc [] rs w free g = lost turn calm _ (pc + 1) w
+  operation_runs turn calm Pop pc (x ∷ numbers) rs w free g = quietly turn calm (pc + 1) (record { numbers = numbers; names = rs }) w g
+  operation_runs turn calm (Get zero) pc [] rs w free g = lost turn calm _ (pc + 1) w
+  operation_runs turn calm (Get zero) pc (x ∷ numbers) rs w free g = quietly turn calm (pc + 1) (record { numbers = x ∷ x ∷ numbers; names = rs }) w g
+  operation_runs turn calm GetChar pc numbers rs w free g = reading turn calm pc (record { numbers = numbers; names = rs }) w w.input refl g
+  operation_runs turn calm Nil pc numbers rs w free g = quietly turn calm (pc + 1) (record { numbers = numbers; names = 0 ∷ rs }) w g
+  operation_runs turn calm ReadSelf pc numbers rs w free g =
       let s : Operands = record { numbers = numbers; names = rs } in
       let r = w.frame.self in
-      named_runs p bound w.input w.trace (Leaves calm (pc + 1)) (Done (On (name r s)) (takes r w)) r (named r (held_of rs w)) _ (holding calm r (pc + 1) s w free g)
-  operation_runs calm Hold pc numbers [] w free g = lost calm _ (pc + 1) w
-  operation_runs calm Hold pc numbers (r ∷ rs) w free g =
+      named_runs p bound w.input w.trace (Leaves turn calm (pc + 1)) (Done (On (name r s)) (takes r w)) r (named r (held_of rs w)) _ (holding turn calm r (pc + 1) s w free g)
+  operation_runs turn calm Hold pc numbers [] w free g = lost turn calm _ (pc + 1) w
+  operation_runs turn calm Hold pc numbers (r ∷ rs) w free g =
       let s : Operands = record { numbers = numbers; names = rs } in
-      named_runs p bound w.input w.trace (Leaves calm (pc + 1)) (Done (On (name r s)) (takes r w)) r (held_of (r ∷ rs) w) _ (holding calm r (pc + 1) s w free g)
-  operation_runs calm ops.Again pc numbers [] w free g = lost calm _ (pc + 1) w
-  operation_runs calm ops.Again pc numbers (r ∷ rs) w free g = quietly calm (pc + 1) (record { numbers = numbers; names = r ∷ r ∷ rs }) w g
-  operation_runs calm Forget pc numbers [] w free g = lost calm _ (pc + 1) w
-  operation_runs calm Forget pc numbers (r ∷ rs) w free g = quietly calm (pc + 1) (record { numbers = numbers; names = rs }) w g
-  operation_runs calm Alloc pc [] rs w free g = lost calm _ (pc + 1) w
-  operation_runs calm Alloc pc (v ∷ numbers) rs w free g = making calm (class_at v) pc v (record { numbers = numbers; names = rs }) w free g
-  operation_runs calm (GetField class index) pc numbers [] w free g = lost calm _ (pc + 1) w
-  operation_runs calm (GetField class index) pc numbers (r ∷ rs) w free g =
+      named_runs p bound w.input w.trace (Leaves turn calm (pc + 1)) (Done (On (name r s)) (takes r w)) r (held_of (r ∷ rs) w) _ (holding turn calm r (pc + 1) s w free g)
+  operation_runs turn calm ops.Again pc numbers [] w free g = lost turn calm _ (pc + 1) w
+  operation_runs turn calm ops.Again pc numbers (r ∷ rs) w free g = quietly turn calm (pc + 1) (record { numbers = numbers; names = r ∷ r ∷ rs }) w g
+  operation_runs turn calm Forget pc numbers [] w free g = lost turn calm _ (pc + 1) w
+  operation_runs turn calm Forget pc numbers (r ∷ rs) w free g = quietly turn calm (pc + 1) (record { numbers = numbers; names = rs }) w g
+  operation_runs turn calm Alloc pc [] rs w free g = lost turn calm _ (pc + 1) w
+  operation_runs turn calm Alloc pc (v ∷ numbers) rs w free g = making turn calm (class_at v) pc v (record { numbers = numbers; names = rs }) w free g
+  operation_runs turn calm (GetField class index) pc numbers [] w free g = lost turn calm _ (pc + 1) w
+  operation_runs turn calm (GetField class index) pc numbers (r ∷ rs) w free g =
       let s : Operands = record { numbers = numbers; names = rs } in
-      field_runs calm class r (pc + 1) (r ∷ rs) s w _ _ (λ o. quietly calm (pc + 1) (push (Rattle.std.proofs.Common.slice_index_or o.fields index (pos 0)) s) w g)
-  operation_runs calm (SetField class index) pc numbers [] w free g = lost calm _ (pc + 1) w
-  operation_runs calm (SetField class index) pc [] (r ∷ rs) w free g = lost calm _ (pc + 1) w
-  operation_runs calm (SetField class index) pc (v ∷ numbers) (r ∷ rs) w free g =
+      field_runs turn calm class r (pc + 1) (r ∷ rs) s w _ _ (λ o. quietly turn calm (pc + 1) (push (Rattle.std.proofs.Common.slice_index_or o.fields index (pos 0)) s) w g)
+  operation_runs turn calm (SetField class index) pc numbers [] w free g = lost turn calm _ (pc + 1) w
+  operation_runs turn calm (SetField class index) pc [] (r ∷ rs) w free g = lost turn calm _ (pc + 1) w
+  operation_runs turn calm (SetField class index) pc (v ∷ numbers) (r ∷ rs) w free g =
       let s : Operands = record { numbers = numbers; names = rs } in
-      field_runs calm class r (pc + 1) (r ∷ rs) s w _ _ (λ o. quietly calm (pc + 1) (push v s) (with_objects w (with_object w.objects r (with_fields o (slice_set o.fields index v)))) (record { locals = g.0.locals; strong = g.0.strong; itself = g.0.itself; waits = g.0.waits }, g.1))
-  operation_runs calm Differ pc numbers [] w free g = lost calm _ (pc + 1) w
-  operation_runs calm Differ pc numbers (y ∷ []) w free g = lost calm _ (pc + 1) w
-  operation_runs calm Differ pc numbers (y ∷ x ∷ rs) w free g =
+      field_runs turn calm class r (pc + 1) (r ∷ rs) s w _ _ (λ o. quietly turn calm (pc + 1) (push v s) (with_objects w (with_object w.objects r (with_fields o (slice_set o.fields index v)))) (record { locals = g.0.locals; strong = g.0.strong; itself = g.0.itself; waits = g.0.waits }, g.1))
+  operation_runs turn calm Differ pc numbers [] w free g = lost turn calm _ (pc + 1) w
+  operation_runs turn calm Differ pc numbers (y ∷ []) w free g = lost turn calm _ (pc + 1) w
+  operation_runs turn calm Differ pc numbers (y ∷ x ∷ rs) w free g =
       let s : Operands = record { numbers = difference x y ∷ numbers; names = rs } in
       let h = held_of (y ∷ x ∷ rs) w in
-      let end = Leaves calm (pc + 1) in
-      named_runs p bound w.input w.trace end (Done (On s) w) y h _ (named_runs p bound w.input w.trace end (Done (On s) w) x h _ (quietly calm (pc + 1) s w g))
-  operation_runs calm IsObject pc numbers [] w free g = lost calm _ (pc + 1) w
-  operation_runs calm IsObject pc numbers (x ∷ rs) w free g =
+      let end = Leaves turn calm (pc + 1) in
+      named_runs p bound w.input w.trace end (Done (On s) w) y h _ (named_runs p bound w.input w.trace end (Done (On s) w) x h _ (quietly turn calm (pc + 1) s w g))
+  operation_runs turn calm IsObject pc numbers [] w free g = lost turn calm _ (pc + 1) w
+  operation_runs turn calm IsObject pc numbers (x ∷ rs) w free g =
       let s : Operands = record { numbers = difference x 0 ∷ numbers; names = rs } in
-      named_runs p bound w.input w.trace (Leaves calm (pc + 1)) (Done (On s) w) x (held_of (x ∷ rs) w) _ (quietly calm (pc + 1) s w g)
-  operation_runs calm _ pc numbers rs w free g = lost calm _ (pc + 1) w
+      named_runs p bound w.input w.trace (Leaves turn calm (pc + 1)) (Done (On s) w) x (held_of (x ∷ rs) w) _ (quietly turn calm (pc + 1) s w g)
+  operation_runs turn calm _ pc numbers rs w free g = lost turn calm _ (pc + 1) w
 
   -- ---- variables that hold numbers
 
@@ -297,105 +300,105 @@ module _ (p : Program) (frames : List Frame) (bound : ℕ) (R : resolved.Program
   set_all s i v w depth size e = subst (λ n. sets s i v w (set_orders n depth (Local i))) size (subst (λ d. sets s i v w (set_orders (length w.frame.locals) d (Local i))) (sym e) (set_by s i v w (nat_lt i (length w.frame.locals)) refl))
 
   -- orders that pass
-  passing : (calm : Bool) (xs : List Order) (pc : ℕ) (s s1 : Operands) (w w1 : World) → s1.names ≡ s.names → Good calm w1 → HasAt p pc xs → Passes p frames bound s.names xs (s.numbers ++ vars w) w (s1.numbers ++ vars w1) w1 → Goes_on calm (standing pc s w) (pc + length xs) (Done (On s1) w1)
-  passing calm xs pc s s1 w w1 same g has h = leads_runs (moves p) bound (standing pc s w) (standing (pc + length xs) s1 w1) (Leaves calm (pc + length xs)) (Done (On s1) w1)
-      (subst (λ rs. Leads (moves p) (standing pc s w) (running frames rs (pc + length xs) (s1.numbers ++ vars w1) w1)) (sym same) (h pc has)) (here calm (pc + length xs) s1 w1 g)
+  passing : (turn : Turn) (calm : Bool) (xs : List Order) (pc : ℕ) (s s1 : Operands) (w w1 : World) → s1.names ≡ s.names → Good calm w1 → HasAt p pc xs → Passes p frames bound s.names xs (s.numbers ++ vars w) w (s1.numbers ++ vars w1) w1 → Goes_on turn calm (standing pc s w) (pc + length xs) (Done (On s1) w1)
+  passing turn calm xs pc s s1 w w1 same g has h = leads_runs (moves p) bound (standing pc s w) (standing (pc + length xs) s1 w1) (Leaves turn calm (pc + length xs)) (Done (On s1) w1)
+      (subst (λ rs. Leads (moves p) (standing pc s w) (running frames rs (pc + length xs) (s1.numbers ++ vars w1) w1)) (sym same) (h pc has)) (here turn calm (pc + length xs) s1 w1 g)
 
   -- ---- values
 
   -- the stack is the same, whether the values are taken for operands or not
-  with_values : (calm : Bool) (from : Reached State) (pc n : ℕ) (given numbers : List ℤ) (rs : List ℕ) (w : World) (stack : List ℤ) (go : List ℤ → Operands → Outcome Way) → stack ≡ onto given (numbers ++ vars w) → ((values rest : List ℤ) → stack ≡ onto values (rest ++ vars w) → length values ≡ n + length given → Goes_on calm from pc (go values (record { numbers = rest; names = rs }))) → Goes_on calm from pc (values_of n given numbers rs w go)
-  with_values calm from pc zero given numbers rs w stack go e h = h given numbers e (omega arith)
-  with_values calm from pc (suc n) given [] rs w stack go e h = lost calm from pc w
-  with_values calm from pc (suc n) given (v ∷ numbers) rs w stack go e h = with_values calm from pc n (v ∷ given) numbers rs w stack go e (λ values rest f size. h values rest f (omega (arith, size)))
+  with_values : (turn : Turn) (calm : Bool) (from : Reached State) (pc n : ℕ) (given numbers : List ℤ) (rs : List ℕ) (w : World) (stack : List ℤ) (go : List ℤ → Operands → Outcome Way) → stack ≡ onto given (numbers ++ vars w) → ((values rest : List ℤ) → stack ≡ onto values (rest ++ vars w) → length values ≡ n + length given → Goes_on turn calm from pc (go values (record { numbers = rest; names = rs }))) → Goes_on turn calm from pc (values_of n given numbers rs w go)
+  with_values turn calm from pc zero given numbers rs w stack go e h = h given numbers e (omega arith)
+  with_values turn calm from pc (suc n) given [] rs w stack go e h = lost turn calm from pc w
+  with_values turn calm from pc (suc n) given (v ∷ numbers) rs w stack go e h = with_values turn calm from pc n (v ∷ given) numbers rs w stack go e (λ values rest f size. h values rest f (omega (arith, size)))
 
-  on_values_runs : (calm : Bool) (pc q n : ℕ) (s : Operands) (w : World) (go : List ℤ → Operands → Outcome Way) → ((values : List ℤ) (rest : Operands) → length values ≡ n → rest.names ≡ s.names → Goes_on calm (running frames rest.names pc (onto values (rest.numbers ++ vars w)) w) q (go values rest)) → Goes_on calm (standing pc s w) q (values_of n [] s.numbers s.names w go)
-  on_values_runs calm pc q n s w go h = with_values calm (standing pc s w) q n [] s.numbers s.names w (s.numbers ++ vars w) go refl (λ values rest e size.
-      subst (λ l. Goes_on calm (running frames s.names pc l w) q (go values (record { numbers = rest; names = s.names }))) (sym e) (h values (record { numbers = rest; names = s.names }) (omega (arith, size)) refl))
+  on_values_runs : (turn : Turn) (calm : Bool) (pc q n : ℕ) (s : Operands) (w : World) (go : List ℤ → Operands → Outcome Way) → ((values : List ℤ) (rest : Operands) → length values ≡ n → rest.names ≡ s.names → Goes_on turn calm (running frames rest.names pc (onto values (rest.numbers ++ vars w)) w) q (go values rest)) → Goes_on turn calm (standing pc s w) q (values_of n [] s.numbers s.names w go)
+  on_values_runs turn calm pc q n s w go h = with_values turn calm (standing pc s w) q n [] s.numbers s.names w (s.numbers ++ vars w) go refl (λ values rest e size.
+      subst (λ l. Goes_on turn calm (running frames s.names pc l w) q (go values (record { numbers = rest; names = s.names }))) (sym e) (h values (record { numbers = rest; names = s.names }) (omega (arith, size)) refl))
 
-  format_runs : (calm : Bool) (pieces : List Piece) (pc : ℕ) (values : List ℤ) (s : Operands) (w : World) → Good calm w → HasAt p pc (print_orders pieces (length values)) → Goes_on calm (running frames s.names pc (onto values (s.numbers ++ vars w)) w) (pc + length (print_orders pieces (length values))) (Done (On (push (byte_count (formatted pieces values)) s)) (prints (formatted pieces values) w))
-  format_runs calm pieces pc values s w g has =
+  format_runs : (turn : Turn) (calm : Bool) (pieces : List Piece) (pc : ℕ) (values : List ℤ) (s : Operands) (w : World) → Good calm w → HasAt p pc (print_orders pieces (length values)) → Goes_on turn calm (running frames s.names pc (onto values (s.numbers ++ vars w)) w) (pc + length (print_orders pieces (length values))) (Done (On (push (byte_count (formatted pieces values)) s)) (prints (formatted pieces values) w))
+  format_runs turn calm pieces pc values s w g has =
       let w1 = prints (formatted pieces values) w in
       let s1 = push (byte_count (formatted pieces values)) s in
       let q = pc + length (print_orders pieces (length values)) in
-      leads_runs (moves p) bound (running frames s.names pc (onto values (s.numbers ++ vars w)) w) (standing q s1 w1) (Leaves calm q) (Done (On s1) w1) (print_passes p frames bound s.names pieces values (s.numbers ++ vars w) w pc has) (here calm q s1 w1 (record { locals = g.0.locals; strong = g.0.strong; itself = g.0.itself; waits = g.0.waits }, g.1))
+      leads_runs (moves p) bound (running frames s.names pc (onto values (s.numbers ++ vars w)) w) (standing q s1 w1) (Leaves turn calm q) (Done (On s1) w1) (print_passes p frames bound s.names pieces values (s.numbers ++ vars w) w pc has) (here turn calm q s1 w1 (record { locals = g.0.locals; strong = g.0.strong; itself = g.0.itself; waits = g.0.waits }, g.1))
 
-  calls_run : (calm : Bool) (f pc : ℕ) (values : List ℤ) (s : Operands) (w : World) → Good calm w → HasAt p pc (call_orders R f (length values)) → Goes_on calm (running frames s.names pc (onto values (s.numbers ++ vars w)) w) (pc + length (call_orders R f (length values))) (pushes s (D.call f 0 values w))
-  calls_run calm f pc values s w g has =
+  calls_run : (turn : Turn) (calm : Bool) (f pc : ℕ) (values : List ℤ) (s : Operands) (w : World) → Good calm w → HasAt p pc (call_orders R f (length values)) → Goes_on turn calm (running frames s.names pc (onto values (s.numbers ++ vars w)) w) (pc + length (call_orders R f (length values))) (pushes s (D.call f 0 values w))
+  calls_run turn calm f pc values s w g has =
       let stack = s.numbers ++ vars w in
       let fits = fit_orders (length values) (slots_of R f) in
       let call : List Order = Call (number_of R f) ∷ [] in
       let q = pc + length fits in
       let e : q + 1 ≡ pc + length (fits ++ call) = omega (arith, length-append fits call) in
       let from = running frames s.names q (onto (first_locals (slots_of R f) values) stack) w in
-      subst (λ n. Goes_on calm (running frames s.names pc (onto values stack) w) n (pushes s (D.call f 0 values w))) e
-      (leads_runs (moves p) bound (running frames s.names pc (onto values stack) w) from (Leaves calm (q + 1)) (pushes s (D.call f 0 values w)) (fit_passes p frames bound s.names (slots_of R f) values stack w pc (has_front p pc fits call has))
-      (returned calm q s w from (D.call f 0 values w) g (deep.invokes f values stack s.names w q (has_back p pc fits call has))))
+      subst (λ n. Goes_on turn calm (running frames s.names pc (onto values stack) w) n (pushes s (D.call f 0 values w))) e
+      (leads_runs (moves p) bound (running frames s.names pc (onto values stack) w) from (Leaves turn calm (q + 1)) (pushes s (D.call f 0 values w)) (fit_passes p frames bound s.names (slots_of R f) values stack w pc (has_front p pc fits call has))
+      (returned turn calm q s w from (D.call f 0 values w) g (deep.invokes f values stack s.names w q (has_back p pc fits call has))))
 
   -- ---- messages
 
-  to_class : (calm : Bool) (from : Option ℕ) (class : ℤ) (selector pc : ℕ) (values : List ℤ) (s : Operands) (w : World) (next : Next State) → Good calm w → next ≡ answers (at frames pc (onto values (class ∷ (s.numbers ++ vars w))) (held_of s.names w)) 0 (lookup p.classes from signs.Class selector (length values)) → Goes_on calm (next_of next w) (pc + 1) (pushes s (dispatched D (finds D from selector values) class values w))
-  to_class calm from class selector pc values s w next g e =
+  to_class : (turn : Turn) (calm : Bool) (from : Option ℕ) (class : ℤ) (selector pc : ℕ) (values : List ℤ) (s : Operands) (w : World) (next : Next State) → Good calm w → next ≡ answers (at frames pc (onto values (class ∷ (s.numbers ++ vars w))) (held_of s.names w)) 0 (lookup p.classes from signs.Class selector (length values)) → Goes_on turn calm (next_of next w) (pc + 1) (pushes s (dispatched D (finds D from selector values) class values w))
+  to_class turn calm from class selector pc values s w next g e =
       let found = lookup D.classes from signs.Class selector (length values) in
-      subst (λ n. Goes_on calm (next_of n w) (pc + 1) (pushes s (dispatched D found class values w))) (sym e)
-      (subst (λ o. Goes_on calm (next_of (answers (at frames pc (onto values (class ∷ (s.numbers ++ vars w))) (held_of s.names w)) 0 (lookup p.classes from signs.Class selector (length values))) w) (pc + 1) (pushes s o)) (dispatched_answers D found class values w)
-      (returned calm pc s w _ (answered D found 0 (class ∷ values) w) g (deep.tells signs.Class from selector (length values) 0 (class ∷ values) (s.numbers ++ vars w) s.names w pc refl)))
+      subst (λ n. Goes_on turn calm (next_of n w) (pc + 1) (pushes s (dispatched D found class values w))) (sym e)
+      (subst (λ o. Goes_on turn calm (next_of (answers (at frames pc (onto values (class ∷ (s.numbers ++ vars w))) (held_of s.names w)) 0 (lookup p.classes from signs.Class selector (length values))) w) (pc + 1) (pushes s o)) (dispatched_answers D found class values w)
+      (returned turn calm pc s w _ (answered D found 0 (class ∷ values) w) g (deep.tells signs.Class from selector (length values) 0 (class ∷ values) (s.numbers ++ vars w) s.names w pc refl)))
 
-  nil_runs : (calm : Bool) (pc : ℕ) (values : List ℤ) (before : List ℕ) (s : Operands) (w : World) → Good calm w → Goes_on calm (next_of (taken (length values) (onto values (s.numbers ++ vars w)) (λ rest. keeps (at frames pc (onto values (s.numbers ++ vars w)) (held_of before w)) (pos 0 ∷ rest) (with_names (held_of before w) s.names))) w) (pc + 1) (Done (On (push (pos 0) s)) w)
-  nil_runs calm pc values before s w g =
+  nil_runs : (turn : Turn) (calm : Bool) (pc : ℕ) (values : List ℤ) (before : List ℕ) (s : Operands) (w : World) → Good calm w → Goes_on turn calm (next_of (taken (length values) (onto values (s.numbers ++ vars w)) (λ rest. keeps (at frames pc (onto values (s.numbers ++ vars w)) (held_of before w)) (pos 0 ∷ rest) (with_names (held_of before w) s.names))) w) (pc + 1) (Done (On (push (pos 0) s)) w)
+  nil_runs turn calm pc values before s w g =
       let stack = onto values (s.numbers ++ vars w) in
       let go : List ℤ → Next State = λ rest. keeps (at frames pc stack (held_of before w)) (pos 0 ∷ rest) (with_names (held_of before w) s.names) in
-      subst (λ n. Goes_on calm (next_of n w) (pc + 1) (Done (On (push (pos 0) s)) w)) (sym (taken_peels (length values) stack (s.numbers ++ vars w) go (peels_onto values (s.numbers ++ vars w)))) (quietly calm (pc + 1) (push (pos 0) s) w g)
+      subst (λ n. Goes_on turn calm (next_of n w) (pc + 1) (Done (On (push (pos 0) s)) w)) (sym (taken_peels (length values) stack (s.numbers ++ vars w) go (peels_onto values (s.numbers ++ vars w)))) (quietly turn calm (pc + 1) (push (pos 0) s) w g)
 
   -- a message to an object that is found, by the class from which its method is looked up
-  sends_run : (calm : Bool) (class_of : Object → ℕ) (from : Option ℕ) (selector self' pc : ℕ) (values : List ℤ) (before : List ℕ) (s : Operands) (w : World) → Good calm w → ((k : ℕ) (o : Object) → self' ≡ suc k → object_at w.objects (suc k) ≡ Some o → from ≡ Some (class_of o)) → Goes_on calm (next_of (sends p (at frames pc (onto values (s.numbers ++ vars w)) (held_of before w)) class_of self' selector (length values) s.names) w) (pc + 1) (pushes s (sent_from D from self' selector values w))
-  sends_run calm class_of from selector zero pc values before s w g same = nil_runs calm pc values before s w g
-  sends_run calm class_of from selector (suc k) pc values before s w g same =
+  sends_run : (turn : Turn) (calm : Bool) (class_of : Object → ℕ) (from : Option ℕ) (selector self' pc : ℕ) (values : List ℤ) (before : List ℕ) (s : Operands) (w : World) → Good calm w → ((k : ℕ) (o : Object) → self' ≡ suc k → object_at w.objects (suc k) ≡ Some o → from ≡ Some (class_of o)) → Goes_on turn calm (next_of (sends p (at frames pc (onto values (s.numbers ++ vars w)) (held_of before w)) class_of self' selector (length values) s.names) w) (pc + 1) (pushes s (sent_from D from self' selector values w))
+  sends_run turn calm class_of from selector zero pc values before s w g same = nil_runs turn calm pc values before s w g
+  sends_run turn calm class_of from selector (suc k) pc values before s w g same =
       let stack = onto values (s.numbers ++ vars w) in
       let found : Option ℕ → Option ℕ = λ f. lookup D.classes f signs.Instance selector (length values) in
       let meant : Option ℕ → Outcome Way = λ f. pushes s (runs_found D (found f) (suc k) values w) in
       let next : Object → Next State = λ o. answers (at frames pc stack (with_names (held_of before w) s.names)) (suc k) (lookup p.classes (Some (class_of o)) signs.Instance selector (length values)) in
-      object_runs p bound w.input w.trace (Leaves calm (pc + 1)) (meant from) (object_at w.objects (suc k)) next (λ o there.
-      subst (λ f. Goes_on calm (next_of (next o) w) (pc + 1) (meant f)) (sym (same k o refl there))
-      (subst (λ o1. Goes_on calm (next_of (next o) w) (pc + 1) (pushes s o1)) (found_answers D (found (Some (class_of o))) (suc k) values w)
-      (returned calm pc s w (next_of (next o) w) (answered D (found (Some (class_of o))) (suc k) values w) g (deep.tells signs.Instance (Some (class_of o)) selector (length values) (suc k) values (s.numbers ++ vars w) s.names w pc refl))))
+      object_runs p bound w.input w.trace (Leaves turn calm (pc + 1)) (meant from) (object_at w.objects (suc k)) next (λ o there.
+      subst (λ f. Goes_on turn calm (next_of (next o) w) (pc + 1) (meant f)) (sym (same k o refl there))
+      (subst (λ o1. Goes_on turn calm (next_of (next o) w) (pc + 1) (pushes s o1)) (found_answers D (found (Some (class_of o))) (suc k) values w)
+      (returned turn calm pc s w (next_of (next o) w) (answered D (found (Some (class_of o))) (suc k) values w) g (deep.tells signs.Instance (Some (class_of o)) selector (length values) (suc k) values (s.numbers ++ vars w) s.names w pc refl))))
 
-  tells_run : (calm : Bool) (message : Message) (pc : ℕ) (values : List ℤ) (numbers : List ℤ) (rs : List ℕ) (w : World) → Good calm w → Goes_on calm (next_of (does p (message_order message (length values)) (at frames pc (onto values (numbers ++ vars w)) (held_of rs w))) w) (pc + 1) (told D message values (record { numbers = numbers; names = rs }) w)
-  tells_run calm (ToClass selector) pc values [] rs w g = lost calm _ (pc + 1) w
-  tells_run calm (ToClass selector) pc values (class ∷ numbers) rs w g =
+  tells_run : (turn : Turn) (calm : Bool) (message : Message) (pc : ℕ) (values : List ℤ) (numbers : List ℤ) (rs : List ℕ) (w : World) → Good calm w → Goes_on turn calm (next_of (does p (message_order message (length values)) (at frames pc (onto values (numbers ++ vars w)) (held_of rs w))) w) (pc + 1) (told D message values (record { numbers = numbers; names = rs }) w)
+  tells_run turn calm (ToClass selector) pc values [] rs w g = lost turn calm _ (pc + 1) w
+  tells_run turn calm (ToClass selector) pc values (class ∷ numbers) rs w g =
       let st = at frames pc (onto values (class ∷ (numbers ++ vars w))) (held_of rs w) in
-      to_class calm (class_at class) class selector pc values (record { numbers = numbers; names = rs }) w _ g (ap (λ o. on_found o (λ v. answers st 0 (lookup p.classes (class_at v) signs.Class selector (length values)))) (get_onto values (numbers ++ vars w) class))
-  tells_run calm (ToSuperClass from selector) pc values [] rs w g = lost calm _ (pc + 1) w
-  tells_run calm (ToSuperClass from selector) pc values (class ∷ numbers) rs w g = to_class calm (Some from) class selector pc values (record { numbers = numbers; names = rs }) w _ g refl
-  tells_run calm (ToObject selector) pc values numbers [] w g = lost calm _ (pc + 1) w
-  tells_run calm (ToObject selector) pc values numbers (r ∷ rs) w g = sends_run calm (λ o. o.class) (class_in (object_at w.objects r)) selector r pc values (r ∷ rs) (record { numbers = numbers; names = rs }) w g (λ k o e found. ap (λ i. class_in (object_at w.objects i)) e ∙ ap class_in found)
-  tells_run calm (ToSuper from selector) pc values numbers [] w g = lost calm _ (pc + 1) w
-  tells_run calm (ToSuper from selector) pc values numbers (r ∷ rs) w g = sends_run calm (λ o. from) (Some from) selector r pc values (r ∷ rs) (record { numbers = numbers; names = rs }) w g (λ k o e found. refl)
+      to_class turn calm (class_at class) class selector pc values (record { numbers = numbers; names = rs }) w _ g (ap (λ o. on_found o (λ v. answers st 0 (lookup p.classes (class_at v) signs.Class selector (length values)))) (get_onto values (numbers ++ vars w) class))
+  tells_run turn calm (ToSuperClass from selector) pc values [] rs w g = lost turn calm _ (pc + 1) w
+  tells_run turn calm (ToSuperClass from selector) pc values (class ∷ numbers) rs w g = to_class turn calm (Some from) class selector pc values (record { numbers = numbers; names = rs }) w _ g refl
+  tells_run turn calm (ToObject selector) pc values numbers [] w g = lost turn calm _ (pc + 1) w
+  tells_run turn calm (ToObject selector) pc values numbers (r ∷ rs) w g = sends_run turn calm (λ o. o.class) (class_in (object_at w.objects r)) selector r pc values (r ∷ rs) (record { numbers = numbers; names = rs }) w g (λ k o e found. ap (λ i. class_in (object_at w.objects i)) e ∙ ap class_in found)
+  tells_run turn calm (ToSuper from selector) pc values numbers [] w g = lost turn calm _ (pc + 1) w
+  tells_run turn calm (ToSuper from selector) pc values numbers (r ∷ rs) w g = sends_run turn calm (λ o. from) (Some from) selector r pc values (r ∷ rs) (record { numbers = numbers; names = rs }) w g (λ k o e found. refl)
 
   -- ---- variables that name objects
 
   abbrev reading_orders : Bool → ℕ → List Order
   reading_orders b i = if b then Plain (ReadRef i) ∷ [] else Plain Nil ∷ Plain Hold ∷ []
 
-  read_by : (b : Bool) (i pc : ℕ) (s : Operands) (w : World) → nat_lt i (length w.frame.strong) ≡ b → Good false w → HasAt p pc (reading_orders b i) → Goes_on false (standing pc s w) (pc + length (reading_orders b i)) (Done (On (name (name_at w.frame.strong i) s)) (takes (name_at w.frame.strong i) w))
-  read_by true i pc s w e g has =
+  read_by : (turn : Turn) (b : Bool) (i pc : ℕ) (s : Operands) (w : World) → nat_lt i (length w.frame.strong) ≡ b → Good false w → HasAt p pc (reading_orders b i) → Goes_on turn false (standing pc s w) (pc + length (reading_orders b i)) (Done (On (name (name_at w.frame.strong i) s)) (takes (name_at w.frame.strong i) w))
+  read_by turn true i pc s w e g has =
       let r = name_at w.frame.strong i in
       let found = get_front w.frame.strong i (ltb-true i (length w.frame.strong) e) in
-      let end = Leaves false (pc + 1) in
+      let end = Leaves turn false (pc + 1) in
       let o = Done (On (name r s)) (takes r w) in
       let stack = s.numbers ++ vars w in
       one_runs p frames bound s.names (Plain (ReadRef i)) pc stack w end o has
       (subst (λ f. Runs (moves p) bound (next_of (on_found f (λ q. Rattle.arc_spec.specs.Holding.holds q (named q (held_of s.names w)) (keeps (state pc s w) stack))) w) end o) (sym found)
-      (named_runs p bound w.input w.trace end o r (named r (held_of s.names w)) _ (holding false r (pc + 1) s w (λ x. x) g)))
-  read_by false i pc s w e g has =
+      (named_runs p bound w.input w.trace end o r (named r (held_of s.names w)) _ (holding turn false r (pc + 1) s w (λ x. x) g)))
+  read_by turn false i pc s w e g has =
       let none : name_at w.frame.strong i ≡ 0 = get_or_past w.frame.strong i 0 (ltb-false i (length w.frame.strong) e) in
       let e2 : pc + 1 + 1 ≡ pc + 2 = omega arith in
       let o = Done (On (name 0 s)) (takes 0 w) in
-      subst (λ r. Goes_on false (standing pc s w) (pc + 2) (Done (On (name r s)) (takes r w))) (sym none)
-      (one_runs p frames bound s.names (Plain Nil) pc (s.numbers ++ vars w) w (Leaves false (pc + 2)) o (has.0, tt)
-      (quiet_runs p frames bound (0 ∷ s.names) (pc + 1) (s.numbers ++ vars w) w (Leaves false (pc + 2)) o
-      (one_runs p frames bound (0 ∷ s.names) (Plain Hold) (pc + 1) (s.numbers ++ vars w) w (Leaves false (pc + 2)) o has.1
-      (subst (λ n. Goes_on false (follow (Goes (state n (name 0 s) (takes 0 w)) []) w.input w.trace) (pc + 2) o) (sym e2) (holding false 0 (pc + 2) s w (λ x. x) g)))))
+      subst (λ r. Goes_on turn false (standing pc s w) (pc + 2) (Done (On (name r s)) (takes r w))) (sym none)
+      (one_runs p frames bound s.names (Plain Nil) pc (s.numbers ++ vars w) w (Leaves turn false (pc + 2)) o (has.0, tt)
+      (quiet_runs p frames bound (0 ∷ s.names) (pc + 1) (s.numbers ++ vars w) w (Leaves turn false (pc + 2)) o
+      (one_runs p frames bound (0 ∷ s.names) (Plain Hold) (pc + 1) (s.numbers ++ vars w) w (Leaves turn false (pc + 2)) o has.1
+      (subst (λ n. Goes_on turn false (follow (Goes (state n (name 0 s) (takes 0 w)) []) w.input w.trace) (pc + 2) o) (sym e2) (holding turn false 0 (pc + 2) s w (λ x. x) g)))))
 
   abbrev storing_orders : Bool → ℕ → List Order
   storing_orders b i = if b then StoreStrong i ∷ [] else []
@@ -418,12 +421,12 @@ module _ (p : Program) (frames : List Frame) (bound : ℕ) (R : resolved.Program
   stored_good : (calm : Bool) (i r : ℕ) (w : World) → Good calm w → Good calm (stores i r w)
   stored_good calm i r w g = (record { locals = g.0.locals; strong = length-set w.frame.strong i r ∙ g.0.strong; itself = g.0.itself; waits = g.0.waits }, g.1)
 
-  assign_runs : (calm : Bool) (i pc : ℕ) (numbers : List ℤ) (rs : List ℕ) (w : World) → Good calm w → HasAt p pc (store_orders names i) → Goes_on calm (standing pc (record { numbers = numbers; names = rs }) w) (pc + length (store_orders names i)) (block D bound false (Assign i) (record { numbers = numbers; names = rs }) w)
-  assign_runs calm i pc numbers [] w g has = lost calm _ (pc + length (store_orders names i)) w
-  assign_runs calm i pc numbers (r ∷ rs) w g has =
+  assign_runs : (turn : Turn) (calm : Bool) (i pc : ℕ) (numbers : List ℤ) (rs : List ℕ) (w : World) → Good calm w → HasAt p pc (store_orders names i) → Goes_on turn calm (standing pc (record { numbers = numbers; names = rs }) w) (pc + length (store_orders names i)) (block D bound false (Assign i) (record { numbers = numbers; names = rs }) w)
+  assign_runs turn calm i pc numbers [] w g has = lost turn calm _ (pc + length (store_orders names i)) w
+  assign_runs turn calm i pc numbers (r ∷ rs) w g has =
       let s : Operands = record { numbers = numbers; names = rs } in
       let runs = subst (λ n. HasAt p pc (store_orders n i) → Runs (moves p) bound (running frames (r ∷ rs) pc (numbers ++ vars w) w) (Stays frames (r ∷ rs) (numbers ++ vars w) (pc + length (store_orders n i)) (stores i r w)) (assigned D i r w)) g.0.strong (assign_by calm (nat_lt i (length w.frame.strong)) i r pc s w refl) has in
-      stayed calm (pc + length (store_orders names i)) (pc + length (store_orders names i)) (name r s) w (stores i r w) (standing pc (name r s) w) (assigned D i r w) refl (stored_good calm i r w g) runs refl
+      stayed turn calm (pc + length (store_orders names i)) (pc + length (store_orders names i)) (name r s) w (stores i r w) (standing pc (name r s) w) (assigned D i r w) refl (stored_good calm i r w g) runs refl
 
   empties_length : (first count : ℕ) (strong : List ℕ) → length (empties first count strong) ≡ length strong
   empties_length first zero strong = refl
@@ -432,10 +435,10 @@ module _ (p : Program) (frames : List Frame) (bound : ℕ) (R : resolved.Program
   pub emptied_good : (calm : Bool) (first count : ℕ) (w : World) → Good calm w → Good calm (emptied first count w)
   emptied_good calm first count w g = (record { locals = g.0.locals; strong = empties_length first count w.frame.strong ∙ g.0.strong; itself = g.0.itself; waits = g.0.waits }, g.1)
 
-  clear_runs : (calm : Bool) (first count pc : ℕ) (s : Operands) (w : World) → Good calm w → HasAt p pc (all_empty_orders names first count) → Goes_on calm (standing pc s w) (pc + length (all_empty_orders names first count)) (passes_by s (variables_dropped D first count w))
-  clear_runs calm first count pc s w g has =
+  clear_runs : (turn : Turn) (calm : Bool) (first count pc : ℕ) (s : Operands) (w : World) → Good calm w → HasAt p pc (all_empty_orders names first count) → Goes_on turn calm (standing pc s w) (pc + length (all_empty_orders names first count)) (passes_by s (variables_dropped D first count w))
+  clear_runs turn calm first count pc s w g has =
       let q = pc + length (all_empty_orders names first count) in
-      stayed calm q q s w (emptied first count w) (standing pc s w) (variables_dropped D first count w) refl (emptied_good calm first count w g) (empties_run p frames bound s.names D deep.ends names first count (s.numbers ++ vars w) w pc g.0.strong has) refl
+      stayed turn calm q q s w (emptied first count w) (standing pc s w) (variables_dropped D first count w) refl (emptied_good calm first count w g) (empties_run p frames bound s.names D deep.ends names first count (s.numbers ++ vars w) w pc g.0.strong has) refl
 
   -- ---- control
 
@@ -445,82 +448,140 @@ module _ (p : Program) (frames : List Frame) (bound : ℕ) (R : resolved.Program
   moving : (pc : ℕ) (t : Target) (s : Operands) (w : World) → HasAt p pc (Jump t ∷ []) → Leads (moves p) (standing pc s w) (standing (lands pc t) s w)
   moving pc t s w has = leads_trans (moves p) (standing pc s w) (follow (Goes (state (lands pc t) s w) []) w.input w.trace) (standing (lands pc t) s w) (jump_step pc t s w has) (quiet p frames bound s.names (lands pc t) (s.numbers ++ vars w) w)
 
-  by_zero : (calm : Bool) (n : ℕ) (b : Bool) (one two q : ℕ) (s : Operands) (w : World) (x y : Outcome Way) → Runs (moves p) n (standing one s w) (Leaves calm q) x → Runs (moves p) n (standing two s w) (Leaves calm q) y → Runs (moves p) n (next_of (chosen b (Goes (state one s w) []) (Goes (state two s w) [])) w) (Leaves calm q) (chosen b x y)
-  by_zero calm n false one two q s w x y h k = leads_runs (moves p) n _ (standing one s w) (Leaves calm q) x (quiet p frames bound s.names one (s.numbers ++ vars w) w) h
-  by_zero calm n true one two q s w x y h k = leads_runs (moves p) n _ (standing two s w) (Leaves calm q) y (quiet p frames bound s.names two (s.numbers ++ vars w) w) k
+  by_zero : (turn : Turn) (calm : Bool) (n : ℕ) (b : Bool) (one two q : ℕ) (s : Operands) (w : World) (x y : Outcome Way) → Runs (moves p) n (standing one s w) (Leaves turn calm q) x → Runs (moves p) n (standing two s w) (Leaves turn calm q) y → Runs (moves p) n (next_of (chosen b (Goes (state one s w) []) (Goes (state two s w) [])) w) (Leaves turn calm q) (chosen b x y)
+  by_zero turn calm n false one two q s w x y h k = leads_runs (moves p) n _ (standing one s w) (Leaves turn calm q) x (quiet p frames bound s.names one (s.numbers ++ vars w) w) h
+  by_zero turn calm n true one two q s w x y h k = leads_runs (moves p) n _ (standing two s w) (Leaves turn calm q) y (quiet p frames bound s.names two (s.numbers ++ vars w) w) k
 
   -- by the number on top a run goes on behind the test, or elsewhere
-  branching : (calm : Bool) (n pc to q : ℕ) (t : Target) (numbers : List ℤ) (rs : List ℕ) (w : World) (x y : ℤ → Operands → Outcome Way) → to ≡ lands pc t → HasAt p pc (JumpZero t ∷ []) → ((v : ℤ) (s : Operands) → Runs (moves p) n (standing (pc + 1) s w) (Leaves calm q) (x v s)) → ((v : ℤ) (s : Operands) → Runs (moves p) n (standing to s w) (Leaves calm q) (y v s)) → Runs (moves p) n (running frames rs pc (numbers ++ vars w) w) (Leaves calm q) (top_of numbers rs w (λ v s. chosen (is_zero v) (x v s) (y v s)))
-  branching calm n pc to q t [] rs w x y e has h k = ends_here (moves p) n _ (Leaves calm q) Lost w tt
-  branching calm n pc to q t (v ∷ numbers) rs w x y e has h k =
+  branching : (turn : Turn) (calm : Bool) (n pc to q : ℕ) (t : Target) (numbers : List ℤ) (rs : List ℕ) (w : World) (x y : ℤ → Operands → Outcome Way) → to ≡ lands pc t → HasAt p pc (JumpZero t ∷ []) → ((v : ℤ) (s : Operands) → Runs (moves p) n (standing (pc + 1) s w) (Leaves turn calm q) (x v s)) → ((v : ℤ) (s : Operands) → Runs (moves p) n (standing to s w) (Leaves turn calm q) (y v s)) → Runs (moves p) n (running frames rs pc (numbers ++ vars w) w) (Leaves turn calm q) (top_of numbers rs w (λ v s. chosen (is_zero v) (x v s) (y v s)))
+  branching turn calm n pc to q t [] rs w x y e has h k = ends_here (moves p) n _ (Leaves turn calm q) Lost w tt
+  branching turn calm n pc to q t (v ∷ numbers) rs w x y e has h k =
       let s : Operands = record { numbers = numbers; names = rs } in
       let st = state pc (push v s) w in
       let next = recount (chosen (is_zero v) (Goes (state (pc + 1) s w) []) (Goes (state (lands pc t) s w) [])) in
-      leads_runs (moves p) n (standing pc (push v s) w) (follow next w.input w.trace) (Leaves calm q) (chosen (is_zero v) (x v s) (y v s)) (leads_step (moves p) st w.input w.trace next (ap recount (has.0 frames (v ∷ (numbers ++ vars w)) (held_of rs w))))
-      (by_zero calm n (is_zero v) (pc + 1) (lands pc t) q s w (x v s) (y v s) (h v s) (subst (λ m. Runs (moves p) n (standing m s w) (Leaves calm q) (y v s)) e (k v s)))
+      leads_runs (moves p) n (standing pc (push v s) w) (follow next w.input w.trace) (Leaves turn calm q) (chosen (is_zero v) (x v s) (y v s)) (leads_step (moves p) st w.input w.trace next (ap recount (has.0 frames (v ∷ (numbers ++ vars w)) (held_of rs w))))
+      (by_zero turn calm n (is_zero v) (pc + 1) (lands pc t) q s w (x v s) (y v s) (h v s) (subst (λ m. Runs (moves p) n (standing m s w) (Leaves turn calm q) (y v s)) e (k v s)))
 
   -- one part behind another
-  then_way : (calm : Bool) (n pc q : ℕ) (from : Reached State) (x : Outcome Way) (k : Operands → World → Outcome Way) → Runs (moves p) n from (Leaves calm pc) x → ((s : Operands) (w : World) → Good calm w → Runs (moves p) n (standing pc s w) (Leaves calm q) (k s w)) → Runs (moves p) n from (Leaves calm q) (and_then x k)
-  then_way calm n pc q from x k h next = then_runs (moves p) n from (Leaves calm pc) (Leaves calm q) x (on_way k) h by
+  then_way : (turn : Turn) (calm : Bool) (n pc q : ℕ) (from : Reached State) (x : Outcome Way) (k : Operands → World → Outcome Way) → Runs (moves p) n from (Leaves turn calm pc) x → ((s : Operands) (w : World) → Good calm w → Runs (moves p) n (standing pc s w) (Leaves turn calm q) (k s w)) → Runs (moves p) n from (Leaves turn calm q) (and_then x k)
+  then_way turn calm n pc q from x k h next = then_runs (moves p) n from (Leaves turn calm pc) (Leaves turn calm q) x (on_way k) h by
     where
-      by : (way : Way) (w : World) (to : Reached State) → Leaves calm pc way w to → Runs (moves p) n to (Leaves calm q) (on_way k way w)
-      by (On s) w to m = subst (λ r. Runs (moves p) n r (Leaves calm q) (k s w)) (sym m.0) (next s w m.1)
-      by (Out exit s) w to m = ends_here (moves p) n to (Leaves calm q) (Out exit s) w m
-      by Lost w to m = ends_here (moves p) n to (Leaves calm q) Lost w tt
+      by : (way : Way) (w : World) (to : Reached State) → Leaves turn calm pc way w to → Runs (moves p) n to (Leaves turn calm q) (on_way k way w)
+      by (On s) w to m = subst (λ r. Runs (moves p) n r (Leaves turn calm q) (k s w)) (sym m.0) (next s w m.1)
+      by (Out exit s) w to m = ends_here (moves p) n to (Leaves turn calm q) (Out exit s) w m
+      by (Quits s) w to m = ends_here (moves p) n to (Leaves turn calm q) (Quits s) w m
+      by (Turns s) w to m = ends_here (moves p) n to (Leaves turn calm q) (Turns s) w m
+      by Lost w to m = ends_here (moves p) n to (Leaves turn calm q) Lost w tt
 
-  -- a full-expression, whose parts leave no way but behind them
-  full_way : (calm : Bool) (from : Reached State) (pc q : ℕ) (x : Outcome Way) (k : Operands → World → Outcome Way) → Goes_on calm from pc x → ((s : Operands) (w : World) → Good calm w → Goes_on true (standing pc s w) q (k s w)) → Goes_on true from q (and_then x k)
-  full_way calm from pc q x k h next = then_runs (moves p) bound from (Leaves calm pc) (Leaves true q) x (on_way k) h by
+  -- a full-expression, of which nothing is said where its parts leave another way but behind them
+  full_way : (inner turn : Turn) (calm : Bool) (from : Reached State) (pc q : ℕ) (x : Outcome Way) (k : Operands → World → Outcome Way) → Goes_on inner calm from pc x → ((s : Operands) (w : World) → Good calm w → Goes_on turn true (standing pc s w) q (k s w)) → Goes_on turn true from q (then_do x (only_on k))
+  full_way inner turn calm from pc q x k h next = then_runs (moves p) bound from (Leaves inner calm pc) (Leaves turn true q) x (only_on k) h by
     where
-      by : (way : Way) (w : World) (to : Reached State) → Leaves calm pc way w to → Goes_on true to q (on_way k way w)
-      by (On s) w to m = subst (λ r. Goes_on true r q (k s w)) (sym m.0) (next s w m.1)
-      by (Out exit s) w to m = ends_here (moves p) bound to (Leaves true q) (Out exit s) w m
-      by Lost w to m = ends_here (moves p) bound to (Leaves true q) Lost w tt
+      by : (way : Way) (w : World) (to : Reached State) → Leaves inner calm pc way w to → Goes_on turn true to q (only_on k way w)
+      by (On s) w to m = subst (λ r. Goes_on turn true r q (k s w)) (sym m.0) (next s w m.1)
+      by (Out exit s) w to m = ends_here (moves p) bound to (Leaves turn true q) Lost w tt
+      by (Quits s) w to m = ends_here (moves p) bound to (Leaves turn true q) Lost w tt
+      by (Turns s) w to m = ends_here (moves p) bound to (Leaves turn true q) Lost w tt
+      by Lost w to m = ends_here (moves p) bound to (Leaves turn true q) Lost w tt
 
   -- the end of a block at another place
-  ends_at : (calm : Bool) (pc q : ℕ) (from : Reached State) (o : Outcome Way) → pc ≡ q → Goes_on calm from pc o → Goes_on calm from q o
-  ends_at calm pc q from o e h = subst (λ n. Goes_on calm from n o) e h
+  ends_at : (turn : Turn) (calm : Bool) (pc q : ℕ) (from : Reached State) (o : Outcome Way) → pc ≡ q → Goes_on turn calm from pc o → Goes_on turn calm from q o
+  ends_at turn calm pc q from o e h = subst (λ n. Goes_on turn calm from n o) e h
 
   -- a jump behind a block
-  jumps_on : (calm : Bool) (pc q : ℕ) (t : Target) (from : Reached State) (o : Outcome Way) → HasAt p pc (Jump t ∷ []) → lands pc t ≡ q → Goes_on calm from pc o → Goes_on calm from q o
-  jumps_on calm pc q t from o has e h = better_runs_by h
+  jumps_on : (turn : Turn) (calm : Bool) (pc q : ℕ) (t : Target) (from : Reached State) (o : Outcome Way) → HasAt p pc (Jump t ∷ []) → lands pc t ≡ q → Goes_on turn calm from pc o → Goes_on turn calm from q o
+  jumps_on turn calm pc q t from o has e h = better_runs_by h
     where
-      by : (way : Way) (w : World) (to : Reached State) → Leaves calm pc way w to → Goes_on calm to q (Done way w)
-      by (On s) w to m = subst (λ r. Goes_on calm r q (Done (On s) w)) (sym m.0) (leads_runs (moves p) bound (standing pc s w) (standing (lands pc t) s w) (Leaves calm q) (Done (On s) w) (moving pc t s w has) (ends_here (moves p) bound (standing (lands pc t) s w) (Leaves calm q) (On s) w (ap (λ n. standing n s w) e, m.1)))
-      by (Out exit s) w to m = ends_here (moves p) bound to (Leaves calm q) (Out exit s) w m
-      by Lost w to m = ends_here (moves p) bound to (Leaves calm q) Lost w tt
+      by : (way : Way) (w : World) (to : Reached State) → Leaves turn calm pc way w to → Goes_on turn calm to q (Done way w)
+      by (On s) w to m = subst (λ r. Goes_on turn calm r q (Done (On s) w)) (sym m.0) (leads_runs (moves p) bound (standing pc s w) (standing (lands pc t) s w) (Leaves turn calm q) (Done (On s) w) (moving pc t s w has) (ends_here (moves p) bound (standing (lands pc t) s w) (Leaves turn calm q) (On s) w (ap (λ n. standing n s w) e, m.1)))
+      by (Out exit s) w to m = ends_here (moves p) bound to (Leaves turn calm q) (Out exit s) w m
+      by (Quits s) w to m = ends_here (moves p) bound to (Leaves turn calm q) (Quits s) w m
+      by (Turns s) w to m = ends_here (moves p) bound to (Leaves turn calm q) (Turns s) w m
+      by Lost w to m = ends_here (moves p) bound to (Leaves turn calm q) Lost w tt
 
       done_again : (o : Outcome Way) → then_do o (λ way w. Done way w) ≡ o
       done_again (Done way w) = refl
       done_again (Faulted f w) = refl
       done_again (Cut w) = refl
 
-      better_runs_by : Goes_on calm from pc o → Goes_on calm from q o
-      better_runs_by h = subst (λ x. Goes_on calm from q x) (done_again o) (then_runs (moves p) bound from (Leaves calm pc) (Leaves calm q) o (λ way w. Done way w) h by)
+      better_runs_by : Goes_on turn calm from pc o → Goes_on turn calm from q o
+      better_runs_by h = subst (λ x. Goes_on turn calm from q x) (done_again o) (then_runs (moves p) bound from (Leaves turn calm pc) (Leaves turn calm q) o (λ way w. Done way w) h by)
 
-  module _ (calm : Bool) (pc q end : ℕ) (out back : Target) (test body : Operands → World → Outcome Way)
-      (jumps : HasAt p q (JumpZero out ∷ [])) (leads : end ≡ lands q out)
-      (q1 : ℕ) (jumps_back : HasAt p q1 (Jump back ∷ [])) (leads_back : lands q1 back ≡ pc)
-      (tests : (s : Operands) (w : World) → Good calm w → Goes_on calm (standing pc s w) q (test s w))
-      (runs : (s : Operands) (w : World) → Good calm w → Goes_on calm (standing (q + 1) s w) q1 (body s w)) where
-    loop_runs : (n : ℕ) → n ≤ bound → (s : Operands) (w : World) → Good calm w → Runs (moves p) n (standing pc s w) (Leaves calm end) (block_turns n test body s w)
-    loop_runs zero le s w g = then_way calm 0 q end (standing pc s w) (test s w) _ (fewer_runs (moves p) 0 bound (standing pc s w) (Leaves calm q) (test s w) le (tests s w g)) (λ s1 w1 g1.
-        branching calm 0 q end end out s1.numbers s1.names w1 (λ v rest. Cut w1) (λ v rest. Done (On rest) w1) leads jumps (λ v rest. inr (0, state (q + 1) rest w1, omega arith, refl)) (λ v rest. ends_here (moves p) 0 (standing end rest w1) (Leaves calm end) (On rest) w1 (refl, g1)))
-    loop_runs (suc n) le s w g = then_way calm (suc n) q end (standing pc s w) (test s w) _ (fewer_runs (moves p) (suc n) bound (standing pc s w) (Leaves calm q) (test s w) le (tests s w g)) (λ s1 w1 g1.
-        branching calm (suc n) q end end out s1.numbers s1.names w1 (λ v rest. and_then (body rest w1) (block_turns n test body)) (λ v rest. Done (On rest) w1) leads jumps
-        (λ v rest. then_way calm (suc n) q1 end (standing (q + 1) rest w1) (body rest w1) (block_turns n test body) (fewer_runs (moves p) (suc n) bound (standing (q + 1) rest w1) (Leaves calm q1) (body rest w1) le (runs rest w1 g1)) (λ s2 w2 g2.
-        let next = Goes (state (lands q1 back) s2 w2) [] in
-        let there = follow next w2.input w2.trace in
-        let rest2 = block_turns n test body s2 w2 in
-        later_runs (moves p) n (standing q1 s2 w2) there (Leaves calm end) rest2 (jump_step q1 back s2 w2 jumps_back) (let one : (jump_step q1 back s2 w2 jumps_back).steps ≡ 1 = refl in omega (arith, one))
-        (leads_runs (moves p) n there (standing (lands q1 back) s2 w2) (Leaves calm end) rest2 (quiet p frames bound s2.names (lands q1 back) (s2.numbers ++ vars w2) w2)
-        (subst (λ m. Runs (moves p) n (standing m s2 w2) (Leaves calm end) rest2) (sym leads_back) (loop_runs n (omega (arith, le)) s2 w2 g2)))))
-        (λ v rest. ends_here (moves p) (suc n) (standing end rest w1) (Leaves calm end) (On rest) w1 (refl, g1)))
+  -- ---- loops
+
+  -- what a step back into a loop, or its test, does: by the number on top a run goes on behind the test, one step later, or elsewhere
+  testing : (turn : Turn) (calm : Bool) (n pc to q : ℕ) (t : Target) (numbers : List ℤ) (rs : List ℕ) (w : World) (x y : ℤ → Operands → Outcome Way) → to ≡ lands pc t → HasAt p pc (JumpZero t ∷ []) → ((v : ℤ) (s : Operands) → Runs (moves p) n (standing (pc + 1) s w) (Leaves turn calm q) (x v s)) → ((v : ℤ) (s : Operands) → Runs (moves p) n (standing to s w) (Leaves turn calm q) (y v s)) → Runs (moves p) (suc n) (running frames rs pc (numbers ++ vars w) w) (Leaves turn calm q) (top_of numbers rs w (λ v s. chosen (is_zero v) (x v s) (y v s)))
+  testing turn calm n pc to q t [] rs w x y e has h k = ends_here (moves p) (suc n) _ (Leaves turn calm q) Lost w tt
+  testing turn calm n pc to q t (v ∷ numbers) rs w x y e has h k =
+      let s : Operands = record { numbers = numbers; names = rs } in
+      let st = state pc (push v s) w in
+      let next = recount (chosen (is_zero v) (Goes (state (pc + 1) s w) []) (Goes (state (lands pc t) s w) [])) in
+      let one = leads_step (moves p) st w.input w.trace next (ap recount (has.0 frames (v ∷ (numbers ++ vars w)) (held_of rs w))) in
+      later_runs (moves p) n (standing pc (push v s) w) (follow next w.input w.trace) (Leaves turn calm q) (chosen (is_zero v) (x v s) (y v s)) one (let steps : one.steps ≡ 1 = refl in omega (arith, steps))
+      (by_zero turn calm n (is_zero v) (pc + 1) (lands pc t) q s w (x v s) (y v s) (h v s) (subst (λ m. Runs (moves p) n (standing m s w) (Leaves turn calm q) (y v s)) e (k v s)))
+
+  -- a loop in the body of another one, or of none: where its turn begins, where its test and its body do, and where it ends
+  module _ (turn inner : Turn) (calm : Bool) (first second q end q1 : ℕ) (out back : Target) (step test body : Operands → World → Outcome Way)
+      (jumps : HasAt p q (JumpZero out ∷ [])) (leads : end ≡ lands q out) (jumps_back : HasAt p q1 (Jump back ∷ [])) (leads_back : lands q1 back ≡ first)
+      (begins : inner.begin ≡ first) (ends : inner.out ≡ q)
+      (steps : (s : Operands) (w : World) → Good calm w → Goes_on turn calm (standing first s w) second (step s w))
+      (tests : (s : Operands) (w : World) → Good calm w → Goes_on turn calm (standing second s w) q (test s w))
+      (runs : (s : Operands) (w : World) → Good calm w → Goes_on inner calm (standing (q + 1) s w) q1 (body s w)) where
+    abbrev From : ℕ → ℕ → (Operands → World → Outcome Way) → Type 0
+    From n place go = (s : Operands) (w : World) → Good calm w → Runs (moves p) n (standing place s w) (Leaves turn calm end) (go s w)
+
+    once : (n : ℕ) (go : Operands → World → Outcome Way) → From n (q + 1) go → From n q (on_test go)
+    once n go h s w g = branching turn calm n q end end out s.numbers s.names w (λ v rest. go rest w) (λ v rest. Done (On rest) w) leads jumps (λ v rest. h rest w g) (λ v rest. ends_here (moves p) n (standing end rest w) (Leaves turn calm end) (On rest) w (refl, g))
+
+    later : (n : ℕ) (go : Operands → World → Outcome Way) → From n (q + 1) go → From (suc n) q (on_test go)
+    later n go h s w g = testing turn calm n q end end out s.numbers s.names w (λ v rest. go rest w) (λ v rest. Done (On rest) w) leads jumps (λ v rest. h rest w g) (λ v rest. ends_here (moves p) n (standing end rest w) (Leaves turn calm end) (On rest) w (refl, g))
+
+    from_test : (n : ℕ) → n ≤ bound → (go : Operands → World → Outcome Way) → From n q (on_test go) → From n second (λ s w. and_then (test s w) (on_test go))
+    from_test n le go h s w g = then_way turn calm n q end (standing second s w) (test s w) (on_test go) (fewer_runs (moves p) n bound (standing second s w) (Leaves turn calm q) (test s w) le (tests s w g)) h
+
+    from_step : (n : ℕ) → n ≤ bound → (go : Operands → World → Outcome Way) → From n q (on_test go) → From n first (λ s w. and_then (step s w) (λ s1 w1. and_then (test s1 w1) (on_test go)))
+    from_step n le go h s w g = then_way turn calm n second end (standing first s w) (step s w) (λ s1 w1. and_then (test s1 w1) (on_test go)) (fewer_runs (moves p) n bound (standing first s w) (Leaves turn calm second) (step s w) le (steps s w g)) (from_test n le go h)
+
+    -- what leaves the loop comes to its test with 0
+    quit : (n : ℕ) (s : Operands) (w : World) → Good calm w → Runs (moves p) n (standing q (push (pos 0) s) w) (Leaves turn calm end) (Done (On s) w)
+    quit n s w g = branching turn calm n q end end out (pos 0 ∷ s.numbers) s.names w (λ v rest. Done Lost w) (λ v rest. Done (On rest) w) leads jumps (λ v rest. ends_here (moves p) n (standing (q + 1) rest w) (Leaves turn calm end) Lost w tt) (λ v rest. ends_here (moves p) n (standing end rest w) (Leaves turn calm end) (On rest) w (refl, g))
+
+    turned : (n : ℕ) (go : Operands → World → Outcome Way) → From n first go → (way : Way) (w : World) (to : Reached State) → Leaves inner calm q1 way w to → Runs (moves p) n to (Leaves turn calm end) (after_turn go way w)
+    turned n go next (On s) w to m = subst (λ r. Runs (moves p) n r (Leaves turn calm end) (go s w)) (sym m.0) (leads_runs (moves p) n (standing q1 s w) (standing (lands q1 back) s w) (Leaves turn calm end) (go s w) (moving q1 back s w jumps_back)
+        (subst (λ k. Runs (moves p) n (standing k s w) (Leaves turn calm end) (go s w)) (sym leads_back) (next s w m.1)))
+    turned n go next (Turns s) w to m = subst (λ r. Runs (moves p) n r (Leaves turn calm end) (go s w)) (sym m.0) (subst (λ k. Runs (moves p) n (standing k s w) (Leaves turn calm end) (go s w)) (sym begins) (next s w m.1))
+    turned n go next (Quits s) w to m = subst (λ r. Runs (moves p) n r (Leaves turn calm end) (Done (On s) w)) (sym m.0) (subst (λ k. Runs (moves p) n (standing k (push (pos 0) s) w) (Leaves turn calm end) (Done (On s) w)) (sym ends) (quit n s w m.1))
+    turned n go next (Out exit s) w to m = ends_here (moves p) n to (Leaves turn calm end) (Out exit s) w m
+    turned n go next Lost w to m = ends_here (moves p) n to (Leaves turn calm end) Lost w tt
+
+    loop_runs : (n : ℕ) → n ≤ bound → From n (q + 1) (block_turns n step test body)
+    loop_runs zero le s w g = inr (0, state (q + 1) s w, omega arith, refl)
+    loop_runs (suc n) le s w g =
+        let again = block_turns n step test body in
+        let go = λ (s1 : Operands) (w1 : World). and_then (step s1 w1) (λ s2 w2. and_then (test s2 w2) (on_test again)) in
+        then_runs (moves p) (suc n) (standing (q + 1) s w) (Leaves inner calm q1) (Leaves turn calm end) (body s w) (after_turn go) (fewer_runs (moves p) (suc n) bound (standing (q + 1) s w) (Leaves inner calm q1) (body s w) le (runs s w g))
+        (turned (suc n) go (from_step (suc n) le again (later n again (loop_runs n (omega (arith, le))))))
+
+    all_turns : From bound q (on_test (block_turns bound step test body))
+    all_turns = once bound (block_turns bound step test body) (loop_runs bound (omega arith))
+
+    entering : (entry : Entry) (pc n m : ℕ) → first ≡ pc + enter_size entry → second ≡ first + n → q ≡ second + m → HasAt p pc (enter_orders entry n m) → From bound pc (loop_entered entry bound step test body)
+    entering AtStep pc n m e f h has s w g =
+        let here : first ≡ pc = omega (arith, e) in
+        subst (λ k. Goes_on turn calm (standing k s w) end (loop_entered AtStep bound step test body s w)) here (from_step bound (omega arith) (block_turns bound step test body) all_turns s w g)
+    entering AtTest pc n m e f h has s w g =
+        let there : second ≡ lands pc (Skip n) = omega (arith, e, f) in
+        leads_runs (moves p) bound (standing pc s w) (standing (lands pc (Skip n)) s w) (Leaves turn calm end) (loop_entered AtTest bound step test body s w) (moving pc (Skip n) s w has)
+        (subst (λ k. Goes_on turn calm (standing k s w) end (loop_entered AtTest bound step test body s w)) there (from_test bound (omega arith) (block_turns bound step test body) all_turns s w g))
+    entering AtBody pc n m e f h has s w g =
+        let there : q + 1 ≡ lands pc (Skip (n + m + 1)) = omega (arith, e, f, h) in
+        leads_runs (moves p) bound (standing pc s w) (standing (lands pc (Skip (n + m + 1))) s w) (Leaves turn calm end) (loop_entered AtBody bound step test body s w) (moving pc (Skip (n + m + 1)) s w has)
+        (subst (λ k. Goes_on turn calm (standing k s w) end (loop_entered AtBody bound step test body s w)) there (loop_runs bound (omega arith) s w g))
 
   -- ---- blocks
 
-  abbrev actions : Block → List Order
-  actions b = flat R slots names b
+  abbrev actions : Spot → Block → List Order
+  actions e b = flat R slots names e b
 
   -- a variable is read and set
   loading : (i : Location) (s : Operands) (w : World) (depth : ℕ) → length w.frame.locals ≡ slots → depth ≡ length s.numbers → Passes p frames bound s.names (get_orders slots depth i) (s.numbers ++ vars w) w (held_at i w ∷ (s.numbers ++ vars w)) w
@@ -544,36 +605,36 @@ module _ (p : Program) (frames : List Frame) (bound : ℕ) (R : resolved.Program
   set_good calm (Local i) v w g = (record { locals = length-set w.frame.locals i v ∙ g.0.locals; strong = g.0.strong; itself = g.0.itself; waits = g.0.waits }, g.1)
   set_good calm (Global i) v w g = (record { locals = g.0.locals; strong = g.0.strong; itself = g.0.itself; waits = g.0.waits }, g.1)
 
-  load_by : (calm : Bool) (depth : ℕ) (i : Location) (pc : ℕ) (s : Operands) (w : World) (b : Bool) → nat_eq depth (length s.numbers) ≡ b → Good calm w → HasAt p pc (get_orders slots depth i) → Goes_on calm (standing pc s w) (pc + length (get_orders slots depth i)) (if b then Done (On (push (held_at i w) s)) w else Done Lost w)
-  load_by calm depth i pc s w true e g has = passing calm (get_orders slots depth i) pc s (push (held_at i w) s) w w refl g has (loading i s w depth g.0.locals (eqb-true depth (length s.numbers) e))
-  load_by calm depth i pc s w false e g has = lost calm (standing pc s w) (pc + length (get_orders slots depth i)) w
+  load_by : (turn : Turn) (calm : Bool) (depth : ℕ) (i : Location) (pc : ℕ) (s : Operands) (w : World) (b : Bool) → nat_eq depth (length s.numbers) ≡ b → Good calm w → HasAt p pc (get_orders slots depth i) → Goes_on turn calm (standing pc s w) (pc + length (get_orders slots depth i)) (if b then Done (On (push (held_at i w) s)) w else Done Lost w)
+  load_by turn calm depth i pc s w true e g has = passing turn calm (get_orders slots depth i) pc s (push (held_at i w) s) w w refl g has (loading i s w depth g.0.locals (eqb-true depth (length s.numbers) e))
+  load_by turn calm depth i pc s w false e g has = lost turn calm (standing pc s w) (pc + length (get_orders slots depth i)) w
 
-  store_by : (calm : Bool) (depth : ℕ) (i : Location) (pc : ℕ) (v : ℤ) (s : Operands) (w : World) (b : Bool) → nat_eq depth (length s.numbers) ≡ b → Good calm w → HasAt p pc (set_orders slots depth i) → Goes_on calm (standing pc (push v s) w) (pc + length (set_orders slots depth i)) (if b then Done (On (push v s)) (holds i v w) else Done Lost w)
-  store_by calm depth i pc v s w true e g has = passing calm (set_orders slots depth i) pc (push v s) (push v s) w (holds i v w) refl (set_good calm i v w g) has (storing i s v w depth g.0.locals (eqb-true depth (length s.numbers) e))
-  store_by calm depth i pc v s w false e g has = lost calm (standing pc (push v s) w) (pc + length (set_orders slots depth i)) w
+  store_by : (turn : Turn) (calm : Bool) (depth : ℕ) (i : Location) (pc : ℕ) (v : ℤ) (s : Operands) (w : World) (b : Bool) → nat_eq depth (length s.numbers) ≡ b → Good calm w → HasAt p pc (set_orders slots depth i) → Goes_on turn calm (standing pc (push v s) w) (pc + length (set_orders slots depth i)) (if b then Done (On (push v s)) (holds i v w) else Done Lost w)
+  store_by turn calm depth i pc v s w true e g has = passing turn calm (set_orders slots depth i) pc (push v s) (push v s) w (holds i v w) refl (set_good calm i v w g) has (storing i s v w depth g.0.locals (eqb-true depth (length s.numbers) e))
+  store_by turn calm depth i pc v s w false e g has = lost turn calm (standing pc (push v s) w) (pc + length (set_orders slots depth i)) w
 
-  store_runs : (calm : Bool) (depth : ℕ) (i : Location) (pc : ℕ) (numbers : List ℤ) (rs : List ℕ) (w : World) → Good calm w → HasAt p pc (set_orders slots depth i) → Goes_on calm (standing pc (record { numbers = numbers; names = rs }) w) (pc + length (set_orders slots depth i)) (block D bound false (Store depth i) (record { numbers = numbers; names = rs }) w)
-  store_runs calm depth i pc [] rs w g has = lost calm _ (pc + length (set_orders slots depth i)) w
-  store_runs calm depth i pc (v ∷ numbers) rs w g has = store_by calm depth i pc v (record { numbers = numbers; names = rs }) w (nat_eq depth (length numbers)) refl g has
+  store_runs : (turn : Turn) (calm : Bool) (depth : ℕ) (i : Location) (pc : ℕ) (numbers : List ℤ) (rs : List ℕ) (w : World) → Good calm w → HasAt p pc (set_orders slots depth i) → Goes_on turn calm (standing pc (record { numbers = numbers; names = rs }) w) (pc + length (set_orders slots depth i)) (block D bound false (Store depth i) (record { numbers = numbers; names = rs }) w)
+  store_runs turn calm depth i pc [] rs w g has = lost turn calm _ (pc + length (set_orders slots depth i)) w
+  store_runs turn calm depth i pc (v ∷ numbers) rs w g has = store_by turn calm depth i pc v (record { numbers = numbers; names = rs }) w (nat_eq depth (length numbers)) refl g has
 
-  read_runs : (calm : Bool) (i pc : ℕ) (s : Operands) (w : World) → (calm ≡ true → false ≡ true) → Good calm w → HasAt p pc (read_orders names i) → Goes_on calm (standing pc s w) (pc + length (read_orders names i)) (Done (On (name (name_at w.frame.strong i) s)) (takes (name_at w.frame.strong i) w))
-  read_runs true i pc s w free g has = absurd (false≢true (free refl))
-  read_runs false i pc s w free g has = subst (λ n. HasAt p pc (read_orders n i) → Goes_on false (standing pc s w) (pc + length (read_orders n i)) (Done (On (name (name_at w.frame.strong i) s)) (takes (name_at w.frame.strong i) w))) g.0.strong (read_by (nat_lt i (length w.frame.strong)) i pc s w refl g) has
+  read_runs : (turn : Turn) (calm : Bool) (i pc : ℕ) (s : Operands) (w : World) → (calm ≡ true → false ≡ true) → Good calm w → HasAt p pc (read_orders names i) → Goes_on turn calm (standing pc s w) (pc + length (read_orders names i)) (Done (On (name (name_at w.frame.strong i) s)) (takes (name_at w.frame.strong i) w))
+  read_runs turn true i pc s w free g has = absurd (false≢true (free refl))
+  read_runs turn false i pc s w free g has = subst (λ n. HasAt p pc (read_orders n i) → Goes_on turn false (standing pc s w) (pc + length (read_orders n i)) (Done (On (name (name_at w.frame.strong i) s)) (takes (name_at w.frame.strong i) w))) g.0.strong (read_by turn (nat_lt i (length w.frame.strong)) i pc s w refl g) has
 
   -- temporaries are dropped, where some may be taken
   abbrev dropping : Bool → List Order
   dropping some = if some then DropAll ∷ [] else []
 
-  drops_by : (some : Bool) (pc : ℕ) (s : Operands) (w : World) → Good (not some) w → HasAt p pc (dropping some) → Goes_on true (standing pc s w) (pc + length (dropping some)) (passes_by s (all_dropped D w))
-  drops_by true pc s w g has =
+  drops_by : (turn : Turn) (some : Bool) (pc : ℕ) (s : Operands) (w : World) → Good (not some) w → HasAt p pc (dropping some) → Goes_on turn true (standing pc s w) (pc + length (dropping some)) (passes_by s (all_dropped D w))
+  drops_by turn true pc s w g has =
       let w1 = with_temporaries w [] in
       let good : Good true w1 = (record { locals = g.0.locals; strong = g.0.strong; itself = g.0.itself; waits = g.0.waits }, λ e. refl) in
-      stayed true (pc + 1) (pc + 1) s w w1 (standing pc s w) (all_dropped D w) refl good (dropped_runs p frames bound s.names D deep.ends (s.numbers ++ vars w) w pc has) refl
-  drops_by false pc s w g has =
+      stayed turn true (pc + 1) (pc + 1) s w w1 (standing pc s w) (all_dropped D w) refl good (dropped_runs p frames bound s.names D deep.ends (s.numbers ++ vars w) w pc has) refl
+  drops_by turn false pc s w g has =
       let none = g.1 refl in
       let e : pc ≡ pc + 0 = omega arith in
       let o : all_dropped D w ≡ Done finished w = ap (λ ts. temporaries_dropped D ts w) none in
-      subst (λ o. Goes_on true (standing pc s w) (pc + 0) (passes_by s o)) (sym o) (ends_at true pc (pc + 0) (standing pc s w) (Done (On s) w) e (here true pc s w (g.0, λ x. none)))
+      subst (λ o. Goes_on turn true (standing pc s w) (pc + 0) (passes_by s o)) (sym o) (ends_at turn true pc (pc + 0) (standing pc s w) (Done (On s) w) e (here turn true pc s w (g.0, λ x. none)))
 
   first_none : (calm a b : Bool) → (calm ≡ true → (a && b) ≡ true) → calm ≡ true → a ≡ true
   first_none calm a b h e = (and_parts a b (h e)).0
@@ -586,76 +647,124 @@ module _ (p : Program) (frames : List Frame) (bound : ℕ) (R : resolved.Program
   not_some true e = absurd (false≢true e)
   not_some false e = refl
 
-  pub block_runs : (calm between : Bool) → (between ≡ true → calm ≡ true) → (b : Block) → (calm ≡ true → takes_none b ≡ true) → (pc : ℕ) (s : Operands) (w : World) → Good calm w → HasAt p pc (actions b) → Goes_on calm (standing pc s w) (pc + length (actions b)) (block D bound between b s w)
-  block_runs calm m h Idle free pc s w g has = let e : pc ≡ pc + 0 = omega arith in ends_at calm pc (pc + 0) (standing pc s w) (Done (On s) w) e (here calm pc s w g)
-  block_runs calm m h (One o) free pc s w g has = one_runs p frames bound s.names (Plain o) pc (s.numbers ++ vars w) w (Leaves calm (pc + 1)) (operation D o s w) has (operation_runs calm o pc s.numbers s.names w free g)
-  block_runs calm m h (Load depth i) free pc s w g has = load_by calm depth i pc s w (nat_eq depth (length s.numbers)) refl g has
-  block_runs calm m h (Store depth i) free pc s w g has = store_runs calm depth i pc s.numbers s.names w g has
-  block_runs calm m h (Read i) free pc s w g has = read_runs calm i pc s w free g has
-  block_runs calm m h (Assign i) free pc s w g has = assign_runs calm i pc s.numbers s.names w g has
-  block_runs calm m h (Clear first count) free pc s w g has = clear_runs calm first count pc s w g has
-  block_runs calm m h (Format pieces n) free pc s w g has = on_values_runs calm pc (pc + length (print_orders pieces n)) n s w _ (λ values rest size same.
-      subst (λ k. HasAt p pc (print_orders pieces k) → Goes_on calm (running frames rest.names pc (onto values (rest.numbers ++ vars w)) w) (pc + length (print_orders pieces k)) (Done (On (push (byte_count (formatted pieces values)) rest)) (prints (formatted pieces values) w))) size (λ there. format_runs calm pieces pc values rest w g there) has)
-  block_runs calm m h (Calls f n) free pc s w g has = on_values_runs calm pc (pc + length (call_orders R f n)) n s w _ (λ values rest size same.
-      subst (λ k. HasAt p pc (call_orders R f k) → Goes_on calm (running frames rest.names pc (onto values (rest.numbers ++ vars w)) w) (pc + length (call_orders R f k)) (pushes rest (D.call f 0 values w))) size (λ there. calls_run calm f pc values rest w g there) has)
-  block_runs calm m h (Tells message n) free pc s w g has = on_values_runs calm pc (pc + 1) n s w _ (λ values rest size same.
-      one_runs p frames bound rest.names (message_order message n) pc (onto values (rest.numbers ++ vars w)) w (Leaves calm (pc + 1)) (told D message values rest w) has
-      (subst (λ k. Goes_on calm (next_of (does p (message_order message k) (at frames pc (onto values (rest.numbers ++ vars w)) (held_of rest.names w))) w) (pc + 1) (told D message values rest w)) size (tells_run calm message pc values rest.numbers rest.names w g)))
-  block_runs calm m h (Then a b) free pc s w g has =
-      let xs = actions a in
-      let ys = actions b in
+  -- what stands between statements knows its place and the loop in whose body it stands, and what stands in an expression the loop alone
+  abbrev pub Stands : (between : Bool) → Spot → ℕ → Turn → Type 0
+  Stands true e pc turn = e ≡ Between pc turn
+  Stands false e pc turn = turn_at e ≡ turn
+
+  same_turn : (n : ℕ) (e : Spot) → turn_at (past n e) ≡ turn_at e
+  same_turn n Inside = refl
+  same_turn n (Between at turn) = refl
+
+  past_stands : (m : Bool) (n pc : ℕ) (turn : Turn) (e : Spot) → Stands m e pc turn → Stands m (past n e) (pc + n) turn
+  past_stands true n pc turn e h = ap (past n) h
+  past_stands false n pc turn e h = same_turn n e ∙ h
+
+  turn_is : (m : Bool) (pc : ℕ) (turn : Turn) (e : Spot) → Stands m e pc turn → turn_at e ≡ turn
+  turn_is true pc turn e h = ap turn_at h
+  turn_is false pc turn e h = h
+
+  entered_size : (entry : Entry) (n m : ℕ) → length (enter_orders entry n m) ≡ enter_size entry
+  entered_size AtStep n m = refl
+  entered_size AtTest n m = refl
+  entered_size AtBody n m = refl
+
+  pub block_runs : (e : Spot) (turn : Turn) (calm between : Bool) → (between ≡ true → calm ≡ true) → (b : Block) → (calm ≡ true → takes_none b ≡ true) → (pc : ℕ) → Stands between e pc turn → (s : Operands) (w : World) → Good calm w → HasAt p pc (actions e b) → Goes_on turn calm (standing pc s w) (pc + length (actions e b)) (block D bound between b s w)
+  block_runs e turn calm m h Idle free pc stands s w g has = let same : pc ≡ pc + 0 = omega arith in ends_at turn calm pc (pc + 0) (standing pc s w) (Done (On s) w) same (here turn calm pc s w g)
+  block_runs e turn calm m h (One o) free pc stands s w g has = one_runs p frames bound s.names (Plain o) pc (s.numbers ++ vars w) w (Leaves turn calm (pc + 1)) (operation D o s w) has (operation_runs turn calm o pc s.numbers s.names w free g)
+  block_runs e turn calm m h (Load depth i) free pc stands s w g has = load_by turn calm depth i pc s w (nat_eq depth (length s.numbers)) refl g has
+  block_runs e turn calm m h (Store depth i) free pc stands s w g has = store_runs turn calm depth i pc s.numbers s.names w g has
+  block_runs e turn calm m h (Read i) free pc stands s w g has = read_runs turn calm i pc s w free g has
+  block_runs e turn calm m h (Assign i) free pc stands s w g has = assign_runs turn calm i pc s.numbers s.names w g has
+  block_runs e turn calm m h (Clear first count) free pc stands s w g has = clear_runs turn calm first count pc s w g has
+  block_runs e turn calm m h (Format pieces n) free pc stands s w g has = on_values_runs turn calm pc (pc + length (print_orders pieces n)) n s w _ (λ values rest size same.
+      subst (λ k. HasAt p pc (print_orders pieces k) → Goes_on turn calm (running frames rest.names pc (onto values (rest.numbers ++ vars w)) w) (pc + length (print_orders pieces k)) (Done (On (push (byte_count (formatted pieces values)) rest)) (prints (formatted pieces values) w))) size (λ there. format_runs turn calm pieces pc values rest w g there) has)
+  block_runs e turn calm m h (Calls f n) free pc stands s w g has = on_values_runs turn calm pc (pc + length (call_orders R f n)) n s w _ (λ values rest size same.
+      subst (λ k. HasAt p pc (call_orders R f k) → Goes_on turn calm (running frames rest.names pc (onto values (rest.numbers ++ vars w)) w) (pc + length (call_orders R f k)) (pushes rest (D.call f 0 values w))) size (λ there. calls_run turn calm f pc values rest w g there) has)
+  block_runs e turn calm m h (Tells message n) free pc stands s w g has = on_values_runs turn calm pc (pc + 1) n s w _ (λ values rest size same.
+      one_runs p frames bound rest.names (message_order message n) pc (onto values (rest.numbers ++ vars w)) w (Leaves turn calm (pc + 1)) (told D message values rest w) has
+      (subst (λ k. Goes_on turn calm (next_of (does p (message_order message k) (at frames pc (onto values (rest.numbers ++ vars w)) (held_of rest.names w))) w) (pc + 1) (told D message values rest w)) size (tells_run turn calm message pc values rest.numbers rest.names w g)))
+  block_runs e turn calm m h (Then a b) free pc stands s w g has =
+      let xs = actions e a in
+      let ys = actions (past (length xs) e) b in
       let q = pc + length xs in
-      let e : q + length ys ≡ pc + length (xs ++ ys) = omega (arith, length-append xs ys) in
-      ends_at calm (q + length ys) (pc + length (xs ++ ys)) (standing pc s w) (block D bound m (Then a b) s w) e
-      (then_way calm bound q (q + length ys) (standing pc s w) (block D bound m a s w) (block D bound m b) (block_runs calm m h a (first_none calm (takes_none a) (takes_none b) free) pc s w g (has_front p pc xs ys has)) (λ s1 w1 g1.
-      block_runs calm m h b (second_none calm (takes_none a) (takes_none b) free) q s1 w1 g1 (has_back p pc xs ys has)))
-  block_runs calm m h (Fork a b) free pc s w g has =
-      let xs = actions a in
-      let ys = actions b in
+      let size : q + length ys ≡ pc + length (xs ++ ys) = omega (arith, length-append xs ys) in
+      ends_at turn calm (q + length ys) (pc + length (xs ++ ys)) (standing pc s w) (block D bound m (Then a b) s w) size
+      (then_way turn calm bound q (q + length ys) (standing pc s w) (block D bound m a s w) (block D bound m b) (block_runs e turn calm m h a (first_none calm (takes_none a) (takes_none b) free) pc stands s w g (has_front p pc xs ys has)) (λ s1 w1 g1.
+      block_runs (past (length xs) e) turn calm m h b (second_none calm (takes_none a) (takes_none b) free) q (past_stands m (length xs) pc turn e stands) s1 w1 g1 (has_back p pc xs ys has)))
+  block_runs e turn calm m h (Fork a b) free pc stands s w g has =
+      let e1 = past 1 e in
+      let xs = actions e1 a in
+      let e2 = past 1 (past (length xs) e1) in
+      let ys = actions e2 b in
       let one = pc + 1 in
+      let at1 = past_stands m 1 pc turn e stands in
       let two = one + length xs + 1 in
       let end = two + length ys in
       let behind_one = has_back p one xs (Jump (Skip (length ys)) ∷ ys) has.1 in
       let there : two ≡ lands pc (Skip (suc (length xs))) = omega arith in
       let over : lands (one + length xs) (Skip (length ys)) ≡ end = omega arith in
-      let e : end ≡ pc + length (JumpZero (Skip (suc (length xs))) ∷ (xs ++ Jump (Skip (length ys)) ∷ ys)) = omega (arith, length-append xs (Jump (Skip (length ys)) ∷ ys)) in
-      ends_at calm end (pc + length (actions (Fork a b))) (standing pc s w) (block D bound m (Fork a b) s w) e
-      (branching calm bound pc two end (Skip (suc (length xs))) s.numbers s.names w (λ v rest. block D bound m a rest w) (λ v rest. block D bound m b rest w) there (has.0, tt)
-      (λ v rest. jumps_on calm (one + length xs) end (Skip (length ys)) (standing one rest w) (block D bound m a rest w) (behind_one.0, tt) over (block_runs calm m h a (first_none calm (takes_none a) (takes_none b) free) one rest w g (has_front p one xs (Jump (Skip (length ys)) ∷ ys) has.1)))
-      (λ v rest. block_runs calm m h b (second_none calm (takes_none a) (takes_none b) free) two rest w g behind_one.1))
-  block_runs calm m h (Loop test body) free pc s w g has =
-      let ts = actions test in
-      let xs = actions body in
-      let q = pc + length ts in
+      let size : end ≡ pc + length (JumpZero (Skip (suc (length xs))) ∷ (xs ++ Jump (Skip (length ys)) ∷ ys)) = omega (arith, length-append xs (Jump (Skip (length ys)) ∷ ys)) in
+      ends_at turn calm end (pc + length (actions e (Fork a b))) (standing pc s w) (block D bound m (Fork a b) s w) size
+      (branching turn calm bound pc two end (Skip (suc (length xs))) s.numbers s.names w (λ v rest. block D bound m a rest w) (λ v rest. block D bound m b rest w) there (has.0, tt)
+      (λ v rest. jumps_on turn calm (one + length xs) end (Skip (length ys)) (standing one rest w) (block D bound m a rest w) (behind_one.0, tt) over (block_runs e1 turn calm m h a (first_none calm (takes_none a) (takes_none b) free) one at1 rest w g (has_front p one xs (Jump (Skip (length ys)) ∷ ys) has.1)))
+      (λ v rest. block_runs e2 turn calm m h b (second_none calm (takes_none a) (takes_none b) free) two (past_stands m 1 (one + length xs) turn (past (length xs) e1) (past_stands m (length xs) one turn e1 at1)) rest w g behind_one.1))
+  block_runs e turn calm false h (Loop entry step test body) free pc stands s w g has = lost turn calm (standing pc s w) (pc + length (actions e (Loop entry step test body))) w
+  block_runs e turn calm true h (Loop entry step test body) free pc stands s w g has =
+      let k = enter_size entry in
+      let e0 = past k e in
+      let first = pc + k in
+      let at0 = past_stands true k pc turn e stands in
+      let zs = actions e0 step in
+      let e1 = past (length zs) e0 in
+      let second = first + length zs in
+      let at1 = past_stands true (length zs) first turn e0 at0 in
+      let ts = actions e1 test in
+      let q = second + length ts in
+      let xs = actions (body_spot (length zs) (length ts) e0) body in
       let one = q + 1 in
       let q1 = one + length xs in
       let end = q1 + 1 in
+      let inner : Turn = record { begin = first; out = q } in
       let out : Order = JumpZero (Skip (suc (length xs))) in
-      let last : List Order = Jump (Back (suc (length ts + length xs))) ∷ [] in
-      let behind_test = has_back p pc ts (out ∷ (xs ++ last)) has in
+      let last : List Order = Jump (Back (suc (length zs + length ts + length xs))) ∷ [] in
+      let enters = enter_orders entry (length zs) (length ts) in
+      let rest = out ∷ (xs ++ last) in
       let there : end ≡ lands q (Skip (suc (length xs))) = omega arith in
-      let home : lands q1 (Back (suc (length ts + length xs))) ≡ pc = omega arith in
-      let e : end ≡ pc + length (ts ++ out ∷ (xs ++ last)) = omega (arith, length-append ts (out ∷ (xs ++ last)), length-append xs last) in
-      ends_at calm end (pc + length (actions (Loop test body))) (standing pc s w) (block D bound m (Loop test body) s w) e
-      (loop_runs calm pc q end (Skip (suc (length xs))) (Back (suc (length ts + length xs))) (block D bound m test) (block D bound m body) (behind_test.0, tt) there q1 (has_back p one xs last behind_test.1) home
-      (λ s1 w1 g1. block_runs calm m h test (first_none calm (takes_none test) (takes_none body) free) pc s1 w1 g1 (has_front p pc ts (out ∷ (xs ++ last)) has))
-      (λ s1 w1 g1. block_runs calm m h body (second_none calm (takes_none test) (takes_none body) free) one s1 w1 g1 (has_front p one xs last behind_test.1))
-      bound (omega arith) s w g)
-  block_runs calm false h (Full a b) free pc s w g has = lost calm (standing pc s w) (pc + length (actions (Full a b))) w
-  block_runs false true h (Full a b) free pc s w g has = absurd (false≢true (h refl))
-  block_runs true true h (Full a b) free pc s w g has =
-      let xs = actions a in
-      let ys = actions b in
+      let home : lands q1 (Back (suc (length zs + length ts + length xs))) ≡ first = omega arith in
+      let has_turn = subst (λ n. HasAt p (pc + n) (zs ++ (ts ++ rest))) (entered_size entry (length zs) (length ts)) (has_back p pc enters (zs ++ (ts ++ rest)) has) in
+      let has_test = has_back p first zs (ts ++ rest) has_turn in
+      let has_out = has_back p second ts rest has_test in
+      let size : end ≡ pc + length (enters ++ (zs ++ (ts ++ rest))) = omega (arith, length-append enters (zs ++ (ts ++ rest)), entered_size entry (length zs) (length ts), length-append zs (ts ++ rest), length-append ts rest, length-append xs last) in
+      ends_at turn calm end (pc + length (actions e (Loop entry step test body))) (standing pc s w) (block D bound true (Loop entry step test body) s w) size
+      (entering turn inner calm first second q end q1 (Skip (suc (length xs))) (Back (suc (length zs + length ts + length xs))) (block D bound true step) (block D bound true test) (block D bound true body) (has_out.0, tt) there (has_back p one xs last has_out.1) home refl refl
+      (λ s1 w1 g1. block_runs e0 turn calm true h step (first_none calm (takes_none step) (takes_none test && takes_none body) free) first at0 s1 w1 g1 (has_front p first zs (ts ++ rest) has_turn))
+      (λ s1 w1 g1. block_runs e1 turn calm true h test (first_none calm (takes_none test) (takes_none body) (second_none calm (takes_none step) (takes_none test && takes_none body) free)) second at1 s1 w1 g1 (has_front p second ts rest has_test))
+      (λ s1 w1 g1. block_runs (body_spot (length zs) (length ts) e0) inner calm true h body (second_none calm (takes_none test) (takes_none body) (second_none calm (takes_none step) (takes_none test && takes_none body) free)) one (ap (body_spot (length zs) (length ts)) at0) s1 w1 g1 (has_front p one xs last has_out.1))
+      entry pc (length zs) (length ts) refl refl refl (has_front p pc enters (zs ++ (ts ++ rest)) has) s w g)
+  block_runs e turn calm m h Quit free pc stands s w g has =
+      one_runs p frames bound s.names (Plain (Num (pos 0))) pc (s.numbers ++ vars w) w (Leaves turn calm (pc + 2)) (Done (Quits s) w) (has.0, tt)
+      (quiet_runs p frames bound s.names (pc + 1) (pos 0 ∷ (s.numbers ++ vars w)) w (Leaves turn calm (pc + 2)) (Done (Quits s) w)
+      (leads_runs (moves p) bound (standing (pc + 1) (push (pos 0) s) w) (standing (turn_at e).out (push (pos 0) s) w) (Leaves turn calm (pc + 2)) (Done (Quits s) w) (moving (pc + 1) (At (turn_at e).out) (push (pos 0) s) w has.1)
+      (ends_here (moves p) bound (standing (turn_at e).out (push (pos 0) s) w) (Leaves turn calm (pc + 2)) (Quits s) w (ap (λ (t : Turn). standing t.out (push (pos 0) s) w) (turn_is m pc turn e stands), g))))
+  block_runs e turn calm m h Again free pc stands s w g has =
+      leads_runs (moves p) bound (standing pc s w) (standing (turn_at e).begin s w) (Leaves turn calm (pc + 1)) (Done (Turns s) w) (moving pc (At (turn_at e).begin) s w has)
+      (ends_here (moves p) bound (standing (turn_at e).begin s w) (Leaves turn calm (pc + 1)) (Turns s) w (ap (λ (t : Turn). standing t.begin s w) (turn_is m pc turn e stands), g))
+  block_runs e turn calm false h (Full a b) free pc stands s w g has = lost turn calm (standing pc s w) (pc + length (actions e (Full a b))) w
+  block_runs e turn false true h (Full a b) free pc stands s w g has = absurd (false≢true (h refl))
+  block_runs e turn true true h (Full a b) free pc stands s w g has =
+      let xs = actions Inside a in
+      let ys = actions Inside b in
       let some = list_any order_takes xs in
       let zs = dropping some in
       let q = pc + length xs in
       let r = q + length ys in
-      let e : r + length zs ≡ pc + length (xs ++ (ys ++ zs)) = omega (arith, length-append xs (ys ++ zs), length-append ys zs) in
+      let size : r + length zs ≡ pc + length (xs ++ (ys ++ zs)) = omega (arith, length-append xs (ys ++ zs), length-append ys zs) in
       let behind_first = has_back p pc xs (ys ++ zs) has in
       let calm = not some in
-      ends_at true (r + length zs) (pc + length (xs ++ (ys ++ zs))) (standing pc s w) (block D bound true (Full a b) s w) e
-      (full_way calm (standing pc s w) r (r + length zs) (and_then (block D bound false a s w) (block D bound false b)) (λ s1 w1. passes_by s1 (all_dropped D w1))
-      (then_way calm bound q r (standing pc s w) (block D bound false a s w) (block D bound false b) (block_runs calm false (λ x. absurd (false≢true x)) a (λ x. quiet_flat R slots names a (not_some some x)) pc s w (g.0, λ x. g.1 refl) (has_front p pc xs (ys ++ zs) has)) (λ s1 w1 g1.
-      block_runs calm false (λ x. absurd (false≢true x)) b (λ x. free refl) q s1 w1 g1 (has_front p q ys zs behind_first)))
-      (λ s1 w1 g1. drops_by some r s1 w1 g1 (has_back p q ys zs behind_first)))
-  block_runs calm m h (Leave exit) free pc s w g has = leads_runs (moves p) bound (standing pc s w) (standing exit s w) (Leaves calm (pc + 1)) (Done (Out exit s) w) (moving pc (At exit) s w has) (ends_here (moves p) bound (standing exit s w) (Leaves calm (pc + 1)) (Out exit s) w (refl, (g.0, λ x. absurd (false≢true x))))
+      ends_at turn true (r + length zs) (pc + length (xs ++ (ys ++ zs))) (standing pc s w) (block D bound true (Full a b) s w) size
+      (full_way no_turn turn calm (standing pc s w) r (r + length zs) (and_then (block D bound false a s w) (block D bound false b)) (λ s1 w1. passes_by s1 (all_dropped D w1))
+      (then_way no_turn calm bound q r (standing pc s w) (block D bound false a s w) (block D bound false b) (block_runs Inside no_turn calm false (λ x. absurd (false≢true x)) a (λ x. quiet_flat R slots names a (not_some some x)) pc refl s w (g.0, λ x. g.1 refl) (has_front p pc xs (ys ++ zs) has)) (λ s1 w1 g1.
+      block_runs Inside no_turn calm false (λ x. absurd (false≢true x)) b (λ x. free refl) q refl s1 w1 g1 (has_front p q ys zs behind_first)))
+      (λ s1 w1 g1. drops_by turn some r s1 w1 g1 (has_back p q ys zs behind_first)))
+  block_runs e turn calm m h (Leave exit) free pc stands s w g has = leads_runs (moves p) bound (standing pc s w) (standing exit s w) (Leaves turn calm (pc + 1)) (Done (Out exit s) w) (moving pc (At exit) s w has) (ends_here (moves p) bound (standing exit s w) (Leaves turn calm (pc + 1)) (Out exit s) w (refl, (g.0, λ x. absurd (false≢true x))))

@@ -8,7 +8,7 @@ use Rattle.arc_spec.specs.Meaning.{Deeper, held_at, holds, chosen, dispatched, f
 use Rattle.arc_code.specs.declared.instr.Op.{Op}
 use Rattle.arc_code.specs.declared.instr.Op.TheVariants as ops
 use Rattle.arc_code.specs.declared.instr.Op.TheVariants.{Num, Bin, Un, Narrow, Pop, Get, GetChar, Nil, ReadSelf, Hold, Forget, Alloc, GetField, SetField, Differ, IsObject}
-use Rattle.arc_lower.specs.Lowered.{Message, ToClass, ToSuperClass, ToObject, ToSuper, Block, Idle, One, Load, Store, Read, Assign, Clear, Format, Calls, Tells, Then, Fork, Loop, Full, Leave}
+use Rattle.arc_lower.specs.Lowered.{Message, ToClass, ToSuperClass, ToObject, ToSuper, Entry, AtStep, AtTest, AtBody, Block, Idle, One, Load, Store, Read, Assign, Clear, Format, Calls, Tells, Then, Fork, Loop, Quit, Again, Full, Leave}
 use Rattle.arc_lower.proofs.Stacking.{onto}
 
 -- operands: numbers and references, the last one first
@@ -26,10 +26,13 @@ name r s = record { numbers = s.numbers; names = r ∷ s.names }
 abbrev pub pushed : List ℤ → Operands → Operands
 pushed given s = record { numbers = onto given s.numbers; names = s.names }
 
--- how a block is left: behind it, or by an exit of the function; nothing is said where it lacks operands
+-- how a block is left: behind it, by an exit of the function, or by what leaves the loop in whose body it stands, or goes on with its next turn; nothing is said
+-- where it lacks operands
 pub data Way : Type 0 where
   On : Operands → Way
   Out : (exit : ℕ) → Operands → Way
+  Quits : Operands → Way
+  Turns : Operands → Way
   Lost : Way
 
 -- what is left in such a way
@@ -38,8 +41,7 @@ left_by way o = then_do o (λ a w. Done (way a) w)
 
 abbrev pub on_way : (Operands → World → Outcome Way) → Way → World → Outcome Way
 on_way go (On s) w = go s w
-on_way go (Out exit s) w = Done (Out exit s) w
-on_way go Lost w = Done Lost w
+on_way go way w = Done way w
 
 abbrev pub and_then : Outcome Way → (Operands → World → Outcome Way) → Outcome Way
 and_then x go = then_do x (on_way go)
@@ -100,15 +102,38 @@ told D (ToSuperClass from selector) given s w = on_number s w (λ self rest. pus
 told D (ToObject selector) given s w = on_name s w (λ self rest. pushes rest (sent_to D self selector given w))
 told D (ToSuper from selector) given s w = on_name s w (λ self rest. pushes rest (sent_from D (Some from) self selector given w))
 
--- a loop of blocks
-abbrev pub block_turns : ℕ → (test body : Operands → World → Outcome Way) → Operands → World → Outcome Way
-block_turns zero test body s w = and_then (test s w) (λ s1 w1. on_number s1 w1 (λ v rest. chosen (is_zero v) (Cut w1) (Done (On rest) w1)))
-block_turns (suc n) test body s w = and_then (test s w) (λ s1 w1. on_number s1 w1 (λ v rest. chosen (is_zero v) (and_then (body rest w1) (block_turns n test body)) (Done (On rest) w1)))
+-- what follows a loop's body
+abbrev pub after_turn : (Operands → World → Outcome Way) → Way → World → Outcome Way
+after_turn go (On s) w = go s w
+after_turn go (Turns s) w = go s w
+after_turn go (Quits s) w = Done (On s) w
+after_turn go way w = Done way w
+
+-- what follows a loop's test
+abbrev pub on_test : (Operands → World → Outcome Way) → Operands → World → Outcome Way
+on_test go s w = on_number s w (λ v rest. chosen (is_zero v) (go rest w) (Done (On rest) w))
+
+-- a loop of blocks that begins with its body
+abbrev pub block_turns : ℕ → (step test body : Operands → World → Outcome Way) → Operands → World → Outcome Way
+block_turns zero step test body s w = Cut w
+block_turns (suc n) step test body s w =
+    then_do (body s w) (after_turn (λ s1 w1. and_then (step s1 w1) (λ s2 w2. and_then (test s2 w2) (on_test (block_turns n step test body)))))
+
+-- the same, where it is entered
+abbrev pub loop_entered : Entry → ℕ → (step test body : Operands → World → Outcome Way) → Operands → World → Outcome Way
+loop_entered AtStep n step test body s w = and_then (step s w) (λ s1 w1. and_then (test s1 w1) (on_test (block_turns n step test body)))
+loop_entered AtTest n step test body s w = and_then (test s w) (on_test (block_turns n step test body))
+loop_entered AtBody n step test body s w = block_turns n step test body s w
 
 abbrev pub passes_by : Operands → Outcome Finished → Outcome Way
 passes_by s o = left_by (λ _. On s) o
 
--- what a block means; full-expressions stand only between others
+-- a full-expression is left behind it, or nothing is said of it
+abbrev pub only_on : (Operands → World → Outcome Way) → Way → World → Outcome Way
+only_on go (On s) w = go s w
+only_on go way w = Done Lost w
+
+-- what a block means; full-expressions and loops stand only between others
 abbrev pub block : Deeper → (bound : ℕ) → (between : Bool) → Block → Operands → World → Outcome Way
 block D bound m Idle s w = Done (On s) w
 block D bound m (One o) s w = operation D o s w
@@ -122,8 +147,11 @@ block D bound m (Calls f n) s w = on_values n s w (λ given rest. pushes rest (D
 block D bound m (Tells message n) s w = on_values n s w (λ given rest. told D message given rest w)
 block D bound m (Then a b) s w = and_then (block D bound m a s w) (block D bound m b)
 block D bound m (Fork a b) s w = on_number s w (λ v rest. chosen (is_zero v) (block D bound m a rest w) (block D bound m b rest w))
-block D bound m (Loop test body) s w = block_turns bound (block D bound m test) (block D bound m body) s w
-block D bound true (Full a b) s w = and_then (and_then (block D bound false a s w) (block D bound false b)) (λ s1 w1. passes_by s1 (all_dropped D w1))
+block D bound true (Loop entry step test body) s w = loop_entered entry bound (block D bound true step) (block D bound true test) (block D bound true body) s w
+block D bound false (Loop entry step test body) s w = Done Lost w
+block D bound m Quit s w = Done (Quits s) w
+block D bound m Again s w = Done (Turns s) w
+block D bound true (Full a b) s w = then_do (and_then (block D bound false a s w) (block D bound false b)) (only_on (λ s1 w1. passes_by s1 (all_dropped D w1)))
 block D bound false (Full a b) s w = Done Lost w
 block D bound m (Leave exit) s w = Done (Out exit s) w
 

@@ -1,17 +1,18 @@
 -- Where orders stand with their heights, each has what it needs, and goes on where the heights are those that it leaves.
-use Rattle.std.proofs.Common.{◌≡◌, ◌⊎◌, inl, inr, ℕ, zero, suc, ◌+◌, ◌<◌, ◌≤◌, Bool, true, false, List, [], ◌∷◌, ◌++◌, length, drop, get_or, Some, slice_get, refl, sym, ap, ◌∙◌, subst, arith, append_assoc, length-append}
+use Rattle.std.proofs.Common.{◌≡◌, ◌⊎◌, inl, inr, ℕ, zero, suc, ◌+◌, ◌<◌, ◌≤◌, Bool, true, false, List, [], ◌∷◌, ◌++◌, length, drop, get_or, Some, slice_get, refl, sym, ap, ◌∙◌, subst, arith, append_assoc, length-append, pos}
 use Rattle.std.proofs.lemmas.Bool.{true≢false}
 use Rattle.arc_spec.specs.Resolved as resolved
 use Rattle.arc_code.specs.declared.effect.Height.{Height}
-use Rattle.arc_code.specs.declared.instr.Op.TheVariants.{Pop, Set}
+use Rattle.arc_code.specs.declared.instr.Op.TheVariants.{Num, Pop, Set}
 use Rattle.arc_code.specs.declared.instr.Instr.TheVariants.{Plain, Jump, JumpZero, Return, Empty, EndStep}
-use Rattle.arc_ir.specs.declared.action.Target.TheVariants.{Skip, Back}
+use Rattle.arc_ir.specs.declared.action.Target.TheVariants.{Skip, Back, At}
 use Rattle.arc_ir.specs.Acting.{lands}
 use Rattle.arc_lower.specs.Order.{Order}
-use Rattle.arc_lower.specs.Lowered.{drop_orders, Block, Then, Fork, Loop, Full, Leave, flat}
+use Rattle.arc_lower.specs.Lowered.{drop_orders, Entry, AtStep, AtTest, AtBody, enter_orders, enter_size, Spot, Inside, Between, past, turn_at, body_spot, Block, Then, Fork, Loop, Quit, Again, Full, Leave, flat}
+use Rattle.arc_lower.specs.declared.frame.Turn.{Turn}
 use Rattle.arc_lower.specs.Heights.{between, next_height, Walk, walk, next_walk, walk_heights, last_walk}
-use Rattle.arc_lower.proofs.Typing.{tested, over, over_none, Reaches, Needs, Types, next_same, with_temporaries, BlockTypes}
-use Rattle.arc_lower.proofs.HeightsEnd.{chosen_same, Keeps, keeps_on, keeps_test, keeps_rest, part_same, block_ends}
+use Rattle.arc_lower.proofs.Typing.{heights_same, tested, over, over_none, Reaches, Needs, Types, next_same, with_temporaries, BlockTypes}
+use Rattle.arc_lower.proofs.HeightsEnd.{chosen_same, AllBase, entered, enter_keeps, enter_ends, Keeps, keeps_on, keeps_test, keeps_rest, part_same, block_ends}
 
 pub some_same : {A : Type 0} (a b : A) → Some a ≡ Some b → a ≡ b
 some_same a b e = cc
@@ -298,40 +299,78 @@ module _ (R : resolved.Program) (all : List Order) (table : List Height) where
     abbrev test : Height
     test = tested slots names
 
-    abbrev orders : Block → List Order
-    orders = flat R slots names
+    abbrev orders : Spot → Block → List Order
+    orders e x = flat R slots names e x
 
-    abbrev Block_types : (statement : Bool) → Height → Block → Height → Type 0
+    abbrev Block_types : (looping statement : Bool) → Height → Block → Height → Type 0
     Block_types = BlockTypes R 0 0 slots names exit
 
-    pub block_ordinary : (statement : Bool) (x : Block) (h g : Height) → Block_types statement h x g → AllOrdinary (orders x)
-    block_ordinary statement (Then x y) h g t = ordinary_then (orders x) (orders y) (block_ordinary statement x h t.0 t.1) (block_ordinary statement y t.0 g t.2)
-    block_ordinary statement (Fork x y) h g t = (tt, ordinary_then (orders x) _ (block_ordinary statement x t.0 (with_temporaries g t.1) t.4) (tt, block_ordinary statement y (with_temporaries t.0 t.1) g t.5))
-    block_ordinary statement (Loop x y) h g t = ordinary_then (orders x) _ (block_ordinary statement x base test t.2) (tt, ordinary_then (orders y) _ (block_ordinary statement y base base t.3) (tt, tt))
-    block_ordinary statement (Full x y) h g t = ordinary_then (orders x) _ (block_ordinary false x h t.0 t.2) (ordinary_then (orders y) _ (block_ordinary false y t.0 t.1 t.3) (types_ordinary R t.1 (drop_orders (orders x)) g t.4))
-    block_ordinary statement (Leave to) h g t = (tt, tt)
-    block_ordinary statement x h g t = types_ordinary R h (orders x) g t
+    enter_ordinary : (entry : Entry) (n m : ℕ) → AllOrdinary (enter_orders entry n m)
+    enter_ordinary AtStep n m = tt
+    enter_ordinary AtTest n m = (tt, tt)
+    enter_ordinary AtBody n m = (tt, tt)
+
+    pub block_ordinary : (e : Spot) (looping statement : Bool) (x : Block) (h g : Height) → Block_types looping statement h x g → AllOrdinary (orders e x)
+    block_ordinary e l statement (Then x y) h g t = ordinary_then (orders e x) _ (block_ordinary e l statement x h t.0 t.1) (block_ordinary _ l statement y t.0 g t.2)
+    block_ordinary e l statement (Fork x y) h g t = (tt, ordinary_then _ _ (block_ordinary (past 1 e) l statement x t.0 (with_temporaries g t.1) t.4) (tt, block_ordinary _ l statement y (with_temporaries t.0 t.1) g t.5))
+    block_ordinary e l statement (Loop entry z x y) h g t =
+        let begin = past (enter_size entry) e in
+        let zs = orders begin z in
+        let at_test = past (length zs) begin in
+        let ts = orders at_test x in
+        let at_body = body_spot (length zs) (length ts) begin in
+        ordinary_then (enter_orders entry (length zs) (length ts)) _ (enter_ordinary entry (length zs) (length ts))
+        (ordinary_then zs _ (block_ordinary begin l statement z base base t.2) (ordinary_then ts _ (block_ordinary at_test l statement x base test t.3) (tt, ordinary_then (orders at_body y) _ (block_ordinary at_body true statement y base base t.4) (tt, tt))))
+    block_ordinary e l statement Quit h g t = (tt, (tt, tt))
+    block_ordinary e l statement Again h g t = (tt, tt)
+    block_ordinary e l statement (Full x y) h g t = ordinary_then (orders Inside x) _ (block_ordinary Inside false false x h t.0 t.2) (ordinary_then (orders Inside y) _ (block_ordinary Inside false false y t.0 t.1 t.3) (types_ordinary R t.1 (drop_orders (orders Inside x)) g t.4))
+    block_ordinary e l statement (Leave to) h g t = (tt, tt)
+    block_ordinary e l statement x h g t = types_ordinary R h (orders e x) g t
+
+    enter_length : (entry : Entry) (n m : ℕ) → length (enter_orders entry n m) ≡ enter_size entry
+    enter_length AtStep n m = refl
+    enter_length AtTest n m = refl
+    enter_length AtBody n m = refl
+
+    -- what stands behind the jump by which a loop is entered
+    enter_follows : (entry : Entry) (n m pc : ℕ) (pending : List Height) (xs : List Order) → AllBase R 0 0 slots names exit pending → Follows base pc (walk base pending) (enter_orders entry n m ++ xs) → Follows base (pc + enter_size entry) (walk base (entered R 0 0 slots names exit base entry pending)) xs
+    enter_follows entry n m pc pending xs all f =
+        subst (λ k. Follows base (pc + k) (walk base (entered R 0 0 slots names exit base entry pending)) xs) (enter_length entry n m)
+        (subst (λ w. Follows base (pc + length (enter_orders entry n m)) w xs) (enter_ends R 0 0 slots names exit base entry n m pending refl all) (back base pc (walk base pending) (enter_orders entry n m) xs f))
+
+    -- that jump leads to the test or to the body
+    enter_steps : (entry : Entry) (n m pc : ℕ) (pending : List Height) (xs : List Order) → Goes (pc + enter_size entry + n) base → Goes (pc + enter_size entry + n + m + 1) base → Follows base pc (walk base pending) (enter_orders entry n m ++ xs) → AllStep (pc + enter_size entry) xs → AllStep pc (enter_orders entry n m ++ xs)
+    enter_steps AtStep n m pc pending xs tested turned f steps = let e : pc + 0 ≡ pc = omega arith in subst (λ q. AllStep q xs) e steps
+    enter_steps AtTest n m pc pending xs tested turned f steps = ((base, f.0, (0, omega arith, tested)), steps)
+    enter_steps AtBody n m pc pending xs tested turned f steps = let e : pc + 1 + n + m + 1 ≡ pc + 1 + (n + m + 1) = omega arith in ((base, f.0, (0, omega arith, subst (λ q. Goes q base) e turned)), steps)
 
     module _ (leaves : Goes exit test) where
       abbrev Keeps_on : (statement : Bool) → (before after : List Height) → Type 0
       Keeps_on = Keeps R 0 0 slots names exit base
 
       -- what stands after a block
-      behind : (statement : Bool) (x : Block) (h g : Height) (pc : ℕ) (pending : List Height) (ys : List Order) → Keeps_on statement pending pending → Block_types statement h x g → Follows base pc (walk h pending) (orders x ++ ys) → (after : List Height) × Keeps_on statement pending after × Follows base (pc + length (orders x)) (walk g after) ys
-      behind statement x h g pc pending ys keeps t f =
-          let ends = block_ends R 0 0 slots names exit base statement x h g pending keeps t in
-          (ends.0, ends.2, subst (λ w. Follows base (pc + length (orders x)) w ys) ends.1 (back base pc (walk h pending) (orders x) ys f))
+      behind : (e : Spot) (looping statement : Bool) (x : Block) (h g : Height) (pc : ℕ) (pending : List Height) (ys : List Order) → Keeps_on statement pending pending → Block_types looping statement h x g → Follows base pc (walk h pending) (orders e x ++ ys) → (after : List Height) × Keeps_on statement pending after × Follows base (pc + length (orders e x)) (walk g after) ys
+      behind e looping statement x h g pc pending ys keeps t f =
+          let ends = block_ends R 0 0 slots names exit base e looping statement x h g pending keeps t in
+          (ends.0, ends.2, subst (λ w. Follows base (pc + length (orders e x)) w ys) ends.1 (back base pc (walk h pending) (orders e x) ys f))
 
-      pub block_steps : (statement : Bool) (x : Block) (h g : Height) (pc : ℕ) (pending : List Height) → Keeps_on statement pending pending → Block_types statement h x g → Follows base pc (walk h pending) (orders x) → AllStep pc (orders x)
-      block_steps statement (Then x y) h g pc pending keeps t f =
-          let xs = orders x in
-          let ys = orders y in
-          let after = behind statement x h t.0 pc pending ys keeps t.1 f in
-          step_then pc xs ys (block_steps statement x h t.0 pc pending keeps t.1 (front base pc (walk h pending) xs ys (block_ordinary statement y t.0 g t.2) f))
-          (block_steps statement y t.0 g (pc + length xs) after.0 (keeps_on R 0 0 slots names exit base statement pending after.0 after.1) t.2 after.2)
-      block_steps statement (Fork x y) h g pc pending keeps t f =
-          let xs = orders x in
-          let ys = orders y in
+      -- where a loop goes on with its next turn, and where it is left
+      abbrev Ways : (looping : Bool) → Turn → Type 0
+      Ways looping turn = looping ≡ true → Goes turn.out test × Goes turn.begin base
+
+      pub block_steps : (e : Spot) (turn : Turn) (looping statement : Bool) (x : Block) (h g : Height) (pc : ℕ) (pending : List Height) → (statement ≡ true → e ≡ Between pc turn) → Ways looping turn → Keeps_on statement pending pending → Block_types looping statement h x g → Follows base pc (walk h pending) (orders e x) → AllStep pc (orders e x)
+      block_steps e turn l statement (Then x y) h g pc pending here ways keeps t f =
+          let xs = orders e x in
+          let next = past (length xs) e in
+          let ys = orders next y in
+          let after = behind e l statement x h t.0 pc pending ys keeps t.1 f in
+          step_then pc xs ys (block_steps e turn l statement x h t.0 pc pending here ways keeps t.1 (front base pc (walk h pending) xs ys (block_ordinary next l statement y t.0 g t.2) f))
+          (block_steps next turn l statement y t.0 g (pc + length xs) after.0 (λ s. ap (past (length xs)) (here s)) ways (keeps_on R 0 0 slots names exit base statement pending after.0 after.1) t.2 after.2)
+      block_steps e turn l statement (Fork x y) h g pc pending here ways keeps t f =
+          let inner = past 1 e in
+          let xs = orders inner x in
+          let other = past 1 (past (length xs) inner) in
+          let ys = orders other y in
           let i = t.0 in
           let m = with_temporaries g t.1 in
           let j = with_temporaries i t.1 in
@@ -340,56 +379,88 @@ module _ (R : resolved.Program) (all : List Order) (table : List Height) where
           let two = one + length xs + 1 in
           let rest : List Order = Jump (Skip (length ys)) ∷ ys in
           let there : two ≡ lands pc to = omega arith in
-          let o : AllOrdinary rest = (tt, block_ordinary statement y j g t.5) in
+          let o : AllOrdinary rest = (tt, block_ordinary other l statement y j g t.5) in
           let more = keeps_test R 0 0 slots names exit base statement i pending t.3 keeps in
           let inside = subst (λ n. Follows base one (walk n (n ∷ pending)) (xs ++ rest)) t.2.left f.2 in
-          let after = behind statement x i m one (i ∷ pending) rest more t.4 inside in
+          let after = behind inner l statement x i m one (i ∷ pending) rest more t.4 inside in
           let others = drop 1 after.0 in
           let kept = keeps_on R 0 0 slots names exit base statement pending others (keeps_rest R 0 0 slots names exit base statement i pending after.0 keeps after.1) in
           let part = subst (λ n. Follows base two (walk n others) ys) (part_same R 0 0 slots names exit base statement i m pending after.0 t.3 after.1) after.2.2 in
-          let first = goes_here base one (walk i (i ∷ pending)) (xs ++ rest) (ordinary_then xs rest (block_ordinary statement x i m t.4) o) inside in
-          let second = goes_here base two (walk j others) ys (block_ordinary statement y j g t.5) part in
-          let ends = block_ends R 0 0 slots names exit base statement y j g others kept t.5 in
+          let first = goes_here base one (walk i (i ∷ pending)) (xs ++ rest) (ordinary_then xs rest (block_ordinary inner l statement x i m t.4) o) inside in
+          let second = goes_here base two (walk j others) ys (block_ordinary other l statement y j g t.5) part in
+          let ends = block_ends R 0 0 slots names exit base other l statement y j g others kept t.5 in
           let last = subst (λ w. Goes (two + length ys) w.height) ends.1 (ends_with base two (walk j others) ys part) in
           let chosen = subst (λ n. Goes one n × Leads (lands pc to) n) (sym t.2.left) (first, (t.1, t.2.first, subst (λ q. Goes q j) there second)) in (
             (h, f.0, (t.2.some, chosen.0, chosen.1)),
-            step_then one xs rest (block_steps statement x i m one (i ∷ pending) more t.4 (front base one (walk i (i ∷ pending)) xs rest o inside)) ((m, after.2.0, (g.temporaries, t.2.next, last)), block_steps statement y j g two others kept t.5 part),
+            step_then one xs rest (block_steps inner turn l statement x i m one (i ∷ pending) (λ s. ap (past 1) (here s)) ways more t.4 (front base one (walk i (i ∷ pending)) xs rest o inside)) ((m, after.2.0, (g.temporaries, t.2.next, last)), block_steps other turn l statement y j g two others (λ s. ap (λ e. past 1 (past (length xs) (past 1 e))) (here s)) ways kept t.5 part),
           )
-      block_steps true (Loop x y) h g pc pending keeps t f =
-          let ts = orders x in
-          let xs = orders y in
+      block_steps e turn l true (Loop entry z x y) h g pc pending here ways keeps t f =
+          let begin = past (enter_size entry) e in
+          let zs = orders begin z in
+          let at_test = past (length zs) begin in
+          let ts = orders at_test x in
+          let at_body = body_spot (length zs) (length ts) begin in
+          let xs = orders at_body y in
           let to = Skip (suc (length xs)) in
-          let q = pc + length ts in
+          let first = pc + enter_size entry in
+          let q0 = first + length zs in
+          let q = q0 + length ts in
           let one = q + 1 in
           let end = one + length xs + 1 in
-          let again : List Order = Jump (Back (suc (length ts + length xs))) ∷ [] in
+          let back_to = Back (suc (length zs + length ts + length xs)) in
+          let again : List Order = Jump back_to ∷ [] in
           let out : Order = JumpZero to in
+          let rest : List Order = out ∷ (xs ++ again) in
+          let whole : List Order = enter_orders entry (length zs) (length ts) ++ (zs ++ (ts ++ rest)) in
           let there : end ≡ lands q to = omega arith in
-          let begin : pc ≡ lands (one + length xs) (Back (suc (length ts + length xs))) = omega arith in
-          let o : AllOrdinary (xs ++ again) = ordinary_then xs again (block_ordinary true y base base t.3) (tt, tt) in
-          let start = subst (λ n. Follows base pc (walk n pending) (ts ++ (out ∷ (xs ++ again)))) t.1 f in
-          let chosen = behind true x base test pc pending (out ∷ (xs ++ again)) keeps t.2 start in
+          let home : first ≡ lands (one + length xs) back_to = omega arith in
+          let o3 : AllOrdinary (xs ++ again) = ordinary_then xs again (block_ordinary at_body true true y base base t.4) (tt, tt) in
+          let o2 : AllOrdinary rest = (tt, o3) in
+          let o1 : AllOrdinary (ts ++ rest) = ordinary_then ts rest (block_ordinary at_test l true x base test t.3) o2 in
+          let start = subst (λ n. Follows base pc (walk n pending) whole) t.1 f in
+          let others = entered R 0 0 slots names exit base entry pending in
+          let kept = enter_keeps R 0 0 slots names exit base entry pending refl keeps.1 in
+          let turned = enter_follows entry (length zs) (length ts) pc pending (zs ++ (ts ++ rest)) keeps.1 start in
+          let stepped = behind begin l true z base base first others (ts ++ rest) kept t.2 turned in
+          let more = keeps_on R 0 0 slots names exit base true others stepped.0 stepped.1 in
+          let chosen = behind at_test l true x base test q0 stepped.0 rest more t.3 stepped.2 in
           let less = chosen_same R 0 0 slots names exit to in
-          let more = keeps_test R 0 0 slots names exit base true base chosen.0 refl (keeps_on R 0 0 slots names exit base true pending chosen.0 chosen.1) in
+          let most = keeps_test R 0 0 slots names exit base true base chosen.0 refl (keeps_on R 0 0 slots names exit base true stepped.0 chosen.0 chosen.1) in
           let inside = subst (λ n. Follows base one (walk n (n ∷ chosen.0)) (xs ++ again)) less chosen.2.2 in
-          let after = behind true y base base one (base ∷ chosen.0) again more t.3 inside in
+          let after = behind at_body true true y base base one (base ∷ chosen.0) again most t.4 inside in
           let last = subst (λ n. Goes end n) (part_same R 0 0 slots names exit base true base base chosen.0 after.0 refl after.1) after.2.2 in
-          let first = goes_here base pc (walk base pending) (ts ++ (out ∷ (xs ++ again))) (ordinary_then ts (out ∷ (xs ++ again)) (block_ordinary true x base test t.2) (tt, o)) start in
-          let both = subst (λ n. Goes one n × Leads (lands q to) n) (sym less) (goes_here base one (walk base (base ∷ chosen.0)) (xs ++ again) o inside, (0, omega arith, subst (λ n. Goes n base) there last)) in
-          step_then pc ts (out ∷ (xs ++ again)) (block_steps true x base test pc pending keeps t.2 (front base pc (walk base pending) ts (out ∷ (xs ++ again)) (tt, o) start)) (
+          let goes_first = goes_here base first (walk base others) (zs ++ (ts ++ rest)) (ordinary_then zs (ts ++ rest) (block_ordinary begin l true z base base t.2) o1) turned in
+          let goes_test = goes_here base q0 (walk base stepped.0) (ts ++ rest) o1 stepped.2 in
+          let goes_out = opens_goes q test out tt chosen.2.0 chosen.2.1 in
+          let goes_body = goes_here base one (walk base (base ∷ chosen.0)) (xs ++ again) o3 inside in
+          let both = subst (λ n. Goes one n × Leads (lands q to) n) (sym less) (goes_body, (0, omega arith, subst (λ n. Goes n base) there last)) in
+          let inner : Turn = record { begin = first; out = q } in
+          enter_steps entry (length zs) (length ts) pc pending (zs ++ (ts ++ rest)) goes_test goes_body start
+          (step_then first zs (ts ++ rest) (block_steps begin turn l true z base base first others (λ s. ap (past (enter_size entry)) (here s)) ways kept t.2 (front base first (walk base others) zs (ts ++ rest) o1 turned))
+          (step_then q0 ts rest (block_steps at_test turn l true x base test q0 stepped.0 (λ s. ap (λ e. past (length zs) (past (enter_size entry) e)) (here s)) ways more t.3 (front base q0 (walk base stepped.0) ts rest o2 stepped.2)) (
             (test, chosen.2.0, (omega arith, both.0, both.1)),
-            step_then one xs again (block_steps true y base base one (base ∷ chosen.0) more t.3 (front base one (walk base (base ∷ chosen.0)) xs again (tt, tt) inside)) ((base, after.2.0, (0, omega arith, subst (λ n. Goes n base) begin first)), tt),
-          )
-      block_steps true (Leave to) h g pc pending keeps t f = ((h, f.0, subst (λ n. Leads to n) (sym t.2) (0, omega arith, subst (λ q. Goes q test) (sym t.1) leaves)), tt)
-      block_steps false (Loop x y) h g pc pending keeps t f = absurd (true≢false (sym t.0))
-      block_steps false (Leave to) h g pc pending keeps t f = absurd (true≢false (sym t.0))
-      block_steps statement (Full x y) h g pc pending keeps t f =
-          let xs = orders x in
-          let ys = orders y in
+            step_then one xs again (block_steps at_body inner true true y base base one (base ∷ chosen.0) (λ s. ap (λ e. body_spot (length zs) (length ts) (past (enter_size entry) e)) (here s)) (λ s. (goes_out, goes_first)) most t.4 (front base one (walk base (base ∷ chosen.0)) xs again (tt, tt) inside)) ((base, after.2.0, (0, omega arith, subst (λ n. Goes n base) home goes_first)), tt),
+          )))
+      block_steps e turn l true Quit h g pc pending here ways keeps t f =
+          let goes = subst (λ n. Goes n test) (sym (ap (λ e. (turn_at e).out) (here refl))) (ways t.1).0 in
+          let up : next_height R (Plain (Num (pos 0))) base ≡ test = heights_same _ _ _ _ (suc slots) 0 0 names (omega arith) (omega arith) (omega arith) (omega arith) in
+          let next = opens_goes (pc + 1) _ (Jump (At (turn_at e).out)) tt f.2.0 f.2.1 in
+          ((h, f.0, (tt, (next.0, λ k c. inr (next.1 k c)))), ((next_height R (Plain (Num (pos 0))) h, f.2.0, subst (λ n. Leads (turn_at e).out n) (sym (ap (next_height R (Plain (Num (pos 0)))) t.2 ∙ up)) (0, omega arith, goes)), tt))
+      block_steps e turn l true Again h g pc pending here ways keeps t f =
+          let goes = subst (λ n. Goes n base) (sym (ap (λ e. (turn_at e).begin) (here refl))) (ways t.1).1 in
+          ((h, f.0, subst (λ n. Leads (turn_at e).begin n) (sym t.2) (0, omega arith, goes)), tt)
+      block_steps e turn l true (Leave to) h g pc pending here ways keeps t f = ((h, f.0, subst (λ n. Leads to n) (sym t.2) (0, omega arith, subst (λ q. Goes q test) (sym t.1) leaves)), tt)
+      block_steps e turn l false (Loop entry z x y) h g pc pending here ways keeps t f = absurd (true≢false (sym t.0))
+      block_steps e turn l false Quit h g pc pending here ways keeps t f = absurd (true≢false (sym t.0))
+      block_steps e turn l false Again h g pc pending here ways keeps t f = absurd (true≢false (sym t.0))
+      block_steps e turn l false (Leave to) h g pc pending here ways keeps t f = absurd (true≢false (sym t.0))
+      block_steps e turn l statement (Full x y) h g pc pending here ways keeps t f =
+          let xs = orders Inside x in
+          let ys = orders Inside y in
           let ds = drop_orders xs in
           let o = types_ordinary R t.1 ds g t.4 in
-          let one = behind false x h t.0 pc pending (ys ++ ds) refl t.2 f in
-          let two = behind false y t.0 t.1 (pc + length xs) one.0 ds refl t.3 one.2 in
-          step_then pc xs (ys ++ ds) (block_steps false x h t.0 pc pending refl t.2 (front base pc (walk h pending) xs (ys ++ ds) (ordinary_then ys ds (block_ordinary false y t.0 t.1 t.3) o) f))
-          (step_then (pc + length xs) ys ds (block_steps false y t.0 t.1 (pc + length xs) one.0 refl t.3 (front base (pc + length xs) (walk t.0 one.0) ys ds o one.2)) (typed_steps base (pc + length xs + length ys) t.1 two.0 ds g t.4 two.2))
-      block_steps statement x h g pc pending keeps t f = typed_steps base pc h pending (orders x) g t f
+          let one = behind Inside false false x h t.0 pc pending (ys ++ ds) refl t.2 f in
+          let two = behind Inside false false y t.0 t.1 (pc + length xs) one.0 ds refl t.3 one.2 in
+          step_then pc xs (ys ++ ds) (block_steps Inside turn false false x h t.0 pc pending (λ s. absurd (true≢false (sym s))) (λ s. absurd (true≢false (sym s))) refl t.2 (front base pc (walk h pending) xs (ys ++ ds) (ordinary_then ys ds (block_ordinary Inside false false y t.0 t.1 t.3) o) f))
+          (step_then (pc + length xs) ys ds (block_steps Inside turn false false y t.0 t.1 (pc + length xs) one.0 (λ s. absurd (true≢false (sym s))) (λ s. absurd (true≢false (sym s))) refl t.3 (front base (pc + length xs) (walk t.0 one.0) ys ds o one.2)) (typed_steps base (pc + length xs + length ys) t.1 two.0 ds g t.4 two.2))
+      block_steps e turn l statement x h g pc pending here ways keeps t f = typed_steps base pc h pending (orders e x) g t f

@@ -13,7 +13,7 @@ use Rattle.arc_code.specs.declared.effect.Height.{Height}
 use Rattle.arc_code.specs.Effects.{on_numbers, operation_effect, passes}
 use Rattle.arc_ir.specs.declared.action.Target.TheVariants.{Skip}
 use Rattle.arc_lower.specs.Order.{Order}
-use Rattle.arc_lower.specs.Lowered.{conversion_orders, part_orders, piece_orders, left_behind, format_orders, pop_orders, keep_orders, print_orders, get_orders, set_orders, zero_orders, fit_orders, declare_orders, read_orders, store_orders, drop_orders, empty_orders, all_empty_orders, number_of, slots_of, call_orders, Block, Then, Fork, Loop, Full, Leave, flat}
+use Rattle.arc_lower.specs.Lowered.{conversion_orders, part_orders, piece_orders, left_behind, format_orders, pop_orders, keep_orders, print_orders, get_orders, set_orders, zero_orders, fit_orders, declare_orders, read_orders, store_orders, drop_orders, empty_orders, all_empty_orders, number_of, slots_of, call_orders, Inside, Block, Then, Fork, Loop, Quit, Again, Full, Leave, flat}
 use Rattle.arc_lower.specs.Heights.{height, between, after_effect, next_height, Walk, walk, next_walk, last_walk}
 use Rattle.arc_lower.proofs.Linking.{out_of_list}
 
@@ -282,12 +282,15 @@ module _ (P : Program) (r s slots names exit : ℕ) where
   Leaves true h = h ≡ base
   Leaves false h = Unit {0}
 
-  -- the same of a block, which stands between statements or within an expression
-  abbrev pub BlockTypes : (statement : Bool) → Height → Block → Height → Type 0
-  BlockTypes statement h (Then x y) g = (i : Height) × BlockTypes statement h x i × BlockTypes statement i y g
-  BlockTypes statement h (Fork x y) g =
-      (i : Height) × (more : ℕ) × Forks P h i more g × Leaves statement i × BlockTypes statement i x (with_temporaries g more) × BlockTypes statement (with_temporaries i more) y g
-  BlockTypes statement h (Loop x y) g = (statement ≡ true) × (h ≡ base) × BlockTypes statement base x test × BlockTypes statement base y base × (g ≡ base)
-  BlockTypes statement h (Full x y) g = (i : Height) × (j : Height) × BlockTypes false h x i × BlockTypes false i y j × Types P r s j (drop_orders (flat P slots names x)) g
-  BlockTypes statement h (Leave to) g = (statement ≡ true) × (to ≡ exit) × (h ≡ test) × (g ≡ base)
-  BlockTypes statement h x g = Types P r s h (flat P slots names x) g
+  -- the same of a block, which stands in the body of a loop or doesn't, between statements or within an expression
+  abbrev pub BlockTypes : (looping statement : Bool) → Height → Block → Height → Type 0
+  BlockTypes looping statement h (Then x y) g = (i : Height) × BlockTypes looping statement h x i × BlockTypes looping statement i y g
+  BlockTypes looping statement h (Fork x y) g =
+      (i : Height) × (more : ℕ) × Forks P h i more g × Leaves statement i × BlockTypes looping statement i x (with_temporaries g more) × BlockTypes looping statement (with_temporaries i more) y g
+  BlockTypes looping statement h (Loop entry z x y) g =
+      (statement ≡ true) × (h ≡ base) × BlockTypes looping statement base z base × BlockTypes looping statement base x test × BlockTypes true statement base y base × (g ≡ base)
+  BlockTypes looping statement h Quit g = (statement ≡ true) × (looping ≡ true) × (h ≡ base) × (g ≡ base)
+  BlockTypes looping statement h Again g = (statement ≡ true) × (looping ≡ true) × (h ≡ base) × (g ≡ base)
+  BlockTypes looping statement h (Full x y) g = (i : Height) × (j : Height) × BlockTypes false false h x i × BlockTypes false false i y j × Types P r s j (drop_orders (flat P slots names Inside x)) g
+  BlockTypes looping statement h (Leave to) g = (statement ≡ true) × (to ≡ exit) × (h ≡ test) × (g ≡ base)
+  BlockTypes looping statement h x g = Types P r s h (flat P slots names Inside x) g

@@ -1,14 +1,14 @@
 -- Which actions a checked program becomes. A function's variables lie on the stack, the first one deepest, and its operands above them. An expression leaves one
 -- number more on the stack, or one reference more, and a statement leaves both as they were. Temporaries hold what references name, and are dropped together, at
 -- the end of the full-expression.
-use Rattle.std.specs.Prelude.{ℕ, zero, suc, pred, ◌+◌, ◌-◌, ◌/◌, Bool, nat_lt, if◌then◌else◌, pos, List, [], ◌∷◌, ◌++◌, length, take, drop, slice_index_or, Option, Some, None}
+use Rattle.std.specs.Prelude.{ℕ, zero, suc, pred, ◌+◌, ◌-◌, ◌/◌, Bool, true, false, nat_lt, if◌then◌else◌, pos, List, [], ◌∷◌, ◌++◌, length, take, drop, slice_index_or, Option, Some, None}
 use Rattle.std.specs.List.{list_any}
 use Rattle.arc_ast.specs.declared.tree.BinaryOperator.{BinaryOperator}
 use Rattle.arc_ast.specs.declared.tree.Kind.{Kind}
 use Rattle.arc_ast.specs.declared.tree.Kind.TheVariants as k
 use Rattle.arc_ast.specs.declared.tree.Moment.{Moment}
 use Rattle.arc_ast.specs.declared.tree.Moment.TheVariants.{Before, After}
-use Rattle.arc_spec.specs.Resolved.{Piece, Bytes, Decimal, Character, Value, Number, ReadByte, Print, Applied, Combined, Choice, Converted, Location, Local, Global, Assigned, Updated, Invoked, Sent, SentSuper, SentTo, SentToSuper, Field, FieldAssigned, FieldUpdated, Reference, Itself, Variable, Chosen, Stored, Made, Initialized, Values, no_values, and_value, Command, Sequence, Evaluate, EvaluateReference, Begin, Choose, Repeat, Commands, no_commands, and_command, Function, Program}
+use Rattle.arc_spec.specs.Resolved.{Piece, Bytes, Decimal, Character, Value, Number, ReadByte, Print, Applied, Combined, Choice, Converted, Location, Local, Global, Assigned, Updated, Invoked, Sent, SentSuper, SentTo, SentToSuper, Field, FieldAssigned, FieldUpdated, Reference, Itself, Variable, Chosen, Stored, Made, Initialized, Values, no_values, and_value, Command, Sequence, Evaluate, EvaluateReference, Begin, Choose, Repeat, RepeatAfter, Break, Continue, Commands, no_commands, and_command, Function, Program}
 use Rattle.arc_spec.specs.Resolved as resolved
 use Rattle.arc_spec.specs.declared.class.Method.{Method}
 use Rattle.arc_spec.specs.Classes.{Class}
@@ -19,6 +19,8 @@ use Rattle.arc_code.specs.declared.instr.Op.TheVariants as ops
 use Rattle.arc_code.specs.declared.instr.Instr.TheVariants.{Plain, PrintText, Jump, JumpZero, Call, Send, SendSuper, SendTo, SendToSuper, StoreStrong, Empty, DropAll, Return, EndStep}
 use Rattle.arc_code.specs.Effects.{effect, passes}
 use Rattle.arc_ir.specs.declared.action.Target.TheVariants.{Skip, Back, At}
+use Rattle.arc_lower.specs.declared.frame.Turn.{Turn}
+use Rattle.arc_lower.specs.declared.frame.Scope.{Scope}
 use Rattle.arc_lower.specs.Order.{Order}
 
 abbrev pub value_count : Values → ℕ
@@ -142,6 +144,12 @@ pub data Message : Type 0 where
   ToObject : (selector : ℕ) → Message
   ToSuper : (from selector : ℕ) → Message
 
+-- Where a loop is entered: at its step, at its test, or at its body. A turn is the step, the test and the body, one after another.
+pub data Entry : Type 0 where
+  AtStep : Entry
+  AtTest : Entry
+  AtBody : Entry
+
 -- What a part of a function does, and where control goes. A variable that holds a number lies below so many operands.
 pub data Block : Type 0 where
   -- nothing
@@ -164,8 +172,12 @@ pub data Block : Type 0 where
   Then : Block → Block → Block
   -- takes a number: the first where it isn't 0, else the second
   Fork : Block → Block → Block
-  -- the test, which leaves a number, and the body while that isn't 0
-  Loop : Block → Block → Block
+  -- the step, the test, which leaves a number, and the body while that isn't 0
+  Loop : Entry → (step test body : Block) → Block
+  -- leaves the loop in whose body it stands
+  Quit : Block
+  -- goes on with the next turn of that loop
+  Again : Block
   -- a full-expression and what is done with its value; then the temporaries are dropped, where it takes any
   Full : Block → Block → Block
   -- leaves the function at its exit, with its result on top
@@ -177,31 +189,77 @@ message_order (ToSuperClass from selector) n = SendSuper from selector n
 message_order (ToObject selector) n = SendTo selector n
 message_order (ToSuper from selector) n = SendToSuper from selector n
 
--- the actions of a block, in a function with so many variables that hold numbers and so many that name objects
-abbrev pub flat : Program → (slots names : ℕ) → Block → List Order
-flat P slots names Idle = []
-flat P slots names (One o) = Plain o ∷ []
-flat P slots names (Load depth i) = get_orders slots depth i
-flat P slots names (Store depth i) = set_orders slots depth i
-flat P slots names (Read i) = read_orders names i
-flat P slots names (Assign i) = store_orders names i
-flat P slots names (Clear first count) = all_empty_orders names first count
-flat P slots names (Format pieces n) = print_orders pieces n
-flat P slots names (Calls f n) = call_orders P f n
-flat P slots names (Tells message n) = message_order message n ∷ []
-flat P slots names (Then a b) = flat P slots names a ++ flat P slots names b
-flat P slots names (Fork a b) =
-    let first = flat P slots names a in
-    let second = flat P slots names b in
+-- where no loop's turn is
+abbrev pub no_turn : Turn
+no_turn = record { begin = 0; out = 0 }
+
+-- Where a block stands: inside a full-expression, or between others, from a place on, in the body of a loop whose turn begins at one place, and which is left at
+-- another where its test gave 0.
+pub data Spot : Type 0 where
+  Inside : Spot
+  Between : (here : ℕ) → Turn → Spot
+
+-- so many actions further
+abbrev pub past : ℕ → Spot → Spot
+past n Inside = Inside
+past n (Between here turn) = Between (here + n) turn
+
+abbrev pub turn_at : Spot → Turn
+turn_at Inside = no_turn
+turn_at (Between here turn) = turn
+
+-- the body of a loop whose turn begins here, with so many actions of its step and of its test
+abbrev pub body_spot : (steps tests : ℕ) → Spot → Spot
+body_spot steps tests Inside = Inside
+body_spot steps tests (Between here turn) = Between (here + steps + tests + 1) (record { begin = here; out = here + steps + tests })
+
+-- the jump by which a loop is entered elsewhere than where its turn begins
+abbrev pub enter_orders : Entry → (steps tests : ℕ) → List Order
+enter_orders AtStep steps tests = []
+enter_orders AtTest steps tests = Jump (Skip steps) ∷ []
+enter_orders AtBody steps tests = Jump (Skip (steps + tests + 1)) ∷ []
+
+-- how many actions that is
+abbrev pub enter_size : Entry → ℕ
+enter_size AtStep = 0
+enter_size _ = 1
+
+-- a turn, which goes on with the next one
+abbrev pub turn_orders : (steps tests body : List Order) → List Order
+turn_orders steps tests body =
+    steps ++ (tests ++ (JumpZero (Skip (suc (length body))) ∷ [] ++ (body ++ Jump (Back (suc (length steps + length tests + length body))) ∷ [])))
+
+-- The actions of a block, in a function with so many variables that hold numbers and so many that name objects. What leaves a loop gives the 0 for which its test
+-- leaves it.
+abbrev pub flat : Program → (slots names : ℕ) → Spot → Block → List Order
+flat P slots names e Idle = []
+flat P slots names e (One o) = Plain o ∷ []
+flat P slots names e (Load depth i) = get_orders slots depth i
+flat P slots names e (Store depth i) = set_orders slots depth i
+flat P slots names e (Read i) = read_orders names i
+flat P slots names e (Assign i) = store_orders names i
+flat P slots names e (Clear first count) = all_empty_orders names first count
+flat P slots names e (Format pieces n) = print_orders pieces n
+flat P slots names e (Calls f n) = call_orders P f n
+flat P slots names e (Tells message n) = message_order message n ∷ []
+flat P slots names e (Then a b) =
+    let xs = flat P slots names e a in
+    xs ++ flat P slots names (past (length xs) e) b
+flat P slots names e (Fork a b) =
+    let first = flat P slots names (past 1 e) a in
+    let second = flat P slots names (past 1 (past (length first) (past 1 e))) b in
     JumpZero (Skip (suc (length first))) ∷ [] ++ (first ++ (Jump (Skip (length second)) ∷ [] ++ second))
-flat P slots names (Loop test body) =
-    let first = flat P slots names test in
-    let again = flat P slots names body in
-    first ++ (JumpZero (Skip (suc (length again))) ∷ [] ++ (again ++ Jump (Back (suc (length first + length again))) ∷ []))
-flat P slots names (Full a b) =
-    let xs = flat P slots names a in
-    xs ++ (flat P slots names b ++ drop_orders xs)
-flat P slots names (Leave exit) = Jump (At exit) ∷ []
+flat P slots names e (Loop entry step test body) =
+    let begin = past (enter_size entry) e in
+    let steps = flat P slots names begin step in
+    let tests = flat P slots names (past (length steps) begin) test in
+    enter_orders entry (length steps) (length tests) ++ turn_orders steps tests (flat P slots names (body_spot (length steps) (length tests) begin) body)
+flat P slots names e Quit = Plain (Num (pos 0)) ∷ Jump (At (turn_at e).out) ∷ []
+flat P slots names e Again = Jump (At (turn_at e).begin) ∷ []
+flat P slots names e (Full a b) =
+    let xs = flat P slots names Inside a in
+    xs ++ (flat P slots names Inside b ++ drop_orders xs)
+flat P slots names e (Leave exit) = Jump (At exit) ∷ []
 
 -- An update has the old number on top. Where it gives that, a copy of it lies below what follows,
 abbrev pub old_block : Moment → Block
@@ -280,25 +338,45 @@ whole_reference_block a = Full (reference_block 0 a) (One Forget)
 abbrev pub begin_block : ℕ → Reference → Block
 begin_block i a = Full (reference_block 0 a) (Then (Assign i) (One Forget))
 
--- a statement of a function that is left there leaves the operands as they were; a return without a value gives 0
+-- leaves a function with 0
+abbrev pub nothing_given : (exit : ℕ) → Block
+nothing_given exit = Then (One (Num (pos 0))) (Leave exit)
+
+-- whether a statement is one that does nothing
+abbrev pub does_nothing : Command → Bool
+does_nothing (Sequence first zero no_commands) = true
+does_nothing _ = false
+
+-- a loop that begins with its test
+abbrev pub loop_block : (without_step : Bool) → (step test body : Block) → Block
+loop_block true step test body = Loop AtStep Idle test body
+loop_block false step test body = Loop AtTest step test body
+
+-- A statement of a function that is left there leaves the operands as they were; a return without a value gives 0. A `break` is one block, a `continue` another,
+-- which empty the scopes that they leave, the innermost first.
 abbrev mutual
-  pub command_block : (exit : ℕ) → Command → Block
-  command_block exit (Sequence first count all) = Then (commands_block exit all) (Clear first count)
-  command_block exit (Evaluate a) = Then (whole_block a) (One Pop)
-  command_block exit (EvaluateReference a) = whole_reference_block a
-  command_block exit (Begin i a) = begin_block i a
-  command_block exit (resolved.Return None) = Then (One (Num (pos 0))) (Leave exit)
-  command_block exit (resolved.Return (Some a)) = Then (whole_block a) (Leave exit)
-  command_block exit (Choose test a b) = Then (whole_block test) (Fork (command_block exit a) (command_block exit b))
-  command_block exit (Repeat test body) = Loop (whole_block test) (command_block exit body)
+  pub command_block : (exit : ℕ) → (breaks continues : Block) → Command → Block
+  command_block exit breaks continues (Sequence first count all) =
+      Then (commands_block exit (Then (Clear first count) breaks) (Then (Clear first count) continues) all) (Clear first count)
+  command_block exit breaks continues (Evaluate a) = Then (whole_block a) (One Pop)
+  command_block exit breaks continues (EvaluateReference a) = whole_reference_block a
+  command_block exit breaks continues (Begin i a) = begin_block i a
+  command_block exit breaks continues (resolved.Return None) = nothing_given exit
+  command_block exit breaks continues (resolved.Return (Some a)) = Then (whole_block a) (Leave exit)
+  command_block exit breaks continues (Choose test a b) = Then (whole_block test) (Fork (command_block exit breaks continues a) (command_block exit breaks continues b))
+  command_block exit breaks continues (Repeat test step body) =
+      loop_block (does_nothing step) (command_block exit breaks continues step) (whole_block test) (command_block exit Quit Again body)
+  command_block exit breaks continues (RepeatAfter body test) = Loop AtBody Idle (whole_block test) (command_block exit Quit Again body)
+  command_block exit breaks continues Break = breaks
+  command_block exit breaks continues Continue = continues
 
-  pub commands_block : (exit : ℕ) → Commands → Block
-  commands_block exit no_commands = Idle
-  commands_block exit (and_command c others) = Then (command_block exit c) (commands_block exit others)
+  pub commands_block : (exit : ℕ) → (breaks continues : Block) → Commands → Block
+  commands_block exit breaks continues no_commands = Idle
+  commands_block exit breaks continues (and_command c others) = Then (command_block exit breaks continues c) (commands_block exit breaks continues others)
 
--- what a function does; it gives 0 at its end
+-- what a function does; it gives 0 at its end, and where a `break` or a `continue` in no loop leaves it
 abbrev pub body_block : (exit : ℕ) → Commands → Block
-body_block exit body = Then (commands_block exit body) (Then (One (Num (pos 0))) (Leave exit))
+body_block exit body = Then (commands_block exit (nothing_given exit) (nothing_given exit) body) (nothing_given exit)
 
 -- ---- the actions of parts of a function
 
@@ -312,32 +390,59 @@ given_orders Before = Plain Pop ∷ []
 given_orders After = []
 
 abbrev pub value_orders : Program → (slots names depth : ℕ) → Value → List Order
-value_orders P slots names depth a = flat P slots names (value_block depth a)
+value_orders P slots names depth a = flat P slots names Inside (value_block depth a)
 
 abbrev pub reference_orders : Program → (slots names depth : ℕ) → Reference → List Order
-reference_orders P slots names depth a = flat P slots names (reference_block depth a)
+reference_orders P slots names depth a = flat P slots names Inside (reference_block depth a)
 
 abbrev pub all_value_orders : Program → (slots names depth : ℕ) → Values → List Order
-all_value_orders P slots names depth all = flat P slots names (values_block depth all)
+all_value_orders P slots names depth all = flat P slots names Inside (values_block depth all)
 
 abbrev pub whole_orders : Program → (slots names : ℕ) → Value → List Order
-whole_orders P slots names a = flat P slots names (whole_block a)
+whole_orders P slots names a = flat P slots names Inside (whole_block a)
 
 abbrev pub whole_reference_orders : Program → (slots names : ℕ) → Reference → List Order
-whole_reference_orders P slots names a = flat P slots names (whole_reference_block a)
+whole_reference_orders P slots names a = flat P slots names Inside (whole_reference_block a)
 
 abbrev pub begin_orders : Program → (slots names i : ℕ) → Reference → List Order
-begin_orders P slots names i a = flat P slots names (begin_block i a)
+begin_orders P slots names i a = flat P slots names Inside (begin_block i a)
 
-abbrev pub command_orders : Program → (slots names exit : ℕ) → Command → List Order
-command_orders P slots names exit c = flat P slots names (command_block exit c)
+-- Where a statement stands in a function: the place where that is left, the loop in whose body it is, where there is one, and the scopes between the two, or those
+-- of the function, the innermost first.
+pub record Surroundings : Type 0 where
+  pub exit : ℕ
+  pub turn : Option Turn
+  pub scopes : List Scope
 
-abbrev pub commands_orders : Program → (slots names exit : ℕ) → Commands → List Order
-commands_orders P slots names exit all = flat P slots names (commands_block exit all)
+abbrev pub within_scopes : List Scope → Block → Block
+within_scopes [] b = b
+within_scopes (s ∷ others) b = Then (Clear s.first s.count) (within_scopes others b)
 
--- what a function does from its entry on
-abbrev pub body_orders : Program → (exit : ℕ) → Function → List Order
-body_orders P exit f = declare_orders f.names ++ flat P f.slots f.names (body_block exit f.body)
+abbrev pub leaving : (exit : ℕ) → Option Turn → (within_loop : Block) → Block
+leaving exit None within_loop = nothing_given exit
+leaving exit (Some turn) within_loop = within_loop
+
+abbrev pub breaking : Surroundings → Block
+breaking s = within_scopes s.scopes (leaving s.exit s.turn Quit)
+
+abbrev pub continuing : Surroundings → Block
+continuing s = within_scopes s.scopes (leaving s.exit s.turn Again)
+
+abbrev pub spot : (here : ℕ) → Option Turn → Spot
+spot here None = Between here no_turn
+spot here (Some turn) = Between here turn
+
+abbrev pub command_orders : Program → (slots names here : ℕ) → Surroundings → Command → List Order
+command_orders P slots names here s c = flat P slots names (spot here s.turn) (command_block s.exit (breaking s) (continuing s) c)
+
+abbrev pub commands_orders : Program → (slots names here : ℕ) → Surroundings → Commands → List Order
+commands_orders P slots names here s all = flat P slots names (spot here s.turn) (commands_block s.exit (breaking s) (continuing s) all)
+
+-- what a function does from its entry on, which is at this place
+abbrev pub body_orders : Program → (exit entry : ℕ) → Function → List Order
+body_orders P exit entry f =
+    let declares = declare_orders f.names in
+    declares ++ flat P f.slots f.names (Between (entry + length declares) no_turn) (body_block exit f.body)
 
 -- leaves a function with so many variables of each kind: those that name objects are emptied, and its result, on top, is put in the place of the others
 abbrev pub leave_orders : (slots names : ℕ) → List Order
@@ -349,7 +454,7 @@ entry_of place f = place + length (leave_orders f.slots f.names)
 
 -- a function: what leaves it stands before its entry
 abbrev pub function_orders : Program → (place : ℕ) → Function → List Order
-function_orders P place f = leave_orders f.slots f.names ++ body_orders P place f
+function_orders P place f = leave_orders f.slots f.names ++ body_orders P place (entry_of place f) f
 
 -- functions, one behind the other
 abbrev pub functions_orders : Program → (place : ℕ) → List Function → List Order

@@ -1,12 +1,14 @@
 -- What a part of a program leaves as it was: the places that wait and, where only objects end, the running function.
 use Rattle.std.proofs.Common.{◌≡◌, ℕ, zero, suc, ◌+◌, ℤ, pos, List, [], ◌∷◌, Option, Some, None, Bool, true, false, not, ◌&&◌, slice_get, refl, ◌∙◌}
 use Rattle.std.specs.Prelude.{slice_set, slice_index_or, if◌then◌else◌}
+use Rattle.arc_ast.specs.declared.tree.BinaryOperator.{BinaryOperator}
+use Rattle.arc_ast.specs.declared.tree.Kind.{Kind}
 use Rattle.arc_spec.specs.Classes.{superclasses, ancestry, own_dealloc, class_at, descends}
 use Rattle.arc_spec.specs.Number.{converted, applied, combined, is_zero}
 use Rattle.arc_spec.specs.Objects.{Object, Phase, object_at, is_live, names, with_object, with_fields}
-use Rattle.arc_spec.specs.Resolved.{Value, Number, ReadByte, Print, Applied, Combined, Choice, Converted, Local, Assigned, Invoked, Sent, SentSuper, SentTo, SentToSuper, Field, FieldAssigned, Differ, IsObject, Reference, Nil, Itself, Variable, Chosen, Stored, Made, Initialized, Values, no_values, and_value, Command, Sequence, Evaluate, EvaluateReference, Begin, Return, Choose, Repeat, RepeatAfter, Break, Continue, Commands, no_commands, and_command, Function, Program}
+use Rattle.arc_spec.specs.Resolved.{Value, Number, ReadByte, Print, Applied, Combined, Choice, Converted, Local, Assigned, Updated, Invoked, Sent, SentSuper, SentTo, SentToSuper, Field, FieldAssigned, FieldUpdated, Differ, IsObject, Reference, Nil, Itself, Variable, Chosen, Stored, Made, Initialized, Values, no_values, and_value, Command, Sequence, Evaluate, EvaluateReference, Begin, Return, Choose, Repeat, RepeatAfter, Break, Continue, Commands, no_commands, and_command, Function, Program}
 use Rattle.arc_spec.specs.World.{World, Outcome, Done, Faulted, Cut, then_do, Finished, finished, places, prints, entered, left, takes, stores, with_temporaries, with_locals, with_objects, local_at, name_at}
-use Rattle.arc_spec.specs.Meaning.{Deeper, formatted, byte_count, or_fault, released, temporaries_dropped, all_dropped, assigned, variables_dropped, dispatched, finds, runs_found, class_in, sent_from, sent_to, made, in_object, field_read, field_set, difference, evaluated, referred, all_evaluated, whole, whole_reference, begun, Flow, Normal, Broken, Continued, Returned, if_normal, in_turn, after_body, chosen, turns, turns_after, scope_left, normally, executed, all_executed, given, function_at, called, dealloc_run, deallocs_run, turned, gone, dying, ended, level}
+use Rattle.arc_spec.specs.Meaning.{Deeper, formatted, byte_count, or_fault, updated, given_by, released, temporaries_dropped, all_dropped, assigned, variables_dropped, dispatched, finds, runs_found, class_in, sent_from, sent_to, made, in_object, field_read, field_set, difference, evaluated, referred, all_evaluated, whole, whole_reference, begun, Flow, Normal, Broken, Continued, Returned, if_normal, in_turn, after_body, chosen, turns, turns_after, scope_left, normally, executed, all_executed, given, function_at, called, dealloc_run, deallocs_run, turned, gone, dying, ended, level}
 
 -- what holds of the world behind a part that was done
 abbrev pub After : {A : Type 0} → (World → Type 0) → Outcome A → Type 0
@@ -164,6 +166,15 @@ module _ (D : Deeper) (steady : Steady D) where
   fault_waits (Some v) w = refl
   fault_waits None w = tt
 
+  updated_waits : (operator : BinaryOperator) (computed kept : Kind) (old x : ℤ) (w : World) → After (Waits w) (updated operator computed kept old x w)
+  updated_waits operator computed kept old x w = waits_then w (or_fault (combined operator computed old x) w) (λ v w1. Done (converted kept v) w1) (fault_waits (combined operator computed old x) w) (λ v w1. refl)
+
+  read_waits : (r class index : ℕ) (w : World) → After (Waits w) (field_read D r class index w)
+  read_waits r class index w = in_object_waits class (object_at w.objects r) (λ o. Done (slice_index_or o.fields index (pos 0)) w) w (λ o. refl)
+
+  set_waits : (r class index : ℕ) (v : ℤ) (w : World) → After (Waits w) (field_set D r class index v w)
+  set_waits r class index v w = in_object_waits class (object_at w.objects r) (λ o. Done v (with_objects w (with_object w.objects r (with_fields o (slice_set o.fields index v))))) w (λ o. refl)
+
   mutual
     value_waits : (a : Value) (w : World) → After (Waits w) (evaluated D a w)
     value_waits (Number n) w = refl
@@ -180,6 +191,11 @@ module _ (D : Deeper) (steady : Steady D) where
     value_waits (Converted kind a) w = waits_then w (evaluated D a w) (λ x w1. Done (converted kind x) w1) (value_waits a w) (λ x w1. refl)
     value_waits (Local i) w = refl
     value_waits (Assigned i a) w = waits_then w (evaluated D a w) (λ x w1. Done x (with_locals w1 (slice_set w1.frame.locals i x))) (value_waits a w) (λ x w1. refl)
+    value_waits (Updated moment i operator computed kept a) w =
+        let old = local_at w.frame.locals i in
+        let stored : ℤ → World → Outcome ℤ = λ new w2. Done (given_by moment old new) (with_locals w2 (slice_set w2.frame.locals i new)) in
+        waits_then w (evaluated D a w) (λ x w1. then_do (updated operator computed kept old x w1) stored) (value_waits a w)
+        (λ x w1. waits_then w1 (updated operator computed kept old x w1) stored (updated_waits operator computed kept old x w1) (λ new w2. refl))
     value_waits (Invoked f arguments) w = waits_then w (all_evaluated D arguments w) (λ given w1. D.call f 0 given w1) (values_wait arguments w) (λ given w1. call_waits f 0 given w1)
     value_waits (Sent a selector arguments) w =
         waits_then w (evaluated D a w) (λ self w1. then_do (all_evaluated D arguments w1) (λ given w2. dispatched D (finds D (class_at self) selector given) self given w2)) (value_waits a w)
@@ -197,11 +213,19 @@ module _ (D : Deeper) (steady : Steady D) where
         (λ given w1. sent_waits (Some from) w.frame.self selector given w1)
     value_waits (Field a class index) w =
         waits_then w (referred D a w) (λ r w1. field_read D r class index w1) (reference_waits a w)
-        (λ r w1. in_object_waits class (object_at w1.objects r) (λ o. Done (slice_index_or o.fields index (pos 0)) w1) w1 (λ o. refl))
+        (λ r w1. read_waits r class index w1)
     value_waits (FieldAssigned a class index b) w =
         waits_then w (referred D a w) (λ r w1. then_do (evaluated D b w1) (λ v w2. field_set D r class index v w2)) (reference_waits a w)
         (λ r w1. waits_then w1 (evaluated D b w1) (λ v w2. field_set D r class index v w2) (value_waits b w1)
-        (λ v w2. in_object_waits class (object_at w2.objects r) (λ o. Done v (with_objects w2 (with_object w2.objects r (with_fields o (slice_set o.fields index v))))) w2 (λ o. refl)))
+        (λ v w2. set_waits r class index v w2))
+    value_waits (FieldUpdated moment a class index operator computed kept b) w =
+        let set : ℕ → (old new : ℤ) → World → Outcome ℤ = λ r old new w4. then_do (field_set D r class index new w4) (λ _ w5. Done (given_by moment old new) w5) in
+        let renewed : ℕ → (old x : ℤ) → World → Outcome ℤ = λ r old x w3. then_do (updated operator computed kept old x w3) (set r old) in
+        waits_then w (referred D a w) (λ r w1. then_do (field_read D r class index w1) (λ old w2. then_do (evaluated D b w2) (renewed r old))) (reference_waits a w)
+        (λ r w1. waits_then w1 (field_read D r class index w1) (λ old w2. then_do (evaluated D b w2) (renewed r old)) (read_waits r class index w1)
+        (λ old w2. waits_then w2 (evaluated D b w2) (renewed r old) (value_waits b w2)
+        (λ x w3. waits_then w3 (updated operator computed kept old x w3) (set r old) (updated_waits operator computed kept old x w3)
+        (λ new w4. waits_then w4 (field_set D r class index new w4) (λ _ w5. Done (given_by moment old new) w5) (set_waits r class index new w4) (λ _ w5. refl)))))
     value_waits (Differ a b) w =
         waits_then w (referred D a w) (λ x w1. then_do (referred D b w1) (λ y w2. Done (difference x y) w2)) (reference_waits a w)
         (λ x w1. waits_then w1 (referred D b w1) (λ y w2. Done (difference x y) w2) (reference_waits b w1) (λ y w2. refl))

@@ -1,5 +1,6 @@
 pub mod Turns
 pub mod Weights
+pub mod Updates
 pub mod Locals
 pub mod Whole
 pub mod Keeping

@@ -131,6 +131,15 @@ turns_on bound i test step body whole n w between below old tested holds =
     ∙ ap (λ b. chosen b (then_do (body between) (λ flow w2. after_body flow (in_turn step next) w2)) (Done Normal between)) holds
     ∙ turn_is (step_of step) body (in_turn step next) next between (step_is step next)
 
+-- a test that fails
+pub test_failed : {A : Type 0} (view : A → ℤ) (left : ℕ) (test : World → Outcome ℤ) (step body : World → Outcome meaning.Flow) (whole : Outcome meaning.Flow) (e : Halt) (r : Result Flow Halt) (w after : World)
+    → whole ≡ turns left test step body w → r ≡ Err e → Tells view (Err e) (test w) after → Tells flow_of r whole after
+test_failed view zero test step body whole e r w after old failed h =
+    subst (λ x. Tells flow_of x whole after) (sym failed) (tells_through e view flow_of after (λ v w1. chosen (is_zero v) (Cut w1) (Done Normal w1)) (test w) whole old h)
+test_failed view (suc n) test step body whole e r w after old failed h =
+    subst (λ x. Tells flow_of x whole after) (sym failed)
+    (tells_through e view flow_of after (λ v w1. chosen (is_zero v) (then_do (body w1) (λ flow w2. after_body flow (in_turn step (turns n test step body)) w2)) (Done Normal w1)) (test w) whole old h)
+
 -- one turn more
 pub turns_step : (bound i : ℕ) (test : World → Outcome ℤ) (step body : World → Outcome meaning.Flow) (whole : Outcome meaning.Flow) (n : ℤ) (w between after : World)
     → i < bound → whole ≡ turns (bound - i) test step body w → test w ≡ Done n between → is_zero n ≡ false → turn_of (step_of step) body between ≡ Done None after

@@ -6,7 +6,7 @@ use Rattle.arc_check.specs.declared.checked.Command as d
 use Rattle.arc_check.specs.declared.checked.Piece.{Piece}
 use Rattle.arc_check.specs.declared.checked.CheckedFunction.{CheckedFunction}
 use Rattle.arc_check.specs.declared.checked.Checked.{Checked}
-use Rattle.arc_spec.specs.Resolved.{Value, Number, ReadByte, Print, Applied, Combined, Choice, Converted, Local, Assigned, Invoked, Sent, SentSuper, SentTo, SentToSuper, Field, FieldAssigned, Differ, IsObject, Reference, Nil, Itself, Variable, Chosen, Stored, Made, Initialized, Values, no_values, and_value, Command, Sequence, Evaluate, EvaluateReference, Begin, Return, Choose, Repeat, RepeatAfter, Break, Continue, Commands, no_commands, and_command, Function}
+use Rattle.arc_spec.specs.Resolved.{Value, Number, ReadByte, Print, Applied, Combined, Choice, Converted, Local, Assigned, Updated, Invoked, Sent, SentSuper, SentTo, SentToSuper, Field, FieldAssigned, FieldUpdated, Differ, IsObject, Reference, Nil, Itself, Variable, Chosen, Stored, Made, Initialized, Values, no_values, and_value, Command, Sequence, Evaluate, EvaluateReference, Begin, Return, Choose, Repeat, RepeatAfter, Break, Continue, Commands, no_commands, and_command, Function}
 use Rattle.arc_check.specs.Checked.{program_of, functions, value, values, reference, command, commands}
 use Rattle.arc_check.proofs.Trees.{is_print, is_invoked, is_sent, is_sent_super, is_sent_to, is_sent_to_super, is_sequence}
 use Rattle.arc_plain.proofs.Turns.{nothing_below}
@@ -23,6 +23,7 @@ abbrev mutual
   value_weight (Converted kind a) = suc (value_weight a)
   value_weight (Local i) = 1
   value_weight (Assigned i a) = suc (value_weight a)
+  value_weight (Updated moment i operator computed kept a) = 2 + value_weight a
   value_weight (Invoked f arguments) = 2 + values_weight arguments
   value_weight (Sent a selector arguments) = 3 + value_weight a + values_weight arguments
   value_weight (SentSuper from selector arguments) = 3 + values_weight arguments
@@ -30,6 +31,7 @@ abbrev mutual
   value_weight (SentToSuper from selector arguments) = 3 + values_weight arguments
   value_weight (Field a class index) = suc (reference_weight a)
   value_weight (FieldAssigned a class index b) = 2 + reference_weight a + value_weight b
+  value_weight (FieldUpdated moment a class index operator computed kept b) = 2 + reference_weight a + value_weight b
   value_weight (Differ a b) = 2 + reference_weight a + reference_weight b
   value_weight (IsObject a) = suc (reference_weight a)
 

@@ -11,3 +11,4 @@ mod object;
 mod place;
 mod progress;
 mod run;
+mod update;

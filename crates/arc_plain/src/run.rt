@@ -16,6 +16,7 @@ use crate::object::{
 };
 use crate::place::{clear, drop_last, is_named, name, pop_frame, push_frame, store, take};
 use crate::progress::{Progress, assign, local, print, read};
+use crate::update::{Update, given_by, renew};
 use arc_ast::tree::{BinaryOperator, Kind, Sign};
 use arc_check::checked::{Command, Piece, Reference, Value};
 use arc_spec::event::Fault;
@@ -71,6 +72,15 @@ fn evaluate(
             assign(progress, *slot, number);
             Ok(number)
         }
+        Value::Updated(moment, slot, operator, computed, kept, operand) => {
+            let update = Update {
+                moment: *moment,
+                operator: *operator,
+                computed: *computed,
+                kept: *kept,
+            };
+            update_local(alloc, context, progress, *slot, update, operand)
+        }
         Value::Invoked(function, arguments) => {
             invoke(alloc, context, progress, *function, arguments)
         }
@@ -92,6 +102,17 @@ fn evaluate(
         }
         Value::FieldAssigned(object, class, index, operand) => {
             assign_field(alloc, context, progress, object, *class, *index, operand)
+        }
+        Value::FieldUpdated(moment, object, class, index, operator, computed, kept, operand) => {
+            let update = Update {
+                moment: *moment,
+                operator: *operator,
+                computed: *computed,
+                kept: *kept,
+            };
+            update_field(
+                alloc, context, progress, object, *class, *index, update, operand,
+            )
         }
         Value::Differ(left, right) => compare(alloc, context, progress, left, right),
         Value::IsObject(operand) => {
@@ -137,6 +158,25 @@ fn evaluate_both(
     }
 }
 
+/// Updates a variable that holds a number, which is read before the right operand is evaluated.
+#[cycle(running)]
+fn update_local(
+    alloc: Global,
+    context: &Context,
+    progress: &mut Progress,
+    slot: usize,
+    update: Update,
+    operand: &Value,
+) -> Result<i64, Halt>
+    ensures { Tells (λ n. n) result (evaluated (deeper context.now) (resolved.Updated update.moment slot update.operator update.computed update.kept (checked.value operand.now)) (world progress.old)) (world progress.new) }
+{
+    let old = local(progress, slot);
+    let right = evaluate(alloc, context, progress, operand)?;
+    let new = renew(update, old, right)?;
+    assign(progress, slot, new);
+    Ok(given_by(update.moment, old, new))
+}
+
 /// Calls the function with this number with what the expressions give.
 #[cycle(running)]
 fn invoke(
@@ -168,6 +208,29 @@ fn assign_field(
     let number = refer(alloc, context, progress, object)?;
     let assigned = evaluate(alloc, context, progress, operand)?;
     set_field(context, progress, number, class, index, assigned)
+}
+
+/// Updates a field of the object that an expression gives, which is evaluated once; the field is read before the
+/// right operand is evaluated.
+#[cycle(running)]
+fn update_field(
+    alloc: Global,
+    context: &Context,
+    progress: &mut Progress,
+    object: &Reference,
+    class: usize,
+    index: usize,
+    update: Update,
+    operand: &Value,
+) -> Result<i64, Halt>
+    ensures { Tells (λ n. n) result (evaluated (deeper context.now) (resolved.FieldUpdated update.moment (checked.reference object.now) class index update.operator update.computed update.kept (checked.value operand.now)) (world progress.old)) (world progress.new) }
+{
+    let number = refer(alloc, context, progress, object)?;
+    let old = read_field(context, progress, number, class, index)?;
+    let right = evaluate(alloc, context, progress, operand)?;
+    let new = renew(update, old, right)?;
+    let _ = set_field(context, progress, number, class, index, new)?;
+    Ok(given_by(update.moment, old, new))
 }
 
 /// 1 where two expressions give different references, else 0.

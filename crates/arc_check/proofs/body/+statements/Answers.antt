@@ -92,7 +92,7 @@ stepped-returns-clause-fault t c =
     let A = broken_stmt c.args.gives_nothing false s a in
     let C = broken_clauses own test step in
     let B = broken_stmt c.args.gives_nothing true own b in
-    let clauses : option_map told c.clauses.result ≡ first C = c.clauses.ensures ∙ ap (λ p. first (broken_clauses p test step)) c.in_ok-before.ensures.scope in
+    let clauses : option_map told c.clauses-clauses.result ≡ first C = c.clauses-clauses.ensures ∙ ap (λ p. first (broken_clauses p test step)) c.in_ok-before.ensures.scope in
     let inside : option_map told c.in_ok-inside.inside ≡ first B = c.in_ok-inside.ensures.fault ∙ ap (λ p. first (broken_stmt c.args.gives_nothing true p b)) c.in_ok-before.ensures.scope in
     first_both A (C ++ B) _ _ _ c.in_ok-before.ensures.fault (first_both C B _ _ _ clauses inside c.earlier.ensures) c.earlier-2.ensures
 

@@ -100,6 +100,10 @@ pub returns-clause-self_assigned : goal.returns-clause-self_assigned
 unfolding reading
 returns-clause-self_assigned c = by.refused refused.self_assigned 47 64 refl refl
 
+pub returns-clause-outside_loop : goal.returns-clause-outside_loop
+unfolding reading
+returns-clause-outside_loop c = by.refused refused.outside_loop 48 29 refl refl
+
 pub returns-clause-private_field : goal.returns-clause-private_field
 unfolding reading
 returns-clause-private_field c = by.refused refused.private_field 49 111 refl refl

@@ -17,6 +17,10 @@ pub returns-clause-echo : goal.returns-clause-echo
 unfolding reading
 returns-clause-echo c = known program.echo (codes "hi") 2 (printed (codes "hi")) (Ends (negsuc 1)) refl refl
 
+pub returns-clause-loops : goal.returns-clause-loops
+unfolding reading
+returns-clause-loops c = known program.loops [] 5 (printed (codes "023")) (Ends (pos 35)) refl refl
+
 pub returns-clause-deepest_blocks : goal.returns-clause-deepest_blocks
 unfolding reading
 returns-clause-deepest_blocks c = known program.deepest_blocks [] 0 [] (Ends (pos 0)) refl refl

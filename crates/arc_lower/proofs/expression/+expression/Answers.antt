@@ -10,7 +10,7 @@ use Rattle.arc_code.specs.declared.instr.Op.TheVariants as ops
 use Rattle.arc_code.specs.declared.instr.Op.TheVariants.{Bin, Narrow, ReadSelf, GetField, SetField, Differ}
 use Rattle.arc_code.specs.declared.instr.Instr.TheVariants.{Plain, Send, SendSuper, SendTo, SendToSuper}
 use Rattle.arc_lower.specs.Order.{Order, order, orders}
-use Rattle.arc_lower.specs.Lowered.{flat, old_block, given_block, old_orders, given_orders, below_new, value_orders, reference_orders, all_value_orders, print_orders, call_orders, get_orders, set_orders, value_count}
+use Rattle.arc_lower.specs.Lowered.{Inside, flat, old_block, given_block, old_orders, given_orders, below_new, value_orders, reference_orders, all_value_orders, print_orders, call_orders, get_orders, set_orders, value_count}
 use Rattle.arc_lower.proofs.Patching.{patch_fork}
 use Rattle.arc_lower.proofs.Rows.{values_counted}
 use Rattle.arc_check.proofs.Trees.{is_print, is_invoked, is_sent, is_sent_super, is_sent_to, is_sent_to_super}
@@ -20,11 +20,11 @@ use Rattle.arc_lower.proofs.expression.+expression.Goals as goal
 behind_two : (old o1 o2 a b last : List Order) → o1 ≡ old ++ a → o2 ≡ o1 ++ b → o2 ++ last ≡ old ++ (a ++ (b ++ last))
 behind_two old o1 o2 a b last e1 e2 = ap (λ l. l ++ last) (e2 ∙ ap (λ l. l ++ b) e1) ∙ append_assoc (old ++ a) b last ∙ append_assoc old a (b ++ last)
 
-old_is : (P : resolved.Program) (slots names : ℕ) (moment : Moment) → old_orders moment ≡ flat P slots names (old_block moment)
+old_is : (P : resolved.Program) (slots names : ℕ) (moment : Moment) → old_orders moment ≡ flat P slots names Inside (old_block moment)
 old_is P slots names Before = refl
 old_is P slots names After = refl
 
-given_is : (P : resolved.Program) (slots names : ℕ) (moment : Moment) → given_orders moment ≡ flat P slots names (given_block moment)
+given_is : (P : resolved.Program) (slots names : ℕ) (moment : Moment) → given_orders moment ≡ flat P slots names Inside (given_block moment)
 given_is P slots names Before = refl
 given_is P slots names After = refl
 
@@ -35,11 +35,11 @@ behind_old old first copy right new store given o1 o2 o3 e1 e2 e3 =
 
 -- these are the orders of an update's blocks
 updates : (P : resolved.Program) (slots names : ℕ) (moment : Moment) (old first : List Order) (right : ℕ → List Order) (new : List Order) (store : ℕ → List Order) (n m : ℕ) → n ≡ m
-    → old ++ (first ++ (old_orders moment ++ (right n ++ (new ++ (store n ++ given_orders moment))))) ≡ old ++ (first ++ (flat P slots names (old_block moment) ++ (right m ++ (new ++ (store m ++ flat P slots names (given_block moment))))))
+    → old ++ (first ++ (old_orders moment ++ (right n ++ (new ++ (store n ++ given_orders moment))))) ≡ old ++ (first ++ (flat P slots names Inside (old_block moment) ++ (right m ++ (new ++ (store m ++ flat P slots names Inside (given_block moment))))))
 updates P slots names moment old first right new store n m e =
     ap (λ k. old ++ (first ++ (old_orders moment ++ (right k ++ (new ++ (store k ++ given_orders moment)))))) e
     ∙ ap (λ l. old ++ (first ++ (l ++ (right m ++ (new ++ (store m ++ given_orders moment)))))) (old_is P slots names moment)
-    ∙ ap (λ l. old ++ (first ++ (flat P slots names (old_block moment) ++ (right m ++ (new ++ (store m ++ l)))))) (given_is P slots names moment)
+    ∙ ap (λ l. old ++ (first ++ (flat P slots names Inside (old_block moment) ++ (right m ++ (new ++ (store m ++ l)))))) (given_is P slots names moment)
 
 -- what holds of what a value means holds of the value
 told : (Q : resolved.Value → Type 0) (v : Value) (meant : resolved.Value) → value v ≡ meant → Q meant → Q (value v)

@@ -7,15 +7,16 @@ use Rattle.arc_spec.specs.Classes.{superclasses, ancestry}
 use Rattle.arc_spec.specs.Number.{is_zero}
 use Rattle.arc_spec.proofs.Ancestry.{all_classes}
 use Rattle.arc_check.specs.Checked.{program_of}
-use Rattle.arc_spec.specs.Meaning.{whole, all_evaluated, all_executed, executed, turns, turns_after, called, function_at, all_dropped, variables_dropped, class_in, deallocs_run, dying, gone, level}
-use Rattle.arc_spec.specs.Resolved.{Function}
+use Rattle.arc_spec.specs.Meaning.{updated, given_by, field_set, evaluated, whole, all_evaluated, all_executed, executed, turns, turns_after, called, function_at, all_dropped, variables_dropped, class_in, deallocs_run, dying, gone, level}
+use Rattle.arc_spec.specs.Resolved.{Updated, FieldUpdated, Function}
 use Rattle.arc_spec.specs.Objects.{object_at}
 use Rattle.arc_spec.specs.World.{Done, then_do}
 use Rattle.arc_plain.specs.Views.{world, Tells, deeper, flow_of, nothing_of, object_of, function_of, left_at}
 use Rattle.arc_plain.proofs.Calls.{call_told, body_failed, drop_failed, nothing_called, function_there, function_absent, temporary_step, temporaries_fewer, no_temporary, variable_step, variable_failed, layer_done, layer_failed}
 use Rattle.arc_plain.proofs.Keeping.{level_steady}
 use Rattle.arc_check.proofs.Trees.{is_print, is_invoked, is_sent, is_sent_super, is_sent_to, is_sent_to_super, is_sequence}
-use Rattle.arc_plain.proofs.Turns.{value_told, message_told, command_told, values_step, turns_step, turns_left, turn_failed, turns_after_step, turns_after_left, turn_after_failed, call_is, end_is, tells_through}
+use Rattle.arc_plain.proofs.Turns.{value_told, message_told, command_told, values_step, test_failed, turns_step, turns_left, turn_failed, turns_after_step, turns_after_left, turn_after_failed, call_is, end_is, tells_through}
+use Rattle.arc_plain.proofs.Updates.{local_stored, field_stored, local_updated, field_updated}
 use Rattle.arc_plain.proofs.Weights.{print_lighter, call_lighter, sent_lighter, super_lighter, sent_to_lighter, to_super_lighter, sequence_lighter, value_in, command_in, commands_weight, level_lighter, body_lighter}
 use Rattle.arc_plain.proofs.run.+running.Goals as goal
 
@@ -56,6 +57,106 @@ send-returns t c =
     c.in_ok-numbers.numbers.items c.deref.result.now c.class_at-from.result c.dispatch.result
     (world c.args.progress.now) (world c.evaluate.new.progress) (world c.evaluate_all.new.progress) (world c.dispatch.new.progress)
     same c.deref.ensures.value c.class_at-from.ensures c.in_ok-itself.ensures c.in_ok-numbers.ensures c.dispatch.ensures
+
+pub update_local-returns-in_err-new : goal.update_local-returns-in_err-new
+update_local-returns-in_err-new t c =
+    let D = deeper c.args.context.now in
+    let u = c.args.update in
+    let w = world c.args.progress.now in
+    let between = world c.evaluate.new.progress in
+    let old = to_z w64 (of_z w64 c.local-old.result) in
+    let right = to_z w64 (of_z w64 c.in_ok-right.right) in
+    let olds : old ≡ c.local-old.result = grind (arith, to_z-of_z) in
+    let rights : right ≡ c.in_ok-right.right = grind (arith, to_z-of_z) in
+    let meant = local_updated D u.moment u.operator u.computed u.kept c.args.slot (checked.value c.args.operand.now) c.local-old.result c.in_ok-right.right old right w between olds rights c.local-old.ensures c.in_ok-right.ensures in
+    let p = err_from_is_err_and c.from_residual-in_err-new.result c.from_residual-in_err-new.ensures.1 in
+    subst (λ r. Tells (λ n. n) r (evaluated D (Updated u.moment c.args.slot u.operator u.computed u.kept (checked.value c.args.operand.now)) w) between) (sym (p.1 ∙ ap Err p.2))
+    (tells_through c.in_err-new.field-0.0 (λ n. n) (λ n. n) between (local_stored D u.moment u.operator u.computed u.kept c.args.slot old) (updated u.operator u.computed u.kept old right between) _ meant (c.in_err-new.ensures between))
+
+pub update_local-returns : goal.update_local-returns
+update_local-returns t c =
+    let D = deeper c.args.context.now in
+    let u = c.args.update in
+    let w = world c.args.progress.now in
+    let between = world c.evaluate.new.progress in
+    let old = to_z w64 (of_z w64 c.local-old.result) in
+    let right = to_z w64 (of_z w64 c.in_ok-right.right) in
+    let olds : old ≡ c.local-old.result = grind (arith, to_z-of_z) in
+    let rights : right ≡ c.in_ok-right.right = grind (arith, to_z-of_z) in
+    let meant = local_updated D u.moment u.operator u.computed u.kept c.args.slot (checked.value c.args.operand.now) c.local-old.result c.in_ok-right.right old right w between olds rights c.local-old.ensures c.in_ok-right.ensures in
+    let new = to_z w64 (of_z w64 c.in_ok-new.new) in
+    let news : new ≡ c.in_ok-new.new = grind (arith, to_z-of_z) in
+    let given = to_z w64 (of_z w64 c.given_by.result) in
+    let gives : given ≡ c.given_by.result = grind (arith, to_z-of_z) in
+    let stored = local_stored D u.moment u.operator u.computed u.kept c.args.slot old in
+    meant
+    ∙ ap (λ o. then_do o stored) (c.in_ok-new.ensures between)
+    ∙ ap (λ n. stored n between) (sym news)
+    ∙ ap (Done (given_by u.moment old new)) (sym c.assign.ensures)
+    ∙ ap (λ n. Done n (world c.assign.new.progress)) (sym (gives ∙ c.given_by.ensures))
+
+pub update_field-returns-in_err-new : goal.update_field-returns-in_err-new
+update_field-returns-in_err-new t c =
+    let D = deeper c.args.context.now in
+    let u = c.args.update in
+    let w = world c.args.progress.now in
+    let between = world c.evaluate.new.progress in
+    let found = world c.refer.new.progress in
+    let r = c.in_ok-number.number in
+    let old = to_z w64 (of_z w64 c.in_ok-old.old) in
+    let right = to_z w64 (of_z w64 c.in_ok-right.right) in
+    let olds : old ≡ c.in_ok-old.old = grind (arith, to_z-of_z) in
+    let rights : right ≡ c.in_ok-right.right = grind (arith, to_z-of_z) in
+    let meant = field_updated D u.moment u.operator u.computed u.kept c.args.class c.args.index (checked.reference c.args.object.now) (checked.value c.args.operand.now) r c.in_ok-old.old c.in_ok-right.right old right w found between olds rights c.in_ok-number.ensures c.in_ok-old.ensures c.in_ok-right.ensures in
+    let p = err_from_is_err_and c.from_residual-in_err-new.result c.from_residual-in_err-new.ensures.1 in
+    subst (λ x. Tells (λ n. n) x (evaluated D (FieldUpdated u.moment (checked.reference c.args.object.now) c.args.class c.args.index u.operator u.computed u.kept (checked.value c.args.operand.now)) w) between) (sym (p.1 ∙ ap Err p.2))
+    (tells_through c.in_err-new.field-0.0 (λ n. n) (λ n. n) between (field_stored D u.moment u.operator u.computed u.kept r c.args.class c.args.index old) (updated u.operator u.computed u.kept old right between) _ meant (c.in_err-new.ensures between))
+
+pub update_field-returns-in_err-set_field : goal.update_field-returns-in_err-set_field
+update_field-returns-in_err-set_field t c =
+    let D = deeper c.args.context.now in
+    let u = c.args.update in
+    let w = world c.args.progress.now in
+    let between = world c.evaluate.new.progress in
+    let found = world c.refer.new.progress in
+    let r = c.in_ok-number.number in
+    let old = to_z w64 (of_z w64 c.in_ok-old.old) in
+    let right = to_z w64 (of_z w64 c.in_ok-right.right) in
+    let olds : old ≡ c.in_ok-old.old = grind (arith, to_z-of_z) in
+    let rights : right ≡ c.in_ok-right.right = grind (arith, to_z-of_z) in
+    let meant = field_updated D u.moment u.operator u.computed u.kept c.args.class c.args.index (checked.reference c.args.object.now) (checked.value c.args.operand.now) r c.in_ok-old.old c.in_ok-right.right old right w found between olds rights c.in_ok-number.ensures c.in_ok-old.ensures c.in_ok-right.ensures in
+    let new = to_z w64 (of_z w64 c.in_ok-new.new) in
+    let news : new ≡ c.in_ok-new.new = grind (arith, to_z-of_z) in
+    let stored = field_stored D u.moment u.operator u.computed u.kept r c.args.class c.args.index old in
+    let p = err_from_is_err_and c.from_residual-in_err-set_field.result c.from_residual-in_err-set_field.ensures.1 in
+    let after = world c.set_field.new.progress in
+    subst (λ x. Tells (λ n. n) x (evaluated D (FieldUpdated u.moment (checked.reference c.args.object.now) c.args.class c.args.index u.operator u.computed u.kept (checked.value c.args.operand.now)) w) after) (sym (p.1 ∙ ap Err p.2))
+    (tells_through c.in_err-set_field.field-0.0 (λ n. n) (λ n. n) after (λ _ w1. Done (given_by u.moment old new) w1) (field_set D r c.args.class c.args.index new between) _
+    (meant ∙ ap (λ o. then_do o stored) (c.in_ok-new.ensures between) ∙ ap (λ n. stored n between) (sym news)) c.in_err-set_field.ensures)
+
+pub update_field-returns : goal.update_field-returns
+update_field-returns t c =
+    let D = deeper c.args.context.now in
+    let u = c.args.update in
+    let w = world c.args.progress.now in
+    let between = world c.evaluate.new.progress in
+    let found = world c.refer.new.progress in
+    let r = c.in_ok-number.number in
+    let old = to_z w64 (of_z w64 c.in_ok-old.old) in
+    let right = to_z w64 (of_z w64 c.in_ok-right.right) in
+    let olds : old ≡ c.in_ok-old.old = grind (arith, to_z-of_z) in
+    let rights : right ≡ c.in_ok-right.right = grind (arith, to_z-of_z) in
+    let meant = field_updated D u.moment u.operator u.computed u.kept c.args.class c.args.index (checked.reference c.args.object.now) (checked.value c.args.operand.now) r c.in_ok-old.old c.in_ok-right.right old right w found between olds rights c.in_ok-number.ensures c.in_ok-old.ensures c.in_ok-right.ensures in
+    let new = to_z w64 (of_z w64 c.in_ok-new.new) in
+    let news : new ≡ c.in_ok-new.new = grind (arith, to_z-of_z) in
+    let given = to_z w64 (of_z w64 c.given_by.result) in
+    let gives : given ≡ c.given_by.result = grind (arith, to_z-of_z) in
+    let stored = field_stored D u.moment u.operator u.computed u.kept r c.args.class c.args.index old in
+    meant
+    ∙ ap (λ o. then_do o stored) (c.in_ok-new.ensures between)
+    ∙ ap (λ n. stored n between) (sym news)
+    ∙ ap (λ o. then_do o (λ _ w1. Done (given_by u.moment old new) w1)) c.in_ok-set_field.ensures
+    ∙ ap (λ n. Done n (world c.set_field.new.progress)) (sym (gives ∙ c.given_by.ensures))
 
 pub execute-returns-in-Sequence : goal.execute-returns-in-Sequence
 execute-returns-in-Sequence t c =
@@ -129,18 +230,29 @@ repeat-returns-in-Some t c =
     (world c.loop.progress) (world c.evaluate_whole.new.progress) (world c.turn.new.progress)
     c.loop-test.true c.loop.invariant c.in_ok-number.ensures (ap is_zero (sym same) ∙ sym c.is_zero.ensures ∙ c.if-is_zero.false) (search rules)
 
-pub repeat-returns-in_err-turn : goal.repeat-returns-in_err-turn
-repeat-returns-in_err-turn t c =
+pub repeat-returns-in_err-number : goal.repeat-returns-in_err-number
+repeat-returns-in_err-number t c =
+    let bound = c.args.context.now.bound in
+    let run = executed (deeper c.args.context.now) bound in
+    let test = whole (deeper c.args.context.now) (checked.value c.args.test.now) in
+    let step = run (checked.command c.args.step.now) in
+    let body = run (checked.command c.args.body.now) in
+    let p = err_from_is_err_and c.from_residual.result c.from_residual.ensures.1 in
+    test_failed (λ n. n) (bound - c.loop.counter) test step body (turns bound test step body (world c.args.progress.now)) c.in_err-number.field-0.0 c.from_residual.result
+    (world c.loop.progress) (world c.evaluate_whole.new.progress) c.loop.invariant (p.1 ∙ ap Err p.2) c.in_err-number.ensures
+
+pub repeat-returns-in_err-flow : goal.repeat-returns-in_err-flow
+repeat-returns-in_err-flow t c =
     let bound = c.args.context.now.bound in
     let run = executed (deeper c.args.context.now) bound in
     let test = whole (deeper c.args.context.now) (checked.value c.args.test.now) in
     let step = run (checked.command c.args.step.now) in
     let body = run (checked.command c.args.body.now) in
     let same : to_z w64 (of_z w64 c.in_ok-number.number) ≡ c.in_ok-number.number = grind (arith, to_z-of_z) in
-    let p = err_from_is_err_and c.from_residual-in_err-turn.result c.from_residual-in_err-turn.ensures.1 in
+    let p = err_from_is_err_and c.from_residual-in_err-flow.result c.from_residual-in_err-flow.ensures.1 in
     turn_failed (option_map flow_of) bound c.loop.counter test step body (turns bound test step body (world c.args.progress.now)) c.in_ok-number.number
-    c.in_err-turn.field-0.0 c.from_residual-in_err-turn.result (world c.loop.progress) (world c.evaluate_whole.new.progress) (world c.turn.new.progress)
-    c.loop-test.true c.loop.invariant c.in_ok-number.ensures (ap is_zero (sym same) ∙ sym c.is_zero.ensures ∙ c.if-is_zero.false) (p.1 ∙ ap Err p.2) c.in_err-turn.ensures
+    c.in_err-flow.field-0.0 c.from_residual-in_err-flow.result (world c.loop.progress) (world c.evaluate_whole.new.progress) (world c.turn.new.progress)
+    c.loop-test.true c.loop.invariant c.in_ok-number.ensures (ap is_zero (sym same) ∙ sym c.is_zero.ensures ∙ c.if-is_zero.false) (p.1 ∙ ap Err p.2) c.in_err-flow.ensures
 
 pub repeat_after-loop-preserved : goal.repeat_after-loop-preserved
 repeat_after-loop-preserved t c =
@@ -156,15 +268,15 @@ repeat_after-returns-in-Some t c =
     let body = executed (deeper c.args.context.now) bound (checked.command c.args.body.now) in
     turns_after_left bound c.loop.counter test body (turns_after bound test body (world c.args.progress.now)) (flow_of c.in-Some.flow) (world c.loop.progress) (world c.turn_after.new.progress) c.loop-test.true c.loop.invariant (search rules)
 
-pub repeat_after-returns-in_err-turn_after : goal.repeat_after-returns-in_err-turn_after
-repeat_after-returns-in_err-turn_after t c =
+pub repeat_after-returns-in_err-flow : goal.repeat_after-returns-in_err-flow
+repeat_after-returns-in_err-flow t c =
     let bound = c.args.context.now.bound in
     let test = whole (deeper c.args.context.now) (checked.value c.args.test.now) in
     let body = executed (deeper c.args.context.now) bound (checked.command c.args.body.now) in
     let p = err_from_is_err_and c.from_residual.result c.from_residual.ensures.1 in
     turn_after_failed (option_map flow_of) bound c.loop.counter test body (turns_after bound test body (world c.args.progress.now))
-    c.in_err-turn_after.field-0.0 c.from_residual.result (world c.loop.progress) (world c.turn_after.new.progress)
-    c.loop-test.true c.loop.invariant (p.1 ∙ ap Err p.2) c.in_err-turn_after.ensures
+    c.in_err-flow.field-0.0 c.from_residual.result (world c.loop.progress) (world c.turn_after.new.progress)
+    c.loop-test.true c.loop.invariant (p.1 ∙ ap Err p.2) c.in_err-flow.ensures
 
 pub call-returns : goal.call-returns
 call-returns t c =

@@ -47,6 +47,12 @@ decreases-invoke l = levels_left l.context.now + suc (values_weight (checked.val
 abbrev pub decreases-assign_field : goal.decreases-assign_field
 decreases-assign_field l = levels_left l.context.now + (1 + reference_weight (checked.reference l.object.now) + value_weight (checked.value l.operand.now))
 
+abbrev pub decreases-update_local : goal.decreases-update_local
+decreases-update_local l = levels_left l.context.now + (1 + value_weight (checked.value l.operand.now))
+
+abbrev pub decreases-update_field : goal.decreases-update_field
+decreases-update_field l = levels_left l.context.now + (1 + reference_weight (checked.reference l.object.now) + value_weight (checked.value l.operand.now))
+
 abbrev pub decreases-compare : goal.decreases-compare
 decreases-compare l = levels_left l.context.now + (1 + reference_weight (checked.reference l.left.now) + reference_weight (checked.reference l.right.now))
 
