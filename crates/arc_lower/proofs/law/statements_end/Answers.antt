@@ -9,4 +9,4 @@ pub returns : goal.returns
 returns c = λ P slots names here s command.
     let base = between slots names in
     ap (λ (w : Walk). w.height) (block_ends P 0 0 slots names s.exit base (spot here s.turn) (is_some s.turn) true (command_block s.exit (breaking s) (continuing s) command) base base [] (refl, tt, tt)
-        (command_types P slots names s.exit (is_some s.turn) (breaking s) (continuing s) (breaking_type P slots names s.exit s.turn s.scopes) (continuing_type P slots names s.exit s.turn s.scopes) command)).1
+    (command_types P slots names s.exit (is_some s.turn) (breaking s) (continuing s) (breaking_type P slots names s.exit s.turn s.scopes) (continuing_type P slots names s.exit s.turn s.scopes) command)).1
