@@ -12,8 +12,8 @@ use Rattle.arc_spec.specs.Resolved as resolved
 use Rattle.arc_spec.specs.World.{World, Outcome, Done, Faulted, Cut, Finished, then_do, prints, local_at, takes}
 use Rattle.arc_spec.specs.Number.{converted, combined, is_zero}
 use Rattle.arc_spec.specs.Meaning.{Deeper, dispatched, finds, sent_to, sent_from, formatted, byte_count, or_fault, held_at, holds, updated, given_by, in_object, field_read, field_set, assigned, evaluated, referred, all_evaluated}
-use Rattle.arc_code.specs.declared.instr.Op.TheVariants.{Bin, Narrow, SetField, Hold}
-use Rattle.arc_lower.specs.Lowered.{Message, ToClass, ToSuperClass, ToObject, ToSuper, Block, One, Load, Store, Format, Calls, Tells, Then, value_count, given_block, below_new, update_block, value_block, reference_block, values_block}
+use Rattle.arc_code.specs.declared.instr.Op.TheVariants.{Narrow, SetField, Hold}
+use Rattle.arc_lower.specs.Lowered.{Message, ToClass, ToSuperClass, ToObject, ToSuper, Block, One, Store, Format, Calls, Tells, Then, value_count, given_block, below_new, update_block, value_block, reference_block, values_block}
 use Rattle.arc_lower.proofs.Shaping.{Operands, push, name, pushed, Way, On, Lost, left_by, and_then, pushes, passes_by, told, block, after, chosen_by, same_depth, on_pushed, Holds, after_known}
 
 module _ (D : Deeper) (bound : ℕ) where
