@@ -11,6 +11,8 @@ mod Patching
 mod Laying
 mod Appended
 mod Stubbing
+mod Surrounding
+mod Turning
 mod Stacking
 mod Doing
 mod Leading

@@ -1,7 +1,7 @@
 -- Jumps are written once it is known how many actions they skip.
 use Rattle.std.proofs.Common.{◌≡◌, ℕ, zero, suc, ◌+◌, ◌-◌, List, [], ◌∷◌, ◌++◌, length, refl, sym, ap, ◌∙◌, arith, append_assoc, length-append, slice_set}
 use Rattle.std.proofs.Math.Seq.{set-append_seam}
-use Rattle.arc_ir.specs.declared.action.Target.TheVariants.{Skip, Back}
+use Rattle.arc_ir.specs.declared.action.Target.TheVariants.{Skip}
 use Rattle.arc_ir.specs.Acting.{Action}
 use Rattle.arc_code.specs.declared.instr.Instr.TheVariants.{Jump, JumpZero}
 use Rattle.arc_lower.specs.Order.{Order, order, orders}
@@ -12,24 +12,8 @@ orders_set (i ∷ is) zero a = refl
 orders_set (i ∷ is) (suc n) a = ap (λ l. order i ∷ l) (orders_set is n a)
 
 -- the jump that was written first, before some others, is another one
-patched : (o1 o2 rest : List Order) (branch : ℕ) (first then : Order) → o2 ≡ o1 ++ first ∷ rest → branch ≡ length o1 → slice_set o2 branch then ≡ o1 ++ then ∷ rest
+pub patched : (o1 o2 rest : List Order) (branch : ℕ) (first then : Order) → o2 ≡ o1 ++ first ∷ rest → branch ≡ length o1 → slice_set o2 branch then ≡ o1 ++ then ∷ rest
 patched o1 o2 rest branch first then e b = ap (λ l. slice_set l branch then) e ∙ ap (λ n. slice_set (o1 ++ first ∷ rest) n then) b ∙ set-append_seam o1 first rest then
-
-pub patch_loop : (old o1 o2 o3 o4 test body : List Order) (begin branch again skip back : ℕ) → begin ≡ length old → o1 ≡ old ++ test → branch ≡ length o1 → o2 ≡ o1 ++ JumpZero (Skip 0) ∷ [] → o3 ≡ o2 ++ body → again ≡ length o3 → skip ≡ again - branch → back ≡ again - begin → o4 ≡ o3 ++ Jump (Back back) ∷ []
-    → slice_set o4 branch (JumpZero (Skip skip)) ≡ old ++ (test ++ (JumpZero (Skip (suc (length body))) ∷ (body ++ Jump (Back (suc (length test + length body))) ∷ [])))
-patch_loop old o1 o2 o3 o4 test body begin branch again skip back b0 e1 b1 e2 e3 b3 s0 s1 e4 =
-    let l1 = ap length e1 ∙ length-append old test in
-    let l2 = ap length e2 ∙ length-append o1 (JumpZero (Skip 0) ∷ []) in
-    let l3 = ap length e3 ∙ length-append o2 body in
-    let last : List Order = Jump (Back back) ∷ [] in
-    let whole : o4 ≡ o1 ++ JumpZero (Skip 0) ∷ (body ++ last) = e4 ∙ ap (λ l. l ++ last) (e3 ∙ ap (λ l. l ++ body) e2) ∙ append_assoc (o1 ++ JumpZero (Skip 0) ∷ []) body last ∙ append_assoc o1 (JumpZero (Skip 0) ∷ []) (body ++ last) in
-    let over : skip ≡ suc (length body) = omega (arith, s0, b1, b3, l2, l3) in
-    let home : back ≡ suc (length test + length body) = omega (arith, s1, b0, b3, l1, l2, l3) in
-    patched o1 o4 (body ++ last) branch (JumpZero (Skip 0)) (JumpZero (Skip skip)) whole b1
-    ∙ ap (λ n. o1 ++ JumpZero (Skip n) ∷ (body ++ last)) over
-    ∙ ap (λ n. o1 ++ JumpZero (Skip (suc (length body))) ∷ (body ++ Jump (Back n) ∷ [])) home
-    ∙ ap (λ l. l ++ JumpZero (Skip (suc (length body))) ∷ (body ++ Jump (Back (suc (length test + length body))) ∷ [])) e1
-    ∙ append_assoc old test (JumpZero (Skip (suc (length body))) ∷ (body ++ Jump (Back (suc (length test + length body))) ∷ []))
 
 pub patch_fork : (old o1 o2 o3 o4 o5 test one two : List Order) (branch skip other first second end : ℕ) → o1 ≡ old ++ test → branch ≡ length o1 → o2 ≡ o1 ++ JumpZero (Skip 0) ∷ [] → o3 ≡ o2 ++ one → skip ≡ length o3 → o4 ≡ o3 ++ Jump (Skip 0) ∷ [] → other ≡ length o4 → o5 ≡ o4 ++ two → end ≡ length o5 → first ≡ skip - branch → second ≡ end - other
     → slice_set (slice_set o5 branch (JumpZero (Skip first))) skip (Jump (Skip second)) ≡ old ++ (test ++ (JumpZero (Skip (suc (length one))) ∷ (one ++ Jump (Skip (length two)) ∷ two)))

@@ -418,6 +418,11 @@ abbrev pub within_scopes : List Scope → Block → Block
 within_scopes [] b = b
 within_scopes (s ∷ others) b = Then (Clear s.first s.count) (within_scopes others b)
 
+-- the actions that empty the variables of these scopes
+abbrev pub scopes_orders : (names : ℕ) → List Scope → List Order
+scopes_orders names [] = []
+scopes_orders names (s ∷ others) = all_empty_orders names s.first s.count ++ scopes_orders names others
+
 abbrev pub leaving : (exit : ℕ) → Option Turn → (within_loop : Block) → Block
 leaving exit None within_loop = nothing_given exit
 leaving exit (Some turn) within_loop = within_loop

@@ -4,7 +4,7 @@ ghost use Rattle.arc_spec.specs.Resolved.{Value, Reference, Command, Program};
 ghost use Rattle.arc_code.specs.Effects.{HeightsFit, NeverHasMore, room_for};
 ghost use Rattle.arc_ir.specs.Acting as acting;
 ghost use Rattle.arc_lower.specs.Order.{orders};
-ghost use Rattle.arc_lower.specs.Lowered.{whole_orders, whole_reference_orders, command_orders, lowered, entries_of, end_step_of, classes_linked};
+ghost use Rattle.arc_lower.specs.Lowered.{whole_orders, whole_reference_orders, Surroundings, command_orders, lowered, entries_of, end_step_of, classes_linked};
 ghost use Rattle.arc_code.specs.declared.effect.Height.{Height};
 ghost use Rattle.arc_lower.specs.Heights.{between, walk, last_walk, last_height, greatest_height, places_in, height_at};
 
@@ -17,7 +17,7 @@ pub fn full_expressions_end()
 
 /// A statement leaves all as it was between it and the one before.
 pub fn statements_end()
-    ensures { (P : Program) (slots names : ℕ) (c : Command) (exit : ℕ) → last_height P (between slots names) (between slots names) (command_orders P slots names exit c) ≡ between slots names }
+    ensures { (P : Program) (slots names here : ℕ) (s : Surroundings) (c : Command) → last_height P (between slots names) (between slots names) (command_orders P slots names here s c) ≡ between slots names }
 {}
 
 /// The heights of a program's actions fit them: no run has more numbers, references or places than all levels together

@@ -181,6 +181,7 @@ fn append_exit_and_body(
         slots: function.slots,
         names: function.names,
         exit: actions.len(),
+        turn: None,
     };
     append_leave(actions, function.slots, function.names)?;
     entries.push(actions.len())?;
@@ -195,10 +196,11 @@ fn append_body(
     body: Body,
     all: &[Command],
 ) -> Result<(), NoMemory>
-    ensures { OnOk result (orders actions.new.items ≡ orders actions.old.items ++ body_orders (program_of program.now) body.exit (record { slots = body.slots; names = body.names; body = commands all.now })) }
+    ensures { OnOk result (orders actions.new.items ≡ orders actions.old.items ++ body_orders (program_of program.now) body.exit (length (orders actions.old.items)) (record { slots = body.slots; names = body.names; body = commands all.now })) }
 {
+    let body = Body { turn: None, ..body };
     append_declares(actions, body.names)?;
-    append_commands(alloc, actions, program, body, all)?;
+    append_commands(alloc, actions, program, body, &mut Vec::new(alloc), all)?;
     append(actions, Instr::Plain(Op::Num(0)))?;
     append(actions, Instr::Jump(Target::At(body.exit)))
 }

@@ -1,14 +1,15 @@
 //! From statements to actions.
-ghost use Rattle.std.specs.Prelude.{◌≡◌, [], ◌∷◌, ◌++◌, OnOk, option_map};
-ghost use Rattle.arc_spec.specs.Resolved.{Return};
+ghost use Rattle.std.specs.Prelude.{◌≡◌, ℕ, ◌+◌, ◌<◌, List, [], ◌∷◌, ◌++◌, length, reverse, OnOk, IfOk, option_map};
+ghost use Rattle.arc_spec.specs.Resolved.{Program, Sequence, Return, Break, Continue};
 ghost use Rattle.arc_check.specs.Checked.{value as value_of, reference as reference_of, command, commands, program_of};
-ghost use Rattle.arc_code.specs.declared.instr.Instr.TheVariants.{Jump};
-ghost use Rattle.arc_ir.specs.declared.action.Target.TheVariants.{At};
+ghost use Rattle.arc_code.specs.declared.instr.Instr.TheVariants.{Jump, JumpZero};
+ghost use Rattle.arc_ir.specs.declared.action.Target.TheVariants.{At, Skip};
 ghost use Rattle.arc_lower.specs.Order.{order, orders};
-ghost use Rattle.arc_lower.specs.Lowered.{whole_orders, whole_reference_orders, begin_orders, command_orders, commands_orders};
+ghost use Rattle.arc_lower.specs.Lowered.{whole_orders, whole_reference_orders, begin_orders, scopes_orders, does_nothing, command_orders, commands_orders};
+ghost use Rattle.arc_lower.specs.Surroundings.{surroundings, step_begin, step_orders, turn_orders_of, with_turn};
 
 use crate::expression::{append, append_reference, append_value};
-use crate::frame::{Body, Frame};
+use crate::frame::{Body, Frame, Scope, Turn};
 use crate::jump::{distance, join, replace};
 use crate::place::{append_all_empty, append_drops, append_forget, append_store, take_some};
 use arc_check::checked::{Checked, Command, Reference, Value};
@@ -82,21 +83,27 @@ fn append_begin(
     append_forget(actions, taken)
 }
 
-/// Appends the actions of a statement in a function.
+/// Appends the actions of a statement in a function, within the scopes that stand between it and the
+/// function, or the body of the loop; the innermost is the last one.
 #[cycle(statement)]
 pub(crate) fn append_command(
     alloc: Global,
     actions: &mut Vec<Action>,
     program: &Checked,
     body: Body,
+    scopes: &mut Vec<Scope>,
     statement: &Command,
 ) -> Result<(), NoMemory>
-    ensures { OnOk result (orders actions.new.items ≡ orders actions.old.items ++ command_orders (program_of program.now) body.slots body.names body.exit (command statement.now)) }
+    ensures actions { OnOk result (orders actions.new.items ≡ orders actions.old.items ++ command_orders (program_of program.now) body.slots body.names (length (orders actions.old.items)) (surroundings body scopes.old.items) (command statement.now)) }
+    ensures scopes { OnOk result (scopes.new.items ≡ scopes.old.items) }
 {
     match statement {
         Command::Sequence(first, count, all) => {
-            append_commands(alloc, actions, program, body, all)?;
-            append_all_empty(actions, body.names, *first, *count)
+            let scope = Scope {
+                first: *first,
+                count: *count,
+            };
+            append_sequence(alloc, actions, program, body, scopes, scope, all)
         }
         Command::Evaluate(value) => {
             append_whole(alloc, actions, program, body, value)?;
@@ -113,27 +120,112 @@ pub(crate) fn append_command(
             append_whole(alloc, actions, program, body, test)?;
             let branch = actions.len();
             append(actions, Instr::JumpZero(Target::Skip(0)))?;
-            append_command(alloc, actions, program, body, first)?;
+            append_command(alloc, actions, program, body, scopes, first)?;
             let skip = actions.len();
             append(actions, Instr::Jump(Target::Skip(0)))?;
             let other = actions.len();
-            append_command(alloc, actions, program, body, second)?;
+            append_command(alloc, actions, program, body, scopes, second)?;
             join(actions, branch, skip, other)
         }
-        Command::Repeat(test, turn) => {
+        Command::Repeat(test, step, turn) => {
+            let begin = append_step(alloc, actions, program, body, scopes, step)?;
+            let out = append_test(alloc, actions, program, body, test)?;
+            append_turn(alloc, actions, program, body, Turn { begin, out }, turn)
+        }
+        Command::RepeatAfter(turn, test) => {
+            let enter = actions.len();
+            append(actions, Instr::Jump(Target::Skip(0)))?;
             let begin = actions.len();
-            append_whole(alloc, actions, program, body, test)?;
-            let branch = actions.len();
-            append(actions, Instr::JumpZero(Target::Skip(0)))?;
-            append_command(alloc, actions, program, body, turn)?;
-            let again = actions.len();
-            let past_turn = distance(branch, again)?;
-            let back = distance(begin, again)?;
-            append(actions, Instr::Jump(Target::Back(back)))?;
-            replace(actions, branch, Instr::JumpZero(Target::Skip(past_turn)));
+            let out = append_test(alloc, actions, program, body, test)?;
+            append_turn(alloc, actions, program, body, Turn { begin, out }, turn)?;
+            let over = distance(enter, out)?;
+            replace(actions, enter, Instr::Jump(Target::Skip(over)));
             Ok(())
         }
+        Command::Break => append_break(actions, body, scopes),
+        Command::Continue => append_continue(actions, body, scopes),
     }
+}
+
+/// Appends the actions of a block, whose variables are emptied at its end.
+#[cycle(statement)]
+fn append_sequence(
+    alloc: Global,
+    actions: &mut Vec<Action>,
+    program: &Checked,
+    body: Body,
+    scopes: &mut Vec<Scope>,
+    scope: Scope,
+    all: &[Command],
+) -> Result<(), NoMemory>
+    ensures actions { OnOk result (orders actions.new.items ≡ orders actions.old.items ++ command_orders (program_of program.now) body.slots body.names (length (orders actions.old.items)) (surroundings body scopes.old.items) (Sequence scope.first scope.count (commands all.now))) }
+    ensures scopes { OnOk result (scopes.new.items ≡ scopes.old.items) }
+{
+    scopes.push(scope)?;
+    append_commands(alloc, actions, program, body, scopes, all)?;
+    scopes.pop();
+    append_all_empty(actions, body.names, scope.first, scope.count)
+}
+
+/// Appends the actions of a loop's step, where there is one, and before them the jump over them to the
+/// test, with which the loop begins; and the number of the action with which a turn begins.
+#[cycle(statement)]
+fn append_step(
+    alloc: Global,
+    actions: &mut Vec<Action>,
+    program: &Checked,
+    body: Body,
+    scopes: &mut Vec<Scope>,
+    step: &Command,
+) -> Result<usize, NoMemory>
+    ensures begin { IfOk result (λ begin. begin ≡ step_begin (length (orders actions.old.items)) (command step.now)) }
+    ensures actions { OnOk result (orders actions.new.items ≡ orders actions.old.items ++ step_orders (program_of program.now) body scopes.old.items (length (orders actions.old.items)) (command step.now)) }
+    ensures scopes { OnOk result (scopes.new.items ≡ scopes.old.items) }
+{
+    let enter = actions.len();
+    if does_nothing(step) {
+        return Ok(enter);
+    }
+    append(actions, Instr::Jump(Target::Skip(0)))?;
+    let begin = actions.len();
+    append_command(alloc, actions, program, body, scopes, step)?;
+    let steps = distance(begin, actions.len())?;
+    replace(actions, enter, Instr::Jump(Target::Skip(steps)));
+    Ok(begin)
+}
+
+/// Appends the actions of a loop's body and the jump back to where a turn begins; the action at
+/// `turn.out`, with which the test leaves the loop, goes over them.
+#[cycle(statement)]
+fn append_turn(
+    alloc: Global,
+    actions: &mut Vec<Action>,
+    program: &Checked,
+    body: Body,
+    turn: Turn,
+    statement: &Command,
+) -> Result<(), NoMemory>
+    requires { turn.out < length (orders actions.old.items) }
+    ensures { OnOk result (orders actions.new.items ≡ with_turn (orders actions.old.items) turn (turn_orders_of (program_of program.now) body turn (length (orders actions.old.items)) (command statement.now))) }
+{
+    let inner = Body {
+        turn: Some(turn),
+        ..body
+    };
+    append_command(
+        alloc,
+        actions,
+        program,
+        inner,
+        &mut Vec::new(alloc),
+        statement,
+    )?;
+    let again = actions.len();
+    let past_body = distance(turn.out, again)?;
+    let back = distance(turn.begin, again)?;
+    append(actions, Instr::Jump(Target::Back(back)))?;
+    replace(actions, turn.out, Instr::JumpZero(Target::Skip(past_body)));
+    Ok(())
 }
 
 /// Appends the actions of statements, in their order.
@@ -143,14 +235,83 @@ pub(crate) fn append_commands(
     actions: &mut Vec<Action>,
     program: &Checked,
     body: Body,
+    scopes: &mut Vec<Scope>,
     all: &[Command],
 ) -> Result<(), NoMemory>
-    ensures { OnOk result (orders actions.new.items ≡ orders actions.old.items ++ commands_orders (program_of program.now) body.slots body.names body.exit (commands all.now)) }
+    ensures actions { OnOk result (orders actions.new.items ≡ orders actions.old.items ++ commands_orders (program_of program.now) body.slots body.names (length (orders actions.old.items)) (surroundings body scopes.old.items) (commands all.now)) }
+    ensures scopes { OnOk result (scopes.new.items ≡ scopes.old.items) }
 {
     for statement in all {
-        append_command(alloc, actions, program, body, statement)?;
+        append_command(alloc, actions, program, body, scopes, statement)?;
     }
     Ok(())
+}
+
+/// Appends the actions of a loop's test, and the one that leaves the loop by what the test leaves, which
+/// goes nowhere yet; and the number of that one.
+fn append_test(
+    alloc: Global,
+    actions: &mut Vec<Action>,
+    program: &Checked,
+    body: Body,
+    test: &Value,
+) -> Result<usize, NoMemory>
+    ensures out { IfOk result (λ out. out ≡ length (orders actions.old.items) + length (whole_orders (program_of program.now) body.slots body.names (value_of test.now))) }
+    ensures actions { OnOk result (orders actions.new.items ≡ orders actions.old.items ++ (whole_orders (program_of program.now) body.slots body.names (value_of test.now) ++ JumpZero (Skip 0) ∷ [])) }
+{
+    append_whole(alloc, actions, program, body, test)?;
+    let out = actions.len();
+    append(actions, Instr::JumpZero(Target::Skip(0)))?;
+    Ok(out)
+}
+
+/// Whether a statement is one that does nothing.
+fn does_nothing(statement: &Command) -> bool
+    ensures { result ≡ does_nothing (command statement.now) }
+{
+    match statement {
+        Command::Sequence(_, count, all) => *count == 0 && all.is_empty(),
+        _ => false,
+    }
+}
+
+/// Appends the actions that empty the variables of these scopes, the last one first.
+fn append_clears(actions: &mut Vec<Action>, names: usize, scopes: &[Scope]) -> Result<(), NoMemory>
+    ensures { OnOk result (orders actions.new.items ≡ orders actions.old.items ++ scopes_orders names (reverse scopes.now)) }
+{
+    let Some((scope, outer)) = scopes.split_last() else {
+        return Ok(());
+    };
+    append_all_empty(actions, names, scope.first, scope.count)?;
+    append_clears(actions, names, outer)
+}
+
+/// Appends the actions of a `break`, which goes to the loop's test with 0; in no loop it leaves the
+/// function.
+fn append_break(actions: &mut Vec<Action>, body: Body, scopes: &[Scope]) -> Result<(), NoMemory>
+    ensures { (P : Program) (here : ℕ) → OnOk result (orders actions.new.items ≡ orders actions.old.items ++ command_orders P body.slots body.names here (surroundings body scopes.now) Break) }
+{
+    append_clears(actions, body.names, scopes)?;
+    append(actions, Instr::Plain(Op::Num(0)))?;
+    match body.turn {
+        Some(turn) => append(actions, Instr::Jump(Target::At(turn.out))),
+        None => append_exit(actions, body),
+    }
+}
+
+/// Appends the actions of a `continue`, which goes to where the loop's next turn begins; in no loop it
+/// leaves the function.
+fn append_continue(actions: &mut Vec<Action>, body: Body, scopes: &[Scope]) -> Result<(), NoMemory>
+    ensures { (P : Program) (here : ℕ) → OnOk result (orders actions.new.items ≡ orders actions.old.items ++ command_orders P body.slots body.names here (surroundings body scopes.now) Continue) }
+{
+    append_clears(actions, body.names, scopes)?;
+    match body.turn {
+        Some(turn) => append(actions, Instr::Jump(Target::At(turn.begin))),
+        None => {
+            append(actions, Instr::Plain(Op::Num(0)))?;
+            append_exit(actions, body)
+        }
+    }
 }
 
 /// Appends the actions of a return, which gives 0 where it has no value.
@@ -161,7 +322,7 @@ fn append_return(
     body: Body,
     value: &Option<Value>,
 ) -> Result<(), NoMemory>
-    ensures { OnOk result (orders actions.new.items ≡ orders actions.old.items ++ command_orders (program_of program.now) body.slots body.names body.exit (Return (option_map value_of value.now))) }
+    ensures { (scopes : List Scope) → OnOk result (orders actions.new.items ≡ orders actions.old.items ++ command_orders (program_of program.now) body.slots body.names (length (orders actions.old.items)) (surroundings body scopes) (Return (option_map value_of value.now))) }
 {
     match value {
         None => append(actions, Instr::Plain(Op::Num(0)))?,

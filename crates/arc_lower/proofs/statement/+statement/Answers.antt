@@ -1,65 +1,110 @@
-use Rattle.std.proofs.Common.{◌≡◌, ◌++◌, length, refl, ap, sym, subst, ◌∙◌, OnOk, append_assoc}
+use Rattle.std.proofs.Common.{◌≡◌, ◌+◌, ◌++◌, ◌∷◌, [], length, refl, ap, sym, subst, ◌∙◌, OnOk, arith, length-append}
 use Rattle.std.proofs.lemmas.List.{length-map}
+use Rattle.arc_spec.specs.Resolved.{Sequence, Choose, Repeat, RepeatAfter}
+use Rattle.arc_code.specs.declared.instr.Instr.TheVariants.{Jump, JumpZero}
+use Rattle.arc_ir.specs.declared.action.Target.TheVariants.{Skip}
 use Rattle.arc_check.specs.Checked.{value, command, commands, program_of}
 use Rattle.arc_lower.specs.Order.{order, orders}
-use Rattle.arc_lower.specs.Lowered.{Block, Then, Fork, Loop, flat, whole_block, whole_orders, all_empty_orders, command_block, commands_block}
+use Rattle.arc_lower.specs.Lowered.{whole_orders, command_orders}
+use Rattle.arc_lower.specs.Surroundings.{surroundings, step_orders, step_begin, turn_orders_of, with_turn}
 use Rattle.arc_check.proofs.Trees.{sequence_command}
-use Rattle.arc_lower.proofs.Patching.{patch_loop, patch_fork}
+use Rattle.arc_lower.proofs.Patching.{patch_fork}
+use Rattle.arc_lower.proofs.Turning.{choice_written, repeat_written, repeat_after_written, step_written}
 use Rattle.arc_lower.proofs.statement.+statement.Goals as goal
 
-pub append_command-returns-in_ok-append_commands-in-Sequence : goal.append_command-returns-in_ok-append_commands-in-Sequence
-append_command-returns-in_ok-append_commands-in-Sequence t c =
+pub append_command-returns-in-Sequence-clause-actions : goal.append_command-returns-in-Sequence-clause-actions
+append_command-returns-in-Sequence-clause-actions t c =
     let P = program_of c.args.program.now in
-    let body = c.args.body in
-    let first = c.in-Sequence.first in
-    let count = c.in-Sequence.count in
+    let b = c.args.body in
+    let s = c.in-Sequence in
     let old = orders c.args.actions.now.items in
-    let flat_here = λ (b : Block). flat P body.slots body.names b in
-    let made = λ (s : _). flat_here (command_block body.exit s) in
-    let all = flat_here (commands_block body.exit (commands c.in-Sequence.all.items)) in
-    let last = all_empty_orders body.names first count in
-    let e : orders c.append_commands.new.actions.items ++ last ≡ old ++ made (command c.args.statement.now) =
-    ap (λ l. l ++ last) (c.in_ok-append_commands-in-Sequence.ensures ∙ ap (λ l. old ++ flat_here (commands_block body.exit (commands l))) c.deref.ensures.value)
-    ∙ append_assoc old all last
-    ∙ ap (λ l. old ++ l) (ap made (sym (sequence_command first count c.in-Sequence.all)) ∙ ap (λ s. made (command s)) (sym c.in-Sequence.is))
-    in
-    subst (λ l. OnOk c.append_all_empty.result (orders c.append_all_empty.new.actions.items ≡ l)) e c.append_all_empty.ensures
+    let made = λ (x : _). old ++ command_orders P b.slots b.names (length old) (surroundings b c.args.scopes.now.items) x in
+    let e = ap (λ l. made (Sequence s.first s.count (commands l))) c.deref.ensures.value ∙ ap made (sym (sequence_command s.first s.count s.all)) ∙ ap (λ x. made (command x)) (sym s.is) in
+    subst (λ l. OnOk c.append_sequence.result (orders c.append_sequence.new.actions.items ≡ l)) e c.append_sequence.ensures.actions
 
-pub append_command-returns-in_ok-append_command-in-Choose-2 : goal.append_command-returns-in_ok-append_command-in-Choose-2
-append_command-returns-in_ok-append_command-in-Choose-2 t c =
+pub append_command-returns-in_ok-append_command-in-Choose-2-clause-actions : goal.append_command-returns-in_ok-append_command-in-Choose-2-clause-actions
+append_command-returns-in_ok-append_command-in-Choose-2-clause-actions t c =
     let P = program_of c.args.program.now in
-    let body = c.args.body in
+    let b = c.args.body in
+    let scopes = c.args.scopes.now.items in
     let old = orders c.args.actions.now.items in
     let v1 = c.append_whole-in-Choose.new.actions in
+    let v2 = c.append-in-Choose.new.actions in
     let v3 = c.append_command.new.actions in
     let v4 = c.append-in-Choose-2.new.actions in
     let v5 = c.append_command-in-Choose.new.actions in
-    let flat_here = λ (b : Block). flat P body.slots body.names b in
-    let made = λ (s : _). command_block body.exit (command s) in
-    let test = whole_orders P body.slots body.names (value c.in-Choose.test) in
-    let one = flat_here (made c.deref-in-Choose.result.now) in
-    let two = flat_here (made c.deref-in-Choose-2.result.now) in
-    let e = patch_fork old (orders v1.items) (orders c.append-in-Choose.new.actions.items) (orders v3.items) (orders v4.items) (orders v5.items) test one two c.len-branch.result c.len-skip.result c.len-other.result _ _ (length (orders v5.items)) c.in_ok-append_whole-in-Choose.ensures (c.len-branch.ensures ∙ v1.ok.0 ∙ sym (length-map v1.items order)) c.in_ok-append-in-Choose.ensures c.in_ok-append_command-in-Choose.ensures (c.len-skip.ensures ∙ v3.ok.0 ∙ sym (length-map v3.items order)) c.in_ok-append-in-Choose-2.ensures (c.len-other.ensures ∙ v4.ok.0 ∙ sym (length-map v4.items order)) c.in_ok-append_command-in-Choose-2.ensures refl refl refl
-    ∙ ap (λ a. old ++ flat_here (Then (whole_block (value c.in-Choose.test)) (Fork (made a) (made c.deref-in-Choose-2.result.now)))) c.deref-in-Choose.ensures
-    ∙ ap (λ b. old ++ flat_here (Then (whole_block (value c.in-Choose.test)) (Fork (made c.in-Choose.first.value) (made b)))) c.deref-in-Choose-2.ensures
-    ∙ ap (λ s. old ++ flat_here (made s)) (sym c.in-Choose.is)
+    let around = surroundings b scopes in
+    let test = value c.in-Choose.test in
+    let ts = whole_orders P b.slots b.names test in
+    let first = command c.deref-in-Choose.result.now in
+    let second = command c.deref-in-Choose-2.result.now in
+    let one = command_orders P b.slots b.names (length (orders v2.items)) around first in
+    let second_at = λ (scopes : _). command_orders P b.slots b.names (length (orders v4.items)) (surroundings b scopes) second in
+    let two = second_at scopes in
+    let e1 = c.in_ok-append_whole-in-Choose.ensures in
+    let e2 = c.in_ok-append-in-Choose.ensures in
+    let e3 = c.in_ok-append_command-in-Choose.ensures.actions in
+    let e4 = c.in_ok-append-in-Choose-2.ensures in
+    let e5 = c.in_ok-append_command-in-Choose-2.ensures.actions ∙ ap (λ s. orders v4.items ++ second_at s) c.in_ok-append_command-in-Choose.ensures.scopes in
+    let l1 = ap length e1 ∙ length-append old ts in
+    let l2 = ap length e2 ∙ length-append (orders v1.items) (JumpZero (Skip 0) ∷ []) in
+    let l3 = ap length e3 ∙ length-append (orders v2.items) one in
+    let l4 = ap length e4 ∙ length-append (orders v3.items) (Jump (Skip 0) ∷ []) in
+    let made = λ (x : _). old ++ command_orders P b.slots b.names (length old) around x in
+    let e = patch_fork old (orders v1.items) (orders v2.items) (orders v3.items) (orders v4.items) (orders v5.items) ts one two c.len-branch.result c.len-skip.result c.len-other.result _ _ (length (orders v5.items)) e1 (c.len-branch.ensures ∙ v1.ok.0 ∙ sym (length-map v1.items order)) e2 e3 (c.len-skip.ensures ∙ v3.ok.0 ∙ sym (length-map v3.items order)) e4 (c.len-other.ensures ∙ v4.ok.0 ∙ sym (length-map v4.items order)) e5 refl refl refl
+    ∙ choice_written P b scopes old (orders v2.items) (orders v4.items) test first second (omega (arith, l1, l2)) (omega (arith, l3, l4))
+    ∙ ap (λ a. made (Choose test (command a) second)) c.deref-in-Choose.ensures
+    ∙ ap (λ a. made (Choose test (command c.in-Choose.first.value) (command a))) c.deref-in-Choose-2.ensures
+    ∙ ap (λ x. made (command x)) (sym c.in-Choose.is)
     in
     subst (λ l. OnOk c.join.result (orders c.join.new.actions.items ≡ l)) e c.join.ensures
 
-pub append_command-returns-in_ok-append-in-Repeat-2 :
-    goal.append_command-returns-in_ok-append-in-Repeat-2
-append_command-returns-in_ok-append-in-Repeat-2 t c =
+pub append_command-returns-in_ok-out-in-Repeat-clause-actions : goal.append_command-returns-in_ok-out-in-Repeat-clause-actions
+append_command-returns-in_ok-out-in-Repeat-clause-actions t c =
     let P = program_of c.args.program.now in
-    let body = c.args.body in
+    let b = c.args.body in
+    let scopes = c.args.scopes.now.items in
+    let old = orders c.args.actions.now.items in
+    let o1 = orders c.append_step.new.actions.items in
+    let o2 = orders c.append_test.new.actions.items in
+    let test = value c.in-Repeat.test in
+    let step = command c.deref-in-Repeat.result.now in
+    let body = command c.deref-in-Repeat-2.result.now in
+    let first = c.in_ok-begin-in-Repeat in
+    let made = λ (x : _). old ++ command_orders P b.slots b.names (length old) (surroundings b scopes) x in
+    let e = repeat_written P b scopes old o1 o2 first.begin c.in_ok-out-in-Repeat.out test body c.in_ok-out-in-Repeat.ensures.actions c.in_ok-out-in-Repeat.ensures.out step first.ensures.actions first.ensures.begin
+    ∙ ap (λ a. made (Repeat test (command a) body)) c.deref-in-Repeat.ensures
+    ∙ ap (λ a. made (Repeat test (command c.in-Repeat.step.value) (command a))) c.deref-in-Repeat-2.ensures
+    ∙ ap (λ x. made (command x)) (sym c.in-Repeat.is)
+    in
+    subst (λ l. OnOk c.append_turn.result (orders c.append_turn.new.actions.items ≡ l)) e c.append_turn.ensures
+
+pub append_command-returns-in_ok-over-in-RepeatAfter-clause-actions : goal.append_command-returns-in_ok-over-in-RepeatAfter-clause-actions
+append_command-returns-in_ok-over-in-RepeatAfter-clause-actions t c =
+    let P = program_of c.args.program.now in
+    let b = c.args.body in
+    let scopes = c.args.scopes.now.items in
     let v0 = c.args.actions.now in
     let old = orders v0.items in
-    let v1 = c.append_whole-in-Repeat.new.actions in
-    let v3 = c.append_command-in-Repeat.new.actions in
-    let flat_here = λ (b : Block). flat P body.slots body.names b in
-    let made = λ (s : _). command_block body.exit (command s) in
-    let test = whole_orders P body.slots body.names (value c.in-Repeat.test) in
-    let turn = flat_here (made c.deref-in-Repeat.result.now) in
+    let v1 = c.append-in-RepeatAfter.new.actions in
+    let o2 = orders c.append_test-in-RepeatAfter.new.actions.items in
+    let o3 = orders c.append_turn-in-RepeatAfter.new.actions.items in
+    let test = value c.in-RepeatAfter.test in
+    let body = command c.deref-in-RepeatAfter.result.now in
+    let last = c.in_ok-out-in-RepeatAfter in
+    let made = λ (x : _). old ++ command_orders P b.slots b.names (length old) (surroundings b scopes) x in
     c.replace.ensures
-    ∙ patch_loop old (orders v1.items) (orders c.append-in-Repeat.new.actions.items) (orders v3.items) (orders c.append-in-Repeat-2.new.actions.items) test turn c.len-begin.result c.len-branch-in-Repeat.result c.len-again.result c.in_ok-past_turn-in-Repeat.past_turn c.in_ok-back-in-Repeat.back (c.len-begin.ensures ∙ v0.ok.0 ∙ sym (length-map v0.items order)) c.in_ok-append_whole-in-Repeat.ensures (c.len-branch-in-Repeat.ensures ∙ v1.ok.0 ∙ sym (length-map v1.items order)) c.in_ok-append-in-Repeat.ensures c.in_ok-append_command-in-Repeat.ensures (c.len-again.ensures ∙ v3.ok.0 ∙ sym (length-map v3.items order)) c.in_ok-past_turn-in-Repeat.ensures c.in_ok-back-in-Repeat.ensures c.in_ok-append-in-Repeat-2.ensures
-    ∙ ap (λ b. old ++ flat_here (Loop (whole_block (value c.in-Repeat.test)) (made b))) c.deref-in-Repeat.ensures
-    ∙ ap (λ s. old ++ flat_here (made s)) (sym c.in-Repeat.is)
+    ∙ repeat_after_written P b scopes old (orders v1.items) o2 c.len-begin.result last.out test body last.ensures.actions last.ensures.out o3 c.len-enter.result c.in_ok-over-in-RepeatAfter.over c.in_ok-append-in-RepeatAfter.ensures
+    (c.len-begin.ensures ∙ v1.ok.0 ∙ sym (length-map v1.items order)) c.in_ok-append_turn-in-RepeatAfter.ensures (c.len-enter.ensures ∙ v0.ok.0 ∙ sym (length-map v0.items order)) c.in_ok-over-in-RepeatAfter.ensures
+    ∙ ap (λ a. made (RepeatAfter (command a) test)) c.deref-in-RepeatAfter.ensures
+    ∙ ap (λ x. made (command x)) (sym c.in-RepeatAfter.is)
+
+pub append_step-returns-clause-actions : goal.append_step-returns-clause-actions
+append_step-returns-clause-actions t c =
+    let v0 = c.args.actions.now in
+    let v1 = c.append.new.actions in
+    let v2 = c.append_command.new.actions in
+    c.replace.ensures
+    ∙ ap (λ n. Rattle.std.proofs.Common.slice_set (orders v2.items) c.len-enter.result (Jump (Skip n))) c.in_ok-steps.ensures
+    ∙ step_written (program_of c.args.program.now) c.args.body c.args.scopes.now.items (orders v0.items) (orders v1.items) (orders v2.items) (command c.args.step.now) c.len-enter.result c.len-begin.result c.len.result
+    (sym c.does_nothing.ensures ∙ c.if-does_nothing.false) (c.len-enter.ensures ∙ v0.ok.0 ∙ sym (length-map v0.items order)) c.in_ok-append.ensures (c.len-begin.ensures ∙ v1.ok.0 ∙ sym (length-map v1.items order)) c.in_ok-append_command.ensures.actions (c.len.ensures ∙ v2.ok.0 ∙ sym (length-map v2.items order))

@@ -1,0 +1,184 @@
+-- What the functions that write loops and choices write is what these are.
+use Rattle.std.proofs.Common.{◌≡◌, ℕ, zero, suc, ◌+◌, ◌-◌, Bool, true, false, if◌then◌else◌, List, [], ◌∷◌, ◌++◌, length, Option, Some, None, refl, sym, ap, ◌∙◌, arith, append_assoc, length-append, slice_set}
+use Rattle.std.proofs.lemmas.List.{append-nil}
+use Rattle.arc_spec.specs.Resolved.{Value, Command, Choose, Repeat, RepeatAfter, Program}
+use Rattle.arc_code.specs.declared.instr.Instr.TheVariants.{Jump, JumpZero}
+use Rattle.arc_ir.specs.declared.action.Target.TheVariants.{Skip, Back}
+use Rattle.arc_lower.specs.declared.frame.Turn.{Turn}
+use Rattle.arc_lower.specs.declared.frame.Scope.{Scope}
+use Rattle.arc_lower.specs.declared.frame.Body.{Body}
+use Rattle.arc_lower.specs.Order.{Order}
+use Rattle.arc_lower.specs.Lowered.{Entry, AtStep, AtTest, AtBody, enter_orders, enter_size, turn_orders, Between, past, body_spot, Block, Idle, Then, Fork, Loop, Quit, Again, flat, whole_block, whole_orders, does_nothing, loop_block, command_block, spot, Surroundings, breaking, continuing, command_orders}
+use Rattle.arc_lower.specs.Surroundings.{surroundings, step_begin, step_orders, turn_orders_of, with_turn}
+use Rattle.arc_lower.proofs.Patching.{patched}
+use Rattle.arc_lower.proofs.Surrounding.{past_spot}
+
+body_at : (n m here : ℕ) (turn : Option Turn) → body_spot n m (spot here turn) ≡ Between (here + n + m + 1) (record { begin = here; out = here + n + m })
+body_at n m here None = refl
+body_at n m here (Some turn) = refl
+
+-- a test and the body after it, where the step is written
+turn_written : (o1 o2 zs ts xs : List Order) (begin out : ℕ) → o2 ≡ o1 ++ (ts ++ JumpZero (Skip 0) ∷ []) → out ≡ length o1 + length ts → length o1 ≡ begin + length zs
+    → with_turn o2 (record { begin = begin; out = out }) xs ≡ o1 ++ (ts ++ (JumpZero (Skip (suc (length xs))) ∷ (xs ++ Jump (Back (suc (length zs + length ts + length xs))) ∷ [])))
+turn_written o1 o2 zs ts xs begin out e2 eo eb =
+    let open_jump : Order = JumpZero (Skip 0) in
+    let again = length o2 + length xs in
+    let rest : List Order = xs ++ Jump (Back (again - begin)) ∷ [] in
+    let size = ap length e2 ∙ length-append o1 (ts ++ open_jump ∷ []) in
+    let more = length-append ts (open_jump ∷ []) in
+    let over : again - out ≡ suc (length xs) = omega (arith, size, more, eo) in
+    let home : again - begin ≡ suc (length zs + length ts + length xs) = omega (arith, size, more, eb) in
+    let place : out ≡ length (o1 ++ ts) = omega (arith, eo, length-append o1 ts) in
+    let whole : o2 ++ rest ≡ (o1 ++ ts) ++ open_jump ∷ rest =
+    ap (λ l. l ++ rest) e2 ∙ append_assoc o1 (ts ++ open_jump ∷ []) rest ∙ ap (λ l. o1 ++ l) (append_assoc ts (open_jump ∷ []) rest) ∙ sym (append_assoc o1 ts (open_jump ∷ rest)) in
+    patched (o1 ++ ts) (o2 ++ rest) rest out open_jump (JumpZero (Skip (again - out))) whole place
+    ∙ ap (λ n. (o1 ++ ts) ++ JumpZero (Skip n) ∷ rest) over
+    ∙ ap (λ n. (o1 ++ ts) ++ JumpZero (Skip (suc (length xs))) ∷ (xs ++ Jump (Back n) ∷ [])) home
+    ∙ append_assoc o1 ts (JumpZero (Skip (suc (length xs))) ∷ (xs ++ Jump (Back (suc (length zs + length ts + length xs))) ∷ []))
+
+module _ (P : Program) (slots names : ℕ) where
+  abbrev at : ℕ → Option Turn → Block → List Order
+  at here turn b = flat P slots names (spot here turn) b
+
+  -- the body of a loop with this turn, from this place on
+  abbrev in_turn : (here begin out : ℕ) → Block → List Order
+  in_turn here begin out b = flat P slots names (Between here (record { begin = begin; out = out })) b
+
+  turn_same : (b : Block) (h1 h2 b1 b2 o1 o2 : ℕ) → h1 ≡ h2 → b1 ≡ b2 → o1 ≡ o2 → in_turn h1 b1 o1 b ≡ in_turn h2 b2 o2 b
+  turn_same b h1 h2 b1 b2 o1 o2 eh eb eo = ap (λ n. in_turn n b1 o1 b) eh ∙ ap (λ n. in_turn h2 n o1 b) eb ∙ ap (λ n. in_turn h2 b2 n b) eo
+
+  loop_flat : (entry : Entry) (here : ℕ) (turn : Option Turn) (step : Block) (test : Value) (body : Block)
+      → let begin = here + enter_size entry in
+      let zs = at begin turn step in
+      let ts = whole_orders P slots names test in
+      let out = begin + length zs + length ts in
+      at here turn (Loop entry step (whole_block test) body) ≡ enter_orders entry (length zs) (length ts) ++ turn_orders zs ts (in_turn (out + 1) begin out body)
+  loop_flat entry here turn step test body =
+      let begin = here + enter_size entry in
+      let zs = at begin turn step in
+      let ts = whole_orders P slots names test in
+      ap (λ e.
+      let steps = flat P slots names e step in
+      enter_orders entry (length steps) (length ts) ++ turn_orders steps ts (flat P slots names (body_spot (length steps) (length ts) e) body)) (past_spot (enter_size entry) here turn)
+      ∙ ap (λ e. enter_orders entry (length zs) (length ts) ++ turn_orders zs ts (flat P slots names e body)) (body_at (length zs) (length ts) begin turn)
+
+  choice_flat : (here : ℕ) (turn : Option Turn) (test : Value) (a b : Block)
+      → let ts = whole_orders P slots names test in
+      let one = here + length ts + 1 in
+      let xs = at one turn a in
+      let ys = at (one + length xs + 1) turn b in
+      at here turn (Then (whole_block test) (Fork a b)) ≡ ts ++ (JumpZero (Skip (suc (length xs))) ∷ (xs ++ Jump (Skip (length ys)) ∷ ys))
+  choice_flat here turn test a b =
+      let ts = whole_orders P slots names test in
+      let one = here + length ts + 1 in
+      let xs = at one turn a in
+      let last = λ (xs ys : List Order). ts ++ (JumpZero (Skip (suc (length xs))) ∷ (xs ++ Jump (Skip (length ys)) ∷ ys)) in
+      ap (λ e. let first = flat P slots names e a in last first (flat P slots names (past 1 (past (length first) e)) b)) (ap (past 1) (past_spot (length ts) here turn) ∙ past_spot 1 (here + length ts) turn)
+      ∙ ap (λ e. last xs (flat P slots names e b)) (ap (past 1) (past_spot (length xs) one turn) ∙ past_spot 1 (one + length xs) turn)
+
+module _ (P : Program) (b : Body) (scopes : List Scope) where
+  abbrev around : Surroundings
+  around = surroundings b scopes
+
+  abbrev of_command : (here : ℕ) → Command → List Order
+  of_command here c = command_orders P b.slots b.names here around c
+
+  abbrev tests : Value → List Order
+  tests test = whole_orders P b.slots b.names test
+
+  abbrev body_of : Command → Block
+  body_of body = command_block b.exit Quit Again body
+
+  abbrev step_of : Command → Block
+  step_of step = command_block b.exit (breaking around) (continuing around) step
+
+  pub choice_written : (old o2 o4 : List Order) (test : Value) (first second : Command) → length o2 ≡ length old + length (tests test) + 1 → length o4 ≡ length o2 + length (of_command (length o2) first) + 1
+      → let xs = of_command (length o2) first in
+      let ys = of_command (length o4) second in
+      old ++ (tests test ++ (JumpZero (Skip (suc (length xs))) ∷ (xs ++ Jump (Skip (length ys)) ∷ ys))) ≡ old ++ of_command (length old) (Choose test first second)
+  choice_written old o2 o4 test first second e2 e4 =
+      let ts = tests test in
+      let one = length old + length ts + 1 in
+      let xs = of_command one first in
+      let last = λ (xs ys : List Order). old ++ (ts ++ (JumpZero (Skip (suc (length xs))) ∷ (xs ++ Jump (Skip (length ys)) ∷ ys))) in
+      let two : length o4 ≡ one + length xs + 1 = e4 ∙ ap (λ n. n + length (of_command n first) + 1) e2 in
+      ap (λ n. last (of_command n first) (of_command (length o4) second)) e2 ∙ ap (λ n. last xs (of_command n second)) two
+      ∙ ap (λ l. old ++ l) (sym (choice_flat P b.slots b.names (length old) b.turn test (step_of first) (step_of second)))
+
+  module _ (old o1 o2 : List Order) (begin out : ℕ) (test : Value) (body : Command) (e2 : o2 ≡ o1 ++ (tests test ++ JumpZero (Skip 0) ∷ [])) (eo : out ≡ length o1 + length (tests test)) where
+    abbrev written : List Order
+    written = with_turn o2 (record { begin = begin; out = out }) (turn_orders_of P b (record { begin = begin; out = out }) (length o2) body)
+
+    -- the body, which is written where its turn says
+    abbrev turns : List Order
+    turns = in_turn P b.slots b.names (length o2) begin out (body_of body)
+
+    size : length o2 ≡ length o1 + length (tests test) + 1
+    size = ap length e2 ∙ length-append o1 (tests test ++ JumpZero (Skip 0) ∷ []) ∙ (let more = length-append (tests test) (JumpZero (Skip 0) ∷ []) in omega (arith, more))
+
+    -- after a step, or none
+    behind_step : (zs : List Order) (begin' : ℕ) → begin ≡ begin' → length o1 ≡ begin' + length zs
+        → let out' = begin' + length zs + length (tests test) in
+        written ≡ o1 ++ (tests test ++ (JumpZero (Skip (suc (length (in_turn P b.slots b.names (out' + 1) begin' out' (body_of body))))) ∷ (in_turn P b.slots b.names (out' + 1) begin' out' (body_of body) ++ Jump (Back (suc (length zs + length (tests test) + length (in_turn P b.slots b.names (out' + 1) begin' out' (body_of body))))) ∷ [])))
+    behind_step zs begin' eb e1 =
+        let ts = tests test in
+        let out' = begin' + length zs + length ts in
+        let same = turn_same P b.slots b.names (body_of body) (length o2) (out' + 1) begin begin' out out' (omega (arith, size, e1)) eb (omega (arith, eo, e1)) in
+        turn_written o1 o2 zs ts turns begin out e2 eo (omega (arith, eb, e1))
+        ∙ ap (λ xs. o1 ++ (ts ++ (JumpZero (Skip (suc (length xs))) ∷ (xs ++ Jump (Back (suc (length zs + length ts + length xs))) ∷ [])))) same
+
+    repeat_by : (step : Command) (n : Bool)
+        → let zs = of_command (length old + 1) step in
+        o1 ≡ old ++ (if n then [] else Jump (Skip (length zs)) ∷ zs) → begin ≡ (if n then length old else length old + 1)
+        → written ≡ old ++ flat P b.slots b.names (spot (length old) b.turn) (loop_block n (step_of step) (whole_block test) (body_of body))
+    repeat_by step true e1 eb =
+        let bare = e1 ∙ append-nil old in
+        let none : length old ≡ length old + 0 = omega arith in
+        let rest = turn_orders [] (tests test) (in_turn P b.slots b.names (length old + 0 + 0 + length (tests test) + 1) (length old + 0) (length old + 0 + 0 + length (tests test)) (body_of body)) in
+        behind_step [] (length old + 0) (eb ∙ none) (let same = ap length bare in omega (arith, same))
+        ∙ ap (λ l. l ++ rest) bare
+        ∙ ap (λ l. old ++ l) (sym (loop_flat P b.slots b.names AtStep (length old) b.turn Idle test (body_of body)))
+    repeat_by step false e1 eb =
+        let here = length old in
+        let zs = of_command (here + 1) step in
+        let enter : Order = Jump (Skip (length zs)) in
+        let out' = here + 1 + length zs + length (tests test) in
+        let xs = in_turn P b.slots b.names (out' + 1) (here + 1) out' (body_of body) in
+        let rest = tests test ++ (JumpZero (Skip (suc (length xs))) ∷ (xs ++ Jump (Back (suc (length zs + length (tests test) + length xs))) ∷ [])) in
+        behind_step zs (here + 1) eb (let same = ap length e1 ∙ length-append old (enter ∷ zs) in omega (arith, same))
+        ∙ ap (λ l. l ++ rest) e1
+        ∙ append_assoc old (enter ∷ zs) rest
+        ∙ ap (λ l. old ++ l) (sym (loop_flat P b.slots b.names AtTest here b.turn (step_of step) test (body_of body)))
+
+    pub repeat_written : (step : Command) → o1 ≡ old ++ step_orders P b scopes (length old) step → begin ≡ step_begin (length old) step → written ≡ old ++ of_command (length old) (Repeat test step body)
+    repeat_written step e1 eb = repeat_by step (does_nothing step) e1 eb
+
+    pub repeat_after_written : (o3 : List Order) (enter over : ℕ) → o1 ≡ old ++ Jump (Skip 0) ∷ [] → begin ≡ length o1 → o3 ≡ written → enter ≡ length old → over ≡ out - enter → slice_set o3 enter (Jump (Skip over)) ≡ old ++ of_command (length old) (RepeatAfter body test)
+    repeat_after_written o3 enter over e1 eb e3 ee ev =
+        let here = length old in
+        let ts = tests test in
+        let open_jump : Order = Jump (Skip 0) in
+        let one : length o1 ≡ here + 1 = ap length e1 ∙ length-append old (open_jump ∷ []) in
+        let out' = here + 1 + 0 + length ts in
+        let xs = in_turn P b.slots b.names (out' + 1) (here + 1) out' (body_of body) in
+        let rest = ts ++ (JumpZero (Skip (suc (length xs))) ∷ (xs ++ Jump (Back (suc (0 + length ts + length xs))) ∷ [])) in
+        let whole : o3 ≡ old ++ open_jump ∷ rest = e3 ∙ behind_step [] (here + 1) (eb ∙ one) (omega (arith, one)) ∙ ap (λ l. l ++ rest) e1 ∙ append_assoc old (open_jump ∷ []) rest in
+        let far : over ≡ 0 + length ts + 1 = omega (arith, ev, ee, eo, one) in
+        patched old o3 rest enter open_jump (Jump (Skip over)) whole ee
+        ∙ ap (λ n. old ++ Jump (Skip n) ∷ rest) far
+        ∙ ap (λ l. old ++ l) (sym (loop_flat P b.slots b.names AtBody here b.turn Idle test (body_of body)))
+
+  pub step_written : (old o1 o2 : List Order) (step : Command) (enter begin end : ℕ) → does_nothing step ≡ false → enter ≡ length old → o1 ≡ old ++ Jump (Skip 0) ∷ [] → begin ≡ length o1 → o2 ≡ o1 ++ of_command (length o1) step → end ≡ length o2
+      → slice_set o2 enter (Jump (Skip (end - begin))) ≡ old ++ step_orders P b scopes (length old) step
+  step_written old o1 o2 step enter begin end none ee e1 eb e2 en =
+      let here = length old in
+      let open_jump : Order = Jump (Skip 0) in
+      let one : length o1 ≡ here + 1 = ap length e1 ∙ length-append old (open_jump ∷ []) in
+      let zs = of_command (here + 1) step in
+      let behind : o2 ≡ o1 ++ zs = e2 ∙ ap (λ n. o1 ++ of_command n step) one in
+      let size = ap length behind ∙ length-append o1 zs in
+      let whole : o2 ≡ old ++ open_jump ∷ zs = behind ∙ ap (λ l. l ++ zs) e1 ∙ append_assoc old (open_jump ∷ []) zs in
+      let far : end - begin ≡ length zs = omega (arith, en, eb, size) in
+      patched old o2 zs enter open_jump (Jump (Skip (end - begin))) whole ee
+      ∙ ap (λ n. old ++ Jump (Skip n) ∷ zs) far
+      ∙ ap (λ n. old ++ (if n then [] else Jump (Skip (length zs)) ∷ zs)) (sym none)

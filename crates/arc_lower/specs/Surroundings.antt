@@ -1,0 +1,34 @@
+-- What the functions that write statements are given, and what they write.
+use Rattle.std.specs.Prelude.{ℕ, ◌+◌, ◌-◌, if◌then◌else◌, List, [], ◌∷◌, ◌++◌, length, reverse, slice_set, Some}
+use Rattle.arc_spec.specs.Resolved.{Command, Program}
+use Rattle.arc_code.specs.declared.instr.Instr.TheVariants.{Jump, JumpZero}
+use Rattle.arc_ir.specs.declared.action.Target.TheVariants.{Skip, Back}
+use Rattle.arc_lower.specs.declared.frame.Turn.{Turn}
+use Rattle.arc_lower.specs.declared.frame.Scope.{Scope}
+use Rattle.arc_lower.specs.declared.frame.Body.{Body}
+use Rattle.arc_lower.specs.Order.{Order}
+use Rattle.arc_lower.specs.Lowered.{Surroundings, does_nothing, command_orders}
+
+-- where a statement of a body stands, within these scopes, of which the last one is the innermost
+abbrev pub surroundings : Body → (scopes : List Scope) → Surroundings
+surroundings b scopes = record { exit = b.exit; turn = b.turn; scopes = reverse scopes }
+
+-- where a loop's turn begins whose first actions stand here: behind the jump over its step, where it has one
+abbrev pub step_begin : (here : ℕ) → Command → ℕ
+step_begin here step = if does_nothing step then here else here + 1
+
+-- that jump and the step
+abbrev pub step_orders : (P : Program) → Body → (scopes : List Scope) → (here : ℕ) → Command → List Order
+step_orders P b scopes here step =
+    let steps = command_orders P b.slots b.names (here + 1) (surroundings b scopes) step in
+    if does_nothing step then [] else Jump (Skip (length steps)) ∷ steps
+
+-- the body of a loop with this turn, which stands here
+abbrev pub turn_orders_of : (P : Program) → Body → Turn → (here : ℕ) → Command → List Order
+turn_orders_of P b turn here body = command_orders P b.slots b.names here (record { exit = b.exit; turn = Some turn; scopes = [] }) body
+
+-- after these actions the body of a loop, and the jump back to where its turn begins; what leaves the loop goes over them
+abbrev pub with_turn : (before : List Order) → Turn → (body : List Order) → List Order
+with_turn before turn body =
+    let again = length before + length body in
+    slice_set (before ++ (body ++ Jump (Back (again - turn.begin)) ∷ [])) turn.out (JumpZero (Skip (again - turn.out)))
