@@ -7,7 +7,8 @@ use Rattle.arc_ast.specs.declared.tree.Moment.TheVariants.{Before, After}
 use Rattle.arc_spec.specs.declared.event.Fault.TheVariants.{FieldClass}
 use Rattle.arc_spec.specs.Classes.{class_at, descends}
 use Rattle.arc_spec.specs.Objects.{Object, object_at}
-use Rattle.arc_spec.specs.Resolved.{Piece, Value, Number, ReadByte, Print, Applied, Combined, Choice, Converted, Location, Read, Assigned, Updated, Invoked, Sent, SentSuper, SentTo, SentToSuper, Field, FieldAssigned, FieldUpdated, Reference, Itself, Variable, Chosen, Stored, Made, Initialized, Values, no_values, and_value}
+use Rattle.arc_spec.specs.declared.location.Location.{Location}
+use Rattle.arc_spec.specs.Resolved.{Piece, Value, Number, ReadByte, Print, Applied, Combined, Choice, Converted, Read, Assigned, Updated, Invoked, Sent, SentSuper, SentTo, SentToSuper, Field, FieldAssigned, FieldUpdated, Reference, Itself, Variable, Chosen, Stored, Made, Initialized, Values, no_values, and_value}
 use Rattle.arc_spec.specs.Resolved as resolved
 use Rattle.arc_spec.specs.World.{World, Outcome, Done, Faulted, Cut, Finished, then_do, prints, local_at, takes}
 use Rattle.arc_spec.specs.Number.{converted, combined, is_zero}

@@ -9,7 +9,9 @@ use Rattle.arc_spec.specs.Classes.{class_at, lookup, descends}
 use Rattle.arc_spec.specs.Number.{converted, applied, combined, byte_or_end, is_zero}
 use Rattle.arc_spec.specs.Objects.{Object, object_at, with_object, with_fields, new_object}
 use Rattle.arc_spec.specs.Resolved as resolved
-use Rattle.arc_spec.specs.Resolved.{Piece, Location, Local, Global}
+use Rattle.arc_spec.specs.declared.location.Location.{Location}
+use Rattle.arc_spec.specs.declared.location.Location.TheVariants.{Local, Global}
+use Rattle.arc_spec.specs.Resolved.{Piece}
 use Rattle.arc_spec.specs.Meaning.{Deeper, held_at, holds, chosen, temporaries_dropped, dispatched, finds, runs_found, class_in, sent_from, next_object, field_count, made, in_object, difference, formatted, byte_count, or_fault, assigned, all_dropped, variables_dropped}
 use Rattle.arc_spec.specs.World as world
 use Rattle.arc_spec.specs.World.{World, Outcome, Done, Faulted, Cut, Finished, finished, then_do, prints, next_number, after_next, has_read, with_locals, with_objects, with_temporaries, local_at, name_at, first_locals, takes, stores}

@@ -3,7 +3,9 @@ use Rattle.std.proofs.Common.{◌≡◌, ℕ, zero, suc, pred, ◌+◌, ◌-◌,
 use Rattle.std.proofs.lemmas.Bool.{ltb-true, ltb-false}
 use Rattle.arc_ast.specs.declared.tree.Kind.TheVariants as k
 use Rattle.arc_ast.specs.declared.tree.Sign.TheVariants as signs
-use Rattle.arc_spec.specs.Resolved.{Piece, Bytes, Decimal, Character, Location, Local, Global, Function, Program}
+use Rattle.arc_spec.specs.declared.location.Location.{Location}
+use Rattle.arc_spec.specs.declared.location.Location.TheVariants.{Local, Global}
+use Rattle.arc_spec.specs.Resolved.{Piece, Bytes, Decimal, Character, Function, Program}
 use Rattle.arc_code.specs.declared.instr.Op.{Op}
 use Rattle.arc_code.specs.declared.instr.Op.TheVariants as ops
 use Rattle.arc_code.specs.declared.instr.Op.TheVariants.{Num, Bin, Un, Narrow, Pop, Get, Set, PrintNum, PrintByte, Declare, Nil, ReadRef, Hold, Forget, Alloc, GetField, SetField, Differ, IsObject}

@@ -1,6 +1,6 @@
 //! Actions for variables. Those of a function lie on the stack below the operands.
 ghost use Rattle.std.specs.Prelude.{◌≡◌, ◌++◌, ◌+◌, suc, OnOk, IfOk};
-ghost use Rattle.arc_spec.specs.Resolved.{Local};
+ghost use Rattle.arc_spec.specs.declared.location.Location.TheVariants.{Local};
 ghost use Rattle.arc_lower.specs.Order.{orders};
 ghost use Rattle.arc_lower.specs.Lowered.{get_orders, set_orders, zero_orders};
 

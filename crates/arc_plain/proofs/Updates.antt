@@ -3,7 +3,8 @@ use Rattle.std.proofs.Common.{◌≡◌, ℕ, ℤ, sym, ap, ◌∙◌}
 use Rattle.arc_ast.specs.declared.tree.BinaryOperator.{BinaryOperator}
 use Rattle.arc_ast.specs.declared.tree.Kind.{Kind}
 use Rattle.arc_ast.specs.declared.tree.Moment.{Moment}
-use Rattle.arc_spec.specs.Resolved.{Location, Value, Updated, FieldUpdated, Reference}
+use Rattle.arc_spec.specs.declared.location.Location.{Location}
+use Rattle.arc_spec.specs.Resolved.{Value, Updated, FieldUpdated, Reference}
 use Rattle.arc_spec.specs.World.{World, Outcome, Done, then_do}
 use Rattle.arc_spec.specs.Meaning.{Deeper, held_at, holds, updated, given_by, evaluated, referred, field_read, field_set}
 

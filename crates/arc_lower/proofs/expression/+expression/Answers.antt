@@ -2,6 +2,7 @@ use Rattle.std.proofs.Common.{◌≡◌, ℕ, suc, ◌+◌, List, [], ◌∷◌,
 use Rattle.std.proofs.lemmas.List.{drop_more, length-map}
 use Rattle.arc_ast.specs.declared.tree.Moment.{Moment}
 use Rattle.arc_ast.specs.declared.tree.Moment.TheVariants.{Before, After}
+use Rattle.arc_spec.specs.declared.location.Location.TheVariants.{Local}
 use Rattle.arc_spec.specs.Resolved as resolved
 use Rattle.arc_spec.specs.Resolved.{and_value}
 use Rattle.arc_check.specs.declared.checked.Value.{Value}
@@ -480,7 +481,7 @@ append_sent_super-returns t c =
     let next = c.in_ok-append_values.ensures ∙ ap (λ n. o1 ++ all_value_orders P f.slots f.names n (values these)) c.in_ok-operands.ensures in
     rightly c.append.result (orders c.append.new.actions.items) _ _
     (ap (λ n. o2 ++ SendSuper from selector n ∷ []) (sym (values_counted these))
-    ∙ behind_two old o1 o2 (get_orders f.slots f.operands (resolved.Local 0)) (all_value_orders P f.slots f.names (suc f.operands) (values these)) (SendSuper from selector (value_count (values these)) ∷ []) c.in_ok-append_get.ensures next)
+    ∙ behind_two old o1 o2 (get_orders f.slots f.operands (Local 0)) (all_value_orders P f.slots f.names (suc f.operands) (values these)) (SendSuper from selector (value_count (values these)) ∷ []) c.in_ok-append_get.ensures next)
     c.append.ensures
 
 pub append_sent_to-returns : goal.append_sent_to-returns
