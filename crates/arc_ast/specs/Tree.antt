@@ -20,6 +20,7 @@ use Rattle.arc_ast.specs.declared.tree.Parameter.{Parameter}
 use Rattle.arc_ast.specs.declared.tree.Parameters.{Parameters}
 use Rattle.arc_ast.specs.declared.tree.Parameters.TheVariants as p
 use Rattle.arc_ast.specs.declared.tree.Function.{Function}
+use Rattle.arc_ast.specs.declared.tree.Global.{Global}
 use Rattle.arc_ast.specs.declared.tree.MethodHead.{MethodHead}
 use Rattle.arc_ast.specs.declared.tree.Method.{Method}
 use Rattle.arc_ast.specs.declared.tree.Interface.{Interface}
@@ -147,9 +148,18 @@ pub record ImplementationTree : Type 0 where
   pub fields : List FieldTree
   pub methods : List MethodTree
 
+-- A variable of the whole program, with the place of its name, and the number with which it is initialized, if one is written (C99, section 6.9.2). The type is one
+-- of numbers.
+pub record GlobalTree : Type 0 where
+  pub at : ℕ
+  pub type : TypeTree
+  pub name : List ℕ
+  pub initial : Option ℤ
+
 -- what a source declares and defines
 pub record UnitTree : Type 0 where
   pub functions : List FunctionTree
+  pub globals : List GlobalTree
   pub interfaces : List InterfaceTree
   pub implementations : List ImplementationTree
 
@@ -282,6 +292,13 @@ abbrev pub function_trees : List Function → List FunctionTree
 function_trees [] = []
 function_trees (f ∷ others) = function_tree f ∷ function_trees others
 
+abbrev pub global_tree : Global → GlobalTree
+global_tree g = record { at = g.at; type = type_tree g.type_name; name = g.name.items; initial = g.initial }
+
+abbrev pub global_trees : List Global → List GlobalTree
+global_trees [] = []
+global_trees (g ∷ others) = global_tree g ∷ global_trees others
+
 abbrev pub head_tree : MethodHead → HeadTree
 head_tree h = record { at = h.at; sign = h.sign; selector = h.selector.items; result = result_tree h.result; parameters = parameter_trees h.parameters.items }
 
@@ -320,4 +337,4 @@ implementation_trees (i ∷ others) = implementation_tree i ∷ implementation_t
 
 abbrev pub unit_tree : TranslationUnit → UnitTree
 unit_tree u =
-    record { functions = function_trees u.functions.items; interfaces = interface_trees u.interfaces.items; implementations = implementation_trees u.implementations.items }
+    record { functions = function_trees u.functions.items; globals = global_trees u.globals.items; interfaces = interface_trees u.interfaces.items; implementations = implementation_trees u.implementations.items }

@@ -279,11 +279,22 @@ pub struct Implementation {
     pub methods: Vec<Method>,
 }
 
-/// All of a source (C99, section 6.9): the functions, the interfaces and the implementations, each
-/// of them in their order. Names that `@class` declares are known without it, so they aren't kept.
+/// A variable of the whole program (C99, section 6.9.2), with the place of its name, and the number
+/// with which it is initialized, if one is written.
+#[derive(Drop)]
+pub struct Global {
+    pub at: usize,
+    pub type_name: TypeName,
+    pub name: Vec<u8>,
+    pub initial: Option<i64>,
+}
+
+/// All of a source (C99, section 6.9): the functions, the global variables, the interfaces and the
+/// implementations, each of them in their order. Names that `@class` declares are known without it, so they aren't kept.
 #[derive(Drop)]
 pub struct TranslationUnit {
     pub functions: Vec<Function>,
+    pub globals: Vec<Global>,
     pub interfaces: Vec<Interface>,
     pub implementations: Vec<Implementation>,
 }

@@ -1,5 +1,5 @@
 -- From what is told of a source and what is built of it to an answer.
-use Rattle.std.proofs.Common.{◌≡◌, ℕ, Bool, List, [], ◌++◌, Option, Some, None, option_map, refl, sym, ap, ◌∙◌}
+use Rattle.std.proofs.Common.{◌≡◌, ℕ, ℤ, Bool, List, [], ◌++◌, Option, Some, None, option_map, refl, sym, ap, ◌∙◌}
 use Rattle.std.specs.Option.{unwrap_or}
 use Rattle.std.specs.List.{flat_map, filter_map}
 use Rattle.std.proofs.Math.Path.{fun_ext}
@@ -9,6 +9,7 @@ use Rattle.arc_ast.specs.Tree.{FunctionTree, InterfaceTree, ImplementationTree, 
 use Rattle.arc_class.specs.declared.table.ClassTable.{ClassTable}
 use Rattle.arc_class.specs.declared.table.Declared.{Declared}
 use Rattle.arc_class.specs.declared.table.FoundField.{FoundField}
+use Rattle.arc_class.specs.declared.table.Variable.{Variable}
 use Rattle.arc_class.specs.Broken.{Broken, first, earlier_of}
 use Rattle.arc_class.specs.Table.{IsTableOf}
 use Rattle.arc_class.proofs.Firsts.{none_broken, first_both}
@@ -45,17 +46,17 @@ refused all fault one e n = refuses all one (sym e ∙ ap (option_map told) n)
 
 -- ---- what a table of a source knows of names
 
-abbrev names : (List ℕ → Option Declared) → (List ℕ → List Kind) → (Sign → List ℕ → List Kind) → (List ℕ → Option ℕ) → (ℕ → Option ℕ) → (Option ℕ → ℕ → Bool) → (Option ℕ → Sign → List ℕ → Option Kind) → (List ℕ → Option Kind) → (List ℕ → Option ℕ) → (Option ℕ → List ℕ → Option FoundField) → Known
-names function parameters passed class superclass descends result any selector field =
-    record { function = function; parameters = parameters; passed = passed; class = class; superclass = superclass; descends = descends; result = result; result_of_any = any; selector = selector; field = field }
+abbrev names : (List ℕ → Option Declared) → (List ℕ → Option Variable) → (List ℕ → List Kind) → (Sign → List ℕ → List Kind) → (List ℕ → Option ℕ) → (ℕ → Option ℕ) → (Option ℕ → ℕ → Bool) → (Option ℕ → Sign → List ℕ → Option Kind) → (List ℕ → Option Kind) → (List ℕ → Option ℕ) → (Option ℕ → List ℕ → Option FoundField) → Known
+names function global parameters passed class superclass descends result any selector field =
+    record { function = function; global = global; parameters = parameters; passed = passed; class = class; superclass = superclass; descends = descends; result = result; result_of_any = any; selector = selector; field = field }
 
-names_are : (f g : List ℕ → Option Declared) (h i : List ℕ → List Kind) (j k : Sign → List ℕ → List Kind) (c d : List ℕ → Option ℕ) (s t : ℕ → Option ℕ) (x y : Option ℕ → ℕ → Bool) (r q : Option ℕ → Sign → List ℕ → Option Kind) (a b : List ℕ → Option Kind) (m n : List ℕ → Option ℕ) (v w : Option ℕ → List ℕ → Option FoundField)
-    → f ≡ g → h ≡ i → j ≡ k → c ≡ d → s ≡ t → x ≡ y → r ≡ q → a ≡ b → m ≡ n → v ≡ w → names f h j c s x r a m v ≡ names g i k d t y q b n w
-names_are f g h i j k c d s t x y r q a b m n v w e1 e2 e3 e4 e5 e6 e7 e8 e9 e10 = rw (e1, e2, e3, e4, e5, e6, e7, e8, e9, e10) refl
+names_are : (f g : List ℕ → Option Declared) (o p : List ℕ → Option Variable) (h i : List ℕ → List Kind) (j k : Sign → List ℕ → List Kind) (c d : List ℕ → Option ℕ) (s t : ℕ → Option ℕ) (x y : Option ℕ → ℕ → Bool) (r q : Option ℕ → Sign → List ℕ → Option Kind) (a b : List ℕ → Option Kind) (m n : List ℕ → Option ℕ) (v w : Option ℕ → List ℕ → Option FoundField)
+    → f ≡ g → o ≡ p → h ≡ i → j ≡ k → c ≡ d → s ≡ t → x ≡ y → r ≡ q → a ≡ b → m ≡ n → v ≡ w → names f o h j c s x r a m v ≡ names g p i k d t y q b n w
+names_are f g o p h i j k c d s t x y r q a b m n v w e1 e0 e2 e3 e4 e5 e6 e7 e8 e9 e10 = rw (e1, e0, e2, e3, e4, e5, e6, e7, e8, e9, e10) refl
 
 pub known_is : (u : UnitTree) (table : ClassTable) → IsTableOf u table → known_in table ≡ known_of u
 known_is u table t =
-    names_are _ _ _ _ _ _ _ _ _ _ _ _ _ _ _ _ _ _ _ _ (fun_ext t.knows) (fun_ext t.parameters) (fun_ext (λ sign. fun_ext (t.passed sign))) (fun_ext t.numbers) (fun_ext t.superclasses) (ap descends t.classes) (fun_ext (λ from. fun_ext (λ sign. fun_ext (t.results from sign)))) (fun_ext t.any_results) (fun_ext t.selectors)
+    names_are _ _ _ _ _ _ _ _ _ _ _ _ _ _ _ _ _ _ _ _ _ _ (fun_ext t.knows) (fun_ext t.globals) (fun_ext t.parameters) (fun_ext (λ sign. fun_ext (t.passed sign))) (fun_ext t.numbers) (fun_ext t.superclasses) (ap descends t.classes) (fun_ext (λ from. fun_ext (λ sign. fun_ext (t.results from sign)))) (fun_ext t.any_results) (fun_ext t.selectors)
     (fun_ext (λ class. fun_ext (t.named class)))
 
 -- ---- what is told of a source
@@ -80,11 +81,11 @@ functions_are u table fs ms old new t f m o n =
     n ∙ ap (λ us. us ++ flat_map (resolved_methods k) ms) o ∙ ap (λ us. filter_map (resolved_function k) us ++ flat_map (resolved_methods k) ms) f ∙ ap (λ us. filter_map (resolved_function k) u.functions ++ flat_map (resolved_methods k) us) m
     ∙ ap (λ known. filter_map (resolved_function known) u.functions ++ flat_map (resolved_methods known) u.implementations) (known_is u table t)
 
-abbrev program : List resolved.Function → ℕ → List Class → resolved.Program
-program functions main classes = record { functions = functions; main = main; classes = classes }
+abbrev program : List resolved.Function → ℕ → List ℤ → List Class → resolved.Program
+program functions main globals classes = record { functions = functions; main = main; globals = globals; classes = classes }
 
-program_is : (f g : List resolved.Function) (m n : ℕ) (c d : List Class) → f ≡ g → m ≡ n → c ≡ d → program f m c ≡ program g n d
-program_is f g m n c d a b e = rw (a, b, e) refl
+program_is : (f g : List resolved.Function) (m n : ℕ) (h i : List ℤ) (c d : List Class) → f ≡ g → m ≡ n → h ≡ i → c ≡ d → program f m h c ≡ program g n i d
+program_is f g m n h i c d a b o e = rw (a, b, o, e) refl
 
-pub resolved_is : (u : UnitTree) (table : ClassTable) (new : Checked) → IsTableOf u table → checked.functions new.functions.items ≡ (resolved_unit u).functions → new.main ≡ table.main → classes_of new.classes.items ≡ classes_of table.classes.items → checked.program_of new ≡ resolved_unit u
-resolved_is u table new t f m c = program_is _ _ _ _ _ _ f (m ∙ sym (ap (λ n. unwrap_or n 0) t.main)) (c ∙ t.classes)
+pub resolved_is : (u : UnitTree) (table : ClassTable) (new : Checked) → IsTableOf u table → checked.functions new.functions.items ≡ (resolved_unit u).functions → new.main ≡ table.main → new.globals.items ≡ (resolved_unit u).globals → classes_of new.classes.items ≡ classes_of table.classes.items → checked.program_of new ≡ resolved_unit u
+resolved_is u table new t f m g c = program_is _ _ _ _ _ _ _ _ f (m ∙ sym (ap (λ n. unwrap_or n 0) t.main)) g (c ∙ t.classes)

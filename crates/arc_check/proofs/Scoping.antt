@@ -11,6 +11,7 @@ use Rattle.arc_class.specs.declared.table.ClassTable.{ClassTable}
 use Rattle.arc_class.specs.Table.{number_of_class}
 use Rattle.arc_check.specs.declared.scope.Bound.{Bound}
 use Rattle.arc_check.specs.declared.scope.Visible.{Visible}
+use Rattle.arc_spec.specs.declared.location.Location.TheVariants as location
 use Rattle.arc_check.specs.Scopes.{Known, Local, Number, Object, Scope, bound, has_place, declare, with_number, with_object, with_parameters}
 use Rattle.arc_check.specs.private.Views.{local_of, later, local_at, local_in, seen}
 use Rattle.arc_check.proofs.Lists.{drop_turn}
@@ -41,7 +42,7 @@ with_bound : (old new : List Bound) (b : Bound) → new ≡ old ++ b ∷ [] → 
 with_bound old new b i = fun_ext (λ q. ap (λ all. local_in all q) i ∙ local_in-push old b q)
 
 -- a number more is visible
-pub number_is : (table : ClassTable) (old new : Visible) (b : Bound) (kind : Kind) → has_place (seen table old) ≡ true → new.class ≡ old.class → new.sign ≡ old.sign → new.result ≡ old.result → new.hidden ≡ old.hidden → new.bound.items ≡ old.bound.items ++ b ∷ [] → local_of b.local ≡ Number kind old.next → new.next ≡ suc old.next → new.names ≡ old.names
+pub number_is : (table : ClassTable) (old new : Visible) (b : Bound) (kind : Kind) → has_place (seen table old) ≡ true → new.class ≡ old.class → new.sign ≡ old.sign → new.result ≡ old.result → new.hidden ≡ old.hidden → new.bound.items ≡ old.bound.items ++ b ∷ [] → local_of b.local ≡ Number kind (location.Local old.next) → new.next ≡ suc old.next → new.names ≡ old.names
     → seen table new ≡ cond (has_place (seen table old)) (with_number b.name.now kind (seen table old)) (seen table old)
 number_is table old new b kind t c g r h i n m e =
     rw t (scope_is _ _ _ _ _ _ _ _ _ _ _ _ _ _ _ (ap (option_map number_of_class) c) g r h (with_bound old.bound.items new.bound.items b i ∙ ap (λ x. bound b.name.now x (local_in old.bound.items)) n) m e)

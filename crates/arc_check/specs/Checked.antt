@@ -12,7 +12,7 @@ use Rattle.arc_check.specs.declared.checked.CheckedFunction.{CheckedFunction}
 use Rattle.arc_check.specs.declared.checked.Checked.{Checked}
 use Rattle.arc_spec.specs.Classes.{classes_of}
 use Rattle.arc_spec.specs.Resolved as resolved
-use Rattle.arc_spec.specs.Resolved.{Number, ReadByte, Print, Applied, Combined, Choice, Converted, Local, Assigned, Updated, Invoked, Sent, SentSuper, SentTo, SentToSuper, Field, FieldAssigned, FieldUpdated, Differ, IsObject, Nil, Itself, Variable, Chosen, Stored, Made, Initialized, no_values, and_value, Sequence, Evaluate, EvaluateReference, Begin, Return, Choose, Repeat, RepeatAfter, Break, Continue, no_commands, and_command, Bytes, Decimal, Character}
+use Rattle.arc_spec.specs.Resolved.{Number, ReadByte, Print, Applied, Combined, Choice, Converted, Read, Assigned, Updated, Invoked, Sent, SentSuper, SentTo, SentToSuper, Field, FieldAssigned, FieldUpdated, Differ, IsObject, Nil, Itself, Variable, Chosen, Stored, Made, Initialized, no_values, and_value, Sequence, Evaluate, EvaluateReference, Begin, Return, Choose, Repeat, RepeatAfter, Break, Continue, no_commands, and_command, Bytes, Decimal, Character}
 
 abbrev pub piece : Piece → resolved.Piece
 piece (p.Bytes bytes) = Bytes bytes.items
@@ -32,7 +32,7 @@ abbrev mutual
   value (v.Combined' operator kind q a r b) = Combined operator kind (value a) (value b)
   value (v.Choice' q c r a s b) = Choice (value c) (value a) (value b)
   value (v.Converted' kind q a) = Converted kind (value a)
-  value (v.Local i) = Local i
+  value (v.Read i) = Read i
   value (v.Assigned' i q a) = Assigned i (value a)
   value (v.Updated' moment i operator computed kept q a) = Updated moment i operator computed kept (value a)
   value (v.Invoked' f shape arguments) = Invoked f (row_values arguments)
@@ -89,4 +89,4 @@ functions [] = []
 functions (f ∷ others) = record { slots = f.slots; names = f.names; body = commands f.body.items } ∷ functions others
 
 abbrev pub program_of : Checked → resolved.Program
-program_of c = record { functions = functions c.functions.items; main = c.main; classes = classes_of c.classes.items }
+program_of c = record { functions = functions c.functions.items; main = c.main; globals = c.globals.items; classes = classes_of c.classes.items }

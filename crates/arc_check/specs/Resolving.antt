@@ -1,5 +1,5 @@
 -- The resolved program of a source that breaks no rule.
-use Rattle.std.specs.Prelude.{ℕ, ◌-◌, pos, Bool, false, List, [], ◌∷◌, ◌++◌, drop, map, flat_map, filter_map, Option, Some, None, option_map, option_and_then, unwrap_or, if◌then◌else◌}
+use Rattle.std.specs.Prelude.{ℕ, ◌-◌, ℤ, pos, Bool, false, List, [], ◌∷◌, ◌++◌, drop, map, flat_map, filter_map, Option, Some, None, option_map, option_and_then, unwrap_or, if◌then◌else◌}
 use Rattle.std.specs.Option.{option_map_or}
 use Rattle.arc_ast.specs.declared.tree.Moment.{Moment}
 use Rattle.arc_ast.specs.declared.tree.UnaryOperator.{UnaryOperator}
@@ -16,9 +16,11 @@ use Rattle.arc_ast.specs.declared.tree.Kind.TheVariants as k
 use Rattle.arc_ast.specs.declared.tree.Sign.{Sign}
 use Rattle.arc_ast.specs.declared.tree.Sign.TheVariants as signs
 use Rattle.arc_ast.specs.Tree as tree
-use Rattle.arc_ast.specs.Tree.{TypeTree, ExprTree, ExprTrees, Integer, Text, Paren, Call, Name, Unary, Cast, Binary, Conditional, Arrow, Assign, Update, Send, SendSuper, no_exprs, and_expr, VariableTree, StmtTree, StmtTrees, Block, Empty, Simple, Variables, If, IfElse, While, Do, For, no_stmts, and_stmt, ParameterTree, FunctionTree, MethodTree, ImplementationTree, UnitTree}
+use Rattle.arc_ast.specs.Tree.{TypeTree, GlobalTree, ExprTree, ExprTrees, Integer, Text, Paren, Call, Name, Unary, Cast, Binary, Conditional, Arrow, Assign, Update, Send, SendSuper, no_exprs, and_expr, VariableTree, StmtTree, StmtTrees, Block, Empty, Simple, Variables, If, IfElse, While, Do, For, no_stmts, and_stmt, ParameterTree, FunctionTree, MethodTree, ImplementationTree, UnitTree}
 use Rattle.arc_spec.specs.Classes.{same_sign}
-use Rattle.arc_spec.specs.Resolved.{Value, Reference, Number, ReadByte, Print, Applied, Combined, Choice, Converted, Local, Assigned, Updated, Invoked, Sent, SentSuper, SentTo, SentToSuper, Field, FieldAssigned, FieldUpdated, Differ, IsObject, Nil, Itself, Variable, Chosen, Stored, Made, Initialized, Values, no_values, and_value, Command, Sequence, Evaluate, EvaluateReference, Begin, Return, Choose, Repeat, RepeatAfter, Break, Continue, Commands, no_commands, and_command, Function, Program}
+use Rattle.arc_spec.specs.declared.location.Location.TheVariants.{Local}
+use Rattle.arc_spec.specs.Number as number
+use Rattle.arc_spec.specs.Resolved.{Value, Reference, Number, ReadByte, Print, Applied, Combined, Choice, Converted, Read, Assigned, Updated, Invoked, Sent, SentSuper, SentTo, SentToSuper, Field, FieldAssigned, FieldUpdated, Differ, IsObject, Nil, Itself, Variable, Chosen, Stored, Made, Initialized, Values, no_values, and_value, Command, Sequence, Evaluate, EvaluateReference, Begin, Return, Choose, Repeat, RepeatAfter, Break, Continue, Commands, no_commands, and_command, Function, Program}
 use Rattle.arc_sites.specs.Sites.{named_parameters}
 use Rattle.arc_class.specs.Running.{classes}
 use Rattle.arc_class.specs.Names.{number_of, is_main}
@@ -30,7 +32,7 @@ use Rattle.arc_check.specs.declared.format.Begun.TheVariants.{Nothing}
 use Rattle.arc_check.specs.Kinds.{literal_kind, wider, computing_kind, given_kind}
 use Rattle.arc_check.specs.Formats.{parts, printed}
 use Rattle.arc_check.specs.Scopes as scopes
-use Rattle.arc_check.specs.Scopes.{Known, Scope, declare, with_parameters, leave, behind, behind_all, outermost, in_method, callee, result_kind, is_printf, own_field, class_receiver, object_result, super_kind, class_of}
+use Rattle.arc_check.specs.Scopes.{Known, Scope, declare, with_parameters, leave, behind, behind_all, outermost, in_method, callee, result_kind, is_printf, own_field, variable, class_receiver, object_result, super_kind, class_of}
 use Rattle.arc_check.specs.Rules.{is_object, known_of}
 
 -- What an expression is resolved to, which breaks no rule: a number of a kind, or an object. What stands below for one that breaks a rule is never asked for.
@@ -183,7 +185,7 @@ field_assigned r found a = option_map_or (λ f. Gives f.kind (FieldAssigned r (n
 -- what a name means: a variable, or else a field of `self`; and an assignment to it
 abbrev pub named : Option scopes.Local → Option FoundField → Resolution
 named None own = field Itself own
-named (Some (scopes.Number kind n)) own = Gives kind (Local n)
+named (Some (scopes.Number kind n)) own = Gives kind (Read n)
 named (Some (scopes.Object n class)) own = Refers (Variable n)
 
 abbrev pub name_assigned : Option scopes.Local → Option FoundField → Resolution → Resolution
@@ -199,7 +201,7 @@ updating_kind operator kind a = computing_kind (sort_of operator) kind (kind_in 
 
 -- What is updated is what the left side reads: a variable, or a field of an object, which is evaluated once.
 abbrev pub place_updated : Moment → BinaryOperator → (computed kept : Kind) → (place operand : Value) → Value
-place_updated moment operator computed kept (Local n) a = Updated moment n operator computed kept a
+place_updated moment operator computed kept (Read n) a = Updated moment n operator computed kept a
 place_updated moment operator computed kept (Field r class index) a = FieldUpdated moment r class index operator computed kept a
 place_updated moment operator computed kept _ a = a
 
@@ -214,7 +216,7 @@ updated moment operator (Gives kind place) a =
 -- the value of a receiver that is the class of a number: that number, where it is a name, and else `self`, the first int of a class method
 abbrev pub class_value : ExprTree → (class : ℕ) → Value
 class_value (Name at name) class = Number (pos class)
-class_value _ class = Local 0
+class_value _ class = Read (Local 0)
 
 -- What gives an object is built in: `alloc` and `new` of classes, and `init` of objects. (`retain` and `autorelease` are refused by the rules of ownership, and
 -- stand here as `alloc` and `init`.)
@@ -232,7 +234,7 @@ sent s receiver None static a name all = to_object (object_result s.known static
 
 -- a message to `super`: it goes to `self`, and its method is looked up from the superclass of the class whose method has it
 abbrev pub made_by_super : Sign → Resolution
-made_by_super sign = Refers (if same_sign sign signs.Class then Made (Local 0) else Initialized Itself)
+made_by_super sign = Refers (if same_sign sign signs.Class then Made (Read (Local 0)) else Initialized Itself)
 
 abbrev pub super_value : Sign → (from selector : ℕ) → Values → Value
 super_value sign from selector all = if same_sign sign signs.Class then SentSuper from selector all else SentToSuper from selector all
@@ -255,7 +257,7 @@ abbrev mutual
       Gives (result_kind (callee s.known name)) (called (callee s.known name) arguments (resolved_all s (wanted_by (callee s.known name) (s.known.parameters name)) arguments))
   resolved s (tree.Nil at) = Refers Nil
   resolved s (tree.Itself at) = Refers Itself
-  resolved s (Name at name) = named (s.variables name) (own_field s name)
+  resolved s (Name at name) = named (variable s name) (own_field s name)
   resolved s (Unary at operator a) = unary operator (resolved s a)
   resolved s (Cast at type a) = cast (type_kind type) (resolved s a)
   resolved s (Binary at operator a b) = binary operator (resolved s a) (resolved s b)
@@ -270,7 +272,7 @@ abbrev mutual
   -- An assignment to its left side; to `self` it is refused by the rules of ownership, and stands here as what is assigned.
   pub assigned : Scope → ExprTree → Resolution → Resolution
   assigned s (Paren at a) b = assigned s a b
-  assigned s (Name at name) b = name_assigned (s.variables name) (own_field s name) b
+  assigned s (Name at name) b = name_assigned (variable s name) (own_field s name) b
   assigned s (Arrow at name_at a name) b = field_assigned (object_in (resolved s a)) (s.known.field (class_of s a) name) b
   assigned s _ b = b
 
@@ -293,7 +295,7 @@ number_as kind s a = converted kind (resolved s a)
 
 -- a value is put into the variable of this number
 abbrev pub put : (n : ℕ) → Value → Command
-put n a = Evaluate (Assigned n a)
+put n a = Evaluate (Assigned (Local n) a)
 
 -- a number of a kind takes what is written, if something is (C99, section 6.7.8)
 abbrev pub initialized : Kind → Scope → (n : ℕ) → Option ExprTree → Commands → Commands
@@ -367,10 +369,15 @@ resolved_method known class m = resolved_body (with_parameters (in_method known 
 abbrev pub resolved_methods : Known → ImplementationTree → List Function
 resolved_methods known i = map (resolved_method known (known.class i.name)) i.methods
 
+-- what a global variable holds first: what is written, as a number of its kind, and else 0 (C99, section 6.7.8, paragraphs 10 and 11)
+abbrev pub first_number : GlobalTree → ℤ
+first_number g = number.converted (type_kind g.type) (unwrap_or g.initial (pos 0))
+
 -- the program of a source: its functions with a body, and then its methods, in their order
 abbrev pub resolved_unit : UnitTree → Program
 resolved_unit u = record {
   functions = filter_map (resolved_function (known_of u)) u.functions ++ flat_map (resolved_methods (known_of u)) u.implementations;
   main = unwrap_or (number_of is_main u.functions) 0;
+  globals = map first_number u.globals;
   classes = classes u;
 }

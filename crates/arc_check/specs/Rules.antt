@@ -17,6 +17,7 @@ use Rattle.arc_class.specs.Classes.{kinds_passed, class_number, superclass, know
 use Rattle.arc_class.specs.Fields.{known_field}
 use Rattle.arc_class.specs.Running.{classes}
 use Rattle.arc_class.specs.declared.table.FoundField.{FoundField}
+use Rattle.arc_class.specs.Globals.{known_global}
 use Rattle.arc_class.specs.Names.{kinds_of_parameters, known}
 use Rattle.arc_sites.specs.Violations.{violates}
 use Rattle.arc_spec.specs.Classes.{descends}
@@ -26,7 +27,7 @@ use Rattle.arc_check.specs.declared.callee.Callee.{Callee}
 use Rattle.arc_check.specs.declared.callee.Callee.TheVariants.{Printf, GetChar, Defined, Unknown}
 use Rattle.arc_check.specs.Formats.{wanted, fits}
 use Rattle.arc_check.specs.Kinds.{literal_kind, wider}
-use Rattle.arc_check.specs.Scopes.{Known, Local, Scope, is_full, declare, with_parameters, leave, behind, outermost, in_method, callee, result_kind, is_printf, own_class, own_field, is_visible, class_receiver, sent_kind, super_kind, class_of}
+use Rattle.arc_check.specs.Scopes.{Known, Local, Scope, is_full, declare, with_parameters, leave, behind, outermost, in_method, variable, callee, result_kind, is_printf, own_class, own_field, is_visible, class_receiver, sent_kind, super_kind, class_of}
 use Rattle.arc_check.specs.Scopes as scopes
 
 abbrev pub is_text : ExprTree → Bool
@@ -91,7 +92,7 @@ either_kind a b = if is_object a && is_object b then Some k.Object else both_kin
 abbrev pub field_kind : Scope → Option FoundField → Option Kind
 field_kind s = option_and_then (λ f. kind_if (is_visible s f) f.kind)
 
--- the kind of what a name means: a variable, or else a field of `self`
+-- the kind of what a name means: this variable, or else a field of `self`
 abbrev pub name_kind : Scope → Option Local → List ℕ → Option Kind
 name_kind s None name = field_kind s (own_field s name)
 name_kind s (Some (scopes.Number kind n)) name = Some kind
@@ -127,7 +128,7 @@ abbrev mutual
   kind_of s (Call at name arguments) = kind_if (is_none (call_rule (callee s.known name) arguments (kinds s arguments))) (result_kind (callee s.known name))
   kind_of s (Nil at) = Some k.Object
   kind_of s (Itself at) = kind_if (is_some (own_class s)) k.Object
-  kind_of s (Name at name) = name_kind s (s.variables name) name
+  kind_of s (Name at name) = name_kind s (variable s name) name
   kind_of s (Unary at operator a) = unary_kind operator (kind_of s a)
   kind_of s (Cast at type a) = Some (type_kind type)
   kind_of s (Binary at operator a b) = binary_kind (sort_of operator) (kind_of s a) (kind_of s b)
@@ -215,7 +216,7 @@ abbrev mutual
   broken s (Call at name arguments) =
       broken_at at (call_rule (callee s.known name) arguments (kinds s arguments)) ++ broken_arguments s (is_printf (callee s.known name)) (is_printf (callee s.known name)) arguments
   broken s (Itself at) = broken_itself s at
-  broken s (Name at name) = broken_name s (s.variables name) name at
+  broken s (Name at name) = broken_name s (variable s name) name at
   broken s (Unary at operator a) = broken s a ++ no_operand operator (kind_of s a) (place a)
   broken s (Cast at type a) = broken s a ++ no_such (Some (type_kind type)) (kind_of s a) (place a)
   broken s (Binary at operator a b) =
@@ -252,7 +253,7 @@ name_takes s None name = is_some (own_field s name)
 name_takes s (Some (scopes.Number kind n)) name = false
 name_takes s (Some (scopes.Object n class)) name = true
 
--- whether an assignment's left side is a variable or `self`, which it doesn't read
+-- whether an assignment's left side is a variable of the body or `self`, which it doesn't read
 abbrev pub is_unread : Scope → ExprTree → Bool
 is_unread s (Paren at a) = is_unread s a
 is_unread s (Itself at) = true
@@ -267,7 +268,7 @@ abbrev mutual
   taken s (Paren at a) = taken s a
   taken s (Call at name arguments) = all_taken s arguments
   taken s (Itself at) = at_if (is_some (own_class s)) at
-  taken s (Name at name) = at_if (name_takes s (s.variables name) name) at
+  taken s (Name at name) = at_if (name_takes s (variable s name) name) at
   taken s (Unary at operator a) = taken s a
   taken s (Cast at type a) = taken s a
   taken s (Binary at operator a b) = taken s a ++ taken s b
@@ -376,6 +377,7 @@ broken_implementation known i = flat_map (broken_method known (known.class i.nam
 abbrev pub known_of : UnitTree → Known
 known_of u = record {
   function = known u.functions;
+  global = known_global u.globals;
   parameters = kinds_of_parameters u.functions;
   passed = kinds_passed u;
   class = class_number u.interfaces;

@@ -11,17 +11,22 @@ use Rattle.arc_ast.specs.declared.tree.Visibility.TheVariants as v
 use Rattle.arc_ast.specs.Tree as tree
 use Rattle.arc_ast.specs.Tree.{TypeTree, ExprTree, Paren, Nil, Cast, Conditional, Itself, Name, Assign, Send, SendSuper, VariableTree, StmtTree, StmtTrees, Block, Empty, Simple, Return, Variables, If, IfElse, While, Do, For, Break, Continue, no_stmts, and_stmt, ParameterTree}
 use Rattle.arc_spec.specs.Classes.{same_sign}
+use Rattle.arc_spec.specs.declared.location.Location.{Location}
+use Rattle.arc_spec.specs.declared.location.Location.TheVariants as location
 use Rattle.arc_class.specs.declared.table.Declared.{Declared}
 use Rattle.arc_class.specs.declared.table.FoundField.{FoundField}
+use Rattle.arc_class.specs.declared.table.Variable.{Variable}
+use Rattle.arc_class.specs.Classes.{or_else}
 use Rattle.arc_class.specs.Table.{number_of_class}
 use Rattle.arc_check.specs.declared.scope.TheConstants.{MOST_VARIABLES}
 use Rattle.arc_check.specs.declared.callee.Callee.{Callee}
 use Rattle.arc_check.specs.declared.callee.Callee.TheVariants.{Printf, GetChar, Defined, Unknown}
 
--- What is known of a source's names: its functions, the kinds of their parameters and of those of its methods, the numbers of its classes, their superclasses, which class comes from which, what the method gives that is
+-- What is known of a source's names: its functions, its global variables, the kinds of the functions' parameters and of those of its methods, the numbers of its classes, their superclasses, which class comes from which, what the method gives that is
 -- known for a message of a sign to a class, and to objects of any class, the numbers of its selectors, and the fields that the objects of a class have.
 pub record Known : Type 0 where
   pub function : List ℕ → Option Declared
+  pub global : List ℕ → Option Variable
   pub parameters : List ℕ → List Kind
   pub passed : Sign → List ℕ → List Kind
   pub class : List ℕ → Option ℕ
@@ -32,10 +37,10 @@ pub record Known : Type 0 where
   pub selector : List ℕ → Option ℕ
   pub field : Option ℕ → List ℕ → Option FoundField
 
--- A variable: a number of a kind, by its number among those of its function, or one that names objects, by its number among these, and with its static class, of
--- which `id` has none (OPL, "Static Typing").
+-- A variable: a number of a kind, by where it is held, or one that names objects, by its number among these, and with its static class, of which `id` has none
+-- (OPL, "Static Typing").
 pub data Local : Type 0 where
-  Number : Kind → ℕ → Local
+  Number : Kind → Location → Local
   Object : ℕ → (class : Option ℕ) → Local
 
 -- What names mean at a place: what is known of the source; the class in whose method the place is, if it is in one, and the method's sign; the kind of what the
@@ -63,7 +68,7 @@ abbrev pub bound : List ℕ → Local → (List ℕ → Option Local) → List �
 bound one local variables name = if bytes_eq one name then Some local else variables name
 
 abbrev pub with_number : List ℕ → Kind → Scope → Scope
-with_number name kind s = record s { variables = bound name (Number kind s.next) s.variables; next = suc s.next }
+with_number name kind s = record s { variables = bound name (Number kind (location.Local s.next)) s.variables; next = suc s.next }
 
 abbrev pub with_object : List ℕ → (class : Option ℕ) → Scope → Scope
 with_object name class s = record s { variables = bound name (Object s.names class) s.variables; names = suc s.names }
@@ -162,9 +167,18 @@ class_itself s = if same_sign s.sign signs.Class then s.class else None
 abbrev pub own_field : Scope → List ℕ → Option FoundField
 own_field s name = s.known.field (own_class s) name
 
+-- the variable of the whole program that a name means which no field of `self` has (C99, section 6.2.1; it is known in the whole source, which is this project's
+-- own choice)
+abbrev pub global_variable : Scope → List ℕ → Option Local
+global_variable s name = if is_some (own_field s name) then None else option_map (λ v. Number v.kind (location.Global v.number)) (s.known.global name)
+
+-- the variable that a name means: one of the body, or else one of the whole program
+abbrev pub variable : Scope → List ℕ → Option Local
+variable s name = or_else (s.variables name) (global_variable s name)
+
 -- whether a name means a variable or a field of `self`
 abbrev pub is_variable : Scope → List ℕ → Bool
-is_variable s name = is_some (s.variables name) || is_some (own_field s name)
+is_variable s name = is_some (variable s name) || is_some (own_field s name)
 
 -- Where a field may be named (OPL, "The Scope of Instance Variables"): public ones everywhere, private ones in the methods of the class whose own they are, and
 -- protected ones in those of classes that come from it, too.
@@ -250,7 +264,7 @@ either_class false false a b = same_class a b
 abbrev pub class_of : Scope → ExprTree → Option ℕ
 class_of s (Paren at a) = class_of s a
 class_of s (Itself at) = own_class s
-class_of s (Name at name) = local_class (s.variables name)
+class_of s (Name at name) = local_class (variable s name)
 class_of s (Cast at type a) = static_class s.known type
 class_of s (Conditional at c a b) = either_class (is_nil a) (is_nil b) (class_of s a) (class_of s b)
 class_of s (Assign at sign a b) = class_of s a

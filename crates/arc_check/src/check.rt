@@ -12,6 +12,7 @@ ghost use Rattle.arc_check.specs.Rules.{broken_unit};
 use crate::body::judge_functions;
 use crate::checked::{Checked, CheckedFunction};
 use crate::classes::copied;
+use crate::global::first_numbers;
 use crate::method::{judge_implementations, judge_interfaces};
 use crate::program::{add_implementations, functions};
 use arc_ast::tree::TranslationUnit;
@@ -69,6 +70,7 @@ pub fn check<'a>(
         unit,
         functions: resolve_unit(alloc, unit, table)?,
         main: table.main,
+        globals: first_numbers(alloc, &unit.globals)?,
         classes: copied(alloc, &table.classes)?,
     })
 }

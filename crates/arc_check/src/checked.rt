@@ -2,6 +2,7 @@
 
 use arc_ast::tree::{BinaryOperator, Kind, Moment, TranslationUnit, UnaryOperator};
 use arc_spec::class::Class;
+use arc_spec::location::Location;
 
 /// What a format prints in turn.
 #[derive(Drop)]
@@ -28,12 +29,12 @@ pub enum Value {
     /// The first of two values where the test is other than 0, else the second.
     Choice(Box<Value>, Box<Value>, Box<Value>),
     Converted(Kind, Box<Value>),
-    /// The variable of the running function with this number.
-    Local(usize),
-    Assigned(usize, Box<Value>),
+    /// What a variable holds.
+    Read(Location),
+    Assigned(Location, Box<Value>),
     /// An update of such a variable: what it gives, the variable, the operator, the kind in which it computes and
     /// that of the variable, and the right operand.
-    Updated(Moment, usize, BinaryOperator, Kind, Kind, Box<Value>),
+    Updated(Moment, Location, BinaryOperator, Kind, Kind, Box<Value>),
     /// A call of the function with this number.
     Invoked(usize, Vec<Value>),
     /// A message: what gets it, which gives a class's number, the selector's number, and the
@@ -110,11 +111,13 @@ pub struct CheckedFunction {
 }
 
 /// A checked program: the source that it comes from; its functions with a body, in their order, and then
-/// its methods; which of them is `main`; and its classes, whose methods run functions.
+/// its methods; which of them is `main`; what its global variables hold first; and its classes, whose
+/// methods run functions.
 #[derive(Drop)]
 pub struct Checked<'a> {
     pub unit: &'a TranslationUnit,
     pub functions: Vec<CheckedFunction>,
     pub main: usize,
+    pub globals: Vec<i64>,
     pub classes: Vec<Class>,
 }

@@ -1,4 +1,4 @@
-//! The fields that names mean.
+//! The variables and the fields that names mean.
 ghost use Rattle.std.specs.Prelude.{◌≡◌, false, option_map, nat_eq};
 ghost use Rattle.std.specs.Option.{option_map_or};
 ghost use Rattle.arc_class.specs.Broken.{first};
@@ -6,13 +6,14 @@ ghost use Rattle.arc_class.specs.Table.{number_of_class};
 ghost use Rattle.arc_check.specs.Fault.{told};
 ghost use Rattle.arc_check.specs.Rules as rules;
 ghost use Rattle.arc_check.specs.Scopes as scopes;
-ghost use Rattle.arc_check.specs.private.Views.{known_in, seen};
+ghost use Rattle.arc_check.specs.private.Views.{known_in, local_of, seen};
 
-use crate::scope::Visible;
+use crate::scope::{Local, Visible};
 use arc_ast::tree::{Kind, Visibility};
 use arc_class::table::{ClassId, ClassTable, FoundField};
 use arc_fault::check::CheckFault;
 use arc_spec::class::descends_from;
+use arc_spec::location::Location;
 
 /// The field of `self` that the name means which is no variable's.
 pub fn own_field<'a>(
@@ -25,11 +26,42 @@ pub fn own_field<'a>(
     table.field(visible.own_class(), name)
 }
 
+/// The variable of the whole program that the name means, where no field of `self` has it.
+fn global_variable<'a>(
+    table: &ClassTable<'a>,
+    visible: &Visible<'a>,
+    name: &'a [u8],
+) -> Option<Local>
+    ensures { option_map local_of result ≡ scopes.global_variable (seen table.now visible.now) name.now }
+{
+    if own_field(table, visible, name).is_some() {
+        return None;
+    }
+    match table.global(name) {
+        None => None,
+        Some(global) => Some(Local::Number(global.kind, Location::Global(global.number))),
+    }
+}
+
+/// The variable that the name means: one of the body, or else one of the whole program.
+pub fn named_variable<'a>(
+    table: &ClassTable<'a>,
+    visible: &Visible<'a>,
+    name: &'a [u8],
+) -> Option<Local>
+    ensures { option_map local_of result ≡ scopes.variable (seen table.now visible.now) name.now }
+{
+    match visible.local(name) {
+        Some(local) => Some(local),
+        None => global_variable(table, visible, name),
+    }
+}
+
 /// Whether the name means a variable or a field of `self`.
 pub fn is_variable<'a>(table: &ClassTable<'a>, visible: &Visible<'a>, name: &'a [u8]) -> bool
     ensures { result ≡ scopes.is_variable (seen table.now visible.now) name.now }
 {
-    visible.local(name).is_some() || own_field(table, visible, name).is_some()
+    named_variable(table, visible, name).is_some() || own_field(table, visible, name).is_some()
 }
 
 /// Whether the class is that one, or comes from it.

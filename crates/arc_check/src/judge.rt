@@ -17,7 +17,7 @@ ghost use Rattle.arc_check.specs.declared.scope.Visible.{Visible};
 ghost use Rattle.arc_check.specs.private.Views.{known_in, seen};
 
 use crate::callee::{Callee, callee_of, result_kind};
-use crate::field::{field_fault, field_kind, own_field};
+use crate::field::{field_fault, field_kind, named_variable, own_field};
 use crate::format::{next_conversion, take_conversion};
 use crate::message::{
     class_receiver, sent_class, sent_kind, static_class, super_class, super_kind,
@@ -159,7 +159,7 @@ fn judge_name<'a>(
 ) -> Judged
     ensures { Judges (seen table.now visible.now) before (Name at name.now) result }
 {
-    match visible.local(name) {
+    match named_variable(table, visible, name) {
         Some(Local::Number(kind, _)) => number(Some(kind), None, before),
         Some(Local::Object(_, class)) => object(class, None, before.one_if(true, at)),
         None => judge_own_field(table, visible, before, at, own_field(table, visible, name)),

@@ -9,6 +9,7 @@ mod classes;
 pub mod fault;
 mod field;
 mod format;
+mod global;
 mod judge;
 mod message;
 mod method;

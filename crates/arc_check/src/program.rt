@@ -21,6 +21,7 @@ use arc_ast::tree::{
     Expr, Function, Implementation, Kind, Method, Parameter, Stmt, TypeName, Variable,
 };
 use arc_class::table::{ClassId, ClassTable};
+use arc_spec::location::Location;
 use std::alloc::{AllocError, Global};
 
 /// A resolved return, of a number of the function's kind where it gives something.
@@ -46,7 +47,7 @@ fn put(alloc: Global, number: u16, value: Value) -> Result<Command, AllocError>
     ensures { IfOk result (λ new. checked.command new ≡ resolving.put number (checked.value value)) }
 {
     let value = Box::new(alloc, value)?;
-    Ok(Command::Evaluate(Value::Assigned(usize::from(number), value)))
+    Ok(Command::Evaluate(Value::Assigned(Location::Local(usize::from(number)), value)))
 }
 
 /// Appends what a declaration of the variable of the number runs, which is a number of the kind: it begins at 0, and then takes its value.

@@ -17,6 +17,7 @@ use arc_ast::tree::{
     BinaryOperator, Expr, Kind, Moment, OperatorSort, Sign, UnaryOperator, operator_sort,
 };
 use arc_class::table::{ClassId, FoundField, Sel};
+use arc_spec::location::Location;
 use std::alloc::{AllocError, Global};
 
 /// What an expression is resolved to: a number of a kind, or an object.
@@ -407,7 +408,7 @@ pub fn named(
 {
     match local {
         None => field(alloc, Reference::Itself, own),
-        Some(Local::Number(kind, number)) => given(alloc, kind, Value::Local(number)),
+        Some(Local::Number(kind, location)) => given(alloc, kind, Value::Read(location)),
         Some(Local::Object(number, _)) => Ok(Resolution::Refers(Reference::Variable(number))),
     }
 }
@@ -423,9 +424,9 @@ pub fn name_assigned(
 {
     match local {
         None => field_assigned(alloc, Reference::Itself, own, of),
-        Some(Local::Number(kind, number)) => {
+        Some(Local::Number(kind, location)) => {
             let value = converted(alloc, kind, of)?;
-            given(alloc, kind, Value::Assigned(number, value))
+            given(alloc, kind, Value::Assigned(location, value))
         }
         Some(Local::Object(number, _)) => {
             let object = Box::new(alloc, object_in(of))?;
@@ -446,8 +447,8 @@ fn place_updated(
     ensures { checked.value result ≡ resolving.place_updated moment operator computed kept (checked.value place) (checked.value operand.value) }
 {
     match place {
-        Value::Local(number) => {
-            Value::Updated(moment, number, operator, computed, kept, operand)
+        Value::Read(location) => {
+            Value::Updated(moment, location, operator, computed, kept, operand)
         }
         Value::Field(object, class, index) => Value::FieldUpdated(
             moment, object, class, index, operator, computed, kept, operand,
@@ -487,7 +488,7 @@ pub fn class_value(receiver: &Expr, number: usize) -> Result<Value, AllocError>
             Ok(number) => Ok(Value::Number(number)),
             Err(_) => Err(AllocError),
         },
-        _ => Ok(Value::Local(0)),
+        _ => Ok(Value::Read(Location::Local(0))),
     }
 }
 
@@ -535,7 +536,7 @@ fn made_by_super(alloc: Global, sign: Sign) -> Result<Resolution, AllocError>
 {
     match sign {
         Sign::Class => {
-            let class = Box::new(alloc, Value::Local(0))?;
+            let class = Box::new(alloc, Value::Read(Location::Local(0)))?;
             Ok(Resolution::Refers(Reference::Made(class)))
         }
         Sign::Instance => {

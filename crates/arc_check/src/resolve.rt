@@ -12,7 +12,7 @@ ghost use Rattle.arc_check.specs.private.Views.{local_of, seen};
 
 use crate::callee::{Callee, callee_of, result_kind};
 use crate::checked::{Reference, Value};
-use crate::field::own_field;
+use crate::field::{named_variable, own_field};
 use crate::format::pieces;
 use crate::message::{
     above, class_receiver, sent_class, sent_kind, static_class, super_class, super_kind,
@@ -57,7 +57,7 @@ fn variable<'a>(
 ) -> Result<Typed, AllocError>
     ensures { IfOk result (λ typed. (at : ℕ) → Resolves (seen table.now visible.now) (Name at name.now) typed) }
 {
-    let local = visible.local(name);
+    let local = named_variable(table, visible, name);
     let value = named(alloc, local, own_field(table, visible, name))?;
     Ok(Typed {
         class: local_class(local),
@@ -255,11 +255,11 @@ fn to_name<'a>(
     name: &'a [u8],
     of: Resolution,
 ) -> Result<Typed, AllocError>
-    ensures class { IfOk result (λ typed. option_map number_of_class typed.class ≡ scopes.local_class ((seen table.now visible.now).variables name.now)) }
+    ensures class { IfOk result (λ typed. option_map number_of_class typed.class ≡ scopes.local_class (scopes.variable (seen table.now visible.now) name.now)) }
     ensures value { IfOk result (λ typed. resolution typed.value
-        ≡ resolving.name_assigned ((seen table.now visible.now).variables name.now) (scopes.own_field (seen table.now visible.now) name.now) (resolution of)) }
+        ≡ resolving.name_assigned (scopes.variable (seen table.now visible.now) name.now) (scopes.own_field (seen table.now visible.now) name.now) (resolution of)) }
 {
-    let local = visible.local(name);
+    let local = named_variable(table, visible, name);
     let value = name_assigned(alloc, local, own_field(table, visible, name), of)?;
     Ok(Typed {
         class: local_class(local),

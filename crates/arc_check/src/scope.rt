@@ -8,13 +8,14 @@ ghost use Rattle.arc_check.specs.private.Views.{local_of, local_in, known_in, se
 
 use arc_ast::tree::{Kind, Parameter, Sign, TypeName};
 use arc_class::table::{ClassId, ClassTable};
+use arc_spec::location::Location;
 use std::alloc::{AllocError, Global};
 
-/// A variable, by its number among those of its sort in its function.
+/// A variable: a number, by where it is held, or one that names objects, by its number among these in its function.
 #[derive(Clone, Copy)]
 pub enum Local {
     /// A number of a kind.
-    Number(Kind, usize),
+    Number(Kind, Location),
     /// One that names objects, with its static class, of which `id` has none.
     Object(usize, Option<ClassId>),
 }
@@ -116,7 +117,7 @@ impl<'a> Visible<'a> {
         !self.has_place()
     }
 
-    /// The variable that the name means.
+    /// The variable of the body that the name means.
     pub fn local(&self, name: &[u8]) -> Option<Local>
         ensures { option_map local_of result ≡ local_in self.now.bound.items name.now }
     {
@@ -138,7 +139,7 @@ impl<'a> Visible<'a> {
         if self.has_place() {
             self.bound.push(Bound {
                 name,
-                local: Local::Number(kind, usize::from(self.next)),
+                local: Local::Number(kind, Location::Local(usize::from(self.next))),
             })?;
             self.next += 1;
         }

@@ -6,18 +6,19 @@ use Rattle.std.specs.Str.{bytes_eq}
 use Rattle.std.specs.BTreeMap.{BTreeMap}
 use Rattle.std.specs.Borrow.{Bor}
 use Rattle.arc_ast.specs.declared.tree.Function.{Function}
+use Rattle.arc_ast.specs.declared.tree.Global.{Global}
 use Rattle.arc_ast.specs.declared.tree.MethodHead.{MethodHead}
 use Rattle.arc_ast.specs.declared.tree.Implementation.{Implementation}
 use Rattle.arc_ast.specs.declared.tree.Interface.{Interface}
 use Rattle.arc_ast.specs.declared.tree.Method.{Method}
 use Rattle.arc_ast.specs.declared.tree.Field.{Field}
 use Rattle.arc_ast.specs.declared.tree.Sign.{Sign}
-use Rattle.arc_ast.specs.Tree.{FunctionTree, HeadTree, FieldTree, InterfaceTree, ImplementationTree, UnitTree, head_tree, method_trees, field_trees, interface_tree, interface_trees, implementation_tree, implementation_trees, function_tree, function_trees, head_trees}
+use Rattle.arc_ast.specs.Tree.{FunctionTree, GlobalTree, HeadTree, FieldTree, InterfaceTree, ImplementationTree, UnitTree, head_tree, method_trees, field_trees, interface_tree, interface_trees, implementation_tree, implementation_trees, function_tree, function_trees, global_tree, global_trees, head_trees}
 use Rattle.arc_class.specs.declared.kept.Implemented.{Implemented}
 use Rattle.arc_class.specs.declared.table.Place.{Place}
 use Rattle.arc_class.specs.Walk.{and_name}
 use Rattle.arc_class.specs.Broken.{broken_if, Broken, first, earlier_of}
-use Rattle.arc_class.specs.ClassRules.{broken_head, broken_method, broken_methods, broken_field, broken_fields, field_place, broken_interface, broken_interfaces, broken_implementation, broken_implementations, is_implemented, interface_before, class_before, clashes_with, clashing_functions}
+use Rattle.arc_class.specs.ClassRules.{broken_head, broken_method, broken_methods, broken_field, broken_fields, field_place, broken_interface, broken_interfaces, broken_implementation, broken_implementations, is_implemented, interface_before, class_before, clashes_with, clashing_functions, is_again, broken_globals}
 use Rattle.arc_class.specs.Classes.{heads, first_head, interface_number, class_number, is_root, or_else}
 use Rattle.arc_class.specs.Kept.{place_before, places, implemented_tree}
 use Rattle.arc_class.specs.Running.{implemented}
@@ -115,12 +116,21 @@ class_number_kept names is name e = ap (λ o. if is_root name then Some 0 else o
 
 -- ---- functions
 
-pub functions_turn : (is : List InterfaceTree) (all : List FunctionTree) (xs : List Function) (k : ℕ) (x : Function) (so_far one now whole : Option Broken) → k < length xs → x ≡ get_or xs k x
-    → one ≡ first (broken_if (clashes_with is all (function_tree x)) x.at 21) → now ≡ earlier_of so_far one
-    → whole ≡ earlier_of so_far (first (clashing_functions is all (function_trees (drop k xs)))) → whole ≡ earlier_of now (first (clashing_functions is all (function_trees (drop (k + 1) xs))))
-functions_turn is all xs k x so_far one now whole l e o n w =
-    first_turn (broken_if (clashes_with is all (function_tree x)) x.at 21) (clashing_functions is all (function_trees (drop (k + 1) xs))) so_far one now whole o n
-    (w ∙ ap (λ us. earlier_of so_far (first (clashing_functions is all (function_trees us)))) (drop_turn xs k x l e))
+pub functions_turn : (is : List InterfaceTree) (gs : List GlobalTree) (all : List FunctionTree) (xs : List Function) (k : ℕ) (x : Function) (so_far one now whole : Option Broken) → k < length xs → x ≡ get_or xs k x
+    → one ≡ first (broken_if (clashes_with is gs all (function_tree x)) x.at 21) → now ≡ earlier_of so_far one
+    → whole ≡ earlier_of so_far (first (clashing_functions is gs all (function_trees (drop k xs)))) → whole ≡ earlier_of now (first (clashing_functions is gs all (function_trees (drop (k + 1) xs))))
+functions_turn is gs all xs k x so_far one now whole l e o n w =
+    first_turn (broken_if (clashes_with is gs all (function_tree x)) x.at 21) (clashing_functions is gs all (function_trees (drop (k + 1) xs))) so_far one now whole o n
+    (w ∙ ap (λ us. earlier_of so_far (first (clashing_functions is gs all (function_trees us)))) (drop_turn xs k x l e))
+
+-- ---- global variables
+
+pub globals_turn : (u : UnitTree) (xs : List Global) (k : ℕ) (x : Global) (so_far one now whole : Option Broken) → k < length xs → x ≡ get_or xs k x
+    → one ≡ first (broken_if (is_again u (global_tree x)) x.at 21) → now ≡ earlier_of so_far one
+    → whole ≡ earlier_of so_far (first (broken_globals u (global_trees (drop k xs)))) → whole ≡ earlier_of now (first (broken_globals u (global_trees (drop (k + 1) xs))))
+globals_turn u xs k x so_far one now whole l e o n w =
+    first_turn (broken_if (is_again u (global_tree x)) x.at 21) (broken_globals u (global_trees (drop (k + 1) xs))) so_far one now whole o n
+    (w ∙ ap (λ us. earlier_of so_far (first (broken_globals u (global_trees us)))) (drop_turn xs k x l e))
 
 -- ---- methods
 

@@ -8,12 +8,13 @@ use Rattle.arc_ast.specs.declared.tree.Kind.{Kind}
 use Rattle.arc_ast.specs.declared.tree.Kind.TheVariants as k
 use Rattle.arc_ast.specs.declared.tree.Sign.{Sign}
 use Rattle.arc_ast.specs.declared.tree.Sign.TheVariants as signs
-use Rattle.arc_ast.specs.Tree.{FunctionTree, HeadTree, MethodTree, FieldTree, InterfaceTree, ImplementationTree, UnitTree}
+use Rattle.arc_ast.specs.Tree.{FunctionTree, GlobalTree, HeadTree, MethodTree, FieldTree, InterfaceTree, ImplementationTree, UnitTree}
 use Rattle.arc_spec.specs.Classes.{same_sign, ancestry}
 use Rattle.arc_class.specs.Bodies.{broken_bodies}
 use Rattle.arc_class.specs.Broken.{Broken, broken_if}
 use Rattle.arc_class.specs.Classes.{is_root, interface_number, class_number, superclasses, first_head, result_of, built_in_result, or_else, declared, defined}
 use Rattle.arc_class.specs.Fields.{own_fields, fields_declared, fields}
+use Rattle.arc_class.specs.Globals.{known_global, variable_before}
 use Rattle.arc_class.specs.Functions.{is_library, same_kind, same_kinds, duplicates, missing_main}
 use Rattle.arc_class.specs.Names.{first_named, parameter_kinds, listed_kinds, number_of, is_main}
 
@@ -101,10 +102,10 @@ broken_fields u above all = flat_map (λ f. broken_field u above all f.at f.name
 abbrev pub stands_before : Option FunctionTree → ℕ → Bool
 stands_before f at = option_map_or (λ f. nat_lt f.at at) f false
 
--- 21 Duplicate: an interface of the root, of a name of the library's, of an earlier interface's class or of an earlier function's name, at its name
--- (this project's own choice)
+-- 21 Duplicate: an interface of the root, of a name of the library's, of an earlier interface's class or of the name of an earlier function or
+-- global variable, at its name (this project's own choice)
 abbrev pub is_taken : UnitTree → (before : List InterfaceTree) → InterfaceTree → Bool
-is_taken u before i = is_root i.name || (is_library i.name || (is_some (interface_number before i.name) || stands_before (first_named i.name u.functions) i.at))
+is_taken u before i = is_root i.name || (is_library i.name || (is_some (interface_number before i.name) || (stands_before (first_named i.name u.functions) i.at || variable_before (known_global u.globals i.name) i.at)))
 
 -- the first implementation with a name is there
 abbrev pub is_implemented : List ImplementationTree → List ℕ → Bool
@@ -158,15 +159,26 @@ class_before interfaces name at = is_root name || interface_before interfaces na
 abbrev pub other_parameters : Option FunctionTree → FunctionTree → Bool
 other_parameters first f = option_map_or (λ e. not (same_kinds (listed_kinds e) (listed_kinds f))) first false
 
--- 21 Duplicate: a function with the name of the root or of an earlier interface's class (this project's own choice), or whose parameters are of other kinds than
+-- 21 Duplicate: a function with the name of the root, of an earlier interface's class (this project's own choice) or of an earlier global variable (C99, section
+-- 6.7, paragraph 3), or whose parameters are of other kinds than
 -- those of the first function of its name (C99, section 6.7.5.3), at its name
-abbrev pub clashes_with : List InterfaceTree → List FunctionTree → FunctionTree → Bool
-clashes_with interfaces functions f = class_before interfaces f.name f.at || other_parameters (first_named f.name functions) f
+abbrev pub clashes_with : List InterfaceTree → List GlobalTree → List FunctionTree → FunctionTree → Bool
+clashes_with interfaces globals functions f =
+    class_before interfaces f.name f.at || (variable_before (known_global globals f.name) f.at || other_parameters (first_named f.name functions) f)
 
-abbrev pub clashing_functions : List InterfaceTree → (all : List FunctionTree) → List FunctionTree → List Broken
-clashing_functions interfaces all = flat_map (λ f. broken_if (clashes_with interfaces all f) f.at 21)
+abbrev pub clashing_functions : List InterfaceTree → List GlobalTree → (all : List FunctionTree) → List FunctionTree → List Broken
+clashing_functions interfaces globals all = flat_map (λ f. broken_if (clashes_with interfaces globals all f) f.at 21)
+
+-- 21 Duplicate: a global variable of a name of the library's, of the root, or of an earlier interface's class, function or global variable, at its name (C99,
+-- section 6.7, paragraph 3; that a declaration without a first number may not stand again is this project's own choice)
+abbrev pub is_again : UnitTree → GlobalTree → Bool
+is_again u g = is_library g.name || (class_before u.interfaces g.name g.at
+    || (stands_before (first_named g.name u.functions) g.at || variable_before (known_global u.globals g.name) g.at))
+
+abbrev pub broken_globals : UnitTree → List GlobalTree → List Broken
+broken_globals u = flat_map (λ g. broken_if (is_again u g) g.at 21)
 
 -- all that is wrong with what a source declares, and inside its functions and methods with names of variables, with types and with calls
 abbrev pub broken : UnitTree → List Broken
 broken u = (duplicates [] u.functions ++ (missing_main (number_of is_main u.functions) ++ broken_bodies u))
-    ++ (clashing_functions u.interfaces u.functions u.functions ++ (broken_interfaces u [] u.interfaces ++ broken_implementations u [] u.implementations))
+    ++ (clashing_functions u.interfaces u.globals u.functions u.functions ++ (broken_globals u u.globals ++ (broken_interfaces u [] u.interfaces ++ broken_implementations u [] u.implementations)))

@@ -11,6 +11,7 @@ use Rattle.arc_class.specs.declared.kept.Implemented.{Implemented}
 use Rattle.arc_class.specs.declared.kept.Source.{Source}
 use Rattle.arc_class.specs.declared.table.Place.{Place}
 use Rattle.arc_class.specs.Classes.{first_head, bodies, declared, defined, function_count}
+use Rattle.arc_class.specs.Globals.{known_global}
 use Rattle.arc_class.specs.Names.{known, first_named}
 use Rattle.arc_class.specs.Running.{implemented}
 use Rattle.arc_class.specs.Lookups.{at_name, head_at}
@@ -47,6 +48,7 @@ implemented_in kept name = option_map implemented_tree (at_name kept name)
 pub record Knows (u : UnitTree) (source : Source) : Type 0 where
   pub knows : (name : List ℕ) → at_name source.known name ≡ known u.functions name
   pub first_functions : (name : List ℕ) → function_kept source.functions name ≡ first_named name u.functions
+  pub globals : (name : List ℕ) → at_name source.globals name ≡ known_global u.globals name
   pub class_places : (name : List ℕ) → at_name source.names name ≡ places 1 u.interfaces name
   pub implementations : (name : List ℕ) → implemented_in source.implemented name ≡ implemented (bodies u.functions) u.implementations name
   pub counts : source.function_count ≡ function_count u

@@ -2,6 +2,7 @@ pub mod Broken
 pub mod Names
 pub mod Bodies
 pub mod Functions
+pub mod Globals
 pub mod Classes
 pub mod Fields
 pub mod Running

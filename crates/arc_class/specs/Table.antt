@@ -13,15 +13,21 @@ use Rattle.arc_class.specs.declared.owners.Owners.{Owners}
 use Rattle.arc_class.specs.declared.table.ClassTable.{ClassTable}
 use Rattle.arc_class.specs.declared.table.Declared.{Declared}
 use Rattle.arc_class.specs.declared.table.FoundField.{FoundField}
+use Rattle.arc_class.specs.declared.table.Variable.{Variable}
 use Rattle.arc_class.specs.Kept.{function_kept, head_in}
 use Rattle.arc_class.specs.Classes.{kinds_passed, and_name, class_number, superclass, or_else, built_in_result, counting_result, known_result, any_result, selector_number, function_count}
 use Rattle.arc_class.specs.Fields.{ClassField, fields, known_field}
+use Rattle.arc_class.specs.Globals.{known_global}
 use Rattle.arc_class.specs.Names.{known, parameter_kinds, listed_kinds, kinds_of_parameters, number_of, is_main}
 use Rattle.arc_class.specs.Running.{classes}
 
 -- what a table knows of the functions of a name
 abbrev pub function_in : ClassTable → List ℕ → Option Declared
 function_in table = at_name table.functions
+
+-- what a table knows of the global variables of a name
+abbrev pub global_in : ClassTable → List ℕ → Option Variable
+global_in table = at_name table.globals
 
 -- the kinds of the parameters of the functions of a name, and of the methods of a sign with a selector
 abbrev pub parameters_in : ClassTable → List ℕ → List Kind
@@ -92,6 +98,7 @@ selector_names table = names_of table.selectors.keys
 pub record KeepsDeclared (old new : ClassTable) : Type 0 where
   pub functions : new.functions ≡ old.functions
   pub first_functions : new.first_functions ≡ old.first_functions
+  pub globals : new.globals ≡ old.globals
   pub main : new.main ≡ old.main
   pub names : new.names ≡ old.names
   pub entries : new.entries ≡ old.entries
@@ -114,9 +121,10 @@ pub record Registers (old : ClassTable) (name : List ℕ) (new : ClassTable) (nu
   pub selectors : selector_names new ≡ and_name (selector_names old) name
   pub is_numbered : selector_in new name ≡ Some number
 
--- The table is one of a source: it knows what is known of each name, which function is `main`, and the classes, their methods, their fields and the selectors.
+-- The table is one of a source: it knows what is known of each function's and each global variable's name, which function is `main`, and the classes, their methods, their fields and the selectors.
 pub record IsTableOf (u : UnitTree) (table : ClassTable) : Type 0 where
   pub knows : (name : List ℕ) → function_in table name ≡ known u.functions name
+  pub globals : (name : List ℕ) → global_in table name ≡ known_global u.globals name
   pub parameters : (name : List ℕ) → parameters_in table name ≡ kinds_of_parameters u.functions name
   pub passed : (sign : Sign) (selector : List ℕ) → passed_in table sign selector ≡ kinds_passed u sign selector
   pub main : number_of is_main u.functions ≡ Some table.main

@@ -1,13 +1,14 @@
 //! The rules for classes.
 ghost use Rattle.std.specs.Prelude.{◌≡◌, ◌≤◌, ◌||◌, List, ℕ, [], ◌++◌, length, map, option_map, is_some, IfOk};
-ghost use Rattle.arc_ast.specs.Tree.{InterfaceTree, ImplementationTree, unit_tree, function_tree, interface_tree, implementation_tree};
+ghost use Rattle.arc_ast.specs.Tree.{InterfaceTree, ImplementationTree, unit_tree, function_tree, global_tree, interface_tree, implementation_tree};
 ghost use Rattle.arc_class.specs.Broken.{first};
 ghost use Rattle.arc_class.specs.ClassRules as rules;
-ghost use Rattle.arc_class.specs.ClassRules.{broken_names, broken_members, broken_interfaces, broken_own_names, broken_own_fields, broken_implementations, clashing_functions};
+ghost use Rattle.arc_class.specs.ClassRules.{broken_names, broken_members, broken_interfaces, broken_own_names, broken_own_fields, broken_implementations, clashing_functions, broken_globals};
 ghost use Rattle.arc_class.specs.Classes as classes;
 ghost use Rattle.arc_class.specs.Classes.{interface_number};
 ghost use Rattle.arc_class.specs.Entries.{fields_tree, all_class_fields};
 ghost use Rattle.arc_class.specs.Fault.{told};
+ghost use Rattle.arc_class.specs.Globals.{variable_before};
 ghost use Rattle.arc_class.specs.Kept.{Knows, place_before};
 ghost use Rattle.arc_class.specs.Owners.{TellsFields};
 ghost use Rattle.arc_class.specs.Walk.{holds};
@@ -17,8 +18,9 @@ use crate::fields::{ClassFields, count_among, field_places, fields_fault};
 use crate::kept::Source;
 use crate::look::{is_library, listed, same_parameters};
 use crate::owners::Owners;
-use crate::table::{Place, at_name, class_number, is_root};
+use crate::table::{Place, Variable, at_name, class_number, is_root};
 use crate::walk::{Scope, stands};
+use arc_ast::tree;
 use arc_ast::tree::{Function, Implementation, Interface};
 use arc_fault::class::ClassFault;
 use arc_sites::violation::earlier;
@@ -34,6 +36,16 @@ fn stands_before(function: Option<&Function>, at: usize) -> bool
     match function {
         None => false,
         Some(function) => function.at < at,
+    }
+}
+
+/// Whether there is a global variable, and it stands before the place.
+fn variable_before(variable: Option<Variable>, at: usize) -> bool
+    ensures { result ≡ variable_before variable at }
+{
+    match variable {
+        None => false,
+        Some(variable) => variable.at < at,
     }
 }
 
@@ -73,25 +85,52 @@ impl<'a> Source<'a> {
         is_root(name) || place_before(at_name(&self.names, name), at)
     }
 
-    /// Whether the function has the name of the root or of an earlier interface's class, or parameters of other kinds
-    /// than the first function of its name.
+    /// Whether the function has the name of the root, of an earlier interface's class or of an earlier global variable,
+    /// or parameters of other kinds than the first function of its name.
     fn clashes_with(&self, function: &'a Function) -> bool
         requires { Knows (unit_tree self.now.unit.now) self.now }
-        ensures { result ≡ rules.clashes_with (unit_tree self.now.unit.now).interfaces (unit_tree self.now.unit.now).functions (function_tree function.now) }
+        ensures { result ≡ rules.clashes_with (unit_tree self.now.unit.now).interfaces (unit_tree self.now.unit.now).globals (unit_tree self.now.unit.now).functions (function_tree function.now) }
     {
         self.class_before(&function.name, function.at)
+            || variable_before(at_name(&self.globals, &function.name), function.at)
             || other_parameters(at_name(&self.functions, &function.name), function)
     }
 
-    /// The first function that clashes with a class, or with the first function of its name.
+    /// The first function that clashes with a class, a global variable, or the first function of its name.
     fn functions_fault(&self) -> Option<ClassFault>
         requires { Knows (unit_tree self.now.unit.now) self.now }
-        ensures { option_map told result ≡ first (clashing_functions (unit_tree self.now.unit.now).interfaces (unit_tree self.now.unit.now).functions (unit_tree self.now.unit.now).functions) }
+        ensures { option_map told result ≡ first (clashing_functions (unit_tree self.now.unit.now).interfaces (unit_tree self.now.unit.now).globals (unit_tree self.now.unit.now).functions (unit_tree self.now.unit.now).functions) }
     {
         let mut fault = None;
         for function in &self.unit.functions {
             let clashes = self.clashes_with(function);
             fault = earlier(fault, fault_if(clashes, ClassFault::Duplicate(function.at)));
+        }
+        fault
+    }
+
+    /// Whether a global variable has a name of the library's, of the root, or of an earlier interface's class, function or
+    /// global variable.
+    fn is_again(&self, global: &'a tree::Global) -> bool
+        requires { Knows (unit_tree self.now.unit.now) self.now }
+        ensures { result ≡ rules.is_again (unit_tree self.now.unit.now) (global_tree global.now) }
+    {
+        let name: &'a [u8] = &global.name;
+        is_library(name)
+            || self.class_before(name, global.at)
+            || stands_before(at_name(&self.functions, name), global.at)
+            || variable_before(at_name(&self.globals, name), global.at)
+    }
+
+    /// The first global variable whose name stands already.
+    fn globals_fault(&self) -> Option<ClassFault>
+        requires { Knows (unit_tree self.now.unit.now) self.now }
+        ensures { option_map told result ≡ first (broken_globals (unit_tree self.now.unit.now) (unit_tree self.now.unit.now).globals) }
+    {
+        let mut fault = None;
+        for global in &self.unit.globals {
+            let again = self.is_again(global);
+            fault = earlier(fault, fault_if(again, ClassFault::Duplicate(global.at)));
         }
         fault
     }
@@ -107,6 +146,7 @@ impl<'a> Source<'a> {
             || is_library(name)
             || stands(before, name)
             || stands_before(at_name(&self.functions, name), interface.at)
+            || variable_before(at_name(&self.globals, name), interface.at)
     }
 
     /// The first rule that the names of an interface break, after those whose names stand in `before`.
@@ -240,13 +280,15 @@ impl<'a> Source<'a> {
         requires knows { Knows (unit_tree self.now.unit.now) self.now }
         requires fields { map fields_tree fields.now ≡ all_class_fields (unit_tree self.now.unit.now) }
         requires owners { TellsFields fields.now owners.now }
-        ensures { IfOk result (λ fault. option_map told fault ≡ first (clashing_functions (unit_tree self.now.unit.now).interfaces (unit_tree self.now.unit.now).functions (unit_tree self.now.unit.now).functions
+        ensures { IfOk result (λ fault. option_map told fault ≡ first (clashing_functions (unit_tree self.now.unit.now).interfaces (unit_tree self.now.unit.now).globals (unit_tree self.now.unit.now).functions (unit_tree self.now.unit.now).functions
+            ++ (broken_globals (unit_tree self.now.unit.now) (unit_tree self.now.unit.now).globals
             ++ (broken_interfaces (unit_tree self.now.unit.now) [] (unit_tree self.now.unit.now).interfaces
-            ++ broken_implementations (unit_tree self.now.unit.now) [] (unit_tree self.now.unit.now).implementations))) }
+            ++ broken_implementations (unit_tree self.now.unit.now) [] (unit_tree self.now.unit.now).implementations)))) }
     {
         let interfaces = self.interfaces_fault(alloc, fields, owners)?;
         let implementations = self.implementations_fault(alloc)?;
         let inside = earlier(interfaces, implementations);
+        let inside = earlier(self.globals_fault(), inside);
         Ok(earlier(self.functions_fault(), inside))
     }
 }

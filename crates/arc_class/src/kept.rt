@@ -1,10 +1,11 @@
 //! What is kept of the names of a source: the first that each of them is declared with.
 ghost use Rattle.std.specs.Prelude.{◌≡◌, ◌<◌, ℕ, List, IfOk, IfErr};
 ghost use Rattle.arc_ast.specs.declared.tree.Sign.{Sign};
-ghost use Rattle.arc_ast.specs.Tree.{unit_tree, function_trees, interface_trees, implementation_trees};
+ghost use Rattle.arc_ast.specs.Tree.{unit_tree, function_trees, global_trees, interface_trees, implementation_trees};
 ghost use Rattle.arc_class.specs.Classes as classes;
 ghost use Rattle.arc_class.specs.Classes.{first_head, declared, defined};
 ghost use Rattle.arc_fault.specs.declared.class.ClassFault.TheVariants.{Memory};
+ghost use Rattle.arc_class.specs.Globals.{known_global};
 ghost use Rattle.arc_class.specs.Kept.{head_in, function_kept, places, implemented_in, Knows};
 ghost use Rattle.arc_class.specs.Names as names;
 ghost use Rattle.arc_class.specs.Names.{first_named};
@@ -12,7 +13,8 @@ ghost use Rattle.arc_class.specs.Running.{implemented};
 ghost use Rattle.arc_class.specs.Table.{at_name};
 
 use crate::heads::{Heads, keep_first};
-use crate::table::{Known, Names, Place};
+use crate::table::{Known, Names, Place, Variable, Variables};
+use arc_ast::tree;
 use arc_ast::tree::{Function, Implementation, Interface, Method, TranslationUnit};
 use arc_fault::class::ClassFault;
 use std::alloc::{AllocError, Global};
@@ -35,6 +37,8 @@ pub struct Source<'a> {
     pub known: Known<'a>,
     /// The first function of each name.
     pub functions: Functions<'a>,
+    /// The first global variable of each name.
+    pub globals: Variables<'a>,
     /// The first interface of each name.
     pub names: Names<'a>,
     /// The first implementation of each name.
@@ -82,6 +86,27 @@ fn first_functions<'a>(
     let mut map = Functions::new(alloc);
     for function in functions {
         keep_first(&mut map, &function.name, function)?;
+    }
+    Ok(map)
+}
+
+/// The first global variable of each name.
+fn first_globals<'a>(
+    alloc: Global,
+    globals: &'a [tree::Global],
+) -> Result<Variables<'a>, AllocError>
+    ensures { IfOk result (λ map. (sought : List ℕ) → at_name map sought ≡ known_global (global_trees globals.now) sought) }
+{
+    let mut map = Variables::new(alloc);
+    let mut number = 0;
+    for global in globals {
+        let variable = Variable {
+            number,
+            kind: global.type_name.kind(),
+            at: global.at,
+        };
+        keep_first(&mut map, &global.name, variable)?;
+        number += 1;
     }
     Ok(map)
 }
@@ -164,6 +189,7 @@ impl<'a> Source<'a> {
         ensures refused { IfErr result (λ fault. fault ≡ Memory) }
     {
         let functions = first_functions(alloc, &unit.functions)?;
+        let globals = first_globals(alloc, &unit.globals)?;
         let names = class_places(alloc, &unit.interfaces)?;
         let implemented = first_implementations(alloc, bodies, &unit.implementations)?;
         let function_count = numbers_after(bodies, &unit.implementations)?;
@@ -173,6 +199,7 @@ impl<'a> Source<'a> {
             unit,
             known,
             functions,
+            globals,
             names,
             implemented,
             function_count,

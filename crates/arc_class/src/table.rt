@@ -66,6 +66,17 @@ pub struct Place {
     pub at: usize,
 }
 
+/// The first global variable of a name: its number, counted from 0, its kind, and the place of the name.
+#[derive(Clone, Copy)]
+pub struct Variable {
+    pub number: usize,
+    pub kind: Kind,
+    pub at: usize,
+}
+
+/// The first global variable of each name.
+pub type Variables<'a> = BTreeMap<&'a [u8], Variable>;
+
 /// The first interface of each name.
 pub type Names<'a> = BTreeMap<&'a [u8], Place>;
 
@@ -273,12 +284,13 @@ fn items_at<T>(lists: &[Vec<T>], number: usize) -> &[T]
     list
 }
 
-/// What a source declares: its functions, its classes with their methods and fields, and its selectors.
+/// What a source declares: its functions, its global variables, its classes with their methods and fields, and its selectors.
 #[derive(Drop)]
 pub struct ClassTable<'a> {
     functions: Known<'a>,
     /// The first function of each name.
     first_functions: Functions<'a>,
+    globals: Variables<'a>,
     /// Which of the functions with a body is `main`, counted from 0.
     pub main: usize,
     names: Names<'a>,
@@ -305,13 +317,20 @@ pub struct ClassTable<'a> {
 }
 
 impl<'a> ClassTable<'a> {
-    ghost use Rattle.arc_class.specs.Table.{IsTableOf, function_in, parameters_in, passed_in, class_in, superclass_in, nearest_result_in, result_in_table, owners_in, any_result_in, field_in_table, fields_in, defined_in, built_in_method, method_in, selector_in, selector_name, IsSameTable, Registers};
+    ghost use Rattle.arc_class.specs.Table.{IsTableOf, function_in, global_in, parameters_in, passed_in, class_in, superclass_in, nearest_result_in, result_in_table, owners_in, any_result_in, field_in_table, fields_in, defined_in, built_in_method, method_in, selector_in, selector_name, IsSameTable, Registers};
 
     /// What is known of the functions of the name, if there are any. The name lies in the source, or lives as long.
     pub fn function(&self, name: &'a [u8]) -> Option<Declared>
         ensures { result ≡ function_in self.now name.now }
     {
         at_name(&self.functions, name)
+    }
+
+    /// The global variable with the name.
+    pub fn global(&self, name: &'a [u8]) -> Option<Variable>
+        ensures { result ≡ global_in self.now name.now }
+    {
+        at_name(&self.globals, name)
     }
 
     /// The parameters of the functions of the name, as the first of them lists these: none where no function has the name, and none of a
@@ -524,6 +543,7 @@ impl<'a> ClassTable<'a> {
         let Source {
             known,
             functions,
+            globals,
             names,
             declared,
             defined,
@@ -539,6 +559,7 @@ impl<'a> ClassTable<'a> {
         Ok(ClassTable {
             functions: known,
             first_functions: functions,
+            globals,
             main,
             names,
             entries,

@@ -5,7 +5,7 @@ use Rattle.arc_spec.specs.Classes.{Class, class_at}
 use Rattle.arc_spec.specs.Number.{combined}
 use Rattle.arc_spec.specs.Holding.{Held}
 use Rattle.arc_code.specs.declared.instr.Op.{Op}
-use Rattle.arc_code.specs.declared.instr.Op.TheVariants.{Num, Bin, Un, Narrow, Pop, Get, Set, PrintNum, PrintByte, GetChar, Declare, Nil, ReadSelf, ReadRef, Hold, Again, Forget, Alloc, GetField, SetField, Differ, IsObject}
+use Rattle.arc_code.specs.declared.instr.Op.TheVariants.{Num, Bin, Un, Narrow, Pop, Get, Set, GetGlobal, SetGlobal, PrintNum, PrintByte, GetChar, Declare, Nil, ReadSelf, ReadRef, Hold, Again, Forget, Alloc, GetField, SetField, Differ, IsObject}
 use Rattle.arc_code.specs.Instructions.{State, or_fault, allocates, operates}
 use Rattle.arc_code.specs.Effects.{Effect, of_names, on_numbers, on_names, operation_effect, Follows, After}
 use Rattle.arc_code.proofs.Outcomes.{top_after, found_after, reference_after, named_after, field_after, declares_after}
@@ -58,6 +58,8 @@ module _ (classes : List Class) (s : State) where
   operation_follows Pop = top_after (By (on_numbers 1 0)) s.stack _ (λ x rest e. counts 1 0 _ (omega (arith, e)))
   operation_follows (Get depth) = found_after (By (on_numbers 0 1)) (slice_get s.stack depth) _ (λ v _. counts 0 1 _ (omega arith))
   operation_follows (Set depth) = top_after (By (on_numbers 1 0)) s.stack _ (λ v rest e. found_after (By (on_numbers 1 0)) (slice_get rest depth) _ (λ _ _. counts 1 0 _ (omega (arith, e, length-set rest depth v))))
+  operation_follows (GetGlobal i) = counts 0 1 _ (omega arith)
+  operation_follows (SetGlobal i) = top_after (By (on_numbers 1 0)) s.stack _ (λ v rest e. gives 1 0 0 _ _ (omega (arith, e)) (omega arith) refl refl refl)
   operation_follows PrintNum = top_after (By (on_numbers 2 1)) s.stack _ (λ v above e1. top_after (By (on_numbers 2 1)) above _ (λ count rest e2. counts 2 1 _ (omega (arith, e1, e2))))
   operation_follows PrintByte = top_after (By (on_numbers 2 1)) s.stack _ (λ v above e1. top_after (By (on_numbers 2 1)) above _ (λ count rest e2. counts 2 1 _ (omega (arith, e1, e2))))
   operation_follows GetChar = λ answer. counts 0 1 _ (omega arith)

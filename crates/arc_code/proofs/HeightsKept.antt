@@ -74,7 +74,7 @@ module _ {J F T : Type 0} (p : Program J F T) (height : ℕ → Height) (most_nu
     pub levels : length s.frames ≤ most_levels
     pub waits : AllWait s.frames
 
-  pub start_within : Within start
+  pub start_within : Within (start p)
   start_within = record { above = (omega arith, omega arith, omega arith, omega arith, omega arith); levels = omega arith; waits = tt }
 
   -- what a function that waited has when it runs again
@@ -300,7 +300,7 @@ module _ {J F T : Type 0} (p : Program J F T) (height : ℕ → Height) (most_nu
 
   -- no run has more than the room
   pub never_more : NeverHasMore p (room_for most_numbers) (room_for most_names) (room_for most_places)
-  never_more input n = within_room (after_steps (step p) n (Running start input [])) (steps_within n (Running start input []) start_within)
+  never_more input n = within_room (after_steps (step p) n (Running (start p) input [])) (steps_within n (Running (start p) input []) start_within)
 
   -- ---- soundness
 
@@ -310,5 +310,5 @@ module _ {J F T : Type 0} (p : Program J F T) (height : ℕ → Height) (most_nu
     safe_within (suc n) s w safe = along_both (Safe (step p) (λ t. Counted t.held) n) Within (Safe (step p) (Fits p) n) (λ t counts within. safe_within n t within counts) (step p s) safe (step_within s w)
 
     -- a program that never is stuck, and whose counts are right, is sound with the room that its heights ask for
-    pub sound_with_room : Sound (step p) (λ t. Counted t.held) start → IsSound p
-    sound_with_room sound = record { safe = λ n. safe_within n start start_within (sound.safe n) }
+    pub sound_with_room : Sound (step p) (λ t. Counted t.held) (start p) → IsSound p
+    sound_with_room sound = record { safe = λ n. safe_within n (start p) start_within (sound.safe n) }

@@ -6,7 +6,7 @@ use Rattle.arc_spec.specs.Classes.{lookup}
 use Rattle.arc_spec.specs.Meaning.{most_levels}
 use Rattle.arc_spec.specs.Stepping.{Next, Goes, Asks, Ends, Faults, Stuck, Reached, Running, Ended, Faulted, Wedged, after_steps}
 use Rattle.arc_code.specs.declared.instr.Op.{Op}
-use Rattle.arc_code.specs.declared.instr.Op.TheVariants.{Num, Bin, Un, Narrow, Pop, Get, Set, PrintNum, PrintByte, GetChar, Declare, Nil, ReadSelf, ReadRef, Hold, Again, Forget, Alloc, GetField, SetField, Differ, IsObject}
+use Rattle.arc_code.specs.declared.instr.Op.TheVariants.{Num, Bin, Un, Narrow, Pop, Get, Set, GetGlobal, SetGlobal, PrintNum, PrintByte, GetChar, Declare, Nil, ReadSelf, ReadRef, Hold, Again, Forget, Alloc, GetField, SetField, Differ, IsObject}
 use Rattle.arc_code.specs.declared.instr.Instr.{Instr}
 use Rattle.arc_code.specs.declared.instr.Instr.TheVariants.{Plain, PrintText, Jump, JumpZero, Call, Send, SendSuper, SendTo, SendToSuper, StoreStrong, Empty, DropAll, Return, EndStep}
 use Rattle.arc_spec.specs.Holding.{all_places}
@@ -34,6 +34,8 @@ operation_effect (Narrow kind) = on_numbers 1 1
 operation_effect Pop = on_numbers 1 0
 operation_effect (Get depth) = on_numbers 0 1
 operation_effect (Set depth) = on_numbers 1 0
+operation_effect (GetGlobal i) = on_numbers 0 1
+operation_effect (SetGlobal i) = on_numbers 1 0
 operation_effect PrintNum = on_numbers 2 1
 operation_effect PrintByte = on_numbers 2 1
 operation_effect GetChar = on_numbers 0 1
@@ -158,4 +160,4 @@ HasAtMost numbers names places (Wedged input trace) = Unit {0}
 
 -- on each input there are at most so many numbers, references and places after any number of steps
 abbrev pub NeverHasMore : {J F T : Type 0} → Program J F T → (numbers names places : ℕ) → Type 0
-NeverHasMore p numbers names places = (input : List ℕ) (n : ℕ) → HasAtMost numbers names places (after_steps (step p) n (Running start input []))
+NeverHasMore p numbers names places = (input : List ℕ) (n : ℕ) → HasAtMost numbers names places (after_steps (step p) n (Running (start p) input []))

@@ -8,7 +8,7 @@ use Rattle.arc_ast.specs.declared.tree.UnaryOperator.TheVariants as u
 use Rattle.arc_ast.specs.declared.tree.BinaryOperator.{BinaryOperator}
 use Rattle.arc_ast.specs.declared.tree.BinaryOperator.TheVariants as o
 use Rattle.arc_code.specs.declared.instr.Op.{Op}
-use Rattle.arc_code.specs.declared.instr.Op.TheVariants.{Num, Bin, Un, Narrow, Pop, Get, Set, PrintNum, PrintByte, GetChar, Declare, Nil, ReadSelf, ReadRef, Hold, Again, Forget, Alloc, GetField, SetField, Differ, IsObject}
+use Rattle.arc_code.specs.declared.instr.Op.TheVariants.{Num, Bin, Un, Narrow, Pop, Get, Set, GetGlobal, SetGlobal, PrintNum, PrintByte, GetChar, Declare, Nil, ReadSelf, ReadRef, Hold, Again, Forget, Alloc, GetField, SetField, Differ, IsObject}
 use Rattle.arc_code.specs.declared.instr.Instr.TheVariants.{Plain, PrintText, Jump, JumpZero, Call, Send, SendSuper, SendTo, SendToSuper, StoreStrong, Empty, DropAll, Return, EndStep}
 use Rattle.arc_code.specs.Running.{Instruction}
 
@@ -53,6 +53,8 @@ op_name (Narrow kind) = codes "Narrow"
 op_name Pop = codes "Pop"
 op_name (Get depth) = codes "Get"
 op_name (Set depth) = codes "Set"
+op_name (GetGlobal i) = codes "GetGlobal"
+op_name (SetGlobal i) = codes "SetGlobal"
 op_name PrintNum = codes "PrintNum"
 op_name PrintByte = codes "PrintByte"
 op_name GetChar = codes "GetChar"
@@ -96,6 +98,8 @@ op_operands (Un operator kind) = operand (unary_number operator) ++ operand (kin
 op_operands (Narrow kind) = operand (kind_number kind)
 op_operands (Get depth) = operand depth
 op_operands (Set depth) = operand depth
+op_operands (GetGlobal i) = operand i
+op_operands (SetGlobal i) = operand i
 op_operands (ReadRef i) = operand i
 op_operands (GetField class index) = operand class ++ operand index
 op_operands (SetField class index) = operand class ++ operand index

@@ -32,5 +32,6 @@ relinked p instrs lands entry text = record {
   room = p.room;
   names = p.names;
   places = p.places;
+  globals = p.globals;
   classes = p.classes;
 }

@@ -65,10 +65,10 @@ fn operation_effect(operation: Op) -> Effect
     ensures { result ≡ operation_effect operation }
 {
     match operation {
-        Op::Num(_) | Op::Get(_) | Op::GetChar => on_numbers(0, 1),
+        Op::Num(_) | Op::Get(_) | Op::GetGlobal(_) | Op::GetChar => on_numbers(0, 1),
         Op::Bin(_, _) | Op::PrintNum | Op::PrintByte => on_numbers(2, 1),
         Op::Un(_, _) | Op::Narrow(_) => on_numbers(1, 1),
-        Op::Pop | Op::Set(_) => on_numbers(1, 0),
+        Op::Pop | Op::Set(_) | Op::SetGlobal(_) => on_numbers(1, 0),
         Op::Declare => Effect {
             variables: 1,
             ..on_numbers(0, 0)

@@ -22,6 +22,12 @@ pub enum Op {
     Get(usize),
     /// Takes the top number, and puts it in the place of the one at this depth of the rest.
     Set(usize),
+    /// Puts the number that the variable of the whole program with this number holds on the stack; that of
+    /// one that there isn't is 0.
+    GetGlobal(usize),
+    /// Takes the top number, and puts it in the variable of the whole program with this number, where there
+    /// is one.
+    SetGlobal(usize),
     /// Takes a number, prints it in decimal, and adds the number of bytes to the count below it.
     PrintNum,
     /// Takes a number, prints its low 8 bits as a byte, and adds 1 to the count below it.

@@ -4,8 +4,8 @@ ghost use Rattle.arc_spec.specs.Classes.{Class};
 ghost use Rattle.arc_spec.specs.Stepping.{Sound};
 ghost use Rattle.arc_spec.specs.Holding.{Counted};
 ghost use Rattle.arc_code.specs.declared.instr.Op.{Op};
-ghost use Rattle.arc_code.specs.Instructions.{State, start, operates};
-ghost use Rattle.arc_code.specs.Running.{Program, linked, step, IsSound};
+ghost use Rattle.arc_code.specs.Instructions.{State, operates};
+ghost use Rattle.arc_code.specs.Running.{Program, linked, start, step, IsSound};
 ghost use Rattle.arc_code.specs.Effects.{Height, operation_effect, Follows, After, HeightsFit, room_for, NeverHasMore};
 
 /// Each operation takes and gives as many numbers, references and places as the table of effects says.
@@ -17,5 +17,5 @@ pub fn effects_are_followed()
 /// may have by the greatest heights; with that room it is sound, where it is never stuck and its counts are right.
 pub fn heights_bound_runs()
     ensures room { (p : Program) (height : ℕ → Height) (n r m : ℕ) → HeightsFit (linked p) height n r m → NeverHasMore (linked p) (room_for n) (room_for r) (room_for m) }
-    ensures sound { (p : Program) (height : ℕ → Height) (n r m : ℕ) → HeightsFit (linked p) height n r m → room_for n ≤ p.room → room_for r ≤ p.names → room_for m ≤ p.places → Sound (step p) (λ s. Counted s.held) start → IsSound p }
+    ensures sound { (p : Program) (height : ℕ → Height) (n r m : ℕ) → HeightsFit (linked p) height n r m → room_for n ≤ p.room → room_for r ≤ p.names → room_for m ≤ p.places → Sound (step p) (λ s. Counted s.held) (start p) → IsSound p }
 {}

@@ -88,7 +88,9 @@ fn put_op_operands<W: Output>(op: Op, writer: &mut Counted<W>) -> Result<(), IoF
         }
         Op::Narrow(kind) => put_operand(number_of_kind(kind), writer),
         Op::Get(depth) | Op::Set(depth) => put_operand(depth as u64, writer),
-        Op::ReadRef(number) => put_operand(number as u64, writer),
+        Op::GetGlobal(number) | Op::SetGlobal(number) | Op::ReadRef(number) => {
+            put_operand(number as u64, writer)
+        }
         Op::GetField(class, index) | Op::SetField(class, index) => {
             put_pair(class as u64, index as u64, writer)
         }
@@ -224,6 +226,8 @@ fn name_of_op(op: Op) -> &'static str
         Op::Pop => "Pop",
         Op::Get(_) => "Get",
         Op::Set(_) => "Set",
+        Op::GetGlobal(_) => "GetGlobal",
+        Op::SetGlobal(_) => "SetGlobal",
         Op::PrintNum => "PrintNum",
         Op::PrintByte => "PrintByte",
         Op::GetChar => "GetChar",

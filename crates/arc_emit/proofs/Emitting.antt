@@ -85,7 +85,7 @@ module _ (p : acting.Program) where
       subst (Along Later) (sym (step_same s)) (along_by (Safe (acting.step p) (acting.Fits p) n) Later (code_safe n) (acting.step p s) h)
 
   seen_same : (input : List ℕ) (n : ℕ) → running.seen code input n ≡ acting.seen p input n
-  seen_same input n = ap run_seen (steps_same n (Running acting.start input []))
+  seen_same input n = ap run_seen (steps_same n (Running (acting.start p) input []))
 
   -- the code's runs do what runs of the actions do
   pub code_refines : Refines (acting.seen p) (running.seen code)
@@ -96,4 +96,4 @@ module _ (p : acting.Program) where
 
   -- the code of sound actions is sound
   pub code_sound : acting.IsSound p → running.IsSound code
-  code_sound sound = record { safe = λ n. code_safe n acting.start (sound.safe n) }
+  code_sound sound = record { safe = λ n. code_safe n (acting.start p) (sound.safe n) }

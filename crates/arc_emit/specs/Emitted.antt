@@ -41,6 +41,7 @@ code_of p = record {
   room = p.room;
   names = p.names;
   places = p.places;
+  globals = p.globals;
   classes = p.classes;
 }
 

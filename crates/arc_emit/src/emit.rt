@@ -48,6 +48,7 @@ fn write_code(alloc: Global, ir: &Ir) -> Result<Code, EmitFault>
         instrs.push(instr_of(ir, at, texts.len() as u32, action))?;
         texts.extend_from_slice(text_of(action))?;
     }
+    let globals = Vec::from_slice(alloc, &ir.globals)?;
     let classes = copy_classes(alloc, &ir.classes)?;
     Ok(Code {
         instrs,
@@ -56,6 +57,7 @@ fn write_code(alloc: Global, ir: &Ir) -> Result<Code, EmitFault>
         room: ir.room,
         names: ir.names,
         places: ir.places,
+        globals,
         classes,
     })
 }

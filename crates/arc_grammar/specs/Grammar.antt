@@ -1,5 +1,6 @@
 -- The grammar, a line for each of its rules, with the tree that each gives.
-use Rattle.std.specs.Prelude.{ℕ, zero, suc, ℤ, pos, false, ◌-◌, min, max, List, [], ◌∷◌, ◌++◌, Option, Some, None}
+use Rattle.std.specs.Prelude.{ℕ, zero, suc, ℤ, pos, false, ◌-◌, min, max, List, [], ◌∷◌, ◌++◌, map as list_map, Option, Some, None}
+use Rattle.std.specs.Int.{w64, int_wrapping_neg}
 use Rattle.arc_lex.specs.declared.token.Mark.{Mark}
 use Rattle.arc_lex.specs.declared.token.Mark.TheVariants as m
 use Rattle.arc_lex.specs.declared.token.Word.{Word}
@@ -18,7 +19,7 @@ use Rattle.arc_ast.specs.declared.tree.Moment.{Moment}
 use Rattle.arc_ast.specs.declared.tree.Moment.TheVariants.{Before, After}
 use Rattle.arc_ast.specs.declared.tree.UnaryOperator.{UnaryOperator}
 use Rattle.arc_ast.specs.declared.tree.UnaryOperator.TheVariants as unary_operators
-use Rattle.arc_ast.specs.Tree.{TypeTree, ResultTree, ExprTree, ExprTrees, VariableTree, StmtTree, StmtTrees, ParameterTree, ParametersTree, FunctionTree, HeadTree, MethodTree, FieldTree, InterfaceTree, ImplementationTree, UnitTree, Boolean, Int, Long, Id, Object, Void, Value, Integer, Text, Paren, Call, Nil, Itself, Name, Unary, Cast, Binary, Conditional, Arrow, Assign, Update, Send, SendSuper, no_exprs, and_expr, Block, Empty, Simple, Return, Variables, If, IfElse, While, Do, For, Break, Continue, no_stmts, and_stmt, Listed, CountAndTexts, begins}
+use Rattle.arc_ast.specs.Tree.{TypeTree, ResultTree, ExprTree, ExprTrees, VariableTree, StmtTree, StmtTrees, ParameterTree, ParametersTree, FunctionTree, GlobalTree, HeadTree, MethodTree, FieldTree, InterfaceTree, ImplementationTree, UnitTree, Boolean, Int, Long, Id, Object, Void, Value, Integer, Text, Paren, Call, Nil, Itself, Name, Unary, Cast, Binary, Conditional, Arrow, Assign, Update, Send, SendSuper, no_exprs, and_expr, Block, Empty, Simple, Return, Variables, If, IfElse, While, Do, For, Break, Continue, no_stmts, and_stmt, Listed, CountAndTexts, begins}
 use Rattle.arc_grammar.specs.declared.limits.TheConstants.{DEEPEST, MOST_TOKENS}
 use Rattle.arc_form.specs.Kinds.{Kinds, none, ◌∪◌, mark, word, at, name, main, other_name, integer, text}
 use Rattle.arc_form.specs.Reader.{Reader, ◌>>=◌, ret, from}
@@ -600,18 +601,6 @@ others_of_main = map (λ ((type, n), others). Listed (record { at = n.0; type = 
 unfoldable pub parameters_of_main : Part ParametersTree
 parameters_of_main = choose (word w.Void) void_parameters (choose (word w.Int) some_of_main (choose begins_other_type others_of_main (give (Listed []))))
 
-abbrev pub Signature : Type 0
-Signature = (ℕ × List ℕ) × ParametersTree
-
-unfoldable pub signature_of_main : Part Signature
-signature_of_main = map (λ (n, (start, (ps, end))). (n, ps)) (token main readers.named ⨾ the m.OpenParen ⨾ parameters_of_main ⨾ the m.CloseParen)
-
-unfoldable pub other_signature : Part Signature
-other_signature = map (λ (n, (start, (ps, end))). (n, ps)) (token other_name readers.named ⨾ the m.OpenParen ⨾ parameters ⨾ the m.CloseParen)
-
-unfoldable pub signature : Part Signature
-signature = choose main signature_of_main other_signature
-
 -- the block of a function or a method, whose statements are at depth 2
 unfoldable pub braces : Part StmtTrees
 braces = map (λ (start, (all, end)). stmts all) (the m.OpenBrace ⨾ items 2 ⨾ the m.CloseBrace)
@@ -619,12 +608,59 @@ braces = map (λ (start, (all, end)). stmts all) (the m.OpenBrace ⨾ items 2 �
 unfoldable pub function_body : Part (Option StmtTrees)
 function_body = choose (mark m.Semicolon) (map (λ end. None) (the m.Semicolon)) (map Some braces)
 
--- a name that is `static` is known in its file alone (C99, section 6.2.2), which is the whole program
-unfoldable pub perhaps_static : Part (Unit {0})
-perhaps_static = choose (word w.Static) (map (λ _. tt) (key w.Static)) (give tt)
+-- what a function takes, in parentheses
+unfoldable pub enclosed : Part ParametersTree → Part ParametersTree
+enclosed part = map (λ (start, (ps, end)). ps) (the m.OpenParen ⨾ part ⨾ the m.CloseParen)
 
-unfoldable pub function : Part FunctionTree
-function = map (λ (static, (type, (s, b))). record { at = s.0.0; name = s.0.1; result = type; parameters = s.1; body = b }) (perhaps_static ⨾ result_type ⨾ signature ⨾ function_body)
+-- a function of this name, with what it takes and its body
+abbrev pub with_result : (ℕ × List ℕ) × (ParametersTree × Option StmtTrees) → ResultTree → FunctionTree
+with_result (n, (ps, b)) type = record { at = n.0; name = n.1; result = type; parameters = ps; body = b }
+
+unfoldable pub main_function : Part (ResultTree → FunctionTree)
+main_function = map with_result (token main readers.named ⨾ enclosed parameters_of_main ⨾ function_body)
+
+unfoldable pub other_function : Part (ResultTree → FunctionTree)
+other_function = map with_result (token other_name readers.named ⨾ enclosed parameters ⨾ function_body)
+
+-- all of a function that is after its result's type
+unfoldable pub function : Part (ResultTree → FunctionTree)
+function = choose main main_function other_function
+
+-- ---- variables of the whole program (C99, section 6.9.2)
+
+abbrev pub number_of : Sort → ℤ
+number_of (tokens.Integer value suffixed) = value
+number_of (tokens.Key w.Yes) = pos 1
+number_of _ = pos 0
+
+-- an integer or a character, `YES` or `NO`
+unfoldable pub plain_constant : Part ℤ
+plain_constant = token (integer ∪ word w.Yes ∪ word w.No) (λ t. number_of t.sort)
+
+-- `-`, and an integer or a character; the negation wraps, as all of them do
+unfoldable pub negative_constant : Part ℤ
+negative_constant = map (λ (sign, value). int_wrapping_neg w64 value) (the m.Minus ⨾ token integer (λ t. number_of t.sort))
+
+-- what such a variable may begin with (6.7.8, paragraph 4, of whose constant expressions these alone are read)
+unfoldable pub constant : Part ℤ
+constant = choose (mark m.Minus) negative_constant plain_constant
+
+unfoldable pub first_number : Part (Option ℤ)
+first_number = choose (mark m.Assign) (map (λ (sign, value). Some value) (the m.Assign ⨾ constant)) (give None)
+
+-- a name and perhaps a first number, of a variable whose type is known
+unfoldable pub global : Part (TypeTree → GlobalTree)
+global = map (λ (n, value) type. record { at = n.0; type = type; name = n.1; initial = value }) (called ⨾ first_number)
+
+unfoldable pub next_global : Part (TypeTree → GlobalTree)
+next_global = map (λ (comma, make). make) (the m.Comma ⨾ global)
+
+unfoldable pub more_globals : Part (List (TypeTree → GlobalTree))
+more_globals = many (mark m.Comma) next_global
+
+-- one variable or more of a type that is known, and `;`
+unfoldable pub globals : Part (TypeTree → List GlobalTree)
+globals = map (λ (make, (others, end)) type. make type ∷ list_map (λ other. other type) others) (global ⨾ more_globals ⨾ the m.Semicolon)
 
 -- ---- methods (OPL, "Defining a Class")
 
@@ -736,12 +772,36 @@ class_names = map (λ _. tt) (at_key words.Class ⨾ called ⨾ more_names ⨾ t
 pub data TopTree : Type 0 where
   OfNames : TopTree
   OfFunction : FunctionTree → TopTree
+  OfGlobals : List GlobalTree → TopTree
   OfInterface : InterfaceTree → TopTree
   OfImplementation : ImplementationTree → TopTree
 
+-- a name that is `static` is known in its file alone (C99, section 6.2.2), which is the whole program
+unfoldable pub perhaps_static : Part (Unit {0})
+perhaps_static = choose (word w.Static) (map (λ _. tt) (key w.Static)) (give tt)
+
+-- `void` and a function
+unfoldable pub of_void : Part TopTree
+of_void = map (λ (void, make). OfFunction (make Void)) (key w.Void ⨾ function)
+
+abbrev pub of_function : (ResultTree → FunctionTree) → TypeTree → TopTree
+of_function make type = OfFunction (make (Value type))
+
+-- what is after a type of numbers: a function, where a name and `(` are ahead, or variables
+unfoldable pub typed_top : Part (TypeTree → TopTree)
+typed_top = two_ahead main (mark m.OpenParen) (map of_function main_function)
+    (two_ahead other_name (mark m.OpenParen) (map of_function other_function) (map (λ make type. OfGlobals (make type)) globals))
+
+unfoldable pub of_numbers : Part TopTree
+of_numbers = map (λ (type, make). make type.1) (number_type ⨾ typed_top)
+
+-- a function or variables
+unfoldable pub external : Part TopTree
+external = map (λ (static, t). t) (perhaps_static ⨾ choose (word w.Void) of_void of_numbers)
+
 unfoldable pub top : Part TopTree
 top = choose (at words.Class) (map (λ _. OfNames) class_names) (choose (at words.Interface) (map OfInterface interface)
-    (choose (at words.Implementation) (map OfImplementation implementation) (map OfFunction function)))
+    (choose (at words.Implementation) (map OfImplementation implementation) external))
 
 abbrev pub begins_top : Kinds
 begins_top = at words.Class ∪ at words.Interface ∪ at words.Implementation ∪ word w.Static ∪ word w.Void ∪ begins_number_type
@@ -755,6 +815,11 @@ functions_of [] = []
 functions_of (OfFunction f ∷ others) = f ∷ functions_of others
 functions_of (_ ∷ others) = functions_of others
 
+abbrev pub globals_of : List TopTree → List GlobalTree
+globals_of [] = []
+globals_of (OfGlobals all ∷ others) = all ++ globals_of others
+globals_of (_ ∷ others) = globals_of others
+
 abbrev pub interfaces_of : List TopTree → List InterfaceTree
 interfaces_of [] = []
 interfaces_of (OfInterface i ∷ others) = i ∷ interfaces_of others
@@ -766,7 +831,7 @@ implementations_of (OfImplementation i ∷ others) = i ∷ implementations_of ot
 implementations_of (_ ∷ others) = implementations_of others
 
 unfoldable pub unit : Part UnitTree
-unit = map (λ all. record { functions = functions_of all; interfaces = interfaces_of all; implementations = implementations_of all }) tops
+unit = map (λ all. record { functions = functions_of all; globals = globals_of all; interfaces = interfaces_of all; implementations = implementations_of all }) tops
 
 -- ---- the rules
 

@@ -107,6 +107,13 @@ loops = codes "int main(void) {\n"
     ++ codes "    return sum;\n"
     ++ codes "}\n"
 
+-- Global variables: what is written first becomes a number of the variable's kind (C99, section 6.7.8, paragraph 11), one without begins at 0 (paragraph 10), and all
+-- functions share them.
+abbrev pub globals : List ℕ
+globals = codes "BOOL on = 256; int count;\n"
+    ++ codes "void add(int n) { count = count + n * on; }\n"
+    ++ codes "int main(void) { add(40); printf(\"%d\", count); add(2); on = 0; add(5); return count; }\n"
+
 -- blocks that nest as deep as they may (this project's own limit)
 abbrev pub deepest_blocks : List ℕ
 deepest_blocks = codes "int main(void) " ++ (repeated 200 (codes "{") ++ repeated 200 (codes "}"))

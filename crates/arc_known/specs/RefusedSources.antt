@@ -42,6 +42,10 @@ too_many_parameters = codes "int f(int a, int b, int c, int d, int e, int f, int
 abbrev pub second_body : List ℕ
 second_body = codes "int f(void) { return 1; } int f(void) { return 2; } int main(void) { }"
 
+-- a second global variable of a name, at its name (this project's own choice, where C99, section 6.9.2, takes both for one)
+abbrev pub second_global : List ℕ
+second_global = codes "int a; int a; int main(void) { }"
+
 -- a superclass without an interface (OPL, "Defining a Class")
 abbrev pub unknown_superclass : List ℕ
 unknown_superclass = codes "@interface A : B @end @implementation A @end int main(void) { }"

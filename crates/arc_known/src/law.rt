@@ -23,6 +23,7 @@ pub fn statements()
     ensures scopes { HasTrace program.scopes [] 0 (printed (codes "27b")) (Ends (pos 0)) }
     ensures echo { HasTrace program.echo (codes "hi") 2 (printed (codes "hi")) (Ends (negsuc 1)) }
     ensures loops { HasTrace program.loops [] 5 (printed (codes "023")) (Ends (pos 35)) }
+    ensures globals { HasTrace program.globals [] 0 (printed (codes "40")) (Ends (pos 42)) }
     ensures deepest_blocks { HasTrace program.deepest_blocks [] 0 [] (Ends (pos 0)) }
 {}
 
@@ -62,6 +63,7 @@ pub fn refusals()
     ensures no_brace { IsRefused refused.no_brace 11 26 }
     ensures too_deep { IsRefused refused.too_deep 12 215 }
     ensures second_body { IsRefused refused.second_body 21 30 }
+    ensures second_global { IsRefused refused.second_global 21 11 }
     ensures unknown_superclass { IsRefused refused.unknown_superclass 22 15 }
     ensures other_result { IsRefused refused.other_result 24 57 }
     ensures no_implementation { IsRefused refused.no_implementation 26 11 }

@@ -180,6 +180,8 @@ module _ (p : Program) (s : State) (right : Counted s.held) where
   acts_agree (Some (Plain Pop)) dying = top_agrees s.stack _ _ (λ x rest. refl)
   acts_agree (Some (Plain (Get depth))) dying = found_agrees (slice_get s.stack depth) _ _ (λ v _. refl)
   acts_agree (Some (Plain (Set depth))) dying = top_agrees s.stack _ _ (λ v rest. found_agrees (slice_get rest depth) _ _ (λ _ _. refl))
+  acts_agree (Some (Plain (ops.GetGlobal i))) dying = refl
+  acts_agree (Some (Plain (ops.SetGlobal i))) dying = top_agrees s.stack _ _ (λ v rest. refl)
   acts_agree (Some (Plain PrintNum)) dying = two_agree s.stack _ _ (λ v count rest. refl)
   acts_agree (Some (Plain PrintByte)) dying = two_agree s.stack _ _ (λ v count rest. refl)
   acts_agree (Some (Plain GetChar)) dying = refl

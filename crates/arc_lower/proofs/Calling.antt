@@ -48,7 +48,7 @@ waits_of w = waits_at w.frame
 
 -- what is held by these places and those that wait
 abbrev held_by : (rs : List ℕ) (self : ℕ) → World → world.Frame → List ℕ → Held
-held_by rs self w f waiting = record { temporaries = f.temporaries; variables = f.strong; self = self; places = waiting; names = rs; objects = w.objects; counts = λ k. holders k (frame_places f ++ waiting) }
+held_by rs self w f waiting = record { temporaries = f.temporaries; variables = f.strong; self = self; places = waiting; names = rs; objects = w.objects; counts = λ k. holders k (frame_places f ++ waiting); globals = w.globals }
 
 -- a state by its own places and those that wait
 abbrev placed_at : List Frame → (rs : List ℕ) → (pc : ℕ) → List ℤ → (self : ℕ) → World → world.Frame → List ℕ → Reached State
@@ -56,7 +56,7 @@ placed_at frames rs pc stack self w f waiting = Running (at frames pc stack (hel
 
 -- what is held in the end of an object, between two deallocs
 abbrev ended_held : (rs : List ℕ) → (o : ℕ) → World → Held
-ended_held rs o w = record { temporaries = []; variables = []; self = o; places = places w; names = rs; objects = w.objects; counts = λ i. holders i (places w) }
+ended_held rs o w = record { temporaries = []; variables = []; self = o; places = places w; names = rs; objects = w.objects; counts = λ i. holders i (places w); globals = w.globals }
 
 take_front : (a b : List ℕ) → take (length a) (a ++ b) ≡ a
 take_front [] b = refl
@@ -210,7 +210,7 @@ module _ (p : Program) (R : resolved.Program) (bound : ℕ) (begins : (f : ℕ) 
 
     -- between two deallocs, by the places of the function that waits
     abbrev with_ended : World → world.Frame → List ℕ → Held
-    with_ended w1 f1 waiting = record { temporaries = []; variables = []; self = o; places = frame_places f1 ++ waiting; names = rs; objects = w1.objects; counts = λ i. holders i (frame_places f1 ++ waiting) }
+    with_ended w1 f1 waiting = record { temporaries = []; variables = []; self = o; places = frame_places f1 ++ waiting; names = rs; objects = w1.objects; counts = λ i. holders i (frame_places f1 ++ waiting); globals = w1.globals }
 
     -- the dealloc of one class, and then what is above it
     by_dealloc : (n : ℕ) (next : Option ℕ) (w : World) (from : Reached State) (meant stands : Option ℕ) → Still w → Meets p R 0 meant stands → Leads (moves p) from (follow (recount (runs_dealloc stands (at [] p.end_step stack (ended_held rs o w)) (Ending back waits o next n ∷ frames))) w.input w.trace) → ((w1 : World) → Still w1 → EndRuns n next w1) → Runs (moves p) bound from (Back w) (then_do (then_do (dealloc_run R (level R bound levels) bound meant o w) (λ _ w1. deallocs_run R (level R bound levels) bound (above_in R n next) o w1)) (λ _ w1. gone o w1))

@@ -3,7 +3,7 @@ use Rattle.std.proofs.Common.{◌≡◌, ℕ, zero, suc, true, false, ◌&&◌, 
 use Rattle.std.proofs.lemmas.Bool.{eqb-true}
 use Rattle.arc_spec.specs.Classes.{Class}
 use Rattle.arc_spec.specs.Objects.{Object, Dying, object_at, with_object, in_phase, with_fields, is_live, new_object}
-use Rattle.arc_spec.specs.Holding.{Held, nothing_held, Counted, holders, all_places, with_temporaries, with_variables, with_names, with_things, raised, lowered, taken_by, is_there, makes, count_of, gone_in, entered}
+use Rattle.arc_spec.specs.Holding.{Held, nothing_held, Counted, holders, all_places, with_temporaries, with_variables, with_names, with_things, with_globals, raised, lowered, taken_by, is_there, makes, count_of, gone_in, entered}
 use Rattle.arc_lower.proofs.CountsPlaces.{holders_head, holders_nil, holders_set}
 use Rattle.arc_lower.proofs.CountsHeld.{Dropped, all_holders, nothing_counted, taken_counted, declared_counted, stored_dropped, last_temporary, moved_counted, nil_dropped, last_dropped, other_dropped, makes_counted, field_counted, gone_counted}
 use Rattle.arc_lower.proofs.CountsThere.{IsThere, AllThere, fewer_there, rest_there, taken_there, place_there, changed_there, made_there, gone_there}
@@ -30,6 +30,9 @@ sane_moved h h1 objects counts same c = record {
 
 pub sane_names : (h : Held) (names : List ℕ) → Sane h → Sane (with_names h names)
 sane_names h names c = sane_moved h (with_names h names) refl refl (λ k. refl) c
+
+pub sane_globals : (h : Held) (globals : List ℤ) → Sane h → Sane (with_globals h globals)
+sane_globals h globals c = sane_moved h (with_globals h globals) refl refl (λ k. refl) c
 
 pub sane_entered : (h : Held) (self : ℕ) → Sane h → Sane (entered self h)
 sane_entered h self c = sane_moved h (entered self h) refl refl (λ k. refl) c

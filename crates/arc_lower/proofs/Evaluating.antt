@@ -7,11 +7,12 @@ use Rattle.arc_ast.specs.declared.tree.Moment.TheVariants.{Before, After}
 use Rattle.arc_spec.specs.declared.event.Fault.TheVariants.{FieldClass}
 use Rattle.arc_spec.specs.Classes.{class_at, descends}
 use Rattle.arc_spec.specs.Objects.{Object, object_at}
-use Rattle.arc_spec.specs.Resolved.{Piece, Value, Number, ReadByte, Print, Applied, Combined, Choice, Converted, Local, Assigned, Updated, Invoked, Sent, SentSuper, SentTo, SentToSuper, Field, FieldAssigned, FieldUpdated, Reference, Itself, Variable, Chosen, Stored, Made, Initialized, Values, no_values, and_value}
+use Rattle.arc_spec.specs.declared.location.Location.{Location}
+use Rattle.arc_spec.specs.Resolved.{Piece, Value, Number, ReadByte, Print, Applied, Combined, Choice, Converted, Read, Assigned, Updated, Invoked, Sent, SentSuper, SentTo, SentToSuper, Field, FieldAssigned, FieldUpdated, Reference, Itself, Variable, Chosen, Stored, Made, Initialized, Values, no_values, and_value}
 use Rattle.arc_spec.specs.Resolved as resolved
-use Rattle.arc_spec.specs.World.{World, Outcome, Done, Faulted, Cut, Finished, then_do, prints, with_locals, local_at, takes}
+use Rattle.arc_spec.specs.World.{World, Outcome, Done, Faulted, Cut, Finished, then_do, prints, local_at, takes}
 use Rattle.arc_spec.specs.Number.{converted, combined, is_zero}
-use Rattle.arc_spec.specs.Meaning.{Deeper, dispatched, finds, sent_to, sent_from, formatted, byte_count, or_fault, updated, given_by, in_object, field_read, field_set, assigned, evaluated, referred, all_evaluated}
+use Rattle.arc_spec.specs.Meaning.{Deeper, dispatched, finds, sent_to, sent_from, formatted, byte_count, or_fault, held_at, holds, updated, given_by, in_object, field_read, field_set, assigned, evaluated, referred, all_evaluated}
 use Rattle.arc_code.specs.declared.instr.Op.TheVariants.{Narrow, SetField, Hold}
 use Rattle.arc_lower.specs.Lowered.{Message, ToClass, ToSuperClass, ToObject, ToSuper, Block, One, Store, Format, Calls, Tells, Then, value_count, given_block, below_new, update_block, value_block, reference_block, values_block}
 use Rattle.arc_lower.proofs.Shaping.{Operands, push, name, pushed, Way, On, Lost, left_by, and_then, pushes, passes_by, told, block, after, chosen_by, same_depth, on_pushed, Holds, after_known}
@@ -94,7 +95,7 @@ module _ (D : Deeper) (bound : ℕ) where
   update_is After operator computed kept old a store s t w sets right stores =
       after (λ x. push x (push old s)) (above t) _ (evaluated D a w) _ _ (right (push old s)) (λ x w1. computed_is After kept old store s t sets stores (combined operator computed old x) w1)
 
-  variable_stores : (moment : Moment) (old : ℤ) (i : ℕ) (s : Operands) → Stores (Store (below_new moment (length s.numbers)) i) (kept_below moment old s) (kept_below moment old s) (λ new w. Done new (with_locals w (slice_set w.frame.locals i new)))
+  variable_stores : (moment : Moment) (old : ℤ) (i : Location) (s : Operands) → Stores (Store (below_new moment (length s.numbers)) i) (kept_below moment old s) (kept_below moment old s) (λ new w. Done new (holds i new w))
   variable_stores Before old i s new w = same_depth (suc (length s.numbers)) _ _
   variable_stores After old i s new w = same_depth (length s.numbers) _ _
 
@@ -123,14 +124,14 @@ module _ (D : Deeper) (bound : ℕ) where
         let rest : Operands = record { numbers = s.numbers; names = s.names } in
         chosen_by (above s) (is_zero x) _ _ (evaluated D a w1) (evaluated D b w1) (value_is a rest w1) (value_is b rest w1))
     value_is (Converted kind a) s w = after (λ v. push v s) (above s) _ (evaluated D a w) _ _ (value_is a s w) (λ x w1. refl)
-    value_is (Local i) s w = same_depth (length s.numbers) _ _
+    value_is (Read i) s w = same_depth (length s.numbers) _ _
     value_is (Assigned i a) s w = after (λ v. push v s) (above s) _ (evaluated D a w) _ _ (value_is a s w) (λ x w1. same_depth (length s.numbers) _ _)
     value_is (Updated moment i operator computed kept a) s w =
         let depth = length s.numbers in
         let store = Store (below_new moment depth) i in
-        let old = local_at w.frame.locals i in
+        let old = held_at i w in
         ap (λ x. and_then x (run (update_block moment (value_block (suc (below_new moment depth)) a) operator computed kept store))) (same_depth depth (Done (On (push old s)) w) (Done Lost w))
-        ∙ update_is moment operator computed kept old a store s s w (λ new w1. Done new (with_locals w1 (slice_set w1.frame.locals i new))) (λ s1. value_is a s1 w) (variable_stores moment old i s)
+        ∙ update_is moment operator computed kept old a store s s w (λ new w1. Done new (holds i new w1)) (λ s1. value_is a s1 w) (variable_stores moment old i s)
     value_is (Invoked f all) s w = passed all (Calls f (value_count all)) (above s) s w _ (values_is all s w) (λ given w1 e. on_pushed (value_count all) given s w1 (λ values rest. pushes rest (D.call f 0 values w1)) e)
     value_is (Sent a selector all) s w = after (λ v. push v s) (above s) _ (evaluated D a w) _ _ (value_is a s w) (λ self w1.
         tells (ToClass selector) all (push self s) s w1 (λ given w2. dispatched D (finds D (class_at self) selector given) self given w2) (values_is all (push self s) w1) (λ given w2. refl))

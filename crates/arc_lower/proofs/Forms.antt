@@ -5,7 +5,8 @@ use Rattle.arc_ast.specs.declared.tree.BinaryOperator.{BinaryOperator}
 use Rattle.arc_ast.specs.declared.tree.Kind.{Kind}
 use Rattle.arc_ast.specs.declared.tree.Moment.{Moment}
 use Rattle.arc_ast.specs.declared.tree.Moment.TheVariants.{Before, After}
-use Rattle.arc_spec.specs.Resolved.{Value, Number, ReadByte, Print, Applied, Combined, Choice, Converted, Local, Assigned, Updated, Invoked, Sent, SentSuper, SentTo, SentToSuper, Field, FieldAssigned, FieldUpdated, Reference, Itself, Variable, Chosen, Stored, Made, Initialized, Values, no_values, and_value, Command, Sequence, Evaluate, EvaluateReference, Begin, Choose, Repeat, RepeatAfter, Break, Continue, Commands, no_commands, and_command, Program}
+use Rattle.arc_spec.specs.declared.location.Location.TheVariants.{Local}
+use Rattle.arc_spec.specs.Resolved.{Value, Number, ReadByte, Print, Applied, Combined, Choice, Converted, Read, Assigned, Updated, Invoked, Sent, SentSuper, SentTo, SentToSuper, Field, FieldAssigned, FieldUpdated, Reference, Itself, Variable, Chosen, Stored, Made, Initialized, Values, no_values, and_value, Command, Sequence, Evaluate, EvaluateReference, Begin, Choose, Repeat, RepeatAfter, Break, Continue, Commands, no_commands, and_command, Program}
 use Rattle.arc_spec.specs.Resolved as resolved
 use Rattle.arc_code.specs.declared.instr.Op.{Op}
 use Rattle.arc_code.specs.declared.instr.Op.TheVariants as ops
@@ -90,14 +91,14 @@ module _ (P : Program) (r s slots names exit d : ℕ) (room : names ≤ d + s) w
     value_types (Combined operator kind v u) depth a b c h = next (value_types v depth a b c h) (λ t. next (value_types u (suc depth) (suc a) b t (omega (arith, h))) (λ q. op (Bin operator kind) (omega arith) (omega arith) (omega arith) refl))
     value_types (Choice v u w) depth a b c h = next (value_types v depth a b c h) (λ t. choice (value_types u depth a b t h) (λ q. value_types w depth a b q h))
     value_types (Converted kind v) depth a b c h = next (value_types v depth a b c h) (λ t. op (Narrow kind) (omega arith) (omega arith) (omega arith) refl)
-    value_types (Local i) depth a b c h = plain (get_types P r s b c d slots depth i a h)
+    value_types (Read i) depth a b c h = plain (get_types P r s b c d slots depth i a h)
     value_types (Assigned i v) depth a b c h = next (value_types v depth a b c h) (λ t. plain (set_types P r s b t d slots depth i a h))
     value_types (Updated moment i operator computed kept v) depth a b c h =
         let lies = lies_below moment depth a h in
         next (plain (get_types P r s b c d slots depth i a h)) (λ t. update_types moment operator computed kept _ _ a b t b (λ q. value_types v (suc (below_new moment depth)) (suc (below_new moment a)) b q (omega (arith, lies))) (λ q. plain (set_types P r s b q d slots (below_new moment depth) i (below_new moment a) lies)))
     value_types (Invoked f arguments) depth a b c h = next (values_type arguments depth a b c h) (λ t. plain (call_types P r s b t d f (value_count arguments) a))
     value_types (Sent v selector arguments) depth a b c h = next (value_types v depth a b c h) (λ t. next (values_type arguments (suc depth) (suc a) b t (omega (arith, h))) (λ q. plain (omega arith, class_left (value_count arguments) a b q)))
-    value_types (SentSuper from selector arguments) depth a b c h = next (plain (get_types P r s b c d slots depth 0 a h)) (λ t. next (values_type arguments (suc depth) (suc a) b t (omega (arith, h))) (λ q. plain (omega arith, class_left (value_count arguments) a b q)))
+    value_types (SentSuper from selector arguments) depth a b c h = next (plain (get_types P r s b c d slots depth (Local 0) a h)) (λ t. next (values_type arguments (suc depth) (suc a) b t (omega (arith, h))) (λ q. plain (omega arith, class_left (value_count arguments) a b q)))
     value_types (SentTo v selector arguments) depth a b c h = next (reference_types v depth a b c h) (λ t. next (values_type arguments depth a (suc b) t h) (λ q. plain ((omega arith, omega arith), object_left (value_count arguments) a b q)))
     value_types (SentToSuper from selector arguments) depth a b c h = next (op ReadSelf tt (omega arith) (omega arith) refl) (λ t. next (values_type arguments depth a (suc b) t h) (λ q. plain ((omega arith, omega arith), object_left (value_count arguments) a b q)))
     value_types (Field v class index) depth a b c h = next (reference_types v depth a b c h) (λ t. op (GetField class index) (omega arith) (omega arith) (omega arith) refl)

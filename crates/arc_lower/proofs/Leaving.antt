@@ -92,7 +92,7 @@ module _ (p : Program) (frames : List Frame) (bound : ℕ) (R : resolved.Program
   bared_leaves v w pc g none =
       let c = (held_of rs (bared w)).counts in
       let s = at frames 0 (v ∷ below) (held_of rs (bared w)) in
-      let held : (ts : List ℕ) (itself : ℕ) (waits : List ℕ) → Held = λ ts itself waits. record { temporaries = ts; variables = []; self = itself; places = waits; names = rs; objects = w.objects; counts = c } in
+      let held : (ts : List ℕ) (itself : ℕ) (waits : List ℕ) → Held = λ ts itself waits. record { temporaries = ts; variables = []; self = itself; places = waits; names = rs; objects = w.objects; counts = c; globals = w.globals } in
       counts_aside frames pc (v ∷ below) (held_of rs w) (held_of rs (bared w)) (with_variables (held_of rs w) []) c v
       ∙ ap (λ ts. recount (acting.leaves p s frames v below (held ts w.frame.self w.waiting))) none
       ∙ ap (λ x. recount (acting.leaves p s frames v below (held [] x w.waiting))) g.0.itself

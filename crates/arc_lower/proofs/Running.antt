@@ -9,8 +9,10 @@ use Rattle.arc_spec.specs.Classes.{class_at, lookup, descends}
 use Rattle.arc_spec.specs.Number.{converted, applied, combined, byte_or_end, is_zero}
 use Rattle.arc_spec.specs.Objects.{Object, object_at, with_object, with_fields, new_object}
 use Rattle.arc_spec.specs.Resolved as resolved
+use Rattle.arc_spec.specs.declared.location.Location.{Location}
+use Rattle.arc_spec.specs.declared.location.Location.TheVariants.{Local, Global}
 use Rattle.arc_spec.specs.Resolved.{Piece}
-use Rattle.arc_spec.specs.Meaning.{Deeper, chosen, temporaries_dropped, dispatched, finds, runs_found, class_in, sent_from, next_object, field_count, made, in_object, difference, formatted, byte_count, or_fault, assigned, all_dropped, variables_dropped}
+use Rattle.arc_spec.specs.Meaning.{Deeper, held_at, holds, chosen, temporaries_dropped, dispatched, finds, runs_found, class_in, sent_from, next_object, field_count, made, in_object, difference, formatted, byte_count, or_fault, assigned, all_dropped, variables_dropped}
 use Rattle.arc_spec.specs.World as world
 use Rattle.arc_spec.specs.World.{World, Outcome, Done, Faulted, Cut, Finished, finished, then_do, prints, next_number, after_next, has_read, with_locals, with_objects, with_temporaries, local_at, name_at, first_locals, takes, stores}
 use Rattle.arc_spec.specs.Holding.{Held, Frame, is_there, on_field, count_of, with_field, with_names, named, raised, with_variables}
@@ -262,8 +264,8 @@ module _ (p : Program) (frames : List Frame) (bound : ℕ) (R : resolved.Program
       let none : local_at w.frame.locals i ≡ pos 0 = get_or_past w.frame.locals i (pos 0) (ltb-false i (length w.frame.locals) e) in
       subst (λ v. Passes p frames bound s.names (Plain (Num (pos 0)) ∷ []) (s.numbers ++ vars w) w (v ∷ (s.numbers ++ vars w)) w) (sym none) (num_passes s.names (pos 0) (s.numbers ++ vars w) w)
 
-  local_passes : (s : Operands) (i : ℕ) (w : World) (depth : ℕ) → length w.frame.locals ≡ slots → depth ≡ length s.numbers → loads s i w (get_orders slots depth i)
-  local_passes s i w depth size e = subst (λ n. loads s i w (get_orders n depth i)) size (subst (λ d. loads s i w (get_orders (length w.frame.locals) d i)) (sym e) (local_by s i w (nat_lt i (length w.frame.locals)) refl))
+  local_passes : (s : Operands) (i : ℕ) (w : World) (depth : ℕ) → length w.frame.locals ≡ slots → depth ≡ length s.numbers → loads s i w (get_orders slots depth (Local i))
+  local_passes s i w depth size e = subst (λ n. loads s i w (get_orders n depth (Local i))) size (subst (λ d. loads s i w (get_orders (length w.frame.locals) d (Local i))) (sym e) (local_by s i w (nat_lt i (length w.frame.locals)) refl))
 
   abbrev set_in : ℕ → ℤ → World → World
   set_in i v w = with_locals w (slice_set w.frame.locals i v)
@@ -296,8 +298,8 @@ module _ (p : Program) (frames : List Frame) (bound : ℕ) (R : resolved.Program
       let same : w.frame.locals ≡ slice_set w.frame.locals i v = sym (set_past w.frame.locals i v (ltb-false i (length w.frame.locals) e)) in
       no_passes p frames bound s.names (v ∷ (s.numbers ++ vars w)) w (v ∷ (s.numbers ++ vars (set_in i v w))) (set_in i v w) (ap (λ l. v ∷ (s.numbers ++ onto l below)) same) (ap (λ l. with_locals w l) same)
 
-  set_all : (s : Operands) (i : ℕ) (v : ℤ) (w : World) (depth : ℕ) → length w.frame.locals ≡ slots → depth ≡ length s.numbers → sets s i v w (set_orders slots depth i)
-  set_all s i v w depth size e = subst (λ n. sets s i v w (set_orders n depth i)) size (subst (λ d. sets s i v w (set_orders (length w.frame.locals) d i)) (sym e) (set_by s i v w (nat_lt i (length w.frame.locals)) refl))
+  set_all : (s : Operands) (i : ℕ) (v : ℤ) (w : World) (depth : ℕ) → length w.frame.locals ≡ slots → depth ≡ length s.numbers → sets s i v w (set_orders slots depth (Local i))
+  set_all s i v w depth size e = subst (λ n. sets s i v w (set_orders n depth (Local i))) size (subst (λ d. sets s i v w (set_orders (length w.frame.locals) d (Local i))) (sym e) (set_by s i v w (nat_lt i (length w.frame.locals)) refl))
 
   -- orders that pass
   passing : (turn : Turn) (calm : Bool) (xs : List Order) (pc : ℕ) (s s1 : Operands) (w w1 : World) → s1.names ≡ s.names → Good calm w1 → HasAt p pc xs → Passes p frames bound s.names xs (s.numbers ++ vars w) w (s1.numbers ++ vars w1) w1 → Goes_on turn calm (standing pc s w) (pc + length xs) (Done (On s1) w1)
@@ -583,15 +585,37 @@ module _ (p : Program) (frames : List Frame) (bound : ℕ) (R : resolved.Program
   abbrev actions : Spot → Block → List Order
   actions e b = flat R slots names e b
 
-  load_by : (turn : Turn) (calm : Bool) (depth i pc : ℕ) (s : Operands) (w : World) (b : Bool) → nat_eq depth (length s.numbers) ≡ b → Good calm w → HasAt p pc (get_orders slots depth i) → Goes_on turn calm (standing pc s w) (pc + length (get_orders slots depth i)) (if b then Done (On (push (local_at w.frame.locals i) s)) w else Done Lost w)
-  load_by turn calm depth i pc s w true e g has = passing turn calm (get_orders slots depth i) pc s (push (local_at w.frame.locals i) s) w w refl g has (local_passes s i w depth g.0.locals (eqb-true depth (length s.numbers) e))
+  -- a variable is read and set
+  loading : (i : Location) (s : Operands) (w : World) (depth : ℕ) → length w.frame.locals ≡ slots → depth ≡ length s.numbers → Passes p frames bound s.names (get_orders slots depth i) (s.numbers ++ vars w) w (held_at i w ∷ (s.numbers ++ vars w)) w
+  loading (Local i) s w depth size e = local_passes s i w depth size e
+  loading (Global i) s w depth size e =
+      let stack = s.numbers ++ vars w in
+      let v = held_at (Global i) w in
+      one_passes p frames bound s.names (Plain (ops.GetGlobal i)) stack w (v ∷ stack) w (λ pc. quiet p frames bound s.names (pc + 1) (v ∷ stack) w)
+
+  storing : (i : Location) (s : Operands) (v : ℤ) (w : World) (depth : ℕ) → length w.frame.locals ≡ slots → depth ≡ length s.numbers
+      → Passes p frames bound s.names (set_orders slots depth i) (v ∷ (s.numbers ++ vars w)) w (v ∷ (s.numbers ++ vars (holds i v w))) (holds i v w)
+  storing (Local i) s v w depth size e = set_all s i v w depth size e
+  storing (Global i) s v w depth size e =
+      let stack = v ∷ (s.numbers ++ vars w) in
+      let w1 = holds (Global i) v w in
+      then_passes p frames bound s.names (Plain (Get 0) ∷ []) (Plain (ops.SetGlobal i) ∷ []) stack w (v ∷ stack) w stack w1
+      (one_passes p frames bound s.names (Plain (Get 0)) stack w (v ∷ stack) w (λ pc. quiet p frames bound s.names (pc + 1) (v ∷ stack) w))
+      (one_passes p frames bound s.names (Plain (ops.SetGlobal i)) (v ∷ stack) w stack w1 (λ pc. quiet p frames bound s.names (pc + 1) stack w1))
+
+  set_good : (calm : Bool) (i : Location) (v : ℤ) (w : World) → Good calm w → Good calm (holds i v w)
+  set_good calm (Local i) v w g = (record { locals = length-set w.frame.locals i v ∙ g.0.locals; strong = g.0.strong; itself = g.0.itself; waits = g.0.waits }, g.1)
+  set_good calm (Global i) v w g = (record { locals = g.0.locals; strong = g.0.strong; itself = g.0.itself; waits = g.0.waits }, g.1)
+
+  load_by : (turn : Turn) (calm : Bool) (depth : ℕ) (i : Location) (pc : ℕ) (s : Operands) (w : World) (b : Bool) → nat_eq depth (length s.numbers) ≡ b → Good calm w → HasAt p pc (get_orders slots depth i) → Goes_on turn calm (standing pc s w) (pc + length (get_orders slots depth i)) (if b then Done (On (push (held_at i w) s)) w else Done Lost w)
+  load_by turn calm depth i pc s w true e g has = passing turn calm (get_orders slots depth i) pc s (push (held_at i w) s) w w refl g has (loading i s w depth g.0.locals (eqb-true depth (length s.numbers) e))
   load_by turn calm depth i pc s w false e g has = lost turn calm (standing pc s w) (pc + length (get_orders slots depth i)) w
 
-  store_by : (turn : Turn) (calm : Bool) (depth i pc : ℕ) (v : ℤ) (s : Operands) (w : World) (b : Bool) → nat_eq depth (length s.numbers) ≡ b → Good calm w → HasAt p pc (set_orders slots depth i) → Goes_on turn calm (standing pc (push v s) w) (pc + length (set_orders slots depth i)) (if b then Done (On (push v s)) (set_in i v w) else Done Lost w)
-  store_by turn calm depth i pc v s w true e g has = passing turn calm (set_orders slots depth i) pc (push v s) (push v s) w (set_in i v w) refl (record { locals = length-set w.frame.locals i v ∙ g.0.locals; strong = g.0.strong; itself = g.0.itself; waits = g.0.waits }, g.1) has (set_all s i v w depth g.0.locals (eqb-true depth (length s.numbers) e))
+  store_by : (turn : Turn) (calm : Bool) (depth : ℕ) (i : Location) (pc : ℕ) (v : ℤ) (s : Operands) (w : World) (b : Bool) → nat_eq depth (length s.numbers) ≡ b → Good calm w → HasAt p pc (set_orders slots depth i) → Goes_on turn calm (standing pc (push v s) w) (pc + length (set_orders slots depth i)) (if b then Done (On (push v s)) (holds i v w) else Done Lost w)
+  store_by turn calm depth i pc v s w true e g has = passing turn calm (set_orders slots depth i) pc (push v s) (push v s) w (holds i v w) refl (set_good calm i v w g) has (storing i s v w depth g.0.locals (eqb-true depth (length s.numbers) e))
   store_by turn calm depth i pc v s w false e g has = lost turn calm (standing pc (push v s) w) (pc + length (set_orders slots depth i)) w
 
-  store_runs : (turn : Turn) (calm : Bool) (depth i pc : ℕ) (numbers : List ℤ) (rs : List ℕ) (w : World) → Good calm w → HasAt p pc (set_orders slots depth i) → Goes_on turn calm (standing pc (record { numbers = numbers; names = rs }) w) (pc + length (set_orders slots depth i)) (block D bound false (Store depth i) (record { numbers = numbers; names = rs }) w)
+  store_runs : (turn : Turn) (calm : Bool) (depth : ℕ) (i : Location) (pc : ℕ) (numbers : List ℤ) (rs : List ℕ) (w : World) → Good calm w → HasAt p pc (set_orders slots depth i) → Goes_on turn calm (standing pc (record { numbers = numbers; names = rs }) w) (pc + length (set_orders slots depth i)) (block D bound false (Store depth i) (record { numbers = numbers; names = rs }) w)
   store_runs turn calm depth i pc [] rs w g has = lost turn calm _ (pc + length (set_orders slots depth i)) w
   store_runs turn calm depth i pc (v ∷ numbers) rs w g has = store_by turn calm depth i pc v (record { numbers = numbers; names = rs }) w (nat_eq depth (length numbers)) refl g has
 

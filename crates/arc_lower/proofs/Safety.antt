@@ -12,7 +12,7 @@ use Rattle.arc_spec.specs.Meaning.{chosen}
 use Rattle.arc_spec.specs.Number.{converted, applied, combined, counted, low_byte, byte_or_end, is_zero}
 use Rattle.arc_spec.specs.Objects.{Object, Dying, Gone, object_at, with_object, with_fields, in_phase, is_live}
 use Rattle.arc_spec.specs.Resolved as resolved
-use Rattle.arc_spec.specs.Holding.{Held, Frame, Calling, Ending, Waiter, Counted, holders, is_there, all_places, with_temporaries, with_variables, with_names, with_things, lowered, raised, named, taken_by, gone_in, on_named, on_reference, on_field, declares, lets_go, resumed, all_nil, on_left, makes, with_field}
+use Rattle.arc_spec.specs.Holding.{Held, Frame, Calling, Ending, Waiter, Counted, holders, is_there, all_places, with_temporaries, with_variables, with_names, with_things, with_globals, lowered, raised, named, taken_by, gone_in, on_named, on_reference, on_field, declares, lets_go, resumed, all_nil, on_left, makes, with_field}
 use Rattle.arc_spec.specs.Stepping.{Next, Goes, Asks, Ends, Faults, Stuck, Along, Safe, Sound, on_top, on_found, only_if}
 use Rattle.arc_ir.specs.Acting.{Action, Program, State, lands, start, step, entry, keeps, goes, or_fault, has_level, enters, answers, taken, sends, allocates, difference, operates, begins_end, releases, runs_dealloc, ends_class, end_goes_on, leaves, executes}
 use Rattle.arc_code.specs.declared.effect.Height.{Height}
@@ -26,7 +26,7 @@ use Rattle.arc_lower.specs.Order.{Order, order, orders}
 use Rattle.arc_lower.specs.Lowered.{slots_of, entries_of, end_step_of, lowered as lowered_orders, classes_linked}
 use Rattle.arc_lower.specs.Heights.{height, next_height}
 use Rattle.arc_lower.proofs.CountsThere.{IsThere, AllThere, object_goes, named_goes, set_here}
-use Rattle.arc_lower.proofs.CountsKept.{Sane, Drops, nothing_sane, sane_moved, sane_names, sane_entered, sane_take, sane_declare, variable_there, waiting_there, sane_store, sane_drop, sane_nil, sane_last, sane_other, sane_make, sane_field, sane_gone}
+use Rattle.arc_lower.proofs.CountsKept.{Sane, Drops, nothing_sane, sane_moved, sane_names, sane_globals, sane_entered, sane_take, sane_declare, variable_there, waiting_there, sane_store, sane_drop, sane_nil, sane_last, sane_other, sane_make, sane_field, sane_gone}
 use Rattle.arc_lower.proofs.CountsHeld.{all_holders}
 use Rattle.arc_lower.proofs.CountsPlaces.{holders_head, holders_nil}
 use Rattle.arc_lower.proofs.Recounting.{at}
@@ -443,6 +443,10 @@ module _ (p : Program) (R : resolved.Program) where
       operation_leads Pop is nil needs g = top_leads stack _ (omega (arith, count, needs)) (λ x rest e. counts nil Pop g rest (omega (arith, count, needs, e)) (omega arith) (omega arith) (omega arith))
       operation_leads (Get depth) is nil needs g = found_leads stack depth _ (omega (arith, count, needs)) (λ v _. counts nil (Get depth) g (v ∷ stack) (omega (arith, count)) (omega arith) (omega arith) (omega arith))
       operation_leads (Set depth) is nil needs g = top_leads stack _ (omega (arith, count, needs)) (λ v rest e. found_leads rest depth _ (omega (arith, count, needs, e)) (λ u _. counts nil (Set depth) g (slice_set rest depth v) (omega (arith, count, needs, e, length-set rest depth v)) (omega arith) (omega arith) (omega arith)))
+      operation_leads (ops.GetGlobal i) is nil needs g = counts nil (ops.GetGlobal i) g (slice_index_or held.globals i (pos 0) ∷ stack) (omega (arith, count)) (omega arith) (omega arith) (omega arith)
+      operation_leads (ops.SetGlobal i) is nil needs g = top_leads stack _ (omega (arith, count, needs)) (λ v rest e.
+          let globals = slice_set held.globals i v in
+          refers nil (ops.SetGlobal i) g rest (with_globals held globals) own o.is refl refl refl refl o.keeps o.dying (sane_globals held globals o.sane) (omega (arith, count, needs, e)) (omega (arith, size)) (omega arith) (omega arith))
       operation_leads PrintNum is nil needs g = top_leads stack _ (omega (arith, count, needs)) (λ v rest e. top_leads rest _ (omega (arith, count, needs, e)) (λ c others e2. counts nil PrintNum g (counted c (signed_decimal v) ∷ others) (omega (arith, count, needs, e, e2)) (omega arith) (omega arith) (omega arith)))
       operation_leads PrintByte is nil needs g = top_leads stack _ (omega (arith, count, needs)) (λ v rest e. top_leads rest _ (omega (arith, count, needs, e)) (λ c others e2. counts nil PrintByte g (counted c (low_byte v ∷ []) ∷ others) (omega (arith, count, needs, e, e2)) (omega arith) (omega arith) (omega arith)))
       operation_leads GetChar is nil needs g = λ answer. counts nil GetChar g (byte_or_end answer ∷ stack) (omega (arith, count)) (omega arith) (omega arith) (omega arith)
@@ -654,9 +658,9 @@ module _ (p : Program) (R : resolved.Program) where
     safe zero s good = good.2.counted
     safe (suc n) s good = along_map Good (Safe (step p) (λ t. Counted t.held) n) (safe n) (step p s) (step_leads s good)
 
-    pub start_good : Good start
+    pub start_good : Good (start p)
     start_good = (inl (record { below = 0; deeper = []; resumes = record { high = height 0 0 0 0; stands = (start_goes R).0; count = refl; own = []; is = refl; size = refl; few = omega arith; many = refl; held = tt; nil = λ k c. nil_from_end [] k (omega arith); alive = nil_alive [] [] }; waits = tt }), tt, nothing_sane)
 
     -- the actions of a lowered program are never stuck, and their counts are right
-    pub lowered_never_stuck : Sound (step p) (λ s. Counted s.held) start
-    lowered_never_stuck = record { safe = λ n. safe n start start_good }
+    pub lowered_never_stuck : Sound (step p) (λ s. Counted s.held) (start p)
+    lowered_never_stuck = record { safe = λ n. safe n (start p) start_good }

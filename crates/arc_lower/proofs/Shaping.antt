@@ -3,8 +3,8 @@ use Rattle.std.proofs.Common.{◌≡◌, ℕ, zero, suc, ℤ, Bool, true, false,
 use Rattle.std.proofs.lemmas.Bool.{eq-eqb}
 use Rattle.arc_spec.specs.Classes.{class_at}
 use Rattle.arc_spec.specs.Number.{converted, applied, combined, is_zero}
-use Rattle.arc_spec.specs.World.{World, Outcome, Done, Faulted, Cut, Finished, then_do, prints, next_number, has_read, with_locals, local_at, name_at, takes}
-use Rattle.arc_spec.specs.Meaning.{Deeper, chosen, dispatched, finds, sent_to, sent_from, made, field_read, field_set, difference, formatted, byte_count, or_fault, all_dropped, assigned, variables_dropped}
+use Rattle.arc_spec.specs.World.{World, Outcome, Done, Faulted, Cut, Finished, then_do, prints, next_number, has_read, name_at, takes}
+use Rattle.arc_spec.specs.Meaning.{Deeper, held_at, holds, chosen, dispatched, finds, sent_to, sent_from, made, field_read, field_set, difference, formatted, byte_count, or_fault, all_dropped, assigned, variables_dropped}
 use Rattle.arc_code.specs.declared.instr.Op.{Op}
 use Rattle.arc_code.specs.declared.instr.Op.TheVariants as ops
 use Rattle.arc_code.specs.declared.instr.Op.TheVariants.{Num, Bin, Un, Narrow, Pop, Get, GetChar, Nil, ReadSelf, Hold, Forget, Alloc, GetField, SetField, Differ, IsObject}
@@ -137,8 +137,8 @@ only_on go way w = Done Lost w
 abbrev pub block : Deeper → (bound : ℕ) → (between : Bool) → Block → Operands → World → Outcome Way
 block D bound m Idle s w = Done (On s) w
 block D bound m (One o) s w = operation D o s w
-block D bound m (Load depth i) s w = if nat_eq depth (length s.numbers) then Done (On (push (local_at w.frame.locals i) s)) w else Done Lost w
-block D bound m (Store depth i) s w = on_number s w (λ x rest. if nat_eq depth (length rest.numbers) then Done (On s) (with_locals w (slice_set w.frame.locals i x)) else Done Lost w)
+block D bound m (Load depth i) s w = if nat_eq depth (length s.numbers) then Done (On (push (held_at i w) s)) w else Done Lost w
+block D bound m (Store depth i) s w = on_number s w (λ x rest. if nat_eq depth (length rest.numbers) then Done (On s) (holds i x w) else Done Lost w)
 block D bound m (Read i) s w = Done (On (name (name_at w.frame.strong i) s)) (takes (name_at w.frame.strong i) w)
 block D bound m (Assign i) s w = on_name s w (λ r rest. passes_by s (assigned D i r w))
 block D bound m (Clear first count) s w = passes_by s (variables_dropped D first count w)

@@ -3,6 +3,8 @@ use Rattle.std.proofs.Common.{◌≡◌, ℕ, zero, suc, pred, ◌+◌, ◌-◌,
 use Rattle.std.proofs.lemmas.Bool.{ltb-true, ltb-false}
 use Rattle.arc_ast.specs.declared.tree.Kind.TheVariants as k
 use Rattle.arc_ast.specs.declared.tree.Sign.TheVariants as signs
+use Rattle.arc_spec.specs.declared.location.Location.{Location}
+use Rattle.arc_spec.specs.declared.location.Location.TheVariants.{Local, Global}
 use Rattle.arc_spec.specs.Resolved.{Piece, Bytes, Decimal, Character, Function, Program}
 use Rattle.arc_code.specs.declared.instr.Op.{Op}
 use Rattle.arc_code.specs.declared.instr.Op.TheVariants as ops
@@ -61,6 +63,7 @@ Reaches (Narrow kind) h = 1 ≤ h.numbers
 Reaches Pop h = 1 ≤ h.numbers
 Reaches (Get depth) h = depth < h.numbers
 Reaches (Set depth) h = suc depth < h.numbers
+Reaches (ops.SetGlobal i) h = 1 ≤ h.numbers
 Reaches PrintNum h = 2 ≤ h.numbers
 Reaches PrintByte h = 2 ≤ h.numbers
 Reaches Declare h = h.temporaries ≡ 0
@@ -185,15 +188,18 @@ module _ (P : Program) (r s : ℕ) where
 
     -- ---- variables that hold numbers, and calls
 
-    pub get_types : (slots depth i a : ℕ) → depth + slots ≤ a + r → Counts a (get_orders slots depth i) (suc a)
-    get_types slots depth i a h = by (nat_lt i slots) refl
+    pub get_types : (slots depth : ℕ) (i : Location) (a : ℕ) → depth + slots ≤ a + r → Counts a (get_orders slots depth i) (suc a)
+    get_types slots depth (Global i) a h = one 0 1 a (ops.GetGlobal i) (suc a) refl tt (omega arith)
+    get_types slots depth (Local i) a h = by (nat_lt i slots) refl
       where
         by : (t : Bool) → nat_lt i slots ≡ t → Counts a (if t then Plain (Get (depth + (slots - suc i))) ∷ [] else Plain (Num (pos 0)) ∷ []) (suc a)
         by true e = let lt = ltb-true i slots e in one 0 1 a (Get (depth + (slots - suc i))) (suc a) refl (omega (arith, lt, h)) (omega arith)
         by false e = one 0 1 a (Num (pos 0)) (suc a) refl tt (omega arith)
 
-    pub set_types : (slots depth i a : ℕ) → depth + slots ≤ a + r → Counts (suc a) (set_orders slots depth i) (suc a)
-    set_types slots depth i a h = by (nat_lt i slots) refl
+    pub set_types : (slots depth : ℕ) (i : Location) (a : ℕ) → depth + slots ≤ a + r → Counts (suc a) (set_orders slots depth i) (suc a)
+    set_types slots depth (Global i) a h =
+        op 0 1 (suc a) (Get 0) (Plain (ops.SetGlobal i) ∷ []) (suc (suc a)) (suc a) refl (omega arith) (omega arith) (one 1 0 (suc (suc a)) (ops.SetGlobal i) (suc a) refl (omega arith) (omega arith))
+    set_types slots depth (Local i) a h = by (nat_lt i slots) refl
       where
         by : (t : Bool) → nat_lt i slots ≡ t → Counts (suc a) (if t then Plain (Get 0) ∷ Plain (Set (suc depth + (slots - suc i))) ∷ [] else []) (suc a)
         by true e =

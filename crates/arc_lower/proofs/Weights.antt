@@ -6,7 +6,8 @@ use Rattle.arc_ast.specs.declared.tree.UnaryOperator.{UnaryOperator}
 use Rattle.arc_ast.specs.declared.tree.BinaryOperator.{BinaryOperator}
 use Rattle.arc_check.specs.declared.checked.Value as c
 use Rattle.arc_check.specs.declared.checked.Reference as r
-use Rattle.arc_spec.specs.Resolved.{Value, Number, ReadByte, Print, Applied, Combined, Choice, Converted, Local, Assigned, Updated, Invoked, Sent, SentSuper, SentTo, SentToSuper, Field, FieldAssigned, FieldUpdated, Differ, IsObject, Reference, Nil, Itself, Variable, Chosen, Stored, Made, Initialized, Values, no_values, and_value}
+use Rattle.arc_spec.specs.declared.location.Location.{Location}
+use Rattle.arc_spec.specs.Resolved.{Value, Number, ReadByte, Print, Applied, Combined, Choice, Converted, Read, Assigned, Updated, Invoked, Sent, SentSuper, SentTo, SentToSuper, Field, FieldAssigned, FieldUpdated, Differ, IsObject, Reference, Nil, Itself, Variable, Chosen, Stored, Made, Initialized, Values, no_values, and_value}
 use Rattle.arc_check.specs.Checked.{value, values, reference}
 
 abbrev mutual
@@ -18,7 +19,7 @@ abbrev mutual
   value_weight (Combined operator kind a b) = 2 + value_weight a + value_weight b
   value_weight (Choice c a b) = 2 + value_weight c + value_weight a + value_weight b
   value_weight (Converted kind a) = 2 + value_weight a
-  value_weight (Local i) = 1
+  value_weight (Read i) = 1
   value_weight (Assigned i a) = 2 + value_weight a
   value_weight (Updated moment i operator computed kept a) = 3 + value_weight a
   value_weight (Invoked f arguments) = 2 + values_weight arguments
@@ -76,7 +77,7 @@ is_combined v operator kind a b left right is same_left same_right =
     ∙ ap (λ x. Combined operator kind (value x) (value b.value)) (sym same_left)
     ∙ ap (λ x. Combined operator kind (value left) (value x)) (sym same_right)
 
-pub is_assigned : (v : c.Value) (i : ℕ) (a : Box c.Value Global) (this : c.Value) → v ≡ c.Assigned i a → this ≡ a.value → value v ≡ Assigned i (value this)
+pub is_assigned : (v : c.Value) (i : Location) (a : Box c.Value Global) (this : c.Value) → v ≡ c.Assigned i a → this ≡ a.value → value v ≡ Assigned i (value this)
 is_assigned v i a this is same = ap value is ∙ ap (λ x. Assigned i (value x)) (sym same)
 
 pub is_field : (v : c.Value) (a : Box r.Reference Global) (class index : ℕ) (this : r.Reference) → v ≡ c.Field a class index → this ≡ a.value → value v ≡ Field (reference this) class index
@@ -89,7 +90,7 @@ is_field_assigned v a class index b object operand is same_object same =
     ∙ ap (λ x. FieldAssigned (reference x) class index (value b.value)) (sym same_object)
     ∙ ap (λ x. FieldAssigned (reference object) class index (value x)) (sym same)
 
-pub is_updated : (v : c.Value) (moment : Moment) (i : ℕ) (operator : BinaryOperator) (computed kept : Kind) (a : Box c.Value Global) (this : c.Value)
+pub is_updated : (v : c.Value) (moment : Moment) (i : Location) (operator : BinaryOperator) (computed kept : Kind) (a : Box c.Value Global) (this : c.Value)
     → v ≡ c.Updated moment i operator computed kept a → this ≡ a.value → value v ≡ Updated moment i operator computed kept (value this)
 is_updated v moment i operator computed kept a this is same = ap value is ∙ ap (λ x. Updated moment i operator computed kept (value x)) (sym same)
 

@@ -33,7 +33,7 @@ use Rattle.arc_lower.proofs.Transferring.{seen_moves, never_wedged}
 abbrev Ends_with : ℤ → World → Reached State → Type 0
 Ends_with v w to = to ≡ Ended v w.input w.trace
 
-shows : (p : Program) (input : List ℕ) (bound : ℕ) (o : Outcome ℤ) → ((n : ℕ) → seen p input n ≡ run_seen (after_steps (moves p) n (Running start input []))) → Comes (moves p) bound (running [] [] 0 [] (first_world input)) Ends_with o → Shows (seen p input) bound (meaning_seen o)
+shows : (p : Program) (input : List ℕ) (bound : ℕ) (o : Outcome ℤ) → ((n : ℕ) → seen p input n ≡ run_seen (after_steps (moves p) n (Running (start p) input []))) → Comes (moves p) bound (running [] [] 0 [] (first_world p.globals input)) Ends_with o → Shows (seen p input) bound (meaning_seen o)
 shows p input bound (Done v w) alike r = record { steps = r.1.steps; same = alike r.1.steps ∙ ap run_seen (r.1.there ∙ r.2); enough = λ e. cc }
 shows p input bound (Faulted f w) alike r = record { steps = r.steps; same = alike r.steps ∙ ap run_seen r.there; enough = λ e. cc }
 shows p input bound (Cut w) alike r = record { steps = r.0; same = alike r.0 ∙ ap run_seen r.3; enough = λ e. r.2 }
@@ -48,9 +48,9 @@ module _ (p : Program) (R : resolved.Program) (is : orders p.actions ≡ lowered
   links : Linked p R
   links = linked p R classes (has_stubs p R is entries)
 
-  program_runs : (input : List ℕ) (bound : ℕ) → Runs (moves p) bound (running [] [] 0 [] (first_world input)) Ends_with (mean R input bound)
+  program_runs : (input : List ℕ) (bound : ℕ) → Runs (moves p) bound (running [] [] 0 [] (first_world R.globals input)) Ends_with (mean R input bound)
   program_runs input bound =
-      let w = first_world input in
+      let w = first_world R.globals input in
       let zeros = zero_orders (slots_of R R.main) in
       let call = Call (number_of R R.main) ∷ (Return ∷ (EndStep ∷ [])) in
       let q = 0 + length zeros in
@@ -72,7 +72,7 @@ module _ (p : Program) (R : resolved.Program) (is : orders p.actions ≡ lowered
       none = omega arith
 
   -- no step lacks what it needs
-  program_comes : (input : List ℕ) (bound : ℕ) → Runs (moves p) bound (running [] [] 0 [] (first_world input)) Ends_with (mean R input bound) → Comes (moves p) bound (running [] [] 0 [] (first_world input)) Ends_with (mean R input bound)
+  program_comes : (input : List ℕ) (bound : ℕ) → Runs (moves p) bound (running [] [] 0 [] (first_world p.globals input)) Ends_with (mean R input bound) → Comes (moves p) bound (running [] [] 0 [] (first_world p.globals input)) Ends_with (mean R input bound)
   program_comes input bound (inl wedged) = absurd (never_wedged p R is entries classes end_at input wedged.0 wedged.1 wedged.2.steps wedged.2.there)
   program_comes input bound (inr comes) = comes
 
@@ -82,10 +82,11 @@ at_most_same e = omega (arith, e)
 -- the actions that a program becomes perform it
 pub performs : (p : Program) (R : resolved.Program) → IsLowered R p → Performs R p
 performs p R is =
-    let calm = steady (step p) start in
+    let calm = steady (step p) (start p) in
     record {
       behaves = behaves (λ input bound. meaning_seen (mean R input bound)) (seen p) calm
-          (λ input bound. shows p input bound (mean R input bound) (seen_moves p R is.actions is.entries is.classes is.end_step input) (program_comes p R is.actions is.entries is.classes is.end_step input bound (program_runs p R is.actions is.entries is.classes is.end_step input bound)));
+          (λ input bound. shows p input bound (mean R input bound) (seen_moves p R is.actions is.entries is.classes is.end_step input) (program_comes p R is.actions is.entries is.classes is.end_step input bound
+          (subst (λ globals. Runs (moves p) bound (running [] [] 0 [] (first_world globals input)) Ends_with (mean R input bound)) (sym is.globals) (program_runs p R is.actions is.entries is.classes is.end_step input bound))));
       steady = calm;
       sound = room_suffices p R is.actions is.entries is.classes is.end_step (at_most_same is.room) (at_most_same is.names) (at_most_same is.places);
     }

@@ -8,7 +8,9 @@ use Rattle.arc_ast.specs.declared.tree.Kind.{Kind}
 use Rattle.arc_ast.specs.declared.tree.Kind.TheVariants as k
 use Rattle.arc_ast.specs.declared.tree.Moment.{Moment}
 use Rattle.arc_ast.specs.declared.tree.Moment.TheVariants.{Before, After}
-use Rattle.arc_spec.specs.Resolved.{Piece, Bytes, Decimal, Character, Value, Number, ReadByte, Print, Applied, Combined, Choice, Converted, Local, Assigned, Updated, Invoked, Sent, SentSuper, SentTo, SentToSuper, Field, FieldAssigned, FieldUpdated, Reference, Itself, Variable, Chosen, Stored, Made, Initialized, Values, no_values, and_value, Command, Sequence, Evaluate, EvaluateReference, Begin, Choose, Repeat, RepeatAfter, Break, Continue, Commands, no_commands, and_command, Function, Program}
+use Rattle.arc_spec.specs.declared.location.Location.{Location}
+use Rattle.arc_spec.specs.declared.location.Location.TheVariants.{Local, Global}
+use Rattle.arc_spec.specs.Resolved.{Piece, Bytes, Decimal, Character, Value, Number, ReadByte, Print, Applied, Combined, Choice, Converted, Assigned, Updated, Invoked, Sent, SentSuper, SentTo, SentToSuper, Field, FieldAssigned, FieldUpdated, Reference, Itself, Variable, Chosen, Stored, Made, Initialized, Values, no_values, and_value, Command, Sequence, Evaluate, EvaluateReference, Begin, Choose, Repeat, RepeatAfter, Break, Continue, Commands, no_commands, and_command, Function, Program}
 use Rattle.arc_spec.specs.Resolved as resolved
 use Rattle.arc_spec.specs.declared.class.Method.{Method}
 use Rattle.arc_spec.specs.Classes.{Class}
@@ -71,13 +73,15 @@ keep_orders (suc n) = Plain (Set n) ∷ pop_orders n
 abbrev pub print_orders : List Piece → (values : ℕ) → List Order
 print_orders pieces n = Plain (Num (pos 0)) ∷ [] ++ (format_orders pieces n ++ (Plain (Narrow k.Int) ∷ [] ++ keep_orders n))
 
--- the number of a variable, above which so many operands lie; 0 for one that there isn't
-abbrev pub get_orders : (slots depth i : ℕ) → List Order
-get_orders slots depth i = if nat_lt i slots then Plain (Get (depth + (slots - suc i))) ∷ [] else Plain (Num (pos 0)) ∷ []
+-- the number of a variable, above which so many operands lie where it is one of the function; 0 for one that there isn't
+abbrev pub get_orders : (slots depth : ℕ) → Location → List Order
+get_orders slots depth (Global i) = Plain (ops.GetGlobal i) ∷ []
+get_orders slots depth (Local i) = if nat_lt i slots then Plain (Get (depth + (slots - suc i))) ∷ [] else Plain (Num (pos 0)) ∷ []
 
 -- puts a copy of the top number, below which so many operands lie, in a variable's place, where there is one
-abbrev pub set_orders : (slots depth i : ℕ) → List Order
-set_orders slots depth i = if nat_lt i slots then Plain (Get 0) ∷ Plain (Set (suc depth + (slots - suc i))) ∷ [] else []
+abbrev pub set_orders : (slots depth : ℕ) → Location → List Order
+set_orders slots depth (Global i) = Plain (Get 0) ∷ Plain (ops.SetGlobal i) ∷ []
+set_orders slots depth (Local i) = if nat_lt i slots then Plain (Get 0) ∷ Plain (Set (suc depth + (slots - suc i))) ∷ [] else []
 
 -- puts 0 on the stack so many times
 abbrev pub zero_orders : ℕ → List Order
@@ -155,8 +159,8 @@ pub data Block : Type 0 where
   -- an operation on operands and temporaries
   One : Op → Block
   -- a variable is read, and takes the number on top
-  Load : (depth i : ℕ) → Block
-  Store : (depth i : ℕ) → Block
+  Load : (depth : ℕ) → Location → Block
+  Store : (depth : ℕ) → Location → Block
   -- a variable that names an object is read, and takes what the last reference names
   Read : ℕ → Block
   Assign : ℕ → Block
@@ -289,7 +293,7 @@ abbrev mutual
   value_block depth (Combined operator kind a b) = Then (value_block depth a) (Then (value_block (suc depth) b) (One (Bin operator kind)))
   value_block depth (Choice c a b) = Then (value_block depth c) (Fork (value_block depth a) (value_block depth b))
   value_block depth (Converted kind a) = Then (value_block depth a) (One (Narrow kind))
-  value_block depth (Local i) = Load depth i
+  value_block depth (resolved.Read i) = Load depth i
   value_block depth (Assigned i a) = Then (value_block depth a) (Store depth i)
   value_block depth (Updated moment i operator computed kept a) =
       let below = below_new moment depth in
@@ -298,7 +302,7 @@ abbrev mutual
   value_block depth (Sent a selector arguments) =
       Then (value_block depth a) (Then (values_block (suc depth) arguments) (Tells (ToClass selector) (value_count arguments)))
   value_block depth (SentSuper from selector arguments) =
-      Then (Load depth 0) (Then (values_block (suc depth) arguments) (Tells (ToSuperClass from selector) (value_count arguments)))
+      Then (Load depth (Local 0)) (Then (values_block (suc depth) arguments) (Tells (ToSuperClass from selector) (value_count arguments)))
   value_block depth (SentTo a selector arguments) =
       Then (reference_block depth a) (Then (values_block depth arguments) (Tells (ToObject selector) (value_count arguments)))
   value_block depth (SentToSuper from selector arguments) =

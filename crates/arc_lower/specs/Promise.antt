@@ -22,4 +22,5 @@ pub record IsLowered (meant : resolved.Program) (acting : Program) : Type 0 wher
   pub room : acting.room ≡ room_of meant
   pub names : acting.names ≡ names_of meant
   pub places : acting.places ≡ places_of meant
+  pub globals : acting.globals ≡ meant.globals
   pub classes : acting.classes ≡ classes_linked meant

@@ -19,6 +19,7 @@ use arc_check::checked::{Checked, Piece, Reference, Value};
 use arc_code::instr::{Instr, Op};
 use arc_ir::action::{Action, Target};
 use arc_spec::event::NoMemory;
+use arc_spec::location::Location;
 use std::alloc::Global;
 
 /// Appends one action.
@@ -67,18 +68,18 @@ pub(crate) fn append_value(
             let action = Instr::Plain(Op::Narrow(*kind));
             append_value_then(alloc, actions, program, frame, operand, action)
         }
-        Value::Local(index) => append_get(actions, frame.slots, frame.operands, *index),
-        Value::Assigned(index, operand) => {
-            append_assigned(alloc, actions, program, frame, *index, operand)
+        Value::Read(location) => append_get(actions, frame.slots, frame.operands, *location),
+        Value::Assigned(location, operand) => {
+            append_assigned(alloc, actions, program, frame, *location, operand)
         }
-        Value::Updated(moment, index, operator, computed, kept, operand) => {
+        Value::Updated(moment, location, operator, computed, kept, operand) => {
             let update = Update {
                 moment: *moment,
                 operator: *operator,
                 computed: *computed,
                 kept: *kept,
             };
-            append_updated(alloc, actions, program, frame, *index, update, operand)
+            append_updated(alloc, actions, program, frame, *location, update, operand)
         }
         Value::Invoked(function, arguments) => {
             append_invoked(alloc, actions, program, frame, *function, arguments)
@@ -253,13 +254,13 @@ fn append_assigned(
     actions: &mut Vec<Action>,
     program: &Checked,
     frame: Frame,
-    index: usize,
+    location: Location,
     operand: &Value,
 ) -> Result<(), NoMemory>
-    ensures { OnOk result (orders actions.new.items ≡ orders actions.old.items ++ value_orders (program_of program.now) frame.slots frame.names frame.operands (resolved.Assigned index (value operand.now))) }
+    ensures { OnOk result (orders actions.new.items ≡ orders actions.old.items ++ value_orders (program_of program.now) frame.slots frame.names frame.operands (resolved.Assigned location (value operand.now))) }
 {
     append_value(alloc, actions, program, frame, operand)?;
-    append_set(actions, frame.slots, frame.operands, index)
+    append_set(actions, frame.slots, frame.operands, location)
 }
 
 /// Appends the actions of an update of a variable that holds a number.
@@ -269,17 +270,17 @@ fn append_updated(
     actions: &mut Vec<Action>,
     program: &Checked,
     frame: Frame,
-    index: usize,
+    location: Location,
     update: Update,
     operand: &Value,
 ) -> Result<(), NoMemory>
-    ensures { OnOk result (orders actions.new.items ≡ orders actions.old.items ++ value_orders (program_of program.now) frame.slots frame.names frame.operands (resolved.Updated update.moment index update.operator update.computed update.kept (value operand.now))) }
+    ensures { OnOk result (orders actions.new.items ≡ orders actions.old.items ++ value_orders (program_of program.now) frame.slots frame.names frame.operands (resolved.Updated update.moment location update.operator update.computed update.kept (value operand.now))) }
 {
-    append_get(actions, frame.slots, frame.operands, index)?;
+    append_get(actions, frame.slots, frame.operands, location)?;
     let operands = below_new(update.moment, frame.operands)?;
     let below = Frame { operands, ..frame };
     append_update(alloc, actions, program, below, update, operand)?;
-    append_set(actions, frame.slots, operands, index)?;
+    append_set(actions, frame.slots, operands, location)?;
     append_given(actions, update.moment)
 }
 
@@ -377,7 +378,7 @@ fn append_sent_super(
 ) -> Result<(), NoMemory>
     ensures { OnOk result (orders actions.new.items ≡ orders actions.old.items ++ value_orders (program_of program.now) frame.slots frame.names frame.operands (resolved.SentSuper from selector (values arguments.now))) }
 {
-    append_get(actions, frame.slots, frame.operands, 0)?;
+    append_get(actions, frame.slots, frame.operands, Location::Local(0))?;
     let operands = one_more(frame.operands)?;
     let above = Frame { operands, ..frame };
     append_values(alloc, actions, program, above, arguments)?;

@@ -46,6 +46,7 @@ pub fn lower(alloc: Global, program: &Owned) -> Result<Ir, NoMemory>
     let room = room_for(most.numbers)?;
     let names = room_for(most.names)?;
     let places = room_for(add_operands(most.temporaries, most.variables)?)?;
+    let globals = Vec::from_slice(alloc, &program.program.globals)?;
     Ok(Ir {
         actions,
         entries,
@@ -53,6 +54,7 @@ pub fn lower(alloc: Global, program: &Owned) -> Result<Ir, NoMemory>
         room,
         names,
         places,
+        globals,
         classes,
     })
 }

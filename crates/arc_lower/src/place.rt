@@ -61,9 +61,9 @@ fn operation_takes(operation: Op) -> bool
     match operation {
         Op::ReadSelf | Op::ReadRef(_) | Op::Hold | Op::Alloc => true,
         Op::Num(_) | Op::Bin(_, _) | Op::Un(_, _) | Op::Narrow(_) | Op::Pop | Op::Get(_) => false,
-        Op::Set(_) | Op::PrintNum | Op::PrintByte | Op::GetChar | Op::Declare | Op::Nil => false,
+        Op::Set(_) | Op::GetGlobal(_) | Op::SetGlobal(_) | Op::PrintNum | Op::PrintByte => false,
         Op::Again | Op::Forget | Op::GetField(_, _) | Op::SetField(_, _) | Op::Differ => false,
-        Op::IsObject => false,
+        Op::GetChar | Op::Declare | Op::Nil | Op::IsObject => false,
     }
 }
 

@@ -1,5 +1,6 @@
-//! Actions for variables, which lie on the stack below the operands.
+//! Actions for variables. Those of a function lie on the stack below the operands.
 ghost use Rattle.std.specs.Prelude.{◌≡◌, ◌++◌, ◌+◌, suc, OnOk, IfOk};
+ghost use Rattle.arc_spec.specs.declared.location.Location.TheVariants.{Local};
 ghost use Rattle.arc_lower.specs.Order.{orders};
 ghost use Rattle.arc_lower.specs.Lowered.{get_orders, set_orders, zero_orders};
 
@@ -7,6 +8,7 @@ use crate::expression::append;
 use arc_code::instr::{Instr, Op};
 use arc_ir::action::Action;
 use arc_spec::event::NoMemory;
+use arc_spec::location::Location;
 
 /// A number of operands or temporaries, and some more. NoMemory: no stack has so many.
 pub(crate) fn add_operands(depth: usize, more: usize) -> Result<usize, NoMemory>
@@ -30,9 +32,24 @@ pub(crate) fn append_get(
     actions: &mut Vec<Action>,
     slots: usize,
     depth: usize,
+    location: Location,
+) -> Result<(), NoMemory>
+    ensures { OnOk result (orders actions.new.items ≡ orders actions.old.items ++ get_orders slots depth location) }
+{
+    match location {
+        Location::Global(number) => append(actions, Instr::Plain(Op::GetGlobal(number))),
+        Location::Local(index) => append_get_local(actions, slots, depth, index),
+    }
+}
+
+/// The same of a variable of the function.
+fn append_get_local(
+    actions: &mut Vec<Action>,
+    slots: usize,
+    depth: usize,
     index: usize,
 ) -> Result<(), NoMemory>
-    ensures { OnOk result (orders actions.new.items ≡ orders actions.old.items ++ get_orders slots depth index) }
+    ensures { OnOk result (orders actions.new.items ≡ orders actions.old.items ++ get_orders slots depth (Local index)) }
 {
     if index < slots {
         let below = add_operands(depth, slots - 1 - index)?;
@@ -48,9 +65,27 @@ pub(crate) fn append_set(
     actions: &mut Vec<Action>,
     slots: usize,
     depth: usize,
+    location: Location,
+) -> Result<(), NoMemory>
+    ensures { OnOk result (orders actions.new.items ≡ orders actions.old.items ++ set_orders slots depth location) }
+{
+    match location {
+        Location::Global(number) => {
+            append(actions, Instr::Plain(Op::Get(0)))?;
+            append(actions, Instr::Plain(Op::SetGlobal(number)))
+        }
+        Location::Local(index) => append_set_local(actions, slots, depth, index),
+    }
+}
+
+/// The same of a variable of the function.
+fn append_set_local(
+    actions: &mut Vec<Action>,
+    slots: usize,
+    depth: usize,
     index: usize,
 ) -> Result<(), NoMemory>
-    ensures { OnOk result (orders actions.new.items ≡ orders actions.old.items ++ set_orders slots depth index) }
+    ensures { OnOk result (orders actions.new.items ≡ orders actions.old.items ++ set_orders slots depth (Local index)) }
 {
     if index < slots {
         let operands = one_more(depth)?;

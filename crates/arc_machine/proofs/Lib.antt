@@ -14,6 +14,7 @@ pub mod Fielded
 pub mod Finishing
 pub mod Framed
 pub mod Fields
+pub mod Globals
 pub mod Holdings
 pub mod Letting
 pub mod Lifting

@@ -8,6 +8,7 @@ mod dropping;
 mod engine;
 pub mod fault;
 mod field;
+mod global;
 mod holding;
 pub mod machine;
 mod number;

@@ -33,9 +33,9 @@ impl<S: Store + Drop> Model for Machine<S> {
 }
 
 impl<S: Store + Drop> Machine<S> {
-    /// A machine at the start of the code, with its objects in this store. All of its stack and the room
-    /// of its strong places and of 2,000 calls are reserved here, and a step takes no memory but a new
-    /// object's block, of the store. The error is a refusal of that memory.
+    /// A machine at the start of the code, with its objects in this store. All of its stack, its variables
+    /// of the whole program and the room of its strong places and of 2,000 calls are reserved here, and a
+    /// step takes no memory but a new object's block, of the store. The error is a refusal of that memory.
     pub fn new(alloc: Global, code: Code, store: S) -> Result<Machine<S>, NoMemory>
         requires { IsSound (program_of code) }
         ensures { IfOk result (λ m. m ≡ fresh (program_of code) store) }

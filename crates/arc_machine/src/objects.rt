@@ -1,12 +1,12 @@
-//! The objects of a running program, the places that name them, and what waits.
-ghost use Rattle.std.specs.Prelude.{◌≡◌, ◌≢◌, ◌+◌, ◌-◌, ◌^◌, ◌<◌, ◌≤◌, ℕ, List, ◌∷◌, Option, Some, IsNone, IsTrue, ◌↔◌, length, nat_lt, slice_get, slice_set, get_or, IfOk};
+//! The objects of a running program, the places that name them, what waits, and the variables of the whole program.
+ghost use Rattle.std.specs.Prelude.{◌≡◌, ◌≢◌, ◌+◌, ◌-◌, ◌^◌, ◌<◌, ◌≤◌, ℕ, List, ◌∷◌, Option, Some, IsNone, IsTrue, ◌↔◌, length, nat_lt, slice_get, slice_set, slice_index_or, pos, get_or, IfOk};
 ghost use Rattle.std.specs.Int.{w64, cast_signed};
 ghost use Rattle.arc_spec.specs.Meaning.{most_levels};
 ghost use Rattle.arc_machine.specs.declared.waiting.Waiting.{Waiting};
 ghost use Rattle.arc_machine.specs.declared.waiting.Waiting.TheVariants as waits;
 ghost use Rattle.arc_machine.specs.Cells.{Cell, IsCell, HasField, with_count, with_phase, with_value};
 ghost use Rattle.arc_machine.specs.Refusals.{Refuses};
-ghost use Rattle.arc_machine.specs.Standing.{NamesBlock, Alters, IsLast, NewIn, Turns, no_objects, memory_of, with_places, with_names, with_frames, taking, dropping, declaring, undeclaring, words_of, entering, resuming};
+ghost use Rattle.arc_machine.specs.Standing.{NamesBlock, Alters, IsLast, NewIn, Turns, no_objects, memory_of, with_places, with_names, with_frames, with_globals, taking, dropping, declaring, undeclaring, words_of, entering, resuming};
 ghost use Rattle.arc_machine.specs.Words.{Took};
 
 use crate::cell;
@@ -22,8 +22,9 @@ const MOST_LEVELS: usize = 2_000;
 
 /// A store with the blocks of objects, how many objects were made, the strong places, of which the
 /// last ones are the temporaries of the running function, and those before them its variables, how
-/// many of each it has, the references, `self` of the running function, and what waits for it. A word
-/// names the object of a block by the block's place, and nil by 0. Only making an object takes memory.
+/// many of each it has, the references, `self` of the running function, what waits for it, and the numbers
+/// that the variables of the whole program hold. A word names the object of a block by the block's place,
+/// and nil by 0. Only making an object takes memory.
 #[derive(Drop)]
 pub struct Objects<S: Store + Drop> {
     store: S,
@@ -34,6 +35,7 @@ pub struct Objects<S: Store + Drop> {
     names: Stack<u64>,
     receiver: u64,
     frames: Stack<Waiting>,
+    globals: Vec<i64>,
 }
 
 impl<S: Store + Drop> Model for Objects<S> {
@@ -54,16 +56,23 @@ impl<S: Store + Drop> Model for Objects<S> {
       room = a.places.room;
       names_room = a.names.room;
       frames = a.frames.items;
+      globals = a.globals.items;
     } };
 
     ghost invariant = { λ a. most_levels ≤ a.frames.room };
 }
 
 impl<S: Store + Drop> Objects<S> {
-    /// No objects, with room for so many strong places and references. The error is a refusal of the
-    /// memory for these and for 2,000 calls.
-    pub fn new(alloc: Global, store: S, places: usize, names: usize) -> Result<Objects<S>, NoMemory>
-        ensures { IfOk result (λ m. m ≡ no_objects store places names) }
+    /// No objects, with room for so many strong places and references, and variables of the whole program
+    /// that hold these numbers. The error is a refusal of the memory for these and for 2,000 calls.
+    pub fn new(
+        alloc: Global,
+        store: S,
+        places: usize,
+        names: usize,
+        globals: &[i64],
+    ) -> Result<Objects<S>, NoMemory>
+        ensures { IfOk result (λ m. m ≡ no_objects store places names globals.now) }
     {
         Ok(Objects {
             store,
@@ -74,7 +83,32 @@ impl<S: Store + Drop> Objects<S> {
             names: Stack::with_room(alloc, names)?,
             receiver: 0,
             frames: Stack::with_room(alloc, MOST_LEVELS)?,
+            globals: Vec::from_slice(alloc, globals)?,
         })
+    }
+
+    // ---- variables of the whole program
+
+    /// The number that the variable of the whole program with this number holds; that of one that there
+    /// isn't is 0.
+    #[inline(always)]
+    pub fn global(&self, variable: usize) -> i64
+        ensures { result ≡ slice_index_or self.now.globals variable (pos 0) }
+    {
+        match self.globals.get(variable) {
+            Some(number) => *number,
+            None => 0,
+        }
+    }
+
+    /// This variable of the whole program, where there is one, holds this number.
+    #[inline(always)]
+    pub fn put_global(&mut self, variable: usize, number: i64)
+        ensures { self.new ≡ with_globals self.old (slice_set self.old.globals variable number) }
+    {
+        if let Some(place) = self.globals.get_mut(variable) {
+            *place = number;
+        }
     }
 
     // ---- places

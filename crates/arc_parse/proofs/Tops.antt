@@ -2,15 +2,16 @@
 use Rattle.std.proofs.Common.{◌≡◌, ℕ, List, [], ◌∷◌, ◌++◌, append_assoc, append-nil, Ok, Err, refl, sym, ap, ◌∙◌}
 use Rattle.arc_lex.specs.Tokens.{Tok}
 use Rattle.arc_ast.specs.declared.tree.Function.{Function}
+use Rattle.arc_ast.specs.declared.tree.Global.{Global}
 use Rattle.arc_ast.specs.declared.tree.Interface.{Interface}
 use Rattle.arc_ast.specs.declared.tree.Implementation.{Implementation}
-use Rattle.arc_ast.specs.Tree.{FunctionTree, InterfaceTree, ImplementationTree, UnitTree, function_tree, function_trees, interface_tree, interface_trees, implementation_tree, implementation_trees}
+use Rattle.arc_ast.specs.Tree.{FunctionTree, GlobalTree, InterfaceTree, ImplementationTree, UnitTree, function_tree, function_trees, global_tree, global_trees, interface_tree, interface_trees, implementation_tree, implementation_trees}
 use Rattle.arc_form.specs.Operators.{fold}
 use Rattle.arc_form.specs.Reader.{Read, Reader, bind, ret}
 use Rattle.arc_form.proofs.Local.{Local}
 use Rattle.arc_form.proofs.FormLocal.{solid, form_front}
 use Rattle.arc_form.proofs.Static.{nullable, of_many}
-use Rattle.arc_grammar.specs.Grammar.{TopTree, OfNames, OfFunction, OfInterface, OfImplementation, functions_of, interfaces_of, implementations_of, these, reads, body, begins_top, unit}
+use Rattle.arc_grammar.specs.Grammar.{TopTree, OfNames, OfFunction, OfGlobals, OfInterface, OfImplementation, functions_of, globals_of, interfaces_of, implementations_of, these, reads, body, begins_top, unit}
 use Rattle.arc_grammar.specs.Grammar as grammar
 use Rattle.arc_grammar.proofs.Fits.{facts, sure, sure_unit}
 use Rattle.arc_form.specs.Joining.{joining}
@@ -27,28 +28,44 @@ abbrev pub tops_on : UnitTree → Reader UnitTree
 tops_on = joining begins_top (reads grammar.top) and_top
 
 -- a unit of these
-abbrev pub made : List FunctionTree → List InterfaceTree → List ImplementationTree → UnitTree
-made f i j = record { functions = f; interfaces = i; implementations = j }
+abbrev pub made : List FunctionTree → List GlobalTree → List InterfaceTree → List ImplementationTree → UnitTree
+made f g i j = record { functions = f; globals = g; interfaces = i; implementations = j }
 
-tops_fold : (u : UnitTree) (all : List TopTree) → fold and_top u all ≡ made (u.functions ++ functions_of all) (u.interfaces ++ interfaces_of all) (u.implementations ++ implementations_of all)
-tops_fold u [] = sym (ap (λ v. made v (u.interfaces ++ []) (u.implementations ++ [])) (append-nil u.functions) ∙ ap (λ v. made u.functions v (u.implementations ++ [])) (append-nil u.interfaces)
-    ∙ ap (λ v. made u.functions u.interfaces v) (append-nil u.implementations))
+-- what a unit has, and what these have
+abbrev and_tops : UnitTree → List TopTree → UnitTree
+and_tops u all = made (u.functions ++ functions_of all) (u.globals ++ globals_of all) (u.interfaces ++ interfaces_of all) (u.implementations ++ implementations_of all)
+
+none_more : (f : List FunctionTree) (g : List GlobalTree) (i : List InterfaceTree) (j : List ImplementationTree) → made f g i j ≡ made (f ++ []) (g ++ []) (i ++ []) (j ++ [])
+none_more f g i j = rw (append-nil f, append-nil g, append-nil i, append-nil j) refl
+
+tops_fold : (u : UnitTree) (all : List TopTree) → fold and_top u all ≡ and_tops u all
+tops_fold u [] = none_more u.functions u.globals u.interfaces u.implementations
 tops_fold u (OfNames ∷ others) = tops_fold u others
-tops_fold u (OfFunction f ∷ others) = tops_fold (and_top u (OfFunction f)) others ∙ ap (λ v. made v (u.interfaces ++ interfaces_of others) (u.implementations ++ implementations_of others)) (append_assoc u.functions (f ∷ []) (functions_of others))
-tops_fold u (OfInterface i ∷ others) = tops_fold (and_top u (OfInterface i)) others ∙ ap (λ v. made (u.functions ++ functions_of others) v (u.implementations ++ implementations_of others)) (append_assoc u.interfaces (i ∷ []) (interfaces_of others))
-tops_fold u (OfImplementation i ∷ others) = tops_fold (and_top u (OfImplementation i)) others ∙ ap (λ v. made (u.functions ++ functions_of others) (u.interfaces ++ interfaces_of others) v) (append_assoc u.implementations (i ∷ []) (implementations_of others))
+tops_fold u (OfFunction f ∷ others) = tops_fold (and_top u (OfFunction f)) others
+    ∙ ap (λ v. made v (u.globals ++ globals_of others) (u.interfaces ++ interfaces_of others) (u.implementations ++ implementations_of others)) (append_assoc u.functions (f ∷ []) (functions_of others))
+tops_fold u (OfGlobals gs ∷ others) = tops_fold (and_top u (OfGlobals gs)) others
+    ∙ ap (λ v. made (u.functions ++ functions_of others) v (u.interfaces ++ interfaces_of others) (u.implementations ++ implementations_of others)) (append_assoc u.globals gs (globals_of others))
+tops_fold u (OfInterface i ∷ others) = tops_fold (and_top u (OfInterface i)) others
+    ∙ ap (λ v. made (u.functions ++ functions_of others) (u.globals ++ globals_of others) v (u.implementations ++ implementations_of others)) (append_assoc u.interfaces (i ∷ []) (interfaces_of others))
+tops_fold u (OfImplementation i ∷ others) = tops_fold (and_top u (OfImplementation i)) others
+    ∙ ap (λ v. made (u.functions ++ functions_of others) (u.globals ++ globals_of others) (u.interfaces ++ interfaces_of others) v) (append_assoc u.implementations (i ∷ []) (implementations_of others))
 
-pub tops_start : (ts : List Tok) → reads unit ts ≡ tops_on (made [] [] []) ts
+pub tops_start : (ts : List Tok) → reads unit ts ≡ tops_on (made [] [] [] []) ts
 unfolding unit grammar.tops
 tops_start ts = go (reads grammar.tops ts)
   where
-    go : (x : Read (List TopTree)) → bind x (λ all. ret (made (functions_of all) (interfaces_of all) (implementations_of all))) ≡ bind x (λ all. ret (fold and_top (made [] [] []) all))
-    go (Ok x) = ap (λ v. Ok (v, x.1)) (sym (tops_fold (made [] [] []) x.0))
+    go : (x : Read (List TopTree)) → bind x (λ all. ret (made (functions_of all) (globals_of all) (interfaces_of all) (implementations_of all))) ≡ bind x (λ all. ret (fold and_top (made [] [] [] []) all))
+    go (Ok x) = ap (λ v. Ok (v, x.1)) (sym (tops_fold (made [] [] [] []) x.0))
     go (Err x) = refl
 
 -- a unit of nothing
-pub nothing_yet : (fs : List Function) (is : List Interface) (js : List Implementation) → fs ≡ [] → is ≡ [] → js ≡ [] → made (function_trees fs) (interface_trees is) (implementation_trees js) ≡ made [] [] []
-nothing_yet fs is js p q r = rw (p, q, r) refl
+pub nothing_yet : (fs : List Function) (gs : List Global) (is : List Interface) (js : List Implementation) → fs ≡ [] → gs ≡ [] → is ≡ [] → js ≡ []
+    → made (function_trees fs) (global_trees gs) (interface_trees is) (implementation_trees js) ≡ made [] [] [] []
+nothing_yet fs gs is js p o q r = rw (p, o, q, r) refl
+
+pub globals_append : (before all : List Global) → global_trees (before ++ all) ≡ global_trees before ++ global_trees all
+globals_append [] all = refl
+globals_append (g ∷ before) all = ap (λ v. global_tree g ∷ v) (globals_append before all)
 
 pub functions_push : (all : List Function) (a : Function) → function_trees (all ++ a ∷ []) ≡ function_trees all ++ function_tree a ∷ []
 functions_push [] a = refl

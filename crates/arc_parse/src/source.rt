@@ -33,6 +33,7 @@ fn tops<'a>(alloc: Global, tokens: &'a [Token]) -> Read<'a, TranslationUnit>
 {
     let mut all = TranslationUnit {
         functions: Vec::new(alloc),
+        globals: Vec::new(alloc),
         interfaces: Vec::new(alloc),
         implementations: Vec::new(alloc),
     };
@@ -52,6 +53,7 @@ fn keep(unit: &mut TranslationUnit, top: Top) -> Result<(), AllocError>
     match top {
         Top::Names => {}
         Top::Function(function) => unit.functions.push(function)?,
+        Top::Globals(mut all) => unit.globals.append(&mut all)?,
         Top::Interface(interface) => unit.interfaces.push(interface)?,
         Top::Implementation(implementation) => unit.implementations.push(implementation)?,
     }

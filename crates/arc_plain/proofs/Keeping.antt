@@ -6,9 +6,11 @@ use Rattle.arc_ast.specs.declared.tree.Kind.{Kind}
 use Rattle.arc_spec.specs.Classes.{superclasses, ancestry, own_dealloc, class_at, descends}
 use Rattle.arc_spec.specs.Number.{converted, applied, combined, is_zero}
 use Rattle.arc_spec.specs.Objects.{Object, Phase, object_at, is_live, names, with_object, with_fields}
-use Rattle.arc_spec.specs.Resolved.{Value, Number, ReadByte, Print, Applied, Combined, Choice, Converted, Local, Assigned, Updated, Invoked, Sent, SentSuper, SentTo, SentToSuper, Field, FieldAssigned, FieldUpdated, Differ, IsObject, Reference, Nil, Itself, Variable, Chosen, Stored, Made, Initialized, Values, no_values, and_value, Command, Sequence, Evaluate, EvaluateReference, Begin, Return, Choose, Repeat, RepeatAfter, Break, Continue, Commands, no_commands, and_command, Function, Program}
+use Rattle.arc_spec.specs.declared.location.Location.{Location}
+use Rattle.arc_spec.specs.declared.location.Location.TheVariants.{Local, Global}
+use Rattle.arc_spec.specs.Resolved.{Value, Number, ReadByte, Print, Applied, Combined, Choice, Converted, Read, Assigned, Updated, Invoked, Sent, SentSuper, SentTo, SentToSuper, Field, FieldAssigned, FieldUpdated, Differ, IsObject, Reference, Nil, Itself, Variable, Chosen, Stored, Made, Initialized, Values, no_values, and_value, Command, Sequence, Evaluate, EvaluateReference, Begin, Return, Choose, Repeat, RepeatAfter, Break, Continue, Commands, no_commands, and_command, Function, Program}
 use Rattle.arc_spec.specs.World.{World, Outcome, Done, Faulted, Cut, then_do, Finished, finished, places, prints, entered, left, takes, stores, with_temporaries, with_locals, with_objects, local_at, name_at}
-use Rattle.arc_spec.specs.Meaning.{Deeper, formatted, byte_count, or_fault, updated, given_by, released, temporaries_dropped, all_dropped, assigned, variables_dropped, dispatched, finds, runs_found, class_in, sent_from, sent_to, made, in_object, field_read, field_set, difference, evaluated, referred, all_evaluated, whole, whole_reference, begun, Flow, Normal, Broken, Continued, Returned, if_normal, in_turn, after_body, chosen, turns, turns_after, scope_left, normally, executed, all_executed, given, function_at, called, dealloc_run, deallocs_run, turned, gone, dying, ended, level}
+use Rattle.arc_spec.specs.Meaning.{Deeper, held_at, holds, formatted, byte_count, or_fault, updated, given_by, released, temporaries_dropped, all_dropped, assigned, variables_dropped, dispatched, finds, runs_found, class_in, sent_from, sent_to, made, in_object, field_read, field_set, difference, evaluated, referred, all_evaluated, whole, whole_reference, begun, Flow, Normal, Broken, Continued, Returned, if_normal, in_turn, after_body, chosen, turns, turns_after, scope_left, normally, executed, all_executed, given, function_at, called, dealloc_run, deallocs_run, turned, gone, dying, ended, level}
 
 -- what holds of the world behind a part that was done
 abbrev pub After : {A : Type 0} → (World → Type 0) → Outcome A → Type 0
@@ -175,6 +177,10 @@ module _ (D : Deeper) (steady : Steady D) where
   set_waits : (r class index : ℕ) (v : ℤ) (w : World) → After (Waits w) (field_set D r class index v w)
   set_waits r class index v w = in_object_waits class (object_at w.objects r) (λ o. Done v (with_objects w (with_object w.objects r (with_fields o (slice_set o.fields index v))))) w (λ o. refl)
 
+  holds_waits : (i : Location) (v : ℤ) (w : World) → Waits w (holds i v w)
+  holds_waits (Local i) v w = refl
+  holds_waits (Global i) v w = refl
+
   mutual
     value_waits : (a : Value) (w : World) → After (Waits w) (evaluated D a w)
     value_waits (Number n) w = refl
@@ -189,13 +195,13 @@ module _ (D : Deeper) (steady : Steady D) where
         waits_then w (evaluated D c w) (λ x w1. chosen (is_zero x) (evaluated D a w1) (evaluated D b w1)) (value_waits c w)
         (λ x w1. after_chosen (Waits w1) (is_zero x) (evaluated D a w1) (evaluated D b w1) (value_waits a w1) (value_waits b w1))
     value_waits (Converted kind a) w = waits_then w (evaluated D a w) (λ x w1. Done (converted kind x) w1) (value_waits a w) (λ x w1. refl)
-    value_waits (Local i) w = refl
-    value_waits (Assigned i a) w = waits_then w (evaluated D a w) (λ x w1. Done x (with_locals w1 (slice_set w1.frame.locals i x))) (value_waits a w) (λ x w1. refl)
+    value_waits (Read i) w = refl
+    value_waits (Assigned i a) w = waits_then w (evaluated D a w) (λ x w1. Done x (holds i x w1)) (value_waits a w) (λ x w1. holds_waits i x w1)
     value_waits (Updated moment i operator computed kept a) w =
-        let old = local_at w.frame.locals i in
-        let stored : ℤ → World → Outcome ℤ = λ new w2. Done (given_by moment old new) (with_locals w2 (slice_set w2.frame.locals i new)) in
+        let old = held_at i w in
+        let stored : ℤ → World → Outcome ℤ = λ new w2. Done (given_by moment old new) (holds i new w2) in
         waits_then w (evaluated D a w) (λ x w1. then_do (updated operator computed kept old x w1) stored) (value_waits a w)
-        (λ x w1. waits_then w1 (updated operator computed kept old x w1) stored (updated_waits operator computed kept old x w1) (λ new w2. refl))
+        (λ x w1. waits_then w1 (updated operator computed kept old x w1) stored (updated_waits operator computed kept old x w1) (λ new w2. holds_waits i new w2))
     value_waits (Invoked f arguments) w = waits_then w (all_evaluated D arguments w) (λ given w1. D.call f 0 given w1) (values_wait arguments w) (λ given w1. call_waits f 0 given w1)
     value_waits (Sent a selector arguments) w =
         waits_then w (evaluated D a w) (λ self w1. then_do (all_evaluated D arguments w1) (λ given w2. dispatched D (finds D (class_at self) selector given) self given w2)) (value_waits a w)

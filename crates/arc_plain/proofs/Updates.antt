@@ -1,25 +1,25 @@
 -- What an update comes to, once its right operand is known.
 use Rattle.std.proofs.Common.{◌≡◌, ℕ, ℤ, sym, ap, ◌∙◌}
-use Rattle.std.specs.Prelude.{slice_set}
 use Rattle.arc_ast.specs.declared.tree.BinaryOperator.{BinaryOperator}
 use Rattle.arc_ast.specs.declared.tree.Kind.{Kind}
 use Rattle.arc_ast.specs.declared.tree.Moment.{Moment}
+use Rattle.arc_spec.specs.declared.location.Location.{Location}
 use Rattle.arc_spec.specs.Resolved.{Value, Updated, FieldUpdated, Reference}
-use Rattle.arc_spec.specs.World.{World, Outcome, Done, then_do, with_locals, local_at}
-use Rattle.arc_spec.specs.Meaning.{Deeper, updated, given_by, evaluated, referred, field_read, field_set}
+use Rattle.arc_spec.specs.World.{World, Outcome, Done, then_do}
+use Rattle.arc_spec.specs.Meaning.{Deeper, held_at, holds, updated, given_by, evaluated, referred, field_read, field_set}
 
 module _ (D : Deeper) (moment : Moment) (operator : BinaryOperator) (computed kept : Kind) where
   -- where the new number of a variable is stored
-  abbrev pub local_stored : (i : ℕ) → (old new : ℤ) → World → Outcome ℤ
-  local_stored i old new w = Done (given_by moment old new) (with_locals w (slice_set w.frame.locals i new))
+  abbrev pub variable_stored : (i : Location) → (old new : ℤ) → World → Outcome ℤ
+  variable_stored i old new w = Done (given_by moment old new) (holds i new w)
 
   abbrev pub field_stored : (r class index : ℕ) → (old new : ℤ) → World → Outcome ℤ
   field_stored r class index old new w = then_do (field_set D r class index new w) (λ _ w1. Done (given_by moment old new) w1)
 
-  pub local_updated : (i : ℕ) (a : Value) (old right same_old same_right : ℤ) (w between : World) → same_old ≡ old → same_right ≡ right → old ≡ local_at w.frame.locals i → evaluated D a w ≡ Done right between
-      → evaluated D (Updated moment i operator computed kept a) w ≡ then_do (updated operator computed kept same_old same_right between) (local_stored i same_old)
-  local_updated i a old right same_old same_right w between olds rights is done =
-      let go : (old x : ℤ) → World → Outcome ℤ = λ old x w1. then_do (updated operator computed kept old x w1) (local_stored i old) in
+  pub variable_updated : (i : Location) (a : Value) (old right same_old same_right : ℤ) (w between : World) → same_old ≡ old → same_right ≡ right → old ≡ held_at i w → evaluated D a w ≡ Done right between
+      → evaluated D (Updated moment i operator computed kept a) w ≡ then_do (updated operator computed kept same_old same_right between) (variable_stored i same_old)
+  variable_updated i a old right same_old same_right w between olds rights is done =
+      let go : (old x : ℤ) → World → Outcome ℤ = λ old x w1. then_do (updated operator computed kept old x w1) (variable_stored i old) in
       ap (λ n. then_do (evaluated D a w) (go n)) (sym (olds ∙ is))
       ∙ ap (λ o. then_do o (go same_old)) done
       ∙ ap (λ x. go same_old x between) (sym rights)

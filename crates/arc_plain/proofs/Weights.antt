@@ -6,7 +6,7 @@ use Rattle.arc_check.specs.declared.checked.Command as d
 use Rattle.arc_check.specs.declared.checked.Piece.{Piece}
 use Rattle.arc_check.specs.declared.checked.CheckedFunction.{CheckedFunction}
 use Rattle.arc_check.specs.declared.checked.Checked.{Checked}
-use Rattle.arc_spec.specs.Resolved.{Value, Number, ReadByte, Print, Applied, Combined, Choice, Converted, Local, Assigned, Updated, Invoked, Sent, SentSuper, SentTo, SentToSuper, Field, FieldAssigned, FieldUpdated, Differ, IsObject, Reference, Nil, Itself, Variable, Chosen, Stored, Made, Initialized, Values, no_values, and_value, Command, Sequence, Evaluate, EvaluateReference, Begin, Return, Choose, Repeat, RepeatAfter, Break, Continue, Commands, no_commands, and_command, Function}
+use Rattle.arc_spec.specs.Resolved.{Value, Number, ReadByte, Print, Applied, Combined, Choice, Converted, Read, Assigned, Updated, Invoked, Sent, SentSuper, SentTo, SentToSuper, Field, FieldAssigned, FieldUpdated, Differ, IsObject, Reference, Nil, Itself, Variable, Chosen, Stored, Made, Initialized, Values, no_values, and_value, Command, Sequence, Evaluate, EvaluateReference, Begin, Return, Choose, Repeat, RepeatAfter, Break, Continue, Commands, no_commands, and_command, Function}
 use Rattle.arc_check.specs.Checked.{program_of, functions, value, values, reference, command, commands}
 use Rattle.arc_check.proofs.Trees.{is_print, is_invoked, is_sent, is_sent_super, is_sent_to, is_sent_to_super, is_sequence}
 use Rattle.arc_plain.proofs.Turns.{nothing_below}
@@ -21,7 +21,7 @@ abbrev mutual
   value_weight (Combined operator kind a b) = 2 + value_weight a + value_weight b
   value_weight (Choice c a b) = 2 + value_weight c + value_weight a + value_weight b
   value_weight (Converted kind a) = suc (value_weight a)
-  value_weight (Local i) = 1
+  value_weight (Read i) = 1
   value_weight (Assigned i a) = suc (value_weight a)
   value_weight (Updated moment i operator computed kept a) = 2 + value_weight a
   value_weight (Invoked f arguments) = 2 + values_weight arguments

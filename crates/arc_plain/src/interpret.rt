@@ -41,7 +41,7 @@ pub fn interpret(
 ) -> Result<Answer, NoMemory>
     ensures { IfOk result (λ answer. meaning_seen (mean (program_of program.now) input.now bound) ≡ seen answer) }
 {
-    let mut progress = start(alloc, input);
+    let mut progress = start(alloc, &program.globals, input)?;
     let context = Context {
         program,
         bound,

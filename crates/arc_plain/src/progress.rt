@@ -1,36 +1,41 @@
 //! How far an interpreted program has come.
-ghost use Rattle.std.specs.Prelude.{◌≡◌, ◌++◌, map, OnOk, slice_set};
+ghost use Rattle.std.specs.Prelude.{◌≡◌, ◌++◌, map, OnOk, IfOk, slice_set};
 ghost use Rattle.arc_spec.specs.declared.event.Event.TheVariants.{Byte};
-ghost use Rattle.arc_spec.specs.World.{first_world, prints, has_read, next_number, local_at, with_locals};
+ghost use Rattle.arc_spec.specs.Meaning.{held_at, holds};
+ghost use Rattle.arc_spec.specs.World.{first_world, prints, has_read, next_number, local_at, with_locals, with_globals};
 ghost use Rattle.arc_plain.specs.Views.{world};
 
 use crate::frame::{Frame, nothing_runs};
 use crate::object::Object;
 use arc_spec::event::{Event, NoMemory};
+use arc_spec::location::Location;
 use std::alloc::Global;
 
-/// What is left of the input, the events so far, the objects in the order of their making, the running
-/// function, and the strong places of those that wait for it, the newest at the end.
+/// What is left of the input, the events so far, the numbers that the variables of the whole program hold,
+/// the objects in the order of their making, the running function, and the strong places of those that wait
+/// for it, the newest at the end.
 #[derive(Drop)]
 pub struct Progress<'a> {
     pub input: &'a [u8],
     pub trace: Vec<Event>,
+    pub globals: Vec<i64>,
     pub objects: Vec<Object>,
     pub frame: Frame,
     pub waiting: Vec<usize>,
 }
 
-/// Nothing is read or shown yet.
-pub fn start<'a>(alloc: Global, input: &'a [u8]) -> Progress<'a>
-    ensures { world result ≡ first_world input.now }
+/// Nothing is read or shown yet, and the variables of the whole program hold these numbers.
+pub fn start<'a>(alloc: Global, globals: &[i64], input: &'a [u8]) -> Result<Progress<'a>, NoMemory>
+    ensures { IfOk result (λ progress. world progress ≡ first_world globals.now input.now) }
 {
-    Progress {
+    Ok(Progress {
         input,
         trace: Vec::new(alloc),
+        globals: Vec::from_slice(alloc, globals)?,
         objects: Vec::new(alloc),
         frame: nothing_runs(alloc),
         waiting: Vec::new(alloc),
-    }
+    })
 }
 
 /// The next byte of the input, or -1 at its end.
@@ -74,8 +79,47 @@ pub fn local(progress: &Progress, slot: usize) -> i64
     }
 }
 
+/// The number of a variable of the whole program.
+fn global(progress: &Progress, index: usize) -> i64
+    ensures { result ≡ local_at (world progress.now).globals index }
+{
+    match progress.globals.get(index) {
+        Some(number) => *number,
+        None => 0,
+    }
+}
+
+/// The number that a variable holds.
+pub fn held(progress: &Progress, location: Location) -> i64
+    ensures { result ≡ held_at location (world progress.now) }
+{
+    match location {
+        Location::Local(slot) => local(progress, slot),
+        Location::Global(index) => global(progress, index),
+    }
+}
+
+/// Gives a variable a number.
+pub fn assign(progress: &mut Progress, location: Location, number: i64)
+    ensures { world progress.new ≡ holds location number (world progress.old) }
+{
+    match location {
+        Location::Local(slot) => assign_local(progress, slot, number),
+        Location::Global(index) => assign_global(progress, index, number),
+    }
+}
+
+/// Gives a variable of the whole program a number.
+fn assign_global(progress: &mut Progress, index: usize, number: i64)
+    ensures { world progress.new ≡ with_globals (world progress.old) (slice_set (world progress.old).globals index number) }
+{
+    if let Some(place) = progress.globals.get_mut(index) {
+        *place = number;
+    }
+}
+
 /// Gives a variable of the running function a number.
-pub fn assign(progress: &mut Progress, slot: usize, number: i64)
+fn assign_local(progress: &mut Progress, slot: usize, number: i64)
     ensures { world progress.new ≡ with_locals (world progress.old) (slice_set (world progress.old).frame.locals slot number) }
 {
     if let Some(place) = progress.frame.locals.get_mut(slot) {

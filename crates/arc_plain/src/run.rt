@@ -15,11 +15,12 @@ use crate::object::{
     begin_end, class_of, dealloc_from, finish_end, is_live, make, read_field, set_field,
 };
 use crate::place::{clear, drop_last, is_named, name, pop_frame, push_frame, store, take};
-use crate::progress::{Progress, assign, local, print, read};
+use crate::progress::{Progress, assign, held, local, print, read};
 use crate::update::{Update, given_by, renew};
 use arc_ast::tree::{BinaryOperator, Kind, Sign};
 use arc_check::checked::{Command, Piece, Reference, Value};
 use arc_spec::event::Fault;
+use arc_spec::location::Location;
 use arc_spec::number::{apply, combine, convert};
 use std::alloc::Global;
 
@@ -66,20 +67,20 @@ fn evaluate(
             let number = evaluate(alloc, context, progress, operand)?;
             Ok(convert(*kind, number))
         }
-        Value::Local(slot) => Ok(local(progress, *slot)),
-        Value::Assigned(slot, operand) => {
+        Value::Read(location) => Ok(held(progress, *location)),
+        Value::Assigned(location, operand) => {
             let number = evaluate(alloc, context, progress, operand)?;
-            assign(progress, *slot, number);
+            assign(progress, *location, number);
             Ok(number)
         }
-        Value::Updated(moment, slot, operator, computed, kept, operand) => {
+        Value::Updated(moment, location, operator, computed, kept, operand) => {
             let update = Update {
                 moment: *moment,
                 operator: *operator,
                 computed: *computed,
                 kept: *kept,
             };
-            update_local(alloc, context, progress, *slot, update, operand)
+            update_variable(alloc, context, progress, *location, update, operand)
         }
         Value::Invoked(function, arguments) => {
             invoke(alloc, context, progress, *function, arguments)
@@ -160,20 +161,20 @@ fn evaluate_both(
 
 /// Updates a variable that holds a number, which is read before the right operand is evaluated.
 #[cycle(running)]
-fn update_local(
+fn update_variable(
     alloc: Global,
     context: &Context,
     progress: &mut Progress,
-    slot: usize,
+    location: Location,
     update: Update,
     operand: &Value,
 ) -> Result<i64, Halt>
-    ensures { Tells (λ n. n) result (evaluated (deeper context.now) (resolved.Updated update.moment slot update.operator update.computed update.kept (checked.value operand.now)) (world progress.old)) (world progress.new) }
+    ensures { Tells (λ n. n) result (evaluated (deeper context.now) (resolved.Updated update.moment location update.operator update.computed update.kept (checked.value operand.now)) (world progress.old)) (world progress.new) }
 {
-    let old = local(progress, slot);
+    let old = held(progress, location);
     let right = evaluate(alloc, context, progress, operand)?;
     let new = renew(update, old, right)?;
-    assign(progress, slot, new);
+    assign(progress, location, new);
     Ok(given_by(update.moment, old, new))
 }
 

@@ -7,7 +7,7 @@ use Rattle.arc_spec.specs.Stepping.{Next, Faults, Stuck, only_if}
 
 -- The strong places and the references of the running functions. Of the one that runs: its temporaries, the last one first, what its variables that name objects
 -- hold, the first one first, and in a method of objects `self`. The strong places of those that wait for it. The references that operands name, which hold nothing,
--- the last one first. The objects, and how many strong places are counted to name each of them.
+-- the last one first. The objects, and how many strong places are counted to name each of them. The numbers that the variables of the whole program hold.
 pub record Held : Type 0 where
   pub temporaries : List ℕ
   pub variables : List ℕ
@@ -16,9 +16,10 @@ pub record Held : Type 0 where
   pub names : List ℕ
   pub objects : List Object
   pub counts : ℕ → ℕ
+  pub globals : List ℤ
 
 abbrev pub nothing_held : Held
-nothing_held = record { temporaries = []; variables = []; self = 0; places = []; names = []; objects = []; counts = λ o. 0 }
+nothing_held = record { temporaries = []; variables = []; self = 0; places = []; names = []; objects = []; counts = λ o. 0; globals = [] }
 
 -- all strong places: what each of them names
 abbrev pub all_places : Held → List ℕ
@@ -46,6 +47,9 @@ with_names h names = record h { names = names }
 
 abbrev pub with_things : Held → List Object → Held
 with_things h objects = record h { objects = objects }
+
+abbrev pub with_globals : Held → List ℤ → Held
+with_globals h globals = record h { globals = globals }
 
 -- how many places name an object
 abbrev pub holders : ℕ → List ℕ → ℕ

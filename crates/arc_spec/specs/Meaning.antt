@@ -12,8 +12,8 @@ use Rattle.arc_spec.specs.declared.event.Fault.TheVariants.{Arithmetic, Unrecogn
 use Rattle.arc_spec.specs.Classes.{Class, superclasses, ancestry, own_dealloc, lookup, descends, class_at}
 use Rattle.arc_spec.specs.Number.{converted, applied, combined, low_byte, is_zero}
 use Rattle.arc_spec.specs.Objects.{Object, Phase, Dying, Gone, object_at, with_object, in_phase, with_fields, is_live, new_object, names}
-use Rattle.arc_spec.specs.Resolved.{Piece, Bytes, Decimal, Character, Value, Number, ReadByte, Print, Applied, Combined, Choice, Converted, Local, Assigned, Updated, Invoked, Sent, SentSuper, SentTo, SentToSuper, Field, FieldAssigned, FieldUpdated, Differ, IsObject, Reference, Nil, Itself, Variable, Chosen, Stored, Made, Initialized, Values, no_values, and_value, Command, Sequence, Evaluate, EvaluateReference, Begin, Return, Choose, Repeat, RepeatAfter, Break, Continue, Commands, no_commands, and_command, Function, Program}
-use Rattle.arc_spec.specs.World.{World, Outcome, Done, Faulted, Cut, then_do, Finished, finished, shows, prints, places, first_world, entered, left, takes, stores, with_objects, with_locals, with_temporaries, local_at, name_at, next_number, has_read}
+use Rattle.arc_spec.specs.Resolved.{Piece, Bytes, Decimal, Character, Value, Number, ReadByte, Print, Applied, Combined, Choice, Converted, Location, Local, Global, Read, Assigned, Updated, Invoked, Sent, SentSuper, SentTo, SentToSuper, Field, FieldAssigned, FieldUpdated, Differ, IsObject, Reference, Nil, Itself, Variable, Chosen, Stored, Made, Initialized, Values, no_values, and_value, Command, Sequence, Evaluate, EvaluateReference, Begin, Return, Choose, Repeat, RepeatAfter, Break, Continue, Commands, no_commands, and_command, Function, Program}
+use Rattle.arc_spec.specs.World.{World, Outcome, Done, Faulted, Cut, then_do, Finished, finished, shows, prints, places, first_world, entered, left, takes, stores, with_objects, with_locals, with_globals, with_temporaries, local_at, name_at, next_number, has_read}
 
 -- what a format writes of these values, of which each number takes the next (C99, section 7.19.6.1)
 abbrev pub formatted : List Piece → List ℤ → List ℕ
@@ -41,6 +41,16 @@ updated operator computed kept old x w = then_do (or_fault (combined operator co
 abbrev pub given_by : Moment → (old new : ℤ) → ℤ
 given_by Before old new = old
 given_by After old new = new
+
+-- the number that a variable holds; one that there isn't counts as 0
+abbrev pub held_at : Location → World → ℤ
+held_at (Local i) w = local_at w.frame.locals i
+held_at (Global i) w = local_at w.globals i
+
+-- a variable holds this number
+abbrev pub holds : Location → ℤ → World → World
+holds (Local i) x w = with_locals w (slice_set w.frame.locals i x)
+holds (Global i) x w = with_globals w (slice_set w.globals i x)
 
 -- what a call does, one level deeper, with the number of the function, its `self` and what it is given; what the end of an object does; and the classes of the program
 pub record Deeper : Type 0 where
@@ -156,12 +166,11 @@ abbrev mutual
       then_do (evaluated D a w) (λ x w1. then_do (evaluated D b w1) (λ y w2. or_fault (combined operator kind x y) w2))
   evaluated D (Choice c a b) w = then_do (evaluated D c w) (λ x w1. chosen (is_zero x) (evaluated D a w1) (evaluated D b w1))
   evaluated D (Converted kind a) w = then_do (evaluated D a w) (λ x w1. Done (converted kind x) w1)
-  evaluated D (Local i) w = Done (local_at w.frame.locals i) w
-  evaluated D (Assigned i a) w = then_do (evaluated D a w) (λ x w1. Done x (with_locals w1 (slice_set w1.frame.locals i x)))
+  evaluated D (Read i) w = Done (held_at i w) w
+  evaluated D (Assigned i a) w = then_do (evaluated D a w) (λ x w1. Done x (holds i x w1))
   evaluated D (Updated moment i operator computed kept a) w =
-      let old = local_at w.frame.locals i in
-      then_do (evaluated D a w) (λ x w1. then_do (updated operator computed kept old x w1)
-      (λ new w2. Done (given_by moment old new) (with_locals w2 (slice_set w2.frame.locals i new))))
+      let old = held_at i w in
+      then_do (evaluated D a w) (λ x w1. then_do (updated operator computed kept old x w1) (λ new w2. Done (given_by moment old new) (holds i new w2)))
   evaluated D (Invoked f arguments) w = then_do (all_evaluated D arguments w) (λ given w1. D.call f 0 given w1)
   evaluated D (Sent a selector arguments) w =
       then_do (evaluated D a w) (λ self w1. then_do (all_evaluated D arguments w1) (λ given w2. dispatched D (finds D (class_at self) selector given) self given w2))
@@ -336,4 +345,4 @@ most_levels = 2000
 
 -- the meaning of a program on an input, with a bound on the turns of each loop: main's value, as an int
 abbrev pub mean : Program → List ℕ → (bound : ℕ) → Outcome ℤ
-mean P input bound = then_do ((level P bound most_levels).call P.main 0 [] (first_world input)) (λ v w. Done (converted k.Int v) w)
+mean P input bound = then_do ((level P bound most_levels).call P.main 0 [] (first_world P.globals input)) (λ v w. Done (converted k.Int v) w)

@@ -5,6 +5,8 @@ use Rattle.arc_ast.specs.declared.tree.Moment.{Moment}
 use Rattle.arc_ast.specs.declared.tree.UnaryOperator.{UnaryOperator}
 use Rattle.arc_ast.specs.declared.tree.BinaryOperator.{BinaryOperator}
 use Rattle.arc_spec.specs.Classes.{Class}
+pub use Rattle.arc_spec.specs.declared.location.Location.{Location}
+pub use Rattle.arc_spec.specs.declared.location.Location.TheVariants.{Local, Global}
 
 -- what a format prints in turn (C99, section 7.19.6.1): bytes as they are, the next value as a decimal number, or its low 8 bits as a byte
 pub data Piece : Type 0 where
@@ -13,7 +15,7 @@ pub data Piece : Type 0 where
   Character : Piece
 
 mutual
-  -- An expression that gives a number; an operator has the kind in which it computes. A variable goes by its number in its function; functions, classes and
+  -- An expression that gives a number; an operator has the kind in which it computes. A variable goes by its number in its function, or in the program; functions, classes and
   -- selectors go by their numbers in the program, and a class is a value by its number. A message to `super` has the class from which its method is looked up.
   -- A field goes by its number in the objects that have it, with the class whose own field it is. An update has the kind in which it computes, and that of what it
   -- updates.
@@ -25,9 +27,9 @@ mutual
     Combined : BinaryOperator → Kind → Value → Value → Value
     Choice : Value → Value → Value → Value
     Converted : Kind → Value → Value
-    Local : ℕ → Value
-    Assigned : ℕ → Value → Value
-    Updated : Moment → ℕ → BinaryOperator → (computed kept : Kind) → Value → Value
+    Read : Location → Value
+    Assigned : Location → Value → Value
+    Updated : Moment → Location → BinaryOperator → (computed kept : Kind) → Value → Value
     Invoked : ℕ → Values → Value
     Sent : Value → (selector : ℕ) → Values → Value
     SentSuper : (from selector : ℕ) → Values → Value
@@ -79,8 +81,9 @@ pub record Function : Type 0 where
   pub names : ℕ
   pub body : Commands
 
--- the functions of a program, which of them is main, and the classes, whose methods run functions
+-- the functions of a program, which of them is main, what the variables of the whole program hold first, and the classes, whose methods run functions
 pub record Program : Type 0 where
   pub functions : List Function
   pub main : ℕ
+  pub globals : List ℤ
   pub classes : List Class

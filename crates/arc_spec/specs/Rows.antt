@@ -9,7 +9,7 @@ use Rattle.arc_spec.specs.declared.event.Event.{Event}
 use Rattle.arc_spec.specs.declared.event.Event.TheVariants.{Byte, Dealloc}
 use Rattle.arc_spec.specs.Classes.{Class}
 use Rattle.arc_spec.specs.declared.class.Method.{Method}
-use Rattle.arc_spec.specs.Resolved.{Value, Number, ReadByte, Print, Applied, Combined, Local, Sent, SentSuper, SentTo, Field, FieldAssigned, Reference, Nil, Itself, Variable, Stored, Made, Program, no_values, and_value, Command, Commands, Evaluate, EvaluateReference, Begin, Return, Function, no_commands, and_command, Bytes, Decimal, Character}
+use Rattle.arc_spec.specs.Resolved.{Value, Number, ReadByte, Print, Applied, Combined, Local, Read, Sent, SentSuper, SentTo, Field, FieldAssigned, Reference, Nil, Itself, Variable, Stored, Made, Program, no_values, and_value, Command, Commands, Evaluate, EvaluateReference, Begin, Return, Function, no_commands, and_command, Bytes, Decimal, Character}
 use Rattle.arc_spec.specs.Correct.{Stop, meaning_seen}
 use Rattle.arc_spec.specs.Meaning.{mean}
 
@@ -23,7 +23,7 @@ Shows P input bytes stop = HasTrace P input (map Byte bytes) stop
 
 -- the same of a program that is this body of main alone
 abbrev pub Prints : Commands → (input bytes : List ℕ) → Stop → Type 0
-Prints body = Shows (record { functions = record { slots = 0; names = 0; body = body } ∷ []; main = 0; classes = [] })
+Prints body = Shows (record { functions = record { slots = 0; names = 0; body = body } ∷ []; main = 0; globals = []; classes = [] })
 
 -- { printf("42"); return 7; }
 abbrev pub forty_two : Commands
@@ -84,9 +84,10 @@ class_methods = record {
         (and_value (Sent (class_value 1) 1 no_values) (and_value (Sent (class_value 2) 1 no_values) no_values))))
         (and_command (Evaluate (Sent (class_value 2) 2 no_values)) no_commands);
   }
-      ∷ returns (Number (pos 1)) ∷ returns (Combined Multiply Int (Sent (Local 0) 0 no_values) (Number (pos 10)))
+      ∷ returns (Number (pos 1)) ∷ returns (Combined Multiply Int (Sent (Read (Local 0)) 0 no_values) (Number (pos 10)))
       ∷ returns (Combined Add Int (SentSuper 1 0 no_values) (Number (pos 1))) ∷ [];
   main = 0;
+  globals = [];
   classes = plain_class None [] ∷ plain_class (Some 0) (method signs.Class 0 1 ∷ method signs.Class 1 2 ∷ []) ∷ plain_class (Some 1) (method signs.Class 0 3 ∷ []) ∷ [];
 }
 
@@ -113,6 +114,7 @@ with_class_a body = record {
       ∷ record { slots = 0; names = 0; body = and_command (Return (Some own_field)) no_commands }
       ∷ record { slots = 0; names = 0; body = and_command (Evaluate (Print (Bytes (codes "d") ∷ Decimal ∷ []) (and_value own_field no_values))) no_commands } ∷ [];
   main = 0;
+  globals = [];
   classes = plain_class None [] ∷ record { superclass = Some 0; methods = method signs.Instance 0 1 ∷ []; dealloc = Some 2; fields = 1 } ∷ plain_class (Some 0) [] ∷ [];
 }
 

@@ -14,10 +14,12 @@ pub record Frame : Type 0 where
   pub strong : List ℕ
   pub temporaries : List ℕ
 
--- the bytes of the input that are left, the events so far, the objects, the running function, and the strong places of those that wait for it
+-- the bytes of the input that are left, the events so far, the numbers that the variables of the whole program hold, the objects, the running function, and the
+-- strong places of those that wait for it
 pub record World : Type 0 where
   pub input : List ℕ
   pub trace : List Event
+  pub globals : List ℤ
   pub objects : List Object
   pub frame : Frame
   pub waiting : List ℕ
@@ -25,8 +27,8 @@ pub record World : Type 0 where
 abbrev pub first_frame : Frame
 first_frame = record { self = 0; locals = []; strong = []; temporaries = [] }
 
-abbrev pub first_world : List ℕ → World
-first_world input = record { input = input; trace = []; objects = []; frame = first_frame; waiting = [] }
+abbrev pub first_world : (globals : List ℤ) → List ℕ → World
+first_world globals input = record { input = input; trace = []; globals = globals; objects = []; frame = first_frame; waiting = [] }
 
 -- the strong places: what each of them names
 abbrev pub frame_places : Frame → List ℕ
@@ -40,6 +42,9 @@ with_objects w objects = record w { objects = objects }
 
 abbrev pub with_locals : World → List ℤ → World
 with_locals w locals = record w { frame = record w.frame { locals = locals } }
+
+abbrev pub with_globals : World → List ℤ → World
+with_globals w globals = record w { globals = globals }
 
 abbrev pub with_strong : World → List ℕ → World
 with_strong w strong = record w { frame = record w.frame { strong = strong } }

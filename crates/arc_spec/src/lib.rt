@@ -4,4 +4,5 @@
 pub mod class;
 pub mod event;
 pub mod law;
+pub mod location;
 pub mod number;

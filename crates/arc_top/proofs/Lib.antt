@@ -2,3 +2,4 @@ pub mod Trees
 pub mod Rests
 pub mod Typed
 pub mod Fields
+pub mod Globals

@@ -1,3 +1,4 @@
 pub mod Signatures
 pub mod Fields
 pub mod Tops
+pub mod Globals

@@ -1,11 +1,10 @@
 -- What functions promise that read a part of a function's or a method's signature.
 use Rattle.std.specs.Prelude.{ℕ, List, ◌++◌, Bool, true, false, bytes_eq}
-use Rattle.arc_lex.specs.declared.token.Mark.TheVariants as m
 use Rattle.arc_ast.specs.Tree.{ParametersTree}
 use Rattle.arc_form.specs.Kinds.{main_bytes, name}
-use Rattle.arc_form.specs.Form.{map, ◌⨾◌, many}
+use Rattle.arc_form.specs.Form.{map, many}
 use Rattle.arc_form.specs.Reader.{Reader, ◌>>=◌, ret}
-use Rattle.arc_grammar.specs.Grammar.{Part, Typed, the, reads, parameters, parameters_of_main, next_typed, selector_of, seconds}
+use Rattle.arc_grammar.specs.Grammar.{Part, Typed, reads, enclosed, parameters, parameters_of_main, next_typed, selector_of, seconds}
 
 -- what reads a rest that makes a value of one that is there
 abbrev pub reads_after : {A B : Type 0} → Part (A → B) → A → Reader B
@@ -21,8 +20,8 @@ abbrev pub parameters_to : List ℕ → Part ParametersTree
 parameters_to called = parameters_if_main (bytes_eq called main_bytes)
 
 -- the same in parentheses
-unfoldable pub enclosed : List ℕ → Part ParametersTree
-enclosed called = map (λ (start, (ps, end)). ps) (the m.OpenParen ⨾ parameters_to called ⨾ the m.CloseParen)
+unfoldable pub enclosed_to : List ℕ → Part ParametersTree
+enclosed_to called = enclosed (parameters_to called)
 
 -- further parts of a selector with their parameters, after those that are there (OPL, "Defining a Class")
 unfoldable pub more_typed : Part (Typed → Typed)

@@ -6,6 +6,7 @@ ghost use Rattle.arc_form.specs.Kinds.{main_bytes};
 ghost use Rattle.arc_form.specs.Reader.{Gives};
 ghost use Rattle.arc_grammar.specs.Grammar.{reads};
 ghost use Rattle.arc_grammar.specs.Grammar as grammar;
+ghost use Rattle.arc_top.specs.Signatures.{reads_after};
 ghost use Rattle.arc_top.specs.Signatures as signatures;
 
 use crate::parameter::{parameters, parameters_of_main};
@@ -17,40 +18,26 @@ use arc_lex::token::{Mark, Token, Word};
 use arc_stmt::stmt::items;
 use std::alloc::Global;
 
-/// A declaration or a definition of a function.
-#[tactic(auto, unfolding(arc_grammar::specs::Grammar::function))]
-pub fn function<'a>(alloc: Global, tokens: &'a [Token]) -> Read<'a, Function>
-    ensures gives { Gives (λ x. (function_tree x.0, toks x.1.now)) result (reads grammar.function (toks tokens.now)) }
+/// A declaration or a definition of a function, but for `static` and the type of its result, which is given.
+#[tactic(auto, using(crate::proofs::Rests::read_function))]
+pub fn function<'a>(alloc: Global, written: ResultType, tokens: &'a [Token]) -> Read<'a, Function>
+    ensures gives { Gives (λ x. (function_tree x.0, toks x.1.now)) result (reads_after grammar.function (result_tree written) (toks tokens.now)) }
     ensures shorter { IfOk result (λ x. length x.1.now < length tokens.now) }
 {
-    let (_, rest) = perhaps_static(tokens)?;
-    let (result, rest) = result_type(rest)?;
-    let (((at, called), parameters), rest) = signature(alloc, rest)?;
+    let ((at, called), rest) = name(tokens)?;
+    let (parameters, rest) = enclosed(alloc, called, rest)?;
     let name = Vec::from_slice(alloc, called)?;
     let (body, rest) = function_body(alloc, rest)?;
     Ok((
         Function {
             at,
             name,
-            result,
+            result: written,
             parameters,
             body,
         },
         rest,
     ))
-}
-
-/// Perhaps `static`.
-#[tactic(auto, unfolding(arc_grammar::specs::Grammar::perhaps_static))]
-fn perhaps_static(tokens: &[Token]) -> Read<'_, ()>
-    ensures gives { Gives (λ x. (x.0, toks x.1.now)) result (reads grammar.perhaps_static (toks tokens.now)) }
-    ensures shorter { IfOk result (λ x. length x.1.now ≤ length tokens.now) }
-{
-    if !sees_word(Word::Static, tokens) {
-        return Ok(((), tokens));
-    }
-    let (_, rest) = keyword(Word::Static, tokens)?;
-    Ok(((), rest))
 }
 
 /// `void`, or a type of numbers.
@@ -67,24 +54,10 @@ pub fn result_type(tokens: &[Token]) -> Read<'_, ResultType>
     Ok((ResultType::Value(written), rest))
 }
 
-/// A function's name with its place, and what the function takes.
-type Signature<'a> = ((usize, &'a [u8]), Parameters);
-
-/// A function's name, and in parentheses what the function takes.
-#[tactic(auto, using(crate::proofs::Rests::read_signature))]
-fn signature<'a>(alloc: Global, tokens: &'a [Token]) -> Read<'a, Signature<'a>>
-    ensures gives { Gives (λ x. (((x.0.0.0, x.0.0.1.now), parameters_tree x.0.1), toks x.1.now)) result (reads grammar.signature (toks tokens.now)) }
-    ensures shorter { IfOk result (λ x. length x.1.now < length tokens.now) }
-{
-    let ((at, called), rest) = name(tokens)?;
-    let (parameters, rest) = enclosed(alloc, called, rest)?;
-    Ok((((at, called), parameters), rest))
-}
-
 /// In parentheses what a function of this name takes.
-#[tactic(auto, unfolding(crate::specs::Signatures::enclosed))]
+#[tactic(auto, unfolding(crate::specs::Signatures::enclosed_to, arc_grammar::specs::Grammar::enclosed))]
 fn enclosed<'a>(alloc: Global, called: &[u8], tokens: &'a [Token]) -> Read<'a, Parameters>
-    ensures gives { Gives (λ x. (parameters_tree x.0, toks x.1.now)) result (reads (signatures.enclosed called.now) (toks tokens.now)) }
+    ensures gives { Gives (λ x. (parameters_tree x.0, toks x.1.now)) result (reads (signatures.enclosed_to called.now) (toks tokens.now)) }
     ensures shorter { IfOk result (λ x. length x.1.now < length tokens.now) }
 {
     let (_, rest) = expect(Mark::OpenParen, tokens)?;

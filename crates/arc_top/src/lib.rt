@@ -1,9 +1,10 @@
-//! Reads what stands outside of all else: functions and classes.
+//! Reads what stands outside of all else: functions, global variables and classes.
 #![tactic(auto)]
 
 mod class;
 mod field;
 mod function;
+mod global;
 mod method;
 mod name;
 mod parameter;

@@ -1,18 +1,24 @@
 //! Reads what stands outside of all else.
-ghost use Rattle.std.specs.Prelude.{◌≡◌, ◌<◌, length, IfOk};
+ghost use Rattle.std.specs.Prelude.{◌≡◌, ◌<◌, ◌≤◌, length, IfOk};
 ghost use Rattle.arc_lex.specs.Tokens.{toks};
-ghost use Rattle.arc_form.specs.Reader.{Gives, sees};
+ghost use Rattle.arc_ast.specs.Tree.{type_tree};
+ghost use Rattle.arc_lex.specs.declared.token.Mark.TheVariants as m;
+ghost use Rattle.arc_form.specs.Kinds as kinds;
+ghost use Rattle.arc_form.specs.Reader.{Gives, sees, sees_two};
 ghost use Rattle.arc_grammar.specs.Grammar.{reads};
 ghost use Rattle.arc_grammar.specs.Grammar as grammar;
+ghost use Rattle.arc_top.specs.Signatures.{reads_after};
 ghost use Rattle.arc_top.specs.Tops.{top_tree};
 
 use crate::class::{class_names, implementation, interface};
 use crate::function::function;
-use arc_ast::tree::{Function, Implementation, Interface};
-use arc_expr::type_name::begins_number_type;
+use crate::global::globals;
+use arc_ast::tree;
+use arc_ast::tree::{Function, Implementation, Interface, ResultType, TypeName};
+use arc_expr::type_name::{begins_number_type, number_type};
 use arc_form::fail::Read;
-use arc_form::step::{sees_at, sees_word};
-use arc_lex::token::{AtWord, Token, Word};
+use arc_form::step::{keyword, sees_at, sees_mark, sees_name, sees_word};
+use arc_lex::token::{AtWord, Mark, Token, Word};
 use std::alloc::Global;
 
 /// What stands outside of all else. The names that `@class` declares aren't kept.
@@ -20,6 +26,7 @@ use std::alloc::Global;
 pub enum Top {
     Names,
     Function(Function),
+    Globals(Vec<tree::Global>),
     Interface(Interface),
     Implementation(Implementation),
 }
@@ -37,7 +44,7 @@ pub fn begins_top(tokens: &[Token]) -> bool
         || begins_number_type(tokens)
 }
 
-/// Names of classes, an interface, an implementation, or a function.
+/// Names of classes, an interface, an implementation, a function, or variables of the whole program.
 #[tactic(auto, unfolding(arc_grammar::specs::Grammar::top))]
 pub fn any_top<'a>(alloc: Global, tokens: &'a [Token]) -> Read<'a, Top>
     ensures gives { Gives (λ x. (top_tree x.0, toks x.1.now)) result (reads grammar.top (toks tokens.now)) }
@@ -55,6 +62,77 @@ pub fn any_top<'a>(alloc: Global, tokens: &'a [Token]) -> Read<'a, Top>
         let (implementation, rest) = implementation(alloc, tokens)?;
         return Ok((Top::Implementation(implementation), rest));
     }
-    let (function, rest) = function(alloc, tokens)?;
+    external(alloc, tokens)
+}
+
+/// Perhaps `static`, and a function or variables.
+#[tactic(auto, unfolding(arc_grammar::specs::Grammar::external))]
+fn external<'a>(alloc: Global, tokens: &'a [Token]) -> Read<'a, Top>
+    ensures gives { Gives (λ x. (top_tree x.0, toks x.1.now)) result (reads grammar.external (toks tokens.now)) }
+    ensures shorter { IfOk result (λ x. length x.1.now < length tokens.now) }
+{
+    let (_, rest) = perhaps_static(tokens)?;
+    if sees_word(Word::Void, rest) {
+        of_void(alloc, rest)
+    } else {
+        of_numbers(alloc, rest)
+    }
+}
+
+/// Perhaps `static`.
+#[tactic(auto, unfolding(arc_grammar::specs::Grammar::perhaps_static))]
+fn perhaps_static(tokens: &[Token]) -> Read<'_, ()>
+    ensures gives { Gives (λ x. (x.0, toks x.1.now)) result (reads grammar.perhaps_static (toks tokens.now)) }
+    ensures shorter { IfOk result (λ x. length x.1.now ≤ length tokens.now) }
+{
+    if !sees_word(Word::Static, tokens) {
+        return Ok(((), tokens));
+    }
+    let (_, rest) = keyword(Word::Static, tokens)?;
+    Ok(((), rest))
+}
+
+/// `void` and a function.
+#[tactic(auto, unfolding(arc_grammar::specs::Grammar::of_void))]
+fn of_void<'a>(alloc: Global, tokens: &'a [Token]) -> Read<'a, Top>
+    ensures gives { Gives (λ x. (top_tree x.0, toks x.1.now)) result (reads grammar.of_void (toks tokens.now)) }
+    ensures shorter { IfOk result (λ x. length x.1.now < length tokens.now) }
+{
+    let (_, rest) = keyword(Word::Void, tokens)?;
+    let (function, rest) = function(alloc, ResultType::Void, rest)?;
     Ok((Top::Function(function), rest))
+}
+
+/// A type of numbers, and a function or variables.
+#[tactic(auto, unfolding(arc_grammar::specs::Grammar::of_numbers))]
+fn of_numbers<'a>(alloc: Global, tokens: &'a [Token]) -> Read<'a, Top>
+    ensures gives { Gives (λ x. (top_tree x.0, toks x.1.now)) result (reads grammar.of_numbers (toks tokens.now)) }
+    ensures shorter { IfOk result (λ x. length x.1.now < length tokens.now) }
+{
+    let ((_, written), rest) = number_type(tokens)?;
+    typed_top(alloc, written, rest)
+}
+
+/// What is after a type of numbers: a function, where a name and `(` are ahead, or variables.
+#[tactic(auto, using(crate::proofs::Globals::read_typed))]
+fn typed_top<'a>(alloc: Global, written: TypeName, tokens: &'a [Token]) -> Read<'a, Top>
+    ensures gives { Gives (λ x. (top_tree x.0, toks x.1.now)) result (reads_after grammar.typed_top (type_tree written) (toks tokens.now)) }
+    ensures shorter { IfOk result (λ x. length x.1.now < length tokens.now) }
+{
+    if sees_function(tokens) {
+        let (function, rest) = function(alloc, ResultType::Value(written), tokens)?;
+        return Ok((Top::Function(function), rest));
+    }
+    let (all, rest) = globals(alloc, &written, tokens)?;
+    Ok((Top::Globals(all), rest))
+}
+
+/// Whether the tokens begin with a name and `(`.
+fn sees_function(tokens: &[Token]) -> bool
+    ensures { result ≡ sees_two kinds.name (kinds.mark m.OpenParen) (toks tokens.now) }
+{
+    match tokens.split_first() {
+        Some((_, rest)) => sees_name(tokens) && sees_mark(Mark::OpenParen, rest),
+        None => false,
+    }
 }

@@ -2,7 +2,7 @@
 use Rattle.std.specs.Prelude.{ℕ, List, [], ◌∷◌, Option, Some, None, option_map, if◌then◌else◌}
 use Rattle.std.specs.Str.{bytes_eq}
 use Rattle.arc_class.specs.declared.table.ClassTable.{ClassTable}
-use Rattle.arc_class.specs.Table.{function_in, parameters_in, passed_in, class_in, superclass_in, result_in_table, any_result_in, field_in_table, selector_in, number_of_class}
+use Rattle.arc_class.specs.Table.{function_in, global_in, parameters_in, passed_in, class_in, superclass_in, result_in_table, any_result_in, field_in_table, selector_in, number_of_class}
 use Rattle.arc_spec.specs.Classes.{classes_of, descends}
 use Rattle.arc_check.specs.declared.scope.Bound.{Bound}
 use Rattle.arc_check.specs.declared.scope.Local as declared
@@ -32,6 +32,7 @@ local_in (b ∷ others) name = later (local_at b name) (local_in others name)
 abbrev pub known_in : ClassTable → Known
 known_in table = record {
   function = function_in table;
+  global = global_in table;
   parameters = parameters_in table;
   passed = passed_in table;
   class = class_in table;

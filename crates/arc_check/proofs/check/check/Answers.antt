@@ -1,6 +1,7 @@
-use Rattle.std.proofs.Common.{refl, ap, ◌∙◌}
-use Rattle.arc_ast.specs.Tree.{unit_tree}
+use Rattle.std.proofs.Common.{refl, ap, ◌∙◌, map}
+use Rattle.arc_ast.specs.Tree.{unit_tree, global_trees}
 use Rattle.arc_spec.specs.Classes.{classes_of}
+use Rattle.arc_check.specs.Resolving.{first_number}
 use Rattle.arc_check.specs.Rules.{broken_unit}
 use Rattle.arc_check.proofs.Refusals.{unbroken, refused, resolved_is}
 use Rattle.arc_check.proofs.check.check.Goals as goal
@@ -10,8 +11,8 @@ returns-clause-unbroken c = unbroken (broken_unit (unit_tree c.args.unit.now)) c
 
 pub returns-clause-resolved : goal.returns-clause-resolved
 returns-clause-resolved c =
-    resolved_is (unit_tree c.args.unit.now) c.args.table.now (record { unit = c.args.unit; functions = c.in_ok-resolve_unit.field-0; main = c.args.table.now.main; classes = c.in_ok-copied.field-0 }) c.requires c.in_ok-resolve_unit.ensures refl
-    (c.in_ok-copied.ensures ∙ ap classes_of c.deref.ensures.value)
+    resolved_is (unit_tree c.args.unit.now) c.args.table.now (record { unit = c.args.unit; functions = c.in_ok-resolve_unit.field-0; main = c.args.table.now.main; globals = c.in_ok-first_numbers.field-0; classes = c.in_ok-copied.field-0 }) c.requires c.in_ok-resolve_unit.ensures refl
+    (c.in_ok-first_numbers.ensures ∙ ap (λ gs. map first_number (global_trees gs)) c.deref.ensures.value) (c.in_ok-copied.ensures ∙ ap classes_of c.deref-2.ensures.value)
 
 pub returns-in-Some-clause-refused : goal.returns-in-Some-clause-refused
 returns-in-Some-clause-refused c = refused (broken_unit (unit_tree c.args.unit.now)) c.in_ok-fault.field-0 c.in-Some.fault c.in_ok-fault.ensures c.in-Some.is

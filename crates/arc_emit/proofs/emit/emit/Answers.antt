@@ -28,4 +28,4 @@ returns-clause-refines c =
 pub returns-clause-steady : goal.returns-clause-steady
 returns-clause-steady c =
     let p = acting.program_of c.args.ir.now in
-    of_code (λ q. Steady (running.seen q)) p c.write_code.result c.write_code.ensures.code (steady (running.step (code_of p)) running.start)
+    of_code (λ q. Steady (running.seen q)) p c.write_code.result c.write_code.ensures.code (steady (running.step (code_of p)) (running.start (code_of p)))

@@ -40,6 +40,10 @@ pub returns-clause-second_body : goal.returns-clause-second_body
 unfolding reading
 returns-clause-second_body c = by.refused refused.second_body 21 30 refl refl
 
+pub returns-clause-second_global : goal.returns-clause-second_global
+unfolding reading
+returns-clause-second_global c = by.refused refused.second_global 21 11 refl refl
+
 pub returns-clause-unknown_superclass : goal.returns-clause-unknown_superclass
 unfolding reading
 returns-clause-unknown_superclass c = by.refused refused.unknown_superclass 22 15 refl refl

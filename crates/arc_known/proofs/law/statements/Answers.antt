@@ -21,6 +21,10 @@ pub returns-clause-loops : goal.returns-clause-loops
 unfolding reading
 returns-clause-loops c = known program.loops [] 5 (printed (codes "023")) (Ends (pos 35)) refl refl
 
+pub returns-clause-globals : goal.returns-clause-globals
+unfolding reading
+returns-clause-globals c = known program.globals [] 0 (printed (codes "40")) (Ends (pos 42)) refl refl
+
 pub returns-clause-deepest_blocks : goal.returns-clause-deepest_blocks
 unfolding reading
 returns-clause-deepest_blocks c = known program.deepest_blocks [] 0 [] (Ends (pos 0)) refl refl

@@ -2,6 +2,7 @@ use Rattle.std.proofs.Common.{◌≡◌, ℕ, suc, ◌+◌, List, [], ◌∷◌,
 use Rattle.std.proofs.lemmas.List.{drop_more, length-map}
 use Rattle.arc_ast.specs.declared.tree.Moment.{Moment}
 use Rattle.arc_ast.specs.declared.tree.Moment.TheVariants.{Before, After}
+use Rattle.arc_spec.specs.declared.location.Location.TheVariants.{Local}
 use Rattle.arc_spec.specs.Resolved as resolved
 use Rattle.arc_spec.specs.Resolved.{and_value}
 use Rattle.arc_check.specs.declared.checked.Value.{Value}
@@ -90,22 +91,22 @@ append_value-returns-in-Converted t c =
 
 pub append_value-append_assigned-requires : goal.append_value-append_assigned-requires
 append_value-append_assigned-requires t c =
-    (omega (arith, ap value_weight (is_assigned c.args.expression.now c.in-Assigned.index c.in-Assigned.operand c.deref-in-Assigned.result.now c.in-Assigned.is c.deref-in-Assigned.ensures), c.decreases), tt)
+    (omega (arith, ap value_weight (is_assigned c.args.expression.now c.in-Assigned.location c.in-Assigned.operand c.deref-in-Assigned.result.now c.in-Assigned.is c.deref-in-Assigned.ensures), c.decreases), tt)
 
 pub append_value-returns-in-Assigned : goal.append_value-returns-in-Assigned
 append_value-returns-in-Assigned t c =
     let f = c.args.frame in
     told (λ x. OnOk c.append_assigned.result (orders c.append_assigned.new.actions.items ≡ orders c.args.actions.now.items ++ value_orders (program_of c.args.program.now) f.slots f.names f.operands x)) c.args.expression.now _
-    (is_assigned c.args.expression.now c.in-Assigned.index c.in-Assigned.operand c.deref-in-Assigned.result.now c.in-Assigned.is c.deref-in-Assigned.ensures) c.append_assigned.ensures
+    (is_assigned c.args.expression.now c.in-Assigned.location c.in-Assigned.operand c.deref-in-Assigned.result.now c.in-Assigned.is c.deref-in-Assigned.ensures) c.append_assigned.ensures
 
 pub append_value-append_updated-requires : goal.append_value-append_updated-requires
-append_value-append_updated-requires t c = (omega (arith, ap value_weight (is_updated c.args.expression.now c.in-Updated.moment c.in-Updated.index c.in-Updated.operator c.in-Updated.computed c.in-Updated.kept c.in-Updated.operand c.deref-in-Updated.result.now c.in-Updated.is c.deref-in-Updated.ensures), c.decreases), tt)
+append_value-append_updated-requires t c = (omega (arith, ap value_weight (is_updated c.args.expression.now c.in-Updated.moment c.in-Updated.location c.in-Updated.operator c.in-Updated.computed c.in-Updated.kept c.in-Updated.operand c.deref-in-Updated.result.now c.in-Updated.is c.deref-in-Updated.ensures), c.decreases), tt)
 
 pub append_value-returns-in-Updated : goal.append_value-returns-in-Updated
 append_value-returns-in-Updated t c =
     let f = c.args.frame in
     told (λ x. OnOk c.append_updated.result (orders c.append_updated.new.actions.items ≡ orders c.args.actions.now.items ++ value_orders (program_of c.args.program.now) f.slots f.names f.operands x)) c.args.expression.now _
-    (is_updated c.args.expression.now c.in-Updated.moment c.in-Updated.index c.in-Updated.operator c.in-Updated.computed c.in-Updated.kept c.in-Updated.operand c.deref-in-Updated.result.now c.in-Updated.is c.deref-in-Updated.ensures) c.append_updated.ensures
+    (is_updated c.args.expression.now c.in-Updated.moment c.in-Updated.location c.in-Updated.operator c.in-Updated.computed c.in-Updated.kept c.in-Updated.operand c.deref-in-Updated.result.now c.in-Updated.is c.deref-in-Updated.ensures) c.append_updated.ensures
 
 pub append_value-append_field_updated-requires : goal.append_value-append_field_updated-requires
 append_value-append_field_updated-requires t c = (omega (arith, ap value_weight (is_field_updated c.args.expression.now c.in-FieldUpdated.moment c.in-FieldUpdated.object c.in-FieldUpdated.class c.in-FieldUpdated.index c.in-FieldUpdated.operator c.in-FieldUpdated.computed c.in-FieldUpdated.kept c.in-FieldUpdated.operand c.deref-in-FieldUpdated.result.now c.deref-in-FieldUpdated-2.result.now c.in-FieldUpdated.is c.deref-in-FieldUpdated.ensures c.deref-in-FieldUpdated-2.ensures), c.decreases), tt)
@@ -412,7 +413,7 @@ append_assigned-returns t c =
     let f = c.args.frame in
     let old = orders c.args.actions.now.items in
     let xs = value_orders P f.slots f.names f.operands (value c.args.operand.now) in
-    let last = set_orders f.slots f.operands c.args.index in
+    let last = set_orders f.slots f.operands c.args.location in
     rightly c.append_set.result (orders c.append_set.new.actions.items) _ _
     (ap (λ l. l ++ last) c.in_ok-append_value.ensures ∙ append_assoc old xs last)
     c.append_set.ensures
@@ -480,7 +481,7 @@ append_sent_super-returns t c =
     let next = c.in_ok-append_values.ensures ∙ ap (λ n. o1 ++ all_value_orders P f.slots f.names n (values these)) c.in_ok-operands.ensures in
     rightly c.append.result (orders c.append.new.actions.items) _ _
     (ap (λ n. o2 ++ SendSuper from selector n ∷ []) (sym (values_counted these))
-    ∙ behind_two old o1 o2 (get_orders f.slots f.operands 0) (all_value_orders P f.slots f.names (suc f.operands) (values these)) (SendSuper from selector (value_count (values these)) ∷ []) c.in_ok-append_get.ensures next)
+    ∙ behind_two old o1 o2 (get_orders f.slots f.operands (Local 0)) (all_value_orders P f.slots f.names (suc f.operands) (values these)) (SendSuper from selector (value_count (values these)) ∷ []) c.in_ok-append_get.ensures next)
     c.append.ensures
 
 pub append_sent_to-returns : goal.append_sent_to-returns
@@ -543,10 +544,10 @@ append_updated-returns t c =
     let f = c.args.frame in
     let u = c.args.update in
     let old = orders c.args.actions.now.items in
-    let first = get_orders f.slots f.operands c.args.index in
+    let first = get_orders f.slots f.operands c.args.location in
     let right : ℕ → List Order = λ n. value_orders P f.slots f.names (suc n) (value c.args.operand.now) in
     let new : List Order = Plain (Bin u.operator u.computed) ∷ Plain (Narrow u.kept) ∷ [] in
-    let store : ℕ → List Order = λ n. set_orders f.slots n c.args.index in
+    let store : ℕ → List Order = λ n. set_orders f.slots n c.args.location in
     let n = c.in_ok-operands.operands in
     rightly c.append_given.result (orders c.append_given.new.actions.items) _ _
     (behind_old old first (old_orders u.moment) (right n) new (store n) (given_orders u.moment) _ _ _ c.in_ok-append_get.ensures c.in_ok-append_update.ensures c.in_ok-append_set.ensures

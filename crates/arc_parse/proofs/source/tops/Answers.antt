@@ -13,7 +13,7 @@ use Rattle.arc_parse.proofs.source.tops.Goals as goal
 
 pub tops-init : goal.tops-init
 tops-init c =
-    let none = nothing_yet c.new.result.items c.new-2.result.items c.new-3.result.items c.new.ensures.items c.new-2.ensures.items c.new-3.ensures.items in
+    let none = nothing_yet c.new.result.items c.new-2.result.items c.new-3.result.items c.new-4.result.items c.new.ensures.items c.new-2.ensures.items c.new-3.ensures.items c.new-4.ensures.items in
     tops_start (toks c.args.tokens.now) ∙ ap (λ u. tops_on u (toks c.args.tokens.now)) (sym none)
 
 pub returns-in_err-one : goal.returns-in_err-one

@@ -6,5 +6,5 @@ use Rattle.arc_plain.proofs.interpret.interpret.Goals as goal
 
 pub returns : goal.returns
 returns c =
-    main_told (program_of c.args.program.now) c.args.bound most_levels c.args.program.now.main c.args.input.now c.call-left.result (world c.start-progress.result) (world c.call-left.new.progress) c.in_ok-stop.stop
-    c.start-progress.ensures c.call-left.ensures c.in_ok-stop.ensures
+    main_told (program_of c.args.program.now) c.args.bound most_levels c.args.program.now.main c.args.input.now c.call-left.result (world c.in_ok-progress.progress) (world c.call-left.new.progress) c.in_ok-stop.stop
+    c.in_ok-progress.ensures c.call-left.ensures c.in_ok-stop.ensures

@@ -16,7 +16,7 @@ use Rattle.arc_plain.proofs.Calls.{call_told, body_failed, drop_failed, nothing_
 use Rattle.arc_plain.proofs.Keeping.{level_steady}
 use Rattle.arc_check.proofs.Trees.{is_print, is_invoked, is_sent, is_sent_super, is_sent_to, is_sent_to_super, is_sequence}
 use Rattle.arc_plain.proofs.Turns.{value_told, message_told, command_told, values_step, test_failed, turns_step, turns_left, turn_failed, turns_after_step, turns_after_left, turn_after_failed, call_is, end_is, tells_through}
-use Rattle.arc_plain.proofs.Updates.{local_stored, field_stored, local_updated, field_updated}
+use Rattle.arc_plain.proofs.Updates.{variable_stored, field_stored, variable_updated, field_updated}
 use Rattle.arc_plain.proofs.Weights.{print_lighter, call_lighter, sent_lighter, super_lighter, sent_to_lighter, to_super_lighter, sequence_lighter, value_in, command_in, commands_weight, level_lighter, body_lighter}
 use Rattle.arc_plain.proofs.run.+running.Goals as goal
 
@@ -58,37 +58,37 @@ send-returns t c =
     (world c.args.progress.now) (world c.evaluate.new.progress) (world c.evaluate_all.new.progress) (world c.dispatch.new.progress)
     same c.deref.ensures.value c.class_at-from.ensures c.in_ok-itself.ensures c.in_ok-numbers.ensures c.dispatch.ensures
 
-pub update_local-returns-in_err-new : goal.update_local-returns-in_err-new
-update_local-returns-in_err-new t c =
+pub update_variable-returns-in_err-new : goal.update_variable-returns-in_err-new
+update_variable-returns-in_err-new t c =
     let D = deeper c.args.context.now in
     let u = c.args.update in
     let w = world c.args.progress.now in
     let between = world c.evaluate.new.progress in
-    let old = to_z w64 (of_z w64 c.local-old.result) in
+    let old = to_z w64 (of_z w64 c.held-old.result) in
     let right = to_z w64 (of_z w64 c.in_ok-right.right) in
-    let olds : old ≡ c.local-old.result = grind (arith, to_z-of_z) in
+    let olds : old ≡ c.held-old.result = grind (arith, to_z-of_z) in
     let rights : right ≡ c.in_ok-right.right = grind (arith, to_z-of_z) in
-    let meant = local_updated D u.moment u.operator u.computed u.kept c.args.slot (checked.value c.args.operand.now) c.local-old.result c.in_ok-right.right old right w between olds rights c.local-old.ensures c.in_ok-right.ensures in
+    let meant = variable_updated D u.moment u.operator u.computed u.kept c.args.location (checked.value c.args.operand.now) c.held-old.result c.in_ok-right.right old right w between olds rights c.held-old.ensures c.in_ok-right.ensures in
     let p = err_from_is_err_and c.from_residual-in_err-new.result c.from_residual-in_err-new.ensures.1 in
-    subst (λ r. Tells (λ n. n) r (evaluated D (Updated u.moment c.args.slot u.operator u.computed u.kept (checked.value c.args.operand.now)) w) between) (sym (p.1 ∙ ap Err p.2))
-    (tells_through c.in_err-new.field-0.0 (λ n. n) (λ n. n) between (local_stored D u.moment u.operator u.computed u.kept c.args.slot old) (updated u.operator u.computed u.kept old right between) _ meant (c.in_err-new.ensures between))
+    subst (λ r. Tells (λ n. n) r (evaluated D (Updated u.moment c.args.location u.operator u.computed u.kept (checked.value c.args.operand.now)) w) between) (sym (p.1 ∙ ap Err p.2))
+    (tells_through c.in_err-new.field-0.0 (λ n. n) (λ n. n) between (variable_stored D u.moment u.operator u.computed u.kept c.args.location old) (updated u.operator u.computed u.kept old right between) _ meant (c.in_err-new.ensures between))
 
-pub update_local-returns : goal.update_local-returns
-update_local-returns t c =
+pub update_variable-returns : goal.update_variable-returns
+update_variable-returns t c =
     let D = deeper c.args.context.now in
     let u = c.args.update in
     let w = world c.args.progress.now in
     let between = world c.evaluate.new.progress in
-    let old = to_z w64 (of_z w64 c.local-old.result) in
+    let old = to_z w64 (of_z w64 c.held-old.result) in
     let right = to_z w64 (of_z w64 c.in_ok-right.right) in
-    let olds : old ≡ c.local-old.result = grind (arith, to_z-of_z) in
+    let olds : old ≡ c.held-old.result = grind (arith, to_z-of_z) in
     let rights : right ≡ c.in_ok-right.right = grind (arith, to_z-of_z) in
-    let meant = local_updated D u.moment u.operator u.computed u.kept c.args.slot (checked.value c.args.operand.now) c.local-old.result c.in_ok-right.right old right w between olds rights c.local-old.ensures c.in_ok-right.ensures in
+    let meant = variable_updated D u.moment u.operator u.computed u.kept c.args.location (checked.value c.args.operand.now) c.held-old.result c.in_ok-right.right old right w between olds rights c.held-old.ensures c.in_ok-right.ensures in
     let new = to_z w64 (of_z w64 c.in_ok-new.new) in
     let news : new ≡ c.in_ok-new.new = grind (arith, to_z-of_z) in
     let given = to_z w64 (of_z w64 c.given_by.result) in
     let gives : given ≡ c.given_by.result = grind (arith, to_z-of_z) in
-    let stored = local_stored D u.moment u.operator u.computed u.kept c.args.slot old in
+    let stored = variable_stored D u.moment u.operator u.computed u.kept c.args.location old in
     meant
     ∙ ap (λ o. then_do o stored) (c.in_ok-new.ensures between)
     ∙ ap (λ n. stored n between) (sym news)

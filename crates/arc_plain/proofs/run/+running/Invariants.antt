@@ -47,8 +47,8 @@ decreases-invoke l = levels_left l.context.now + suc (values_weight (checked.val
 abbrev pub decreases-assign_field : goal.decreases-assign_field
 decreases-assign_field l = levels_left l.context.now + (1 + reference_weight (checked.reference l.object.now) + value_weight (checked.value l.operand.now))
 
-abbrev pub decreases-update_local : goal.decreases-update_local
-decreases-update_local l = levels_left l.context.now + (1 + value_weight (checked.value l.operand.now))
+abbrev pub decreases-update_variable : goal.decreases-update_variable
+decreases-update_variable l = levels_left l.context.now + (1 + value_weight (checked.value l.operand.now))
 
 abbrev pub decreases-update_field : goal.decreases-update_field
 decreases-update_field l = levels_left l.context.now + (1 + reference_weight (checked.reference l.object.now) + value_weight (checked.value l.operand.now))

@@ -14,6 +14,6 @@ loop-function-preserved c =
     let x = c.function-item.result in
     let within : k < length xs = subst (λ us. k < length us) c.deref-function-items.ensures.value c.loop-function-test.true in
     let same : x ≡ get_or xs k x = c.function-item.is ∙ ap (λ us. get_or us k x) c.deref-function-items.ensures.value in
-    let one : option_map told c.fault_if.result ≡ first (broken_if (clashes_with u.interfaces u.functions (function_tree x)) x.at 21) =
+    let one : option_map told c.fault_if.result ≡ first (broken_if (clashes_with u.interfaces u.globals u.functions (function_tree x)) x.at 21) =
     c.fault_if.ensures ∙ ap (λ b. first (broken_if b x.at 21)) c.clashes_with-clashes.ensures in
-    functions_turn u.interfaces u.functions xs k x _ _ _ _ within same one c.earlier-fault.ensures c.loop-function.invariant
+    functions_turn u.interfaces u.globals u.functions xs k x _ _ _ _ within same one c.earlier-fault.ensures c.loop-function.invariant

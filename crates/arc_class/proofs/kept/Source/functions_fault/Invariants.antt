@@ -9,4 +9,4 @@ use Rattle.arc_class.proofs.kept.Source.functions_fault.Given as goal
 abbrev pub invariant-loop-function : goal.invariant-loop-function
 invariant-loop-function l =
     let u = unit_tree l.self.unit.now in
-    first (clashing_functions u.interfaces u.functions u.functions) ≡ earlier_of (option_map told l.fault) (first (clashing_functions u.interfaces u.functions (function_trees (drop l.function-index l.self.unit.now.functions.items))))
+    first (clashing_functions u.interfaces u.globals u.functions u.functions) ≡ earlier_of (option_map told l.fault) (first (clashing_functions u.interfaces u.globals u.functions (function_trees (drop l.function-index l.self.unit.now.functions.items))))

@@ -44,6 +44,7 @@ returns-clause-table c =
     let table : ClassTable = record {
       functions = c.args.source.known;
       first_functions = c.args.source.functions;
+      globals = c.args.source.globals;
       main = c.args.main;
       names = c.args.source.names;
       entries = parts.entries;
@@ -63,6 +64,7 @@ returns-clause-table c =
     } in
     record {
       knows = c.requires.knows.knows;
+      globals = c.requires.knows.globals;
       parameters = λ name. ap (λ f. option_map_or listed_kinds f []) (c.requires.knows.first_functions name);
       passed = λ sign selector. first_passed (c.requires.knows.declared_heads sign selector) (c.requires.knows.defined_heads sign selector);
       main = c.requires.main;

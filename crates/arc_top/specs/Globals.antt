@@ -1,0 +1,21 @@
+-- What functions promise that add variables of the whole program to those that were read.
+use Rattle.std.specs.Prelude.{List, [], ◌∷◌, ◌++◌}
+use Rattle.arc_lex.specs.declared.token.Mark.TheVariants as m
+use Rattle.arc_ast.specs.Tree.{TypeTree, GlobalTree, Value}
+use Rattle.arc_form.specs.Kinds.{mark, name}
+use Rattle.arc_form.specs.Reader.{Reader, ◌>>=◌, ret, if_sees_two}
+use Rattle.arc_form.specs.Joining.{joining}
+use Rattle.arc_grammar.specs.Grammar.{TopTree, OfFunction, OfGlobals, reads, function, next_global, globals}
+use Rattle.arc_top.specs.Signatures.{reads_after}
+
+-- variables, and after them one of this type
+abbrev pub add_global : TypeTree → List GlobalTree → (TypeTree → GlobalTree) → List GlobalTree
+add_global type made make = made ++ make type ∷ []
+
+-- these variables and further ones of this type
+abbrev pub globals_on : TypeTree → List GlobalTree → Reader (List GlobalTree)
+globals_on type = joining (mark m.Comma) (reads next_global) (add_global type)
+
+-- a function whose result has this type, where a name and `(` are ahead, or variables of the type
+abbrev pub typed_on : TypeTree → Reader TopTree
+typed_on type = if_sees_two name (mark m.OpenParen) (reads_after function (Value type) >>= (λ f. ret (OfFunction f))) (reads_after globals type >>= (λ all. ret (OfGlobals all)))
