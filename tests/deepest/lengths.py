@@ -52,6 +52,8 @@ def top_cases(runner):
     case("declarations of functions", b"", lambda n: b"int %s_();" % known[n], MAIN, **END)
     case("declarations of one function", b"", b"int f();", MAIN, **END)
     case("declarations of main", b"", b"int main();", MAIN, **END)
+    case("global variables", b"", lambda n: b"int %s_;" % known[n], MAIN, **END)
+    case("global variables with a value", b"long a", lambda n: b",%s_=-9" % known[n], b";" + MAIN, **END)
     case("names behind @class", b"@class a", lambda n: b"," + known[n], b";" + MAIN, **END)
     case("@class", b"", b"@class a;", MAIN, **END)
     case("classes", b"", lambda n: b"@interface %s_:NSObject@end@implementation %s_@end" % (known[n], known[n]), MAIN, **END)
@@ -67,6 +69,10 @@ def top_cases(runner):
     # refused ones: the first broken rule by its place
     source, _ = filled(b"", b"int f(){}", MAIN)
     runner.case("1 MiB of one function", source, stop=Refused(21, 13))
+    source, _ = filled(b"", b"int g;", MAIN)
+    runner.case("1 MiB of one global variable", source, stop=Refused(21, 10))
+    source, _ = filled(b"int f(){} BOOL g", lambda n: b",%s_" % known[n], b",f;" + MAIN)
+    runner.case("1 MiB of global variables, and a function's name", source, stop=Refused(21, len(source.rstrip()) - len(MAIN) - 2))
     one = b"@interface A:NSObject@end "
     source, _ = filled(b"", one, b"@implementation A@end " + MAIN)
     runner.case("1 MiB of one interface", source, stop=Refused(21, len(one) + 11))
