@@ -15,7 +15,7 @@ use Rattle.arc_code.specs.declared.effect.Height.{Height}
 use Rattle.arc_code.specs.Effects.{on_numbers, of_names, operation_effect}
 use Rattle.arc_lower.specs.declared.frame.Turn.{Turn}
 use Rattle.arc_lower.specs.declared.frame.Scope.{Scope}
-use Rattle.arc_lower.specs.Lowered.{value_count, order_takes, Inside, Block, Idle, One, Clear, Then, Fork, Loop, Quit, Advance, Full, Assign, flat, old_block, given_block, below_new, update_block, value_block, reference_block, values_block, whole_block, whole_reference_block, begin_block, nothing_given, does_nothing, loop_block, command_block, commands_block, Surroundings, within_scopes, leaving, breaking, continuing}
+use Rattle.arc_lower.specs.Lowered.{value_count, order_takes, Inside, Block, Idle, One, Clear, Then, Fork, Loop, Quit, Advance, Full, Assign, flat, old_block, given_block, below_new, update_block, value_block, reference_block, values_block, whole_block, whole_reference_block, begin_block, unused, nothing_given, does_nothing, loop_block, command_block, commands_block, Surroundings, within_scopes, leaving, breaking, continuing}
 use Rattle.arc_lower.specs.Heights.{height, between, after_effect, walk, last_walk}
 use Rattle.arc_lower.specs.Lowered.{whole_orders, whole_reference_orders}
 use Rattle.arc_lower.proofs.Typing.{heights_same, Reaches, print_types, get_types, set_types, call_types, store_types, read_types, all_empty_type, drop_types, tested, Forks, BlockTypes}
@@ -190,7 +190,7 @@ module _ (P : Program) (slots names exit : ℕ) where
     command_types l b n t u (Sequence first count all) =
         let clear = clear_types l first count in
         (base, commands_type l (Then (Clear first count) b) (Then (Clear first count) n) (base, clear, t) (base, clear, u) all, clear)
-    command_types l b n t u (Evaluate a) = (test, test_types l a, (omega arith, less))
+    command_types l b n t u (Evaluate a) = (test, test_types l (unused a), (omega arith, less))
     command_types l b n t u (EvaluateReference a) = whole_reference_types P 0 0 slots names exit names (omega arith) l true a slots (omega arith)
     command_types l b n t u (Begin i a) = begin_types P 0 0 slots names exit names (omega arith) l true i a slots (omega arith)
     command_types l b n t u (resolved.Return None) = nothing_types l

@@ -340,6 +340,12 @@ whole_reference_block a = Full (reference_block 0 a) (One Forget)
 abbrev pub begin_block : ℕ → Reference → Block
 begin_block i a = Full (reference_block 0 a) (Then (Assign i) (One Forget))
 
+-- An expression that does the same, where nobody uses the number that it gives: an update gives the new number then, for which no copy of the old one is kept.
+abbrev pub unused : Value → Value
+unused (Updated moment i operator computed kept a) = Updated After i operator computed kept a
+unused (FieldUpdated moment a class index operator computed kept b) = FieldUpdated After a class index operator computed kept b
+unused a = a
+
 -- leaves a function with 0
 abbrev pub nothing_given : (exit : ℕ) → Block
 nothing_given exit = Then (One (Num (pos 0))) (Leave exit)
@@ -360,7 +366,7 @@ abbrev mutual
   pub command_block : (exit : ℕ) → (breaks continues : Block) → Command → Block
   command_block exit breaks continues (Sequence first count all) =
       Then (commands_block exit (Then (Clear first count) breaks) (Then (Clear first count) continues) all) (Clear first count)
-  command_block exit breaks continues (Evaluate a) = Then (whole_block a) (One Pop)
+  command_block exit breaks continues (Evaluate a) = Then (whole_block (unused a)) (One Pop)
   command_block exit breaks continues (EvaluateReference a) = whole_reference_block a
   command_block exit breaks continues (Begin i a) = begin_block i a
   command_block exit breaks continues (resolved.Return None) = nothing_given exit
