@@ -6,7 +6,7 @@ ghost use Rattle.arc_spec.specs.Resolved as resolved;
 ghost use Rattle.arc_lower.specs.Order.{order, orders};
 ghost use Rattle.arc_code.specs.declared.instr.Op.TheVariants.{Bin, Narrow};
 ghost use Rattle.arc_code.specs.declared.instr.Instr.TheVariants.{Plain};
-ghost use Rattle.arc_lower.specs.Lowered.{old_orders, value_orders, reference_orders, all_value_orders};
+ghost use Rattle.arc_lower.specs.Lowered.{old_orders, unused, value_orders, reference_orders, all_value_orders};
 
 use crate::call::append_call;
 use crate::frame::Frame;
@@ -15,6 +15,7 @@ use crate::place::{append_read, append_store};
 use crate::print::append_print;
 use crate::update::{Update, append_given, append_new, append_old, below_new};
 use crate::variable::{append_get, append_set, one_more};
+use arc_ast::tree::Moment;
 use arc_check::checked::{Checked, Piece, Reference, Value};
 use arc_code::instr::{Instr, Op};
 use arc_ir::action::{Action, Target};
@@ -127,6 +128,41 @@ pub(crate) fn append_value(
                 Instr::Plain(Op::IsObject),
             )
         }
+    }
+}
+
+/// Appends the actions of an expression whose number nobody uses: an update gives the new one.
+pub(crate) fn append_unused(
+    alloc: Global,
+    actions: &mut Vec<Action>,
+    program: &Checked,
+    frame: Frame,
+    expression: &Value,
+) -> Result<(), NoMemory>
+    ensures { OnOk result (orders actions.new.items ≡ orders actions.old.items ++ value_orders (program_of program.now) frame.slots frame.names frame.operands (unused (value expression.now))) }
+{
+    match expression {
+        Value::Updated(_, location, operator, computed, kept, operand) => {
+            let update = Update {
+                moment: Moment::After,
+                operator: *operator,
+                computed: *computed,
+                kept: *kept,
+            };
+            append_updated(alloc, actions, program, frame, *location, update, operand)
+        }
+        Value::FieldUpdated(_, object, class, index, operator, computed, kept, operand) => {
+            let update = Update {
+                moment: Moment::After,
+                operator: *operator,
+                computed: *computed,
+                kept: *kept,
+            };
+            append_field_updated(
+                alloc, actions, program, frame, object, *class, *index, update, operand,
+            )
+        }
+        _ => append_value(alloc, actions, program, frame, expression),
     }
 }
 
