@@ -23,6 +23,7 @@ mod Fitting
 mod Releasing
 mod Shaping
 mod Evaluating
+mod Known
 mod Unused
 mod Executing
 mod Quiet
