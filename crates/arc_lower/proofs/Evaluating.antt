@@ -15,7 +15,7 @@ use Rattle.arc_spec.specs.Number.{converted, combined, is_zero}
 use Rattle.arc_spec.specs.Meaning.{Deeper, dispatched, finds, sent_to, sent_from, formatted, byte_count, or_fault, held_at, holds, updated, given_by, in_object, field_read, field_set, assigned, evaluated, referred, all_evaluated}
 use Rattle.arc_code.specs.declared.instr.Op.TheVariants.{Narrow, SetField, Hold}
 use Rattle.arc_lower.specs.Known.{is_within, combined_kind, known_kind}
-use Rattle.arc_lower.proofs.Known.{IsOf, within_keeps, combined_good, known_good}
+use Rattle.arc_lower.proofs.Converting.{IsOf, within_keeps, combined_good, known_good}
 use Rattle.arc_lower.specs.Lowered.{Message, ToClass, ToSuperClass, ToObject, ToSuper, Block, Idle, One, Store, Format, Calls, Tells, Then, value_count, given_block, below_new, narrow_block, update_block, value_block, reference_block, values_block}
 use Rattle.arc_lower.proofs.Shaping.{Operands, push, name, pushed, Way, On, Lost, left_by, and_then, pushes, passes_by, told, block, after, chosen_by, same_depth, on_pushed, Holds, after_known}
 

@@ -23,7 +23,7 @@ mod Fitting
 mod Releasing
 mod Shaping
 mod Evaluating
-mod Known
+mod Converting
 mod Unused
 mod Executing
 mod Quiet

@@ -12,9 +12,9 @@ ghost use Rattle.arc_lower.specs.Lowered.{old_orders, narrow_orders, unused, val
 use crate::call::append_call;
 use crate::frame::Frame;
 use crate::jump::join;
+use crate::known::known_kind;
 use crate::place::{append_read, append_store};
 use crate::print::append_print;
-use crate::known::known_kind;
 use crate::update::{Update, append_given, append_narrow, append_new, append_old, below_new};
 use crate::variable::{append_get, append_set, one_more};
 use arc_ast::tree::{Kind, Moment};
