@@ -1,5 +1,5 @@
 -- The blocks of expressions mean what these mean.
-use Rattle.std.proofs.Common.{◌≡◌, ℕ, suc, ℤ, Bool, true, false, sym, if◌then◌else◌, List, ◌∷◌, length, Option, Some, None, slice_set, refl, ap, ◌∙◌}
+use Rattle.std.proofs.Common.{◌≡◌, ℕ, suc, ℤ, Bool, true, false, sym, if◌then◌else◌, List, ◌∷◌, length, Option, Some, None, refl, ap, ◌∙◌}
 use Rattle.arc_ast.specs.declared.tree.BinaryOperator.{BinaryOperator}
 use Rattle.arc_ast.specs.declared.tree.Kind.{Kind}
 use Rattle.arc_ast.specs.declared.tree.Moment.{Moment}

@@ -1,5 +1,5 @@
-use Rattle.std.proofs.Common.{◌≡◌, ◌++◌, ap, subst, ◌∙◌, sym, OnOk}
-use Rattle.arc_check.specs.Checked.{value, program_of}
+use Rattle.std.proofs.Common.{◌≡◌, ◌++◌, ap, subst, sym, OnOk}
+use Rattle.arc_check.specs.Checked.{program_of}
 use Rattle.arc_spec.specs.Resolved.{Value}
 use Rattle.arc_lower.specs.Order.{orders}
 use Rattle.arc_lower.specs.Lowered.{unused, value_orders}

@@ -6,7 +6,7 @@ use Rattle.arc_ir.specs.declared.action.Target.TheVariants.{Skip}
 use Rattle.arc_check.specs.Checked.{value, command, commands, program_of}
 use Rattle.arc_lower.specs.Order.{order, orders}
 use Rattle.arc_lower.specs.Lowered.{whole_orders, command_orders}
-use Rattle.arc_lower.specs.Surroundings.{surroundings, step_orders, step_begin, turn_orders_of, with_turn}
+use Rattle.arc_lower.specs.Surroundings.{surroundings}
 use Rattle.arc_check.proofs.Trees.{sequence_command}
 use Rattle.arc_lower.proofs.Patching.{patch_fork}
 use Rattle.arc_lower.proofs.Turning.{choice_written, repeat_written, repeat_after_written, step_written}
