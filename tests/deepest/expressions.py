@@ -284,7 +284,7 @@ def update_cases(runner):
     head, tail = b"int main(void) { int a; ", b"; }"
     for size in (MOST_TOKENS, MOST_TOKENS + 1):
         for name, tokens, at in (
-            ("++ before an operand", ["++"] * (size - 1) + ["a"], size - 3),
+            ("++ before an operand", ["++"] * (size - 1) + ["a"], 0),
             ("-- after an operand", ["a"] + ["--"] * (size - 1), 2),
         ):
             source, places = spelled(head, tokens, tail)
