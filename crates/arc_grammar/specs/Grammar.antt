@@ -180,9 +180,12 @@ number_type = choose (word w.Int) int_type other_type
 abbrev pub begins_number_type : Kinds
 begins_number_type = word w.Int ∪ begins_other_type
 
+unfoldable pub id_type : Part (ℕ × TypeTree)
+id_type = map (λ at. (at, Id)) (key w.Id)
+
 -- a type that names no class, with its place
 unfoldable pub plain_type : Part (ℕ × TypeTree)
-plain_type = choose (word w.Id) (map (λ at. (at, Id)) (key w.Id)) number_type
+plain_type = choose (word w.Id) id_type number_type
 
 abbrev pub begins_plain_type : Kinds
 begins_plain_type = word w.Id ∪ begins_number_type
@@ -197,6 +200,13 @@ value_type = choose name class_type plain_type
 
 abbrev pub begins_value_type : Kinds
 begins_value_type = name ∪ begins_plain_type
+
+-- any type of a value but `int`, with its place
+unfoldable pub other_value_type : Part (ℕ × TypeTree)
+other_value_type = choose name class_type (choose (word w.Id) id_type other_type)
+
+abbrev pub begins_other_value_type : Kinds
+begins_other_value_type = name ∪ word w.Id ∪ begins_other_type
 
 -- ---- expressions (C99, section 6.5)
 
@@ -607,9 +617,12 @@ second = map (λ (comma, make). make) (the m.Comma ⨾ choose (word w.Const ∪ 
 unfoldable pub some_of_main : Part ParametersTree
 some_of_main = map (λ (p, make). make p) (count ⨾ choose (mark m.Comma) second (give (λ p. Listed (p ∷ []))))
 
--- what begins otherwise is read as for any function, but no program begins with parameters of other types
+-- a first parameter of another type, with which no program begins, and further ones
+unfoldable pub others_of_main : Part ParametersTree
+others_of_main = map (λ ((type, n), others). Listed (record { at = n.0; type = type.1; name = n.1 } ∷ others)) ((other_value_type ⨾ called) ⨾ more_parameters)
+
 unfoldable pub parameters_of_main : Part ParametersTree
-parameters_of_main = choose (word w.Int) some_of_main parameters
+parameters_of_main = choose (word w.Void) void_parameters (choose (word w.Int) some_of_main (choose begins_other_value_type others_of_main (give (Listed []))))
 
 -- the block of a function or a method, whose statements are at depth 2
 unfoldable pub braces : Part StmtTrees

@@ -11,7 +11,9 @@ ghost use Rattle.arc_grammar.specs.Grammar.{reads};
 ghost use Rattle.arc_grammar.specs.Grammar as grammar;
 ghost use Rattle.arc_top.specs.Signatures.{reads_after};
 
-use crate::value_type::{begins_value_type, value_type};
+use crate::value_type::{
+    begins_other_value_type, begins_value_type, other_value_type, value_type,
+};
 use arc_ast::tree::{Parameter, Parameters, TypeName};
 use arc_form::fail::Read;
 use arc_form::step::{expect, keyword, name, sees_mark, sees_word};
@@ -39,10 +41,14 @@ pub fn parameters_of_main<'a>(alloc: Global, tokens: &'a [Token]) -> Read<'a, Pa
     ensures gives { Gives (λ x. (parameters_tree x.0, toks x.1.now)) result (reads grammar.parameters_of_main (toks tokens.now)) }
     ensures shorter { IfOk result (λ x. length x.1.now ≤ length tokens.now) }
 {
-    if sees_word(Word::Int, tokens) {
+    if sees_word(Word::Void, tokens) {
+        void_parameters(alloc, tokens)
+    } else if sees_word(Word::Int, tokens) {
         some_of_main(alloc, tokens)
+    } else if begins_other_value_type(tokens) {
+        others_of_main(alloc, tokens)
     } else {
-        parameters(alloc, tokens)
+        Ok((Parameters::Listed(Vec::new(alloc)), tokens))
     }
 }
 
@@ -146,6 +152,24 @@ fn some_of_main<'a>(alloc: Global, tokens: &'a [Token]) -> Read<'a, Parameters>
     }
     let mut all = Vec::new(alloc);
     all.push(first)?;
+    Ok((Parameters::Listed(all), rest))
+}
+
+/// Parameters of `main` of which the first is no `int`.
+#[tactic(auto, using(crate::proofs::Trees::parameters_is), unfolding(arc_grammar::specs::Grammar::others_of_main))]
+fn others_of_main<'a>(alloc: Global, tokens: &'a [Token]) -> Read<'a, Parameters>
+    ensures gives { Gives (λ x. (parameters_tree x.0, toks x.1.now)) result (reads grammar.others_of_main (toks tokens.now)) }
+    ensures shorter { IfOk result (λ x. length x.1.now < length tokens.now) }
+{
+    let ((_, type_name), rest) = other_value_type(alloc, tokens)?;
+    let ((at, called), rest) = name(rest)?;
+    let mut all = Vec::new(alloc);
+    all.push(Parameter {
+        at,
+        type_name,
+        name: Vec::from_slice(alloc, called)?,
+    })?;
+    let (all, rest) = more_parameters(alloc, all, rest)?;
     Ok((Parameters::Listed(all), rest))
 }
 
