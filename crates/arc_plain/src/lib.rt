@@ -4,10 +4,12 @@
 mod context;
 mod format;
 mod frame;
+mod given;
 mod halt;
 pub mod interpret;
 mod message;
 mod object;
+mod order;
 mod place;
 mod progress;
 mod run;

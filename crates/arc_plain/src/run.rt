@@ -4,21 +4,26 @@ ghost use Rattle.arc_spec.specs.Classes.{superclasses, ancestry};
 ghost use Rattle.arc_check.specs.Checked as checked;
 ghost use Rattle.arc_check.specs.Checked.{program_of};
 ghost use Rattle.arc_spec.specs.Resolved as resolved;
-ghost use Rattle.arc_spec.specs.Meaning.{evaluated, referred, all_evaluated, whole, executed, all_executed, turns, turns_after, called, given, dispatched, finds, sent_from, released, all_dropped, variables_dropped, function_at, dealloc_run, deallocs_run};
-ghost use Rattle.arc_plain.specs.Views.{world, Tells, printed, flow_of, step_of, test_of, turn_of, nothing_of, deeper};
+ghost use Rattle.arc_ast.specs.declared.tree.Sign.TheVariants.{Class};
+ghost use Rattle.arc_spec.specs.Objects.{object_at};
+ghost use Rattle.arc_spec.specs.Meaning.{evaluated, referred, received, sent, all_evaluated, emptied, fields_dropped, whole, executed, all_executed, turns, turns_after, called, given, dispatched, finds, sent_from, released, all_dropped, variables_dropped, function_at, dealloc_run, deallocs_run};
+ghost use Rattle.arc_plain.specs.Views.{world, given_of, target_of, Tells, printed, flow_of, step_of, test_of, turn_of, nothing_of, deeper};
 
 use crate::context::Context;
 use crate::format::{count, format};
 use crate::halt::Halt;
-use crate::message::{class_at, difference, find_method, is_zero, with_receiver};
+use crate::given::{Given, nothing, with_receiver};
+use crate::message::{Target, class_at, difference, find_method, is_zero};
 use crate::object::{
-    begin_end, class_of, dealloc_from, finish_end, is_live, make, read_field, set_field,
+    begin_emptying, begin_end, class_of, clear_field, dealloc_from, finish_end, is_live, make,
+    read_field, read_object_field, replace_object_field, set_field,
 };
+use crate::order::field_order;
 use crate::place::{clear, drop_last, is_named, name, pop_frame, push_frame, store, take};
 use crate::progress::{Progress, assign, held, local, print, read};
 use crate::update::{Update, given_by, renew};
 use arc_ast::tree::{BinaryOperator, Kind, Sign};
-use arc_check::checked::{Command, Piece, Reference, Value};
+use arc_check::checked::{Argument, Command, Piece, Receiver, Reference, Value};
 use arc_spec::event::Fault;
 use arc_spec::location::Location;
 use arc_spec::number::{apply, combine, convert};
@@ -88,15 +93,6 @@ fn evaluate(
         Value::Sent(receiver, selector, arguments) => {
             send(alloc, context, progress, receiver, *selector, arguments)
         }
-        Value::SentSuper(from, selector, arguments) => {
-            send_super(alloc, context, progress, *from, *selector, arguments)
-        }
-        Value::SentTo(receiver, selector, arguments) => {
-            send_to(alloc, context, progress, receiver, *selector, arguments)
-        }
-        Value::SentToSuper(from, selector, arguments) => {
-            send_to_super(alloc, context, progress, *from, *selector, arguments)
-        }
         Value::Field(object, class, index) => {
             let number = refer(alloc, context, progress, object)?;
             read_field(context, progress, number, *class, *index)
@@ -130,12 +126,12 @@ fn evaluate_print(
     context: &Context,
     progress: &mut Progress,
     pieces: &[Piece],
-    arguments: &[Value],
+    arguments: &[Argument],
 ) -> Result<i64, Halt>
-    ensures { Tells (λ n. n) result (evaluated (deeper context.now) (resolved.Print (checked.pieces pieces.now) (checked.values arguments.now)) (world progress.old)) (world progress.new) }
+    ensures { Tells (λ n. n) result (evaluated (deeper context.now) (resolved.Print (checked.pieces pieces.now) (checked.arguments arguments.now)) (world progress.old)) (world progress.new) }
 {
-    let values = evaluate_all(alloc, context, progress, arguments)?;
-    print_format(alloc, progress, pieces, &values)
+    let given = evaluate_all(alloc, context, progress, arguments)?;
+    print_format(alloc, progress, pieces, &given.numbers)
 }
 
 /// What an operator gives for two expressions, of which the left one is evaluated first.
@@ -185,12 +181,12 @@ fn invoke(
     context: &Context,
     progress: &mut Progress,
     function: usize,
-    arguments: &[Value],
+    arguments: &[Argument],
 ) -> Result<i64, Halt>
-    ensures { Tells (λ n. n) result (evaluated (deeper context.now) (resolved.Invoked function (checked.values arguments.now)) (world progress.old)) (world progress.new) }
+    ensures { Tells (λ n. n) result (evaluated (deeper context.now) (resolved.Invoked function (checked.arguments arguments.now)) (world progress.old)) (world progress.new) }
 {
-    let values = evaluate_all(alloc, context, progress, arguments)?;
-    call(alloc, context, progress, function, 0, &values)
+    let given = evaluate_all(alloc, context, progress, arguments)?;
+    call(alloc, context, progress, function, 0, &given)
 }
 
 /// Gives a field of the object that an expression gives a number; the object is evaluated first.
@@ -266,8 +262,8 @@ fn refer(
             let itself = progress.frame.itself;
             take(progress, itself)
         }
-        Reference::Variable(slot) => {
-            let object = name(progress, *slot);
+        Reference::Variable(location) => {
+            let object = name(progress, *location);
             take(progress, object)
         }
         Reference::Chosen(test, first, second) => {
@@ -277,11 +273,18 @@ fn refer(
                 refer(alloc, context, progress, first)
             }
         }
-        Reference::Stored(slot, operand) => {
+        Reference::Stored(location, operand) => {
             let object = refer(alloc, context, progress, operand)?;
-            let replaced = store(progress, *slot, object);
+            let replaced = store(progress, *location, object);
             release(alloc, context, progress, replaced)?;
             take(progress, object)
+        }
+        Reference::ObjectField(object, class, index) => {
+            let number = refer(alloc, context, progress, object)?;
+            read_object_field(context, progress, number, *class, *index)
+        }
+        Reference::ObjectFieldStored(object, class, index, operand) => {
+            store_field(alloc, context, progress, object, *class, *index, operand)
         }
         Reference::Made(operand) => {
             let number = evaluate(alloc, context, progress, operand)?;
@@ -294,22 +297,51 @@ fn refer(
     }
 }
 
-/// The numbers that the expressions give, from the first one on.
+/// A field of the object that an expression gives names what another one gives; the object is evaluated first. What it
+/// named before is dropped, and a temporary takes what it names now.
+#[cycle(running)]
+fn store_field(
+    alloc: Global,
+    context: &Context,
+    progress: &mut Progress,
+    object: &Reference,
+    class: usize,
+    index: usize,
+    operand: &Reference,
+) -> Result<usize, Halt>
+    ensures { Tells (λ n. n) result (referred (deeper context.now) (resolved.ObjectFieldStored (checked.reference object.now) class index (checked.reference operand.now)) (world progress.old)) (world progress.new) }
+{
+    let number = refer(alloc, context, progress, object)?;
+    let named = refer(alloc, context, progress, operand)?;
+    let replaced = replace_object_field(context, progress, number, class, index, named)?;
+    release(alloc, context, progress, replaced)?;
+    take(progress, named)
+}
+
+/// What the expressions give, from the first one on.
 #[cycle(running)]
 fn evaluate_all(
     alloc: Global,
     context: &Context,
     progress: &mut Progress,
-    values: &[Value],
-) -> Result<Vec<i64>, Halt>
-    ensures { Tells (λ v. v.items) result (all_evaluated (deeper context.now) (checked.values values.now) (world progress.old)) (world progress.new) }
+    arguments: &[Argument],
+) -> Result<Given, Halt>
+    ensures { Tells given_of result (all_evaluated (deeper context.now) (checked.arguments arguments.now) (world progress.old)) (world progress.new) }
 {
-    let mut numbers = Vec::new(alloc);
-    for value in values {
-        let number = evaluate(alloc, context, progress, value)?;
-        numbers.push(number)?;
+    let mut given = nothing(alloc);
+    for argument in arguments {
+        match argument {
+            Argument::Number(value) => {
+                let number = evaluate(alloc, context, progress, value)?;
+                given.numbers.push(number)?;
+            }
+            Argument::Object(reference) => {
+                let object = refer(alloc, context, progress, reference)?;
+                given.objects.push(object)?;
+            }
+        }
     }
-    Ok(numbers)
+    Ok(given)
 }
 
 /// Prints what the format gives, and counts its bytes.
@@ -326,40 +358,76 @@ fn print_format(
     Ok(count(&text))
 }
 
-/// Sends a message to the class that the receiver gives; the receiver is evaluated before the arguments.
+/// Sends a message to what the receiver gives; the receiver is evaluated before the arguments.
 #[cycle(running)]
 fn send(
     alloc: Global,
     context: &Context,
     progress: &mut Progress,
-    receiver: &Value,
+    receiver: &Receiver,
     selector: usize,
-    arguments: &[Value],
+    arguments: &[Argument],
 ) -> Result<i64, Halt>
-    ensures { Tells (λ n. n) result (evaluated (deeper context.now) (resolved.Sent (checked.value receiver.now) selector (checked.values arguments.now)) (world progress.old)) (world progress.new) }
+    ensures { Tells (λ n. n) result (evaluated (deeper context.now) (resolved.Sent (checked.receiver receiver.now) selector (checked.arguments arguments.now)) (world progress.old)) (world progress.new) }
 {
-    let itself = evaluate(alloc, context, progress, receiver)?;
-    let numbers = evaluate_all(alloc, context, progress, arguments)?;
-    let from = class_at(itself);
-    dispatch(alloc, context, progress, from, selector, itself, &numbers)
+    let target = receive(alloc, context, progress, receiver)?;
+    let given = evaluate_all(alloc, context, progress, arguments)?;
+    tell(alloc, context, progress, target, selector, given)
 }
 
-/// Sends a message to `self`, the first variable, whose method is looked up from this class.
+/// Who gets a message. One to `super` goes to `self`, in a method of a class the first variable.
 #[cycle(running)]
-fn send_super(
+fn receive(
     alloc: Global,
     context: &Context,
     progress: &mut Progress,
-    from: usize,
-    selector: usize,
-    arguments: &[Value],
-) -> Result<i64, Halt>
-    ensures { Tells (λ n. n) result (evaluated (deeper context.now) (resolved.SentSuper from selector (checked.values arguments.now)) (world progress.old)) (world progress.new) }
+    receiver: &Receiver,
+) -> Result<Target, Halt>
+    ensures { Tells target_of result (received (deeper context.now) (checked.receiver receiver.now) (world progress.old)) (world progress.new) }
 {
-    let itself = local(progress, 0);
-    let values = evaluate_all(alloc, context, progress, arguments)?;
-    let from = Some(from);
-    dispatch(alloc, context, progress, from, selector, itself, &values)
+    match receiver {
+        Receiver::ClassValue(value) => {
+            let class = evaluate(alloc, context, progress, value)?;
+            Ok(Target::Class(class_at(class), class))
+        }
+        Receiver::ClassSuper(from) => Ok(Target::Class(Some(*from), local(progress, 0))),
+        Receiver::ObjectValue(reference) => {
+            let itself = refer(alloc, context, progress, reference)?;
+            Ok(Target::Object(itself))
+        }
+        Receiver::ObjectSuper(from) => {
+            let itself = progress.frame.itself;
+            let _ = take(progress, itself)?;
+            Ok(Target::Super(*from, itself))
+        }
+    }
+}
+
+/// Sends a message with its arguments.
+#[cycle(running)]
+fn tell(
+    alloc: Global,
+    context: &Context,
+    progress: &mut Progress,
+    target: Target,
+    selector: usize,
+    given: Given,
+) -> Result<i64, Halt>
+    ensures { Tells (λ n. n) result (sent (deeper context.now) (target_of target) selector (given_of given) (world progress.old)) (world progress.new) }
+{
+    match target {
+        Target::Class(from, itself) => {
+            dispatch(alloc, context, progress, from, selector, itself, given)
+        }
+        Target::Object(itself) => {
+            let from = class_of(&progress.objects, itself);
+            dispatch_to(alloc, context, progress, from, selector, itself, &given)
+        }
+        Target::Super(from, itself) => {
+            let from = Some(from);
+            dispatch_to(alloc, context, progress, from, selector, itself, &given)
+        }
+    }
 }
 
 /// Calls what a message to a class finds from this class up, with `self` in front of the arguments; a message
@@ -372,53 +440,15 @@ fn dispatch(
     from: Option<usize>,
     selector: usize,
     itself: i64,
-    arguments: &[i64],
+    given: Given,
 ) -> Result<i64, Halt>
-    ensures { Tells (λ n. n) result (dispatched (deeper context.now) (finds (deeper context.now) from selector arguments.now) itself arguments.now (world progress.old)) (world progress.new) }
+    ensures { Tells (λ n. n) result (dispatched (deeper context.now) (finds (deeper context.now) from Class selector (given_of given)) itself (given_of given) (world progress.old)) (world progress.new) }
 {
-    let takes = arguments.len();
-    let Some(method) = find_method(context, from, Sign::Class, selector, takes) else {
+    let Some(method) = find_method(context, from, Sign::Class, selector, &given) else {
         return Err(Halt::Stopped(Fault::Unrecognized));
     };
-    let passed = with_receiver(alloc, itself, arguments)?;
+    let passed = with_receiver(alloc, itself, given)?;
     call(alloc, context, progress, method, 0, &passed)
-}
-
-/// Sends a message to the object that the receiver gives, which is evaluated before the arguments.
-#[cycle(running)]
-fn send_to(
-    alloc: Global,
-    context: &Context,
-    progress: &mut Progress,
-    receiver: &Reference,
-    selector: usize,
-    arguments: &[Value],
-) -> Result<i64, Halt>
-    ensures { Tells (λ n. n) result (evaluated (deeper context.now) (resolved.SentTo (checked.reference receiver.now) selector (checked.values arguments.now)) (world progress.old)) (world progress.new) }
-{
-    let itself = refer(alloc, context, progress, receiver)?;
-    let values = evaluate_all(alloc, context, progress, arguments)?;
-    let from = class_of(&progress.objects, itself);
-    dispatch_to(alloc, context, progress, from, selector, itself, &values)
-}
-
-/// Sends a message to `self`, an object, whose method is looked up from this class.
-#[cycle(running)]
-fn send_to_super(
-    alloc: Global,
-    context: &Context,
-    progress: &mut Progress,
-    above: usize,
-    selector: usize,
-    arguments: &[Value],
-) -> Result<i64, Halt>
-    ensures { Tells (λ n. n) result (evaluated (deeper context.now) (resolved.SentToSuper above selector (checked.values arguments.now)) (world progress.old)) (world progress.new) }
-{
-    let itself = progress.frame.itself;
-    let _ = take(progress, itself)?;
-    let values = evaluate_all(alloc, context, progress, arguments)?;
-    let from = Some(above);
-    dispatch_to(alloc, context, progress, from, selector, itself, &values)
 }
 
 /// Calls what a message to an object finds from this class up. A message to nil gives 0; one that finds
@@ -431,18 +461,17 @@ fn dispatch_to(
     from: Option<usize>,
     selector: usize,
     itself: usize,
-    arguments: &[i64],
+    given: &Given,
 ) -> Result<i64, Halt>
-    ensures { Tells (λ n. n) result (sent_from (deeper context.now) from itself selector arguments.now (world progress.old)) (world progress.new) }
+    ensures { Tells (λ n. n) result (sent_from (deeper context.now) from itself selector (given_of given.now) (world progress.old)) (world progress.new) }
 {
     if itself == 0 {
         return Ok(0);
     }
-    let takes = arguments.len();
-    let Some(method) = find_method(context, from, Sign::Instance, selector, takes) else {
+    let Some(method) = find_method(context, from, Sign::Instance, selector, given) else {
         return Err(Halt::Stopped(Fault::Unrecognized));
     };
-    call(alloc, context, progress, method, itself, arguments)
+    call(alloc, context, progress, method, itself, given)
 }
 
 /// A place was dropped that named this: where it was the last one of a live object, the object ends.
@@ -533,7 +562,7 @@ fn execute(
         }
         Command::Begin(slot, value) => {
             let object = refer(alloc, context, progress, value)?;
-            let before = store(progress, *slot, object);
+            let before = store(progress, Location::Local(*slot), object);
             release(alloc, context, progress, before)?;
             drop_temporaries(alloc, context, progress)?;
             Ok(Flow::Normal)
@@ -726,9 +755,9 @@ pub fn call(
     progress: &mut Progress,
     function: usize,
     itself: usize,
-    arguments: &[i64],
+    given: &Given,
 ) -> Result<i64, Halt>
-    ensures { Tells (λ n. n) result ((deeper context.now).call function itself arguments.now (world progress.old)) (world progress.new) }
+    ensures { Tells (λ n. n) result ((deeper context.now).call function itself (given_of given.now) (world progress.old)) (world progress.new) }
 {
     if context.levels == 0 {
         return Err(Halt::Stopped(Fault::Depth));
@@ -737,7 +766,7 @@ pub fn call(
         levels: context.levels - 1,
         ..*context
     };
-    enter(alloc, &inner, progress, function, itself, arguments)
+    enter(alloc, &inner, progress, function, itself, given)
 }
 
 /// Runs a function with variables of its own, which are dropped at its end. After it the caller's are there
@@ -749,15 +778,15 @@ fn enter(
     progress: &mut Progress,
     function: usize,
     itself: usize,
-    arguments: &[i64],
+    given: &Given,
 ) -> Result<i64, Halt>
-    ensures { Tells (λ n. n) result (called (deeper context.now) context.now.bound (function_at (program_of context.now.program.now) function) itself arguments.now (world progress.old)) (world progress.new) }
+    ensures { Tells (λ n. n) result (called (deeper context.now) context.now.bound (function_at (program_of context.now.program.now) function) itself (given_of given.now) (world progress.old)) (world progress.new) }
 {
     let Some(entered) = context.program.functions.get(function) else {
         return Ok(0);
     };
     let waiting = progress.waiting.len();
-    let kept = push_frame(alloc, progress, entered, itself, arguments)?;
+    let kept = push_frame(alloc, progress, entered, itself, given)?;
     let flow = execute_all(alloc, context, progress, &entered.body)?;
     drop_variables(alloc, context, progress, 0, entered.names)?;
     pop_frame(progress, kept, waiting);
@@ -789,7 +818,44 @@ fn end(alloc: Global, context: &Context, progress: &mut Progress, object: usize)
     let class = class_of(&progress.objects, object);
     begin_end(progress, object)?;
     run_deallocs(alloc, &inner, progress, class, object)?;
+    empty(alloc, &inner, progress, object)?;
     finish_end(progress, object)
+}
+
+/// The fields of an object that name objects are destroyed: each of them is dropped.
+#[cycle(running)]
+fn empty(
+    alloc: Global,
+    context: &Context,
+    progress: &mut Progress,
+    object: usize,
+) -> Result<(), Halt>
+    ensures { Tells nothing_of result (emptied (deeper context.now) object (object_at (world progress.old).objects object) (world progress.old)) (world progress.new) }
+{
+    let Some(class) = class_of(&progress.objects, object) else {
+        return Ok(());
+    };
+    let order = field_order(alloc, &context.program.classes, class)?;
+    begin_emptying(progress, object);
+    drop_fields(alloc, context, progress, object, &order)
+}
+
+/// These fields of an object are dropped, from the first one on.
+#[cycle(running)]
+fn drop_fields(
+    alloc: Global,
+    context: &Context,
+    progress: &mut Progress,
+    object: usize,
+    order: &[usize],
+) -> Result<(), Halt>
+    ensures { Tells nothing_of result (fields_dropped (deeper context.now) order.now object (world progress.old)) (world progress.new) }
+{
+    for index in order {
+        let before = clear_field(progress, object, *index);
+        release(alloc, context, progress, before)?;
+    }
+    Ok(())
 }
 
 /// What the deallocs of the classes do from this one up.
@@ -829,7 +895,8 @@ fn run_dealloc(
 {
     match dealloc {
         Some(function) => {
-            let _ = enter(alloc, context, progress, function, object, &[])?;
+            let none = nothing(alloc);
+            let _ = enter(alloc, context, progress, function, object, &none)?;
             Ok(())
         }
         None => Ok(()),

@@ -1,5 +1,5 @@
 -- Classes, and the methods that messages find.
-use Rattle.std.specs.Prelude.{ℕ, zero, suc, ℤ, pos, negsuc, Bool, true, false, ◌&&◌, nat_eq, List, [], ◌∷◌, length, map, Option, Some, None, slice_get, if◌then◌else◌}
+use Rattle.std.specs.Prelude.{ℕ, zero, suc, ◌-◌, ℤ, pos, negsuc, Bool, true, false, ◌&&◌, nat_eq, nat_lt, List, [], ◌∷◌, ◌++◌, length, map, Option, Some, None, slice_get, if◌then◌else◌}
 use Rattle.std.specs.List.{list_any}
 use Rattle.arc_ast.specs.declared.tree.Sign.{Sign}
 use Rattle.arc_ast.specs.declared.tree.Sign.TheVariants as signs
@@ -91,3 +91,40 @@ descends classes from other = list_any (λ class. nat_eq class other) (ancestry 
 abbrev pub class_at : ℤ → Option ℕ
 class_at (pos n) = Some n
 class_at (negsuc n) = None
+
+-- ---- the fields that name objects
+
+-- how many fields that name objects the objects of a class have
+abbrev pub strong_count : Option Class → ℕ
+strong_count None = 0
+strong_count (Some c) = c.strong_fields
+
+-- so many numbers that follow one another, from the first one on
+abbrev pub numbers_from : (first count : ℕ) → List ℕ
+numbers_from first zero = []
+numbers_from first (suc n) = first ∷ numbers_from (suc first) n
+
+-- the lesser of two numbers
+abbrev pub lesser : ℕ → ℕ → ℕ
+lesser a b = if nat_lt a b then a else b
+
+-- The order in which so many fields are destroyed, where the classes above have so many of them: the own ones of the class, which come after the inherited ones, in
+-- their order, then those of its superclass, and so on (that a class's come before those of its superclass is this project's own choice).
+abbrev pub order_of_fields : (count : ℕ) → (inherited : List ℕ) → List ℕ
+order_of_fields count [] = numbers_from 0 count
+order_of_fields count (n ∷ above) = numbers_from (lesser n count) (count - lesser n count) ++ order_of_fields (lesser n count) above
+
+-- how many fields each of these classes has that name objects
+abbrev pub strong_counts : List Class → List ℕ → List ℕ
+strong_counts classes [] = []
+strong_counts classes (class ∷ others) = strong_count (slice_get classes class) ∷ strong_counts classes others
+
+-- the class above a class
+abbrev pub above_class : Option Class → Option ℕ
+above_class None = None
+above_class (Some c) = c.superclass
+
+-- the order in which the fields of an object of a class are destroyed that name objects
+abbrev pub field_order : List Class → (class : ℕ) → List ℕ
+field_order classes class =
+    order_of_fields (strong_count (slice_get classes class)) (strong_counts classes (ancestry (superclasses classes) (above_class (slice_get classes class))))
