@@ -136,7 +136,7 @@ fn more_global_references<'a>(
 }
 
 /// The variables that name objects of a class, one or more with a `*` each, and `;`
-#[tactic(auto, using(crate::proofs::GlobalReferences::read_global_references))]
+#[tactic(auto, using(crate::proofs::Globals::read_global_references))]
 pub fn global_references<'a>(
     alloc: Global,
     type_name: &TypeName,
