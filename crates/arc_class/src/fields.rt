@@ -1,6 +1,7 @@
 //! The fields of objects.
 ghost use Rattle.std.specs.Prelude.{◌≡◌, ℕ, List, ◌++◌, length, map, option_map, slice_get, suc, IfOk, IfErr, OnOk};
 ghost use Rattle.arc_ast.specs.Tree.{UnitTree, FieldTree, InterfaceTree, unit_tree, interface_tree, field_tree as written_field, field_trees};
+ghost use Rattle.arc_ast.specs.Types.{type_kind};
 ghost use Rattle.arc_class.specs.Broken.{first};
 ghost use Rattle.arc_class.specs.Classes.{class_number, or_else};
 ghost use Rattle.arc_class.specs.ClassRules as rules;
@@ -82,8 +83,9 @@ fn field_after<'a>(
     before: SortCounts,
     field: &'a tree::Field,
 ) -> FoundField
-    ensures { (interfaces : List InterfaceTree) → ((sought : List ℕ) → class_number_in names.now sought ≡ class_number interfaces sought)
+    ensures field { (interfaces : List InterfaceTree) → ((sought : List ℕ) → class_number_in names.now sought ≡ class_number interfaces sought)
         → result ≡ field_after interfaces (number_of_class owner) before (written_field field.now) }
+    ensures kind { result.kind ≡ type_kind (written_field field.now).type }
 {
     let kind = field.type_name.kind();
     FoundField {

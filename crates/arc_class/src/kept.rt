@@ -2,6 +2,7 @@
 ghost use Rattle.std.specs.Prelude.{◌≡◌, ◌<◌, ℕ, List, IfOk, IfErr};
 ghost use Rattle.arc_ast.specs.declared.tree.Sign.{Sign};
 ghost use Rattle.arc_ast.specs.Tree.{InterfaceTree, unit_tree, function_trees, global_tree, global_trees, interface_trees, implementation_trees};
+ghost use Rattle.arc_ast.specs.Types.{type_kind};
 ghost use Rattle.arc_class.specs.Classes as classes;
 ghost use Rattle.arc_class.specs.Classes.{class_number, first_head, declared, defined};
 ghost use Rattle.arc_fault.specs.declared.class.ClassFault.TheVariants.{Memory};
@@ -93,8 +94,9 @@ fn first_functions<'a>(
 
 /// A global variable after so many of each sort.
 fn variable<'a>(names: &Names<'a>, before: SortCounts, global: &'a tree::Global) -> Variable
-    ensures { (interfaces : List InterfaceTree) → ((sought : List ℕ) → class_number_in names.now sought ≡ class_number interfaces sought)
+    ensures variable { (interfaces : List InterfaceTree) → ((sought : List ℕ) → class_number_in names.now sought ≡ class_number interfaces sought)
         → result ≡ variable_after interfaces before (global_tree global.now) }
+    ensures kind { result.kind ≡ type_kind (global_tree global.now).type }
 {
     let kind = global.type_name.kind();
     Variable {
