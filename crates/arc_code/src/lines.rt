@@ -67,7 +67,13 @@ fn put_operands<W: Output>(instr: Instruction, writer: &mut Counted<W>) -> Resul
         }
         Instr::SendSuper(from, first, second, third)
         | Instr::SendToSuper(from, first, second, third) => {
-            put_four(from as u64, first as u64, second as u64, third as u64, writer)
+            put_four(
+                from as u64,
+                first as u64,
+                second as u64,
+                third as u64,
+                writer,
+            )
         }
         Instr::DropAll | Instr::Return | Instr::EndStep => put(b"", writer),
     }

@@ -7,6 +7,7 @@ pub mod Releases
 pub mod Runs
 pub mod Standing
 pub mod Steps
+pub mod Storing
 pub mod Told
 pub mod Views
 pub mod Words

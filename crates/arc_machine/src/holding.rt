@@ -92,6 +92,32 @@ impl Place {
         Answer::Going
     }
 
+    /// A further reference names what this variable of the whole program does, which a temporary takes.
+    #[inline(always)]
+    pub fn read_global<S: Store + Drop>(
+        &mut self,
+        variable: usize,
+        code: &Code,
+        objects: &mut Objects<S>,
+    ) -> Answer
+        requires ready { Ready S.out (program_of code.now) (Instr.Plain (Op.ReadGlobal variable)) (spot self.old objects.old) }
+        requires place { self.old.at < 2 ^ 64 - 1 }
+        requires room { code.now.room ≤ self.old.stack.room }
+        requires places { HasPlaces code.now objects.old }
+        ensures went { Executes S.out (program_of code.now) (Instr.Plain (Op.ReadGlobal variable)) result []
+            (spot self.old objects.old) (spot self.new objects.new) }
+        ensures room { self.new.stack.room ≡ self.old.stack.room }
+    {
+        // There are no more places than the code asks for, whose number fits a word.
+        let _places = code.places;
+        let object = objects.strong_global(variable).unwrap_or(0);
+        objects.raise(object);
+        objects.push(object);
+        objects.name(object);
+        self.at += 1;
+        Answer::Going
+    }
+
     /// A temporary takes what the last reference names.
     #[inline(always)]
     pub fn hold<S: Store + Drop>(&mut self, code: &Code, objects: &mut Objects<S>) -> Answer

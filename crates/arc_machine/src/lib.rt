@@ -3,6 +3,7 @@
 
 mod calling;
 mod cell;
+mod clearing;
 mod decoded;
 mod dropping;
 mod engine;
@@ -13,11 +14,13 @@ mod holding;
 pub mod machine;
 mod number;
 mod objects;
+mod order;
 mod pattern;
 mod place;
 mod releasing;
 mod stack;
 mod step;
 pub mod stop;
+mod storing;
 mod turn;
 mod waiting;

@@ -9,7 +9,6 @@ mod halt;
 pub mod interpret;
 mod message;
 mod object;
-mod order;
 mod place;
 mod progress;
 mod run;

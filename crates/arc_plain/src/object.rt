@@ -1,6 +1,6 @@
 //! Objects. They go by their numbers, which count from 1 in the order of their making; 0 is nil.
 ghost use Rattle.std.specs.Prelude.{◌≡◌, ℕ, suc, map, IfOk, MatchOption, None, Some, OnOk, slice_get, slice_set};
-ghost use Rattle.arc_spec.specs.Classes.{classes_of, superclasses, ancestry_within, strong_count};
+ghost use Rattle.arc_spec.specs.Classes.{classes_of, superclasses, ancestry_within};
 ghost use Rattle.arc_check.specs.Checked.{program_of};
 ghost use Rattle.arc_spec.specs.Meaning.{Deeper, turned, made, field_read, field_set, object_field_read, field_count, dying, gone, class_in, dealloc_run, deallocs_run};
 ghost use Rattle.arc_spec.specs.Objects.{Emptying, object_at, is_live, is_emptying, new_object, in_phase, with_fields, with_strong_fields};
@@ -13,6 +13,7 @@ use crate::place::{is_named, name_at, replace, take};
 use crate::progress::Progress;
 use arc_spec::class::{Class, descends_from};
 use arc_spec::event::{Event, Fault, NoMemory};
+use arc_spec::order::strong_count;
 use std::alloc::Global;
 
 /// How far an object is on its way: its dealloc hasn't begun; its deallocs run; its fields that name objects are
@@ -104,16 +105,6 @@ fn field_count(classes: &[Class], class: usize) -> usize
 {
     match classes.get(class) {
         Some(class) => class.fields,
-        None => 0,
-    }
-}
-
-/// How many fields the objects of a class have that name objects.
-pub fn strong_count(classes: &[Class], class: usize) -> usize
-    ensures { result ≡ strong_count (slice_get (classes_of classes.now) class) }
-{
-    match classes.get(class) {
-        Some(class) => class.strong_fields,
         None => 0,
     }
 }

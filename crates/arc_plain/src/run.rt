@@ -18,7 +18,6 @@ use crate::object::{
     begin_emptying, begin_end, class_of, clear_field, dealloc_from, finish_end, is_live, make,
     read_field, read_object_field, replace_object_field, set_field,
 };
-use crate::order::field_order;
 use crate::place::{clear, drop_last, is_named, name, pop_frame, push_frame, store, take};
 use crate::progress::{Progress, assign, held, local, print, read};
 use crate::update::{Update, given_by, renew};
@@ -27,6 +26,7 @@ use arc_check::checked::{Argument, Command, Piece, Receiver, Reference, Value};
 use arc_spec::event::Fault;
 use arc_spec::location::Location;
 use arc_spec::number::{apply, combine, convert};
+use arc_spec::order::field_order;
 use std::alloc::Global;
 
 /// How a statement was left: at its end, by a `break`, by a `continue`, or by a return with a value.

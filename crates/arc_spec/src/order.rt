@@ -1,10 +1,9 @@
 //! The order in which the fields of an object are destroyed that name objects.
-ghost use Rattle.std.specs.Prelude.{◌≡◌, ◌-◌, ◌++◌, ◌∷◌, [], ℕ, suc, slice_get, IfOk, MatchOption};
-ghost use Rattle.arc_spec.specs.Classes.{classes_of, superclasses, ancestry_within, strong_counts, above_class, lesser, numbers_from, field_order};
+ghost use Rattle.std.specs.Prelude.{◌≡◌, ◌-◌, ◌++◌, ◌∷◌, [], ℕ, suc, slice_get, IfOk, OnOk, MatchOption};
+ghost use Rattle.arc_spec.specs.Classes.{classes_of, strong_count, superclasses, ancestry_within, strong_counts, above_class, lesser, numbers_from, field_order};
 
-use crate::object::strong_count;
-use arc_spec::class::Class;
-use arc_spec::event::NoMemory;
+use crate::class::Class;
+use crate::event::NoMemory;
 use std::alloc::Global;
 
 /// The fields of an object of a class that name objects: those of its class first, and then those of the classes
@@ -17,15 +16,27 @@ pub fn field_order(alloc: Global, classes: &[Class], class: usize) -> Result<Vec
     let mut next = above(classes, class);
     for _passed in 0..classes.len() {
         let Some(layer) = layer(classes, next) else {
-            return with_numbers(order, 0, count);
+            push_numbers(&mut order, 0, count)?;
+            return Ok(order);
         };
         let (inherited, further) = layer;
         let kept = lesser(inherited, count);
-        order = with_numbers(order, kept, count)?;
+        push_numbers(&mut order, kept, count)?;
         count = kept;
         next = further;
     }
-    with_numbers(order, 0, count)
+    push_numbers(&mut order, 0, count)?;
+    Ok(order)
+}
+
+/// How many fields the objects of a class have that name objects.
+pub fn strong_count(classes: &[Class], class: usize) -> usize
+    ensures { result ≡ strong_count (slice_get (classes_of classes.now) class) }
+{
+    match classes.get(class) {
+        Some(class) => class.strong_fields,
+        None => 0,
+    }
 }
 
 /// The lesser of two numbers.
@@ -59,12 +70,12 @@ fn layer(classes: &[Class], class: Option<usize>) -> Option<(usize, Option<usize
     Some((found.strong_fields, found.superclass))
 }
 
-/// The numbers, and behind them those from the first one up to before the last one.
-fn with_numbers(mut numbers: Vec<usize>, first: usize, last: usize) -> Result<Vec<usize>, NoMemory>
-    ensures { IfOk result (λ all. all.items ≡ numbers.items ++ numbers_from first (last - first)) }
+/// Appends the numbers from the first one up to before the last one.
+fn push_numbers(numbers: &mut Vec<usize>, first: usize, last: usize) -> Result<(), NoMemory>
+    ensures { OnOk result (numbers.new.items ≡ numbers.old.items ++ numbers_from first (last - first)) }
 {
     for number in first..last {
         numbers.push(number)?;
     }
-    Ok(numbers)
+    Ok(())
 }
