@@ -1,5 +1,5 @@
 -- What an expression is of its parts, and how much of it is left to lower: that falls with each call.
-use Rattle.std.proofs.Common.{rules, arith, ◌≡◌, ℕ, zero, suc, ◌+◌, ◌<◌, List, [], ◌∷◌, Box, Global, length, get_or, sym, ap, subst, ◌∙◌}
+use Rattle.std.proofs.Common.{rules, arith, ◌≡◌, ℕ, zero, suc, ◌+◌, ◌<◌, List, [], ◌∷◌, Box, Global, length, get_or, refl, sym, ap, subst, ◌∙◌}
 use Rattle.arc_ast.specs.declared.tree.Kind.{Kind}
 use Rattle.arc_ast.specs.declared.tree.Moment.{Moment}
 use Rattle.arc_ast.specs.declared.tree.UnaryOperator.{UnaryOperator}
@@ -9,6 +9,7 @@ use Rattle.arc_check.specs.declared.checked.Reference as r
 use Rattle.arc_spec.specs.declared.location.Location.{Location}
 use Rattle.arc_spec.specs.Resolved.{Value, Number, ReadByte, Print, Applied, Combined, Choice, Converted, Read, Assigned, Updated, Invoked, Sent, SentSuper, SentTo, SentToSuper, Field, FieldAssigned, FieldUpdated, Differ, IsObject, Reference, Nil, Itself, Variable, Chosen, Stored, Made, Initialized, Values, no_values, and_value}
 use Rattle.arc_check.specs.Checked.{value, values, reference}
+use Rattle.arc_lower.specs.Lowered.{unused}
 
 abbrev mutual
   pub value_weight : Value → ℕ
@@ -100,6 +101,16 @@ is_field_updated v moment a class index operator computed kept b object operand 
     ap value is
     ∙ ap (λ x. FieldUpdated moment (reference x) class index operator computed kept (value b.value)) (sym same_object)
     ∙ ap (λ x. FieldUpdated moment (reference object) class index operator computed kept (value x)) (sym same)
+
+abbrev boxed : {A : Type 0} → Box (Unit {0}) Global → A → Box A Global
+boxed q a = record { ptr = q.ptr; alloc = q.alloc; value = a }
+
+-- an expression that is no update is the same where nobody uses its number
+pub unused_other : (v : c.Value) → ((moment : Moment) (i : Location) (operator : BinaryOperator) (computed kept : Kind) (a : Box c.Value Global) → v ≡ c.Updated moment i operator computed kept a → ⊥)
+    → ((moment : Moment) (a : Box r.Reference Global) (class index : ℕ) (operator : BinaryOperator) (computed kept : Kind) (b : Box c.Value Global) → v ≡ c.FieldUpdated moment a class index operator computed kept b → ⊥) → value v ≡ unused (value v)
+unused_other (c.Updated' moment i operator computed kept q a) n m = absurd (n moment i operator computed kept (boxed q a) refl)
+unused_other (c.FieldUpdated' moment q a class index operator computed kept p b) n m = absurd (m moment (boxed q a) class index operator computed kept (boxed p b) refl)
+unused_other _ n m = refl
 
 pub is_differ : (v : c.Value) (a b : Box r.Reference Global) (left right : r.Reference)
     → v ≡ c.Differ a b → left ≡ a.value → right ≡ b.value → value v ≡ Differ (reference left) (reference right)

@@ -66,13 +66,13 @@ pub function_there : (context : Context) (all : List CheckedFunction) (f : ℕ) 
     → function_at (program_of context.program.now) f ≡ function_of g
 function_there context all f g same below is =
     let program = context.program.now in
-    ap (λ l. function_at (record { functions = functions l; main = program.main; classes = classes_of program.classes.items }) f) (sym same) ∙ function_found all (classes_of program.classes.items) program.main f g below is
+    ap (λ l. function_at (record { functions = functions l; main = program.main; globals = program.globals.items; classes = classes_of program.classes.items }) f) (sym same) ∙ function_found all (classes_of program.classes.items) program.globals.items program.main f g below is
 
 pub function_absent : (context : Context) (all : List CheckedFunction) (f : ℕ) → all ≡ context.program.now.functions.items → length all ≤ f
     → function_at (program_of context.program.now) f ≡ record { slots = 0; names = 0; body = no_commands }
 function_absent context all f same past =
     let program = context.program.now in
-    ap (λ l. function_at (record { functions = functions l; main = program.main; classes = classes_of program.classes.items }) f) (sym same) ∙ function_missing all (classes_of program.classes.items) program.main f past
+    ap (λ l. function_at (record { functions = functions l; main = program.main; globals = program.globals.items; classes = classes_of program.classes.items }) f) (sym same) ∙ function_missing all (classes_of program.classes.items) program.globals.items program.main f past
 
 -- a function that there isn't does nothing
 pub nothing_called : (D : Deeper) (bound self : ℕ) (arguments : List ℤ) (w : World) → called D bound (record { slots = 0; names = 0; body = no_commands }) self arguments w ≡ Done (pos 0) w

@@ -9,7 +9,7 @@ use Rattle.arc_spec.specs.Objects.{Object, Phase, object_at, is_live, names, wit
 use Rattle.arc_spec.specs.declared.location.Location.{Location}
 use Rattle.arc_spec.specs.declared.location.Location.TheVariants.{Local, Global}
 use Rattle.arc_spec.specs.Resolved.{Value, Number, ReadByte, Print, Applied, Combined, Choice, Converted, Read, Assigned, Updated, Invoked, Sent, SentSuper, SentTo, SentToSuper, Field, FieldAssigned, FieldUpdated, Differ, IsObject, Reference, Nil, Itself, Variable, Chosen, Stored, Made, Initialized, Values, no_values, and_value, Command, Sequence, Evaluate, EvaluateReference, Begin, Return, Choose, Repeat, RepeatAfter, Break, Continue, Commands, no_commands, and_command, Function, Program}
-use Rattle.arc_spec.specs.World.{World, Outcome, Done, Faulted, Cut, then_do, Finished, finished, places, prints, entered, left, takes, stores, with_temporaries, with_locals, with_objects, local_at, name_at}
+use Rattle.arc_spec.specs.World.{World, Outcome, Done, Faulted, Cut, then_do, Finished, finished, places, prints, entered, left, takes, stores, with_temporaries, with_objects, local_at, name_at}
 use Rattle.arc_spec.specs.Meaning.{Deeper, held_at, holds, formatted, byte_count, or_fault, updated, given_by, released, temporaries_dropped, all_dropped, assigned, variables_dropped, dispatched, finds, runs_found, class_in, sent_from, sent_to, made, in_object, field_read, field_set, difference, evaluated, referred, all_evaluated, whole, whole_reference, begun, Flow, Normal, Broken, Continued, Returned, if_normal, in_turn, after_body, chosen, turns, turns_after, scope_left, normally, executed, all_executed, given, function_at, called, dealloc_run, deallocs_run, turned, gone, dying, ended, level}
 
 -- what holds of the world behind a part that was done

@@ -200,14 +200,14 @@ pub level_classes : (P : resolved.Program) (bound levels : ℕ) → (level P bou
 level_classes P bound zero = refl
 level_classes P bound (suc n) = refl
 
-pub function_found : (cs : List CheckedFunction) (classes : List Class) (main f : ℕ) (g : CheckedFunction) → f < length cs → g ≡ get_or cs f g
-    → function_at (record { functions = functions cs; main = main; classes = classes }) f ≡ function_of g
-function_found [] classes main f g below is = nothing_below below
-function_found (c ∷ cs) classes main zero g below is = ap function_of (sym is)
-function_found (c ∷ cs) classes main (suc f) g below is = function_found cs classes main f g (omega (arith, below)) is
+pub function_found : (cs : List CheckedFunction) (classes : List Class) (globals : List ℤ) (main f : ℕ) (g : CheckedFunction) → f < length cs → g ≡ get_or cs f g
+    → function_at (record { functions = functions cs; main = main; globals = globals; classes = classes }) f ≡ function_of g
+function_found [] classes globals main f g below is = nothing_below below
+function_found (c ∷ cs) classes globals main zero g below is = ap function_of (sym is)
+function_found (c ∷ cs) classes globals main (suc f) g below is = function_found cs classes globals main f g (omega (arith, below)) is
 
-pub function_missing : (cs : List CheckedFunction) (classes : List Class) (main f : ℕ) → length cs ≤ f
-    → function_at (record { functions = functions cs; main = main; classes = classes }) f ≡ record { slots = 0; names = 0; body = resolved.no_commands }
-function_missing [] classes main f past = refl
-function_missing (c ∷ cs) classes main zero past = nothing_below past
-function_missing (c ∷ cs) classes main (suc f) past = function_missing cs classes main f (omega (arith, past))
+pub function_missing : (cs : List CheckedFunction) (classes : List Class) (globals : List ℤ) (main f : ℕ) → length cs ≤ f
+    → function_at (record { functions = functions cs; main = main; globals = globals; classes = classes }) f ≡ record { slots = 0; names = 0; body = resolved.no_commands }
+function_missing [] classes globals main f past = refl
+function_missing (c ∷ cs) classes globals main zero past = nothing_below past
+function_missing (c ∷ cs) classes globals main (suc f) past = function_missing cs classes globals main f (omega (arith, past))

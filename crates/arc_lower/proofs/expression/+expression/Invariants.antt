@@ -29,6 +29,9 @@ decreases-append_sent_to_super l = suc (values_weight (values l.arguments.now))
 abbrev pub decreases-append_value_then : goal.decreases-append_value_then
 decreases-append_value_then l = suc (value_weight (value l.operand.now))
 
+abbrev pub decreases-append_converted : goal.decreases-append_converted
+decreases-append_converted l = suc (value_weight (value l.operand.now))
+
 abbrev pub decreases-append_assigned : goal.decreases-append_assigned
 decreases-append_assigned l = suc (value_weight (value l.operand.now))
 
