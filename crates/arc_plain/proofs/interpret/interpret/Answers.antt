@@ -9,4 +9,4 @@ use Rattle.arc_plain.proofs.interpret.interpret.Goals as goal
 pub returns : goal.returns
 returns c =
     main_told (program_of c.args.program.now) c.args.bound most_levels c.args.program.now.main c.args.input.now c.call-left.result (world c.in_ok-progress.progress) (world c.call-left.new.progress) c.in_ok-stop.stop
-    (c.in_ok-progress.ensures ∙ ap (λ l. first_world l c.args.input.now) c.deref.ensures.value) c.call-left.ensures c.in_ok-stop.ensures
+    (c.in_ok-progress.ensures ∙ ap (λ l. first_world l c.args.program.now.strong_globals c.args.input.now) c.deref.ensures.value) c.call-left.ensures c.in_ok-stop.ensures
