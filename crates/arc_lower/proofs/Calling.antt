@@ -58,6 +58,10 @@ placed_at frames rs pc stack self w f waiting = Running (at frames pc stack (hel
 abbrev ended_held : (rs : List ℕ) → (o : ℕ) → World → Held
 ended_held rs o w = record { temporaries = []; variables = []; self = o; places = places w; names = rs; objects = w.objects; counts = λ i. holders i (places w); globals = w.globals }
 
+-- the same with the objects and the variables of the whole program as they are now
+abbrev ended_now : (rs : List ℕ) → (o : ℕ) → (before now : World) → Held
+ended_now rs o before now = record (ended_held rs o before) { objects = now.objects; globals = now.globals }
+
 take_front : (a b : List ℕ) → take (length a) (a ++ b) ≡ a
 take_front [] b = refl
 take_front (x ∷ a) b = ap (λ l. x ∷ l) (take_front a b)
@@ -127,8 +131,8 @@ module _ (p : Program) (R : resolved.Program) (bound : ℕ) (begins : (f : ℕ) 
     where
       home : (v : ℤ) (w2 : World) → Kept w w2 → leaving p (Calling (pc + 1) (waits_of w) ∷ frames) bound R (function_at R f).slots (function_at R f).names self w stack rs (level R bound levels) deep (begins f).place v w2 ≡ behind_call frames rs pc stack v w2
       home v w2 k =
-          ap (λ t. Running (at frames (pc + 1) (v ∷ stack) (recounted (resumed (waits_of w) (with_things (ended_held rs self w) w2.objects)))) w2.input t) (append-nil w2.trace)
-          ∙ ap (λ h. Running (at frames (pc + 1) (v ∷ stack) (recounted h)) w2.input w2.trace) (resumed_is w.frame w.waiting (with_things (ended_held rs self w) w2.objects) refl)
+          ap (λ t. Running (at frames (pc + 1) (v ∷ stack) (recounted (resumed (waits_of w) (ended_now rs self w w2)))) w2.input t) (append-nil w2.trace)
+          ∙ ap (λ h. Running (at frames (pc + 1) (v ∷ stack) (recounted h)) w2.input w2.trace) (resumed_is w.frame w.waiting (ended_now rs self w w2) refl)
           ∙ ap (λ (f : world.Frame). placed_at frames rs (pc + 1) (v ∷ stack) f.self w2 f w.waiting) (sym k.frame)
           ∙ ap (placed_at frames rs (pc + 1) (v ∷ stack) w2.frame.self w2 w2.frame) (sym k.waiting)
 

@@ -1,5 +1,5 @@
 -- The blocks of expressions mean what these mean.
-use Rattle.std.proofs.Common.{◌≡◌, ℕ, suc, ℤ, Bool, true, false, if◌then◌else◌, List, ◌∷◌, length, Option, Some, None, slice_set, refl, ap, ◌∙◌}
+use Rattle.std.proofs.Common.{◌≡◌, ℕ, suc, ℤ, Bool, true, false, sym, if◌then◌else◌, List, ◌∷◌, length, Option, Some, None, refl, ap, ◌∙◌}
 use Rattle.arc_ast.specs.declared.tree.BinaryOperator.{BinaryOperator}
 use Rattle.arc_ast.specs.declared.tree.Kind.{Kind}
 use Rattle.arc_ast.specs.declared.tree.Moment.{Moment}
@@ -14,7 +14,9 @@ use Rattle.arc_spec.specs.World.{World, Outcome, Done, Faulted, Cut, Finished, t
 use Rattle.arc_spec.specs.Number.{converted, combined, is_zero}
 use Rattle.arc_spec.specs.Meaning.{Deeper, dispatched, finds, sent_to, sent_from, formatted, byte_count, or_fault, held_at, holds, updated, given_by, in_object, field_read, field_set, assigned, evaluated, referred, all_evaluated}
 use Rattle.arc_code.specs.declared.instr.Op.TheVariants.{Narrow, SetField, Hold}
-use Rattle.arc_lower.specs.Lowered.{Message, ToClass, ToSuperClass, ToObject, ToSuper, Block, One, Store, Format, Calls, Tells, Then, value_count, given_block, below_new, update_block, value_block, reference_block, values_block}
+use Rattle.arc_lower.specs.Known.{is_within, combined_kind, known_kind}
+use Rattle.arc_lower.proofs.Converting.{IsOf, within_keeps, combined_good, known_good}
+use Rattle.arc_lower.specs.Lowered.{Message, ToClass, ToSuperClass, ToObject, ToSuper, Block, Idle, One, Store, Format, Calls, Tells, Then, value_count, given_block, below_new, narrow_block, update_block, value_block, reference_block, values_block}
 use Rattle.arc_lower.proofs.Shaping.{Operands, push, name, pushed, Way, On, Lost, left_by, and_then, pushes, passes_by, told, block, after, chosen_by, same_depth, on_pushed, Holds, after_known}
 
 module _ (D : Deeper) (bound : ℕ) where
@@ -63,6 +65,15 @@ module _ (D : Deeper) (bound : ℕ) where
   tells : (message : Message) (all : Values) (s rest : Operands) (w : World) (go : List ℤ → World → Outcome ℤ) → run (values_block (length s.numbers) all) s w ≡ left_by (all_above s) (all_evaluated D all w) → ((given : List ℤ) (w1 : World) → told D message given s w1 ≡ left_by (above rest) (go given w1)) → run (Then (values_block (length s.numbers) all) (Tells message (value_count all))) s w ≡ left_by (above rest) (then_do (all_evaluated D all w) go)
   tells message all s rest w go arguments answer = passed all (Tells message (value_count all)) (above rest) s w go arguments (λ given w1 e. on_pushed (value_count all) given s w1 (λ values below. told D message values below w1) e ∙ answer given w1)
 
+  -- ---- conversions
+
+  narrow_is : (known kind : Kind) (v : ℤ) (s : Operands) (w : World) → IsOf known v → run (narrow_block known kind) (push v s) w ≡ Done (above s (converted kind v)) w
+  narrow_is known kind v s w g = by (is_within known kind) refl
+    where
+      by : (b : Bool) → is_within known kind ≡ b → run (if b then Idle else One (Narrow kind)) (push v s) w ≡ Done (above s (converted kind v)) w
+      by true e = ap (λ x. Done (above s x) w) (sym (within_keeps known kind v e g))
+      by false e = refl
+
   -- ---- updates
 
   -- the operands below the new number, where the old one lay on these
@@ -78,22 +89,23 @@ module _ (D : Deeper) (bound : ℕ) where
   abbrev Stores : Block → (from to : Operands) → (ℤ → World → Outcome ℤ) → Type 0
   Stores store from to sets = (new : ℤ) (w : World) → run store (push new from) w ≡ left_by (λ _. On (push new to)) (sets new w)
 
-  computed_is : (moment : Moment) (kept : Kind) (old : ℤ) (store : Block) (s t : Operands) (sets : ℤ → World → Outcome ℤ) → Stores store (kept_below moment old s) (kept_below moment old t) sets
-      → (found : Option ℤ) (w : World) → and_then (pushes (kept_below moment old s) (or_fault found w)) (run (Then (One (Narrow kept)) (Then store (given_block moment))))
+  computed_is : (moment : Moment) (known kept : Kind) (old : ℤ) (store : Block) (s t : Operands) (sets : ℤ → World → Outcome ℤ) → Stores store (kept_below moment old s) (kept_below moment old t) sets
+      → (found : Option ℤ) (w : World) → Holds (IsOf known) (or_fault found w) → and_then (pushes (kept_below moment old s) (or_fault found w)) (run (Then (narrow_block known kept) (Then store (given_block moment))))
       ≡ left_by (above t) (then_do (then_do (or_fault found w) (λ v w1. Done (converted kept v) w1)) (λ new w1. then_do (sets new w1) (λ _ w2. Done (given_by moment old new) w2)))
-  computed_is moment kept old store s t sets stores None w = refl
-  computed_is moment kept old store s t sets stores (Some v) w =
+  computed_is moment known kept old store s t sets stores None w g = refl
+  computed_is moment known kept old store s t sets stores (Some v) w g =
       let new = converted kept v in
-      after (λ _. push new (kept_below moment old t)) (above t) _ (sets new w) _ _ (stores new w) (λ _ w1. given_is moment old new t w1)
+      ap (λ x. and_then x (run (Then store (given_block moment)))) (narrow_is known kept v (kept_below moment old s) w g)
+      ∙ after (λ _. push new (kept_below moment old t)) (above t) _ (sets new w) _ _ (stores new w) (λ _ w1. given_is moment old new t w1)
 
   update_is : (moment : Moment) (operator : BinaryOperator) (computed kept : Kind) (old : ℤ) (a : Value) (store : Block) (s t : Operands) (w : World) (sets : ℤ → World → Outcome ℤ)
       → ((s1 : Operands) → run (value_block (length s1.numbers) a) s1 w ≡ left_by (above s1) (evaluated D a w)) → Stores store (kept_below moment old s) (kept_below moment old t) sets
       → run (update_block moment (value_block (suc (below_new moment (length s.numbers))) a) operator computed kept store) (push old s) w
       ≡ left_by (above t) (then_do (evaluated D a w) (λ x w1. then_do (updated operator computed kept old x w1) (λ new w2. then_do (sets new w2) (λ _ w3. Done (given_by moment old new) w3))))
   update_is Before operator computed kept old a store s t w sets right stores =
-      after (λ x. push x (push old (push old s))) (above t) _ (evaluated D a w) _ _ (right (push old (push old s))) (λ x w1. computed_is Before kept old store s t sets stores (combined operator computed old x) w1)
+      after (λ x. push x (push old (push old s))) (above t) _ (evaluated D a w) _ _ (right (push old (push old s))) (λ x w1. computed_is Before (combined_kind operator computed) kept old store s t sets stores (combined operator computed old x) w1 (combined_good operator computed old x w1))
   update_is After operator computed kept old a store s t w sets right stores =
-      after (λ x. push x (push old s)) (above t) _ (evaluated D a w) _ _ (right (push old s)) (λ x w1. computed_is After kept old store s t sets stores (combined operator computed old x) w1)
+      after (λ x. push x (push old s)) (above t) _ (evaluated D a w) _ _ (right (push old s)) (λ x w1. computed_is After (combined_kind operator computed) kept old store s t sets stores (combined operator computed old x) w1 (combined_good operator computed old x w1))
 
   variable_stores : (moment : Moment) (old : ℤ) (i : Location) (s : Operands) → Stores (Store (below_new moment (length s.numbers)) i) (kept_below moment old s) (kept_below moment old s) (λ new w. Done new (holds i new w))
   variable_stores Before old i s new w = same_depth (suc (length s.numbers)) _ _
@@ -123,7 +135,7 @@ module _ (D : Deeper) (bound : ℕ) where
     value_is (Choice c a b) s w = after (λ v. push v s) (above s) _ (evaluated D c w) _ _ (value_is c s w) (λ x w1.
         let rest : Operands = record { numbers = s.numbers; names = s.names } in
         chosen_by (above s) (is_zero x) _ _ (evaluated D a w1) (evaluated D b w1) (value_is a rest w1) (value_is b rest w1))
-    value_is (Converted kind a) s w = after (λ v. push v s) (above s) _ (evaluated D a w) _ _ (value_is a s w) (λ x w1. refl)
+    value_is (Converted kind a) s w = after_known (IsOf (known_kind a)) (λ v. push v s) (above s) _ (evaluated D a w) _ _ (known_good D a w) (value_is a s w) (λ x w1 g. narrow_is (known_kind a) kind x s w1 g)
     value_is (Read i) s w = same_depth (length s.numbers) _ _
     value_is (Assigned i a) s w = after (λ v. push v s) (above s) _ (evaluated D a w) _ _ (value_is a s w) (λ x w1. same_depth (length s.numbers) _ _)
     value_is (Updated moment i operator computed kept a) s w =

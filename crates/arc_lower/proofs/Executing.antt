@@ -1,13 +1,14 @@
 -- The blocks of statements and functions mean what these mean.
-use Rattle.std.proofs.Common.{◌≡◌, ℕ, zero, suc, ℤ, pos, Bool, true, false, List, [], Some, None, refl, sym, ap, ◌∙◌}
+use Rattle.std.proofs.Common.{◌≡◌, ℕ, zero, suc, ℤ, Bool, true, false, List, [], Some, None, refl, sym, ap, ◌∙◌}
 use Rattle.arc_spec.specs.Number.{is_zero}
 use Rattle.arc_spec.specs.Resolved.{Value, Reference, Command, Sequence, Evaluate, EvaluateReference, Begin, Choose, Repeat, RepeatAfter, Break, Continue, Commands, no_commands, and_command}
 use Rattle.arc_spec.specs.Resolved as resolved
 use Rattle.arc_spec.specs.World.{World, Outcome, Done, Faulted, Cut, Finished, finished, then_do}
 use Rattle.arc_spec.specs.Meaning.{Deeper, Flow, Normal, Broken, Continued, Returned, given, chosen, if_normal, in_turn, after_body, turns, turns_after, normally, assigned, all_dropped, variables_dropped, scope_left, evaluated, referred, whole, whole_reference, begun, executed, all_executed}
-use Rattle.arc_code.specs.declared.instr.Op.TheVariants.{Num, Forget}
-use Rattle.arc_lower.specs.Lowered.{Block, Idle, One, Clear, Then, Quit, Advance, Leave, nothing_given, does_nothing, loop_block, whole_block, whole_reference_block, begin_block, command_block, commands_block, body_block}
-use Rattle.arc_lower.proofs.Shaping.{Operands, push, name, Way, On, Out, left_by, on_way, and_then, passes_by, after_turn, on_test, only_on, block_turns, block, after}
+use Rattle.arc_code.specs.declared.instr.Op.TheVariants.{Forget}
+use Rattle.arc_lower.specs.Lowered.{Block, Idle, One, Clear, Then, Quit, Advance, nothing_given, does_nothing, loop_block, whole_block, whole_reference_block, begin_block, unused, command_block, commands_block, body_block}
+use Rattle.arc_lower.proofs.Shaping.{Operands, push, name, Way, On, Out, left_by, on_way, and_then, passes_by, after_turn, on_test, only_on, block_turns, block}
+use Rattle.arc_lower.proofs.Unused.{unused_is}
 use Rattle.arc_lower.proofs.Evaluating.{above, value_is, reference_is}
 
 -- between statements there is no number
@@ -177,7 +178,8 @@ module _ (D : Deeper) (bound : ℕ) where
       command_is breaks continues quits turns (Sequence first count all) w =
           let clear = λ (b : Block). Then (Clear first count) b in
           parts (ends (clear breaks) (clear continues)) (ends breaks continues) _ (all_executed D bound all w) _ _ (commands_is (clear breaks) (clear continues) (cleared_stops first count breaks quits) (cleared_stops first count continues turns) all w) (scope_is first count breaks continues quits turns)
-      command_is breaks continues quits turns (Evaluate a) w = onward (λ v. push v s) (ends breaks continues) _ (whole D a w) _ _ (whole_is a names w) (λ v w1. refl)
+      command_is breaks continues quits turns (Evaluate a) w =
+          onward (λ v. push v s) (ends breaks continues) _ (whole D (unused a) w) _ _ (whole_is (unused a) names w) (λ v w1. refl) ∙ ap (λ o. then_do o (ends breaks continues)) (unused_is D a w)
       command_is breaks continues quits turns (EvaluateReference a) w = whole_reference_is a names w ∙ normal_is breaks continues (whole_reference D a w)
       command_is breaks continues quits turns (Begin i a) w = begin_is i a names w ∙ normal_is breaks continues (begun D i a w)
       command_is breaks continues quits turns (resolved.Return None) w = refl

@@ -1,5 +1,5 @@
 -- What each form of expression and of statement needs and leaves.
-use Rattle.std.proofs.Common.{◌≡◌, ℕ, suc, ◌+◌, ◌-◌, ◌≤◌, Bool, true, false, List, Some, None, refl, subst, arith, pos, [], ◌∷◌, Option, is_some}
+use Rattle.std.proofs.Common.{◌≡◌, ℕ, suc, ◌+◌, ◌-◌, ◌≤◌, Bool, true, false, if◌then◌else◌, List, Some, None, refl, subst, arith, pos, [], ◌∷◌, Option, is_some}
 use Rattle.std.specs.List.{list_any}
 use Rattle.arc_ast.specs.declared.tree.BinaryOperator.{BinaryOperator}
 use Rattle.arc_ast.specs.declared.tree.Kind.{Kind}
@@ -13,9 +13,10 @@ use Rattle.arc_code.specs.declared.instr.Op.TheVariants as ops
 use Rattle.arc_code.specs.declared.instr.Op.TheVariants.{Num, Bin, Un, Narrow, Pop, Get, GetChar, Nil, ReadSelf, Hold, Forget, Alloc, GetField, SetField, Differ, IsObject}
 use Rattle.arc_code.specs.declared.effect.Height.{Height}
 use Rattle.arc_code.specs.Effects.{on_numbers, of_names, operation_effect}
+use Rattle.arc_lower.specs.Known.{is_within, combined_kind, known_kind}
 use Rattle.arc_lower.specs.declared.frame.Turn.{Turn}
 use Rattle.arc_lower.specs.declared.frame.Scope.{Scope}
-use Rattle.arc_lower.specs.Lowered.{value_count, order_takes, Inside, Block, Idle, One, Clear, Then, Fork, Loop, Quit, Advance, Full, Assign, flat, old_block, given_block, below_new, update_block, value_block, reference_block, values_block, whole_block, whole_reference_block, begin_block, nothing_given, does_nothing, loop_block, command_block, commands_block, Surroundings, within_scopes, leaving, breaking, continuing}
+use Rattle.arc_lower.specs.Lowered.{value_count, order_takes, Inside, Block, Idle, One, Clear, Then, Fork, Quit, Advance, Full, Assign, flat, old_block, given_block, below_new, narrow_block, update_block, value_block, reference_block, values_block, whole_block, whole_reference_block, begin_block, unused, nothing_given, does_nothing, loop_block, command_block, commands_block, Surroundings, within_scopes, leaving, breaking, continuing}
 use Rattle.arc_lower.specs.Heights.{height, between, after_effect, walk, last_walk}
 use Rattle.arc_lower.specs.Lowered.{whole_orders, whole_reference_orders}
 use Rattle.arc_lower.proofs.Typing.{heights_same, Reaches, print_types, get_types, set_types, call_types, store_types, read_types, all_empty_type, drop_types, tested, Forks, BlockTypes}
@@ -41,15 +42,15 @@ module _ (P : Program) (r s slots names exit d : ℕ) (room : names ≤ d + s) w
 
   pub next : {a b c n m u v : ℕ} {x y : Block} → Comes a b c x n m → ((t : ℕ) → Comes n m t y u v) → Comes a b c (Then x y) u v
   next {n = n} {m = m} first others =
-      let then = others first.more in
-      record { more = then.more; most = omega (arith, first.most, then.most); types = (height n m first.more d, first.types, then.types) }
+      let rest = others first.more in
+      record { more = rest.more; most = omega (arith, first.most, rest.most); types = (height n m first.more d, first.types, rest.types) }
 
   -- a choice within an expression
   pub choice : {a b c n m : ℕ} {x y : Block} → Comes a b c x n m → ((t : ℕ) → Comes a b t y n m) → Comes (suc a) b c (Fork x y) n m
   choice {a = a} {b = b} {c = c} {n = n} {m = m} first others =
-      let then = others first.more in
-      let forks : Forks P (height (suc a) b c d) (height a b c d) first.more (height n m then.more d) = record { some = omega arith; left = heights_same _ _ _ _ a b c d (omega arith) (omega arith) (omega arith) (omega arith); first = first.most; next = then.most } in
-      record { more = then.more; most = omega (arith, first.most, then.most); types = (height a b c d, first.more, forks, tt, first.types, then.types) }
+      let rest = others first.more in
+      let forks : Forks P (height (suc a) b c d) (height a b c d) first.more (height n m rest.more d) = record { some = omega arith; left = heights_same _ _ _ _ a b c d (omega arith) (omega arith) (omega arith) (omega arith); first = first.most; next = rest.most } in
+      record { more = rest.more; most = omega (arith, first.most, rest.most); types = (height a b c d, first.more, forks, tt, first.types, rest.types) }
 
   -- what a message leaves
   class_left : (n a b c : ℕ) → after_effect (height (n + suc a) b c d) (suc n) (on_numbers (suc n) 1) ≡ height (suc a) b c d
@@ -69,6 +70,14 @@ module _ (P : Program) (r s slots names exit d : ℕ) (room : names ≤ d + s) w
   given_types Before a b c = op Pop (omega arith) (omega arith) (omega arith) refl
   given_types After a b c = plain refl
 
+  -- a conversion
+  narrow_types : (known kind : Kind) (a b c : ℕ) → Comes (suc a) b c (narrow_block known kind) (suc a) b
+  narrow_types known kind a b c = by (is_within known kind)
+    where
+      by : (t : Bool) → Comes (suc a) b c (if t then Idle else One (Narrow kind)) (suc a) b
+      by true = plain refl
+      by false = op (Narrow kind) (omega arith) (omega arith) (omega arith) refl
+
   -- what follows the old number of an update
   update_types : (moment : Moment) (operator : BinaryOperator) (computed kept : Kind) (right store : Block) (a b c m : ℕ)
       → ((t : ℕ) → Comes (suc (below_new moment a)) b t right (suc (suc (below_new moment a))) b) → ((t : ℕ) → Comes (suc (below_new moment a)) b t store (suc (below_new moment a)) m)
@@ -76,7 +85,7 @@ module _ (P : Program) (r s slots names exit d : ℕ) (room : names ≤ d + s) w
   update_types moment operator computed kept right store a b c m rights stores =
       let new = suc (below_new moment a) in
       next (old_types moment a b c) (λ t. next (rights t) (λ t. next {n = new} {m = b} (op (Bin operator computed) (omega arith) (omega arith) (omega arith) refl)
-      (λ t. next {n = new} {m = b} (op (Narrow kept) (omega arith) (omega arith) (omega arith) refl) (λ t. next (stores t) (λ t. given_types moment a m t)))))
+      (λ t. next {n = new} {m = b} (narrow_types (combined_kind operator computed) kept (below_new moment a) b t) (λ t. next (stores t) (λ t. given_types moment a m t)))))
 
   lies_below : (moment : Moment) (depth a : ℕ) → depth + slots ≤ a + r → below_new moment depth + slots ≤ below_new moment a + r
   lies_below Before depth a h = omega (arith, h)
@@ -90,7 +99,7 @@ module _ (P : Program) (r s slots names exit d : ℕ) (room : names ≤ d + s) w
     value_types (Applied operator kind v) depth a b c h = next (value_types v depth a b c h) (λ t. op (Un operator kind) (omega arith) (omega arith) (omega arith) refl)
     value_types (Combined operator kind v u) depth a b c h = next (value_types v depth a b c h) (λ t. next (value_types u (suc depth) (suc a) b t (omega (arith, h))) (λ q. op (Bin operator kind) (omega arith) (omega arith) (omega arith) refl))
     value_types (Choice v u w) depth a b c h = next (value_types v depth a b c h) (λ t. choice (value_types u depth a b t h) (λ q. value_types w depth a b q h))
-    value_types (Converted kind v) depth a b c h = next (value_types v depth a b c h) (λ t. op (Narrow kind) (omega arith) (omega arith) (omega arith) refl)
+    value_types (Converted kind v) depth a b c h = next (value_types v depth a b c h) (λ t. narrow_types (known_kind v) kind a b t)
     value_types (Read i) depth a b c h = plain (get_types P r s b c d slots depth i a h)
     value_types (Assigned i v) depth a b c h = next (value_types v depth a b c h) (λ t. plain (set_types P r s b t d slots depth i a h))
     value_types (Updated moment i operator computed kept v) depth a b c h =
@@ -190,7 +199,7 @@ module _ (P : Program) (slots names exit : ℕ) where
     command_types l b n t u (Sequence first count all) =
         let clear = clear_types l first count in
         (base, commands_type l (Then (Clear first count) b) (Then (Clear first count) n) (base, clear, t) (base, clear, u) all, clear)
-    command_types l b n t u (Evaluate a) = (test, test_types l a, (omega arith, less))
+    command_types l b n t u (Evaluate a) = (test, test_types l (unused a), (omega arith, less))
     command_types l b n t u (EvaluateReference a) = whole_reference_types P 0 0 slots names exit names (omega arith) l true a slots (omega arith)
     command_types l b n t u (Begin i a) = begin_types P 0 0 slots names exit names (omega arith) l true i a slots (omega arith)
     command_types l b n t u (resolved.Return None) = nothing_types l

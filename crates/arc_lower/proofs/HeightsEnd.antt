@@ -9,7 +9,7 @@ use Rattle.arc_code.specs.Effects.{effect}
 use Rattle.arc_ir.specs.declared.action.Target.{Target}
 use Rattle.arc_ir.specs.declared.action.Target.TheVariants.{Skip, Back, At}
 use Rattle.arc_lower.specs.Order.{Order}
-use Rattle.arc_lower.specs.Lowered.{order_takes, drop_orders, Entry, AtStep, AtTest, AtBody, enter_orders, enter_size, Spot, Inside, past, turn_at, body_spot, Block, Then, Fork, Loop, Quit, Advance, Full, Leave, flat}
+use Rattle.arc_lower.specs.Lowered.{order_takes, drop_orders, Entry, AtStep, AtTest, AtBody, enter_orders, enter_size, Spot, Inside, past, body_spot, Block, Then, Fork, Loop, Quit, Advance, Full, Leave, flat}
 use Rattle.arc_lower.specs.Heights.{between, next_height, Walk, walk, other_part, next_walk, last_walk}
 use Rattle.arc_lower.proofs.Quiet.{or_first, or_second}
 use Rattle.arc_lower.proofs.Typing.{heights_same, tested, types_last, with_temporaries, Leaves, BlockTypes}

@@ -117,7 +117,7 @@ module _ (p : Program) (R : resolved.Program) where
         let n = ap (λ (x : Height). x.numbers) (there (entry p f) (height (slots_of R f) 0 0 0) (entry_goes f (omega (arith, lt))).0.height) in
         omega (arith, n)
     begun_by f false e =
-        let none : 0 ≡ slots_of R f = ap (λ (g : Function). g.slots) (out_of_list R.functions R.main R.classes f (ltb-false f (length R.functions) e)) in
+        let none : 0 ≡ slots_of R f = ap (λ (g : Function). g.slots) (out_of_list R.functions R.main R.globals R.classes f (ltb-false f (length R.functions) e)) in
         omega (arith, none)
 
     few : (pc : ℕ) → AtMost (height_at R pc) (greatest_height R)

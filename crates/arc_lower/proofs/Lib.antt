@@ -23,6 +23,8 @@ mod Fitting
 mod Releasing
 mod Shaping
 mod Evaluating
+mod Converting
+mod Unused
 mod Executing
 mod Quiet
 mod Running

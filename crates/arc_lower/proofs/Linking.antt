@@ -49,23 +49,23 @@ find p R (g ∷ fs) place (suc n) f e has =
     let there = find p R fs (place + length xs) n f e (has_back p place xs (functions_orders R (place + length xs) fs) has) in
     record { place = there.place; entry = there.entry; code = there.code }
 
-in_list : (fs : List Function) (main : ℕ) (cs : List Class) (f : ℕ) → f < length fs → slice_get (fs ++ nothing ∷ []) f ≡ Some (function_at (record { functions = fs; main = main; classes = cs }) f)
-in_list [] main cs f lt = absurd (omega (arith, lt))
-in_list (g ∷ fs) main cs zero lt = refl
-in_list (g ∷ fs) main cs (suc f) lt = in_list fs main cs f (omega (arith, lt))
+in_list : (fs : List Function) (main : ℕ) (gs : List ℤ) (cs : List Class) (f : ℕ) → f < length fs → slice_get (fs ++ nothing ∷ []) f ≡ Some (function_at (record { functions = fs; main = main; globals = gs; classes = cs }) f)
+in_list [] main gs cs f lt = absurd (omega (arith, lt))
+in_list (g ∷ fs) main gs cs zero lt = refl
+in_list (g ∷ fs) main gs cs (suc f) lt = in_list fs main gs cs f (omega (arith, lt))
 
-pub out_of_list : (fs : List Function) (main : ℕ) (cs : List Class) (f : ℕ) → length fs ≤ f → nothing ≡ function_at (record { functions = fs; main = main; classes = cs }) f
-out_of_list [] main cs f le = refl
-out_of_list (g ∷ fs) main cs zero le = absurd (omega (arith, le))
-out_of_list (g ∷ fs) main cs (suc f) le = out_of_list fs main cs f (omega (arith, le))
+pub out_of_list : (fs : List Function) (main : ℕ) (gs : List ℤ) (cs : List Class) (f : ℕ) → length fs ≤ f → nothing ≡ function_at (record { functions = fs; main = main; globals = gs; classes = cs }) f
+out_of_list [] main gs cs f le = refl
+out_of_list (g ∷ fs) main gs cs zero le = absurd (omega (arith, le))
+out_of_list (g ∷ fs) main gs cs (suc f) le = out_of_list fs main gs cs f (omega (arith, le))
 
 last_one : (fs : List Function) → slice_get (fs ++ nothing ∷ []) (length fs) ≡ Some nothing
 last_one [] = refl
 last_one (g ∷ fs) = last_one fs
 
 numbered_by : (R : resolved.Program) (f : ℕ) (b : Bool) → nat_lt f (length R.functions) ≡ b → slice_get (all_functions R) (if b then f else length R.functions) ≡ Some (function_at R f)
-numbered_by R f true e = in_list R.functions R.main R.classes f (ltb-true f (length R.functions) e)
-numbered_by R f false e = last_one R.functions ∙ ap Some (out_of_list R.functions R.main R.classes f (ltb-false f (length R.functions) e))
+numbered_by R f true e = in_list R.functions R.main R.globals R.classes f (ltb-true f (length R.functions) e)
+numbered_by R f false e = last_one R.functions ∙ ap Some (out_of_list R.functions R.main R.globals R.classes f (ltb-false f (length R.functions) e))
 
 pub numbered : (R : resolved.Program) (f : ℕ) → slice_get (all_functions R) (number_of R f) ≡ Some (function_at R f)
 numbered R f = numbered_by R f (nat_lt f (length R.functions)) refl

@@ -1,5 +1,5 @@
 -- Jumps are written once it is known how many actions they skip.
-use Rattle.std.proofs.Common.{◌≡◌, ℕ, zero, suc, ◌+◌, ◌-◌, List, [], ◌∷◌, ◌++◌, length, refl, sym, ap, ◌∙◌, arith, append_assoc, length-append, slice_set}
+use Rattle.std.proofs.Common.{◌≡◌, ℕ, zero, suc, ◌-◌, List, [], ◌∷◌, ◌++◌, length, refl, sym, ap, ◌∙◌, arith, append_assoc, length-append, slice_set}
 use Rattle.std.proofs.Math.Seq.{set-append_seam}
 use Rattle.arc_ir.specs.declared.action.Target.TheVariants.{Skip}
 use Rattle.arc_ir.specs.Acting.{Action}

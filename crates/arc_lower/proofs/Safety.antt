@@ -12,7 +12,7 @@ use Rattle.arc_spec.specs.Meaning.{chosen}
 use Rattle.arc_spec.specs.Number.{converted, applied, combined, counted, low_byte, byte_or_end, is_zero}
 use Rattle.arc_spec.specs.Objects.{Object, Dying, Gone, object_at, with_object, with_fields, in_phase, is_live}
 use Rattle.arc_spec.specs.Resolved as resolved
-use Rattle.arc_spec.specs.Holding.{Held, Frame, Calling, Ending, Waiter, Counted, holders, is_there, all_places, with_temporaries, with_variables, with_names, with_things, with_globals, lowered, raised, named, taken_by, gone_in, on_named, on_reference, on_field, declares, lets_go, resumed, all_nil, on_left, makes, with_field}
+use Rattle.arc_spec.specs.Holding.{Held, nothing_held, Frame, Calling, Ending, Waiter, Counted, holders, is_there, all_places, with_temporaries, with_variables, with_names, with_things, with_globals, lowered, raised, named, taken_by, gone_in, on_named, on_reference, on_field, declares, lets_go, resumed, all_nil, on_left, makes, with_field}
 use Rattle.arc_spec.specs.Stepping.{Next, Goes, Asks, Ends, Faults, Stuck, Along, Safe, Sound, on_top, on_found, only_if}
 use Rattle.arc_ir.specs.Acting.{Action, Program, State, lands, start, step, entry, keeps, goes, or_fault, has_level, enters, answers, taken, sends, allocates, difference, operates, begins_end, releases, runs_dealloc, ends_class, end_goes_on, leaves, executes}
 use Rattle.arc_code.specs.declared.effect.Height.{Height}
@@ -659,7 +659,7 @@ module _ (p : Program) (R : resolved.Program) where
     safe (suc n) s good = along_map Good (Safe (step p) (λ t. Counted t.held) n) (safe n) (step p s) (step_leads s good)
 
     pub start_good : Good (start p)
-    start_good = (inl (record { below = 0; deeper = []; resumes = record { high = height 0 0 0 0; stands = (start_goes R).0; count = refl; own = []; is = refl; size = refl; few = omega arith; many = refl; held = tt; nil = λ k c. nil_from_end [] k (omega arith); alive = nil_alive [] [] }; waits = tt }), tt, nothing_sane)
+    start_good = (inl (record { below = 0; deeper = []; resumes = record { high = height 0 0 0 0; stands = (start_goes R).0; count = refl; own = []; is = refl; size = refl; few = omega arith; many = refl; held = tt; nil = λ k c. nil_from_end [] k (omega arith); alive = nil_alive [] [] }; waits = tt }), tt, sane_globals nothing_held p.globals nothing_sane)
 
     -- the actions of a lowered program are never stuck, and their counts are right
     pub lowered_never_stuck : Sound (step p) (λ s. Counted s.held) (start p)

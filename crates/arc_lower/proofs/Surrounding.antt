@@ -7,7 +7,7 @@ use Rattle.arc_ir.specs.declared.action.Target.TheVariants.{At}
 use Rattle.arc_lower.specs.declared.frame.Turn.{Turn}
 use Rattle.arc_lower.specs.declared.frame.Scope.{Scope}
 use Rattle.arc_lower.specs.Order.{Order}
-use Rattle.arc_lower.specs.Lowered.{Block, Quit, Advance, past, flat, all_empty_orders, nothing_given, spot, within_scopes, leaving, scopes_orders, Surroundings, command_orders}
+use Rattle.arc_lower.specs.Lowered.{Block, Quit, Advance, past, flat, all_empty_orders, nothing_given, spot, within_scopes, scopes_orders, Surroundings, command_orders}
 
 pub past_spot : (n here : ℕ) (turn : Option Turn) → past n (spot here turn) ≡ spot (here + n) turn
 past_spot n here None = refl

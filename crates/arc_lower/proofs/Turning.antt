@@ -1,5 +1,5 @@
 -- What the functions that write loops and choices write is what these are.
-use Rattle.std.proofs.Common.{◌≡◌, ℕ, zero, suc, ◌+◌, ◌-◌, Bool, true, false, if◌then◌else◌, List, [], ◌∷◌, ◌++◌, length, Option, Some, None, refl, sym, ap, ◌∙◌, arith, append_assoc, length-append, slice_set}
+use Rattle.std.proofs.Common.{◌≡◌, ℕ, suc, ◌+◌, ◌-◌, Bool, true, false, if◌then◌else◌, List, [], ◌∷◌, ◌++◌, length, Option, Some, None, refl, sym, ap, ◌∙◌, arith, append_assoc, length-append, slice_set}
 use Rattle.std.proofs.lemmas.List.{append-nil}
 use Rattle.arc_spec.specs.Resolved.{Value, Command, Choose, Repeat, RepeatAfter, Program}
 use Rattle.arc_code.specs.declared.instr.Instr.TheVariants.{Jump, JumpZero}

@@ -22,8 +22,8 @@ use Rattle.arc_lower.proofs.Linking.{out_of_list}
 slots_by : (P : Program) (f : ℕ) (b : Bool) → nat_lt f (length P.functions) ≡ b → slots_of P (if b then f else length P.functions) ≡ slots_of P f
 slots_by P f true e = refl
 slots_by P f false e =
-    let past = out_of_list P.functions P.main P.classes (length P.functions) (omega arith) in
-    let other = out_of_list P.functions P.main P.classes f (ltb-false f (length P.functions) e) in
+    let past = out_of_list P.functions P.main P.globals P.classes (length P.functions) (omega arith) in
+    let other = out_of_list P.functions P.main P.globals P.classes f (ltb-false f (length P.functions) e) in
     ap (λ (g : Function). g.slots) (sym past ∙ other)
 
 -- a function that there isn't has as many variables as the one that is called for it

@@ -1,5 +1,5 @@
 -- The actions of a checked program perform it.
-use Rattle.std.proofs.Common.{◌≡◌, ℕ, ◌+◌, ◌≤◌, ℤ, List, [], ◌∷◌, length, ap, ◌∙◌, arith, refl, inl, inr}
+use Rattle.std.proofs.Common.{◌≡◌, ℕ, ◌+◌, ◌≤◌, ℤ, List, [], ◌∷◌, length, ap, sym, ◌∙◌, arith, refl, subst, inl, inr}
 use Rattle.arc_ast.specs.declared.tree.Kind.TheVariants as k
 use Rattle.arc_spec.specs.Number.{converted}
 use Rattle.arc_spec.specs.Resolved as resolved

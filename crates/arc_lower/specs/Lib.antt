@@ -1,4 +1,5 @@
 pub mod Order
+pub mod Known
 pub mod Lowered
 pub mod Surroundings
 pub mod Heights

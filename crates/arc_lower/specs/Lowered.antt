@@ -24,6 +24,7 @@ use Rattle.arc_ir.specs.declared.action.Target.TheVariants.{Skip, Back, At}
 use Rattle.arc_lower.specs.declared.frame.Turn.{Turn}
 use Rattle.arc_lower.specs.declared.frame.Scope.{Scope}
 use Rattle.arc_lower.specs.Order.{Order}
+use Rattle.arc_lower.specs.Known.{is_within, combined_kind, known_kind}
 
 -- how many of the arguments are numbers, and how many objects
 abbrev pub number_count : Arguments → ℕ
@@ -320,10 +321,14 @@ abbrev pub below_new : Moment → (depth : ℕ) → ℕ
 below_new Before depth = suc depth
 below_new After depth = depth
 
+-- a number of a known kind as one of another kind
+abbrev pub narrow_block : (known kind : Kind) → Block
+narrow_block known kind = if is_within known kind then Idle else One (Narrow kind)
+
 -- what follows the old number: the right operand, the new number, and where it is stored
 abbrev pub update_block : Moment → (right : Block) → BinaryOperator → (computed kept : Kind) → (store : Block) → Block
 update_block moment right operator computed kept store =
-    Then (old_block moment) (Then right (Then (One (Bin operator computed)) (Then (One (Narrow kept)) (Then store (given_block moment)))))
+    Then (old_block moment) (Then right (Then (One (Bin operator computed)) (Then (narrow_block (combined_kind operator computed) kept) (Then store (given_block moment)))))
 
 -- how many operands lie below the arguments of a message: a class that gets it is one more
 abbrev pub below_arguments : Receiver → (depth : ℕ) → ℕ
@@ -347,7 +352,7 @@ abbrev mutual
   value_block depth (Applied operator kind a) = Then (value_block depth a) (One (Un operator kind))
   value_block depth (Combined operator kind a b) = Then (value_block depth a) (Then (value_block (suc depth) b) (One (Bin operator kind)))
   value_block depth (Choice c a b) = Then (value_block depth c) (Fork (value_block depth a) (value_block depth b))
-  value_block depth (Converted kind a) = Then (value_block depth a) (One (Narrow kind))
+  value_block depth (Converted kind a) = Then (value_block depth a) (narrow_block (known_kind a) kind)
   value_block depth (resolved.Read i) = Load depth i
   value_block depth (Assigned i a) = Then (value_block depth a) (Store depth i)
   value_block depth (Updated moment i operator computed kept a) =
@@ -402,6 +407,12 @@ whole_reference_block a = Full (reference_block 0 a) (One Forget)
 abbrev pub begin_block : ℕ → Reference → Block
 begin_block i a = Full (reference_block 0 a) (Then (Assign (Local i)) (One Forget))
 
+-- An expression that does the same, where nobody uses the number that it gives: an update gives the new number then, for which no copy of the old one is kept.
+abbrev pub unused : Value → Value
+unused (Updated moment i operator computed kept a) = Updated After i operator computed kept a
+unused (FieldUpdated moment a class index operator computed kept b) = FieldUpdated After a class index operator computed kept b
+unused a = a
+
 -- leaves a function with 0
 abbrev pub nothing_given : (exit : ℕ) → Block
 nothing_given exit = Then (One (Num (pos 0))) (Leave exit)
@@ -422,7 +433,7 @@ abbrev mutual
   pub command_block : (exit : ℕ) → (breaks continues : Block) → Command → Block
   command_block exit breaks continues (Sequence first count all) =
       Then (commands_block exit (Then (Clear first count) breaks) (Then (Clear first count) continues) all) (Clear first count)
-  command_block exit breaks continues (Evaluate a) = Then (whole_block a) (One Pop)
+  command_block exit breaks continues (Evaluate a) = Then (whole_block (unused a)) (One Pop)
   command_block exit breaks continues (EvaluateReference a) = whole_reference_block a
   command_block exit breaks continues (Begin i a) = begin_block i a
   command_block exit breaks continues (resolved.Return None) = nothing_given exit
@@ -452,6 +463,10 @@ old_orders After = []
 abbrev pub given_orders : Moment → List Order
 given_orders Before = Plain Pop ∷ []
 given_orders After = []
+
+-- those of a conversion
+abbrev pub narrow_orders : (known kind : Kind) → List Order
+narrow_orders known kind = if is_within known kind then [] else Plain (Narrow kind) ∷ []
 
 abbrev pub value_orders : Program → (slots names depth : ℕ) → Value → List Order
 value_orders P slots names depth a = flat P slots names Inside (value_block depth a)

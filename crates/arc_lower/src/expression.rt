@@ -4,17 +4,20 @@ ghost use Rattle.arc_check.specs.Checked as checked;
 ghost use Rattle.arc_check.specs.Checked.{value, reference, receiver as receiver_of, arguments as arguments_of, program_of};
 ghost use Rattle.arc_spec.specs.Resolved as resolved;
 ghost use Rattle.arc_lower.specs.Order.{order, orders};
-ghost use Rattle.arc_code.specs.declared.instr.Op.TheVariants.{Bin, Narrow};
+ghost use Rattle.arc_lower.specs.Known.{combined_kind};
+ghost use Rattle.arc_code.specs.declared.instr.Op.TheVariants.{Bin};
 ghost use Rattle.arc_code.specs.declared.instr.Instr.TheVariants.{Plain};
-ghost use Rattle.arc_lower.specs.Lowered.{old_orders, value_orders, reference_orders, receiver_orders, argument_orders, number_count, object_count, below_arguments, message_to, message_order};
+ghost use Rattle.arc_lower.specs.Lowered.{old_orders, narrow_orders, unused, value_orders, reference_orders, receiver_orders, argument_orders, number_count, object_count, below_arguments, message_to, message_order};
 
 use crate::call::append_call;
 use crate::frame::Frame;
 use crate::jump::join;
+use crate::known::known_kind;
 use crate::place::{append_forgets, append_read, append_store};
 use crate::print::append_print;
-use crate::update::{Update, append_given, append_new, append_old, below_new};
+use crate::update::{Update, append_given, append_narrow, append_new, append_old, below_new};
 use crate::variable::{append_get, append_set, one_more};
+use arc_ast::tree::{Kind, Moment};
 use arc_check::checked::{Argument, Checked, Piece, Receiver, Reference, Value};
 use arc_code::instr::{Instr, Op};
 use arc_ir::action::{Action, Target};
@@ -65,8 +68,7 @@ pub(crate) fn append_value(
             append_choice(alloc, actions, program, frame, test, first, second)
         }
         Value::Converted(kind, operand) => {
-            let action = Instr::Plain(Op::Narrow(*kind));
-            append_value_then(alloc, actions, program, frame, operand, action)
+            append_converted(alloc, actions, program, frame, *kind, operand)
         }
         Value::Read(location) => append_get(actions, frame.slots, frame.operands, *location),
         Value::Assigned(location, operand) => {
@@ -121,6 +123,41 @@ pub(crate) fn append_value(
     }
 }
 
+/// Appends the actions of an expression whose number nobody uses: an update gives the new one.
+pub(crate) fn append_unused(
+    alloc: Global,
+    actions: &mut Vec<Action>,
+    program: &Checked,
+    frame: Frame,
+    expression: &Value,
+) -> Result<(), NoMemory>
+    ensures { OnOk result (orders actions.new.items ≡ orders actions.old.items ++ value_orders (program_of program.now) frame.slots frame.names frame.operands (unused (value expression.now))) }
+{
+    match expression {
+        Value::Updated(_, location, operator, computed, kept, operand) => {
+            let update = Update {
+                moment: Moment::After,
+                operator: *operator,
+                computed: *computed,
+                kept: *kept,
+            };
+            append_updated(alloc, actions, program, frame, *location, update, operand)
+        }
+        Value::FieldUpdated(_, object, class, index, operator, computed, kept, operand) => {
+            let update = Update {
+                moment: Moment::After,
+                operator: *operator,
+                computed: *computed,
+                kept: *kept,
+            };
+            append_field_updated(
+                alloc, actions, program, frame, object, *class, *index, update, operand,
+            )
+        }
+        _ => append_value(alloc, actions, program, frame, expression),
+    }
+}
+
 /// Appends the actions of a call of `printf`, the values' first.
 #[cycle(expression)]
 fn append_printed(
@@ -152,6 +189,22 @@ fn append_value_then(
 {
     append_value(alloc, actions, program, frame, operand)?;
     append(actions, action)
+}
+
+/// Appends the actions of a number that becomes one of this kind.
+#[cycle(expression)]
+fn append_converted(
+    alloc: Global,
+    actions: &mut Vec<Action>,
+    program: &Checked,
+    frame: Frame,
+    kind: Kind,
+    operand: &Value,
+) -> Result<(), NoMemory>
+    ensures { OnOk result (orders actions.new.items ≡ orders actions.old.items ++ value_orders (program_of program.now) frame.slots frame.names frame.operands (resolved.Converted kind (value operand.now))) }
+{
+    append_value(alloc, actions, program, frame, operand)?;
+    append_narrow(actions, known_kind(operand), kind)
 }
 
 /// Appends the actions of an expression that gives an object or nil, and this action behind them.
@@ -311,7 +364,7 @@ fn append_update(
     update: Update,
     operand: &Value,
 ) -> Result<(), NoMemory>
-    ensures { OnOk result (orders actions.new.items ≡ orders actions.old.items ++ (old_orders update.moment ++ (value_orders (program_of program.now) below.slots below.names (suc below.operands) (value operand.now) ++ (Plain (Bin update.operator update.computed) ∷ Plain (Narrow update.kept) ∷ [])))) }
+    ensures { OnOk result (orders actions.new.items ≡ orders actions.old.items ++ (old_orders update.moment ++ (value_orders (program_of program.now) below.slots below.names (suc below.operands) (value operand.now) ++ (Plain (Bin update.operator update.computed) ∷ narrow_orders (combined_kind update.operator update.computed) update.kept)))) }
 {
     append_old(actions, update.moment)?;
     let operands = one_more(below.operands)?;

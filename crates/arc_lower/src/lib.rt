@@ -6,6 +6,7 @@ mod expression;
 mod frame;
 pub mod height;
 mod jump;
+mod known;
 pub mod law;
 pub mod lower;
 mod place;

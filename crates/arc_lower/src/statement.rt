@@ -2,13 +2,14 @@
 ghost use Rattle.std.specs.Prelude.{◌≡◌, ℕ, ◌+◌, ◌<◌, List, [], ◌∷◌, ◌++◌, length, reverse, OnOk, IfOk, option_map};
 ghost use Rattle.arc_spec.specs.Resolved.{Program, Sequence, Return, Break, Continue};
 ghost use Rattle.arc_check.specs.Checked.{value as value_of, reference as reference_of, command, commands, program_of};
-ghost use Rattle.arc_code.specs.declared.instr.Instr.TheVariants.{Jump, JumpZero};
+ghost use Rattle.arc_code.specs.declared.instr.Op.TheVariants.{Pop};
+ghost use Rattle.arc_code.specs.declared.instr.Instr.TheVariants.{Plain, Jump, JumpZero};
 ghost use Rattle.arc_ir.specs.declared.action.Target.TheVariants.{At, Skip};
 ghost use Rattle.arc_lower.specs.Order.{order, orders};
-ghost use Rattle.arc_lower.specs.Lowered.{whole_orders, whole_reference_orders, begin_orders, scopes_orders, does_nothing, command_orders, commands_orders};
+ghost use Rattle.arc_lower.specs.Lowered.{whole_orders, whole_reference_orders, begin_orders, unused, scopes_orders, does_nothing, command_orders, commands_orders};
 ghost use Rattle.arc_lower.specs.Surroundings.{surroundings, step_begin, step_orders, turn_orders_of, with_turn};
 
-use crate::expression::{append, append_reference, append_value};
+use crate::expression::{append, append_reference, append_unused, append_value};
 use crate::frame::{Body, Frame, Scope, Turn};
 use crate::jump::{distance, join, replace};
 use crate::place::{append_all_empty, append_drops, append_forget, append_store, take_some};
@@ -38,6 +39,28 @@ fn append_whole(
     append_value(alloc, actions, program, frame, expression)?;
     let taken = take_some(&actions[begin..]);
     append_drops(actions, taken)
+}
+
+/// Appends the actions of a full-expression whose number nobody uses, and the one that takes it.
+fn append_evaluated(
+    alloc: Global,
+    actions: &mut Vec<Action>,
+    program: &Checked,
+    body: Body,
+    expression: &Value,
+) -> Result<(), NoMemory>
+    ensures { OnOk result (orders actions.new.items ≡ orders actions.old.items ++ (whole_orders (program_of program.now) body.slots body.names (unused (value_of expression.now)) ++ Plain Pop ∷ [])) }
+{
+    let frame = Frame {
+        slots: body.slots,
+        names: body.names,
+        operands: 0,
+    };
+    let begin = actions.len();
+    append_unused(alloc, actions, program, frame, expression)?;
+    let taken = take_some(&actions[begin..]);
+    append_drops(actions, taken)?;
+    append(actions, Instr::Plain(Op::Pop))
 }
 
 /// Appends the actions of a full-expression that gives an object or nil.
@@ -106,10 +129,7 @@ pub(crate) fn append_command(
             };
             append_sequence(alloc, actions, program, body, scopes, scope, all)
         }
-        Command::Evaluate(value) => {
-            append_whole(alloc, actions, program, body, value)?;
-            append(actions, Instr::Plain(Op::Pop))
-        }
+        Command::Evaluate(value) => append_evaluated(alloc, actions, program, body, value),
         Command::EvaluateReference(reference) => {
             append_whole_reference(alloc, actions, program, body, reference)
         }

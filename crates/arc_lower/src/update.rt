@@ -1,11 +1,13 @@
 //! Actions of updates, which have the old number on top.
 ghost use Rattle.std.specs.Prelude.{◌≡◌, ◌++◌, [], ◌∷◌, OnOk, IfOk};
-ghost use Rattle.arc_code.specs.declared.instr.Op.TheVariants.{Bin, Narrow};
+ghost use Rattle.arc_code.specs.declared.instr.Op.TheVariants.{Bin};
 ghost use Rattle.arc_code.specs.declared.instr.Instr.TheVariants.{Plain};
 ghost use Rattle.arc_lower.specs.Order.{orders};
-ghost use Rattle.arc_lower.specs.Lowered.{old_orders, given_orders, below_new};
+ghost use Rattle.arc_lower.specs.Known.{combined_kind};
+ghost use Rattle.arc_lower.specs.Lowered.{old_orders, given_orders, narrow_orders, below_new};
 
 use crate::expression::append;
+use crate::known::{combined_kind, is_within};
 use crate::variable::one_more;
 use arc_ast::tree::{BinaryOperator, Kind, Moment};
 use arc_code::instr::{Instr, Op};
@@ -43,13 +45,29 @@ pub(crate) fn append_old(actions: &mut Vec<Action>, moment: Moment) -> Result<()
 
 /// Appends the actions that make the new number of the old one and the right operand.
 pub(crate) fn append_new(actions: &mut Vec<Action>, update: Update) -> Result<(), NoMemory>
-    ensures { OnOk result (orders actions.new.items ≡ orders actions.old.items ++ (Plain (Bin update.operator update.computed) ∷ Plain (Narrow update.kept) ∷ [])) }
+    ensures { OnOk result (orders actions.new.items ≡ orders actions.old.items ++ (Plain (Bin update.operator update.computed) ∷ narrow_orders (combined_kind update.operator update.computed) update.kept)) }
 {
     append(
         actions,
         Instr::Plain(Op::Bin(update.operator, update.computed)),
     )?;
-    append(actions, Instr::Plain(Op::Narrow(update.kept)))
+    let known = combined_kind(update.operator, update.computed);
+    append_narrow(actions, known, update.kept)
+}
+
+/// Appends the action that makes a number of a known kind one of another kind, where it may not be one.
+pub(crate) fn append_narrow(
+    actions: &mut Vec<Action>,
+    known: Kind,
+    kind: Kind,
+) -> Result<(), NoMemory>
+    ensures { OnOk result (orders actions.new.items ≡ orders actions.old.items ++ narrow_orders known kind) }
+{
+    if is_within(known, kind) {
+        Ok(())
+    } else {
+        append(actions, Instr::Plain(Op::Narrow(kind)))
+    }
 }
 
 /// Appends the action that leaves the old number alone, where the update gives that.

@@ -1,5 +1,5 @@
 //! The instructions that read and set the variables of the whole program.
-ghost use Rattle.std.specs.Prelude.{◌≡◌, ◌-◌, ◌^◌, ◌<◌, ◌≤◌, []};
+ghost use Rattle.std.specs.Prelude.{◌≡◌, ◌+◌, ◌-◌, ◌^◌, ◌<◌, ◌≤◌, []};
 ghost use Rattle.arc_code.specs.Running.{program_of};
 ghost use Rattle.arc_machine.specs.Places.{Ready, Executes, HasPlaces, spot};
 
@@ -25,6 +25,8 @@ impl Place {
         requires places { HasPlaces _code.now objects.old }
         ensures went { Executes S.out (program_of _code.now) (Instr.Plain (Op.GetGlobal variable)) result []
             (spot self.old objects.old) (spot self.new objects.new) }
+        ensures going { result ≡ Answer.Going }
+        ensures at { self.new.at ≡ self.old.at + 1 }
         ensures room { self.new.stack.room ≡ self.old.stack.room }
     {
         self.stack.push(objects.global(variable));
@@ -46,6 +48,8 @@ impl Place {
         requires places { HasPlaces _code.now objects.old }
         ensures went { Executes S.out (program_of _code.now) (Instr.Plain (Op.SetGlobal variable)) result []
             (spot self.old objects.old) (spot self.new objects.new) }
+        ensures going { result ≡ Answer.Going }
+        ensures at { self.new.at ≡ self.old.at + 1 }
         ensures room { self.new.stack.room ≡ self.old.stack.room }
     {
         let number = self.stack.pop();

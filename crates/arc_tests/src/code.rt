@@ -99,6 +99,8 @@ fn each_instruction(alloc: Global) -> Result<Code, AllocError> {
         Instr::Plain(Op::Differ),
         Instr::Plain(Op::IsObject),
         Instr::Plain(Op::Again),
+        Instr::Plain(Op::GetGlobal(9)),
+        Instr::Plain(Op::SetGlobal(10)),
     ];
     Ok(Code {
         instrs: Vec::from_slice(alloc, &instrs)?,
@@ -107,6 +109,7 @@ fn each_instruction(alloc: Global) -> Result<Code, AllocError> {
         room: 0,
         names: 0,
         places: 0,
+        globals: Vec::new(alloc),
         classes: Vec::new(alloc),
     })
 }
@@ -117,7 +120,7 @@ const LISTING: &str = "0 Num -42\n1 Bin 3 2\n2 Un 2 3\n3 Narrow 1\n4 Pop\n5 Get 
     14 Send 3 1\n15 SendSuper 1 2 0\n16 SendTo 11 12\n17 SendToSuper 14 15 16\n18 StoreStrong 2\n\
     19 Empty 3\n20 DropAll\n21 Return\n22 EndStep\n23 Declare\n24 Nil\n25 ReadSelf\n26 ReadRef 4\n\
     27 Hold\n28 Forget\n29 Alloc\n30 GetField 5 6\n31 SetField 7 8\n32 Differ\n33 IsObject\n\
-    34 Again\n";
+    34 Again\n35 GetGlobal 9\n36 SetGlobal 10\n";
 
 #[test]
 fn code_is_listed(rt: HostRuntime) -> Result<(), Fail> {

@@ -14,6 +14,7 @@ fn fault(alloc: Global, unit: &TranslationUnit) -> Option<(u8, usize)> {
         unit,
         functions: Vec::new(alloc),
         main: 0,
+        globals: Vec::new(alloc),
         classes: Vec::new(alloc),
     };
     match own(alloc, &program) {

@@ -68,7 +68,7 @@ seen_of answer.NoHeap s i t = refl
 -- ---- a machine that runs the code
 
 -- a machine stands for the start of its code
-pub fresh_stands : {S : Type 0} → (out : S → Blocks) (p : Program) (store : S) → StandsAs out (fresh p store) start
+pub fresh_stands : {S : Type 0} → (out : S → Blocks) (p : Program) (store : S) → StandsAs out (fresh p store) (start p)
 fresh_stands out p store = record {
   at = refl;
   stack = refl;
@@ -90,6 +90,7 @@ fresh_stands out p store = record {
       known_self = omega arith;
       known_frames = λ k d e. absurd (omega (arith, e));
       ends = tt;
+      globals = refl;
     },
   );
 }
@@ -98,7 +99,7 @@ fresh_stands out p store = record {
 pub record Reaches {S : Type 0} (out : S → Blocks) (p : Program) (m : Seen S) (in0 in1 : Option (List ℕ)) (events : List Event) : Type 0 where
   pub store : S
   pub taken : List ℕ
-  pub moves : Moves out (fresh p store) m start in0 in1 None None m.steps taken events
+  pub moves : Moves out (fresh p store) m (start p) in0 in1 None None m.steps taken events
 
 pub starts : {S : Type 0} → (out : S → Blocks) (p : Program) (store : S) (i : Option (List ℕ)) → IsSound p → Reaches out p (fresh p store) i i []
 starts out p store i sound = record {
@@ -108,7 +109,7 @@ starts out p store i sound = record {
     program = refl;
     steps = refl;
     reads = Consumes-nil i;
-    state = start;
+    state = start p;
     stands = fresh_stands out p store;
     sound = λ _. sound;
     run = λ rest l. refl;
@@ -135,8 +136,8 @@ module _ {S : Type 0} (out : S → Blocks) (p : Program) (old new : Seen S) (i0 
     reaches_on : ReachesOn trace
     reaches_on =
         let count : n + old.steps ≡ new.steps = omega (arith, m.steps) in
-        let all = moves_on out (fresh p way.store) old new start i0 i1 i2 None None None old.steps n way.taken taken events trace going way.moves m in
-        (record { store = way.store; taken = way.taken ++ taken; moves = subst (λ k. Moves out (fresh p way.store) new start i0 i2 None None k (way.taken ++ taken) (events ++ trace)) count all }, shown_before)
+        let all = moves_on out (fresh p way.store) old new (start p) i0 i1 i2 None None None old.steps n way.taken taken events trace going way.moves m in
+        (record { store = way.store; taken = way.taken ++ taken; moves = subst (λ k. Moves out (fresh p way.store) new (start p) i0 i2 None None k (way.taken ++ taken) (events ++ trace)) count all }, shown_before)
 
     -- the events of one step or none are those that the machine has of it
     trace_is : (k : ℕ) → n ≡ k → k ≤ 1 → trace ≡ new_events new old.steps
@@ -167,7 +168,7 @@ reached_rest (answer.Broken f) s i t = refl
 reached_rest answer.NoHeap s i t = refl
 
 -- a run has taken what the machine took
-pub takes_so : (p : Program) (made : ℕ) (taken rest : List ℕ) (a : Answer) (s : State) (t : List Event) → after_steps (step p) made (Running start (taken ++ rest) []) ≡ reached a s rest t → Takes p made taken rest
+pub takes_so : (p : Program) (made : ℕ) (taken rest : List ℕ) (a : Answer) (s : State) (t : List Event) → after_steps (step p) made (Running (start p) (taken ++ rest) []) ≡ reached a s rest t → Takes p made taken rest
 takes_so p made taken rest a s t run = ap rest_of run ∙ reached_rest a s rest t
 
 -- a run that has no room for an object goes on with one, and one whose reader fails goes on with a step that reads

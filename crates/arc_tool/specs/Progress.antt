@@ -7,7 +7,7 @@ use Rattle.arc_code.specs.Running.{Program, State, start, step}
 use Rattle.arc_machine.specs.Runs.{IsAsking}
 
 abbrev pub run_of : Program → (input : List ℕ) → (made : ℕ) → Reached State
-run_of p input made = after_steps (step p) made (Running start input [])
+run_of p input made = after_steps (step p) made (Running (start p) input [])
 
 -- what it has left of its input
 abbrev pub rest_of : {S : Type 0} → Reached S → List ℕ

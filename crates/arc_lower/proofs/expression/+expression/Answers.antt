@@ -1,5 +1,6 @@
-use Rattle.std.proofs.Common.{◌≡◌, ℕ, suc, ◌+◌, List, [], ◌∷◌, ◌++◌, length, Result, drop, refl, ap, sym, subst, ◌∙◌, append_assoc, arith, OnOk}
+use Rattle.std.proofs.Common.{◌≡◌, ℕ, suc, ◌+◌, Bool, true, false, if◌then◌else◌, List, [], ◌∷◌, ◌++◌, length, Result, drop, refl, ap, sym, subst, ◌∙◌, append_assoc, arith, OnOk}
 use Rattle.std.proofs.lemmas.List.{drop_more, length-map}
+use Rattle.arc_ast.specs.declared.tree.Kind.{Kind}
 use Rattle.arc_ast.specs.declared.tree.Moment.{Moment}
 use Rattle.arc_ast.specs.declared.tree.Moment.TheVariants.{Before, After}
 use Rattle.arc_spec.specs.declared.location.Location.TheVariants.{Local}
@@ -11,7 +12,8 @@ use Rattle.arc_code.specs.declared.instr.Op.TheVariants as ops
 use Rattle.arc_code.specs.declared.instr.Op.TheVariants.{Bin, Narrow, ReadSelf, GetField, SetField, Differ}
 use Rattle.arc_code.specs.declared.instr.Instr.TheVariants.{Plain, Send, SendSuper, SendTo, SendToSuper}
 use Rattle.arc_lower.specs.Order.{Order, order, orders}
-use Rattle.arc_lower.specs.Lowered.{Inside, flat, old_block, given_block, old_orders, given_orders, below_new, value_orders, reference_orders, all_value_orders, print_orders, call_orders, get_orders, set_orders, value_count}
+use Rattle.arc_lower.specs.Known.{is_within, combined_kind, known_kind}
+use Rattle.arc_lower.specs.Lowered.{Idle, One, Inside, flat, old_block, given_block, narrow_block, old_orders, given_orders, narrow_orders, below_new, value_orders, reference_orders, all_value_orders, print_orders, call_orders, get_orders, set_orders, value_count}
 use Rattle.arc_lower.proofs.Patching.{patch_fork}
 use Rattle.arc_lower.proofs.Rows.{values_counted}
 use Rattle.arc_check.proofs.Trees.{is_print, is_invoked, is_sent, is_sent_super, is_sent_to, is_sent_to_super}
@@ -29,18 +31,26 @@ given_is : (P : resolved.Program) (slots names : ℕ) (moment : Moment) → give
 given_is P slots names Before = refl
 given_is P slots names After = refl
 
+narrow_is : (P : resolved.Program) (slots names : ℕ) (known kind : Kind) → narrow_orders known kind ≡ flat P slots names Inside (narrow_block known kind)
+narrow_is P slots names known kind = by (is_within known kind)
+  where
+    by : (b : Bool) → (if b then [] else Plain (Narrow kind) ∷ []) ≡ flat P slots names Inside (if b then Idle else One (Narrow kind))
+    by true = refl
+    by false = refl
+
 -- the orders of an update behind those that have the old number on top
 behind_old : (old first copy right new store given o1 o2 o3 : List Order) → o1 ≡ old ++ first → o2 ≡ o1 ++ (copy ++ (right ++ new)) → o3 ≡ o2 ++ store → o3 ++ given ≡ old ++ (first ++ (copy ++ (right ++ (new ++ (store ++ given)))))
 behind_old old first copy right new store given o1 o2 o3 e1 e2 e3 =
     ap (λ l. l ++ given) (e3 ∙ ap (λ l. l ++ store) (e2 ∙ ap (λ l. l ++ (copy ++ (right ++ new))) e1)) ∙ simp append_assoc
 
 -- these are the orders of an update's blocks
-updates : (P : resolved.Program) (slots names : ℕ) (moment : Moment) (old first : List Order) (right : ℕ → List Order) (new : List Order) (store : ℕ → List Order) (n m : ℕ) → n ≡ m
-    → old ++ (first ++ (old_orders moment ++ (right n ++ (new ++ (store n ++ given_orders moment))))) ≡ old ++ (first ++ (flat P slots names Inside (old_block moment) ++ (right m ++ (new ++ (store m ++ flat P slots names Inside (given_block moment))))))
-updates P slots names moment old first right new store n m e =
+updates : (P : resolved.Program) (slots names : ℕ) (moment : Moment) (old first : List Order) (right : ℕ → List Order) (new made : List Order) (store : ℕ → List Order) (n m : ℕ) → n ≡ m → new ≡ made
+    → old ++ (first ++ (old_orders moment ++ (right n ++ (new ++ (store n ++ given_orders moment))))) ≡ old ++ (first ++ (flat P slots names Inside (old_block moment) ++ (right m ++ (made ++ (store m ++ flat P slots names Inside (given_block moment))))))
+updates P slots names moment old first right new made store n m e same =
     ap (λ k. old ++ (first ++ (old_orders moment ++ (right k ++ (new ++ (store k ++ given_orders moment)))))) e
     ∙ ap (λ l. old ++ (first ++ (l ++ (right m ++ (new ++ (store m ++ given_orders moment)))))) (old_is P slots names moment)
     ∙ ap (λ l. old ++ (first ++ (flat P slots names Inside (old_block moment) ++ (right m ++ (new ++ (store m ++ l)))))) (given_is P slots names moment)
+    ∙ ap (λ l. old ++ (first ++ (flat P slots names Inside (old_block moment) ++ (right m ++ (l ++ (store m ++ flat P slots names Inside (given_block moment))))))) same
 
 -- what holds of what a value means holds of the value
 told : (Q : resolved.Value → Type 0) (v : Value) (meant : resolved.Value) → value v ≡ meant → Q meant → Q (value v)
@@ -79,15 +89,15 @@ append_value-returns-in-Combined t c =
     told (λ x. OnOk c.append_both.result (orders c.append_both.new.actions.items ≡ orders c.args.actions.now.items ++ value_orders (program_of c.args.program.now) f.slots f.names f.operands x)) c.args.expression.now _
     (is_combined c.args.expression.now c.in-Combined.operator c.in-Combined.kind c.in-Combined.left c.in-Combined.right c.deref-in-Combined.result.now c.deref-in-Combined-2.result.now c.in-Combined.is c.deref-in-Combined.ensures c.deref-in-Combined-2.ensures) c.append_both.ensures
 
-pub append_value-append_value_then-requires-in-Converted : goal.append_value-append_value_then-requires-in-Converted
-append_value-append_value_then-requires-in-Converted t c =
+pub append_value-append_converted-requires : goal.append_value-append_converted-requires
+append_value-append_converted-requires t c =
     (omega (arith, ap value_weight (is_converted c.args.expression.now c.in-Converted.kind c.in-Converted.operand c.deref-in-Converted.result.now c.in-Converted.is c.deref-in-Converted.ensures), c.decreases), tt)
 
 pub append_value-returns-in-Converted : goal.append_value-returns-in-Converted
 append_value-returns-in-Converted t c =
     let f = c.args.frame in
-    told (λ x. OnOk c.append_value_then-in-Converted.result (orders c.append_value_then-in-Converted.new.actions.items ≡ orders c.args.actions.now.items ++ value_orders (program_of c.args.program.now) f.slots f.names f.operands x)) c.args.expression.now _
-    (is_converted c.args.expression.now c.in-Converted.kind c.in-Converted.operand c.deref-in-Converted.result.now c.in-Converted.is c.deref-in-Converted.ensures) c.append_value_then-in-Converted.ensures
+    told (λ x. OnOk c.append_converted.result (orders c.append_converted.new.actions.items ≡ orders c.args.actions.now.items ++ value_orders (program_of c.args.program.now) f.slots f.names f.operands x)) c.args.expression.now _
+    (is_converted c.args.expression.now c.in-Converted.kind c.in-Converted.operand c.deref-in-Converted.result.now c.in-Converted.is c.deref-in-Converted.ensures) c.append_converted.ensures
 
 pub append_value-append_assigned-requires : goal.append_value-append_assigned-requires
 append_value-append_assigned-requires t c =
@@ -524,6 +534,24 @@ append_field_assigned-returns t c =
     (behind_two old o1 o2 (reference_orders P f.slots f.names f.operands (reference c.args.object.now)) (value_orders P f.slots f.names f.operands (value c.args.operand.now)) (Plain (SetField c.args.class c.args.index) ∷ []) c.in_ok-append_reference.ensures c.in_ok-append_value.ensures)
     c.append.ensures
 
+pub append_converted-append_value-requires : goal.append_converted-append_value-requires
+append_converted-append_value-requires t c =
+    (omega (arith, c.decreases), tt)
+
+pub append_converted-returns : goal.append_converted-returns
+append_converted-returns t c =
+    let P = program_of c.args.program.now in
+    let f = c.args.frame in
+    let old = orders c.args.actions.now.items in
+    let a = value c.args.operand.now in
+    let xs = value_orders P f.slots f.names f.operands a in
+    rightly c.append_narrow.result (orders c.append_narrow.new.actions.items) _ _
+    (ap (λ known. orders c.append_value.new.actions.items ++ narrow_orders known c.args.kind) c.known_kind.ensures
+    ∙ ap (λ l. l ++ narrow_orders (known_kind a) c.args.kind) c.in_ok-append_value.ensures
+    ∙ append_assoc old xs (narrow_orders (known_kind a) c.args.kind)
+    ∙ ap (λ l. old ++ (xs ++ l)) (narrow_is P f.slots f.names (known_kind a) c.args.kind))
+    c.append_narrow.ensures
+
 pub append_update-returns : goal.append_update-returns
 append_update-returns t c =
     let P = program_of c.args.program.now in
@@ -535,7 +563,7 @@ append_update-returns t c =
     let a = value c.args.operand.now in
     let next = c.in_ok-append_value.ensures ∙ ap (λ n. o1 ++ value_orders P f.slots f.names n a) c.in_ok-operands.ensures in
     rightly c.append_new.result (orders c.append_new.new.actions.items) _ _
-    (behind_two old o1 o2 (old_orders u.moment) (value_orders P f.slots f.names (suc f.operands) a) (Plain (Bin u.operator u.computed) ∷ Plain (Narrow u.kept) ∷ []) c.in_ok-append_old.ensures next)
+    (behind_two old o1 o2 (old_orders u.moment) (value_orders P f.slots f.names (suc f.operands) a) (Plain (Bin u.operator u.computed) ∷ narrow_orders (combined_kind u.operator u.computed) u.kept) c.in_ok-append_old.ensures next)
     c.append_new.ensures
 
 pub append_updated-returns : goal.append_updated-returns
@@ -546,12 +574,14 @@ append_updated-returns t c =
     let old = orders c.args.actions.now.items in
     let first = get_orders f.slots f.operands c.args.location in
     let right : ℕ → List Order = λ n. value_orders P f.slots f.names (suc n) (value c.args.operand.now) in
-    let new : List Order = Plain (Bin u.operator u.computed) ∷ Plain (Narrow u.kept) ∷ [] in
+    let known = combined_kind u.operator u.computed in
+    let new : List Order = Plain (Bin u.operator u.computed) ∷ narrow_orders known u.kept in
+    let made : List Order = Plain (Bin u.operator u.computed) ∷ flat P f.slots f.names Inside (narrow_block known u.kept) in
     let store : ℕ → List Order = λ n. set_orders f.slots n c.args.location in
     let n = c.in_ok-operands.operands in
     rightly c.append_given.result (orders c.append_given.new.actions.items) _ _
     (behind_old old first (old_orders u.moment) (right n) new (store n) (given_orders u.moment) _ _ _ c.in_ok-append_get.ensures c.in_ok-append_update.ensures c.in_ok-append_set.ensures
-    ∙ updates P f.slots f.names u.moment old first right new store n (below_new u.moment f.operands) c.in_ok-operands.ensures)
+    ∙ updates P f.slots f.names u.moment old first right new made store n (below_new u.moment f.operands) c.in_ok-operands.ensures (ap (λ l. Plain (Bin u.operator u.computed) ∷ l) (narrow_is P f.slots f.names known u.kept)))
     c.append_given.ensures
 
 pub append_field_updated-returns : goal.append_field_updated-returns
@@ -563,14 +593,16 @@ append_field_updated-returns t c =
     let object = reference_orders P f.slots f.names f.operands (reference c.args.object.now) in
     let read : List Order = Plain ops.Again ∷ Plain (GetField c.args.class c.args.index) ∷ [] in
     let right : ℕ → List Order = λ n. value_orders P f.slots f.names (suc n) (value c.args.operand.now) in
-    let new : List Order = Plain (Bin u.operator u.computed) ∷ Plain (Narrow u.kept) ∷ [] in
+    let known = combined_kind u.operator u.computed in
+    let new : List Order = Plain (Bin u.operator u.computed) ∷ narrow_orders known u.kept in
+    let made : List Order = Plain (Bin u.operator u.computed) ∷ flat P f.slots f.names Inside (narrow_block known u.kept) in
     let store : List Order = Plain (SetField c.args.class c.args.index) ∷ [] in
     let n = c.in_ok-operands.operands in
     let begun : orders c.append-2.new.actions.items ≡ old ++ (object ++ read) =
     c.in_ok-append-2.ensures ∙ ap (λ l. l ++ Plain (GetField c.args.class c.args.index) ∷ []) (c.in_ok-append.ensures ∙ ap (λ l. l ++ Plain ops.Again ∷ []) c.in_ok-append_reference.ensures) ∙ simp append_assoc in
     rightly c.append_given.result (orders c.append_given.new.actions.items) _ _
     (behind_old old (object ++ read) (old_orders u.moment) (right n) new store (given_orders u.moment) _ _ _ begun c.in_ok-append_update.ensures c.in_ok-append-3.ensures
-    ∙ updates P f.slots f.names u.moment old (object ++ read) right new (λ _. store) n (below_new u.moment f.operands) c.in_ok-operands.ensures
+    ∙ updates P f.slots f.names u.moment old (object ++ read) right new made (λ _. store) n (below_new u.moment f.operands) c.in_ok-operands.ensures (ap (λ l. Plain (Bin u.operator u.computed) ∷ l) (narrow_is P f.slots f.names known u.kept))
     ∙ ap (λ l. old ++ l) (append_assoc object read _))
     c.append_given.ensures
 

@@ -43,7 +43,7 @@ returns c =
       room = room;
       names = names;
       places = places;
-      globals = c.in_ok-globals.ensures;
+      globals = c.in_ok-globals.ensures.items ∙ c.deref-2.ensures.value;
       classes = c.in_ok-classes.ensures.linked ∙ ap (λ s. linked_classes R c.deref.result.now (length s) R.classes) running ∙ ap (λ e. linked_classes R e (length (running_orders R)) R.classes) given;
     } in
     record { performs = performs made R exact; exact = exact }

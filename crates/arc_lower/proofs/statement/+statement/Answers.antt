@@ -6,7 +6,7 @@ use Rattle.arc_ir.specs.declared.action.Target.TheVariants.{Skip}
 use Rattle.arc_check.specs.Checked.{value, command, commands, program_of}
 use Rattle.arc_lower.specs.Order.{order, orders}
 use Rattle.arc_lower.specs.Lowered.{whole_orders, command_orders}
-use Rattle.arc_lower.specs.Surroundings.{surroundings, step_orders, step_begin, turn_orders_of, with_turn}
+use Rattle.arc_lower.specs.Surroundings.{surroundings}
 use Rattle.arc_check.proofs.Trees.{sequence_command}
 use Rattle.arc_lower.proofs.Patching.{patch_fork}
 use Rattle.arc_lower.proofs.Turning.{choice_written, repeat_written, repeat_after_written, step_written}
@@ -28,10 +28,10 @@ append_command-returns-in_ok-append_command-in-Choose-2-clause-actions t c =
     let b = c.args.body in
     let scopes = c.args.scopes.now.items in
     let old = orders c.args.actions.now.items in
-    let v1 = c.append_whole-in-Choose.new.actions in
-    let v2 = c.append-in-Choose.new.actions in
+    let v1 = c.append_whole.new.actions in
+    let v2 = c.append.new.actions in
     let v3 = c.append_command.new.actions in
-    let v4 = c.append-in-Choose-2.new.actions in
+    let v4 = c.append-in-Choose.new.actions in
     let v5 = c.append_command-in-Choose.new.actions in
     let around = surroundings b scopes in
     let test = value c.in-Choose.test in

@@ -1,10 +1,10 @@
-use Rattle.std.proofs.Common.{◌≡◌, ℕ, pos, [], ◌∷◌, ◌++◌, reverse, Some, None, OnOk, sym, ap, ◌∙◌, subst, append_assoc}
-use Rattle.arc_spec.specs.Resolved.{Program, Break, Continue}
+use Rattle.std.proofs.Common.{◌≡◌, pos, [], ◌∷◌, ◌++◌, reverse, OnOk, sym, ap, ◌∙◌, subst, append_assoc}
+use Rattle.arc_spec.specs.Resolved.{Continue}
 use Rattle.arc_code.specs.declared.instr.Op.TheVariants.{Num}
 use Rattle.arc_code.specs.declared.instr.Instr.TheVariants.{Plain, Jump}
 use Rattle.arc_ir.specs.declared.action.Target.TheVariants.{At}
 use Rattle.arc_lower.specs.Order.{Order, orders}
-use Rattle.arc_lower.specs.Lowered.{Surroundings, scopes_orders, command_orders}
+use Rattle.arc_lower.specs.Lowered.{scopes_orders, command_orders}
 use Rattle.arc_lower.proofs.Surrounding.{continue_in, continue_out}
 use Rattle.arc_lower.proofs.statement.append_continue.Goals as goal
 

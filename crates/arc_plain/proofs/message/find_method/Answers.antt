@@ -7,5 +7,8 @@ use Rattle.arc_plain.proofs.message.find_method.Goals as goal
 pub returns : goal.returns
 returns c =
     let context = c.args.context.now in
-    c.look_up.ensures ∙ ap (λ l. lookup (classes_of l) c.args.from c.args.sign c.args.selector c.args.takes) c.deref.ensures.value
-    ∙ ap (λ l. lookup l c.args.from c.args.sign c.args.selector c.args.takes) (sym (level_classes (program_of context.program.now) context.bound context.levels))
+    let given = c.args.given.now in
+    c.look_up.ensures ∙ ap (λ l. lookup (classes_of l) c.args.from c.args.sign c.args.selector c.len.result c.len-2.result) c.deref.ensures.value
+    ∙ ap (λ n. lookup (classes_of context.program.now.classes.items) c.args.from c.args.sign c.args.selector n c.len-2.result) (c.len.ensures ∙ given.numbers.ok.0)
+    ∙ ap (λ n. lookup (classes_of context.program.now.classes.items) c.args.from c.args.sign c.args.selector _ n) (c.len-2.ensures ∙ given.objects.ok.0)
+    ∙ ap (λ l. lookup l c.args.from c.args.sign c.args.selector _ _) (sym (level_classes (program_of context.program.now) context.bound context.levels))

@@ -7,17 +7,17 @@ use Rattle.arc_spec.specs.Classes.{superclasses, ancestry}
 use Rattle.arc_spec.specs.Number.{is_zero}
 use Rattle.arc_spec.proofs.Ancestry.{all_classes}
 use Rattle.arc_check.specs.Checked.{program_of}
-use Rattle.arc_spec.specs.Meaning.{updated, given_by, field_set, evaluated, whole, all_evaluated, all_executed, executed, turns, turns_after, called, function_at, all_dropped, variables_dropped, class_in, deallocs_run, dying, gone, level}
+use Rattle.arc_spec.specs.Meaning.{updated, given_by, field_set, evaluated, whole, all_evaluated, all_executed, executed, turns, turns_after, called, function_at, all_dropped, variables_dropped, class_in, deallocs_run, dying, emptied, gone, level}
 use Rattle.arc_spec.specs.Resolved.{Updated, FieldUpdated, Function}
 use Rattle.arc_spec.specs.Objects.{object_at}
-use Rattle.arc_spec.specs.World.{Done, then_do}
-use Rattle.arc_plain.specs.Views.{world, Tells, deeper, flow_of, nothing_of, object_of, function_of, left_at}
+use Rattle.arc_spec.specs.World.{World, Outcome, Done, then_do, Finished}
+use Rattle.arc_plain.specs.Views.{world, given_of, Tells, deeper, flow_of, nothing_of, object_of, function_of, left_at}
 use Rattle.arc_plain.proofs.Calls.{call_told, body_failed, drop_failed, nothing_called, function_there, function_absent, temporary_step, temporaries_fewer, no_temporary, variable_step, variable_failed, layer_done, layer_failed}
 use Rattle.arc_plain.proofs.Keeping.{level_steady}
-use Rattle.arc_check.proofs.Trees.{is_print, is_invoked, is_sent, is_sent_super, is_sent_to, is_sent_to_super, is_sequence}
-use Rattle.arc_plain.proofs.Turns.{value_told, message_told, command_told, values_step, test_failed, turns_step, turns_left, turn_failed, turns_after_step, turns_after_left, turn_after_failed, call_is, end_is, tells_through}
+use Rattle.arc_check.proofs.Trees.{is_print, is_invoked, is_sent, is_sequence}
+use Rattle.arc_plain.proofs.Turns.{value_told, command_told, number_step, object_step, test_failed, turns_step, turns_left, turn_failed, turns_after_step, turns_after_left, turn_after_failed, call_is, end_is, tells_through}
 use Rattle.arc_plain.proofs.Updates.{variable_stored, field_stored, variable_updated, field_updated}
-use Rattle.arc_plain.proofs.Weights.{print_lighter, call_lighter, sent_lighter, super_lighter, sent_to_lighter, to_super_lighter, sequence_lighter, value_in, command_in, commands_weight, level_lighter, body_lighter}
+use Rattle.arc_plain.proofs.Weights.{print_lighter, call_lighter, sent_lighter, sequence_lighter, argument_in, command_in, commands_weight, level_lighter, body_lighter}
 use Rattle.arc_plain.proofs.run.+running.Goals as goal
 
 pub evaluate-returns-in-Print : goal.evaluate-returns-in-Print
@@ -34,29 +34,6 @@ pub evaluate-returns-in-Sent : goal.evaluate-returns-in-Sent
 evaluate-returns-in-Sent t c =
     value_told (deeper c.args.context.now) c.args.value.now _ c.send.result (world c.args.progress.now) (world c.send.new.progress)
     (is_sent c.args.value.now c.in-Sent.receiver c.in-Sent.selector c.in-Sent.arguments c.deref-in-Sent.result.now c.deref-in-Sent-2.result.now c.in-Sent.is c.deref-in-Sent.ensures c.deref-in-Sent-2.ensures.value) c.send.ensures
-
-pub evaluate-returns-in-SentSuper : goal.evaluate-returns-in-SentSuper
-evaluate-returns-in-SentSuper t c =
-    value_told (deeper c.args.context.now) c.args.value.now _ c.send_super.result (world c.args.progress.now) (world c.send_super.new.progress)
-    (is_sent_super c.args.value.now c.in-SentSuper.from c.in-SentSuper.selector c.in-SentSuper.arguments c.deref-in-SentSuper.result.now c.in-SentSuper.is c.deref-in-SentSuper.ensures.value) c.send_super.ensures
-
-pub evaluate-returns-in-SentTo : goal.evaluate-returns-in-SentTo
-evaluate-returns-in-SentTo t c =
-    value_told (deeper c.args.context.now) c.args.value.now _ c.send_to.result (world c.args.progress.now) (world c.send_to.new.progress)
-    (is_sent_to c.args.value.now c.in-SentTo.receiver c.in-SentTo.selector c.in-SentTo.arguments c.deref-in-SentTo.result.now c.deref-in-SentTo-2.result.now c.in-SentTo.is c.deref-in-SentTo.ensures c.deref-in-SentTo-2.ensures.value) c.send_to.ensures
-
-pub evaluate-returns-in-SentToSuper : goal.evaluate-returns-in-SentToSuper
-evaluate-returns-in-SentToSuper t c =
-    value_told (deeper c.args.context.now) c.args.value.now _ c.send_to_super.result (world c.args.progress.now) (world c.send_to_super.new.progress)
-    (is_sent_to_super c.args.value.now c.in-SentToSuper.from c.in-SentToSuper.selector c.in-SentToSuper.arguments c.deref-in-SentToSuper.result.now c.in-SentToSuper.is c.deref-in-SentToSuper.ensures.value) c.send_to_super.ensures
-
-pub send-returns : goal.send-returns
-send-returns t c =
-    let same : to_z w64 (of_z w64 c.in_ok-itself.itself) ≡ c.in_ok-itself.itself = grind (arith, to_z-of_z) in
-    message_told (deeper c.args.context.now) (checked.value c.args.receiver.now) (checked.values c.args.arguments.now) c.args.selector c.in_ok-itself.itself (to_z w64 (of_z w64 c.in_ok-itself.itself))
-    c.in_ok-numbers.numbers.items c.deref.result.now c.class_at-from.result c.dispatch.result
-    (world c.args.progress.now) (world c.evaluate.new.progress) (world c.evaluate_all.new.progress) (world c.dispatch.new.progress)
-    same c.deref.ensures.value c.class_at-from.ensures c.in_ok-itself.ensures c.in_ok-numbers.ensures c.dispatch.ensures
 
 pub update_variable-returns-in_err-new : goal.update_variable-returns-in_err-new
 update_variable-returns-in_err-new t c =
@@ -179,32 +156,9 @@ pub evaluate-send-requires : goal.evaluate-send-requires
 evaluate-send-requires t c =
     (omega (arith, sent_lighter c.args.value.now c.in-Sent.receiver c.in-Sent.selector c.in-Sent.arguments c.deref-in-Sent.result.now c.deref-in-Sent-2.result.now c.in-Sent.is c.deref-in-Sent.ensures c.deref-in-Sent-2.ensures.value, c.decreases), tt)
 
-pub evaluate-send_super-requires : goal.evaluate-send_super-requires
-evaluate-send_super-requires t c =
-    (omega (arith, super_lighter c.args.value.now c.in-SentSuper.from c.in-SentSuper.selector c.in-SentSuper.arguments c.deref-in-SentSuper.result.now c.in-SentSuper.is c.deref-in-SentSuper.ensures.value, c.decreases), tt)
-
-pub evaluate-send_to-requires : goal.evaluate-send_to-requires
-evaluate-send_to-requires t c =
-    (omega (arith, sent_to_lighter c.args.value.now c.in-SentTo.receiver c.in-SentTo.selector c.in-SentTo.arguments c.deref-in-SentTo.result.now c.deref-in-SentTo-2.result.now c.in-SentTo.is c.deref-in-SentTo.ensures c.deref-in-SentTo-2.ensures.value, c.decreases), tt)
-
-pub evaluate-send_to_super-requires : goal.evaluate-send_to_super-requires
-evaluate-send_to_super-requires t c =
-    (omega (arith, to_super_lighter c.args.value.now c.in-SentToSuper.from c.in-SentToSuper.selector c.in-SentToSuper.arguments c.deref-in-SentToSuper.result.now c.in-SentToSuper.is c.deref-in-SentToSuper.ensures.value, c.decreases), tt)
-
-pub evaluate_all-evaluate-requires : goal.evaluate_all-evaluate-requires
-evaluate_all-evaluate-requires t c =
-    (omega (arith, value_in c.args.values.now c.loop-value.value-index c.value-item.result c.loop-value-test.true c.value-item.is, c.decreases), tt)
-
 pub execute_all-execute-requires : goal.execute_all-execute-requires
 execute_all-execute-requires t c =
     (omega (arith, command_in c.args.commands.now c.loop-command.command-index c.command-item.result c.loop-command-test.true c.command-item.is, c.decreases), tt)
-
-pub evaluate_all-loop-value-preserved : goal.evaluate_all-loop-value-preserved
-evaluate_all-loop-value-preserved t c =
-    let same : to_z w64 (of_z w64 c.in_ok-number.number) ≡ c.in_ok-number.number = grind (arith, to_z-of_z) in
-    values_step (deeper c.args.context.now) c.args.values.now c.loop-value.value-index c.value-item.result c.loop-value.numbers.items c.push.new.self.items c.in_ok-number.number
-    (all_evaluated (deeper c.args.context.now) (checked.values c.args.values.now) (world c.args.progress.now)) (world c.loop-value.progress) (world c.evaluate.new.progress)
-    c.loop-value-test.true c.value-item.is c.loop-value.invariant c.in_ok-number.ensures (c.in_ok-push.ensures.items ∙ ap (λ x. c.loop-value.numbers.items ++ x ∷ []) same)
 
 pub repeat-loop-preserved : goal.repeat-loop-preserved
 repeat-loop-preserved t c =
@@ -283,7 +237,7 @@ call-returns t c =
     let context = c.args.context.now in
     let one : context.levels ≡ suc (context.levels - 1) = omega (arith, c.if-context-eq0.false) in
     subst (λ o. Tells (λ n. n) c.enter.result o (world c.enter.new.progress))
-    (sym (call_is (program_of context.program.now) context.bound context.levels (context.levels - 1) c.args.function c.args.itself c.args.arguments.now (world c.args.progress.now) one)) c.enter.ensures
+    (sym (call_is (program_of context.program.now) context.bound context.levels (context.levels - 1) c.args.function c.args.itself (given_of c.args.given.now) (world c.args.progress.now) one)) c.enter.ensures
 
 pub call-enter-requires : goal.call-enter-requires
 call-enter-requires t c =
@@ -339,8 +293,8 @@ enter-returns-in_default t c =
     let context = c.args.context.now in
     let all = c.deref.result.now in
     let past : length all ≤ c.args.function = ltb-false c.args.function (length all) (sym c.in_default.ensures.lookup.0) in
-    ap (λ g. called (deeper context) context.bound g c.args.itself c.args.arguments.now (world c.args.progress.now)) (function_absent context all c.args.function c.deref.ensures.value past)
-    ∙ nothing_called (deeper context) context.bound c.args.itself c.args.arguments.now (world c.args.progress.now)
+    ap (λ g. called (deeper context) context.bound g c.args.itself (given_of c.args.given.now) (world c.args.progress.now)) (function_absent context all c.args.function c.deref.ensures.value past)
+    ∙ nothing_called (deeper context) context.bound c.args.itself (given_of c.args.given.now) (world c.args.progress.now)
 
 pub enter-execute_all-requires : goal.enter-execute_all-requires
 enter-execute_all-requires t c =
@@ -365,8 +319,8 @@ enter-returns-in_err-flow t c =
     let p = err_from_is_err_and c.from_residual-in_err-flow.result c.from_residual-in_err-flow.ensures.1 in
     let body : Tells flow_of (Err c.in_err-flow.field-0.0) (all_executed D context.bound (checked.commands f.body.items) w1) after =
     subst (λ l. Tells flow_of (Err c.in_err-flow.field-0.0) (all_executed D context.bound (checked.commands l) w1) after) c.deref-2.ensures.value c.in_err-flow.ensures in
-    subst (λ (g : Function). Tells (λ n. n) c.from_residual-in_err-flow.result (called D context.bound g c.args.itself c.args.arguments.now w0) after) (sym found)
-    (body_failed D (level_steady P context.bound context.levels) context.bound (function_of f) c.args.itself c.args.arguments.now w0 w1 c.in_ok-kept.ensures.world
+    subst (λ (g : Function). Tells (λ n. n) c.from_residual-in_err-flow.result (called D context.bound g c.args.itself (given_of c.args.given.now) w0) after) (sym found)
+    (body_failed D (level_steady P context.bound context.levels) context.bound (function_of f) c.args.itself (given_of c.args.given.now) w0 w1 c.in_ok-kept.ensures.world
     flow_of c.in_err-flow.field-0.0 c.from_residual-in_err-flow.result after (p.1 ∙ ap Err p.2) body)
 
 pub enter-returns-in_err-drop_variables : goal.enter-returns-in_err-drop_variables
@@ -385,8 +339,8 @@ enter-returns-in_err-drop_variables t c =
     let p = err_from_is_err_and c.from_residual-in_err-drop_variables.result c.from_residual-in_err-drop_variables.ensures.1 in
     let body : all_executed D context.bound (checked.commands f.body.items) w1 ≡ Done (flow_of c.in_ok-flow.flow) w2 =
     ap (λ l. all_executed D context.bound (checked.commands l) w1) (sym c.deref-2.ensures.value) ∙ c.in_ok-flow.ensures in
-    subst (λ (g : Function). Tells (λ n. n) c.from_residual-in_err-drop_variables.result (called D context.bound g c.args.itself c.args.arguments.now w0) after) (sym found)
-    (drop_failed D (level_steady P context.bound context.levels) context.bound (function_of f) c.args.itself c.args.arguments.now w0 w1 c.in_ok-kept.ensures.world
+    subst (λ (g : Function). Tells (λ n. n) c.from_residual-in_err-drop_variables.result (called D context.bound g c.args.itself (given_of c.args.given.now) w0) after) (sym found)
+    (drop_failed D (level_steady P context.bound context.levels) context.bound (function_of f) c.args.itself (given_of c.args.given.now) w0 w1 c.in_ok-kept.ensures.world
     nothing_of (flow_of c.in_ok-flow.flow) w2 c.in_err-drop_variables.field-0.0 c.from_residual-in_err-drop_variables.result after body (p.1 ∙ ap Err p.2) c.in_err-drop_variables.ensures)
 
 pub enter-returns : goal.enter-returns
@@ -413,8 +367,8 @@ enter-returns t c =
     let count : c.len-waiting.result ≡ length old.items = c.len-waiting.ensures ∙ old.ok.0 in
     let kept : take c.len-waiting.result begun ≡ old.items = ap (λ n. take n begun) count ∙ c.in_ok-kept.ensures.below in
     let leaves : w4 ≡ left_at w0.frame (take c.len-waiting.result last) w3 = c.pop_frame.ensures ∙ ap (λ x. left_at x (take c.len-waiting.result last) w3) c.in_ok-kept.ensures.kept in
-    subst (λ (g : Function). called D context.bound g c.args.itself c.args.arguments.now w0 ≡ Done number w4) (sym found)
-    (call_told D (level_steady P context.bound context.levels) context.bound (function_of f) c.args.itself c.args.arguments.now w0 w1 c.in_ok-kept.ensures.world
+    subst (λ (g : Function). called D context.bound g c.args.itself (given_of c.args.given.now) w0 ≡ Done number w4) (sym found)
+    (call_told D (level_steady P context.bound context.levels) context.bound (function_of f) c.args.itself (given_of c.args.given.now) w0 w1 c.in_ok-kept.ensures.world
     w2 w3 w4 (flow_of c.in_ok-flow.flow) number c.len-waiting.result old.items begun last body c.in_ok-drop_variables.ensures refl refl refl kept leaves (same ∙ c.number_of.ensures))
 
 pub end-returns-in_err-run_deallocs : goal.end-returns-in_err-run_deallocs
@@ -430,13 +384,14 @@ end-returns-in_err-run_deallocs t c =
     let known : class ≡ class_in (object_at w.objects o) = c.class_of-class.ensures ∙ ap (λ l. class_in (object_at (map object_of l) o)) c.deref.ensures.value in
     let p = err_from_is_err_and c.from_residual-in_err-run_deallocs.result c.from_residual-in_err-run_deallocs.ensures.1 in
     let whole = (deeper context).end_of o w in
+    let rest : Finished → World → Outcome Finished = λ _ w2. then_do (emptied (level P context.bound n) o (object_at w2.objects o) w2) (λ _ w3. gone o w3) in
     let after = world c.run_deallocs.new.progress in
-    let meant : whole ≡ then_do (deallocs_run P (level P context.bound n) context.bound (ancestry (superclasses P.classes) class) o w1) (λ _ w2. gone o w2) =
+    let meant : whole ≡ then_do (deallocs_run P (level P context.bound n) context.bound (ancestry (superclasses P.classes) class) o w1) rest =
     end_is P context.bound context.levels n o w one
-    ∙ ap (λ x. then_do (deallocs_run P (level P context.bound n) context.bound (ancestry (superclasses P.classes) x) o (dying o (object_at w.objects o) w)) (λ _ w2. gone o w2)) (sym known)
-    ∙ ap (λ v. then_do (deallocs_run P (level P context.bound n) context.bound (ancestry (superclasses P.classes) class) o v) (λ _ w2. gone o w2)) (sym c.in_ok-begin_end.ensures) in
+    ∙ ap (λ x. then_do (deallocs_run P (level P context.bound n) context.bound (ancestry (superclasses P.classes) x) o (dying o (object_at w.objects o) w)) rest) (sym known)
+    ∙ ap (λ v. then_do (deallocs_run P (level P context.bound n) context.bound (ancestry (superclasses P.classes) class) o v) rest) (sym c.in_ok-begin_end.ensures) in
     subst (λ r. Tells nothing_of r whole after) (sym (p.1 ∙ ap Err p.2))
-    (tells_through c.in_err-run_deallocs.field-0.0 nothing_of nothing_of after (λ _ w2. gone o w2) (deallocs_run P (level P context.bound n) context.bound (ancestry (superclasses P.classes) class) o w1) whole meant c.in_err-run_deallocs.ensures)
+    (tells_through c.in_err-run_deallocs.field-0.0 nothing_of nothing_of after rest (deallocs_run P (level P context.bound n) context.bound (ancestry (superclasses P.classes) class) o w1) whole meant c.in_err-run_deallocs.ensures)
 
 pub run_deallocs-loop-passed-init : goal.run_deallocs-loop-passed-init
 run_deallocs-loop-passed-init t c =

@@ -2,10 +2,10 @@ use Rattle.std.proofs.Common.{◌≡◌, ◌+◌, ◌-◌, suc, drop, length, ve
 use Rattle.arc_check.specs.Checked as checked
 use Rattle.arc_check.specs.Checked.{program_of}
 use Rattle.arc_spec.specs.Classes.{superclasses, ancestry, ancestry_within}
-use Rattle.arc_spec.specs.Meaning.{all_evaluated, whole, executed, all_executed, turns, turns_after, all_dropped, variables_dropped, deallocs_run}
-use Rattle.arc_plain.specs.Views.{world, deeper}
+use Rattle.arc_spec.specs.Meaning.{all_evaluated, whole, executed, all_executed, turns, turns_after, all_dropped, variables_dropped, deallocs_run, fields_dropped}
+use Rattle.arc_plain.specs.Views.{world, given_of, deeper}
 use Rattle.arc_plain.proofs.Turns.{front}
-use Rattle.arc_plain.proofs.Weights.{levels_left, program_weight, value_weight, values_weight, reference_weight, command_weight, commands_weight}
+use Rattle.arc_plain.proofs.Weights.{levels_left, program_weight, value_weight, arguments_weight, receiver_weight, reference_weight, command_weight, commands_weight}
 use Rattle.arc_plain.proofs.run.+running.Given as goal
 
 abbrev pub decreases-call : goal.decreases-call
@@ -23,6 +23,12 @@ decreases-drop_temporaries l = levels_left l.context.now + 2
 abbrev pub decreases-drop_variables : goal.decreases-drop_variables
 decreases-drop_variables l = levels_left l.context.now + 2
 
+abbrev pub decreases-drop_fields : goal.decreases-drop_fields
+decreases-drop_fields l = levels_left l.context.now + 2
+
+abbrev pub decreases-empty : goal.decreases-empty
+decreases-empty l = levels_left l.context.now + 3
+
 abbrev pub decreases-enter : goal.decreases-enter
 decreases-enter l = levels_left l.context.now + (3 + program_weight l.context.now)
 
@@ -36,13 +42,13 @@ abbrev pub decreases-evaluate : goal.decreases-evaluate
 decreases-evaluate l = levels_left l.context.now + value_weight (checked.value l.value.now)
 
 abbrev pub decreases-evaluate_print : goal.decreases-evaluate_print
-decreases-evaluate_print l = levels_left l.context.now + suc (values_weight (checked.values l.arguments.now))
+decreases-evaluate_print l = levels_left l.context.now + suc (arguments_weight (checked.arguments l.arguments.now))
 
 abbrev pub decreases-evaluate_both : goal.decreases-evaluate_both
 decreases-evaluate_both l = levels_left l.context.now + (1 + value_weight (checked.value l.left.now) + value_weight (checked.value l.right.now))
 
 abbrev pub decreases-invoke : goal.decreases-invoke
-decreases-invoke l = levels_left l.context.now + suc (values_weight (checked.values l.arguments.now))
+decreases-invoke l = levels_left l.context.now + suc (arguments_weight (checked.arguments l.arguments.now))
 
 abbrev pub decreases-assign_field : goal.decreases-assign_field
 decreases-assign_field l = levels_left l.context.now + (1 + reference_weight (checked.reference l.object.now) + value_weight (checked.value l.operand.now))
@@ -60,25 +66,25 @@ abbrev pub decreases-refer : goal.decreases-refer
 decreases-refer l = levels_left l.context.now + reference_weight (checked.reference l.reference.now)
 
 abbrev pub decreases-evaluate_all : goal.decreases-evaluate_all
-decreases-evaluate_all l = levels_left l.context.now + values_weight (checked.values l.values.now)
+decreases-evaluate_all l = levels_left l.context.now + arguments_weight (checked.arguments l.arguments.now)
 
 abbrev pub decreases-evaluate_whole : goal.decreases-evaluate_whole
 decreases-evaluate_whole l = levels_left l.context.now + (3 + value_weight (checked.value l.value.now))
 
 abbrev pub decreases-send : goal.decreases-send
-decreases-send l = levels_left l.context.now + (2 + value_weight (checked.value l.receiver.now) + values_weight (checked.values l.arguments.now))
+decreases-send l = levels_left l.context.now + (2 + receiver_weight (checked.receiver l.receiver.now) + arguments_weight (checked.arguments l.arguments.now))
 
-abbrev pub decreases-send_super : goal.decreases-send_super
-decreases-send_super l = levels_left l.context.now + (2 + values_weight (checked.values l.arguments.now))
+abbrev pub decreases-receive : goal.decreases-receive
+decreases-receive l = levels_left l.context.now + receiver_weight (checked.receiver l.receiver.now)
+
+abbrev pub decreases-tell : goal.decreases-tell
+decreases-tell l = levels_left l.context.now + 2
+
+abbrev pub decreases-store_field : goal.decreases-store_field
+decreases-store_field l = levels_left l.context.now + (3 + reference_weight (checked.reference l.object.now) + reference_weight (checked.reference l.operand.now))
 
 abbrev pub decreases-dispatch : goal.decreases-dispatch
 decreases-dispatch l = suc (levels_left l.context.now)
-
-abbrev pub decreases-send_to : goal.decreases-send_to
-decreases-send_to l = levels_left l.context.now + (2 + reference_weight (checked.reference l.receiver.now) + values_weight (checked.values l.arguments.now))
-
-abbrev pub decreases-send_to_super : goal.decreases-send_to_super
-decreases-send_to_super l = levels_left l.context.now + (2 + values_weight (checked.values l.arguments.now))
 
 abbrev pub decreases-dispatch_to : goal.decreases-dispatch_to
 decreases-dispatch_to l = suc (levels_left l.context.now)
@@ -111,9 +117,9 @@ abbrev pub decreases-run_test : goal.decreases-run_test
 decreases-run_test l = levels_left l.context.now + (4 + value_weight (checked.value l.test.now))
 
 -- the whole is what was found in front of what is to come
-abbrev pub invariant-evaluate_all-loop-value : goal.invariant-evaluate_all-loop-value
-invariant-evaluate_all-loop-value l =
-    all_evaluated (deeper l.context) (checked.values l.values) (world l.initial.progress) ≡ front l.numbers.items (all_evaluated (deeper l.context) (checked.values (drop l.value-index l.values)) (world l.progress))
+abbrev pub invariant-evaluate_all-loop-argument : goal.invariant-evaluate_all-loop-argument
+invariant-evaluate_all-loop-argument l =
+    all_evaluated (deeper l.context) (checked.arguments l.arguments) (world l.initial.progress) ≡ front (given_of l.given) (all_evaluated (deeper l.context) (checked.arguments (drop l.argument-index l.arguments)) (world l.progress))
 
 -- what is to come is the whole
 abbrev pub invariant-execute_all-loop-command : goal.invariant-execute_all-loop-command
@@ -151,3 +157,8 @@ invariant-run_deallocs-loop-passed l =
     let program = program_of l.context.program.now in
     deallocs_run program (deeper l.context) l.context.bound (ancestry (superclasses program.classes) l.fn.class) l.object (world l.initial.progress)
     ≡ deallocs_run program (deeper l.context) l.context.bound (ancestry_within (length l.context.program.now.classes.items - l._passed) (superclasses program.classes) l.next) l.object (world l.progress)
+
+-- the fields that are left are the whole
+abbrev pub invariant-drop_fields-loop-index : goal.invariant-drop_fields-loop-index
+invariant-drop_fields-loop-index l =
+    fields_dropped (deeper l.context) l.order l.object (world l.initial.progress) ≡ fields_dropped (deeper l.context) (drop l.index-index l.order) l.object (world l.progress)

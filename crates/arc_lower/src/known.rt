@@ -1,0 +1,122 @@
+//! Of which kind a number is by the form of the expression that gives it.
+ghost use Rattle.std.specs.Prelude.{◌≡◌};
+ghost use Rattle.arc_check.specs.Checked.{value};
+ghost use Rattle.arc_spec.specs.Number.{is_same};
+ghost use Rattle.arc_lower.specs.Known.{width, is_within, wider, narrower, number_kind, applied_kind, combined_kind, known_kind};
+
+use arc_ast::tree::{BinaryOperator, Kind, UnaryOperator};
+use arc_check::checked::Value;
+use arc_spec::number::convert;
+
+/// How wide a kind is, of which the wider ones have all numbers.
+fn width(kind: Kind) -> u8
+    ensures { result ≡ width kind }
+{
+    match kind {
+        Kind::Bool => 0,
+        Kind::Int => 1,
+        Kind::Long | Kind::Object | Kind::Void => 2,
+    }
+}
+
+/// Whether each number of the one kind is one of the other.
+pub(crate) fn is_within(narrow: Kind, wide: Kind) -> bool
+    ensures { result ≡ is_within narrow wide }
+{
+    width(narrow) <= width(wide)
+}
+
+/// The wider one of two kinds.
+fn wider(left: Kind, right: Kind) -> Kind
+    ensures { result ≡ wider left right }
+{
+    if is_within(left, right) { right } else { left }
+}
+
+/// The narrower one of two kinds.
+fn narrower(left: Kind, right: Kind) -> Kind
+    ensures { result ≡ narrower left right }
+{
+    if is_within(left, right) { left } else { right }
+}
+
+/// Whether two numbers are the same.
+fn is_same(left: i64, right: i64) -> bool
+    ensures { result ≡ is_same left right }
+{
+    left == right
+}
+
+/// The narrowest kind of a number.
+fn number_kind(number: i64) -> Kind
+    ensures { result ≡ number_kind number }
+{
+    if is_same(convert(Kind::Bool, number), number) {
+        Kind::Bool
+    } else if is_same(convert(Kind::Int, number), number) {
+        Kind::Int
+    } else {
+        Kind::Long
+    }
+}
+
+/// The kind of what an operator before its operand gives, computed as this kind.
+fn applied_kind(operator: UnaryOperator, kind: Kind) -> Kind
+    ensures { result ≡ applied_kind operator kind }
+{
+    match operator {
+        UnaryOperator::Not => Kind::Bool,
+        UnaryOperator::Plus | UnaryOperator::Negate | UnaryOperator::Complement => kind,
+    }
+}
+
+/// The kind of what an operator between its operands gives, computed as this kind.
+pub(crate) fn combined_kind(operator: BinaryOperator, kind: Kind) -> Kind
+    ensures { result ≡ combined_kind operator kind }
+{
+    match operator {
+        BinaryOperator::Divide | BinaryOperator::Remainder | BinaryOperator::ShiftRight => {
+            Kind::Long
+        }
+        BinaryOperator::Add
+        | BinaryOperator::Subtract
+        | BinaryOperator::Multiply
+        | BinaryOperator::ShiftLeft
+        | BinaryOperator::BitAnd
+        | BinaryOperator::BitXor
+        | BinaryOperator::BitOr => kind,
+        BinaryOperator::Less
+        | BinaryOperator::LessOrEqual
+        | BinaryOperator::Greater
+        | BinaryOperator::GreaterOrEqual
+        | BinaryOperator::Equal
+        | BinaryOperator::NotEqual
+        | BinaryOperator::And
+        | BinaryOperator::Or => Kind::Bool,
+    }
+}
+
+/// The narrowest kind of which an expression's form says that its number is.
+pub(crate) fn known_kind(expression: &Value) -> Kind
+    ensures { result ≡ known_kind (value expression.now) }
+{
+    match expression {
+        Value::Number(number) => number_kind(*number),
+        Value::Print(_, _) => Kind::Int,
+        Value::Applied(operator, kind, _) => applied_kind(*operator, *kind),
+        Value::Combined(operator, kind, _, _) => combined_kind(*operator, *kind),
+        Value::Choice(_, first, second) => wider(known_kind(first), known_kind(second)),
+        Value::Converted(kind, operand) => narrower(known_kind(operand), *kind),
+        Value::Assigned(_, operand) => known_kind(operand),
+        Value::FieldAssigned(_, _, _, operand) => known_kind(operand),
+        Value::Differ(_, _) => Kind::Bool,
+        Value::IsObject(_) => Kind::Bool,
+        Value::ReadByte => Kind::Long,
+        Value::Read(_) => Kind::Long,
+        Value::Updated(_, _, _, _, _, _) => Kind::Long,
+        Value::Invoked(_, _) => Kind::Long,
+        Value::Sent(_, _, _) => Kind::Long,
+        Value::Field(_, _, _) => Kind::Long,
+        Value::FieldUpdated(_, _, _, _, _, _, _, _) => Kind::Long,
+    }
+}
