@@ -12,6 +12,7 @@ pub mod Keeping
 pub mod Rules
 pub mod Parts
 pub mod Sorts
+pub mod Typed
 pub mod Tables
 pub mod FieldLists
 pub mod Runnings

@@ -18,7 +18,7 @@ loop-field-preserved c =
     let owner = number_of_class c.args.owner in
     let before = c.loop-field.counted in
     let kind = type_kind (type_tree x.type_name) in
-    let next : c.in_ok-counted.counted ≡ with_one kind before = c.in_ok-counted.ensures ∙ ap (λ f. with_one f before) c.field_after-found.ensures.kind in
+    let next : c.in_ok-counted.counted ≡ with_one kind before = c.in_ok-counted.ensures.counted ∙ ap (λ f. with_one f before) c.field_after-found.ensures.kind in
     record {
       kept = λ interfaces names sought.
           let old = at_name c.loop-field.named sought in
