@@ -14,7 +14,7 @@ use Rattle.arc_plain.specs.declared.halt.Halt.{Halt}
 use Rattle.arc_plain.specs.declared.halt.Halt.TheVariants.{Stopped, Cut, Memory}
 use Rattle.arc_spec.specs.Meaning as meaning
 use Rattle.arc_spec.specs.Meaning.{Deeper, Normal, Broken, Continued, Returned, level, called, dispatched, finds, turns, turns_after, chosen, if_normal, in_turn, after_body, function_at, ended, evaluated, all_evaluated, executed}
-use Rattle.arc_plain.specs.declared.run.Flow.{Flow}
+use Rattle.arc_plain.specs.declared.statement.Flow.{Flow}
 use Rattle.arc_plain.specs.Views.{Tells, flow_of, function_of, leaving, step_of, test_of, behind_body, turn_of}
 
 -- the values that were found, in front of those to come

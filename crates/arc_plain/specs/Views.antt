@@ -21,8 +21,8 @@ use Rattle.arc_plain.specs.declared.progress.Progress.{Progress}
 use Rattle.arc_plain.specs.declared.halt.Halt.{Halt}
 use Rattle.arc_plain.specs.declared.halt.Halt.TheVariants as halt
 use Rattle.arc_plain.specs.declared.halt.Halt.TheVariants.{Stopped, Memory}
-use Rattle.arc_plain.specs.declared.run.Flow.{Flow}
-use Rattle.arc_plain.specs.declared.run.Flow.TheVariants.{Normal, Broken, Continued, Returned}
+use Rattle.arc_plain.specs.declared.statement.Flow.{Flow}
+use Rattle.arc_plain.specs.declared.statement.Flow.TheVariants.{Normal, Broken, Continued, Returned}
 use Rattle.arc_plain.specs.declared.interpret.Answer.{Answer}
 use Rattle.arc_plain.specs.declared.interpret.PlainStop.{PlainStop}
 use Rattle.arc_plain.specs.declared.interpret.PlainStop.TheVariants as stops

@@ -5,10 +5,10 @@ ghost use Rattle.arc_spec.specs.Meaning.{mean};
 ghost use Rattle.arc_spec.specs.Correct.{meaning_seen};
 ghost use Rattle.arc_plain.specs.Views.{Stops, seen};
 
+use crate::call::call;
 use crate::context::Context;
 use crate::halt::Halt;
 use crate::progress::start;
-use crate::run::call;
 use arc_check::checked::Checked;
 use arc_spec::event::{Event, Fault, NoMemory};
 use arc_spec::number::low_half;

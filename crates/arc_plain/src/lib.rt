@@ -1,7 +1,9 @@
 //! A plain, slow interpreter of checked programs, against which compiled ones are compared.
 #![tactic(auto)]
 
+mod call;
 mod context;
+mod expression;
 mod format;
 mod frame;
 mod halt;
@@ -10,5 +12,6 @@ mod message;
 mod object;
 mod place;
 mod progress;
-mod run;
+mod sending;
+mod statement;
 mod update;

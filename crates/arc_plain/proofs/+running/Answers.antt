@@ -18,48 +18,48 @@ use Rattle.arc_check.proofs.Trees.{is_print, is_invoked, is_sent, is_sent_super,
 use Rattle.arc_plain.proofs.Turns.{value_told, message_told, command_told, values_step, test_failed, turns_step, turns_left, turn_failed, turns_after_step, turns_after_left, turn_after_failed, call_is, end_is, tells_through}
 use Rattle.arc_plain.proofs.Updates.{variable_stored, field_stored, variable_updated, field_updated}
 use Rattle.arc_plain.proofs.Weights.{print_lighter, call_lighter, sent_lighter, super_lighter, sent_to_lighter, to_super_lighter, sequence_lighter, value_in, command_in, commands_weight, level_lighter, body_lighter}
-use Rattle.arc_plain.proofs.run.+running.Goals as goal
+use Rattle.arc_plain.proofs.+running.Goals as goal
 
-pub evaluate-returns-in-Print : goal.evaluate-returns-in-Print
-evaluate-returns-in-Print t c =
+pub expression::evaluate-returns-in-Print : goal.expression::evaluate-returns-in-Print
+expression::evaluate-returns-in-Print t c =
     value_told (deeper c.args.context.now) c.args.value.now _ c.evaluate_print.result (world c.args.progress.now) (world c.evaluate_print.new.progress)
     (is_print c.args.value.now c.in-Print.pieces c.in-Print.arguments c.deref.result.now c.deref-in-Print.result.now c.in-Print.is c.deref.ensures.value c.deref-in-Print.ensures.value) c.evaluate_print.ensures
 
-pub evaluate-returns-in-Invoked : goal.evaluate-returns-in-Invoked
-evaluate-returns-in-Invoked t c =
+pub expression::evaluate-returns-in-Invoked : goal.expression::evaluate-returns-in-Invoked
+expression::evaluate-returns-in-Invoked t c =
     value_told (deeper c.args.context.now) c.args.value.now _ c.invoke.result (world c.args.progress.now) (world c.invoke.new.progress)
     (is_invoked c.args.value.now c.in-Invoked.function c.in-Invoked.arguments c.deref-in-Invoked.result.now c.in-Invoked.is c.deref-in-Invoked.ensures.value) c.invoke.ensures
 
-pub evaluate-returns-in-Sent : goal.evaluate-returns-in-Sent
-evaluate-returns-in-Sent t c =
+pub expression::evaluate-returns-in-Sent : goal.expression::evaluate-returns-in-Sent
+expression::evaluate-returns-in-Sent t c =
     value_told (deeper c.args.context.now) c.args.value.now _ c.send.result (world c.args.progress.now) (world c.send.new.progress)
     (is_sent c.args.value.now c.in-Sent.receiver c.in-Sent.selector c.in-Sent.arguments c.deref-in-Sent.result.now c.deref-in-Sent-2.result.now c.in-Sent.is c.deref-in-Sent.ensures c.deref-in-Sent-2.ensures.value) c.send.ensures
 
-pub evaluate-returns-in-SentSuper : goal.evaluate-returns-in-SentSuper
-evaluate-returns-in-SentSuper t c =
+pub expression::evaluate-returns-in-SentSuper : goal.expression::evaluate-returns-in-SentSuper
+expression::evaluate-returns-in-SentSuper t c =
     value_told (deeper c.args.context.now) c.args.value.now _ c.send_super.result (world c.args.progress.now) (world c.send_super.new.progress)
     (is_sent_super c.args.value.now c.in-SentSuper.from c.in-SentSuper.selector c.in-SentSuper.arguments c.deref-in-SentSuper.result.now c.in-SentSuper.is c.deref-in-SentSuper.ensures.value) c.send_super.ensures
 
-pub evaluate-returns-in-SentTo : goal.evaluate-returns-in-SentTo
-evaluate-returns-in-SentTo t c =
+pub expression::evaluate-returns-in-SentTo : goal.expression::evaluate-returns-in-SentTo
+expression::evaluate-returns-in-SentTo t c =
     value_told (deeper c.args.context.now) c.args.value.now _ c.send_to.result (world c.args.progress.now) (world c.send_to.new.progress)
     (is_sent_to c.args.value.now c.in-SentTo.receiver c.in-SentTo.selector c.in-SentTo.arguments c.deref-in-SentTo.result.now c.deref-in-SentTo-2.result.now c.in-SentTo.is c.deref-in-SentTo.ensures c.deref-in-SentTo-2.ensures.value) c.send_to.ensures
 
-pub evaluate-returns-in-SentToSuper : goal.evaluate-returns-in-SentToSuper
-evaluate-returns-in-SentToSuper t c =
+pub expression::evaluate-returns-in-SentToSuper : goal.expression::evaluate-returns-in-SentToSuper
+expression::evaluate-returns-in-SentToSuper t c =
     value_told (deeper c.args.context.now) c.args.value.now _ c.send_to_super.result (world c.args.progress.now) (world c.send_to_super.new.progress)
     (is_sent_to_super c.args.value.now c.in-SentToSuper.from c.in-SentToSuper.selector c.in-SentToSuper.arguments c.deref-in-SentToSuper.result.now c.in-SentToSuper.is c.deref-in-SentToSuper.ensures.value) c.send_to_super.ensures
 
-pub send-returns : goal.send-returns
-send-returns t c =
+pub sending::send-returns : goal.sending::send-returns
+sending::send-returns t c =
     let same : to_z w64 (of_z w64 c.in_ok-itself.itself) ≡ c.in_ok-itself.itself = grind (arith, to_z-of_z) in
     message_told (deeper c.args.context.now) (checked.value c.args.receiver.now) (checked.values c.args.arguments.now) c.args.selector c.in_ok-itself.itself (to_z w64 (of_z w64 c.in_ok-itself.itself))
     c.in_ok-numbers.numbers.items c.deref.result.now c.class_at-from.result c.dispatch.result
     (world c.args.progress.now) (world c.evaluate.new.progress) (world c.evaluate_all.new.progress) (world c.dispatch.new.progress)
     same c.deref.ensures.value c.class_at-from.ensures c.in_ok-itself.ensures c.in_ok-numbers.ensures c.dispatch.ensures
 
-pub update_variable-returns-in_err-new : goal.update_variable-returns-in_err-new
-update_variable-returns-in_err-new t c =
+pub expression::update_variable-returns-in_err-new : goal.expression::update_variable-returns-in_err-new
+expression::update_variable-returns-in_err-new t c =
     let D = deeper c.args.context.now in
     let u = c.args.update in
     let w = world c.args.progress.now in
@@ -73,8 +73,8 @@ update_variable-returns-in_err-new t c =
     subst (λ r. Tells (λ n. n) r (evaluated D (Updated u.moment c.args.location u.operator u.computed u.kept (checked.value c.args.operand.now)) w) between) (sym (p.1 ∙ ap Err p.2))
     (tells_through c.in_err-new.field-0.0 (λ n. n) (λ n. n) between (variable_stored D u.moment u.operator u.computed u.kept c.args.location old) (updated u.operator u.computed u.kept old right between) _ meant (c.in_err-new.ensures between))
 
-pub update_variable-returns : goal.update_variable-returns
-update_variable-returns t c =
+pub expression::update_variable-returns : goal.expression::update_variable-returns
+expression::update_variable-returns t c =
     let D = deeper c.args.context.now in
     let u = c.args.update in
     let w = world c.args.progress.now in
@@ -95,8 +95,8 @@ update_variable-returns t c =
     ∙ ap (Done (given_by u.moment old new)) (sym c.assign.ensures)
     ∙ ap (λ n. Done n (world c.assign.new.progress)) (sym (gives ∙ c.given_by.ensures))
 
-pub update_field-returns-in_err-new : goal.update_field-returns-in_err-new
-update_field-returns-in_err-new t c =
+pub expression::update_field-returns-in_err-new : goal.expression::update_field-returns-in_err-new
+expression::update_field-returns-in_err-new t c =
     let D = deeper c.args.context.now in
     let u = c.args.update in
     let w = world c.args.progress.now in
@@ -112,8 +112,8 @@ update_field-returns-in_err-new t c =
     subst (λ x. Tells (λ n. n) x (evaluated D (FieldUpdated u.moment (checked.reference c.args.object.now) c.args.class c.args.index u.operator u.computed u.kept (checked.value c.args.operand.now)) w) between) (sym (p.1 ∙ ap Err p.2))
     (tells_through c.in_err-new.field-0.0 (λ n. n) (λ n. n) between (field_stored D u.moment u.operator u.computed u.kept r c.args.class c.args.index old) (updated u.operator u.computed u.kept old right between) _ meant (c.in_err-new.ensures between))
 
-pub update_field-returns-in_err-set_field : goal.update_field-returns-in_err-set_field
-update_field-returns-in_err-set_field t c =
+pub expression::update_field-returns-in_err-set_field : goal.expression::update_field-returns-in_err-set_field
+expression::update_field-returns-in_err-set_field t c =
     let D = deeper c.args.context.now in
     let u = c.args.update in
     let w = world c.args.progress.now in
@@ -134,8 +134,8 @@ update_field-returns-in_err-set_field t c =
     (tells_through c.in_err-set_field.field-0.0 (λ n. n) (λ n. n) after (λ _ w1. Done (given_by u.moment old new) w1) (field_set D r c.args.class c.args.index new between) _
     (meant ∙ ap (λ o. then_do o stored) (c.in_ok-new.ensures between) ∙ ap (λ n. stored n between) (sym news)) c.in_err-set_field.ensures)
 
-pub update_field-returns : goal.update_field-returns
-update_field-returns t c =
+pub expression::update_field-returns : goal.expression::update_field-returns
+expression::update_field-returns t c =
     let D = deeper c.args.context.now in
     let u = c.args.update in
     let w = world c.args.progress.now in
@@ -158,56 +158,56 @@ update_field-returns t c =
     ∙ ap (λ o. then_do o (λ _ w1. Done (given_by u.moment old new) w1)) c.in_ok-set_field.ensures
     ∙ ap (λ n. Done n (world c.set_field.new.progress)) (sym (gives ∙ c.given_by.ensures))
 
-pub execute-returns-in-Sequence : goal.execute-returns-in-Sequence
-execute-returns-in-Sequence t c =
+pub statement::execute-returns-in-Sequence : goal.statement::execute-returns-in-Sequence
+statement::execute-returns-in-Sequence t c =
     command_told (deeper c.args.context.now) c.args.context.now.bound c.args.command.now _ c.execute_block.result (world c.args.progress.now) (world c.execute_block.new.progress)
     (is_sequence c.args.command.now c.in-Sequence.first c.in-Sequence.names c.in-Sequence.commands c.deref.result.now c.in-Sequence.is c.deref.ensures.value) c.execute_block.ensures
 
-pub execute-execute_block-requires : goal.execute-execute_block-requires
-execute-execute_block-requires t c =
+pub statement::execute-execute_block-requires : goal.statement::execute-execute_block-requires
+statement::execute-execute_block-requires t c =
     (omega (arith, sequence_lighter c.args.command.now c.in-Sequence.first c.in-Sequence.names c.in-Sequence.commands c.deref.result.now c.in-Sequence.is c.deref.ensures.value, c.decreases), tt)
 
-pub evaluate-evaluate_print-requires : goal.evaluate-evaluate_print-requires
-evaluate-evaluate_print-requires t c =
+pub expression::evaluate-evaluate_print-requires : goal.expression::evaluate-evaluate_print-requires
+expression::evaluate-evaluate_print-requires t c =
     (omega (arith, print_lighter c.args.value.now c.in-Print.pieces c.in-Print.arguments c.deref.result.now c.deref-in-Print.result.now c.in-Print.is c.deref.ensures.value c.deref-in-Print.ensures.value, c.decreases), tt)
 
-pub evaluate-invoke-requires : goal.evaluate-invoke-requires
-evaluate-invoke-requires t c =
+pub expression::evaluate-invoke-requires : goal.expression::evaluate-invoke-requires
+expression::evaluate-invoke-requires t c =
     (omega (arith, call_lighter c.args.value.now c.in-Invoked.function c.in-Invoked.arguments c.deref-in-Invoked.result.now c.in-Invoked.is c.deref-in-Invoked.ensures.value, c.decreases), tt)
 
-pub evaluate-send-requires : goal.evaluate-send-requires
-evaluate-send-requires t c =
+pub expression::evaluate-send-requires : goal.expression::evaluate-send-requires
+expression::evaluate-send-requires t c =
     (omega (arith, sent_lighter c.args.value.now c.in-Sent.receiver c.in-Sent.selector c.in-Sent.arguments c.deref-in-Sent.result.now c.deref-in-Sent-2.result.now c.in-Sent.is c.deref-in-Sent.ensures c.deref-in-Sent-2.ensures.value, c.decreases), tt)
 
-pub evaluate-send_super-requires : goal.evaluate-send_super-requires
-evaluate-send_super-requires t c =
+pub expression::evaluate-send_super-requires : goal.expression::evaluate-send_super-requires
+expression::evaluate-send_super-requires t c =
     (omega (arith, super_lighter c.args.value.now c.in-SentSuper.from c.in-SentSuper.selector c.in-SentSuper.arguments c.deref-in-SentSuper.result.now c.in-SentSuper.is c.deref-in-SentSuper.ensures.value, c.decreases), tt)
 
-pub evaluate-send_to-requires : goal.evaluate-send_to-requires
-evaluate-send_to-requires t c =
+pub expression::evaluate-send_to-requires : goal.expression::evaluate-send_to-requires
+expression::evaluate-send_to-requires t c =
     (omega (arith, sent_to_lighter c.args.value.now c.in-SentTo.receiver c.in-SentTo.selector c.in-SentTo.arguments c.deref-in-SentTo.result.now c.deref-in-SentTo-2.result.now c.in-SentTo.is c.deref-in-SentTo.ensures c.deref-in-SentTo-2.ensures.value, c.decreases), tt)
 
-pub evaluate-send_to_super-requires : goal.evaluate-send_to_super-requires
-evaluate-send_to_super-requires t c =
+pub expression::evaluate-send_to_super-requires : goal.expression::evaluate-send_to_super-requires
+expression::evaluate-send_to_super-requires t c =
     (omega (arith, to_super_lighter c.args.value.now c.in-SentToSuper.from c.in-SentToSuper.selector c.in-SentToSuper.arguments c.deref-in-SentToSuper.result.now c.in-SentToSuper.is c.deref-in-SentToSuper.ensures.value, c.decreases), tt)
 
-pub evaluate_all-evaluate-requires : goal.evaluate_all-evaluate-requires
-evaluate_all-evaluate-requires t c =
+pub expression::evaluate_all-evaluate-requires : goal.expression::evaluate_all-evaluate-requires
+expression::evaluate_all-evaluate-requires t c =
     (omega (arith, value_in c.args.values.now c.loop-value.value-index c.value-item.result c.loop-value-test.true c.value-item.is, c.decreases), tt)
 
-pub execute_all-execute-requires : goal.execute_all-execute-requires
-execute_all-execute-requires t c =
+pub statement::execute_all-execute-requires : goal.statement::execute_all-execute-requires
+statement::execute_all-execute-requires t c =
     (omega (arith, command_in c.args.commands.now c.loop-command.command-index c.command-item.result c.loop-command-test.true c.command-item.is, c.decreases), tt)
 
-pub evaluate_all-loop-value-preserved : goal.evaluate_all-loop-value-preserved
-evaluate_all-loop-value-preserved t c =
+pub expression::evaluate_all-loop-value-preserved : goal.expression::evaluate_all-loop-value-preserved
+expression::evaluate_all-loop-value-preserved t c =
     let same : to_z w64 (of_z w64 c.in_ok-number.number) ≡ c.in_ok-number.number = grind (arith, to_z-of_z) in
     values_step (deeper c.args.context.now) c.args.values.now c.loop-value.value-index c.value-item.result c.loop-value.numbers.items c.push.new.self.items c.in_ok-number.number
     (all_evaluated (deeper c.args.context.now) (checked.values c.args.values.now) (world c.args.progress.now)) (world c.loop-value.progress) (world c.evaluate.new.progress)
     c.loop-value-test.true c.value-item.is c.loop-value.invariant c.in_ok-number.ensures (c.in_ok-push.ensures.items ∙ ap (λ x. c.loop-value.numbers.items ++ x ∷ []) same)
 
-pub repeat-loop-preserved : goal.repeat-loop-preserved
-repeat-loop-preserved t c =
+pub statement::repeat-loop-preserved : goal.statement::repeat-loop-preserved
+statement::repeat-loop-preserved t c =
     let bound = c.args.context.now.bound in
     let run = executed (deeper c.args.context.now) bound in
     let test = whole (deeper c.args.context.now) (checked.value c.args.test.now) in
@@ -218,8 +218,8 @@ repeat-loop-preserved t c =
     (world c.loop.progress) (world c.evaluate_whole.new.progress) (world c.turn.new.progress)
     c.loop-test.true c.loop.invariant c.in_ok-number.ensures (ap is_zero (sym same) ∙ sym c.is_zero.ensures ∙ c.if-is_zero.false) (search rules)
 
-pub repeat-returns-in-Some : goal.repeat-returns-in-Some
-repeat-returns-in-Some t c =
+pub statement::repeat-returns-in-Some : goal.statement::repeat-returns-in-Some
+statement::repeat-returns-in-Some t c =
     let bound = c.args.context.now.bound in
     let run = executed (deeper c.args.context.now) bound in
     let test = whole (deeper c.args.context.now) (checked.value c.args.test.now) in
@@ -230,8 +230,8 @@ repeat-returns-in-Some t c =
     (world c.loop.progress) (world c.evaluate_whole.new.progress) (world c.turn.new.progress)
     c.loop-test.true c.loop.invariant c.in_ok-number.ensures (ap is_zero (sym same) ∙ sym c.is_zero.ensures ∙ c.if-is_zero.false) (search rules)
 
-pub repeat-returns-in_err-number : goal.repeat-returns-in_err-number
-repeat-returns-in_err-number t c =
+pub statement::repeat-returns-in_err-number : goal.statement::repeat-returns-in_err-number
+statement::repeat-returns-in_err-number t c =
     let bound = c.args.context.now.bound in
     let run = executed (deeper c.args.context.now) bound in
     let test = whole (deeper c.args.context.now) (checked.value c.args.test.now) in
@@ -241,8 +241,8 @@ repeat-returns-in_err-number t c =
     test_failed (λ n. n) (bound - c.loop.counter) test step body (turns bound test step body (world c.args.progress.now)) c.in_err-number.field-0.0 c.from_residual.result
     (world c.loop.progress) (world c.evaluate_whole.new.progress) c.loop.invariant (p.1 ∙ ap Err p.2) c.in_err-number.ensures
 
-pub repeat-returns-in_err-flow : goal.repeat-returns-in_err-flow
-repeat-returns-in_err-flow t c =
+pub statement::repeat-returns-in_err-flow : goal.statement::repeat-returns-in_err-flow
+statement::repeat-returns-in_err-flow t c =
     let bound = c.args.context.now.bound in
     let run = executed (deeper c.args.context.now) bound in
     let test = whole (deeper c.args.context.now) (checked.value c.args.test.now) in
@@ -254,22 +254,22 @@ repeat-returns-in_err-flow t c =
     c.in_err-flow.field-0.0 c.from_residual-in_err-flow.result (world c.loop.progress) (world c.evaluate_whole.new.progress) (world c.turn.new.progress)
     c.loop-test.true c.loop.invariant c.in_ok-number.ensures (ap is_zero (sym same) ∙ sym c.is_zero.ensures ∙ c.if-is_zero.false) (p.1 ∙ ap Err p.2) c.in_err-flow.ensures
 
-pub repeat_after-loop-preserved : goal.repeat_after-loop-preserved
-repeat_after-loop-preserved t c =
+pub statement::repeat_after-loop-preserved : goal.statement::repeat_after-loop-preserved
+statement::repeat_after-loop-preserved t c =
     let bound = c.args.context.now.bound in
     let test = whole (deeper c.args.context.now) (checked.value c.args.test.now) in
     let body = executed (deeper c.args.context.now) bound (checked.command c.args.body.now) in
     turns_after_step bound c.loop.counter test body (turns_after bound test body (world c.args.progress.now)) (world c.loop.progress) (world c.turn_after.new.progress) c.loop-test.true c.loop.invariant (search rules)
 
-pub repeat_after-returns-in-Some : goal.repeat_after-returns-in-Some
-repeat_after-returns-in-Some t c =
+pub statement::repeat_after-returns-in-Some : goal.statement::repeat_after-returns-in-Some
+statement::repeat_after-returns-in-Some t c =
     let bound = c.args.context.now.bound in
     let test = whole (deeper c.args.context.now) (checked.value c.args.test.now) in
     let body = executed (deeper c.args.context.now) bound (checked.command c.args.body.now) in
     turns_after_left bound c.loop.counter test body (turns_after bound test body (world c.args.progress.now)) (flow_of c.in-Some.flow) (world c.loop.progress) (world c.turn_after.new.progress) c.loop-test.true c.loop.invariant (search rules)
 
-pub repeat_after-returns-in_err-flow : goal.repeat_after-returns-in_err-flow
-repeat_after-returns-in_err-flow t c =
+pub statement::repeat_after-returns-in_err-flow : goal.statement::repeat_after-returns-in_err-flow
+statement::repeat_after-returns-in_err-flow t c =
     let bound = c.args.context.now.bound in
     let test = whole (deeper c.args.context.now) (checked.value c.args.test.now) in
     let body = executed (deeper c.args.context.now) bound (checked.command c.args.body.now) in
@@ -278,29 +278,29 @@ repeat_after-returns-in_err-flow t c =
     c.in_err-flow.field-0.0 c.from_residual.result (world c.loop.progress) (world c.turn_after.new.progress)
     c.loop-test.true c.loop.invariant (p.1 ∙ ap Err p.2) c.in_err-flow.ensures
 
-pub call-returns : goal.call-returns
-call-returns t c =
+pub call::call-returns : goal.call::call-returns
+call::call-returns t c =
     let context = c.args.context.now in
     let one : context.levels ≡ suc (context.levels - 1) = omega (arith, c.if-context-eq0.false) in
     subst (λ o. Tells (λ n. n) c.enter.result o (world c.enter.new.progress))
     (sym (call_is (program_of context.program.now) context.bound context.levels (context.levels - 1) c.args.function c.args.itself c.args.arguments.now (world c.args.progress.now) one)) c.enter.ensures
 
-pub call-enter-requires : goal.call-enter-requires
-call-enter-requires t c =
+pub call::call-enter-requires : goal.call::call-enter-requires
+call::call-enter-requires t c =
     let context = c.args.context.now in
     let one : context.levels ≡ suc (context.levels - 1) = omega (arith, c.if-context-eq0.false) in
     (omega (arith, level_lighter context (record { program = context.program; bound = context.bound; levels = context.levels - 1 }) one refl, c.decreases), tt)
 
-pub drop_temporaries-loop-object-preserved : goal.drop_temporaries-loop-object-preserved
-drop_temporaries-loop-object-preserved t c =
+pub call::drop_temporaries-loop-object-preserved : goal.call::drop_temporaries-loop-object-preserved
+call::drop_temporaries-loop-object-preserved t c =
     let context = c.args.context.now in
     let D = deeper context in
     temporary_step D (level_steady (program_of context.program.now) context.bound context.levels) (all_dropped D (world c.args.progress.now)) c.in-Some.object
     (world c.loop-object.progress) (world c.drop_last.new.progress) (world c.release.new.progress)
     c.loop-object.invariant c.in-Some.ensures.last c.in-Some.ensures.others c.in_ok-release.ensures
 
-pub drop_temporaries-loop-object-smaller : goal.drop_temporaries-loop-object-smaller
-drop_temporaries-loop-object-smaller t c =
+pub call::drop_temporaries-loop-object-smaller : goal.call::drop_temporaries-loop-object-smaller
+call::drop_temporaries-loop-object-smaller t c =
     let context = c.args.context.now in
     let before = c.loop-object.progress.frame.temporaries in
     let now = c.release.new.progress.frame.temporaries in
@@ -311,22 +311,22 @@ drop_temporaries-loop-object-smaller t c =
     let less : vec_len now < vec_len before = omega (arith, fewer, before.ok.0, now.ok.0) in
     less
 
-pub drop_temporaries-returns : goal.drop_temporaries-returns
-drop_temporaries-returns t c =
+pub call::drop_temporaries-returns : goal.call::drop_temporaries-returns
+call::drop_temporaries-returns t c =
     let D = deeper c.args.context.now in
     let none = c.in_default.ensures.last in
     no_temporary D (all_dropped D (world c.args.progress.now)) (world c.loop-object.progress) (world c.drop_last.new.progress) c.loop-object.invariant none.0 c.in_default.ensures.others (none.1 ∙ sym none.0)
 
-pub drop_variables-loop-offset-preserved : goal.drop_variables-loop-offset-preserved
-drop_variables-loop-offset-preserved t c =
+pub call::drop_variables-loop-offset-preserved : goal.call::drop_variables-loop-offset-preserved
+call::drop_variables-loop-offset-preserved t c =
     let D = deeper c.args.context.now in
     let n = c.loop-offset.offset in
     variable_step D (variables_dropped D c.args.first c.args.count (world c.args.progress.now)) c.args.first n (n - 1) c.clear-before.result
     (world c.loop-offset.progress) (world c.clear-before.new.progress) (world c.release.new.progress)
     (omega (arith, c.loop-offset-test.true)) c.loop-offset.invariant c.clear-before.ensures.before c.clear-before.ensures.after c.in_ok-release.ensures
 
-pub drop_variables-returns-in_err-release : goal.drop_variables-returns-in_err-release
-drop_variables-returns-in_err-release t c =
+pub call::drop_variables-returns-in_err-release : goal.call::drop_variables-returns-in_err-release
+call::drop_variables-returns-in_err-release t c =
     let D = deeper c.args.context.now in
     let n = c.loop-offset.offset in
     let p = err_from_is_err_and c.from_residual.result c.from_residual.ensures.1 in
@@ -334,24 +334,24 @@ drop_variables-returns-in_err-release t c =
     (world c.loop-offset.progress) (world c.clear-before.new.progress) (world c.release.new.progress) nothing_of nothing_of c.in_err-release.field-0.0 c.from_residual.result
     (omega (arith, c.loop-offset-test.true)) c.loop-offset.invariant c.clear-before.ensures.before c.clear-before.ensures.after (p.1 ∙ ap Err p.2) c.in_err-release.ensures
 
-pub enter-returns-in_default : goal.enter-returns-in_default
-enter-returns-in_default t c =
+pub call::enter-returns-in_default : goal.call::enter-returns-in_default
+call::enter-returns-in_default t c =
     let context = c.args.context.now in
     let all = c.deref.result.now in
     let past : length all ≤ c.args.function = ltb-false c.args.function (length all) (sym c.in_default.ensures.lookup.0) in
     ap (λ g. called (deeper context) context.bound g c.args.itself c.args.arguments.now (world c.args.progress.now)) (function_absent context all c.args.function c.deref.ensures.value past)
     ∙ nothing_called (deeper context) context.bound c.args.itself c.args.arguments.now (world c.args.progress.now)
 
-pub enter-execute_all-requires : goal.enter-execute_all-requires
-enter-execute_all-requires t c =
+pub call::enter-execute_all-requires : goal.call::enter-execute_all-requires
+call::enter-execute_all-requires t c =
     let all = c.deref.result.now in
     let below : c.args.function < length all = ltb-true c.args.function (length all) (sym c.in-Some.ensures.lookup.0) in
     let least = body_lighter c.args.context.now all c.args.function c.in-Some.entered.now c.deref.ensures.value below c.in-Some.ensures.lookup.1 in
     let body = ap (λ l. commands_weight (checked.commands l)) c.deref-2.ensures.value in
     (omega (arith, least, body, c.decreases), tt)
 
-pub enter-returns-in_err-flow : goal.enter-returns-in_err-flow
-enter-returns-in_err-flow t c =
+pub call::enter-returns-in_err-flow : goal.call::enter-returns-in_err-flow
+call::enter-returns-in_err-flow t c =
     let context = c.args.context.now in
     let P = program_of context.program.now in
     let D = deeper context in
@@ -369,8 +369,8 @@ enter-returns-in_err-flow t c =
     (body_failed D (level_steady P context.bound context.levels) context.bound (function_of f) c.args.itself c.args.arguments.now w0 w1 c.in_ok-kept.ensures.world
     flow_of c.in_err-flow.field-0.0 c.from_residual-in_err-flow.result after (p.1 ∙ ap Err p.2) body)
 
-pub enter-returns-in_err-drop_variables : goal.enter-returns-in_err-drop_variables
-enter-returns-in_err-drop_variables t c =
+pub call::enter-returns-in_err-drop_variables : goal.call::enter-returns-in_err-drop_variables
+call::enter-returns-in_err-drop_variables t c =
     let context = c.args.context.now in
     let P = program_of context.program.now in
     let D = deeper context in
@@ -389,8 +389,8 @@ enter-returns-in_err-drop_variables t c =
     (drop_failed D (level_steady P context.bound context.levels) context.bound (function_of f) c.args.itself c.args.arguments.now w0 w1 c.in_ok-kept.ensures.world
     nothing_of (flow_of c.in_ok-flow.flow) w2 c.in_err-drop_variables.field-0.0 c.from_residual-in_err-drop_variables.result after body (p.1 ∙ ap Err p.2) c.in_err-drop_variables.ensures)
 
-pub enter-returns : goal.enter-returns
-enter-returns t c =
+pub call::enter-returns : goal.call::enter-returns
+call::enter-returns t c =
     let context = c.args.context.now in
     let P = program_of context.program.now in
     let D = deeper context in
@@ -417,8 +417,8 @@ enter-returns t c =
     (call_told D (level_steady P context.bound context.levels) context.bound (function_of f) c.args.itself c.args.arguments.now w0 w1 c.in_ok-kept.ensures.world
     w2 w3 w4 (flow_of c.in_ok-flow.flow) number c.len-waiting.result old.items begun last body c.in_ok-drop_variables.ensures refl refl refl kept leaves (same ∙ c.number_of.ensures))
 
-pub end-returns-in_err-run_deallocs : goal.end-returns-in_err-run_deallocs
-end-returns-in_err-run_deallocs t c =
+pub call::end-returns-in_err-run_deallocs : goal.call::end-returns-in_err-run_deallocs
+call::end-returns-in_err-run_deallocs t c =
     let context = c.args.context.now in
     let P = program_of context.program.now in
     let w = world c.args.progress.now in
@@ -438,19 +438,19 @@ end-returns-in_err-run_deallocs t c =
     subst (λ r. Tells nothing_of r whole after) (sym (p.1 ∙ ap Err p.2))
     (tells_through c.in_err-run_deallocs.field-0.0 nothing_of nothing_of after (λ _ w2. gone o w2) (deallocs_run P (level P context.bound n) context.bound (ancestry (superclasses P.classes) class) o w1) whole meant c.in_err-run_deallocs.ensures)
 
-pub run_deallocs-loop-passed-init : goal.run_deallocs-loop-passed-init
-run_deallocs-loop-passed-init t c =
+pub call::run_deallocs-loop-passed-init : goal.call::run_deallocs-loop-passed-init
+call::run_deallocs-loop-passed-init t c =
     let context = c.args.context.now in
     let P = program_of context.program.now in
     ap (λ classes. deallocs_run P (deeper context) context.bound classes c.args.object (world c.args.progress.now)) (all_classes context.program.now.classes.items c.args.class)
 
-pub run_deallocs-returns-in_default : goal.run_deallocs-returns-in_default
-run_deallocs-returns-in_default t c =
+pub call::run_deallocs-returns-in_default : goal.call::run_deallocs-returns-in_default
+call::run_deallocs-returns-in_default t c =
     let context = c.args.context.now in
     c.loop-passed.invariant ∙ c.in_default.ensures (deeper context) context.bound (length context.program.now.classes.items - c.loop-passed._passed) c.args.object (world c.loop-passed.progress)
 
-pub run_deallocs-loop-passed-preserved : goal.run_deallocs-loop-passed-preserved
-run_deallocs-loop-passed-preserved t c =
+pub call::run_deallocs-loop-passed-preserved : goal.call::run_deallocs-loop-passed-preserved
+call::run_deallocs-loop-passed-preserved t c =
     let context = c.args.context.now in
     let P = program_of context.program.now in
     let D = deeper context in
@@ -462,8 +462,8 @@ run_deallocs-loop-passed-preserved t c =
     layer_done P D context.bound (deallocs_run P D context.bound (ancestry (superclasses P.classes) c.args.class) c.args.object (world c.args.progress.now)) (length all) i c.args.object c.loop-passed.next layer.0 layer.1 w (world c.run_dealloc.new.progress)
     below c.loop-passed.invariant (λ n. c.in-Some.ensures D context.bound n c.args.object w) c.in_ok-run_dealloc.ensures
 
-pub run_deallocs-returns-in_err-run_dealloc : goal.run_deallocs-returns-in_err-run_dealloc
-run_deallocs-returns-in_err-run_dealloc t c =
+pub call::run_deallocs-returns-in_err-run_dealloc : goal.call::run_deallocs-returns-in_err-run_dealloc
+call::run_deallocs-returns-in_err-run_dealloc t c =
     let context = c.args.context.now in
     let P = program_of context.program.now in
     let D = deeper context in

@@ -1,0 +1,186 @@
+//! Calls, places that are dropped, and the ends of objects.
+ghost use Rattle.std.specs.Prelude.{◌≡◌};
+ghost use Rattle.arc_spec.specs.Classes.{superclasses, ancestry};
+ghost use Rattle.arc_check.specs.Checked.{program_of};
+ghost use Rattle.arc_spec.specs.Meaning.{called, given, released, all_dropped, variables_dropped, function_at, dealloc_run, deallocs_run};
+ghost use Rattle.arc_plain.specs.Views.{world, Tells, flow_of, nothing_of, deeper};
+
+use crate::context::Context;
+use crate::format::count;
+use crate::halt::Halt;
+use crate::object::{begin_end, class_of, dealloc_from, finish_end, is_live};
+use crate::place::{clear, drop_last, is_named, pop_frame, push_frame};
+use crate::progress::Progress;
+use crate::statement::{Flow, execute_all};
+use arc_spec::event::Fault;
+use std::alloc::Global;
+
+/// Calls the function with this number, one level deeper, with this `self`.
+#[cycle(running)]
+pub fn call(
+    alloc: Global,
+    context: &Context,
+    progress: &mut Progress,
+    function: usize,
+    itself: usize,
+    arguments: &[i64],
+) -> Result<i64, Halt>
+    ensures { Tells (λ n. n) result ((deeper context.now).call function itself arguments.now (world progress.old)) (world progress.new) }
+{
+    if context.levels == 0 {
+        return Err(Halt::Stopped(Fault::Depth));
+    }
+    let inner = Context {
+        levels: context.levels - 1,
+        ..*context
+    };
+    enter(alloc, &inner, progress, function, itself, arguments)
+}
+
+/// Runs a function with variables of its own, which are dropped at its end. After it the caller's are there
+/// again. A function that there isn't does nothing.
+#[cycle(running)]
+fn enter(
+    alloc: Global,
+    context: &Context,
+    progress: &mut Progress,
+    function: usize,
+    itself: usize,
+    arguments: &[i64],
+) -> Result<i64, Halt>
+    ensures { Tells (λ n. n) result (called (deeper context.now) context.now.bound (function_at (program_of context.now.program.now) function) itself arguments.now (world progress.old)) (world progress.new) }
+{
+    let Some(entered) = context.program.functions.get(function) else {
+        return Ok(0);
+    };
+    let waiting = progress.waiting.len();
+    let kept = push_frame(alloc, progress, entered, itself, arguments)?;
+    let flow = execute_all(alloc, context, progress, &entered.body)?;
+    drop_variables(alloc, context, progress, 0, entered.names)?;
+    pop_frame(progress, kept, waiting);
+    Ok(number_of(flow))
+}
+
+/// What a function gives that was left so.
+fn number_of(flow: Flow) -> i64
+    ensures { result ≡ given (flow_of flow) }
+{
+    match flow {
+        Flow::Returned(number) => number,
+        _ => 0,
+    }
+}
+
+/// The end of an object, one level deeper: the deallocs of its class and of those above run, and it is gone.
+#[cycle(running)]
+fn end(alloc: Global, context: &Context, progress: &mut Progress, object: usize) -> Result<(), Halt>
+    ensures { Tells nothing_of result ((deeper context.now).end_of object (world progress.old)) (world progress.new) }
+{
+    if context.levels == 0 {
+        return Err(Halt::Stopped(Fault::Depth));
+    }
+    let inner = Context {
+        levels: context.levels - 1,
+        ..*context
+    };
+    let class = class_of(&progress.objects, object);
+    begin_end(progress, object)?;
+    run_deallocs(alloc, &inner, progress, class, object)?;
+    finish_end(progress, object)
+}
+
+/// What the deallocs of the classes do from this one up.
+#[cycle(running)]
+fn run_deallocs(
+    alloc: Global,
+    context: &Context,
+    progress: &mut Progress,
+    class: Option<usize>,
+    object: usize,
+) -> Result<(), Halt>
+    ensures { let program = program_of context.now.program.now in Tells nothing_of result (deallocs_run program (deeper context.now) context.now.bound (ancestry (superclasses program.classes) class) object (world progress.old)) (world progress.new) }
+{
+    let classes = &context.program.classes;
+    let mut next = class;
+    for _passed in 0..classes.len() {
+        let Some(layer) = dealloc_from(context, next) else {
+            return Ok(());
+        };
+        let (dealloc, above) = layer;
+        run_dealloc(alloc, context, progress, dealloc, object)?;
+        next = above;
+    }
+    Ok(())
+}
+
+/// What the dealloc of one class does, if it has one.
+#[cycle(running)]
+fn run_dealloc(
+    alloc: Global,
+    context: &Context,
+    progress: &mut Progress,
+    dealloc: Option<usize>,
+    object: usize,
+) -> Result<(), Halt>
+    ensures { Tells nothing_of result (dealloc_run (program_of context.now.program.now) (deeper context.now) context.now.bound dealloc object (world progress.old)) (world progress.new) }
+{
+    match dealloc {
+        Some(function) => {
+            let _ = enter(alloc, context, progress, function, object, &[])?;
+            Ok(())
+        }
+        None => Ok(()),
+    }
+}
+
+/// A place was dropped that named this: where it was the last one of a live object, the object ends.
+#[cycle(running)]
+pub fn release(
+    alloc: Global,
+    context: &Context,
+    progress: &mut Progress,
+    object: usize,
+) -> Result<(), Halt>
+    ensures { Tells nothing_of result (released (deeper context.now) object (world progress.old)) (world progress.new) }
+{
+    if !is_live(&progress.objects, object) {
+        return Ok(());
+    }
+    if is_named(progress, object) {
+        return Ok(());
+    }
+    end(alloc, context, progress, object)
+}
+
+/// The end of a full-expression: its temporaries are dropped, the last one first.
+#[cycle(running)]
+pub fn drop_temporaries(
+    alloc: Global,
+    context: &Context,
+    progress: &mut Progress,
+) -> Result<(), Halt>
+    ensures { Tells nothing_of result (all_dropped (deeper context.now) (world progress.old)) (world progress.new) }
+{
+    while let Some(object) = drop_last(progress) {
+        release(alloc, context, progress, object)?;
+    }
+    Ok(())
+}
+
+/// So many variables are dropped, from the first one on, in the reverse of their order.
+#[cycle(running)]
+pub fn drop_variables(
+    alloc: Global,
+    context: &Context,
+    progress: &mut Progress,
+    first: usize,
+    count: usize,
+) -> Result<(), Halt>
+    ensures { Tells nothing_of result (variables_dropped (deeper context.now) first count (world progress.old)) (world progress.new) }
+{
+    for offset in (0..count).rev() {
+        let before = clear(progress, first, offset);
+        release(alloc, context, progress, before)?;
+    }
+    Ok(())
+}

@@ -1,0 +1,235 @@
+//! What statements do, and how they are left.
+ghost use Rattle.std.specs.Prelude.{option_map};
+ghost use Rattle.arc_check.specs.Checked as checked;
+ghost use Rattle.arc_spec.specs.Resolved as resolved;
+ghost use Rattle.arc_spec.specs.Meaning.{whole, executed, all_executed, turns, turns_after};
+ghost use Rattle.arc_plain.specs.Views.{world, Tells, flow_of, step_of, test_of, turn_of, deeper};
+
+use crate::call::{drop_temporaries, drop_variables, release};
+use crate::context::Context;
+use crate::expression::{evaluate_whole, refer};
+use crate::halt::Halt;
+use crate::message::is_zero;
+use crate::place::store;
+use crate::progress::Progress;
+use arc_check::checked::{Command, Value};
+use std::alloc::Global;
+
+/// How a statement was left: at its end, by a `break`, by a `continue`, or by a return with a value.
+#[derive(Drop)]
+pub enum Flow {
+    Normal,
+    Broken,
+    Continued,
+    Returned(i64),
+}
+
+/// Does what a statement says.
+#[cycle(running)]
+fn execute(
+    alloc: Global,
+    context: &Context,
+    progress: &mut Progress,
+    command: &Command,
+) -> Result<Flow, Halt>
+    ensures { Tells flow_of result (executed (deeper context.now) context.now.bound (checked.command command.now) (world progress.old)) (world progress.new) }
+{
+    match command {
+        Command::Sequence(first, names, commands) => {
+            execute_block(alloc, context, progress, *first, *names, commands)
+        }
+        Command::Evaluate(value) => {
+            let _ = evaluate_whole(alloc, context, progress, value)?;
+            Ok(Flow::Normal)
+        }
+        Command::EvaluateReference(value) => {
+            let _ = refer(alloc, context, progress, value)?;
+            drop_temporaries(alloc, context, progress)?;
+            Ok(Flow::Normal)
+        }
+        Command::Begin(slot, value) => {
+            let object = refer(alloc, context, progress, value)?;
+            let before = store(progress, *slot, object);
+            release(alloc, context, progress, before)?;
+            drop_temporaries(alloc, context, progress)?;
+            Ok(Flow::Normal)
+        }
+        Command::Return(None) => Ok(Flow::Returned(0)),
+        Command::Return(Some(value)) => {
+            let number = evaluate_whole(alloc, context, progress, value)?;
+            Ok(Flow::Returned(number))
+        }
+        Command::Choose(test, first, second) => {
+            let number = evaluate_whole(alloc, context, progress, test)?;
+            let branch = if is_zero(number) { second } else { first };
+            execute(alloc, context, progress, branch)
+        }
+        Command::Repeat(test, step, body) => repeat(alloc, context, progress, test, step, body),
+        Command::RepeatAfter(body, test) => repeat_after(alloc, context, progress, body, test),
+        Command::Break => Ok(Flow::Broken),
+        Command::Continue => Ok(Flow::Continued),
+    }
+}
+
+/// Does what the statements of a block say, and drops its own variables, however it is left; a return leaves
+/// them to the function.
+#[cycle(running)]
+fn execute_block(
+    alloc: Global,
+    context: &Context,
+    progress: &mut Progress,
+    first: usize,
+    names: usize,
+    commands: &[Command],
+) -> Result<Flow, Halt>
+    ensures { Tells flow_of result (executed (deeper context.now) context.now.bound (resolved.Sequence first names (checked.commands commands.now)) (world progress.old)) (world progress.new) }
+{
+    match execute_all(alloc, context, progress, commands)? {
+        Flow::Returned(number) => Ok(Flow::Returned(number)),
+        flow => {
+            drop_variables(alloc, context, progress, first, names)?;
+            Ok(flow)
+        }
+    }
+}
+
+/// Does what the statements say in turn, up to the first that isn't left at its end.
+#[cycle(running)]
+pub fn execute_all(
+    alloc: Global,
+    context: &Context,
+    progress: &mut Progress,
+    commands: &[Command],
+) -> Result<Flow, Halt>
+    ensures { Tells flow_of result (all_executed (deeper context.now) context.now.bound (checked.commands commands.now) (world progress.old)) (world progress.new) }
+{
+    for command in commands {
+        match execute(alloc, context, progress, command)? {
+            Flow::Normal => {}
+            flow => return Ok(flow),
+        }
+    }
+    Ok(Flow::Normal)
+}
+
+/// The step of a loop, after a turn of its body, and how the loop is left by it, if it is.
+#[cycle(running)]
+fn run_step(
+    alloc: Global,
+    context: &Context,
+    progress: &mut Progress,
+    step: &Command,
+) -> Result<Option<Flow>, Halt>
+    ensures { Tells (option_map flow_of) result (step_of (executed (deeper context.now) context.now.bound (checked.command step.now)) (world progress.old)) (world progress.new) }
+{
+    match execute(alloc, context, progress, step)? {
+        Flow::Normal => Ok(None),
+        flow => Ok(Some(flow)),
+    }
+}
+
+/// One turn of a loop, with the step after it, and how the loop is left by it, if it is.
+#[cycle(running)]
+fn turn(
+    alloc: Global,
+    context: &Context,
+    progress: &mut Progress,
+    step: &Command,
+    body: &Command,
+) -> Result<Option<Flow>, Halt>
+    ensures { let run = λ (c : resolved.Command). executed (deeper context.now) context.now.bound c in
+        Tells (option_map flow_of) result (turn_of (step_of (run (checked.command step.now))) (run (checked.command body.now)) (world progress.old)) (world progress.new) }
+{
+    match execute(alloc, context, progress, body)? {
+        Flow::Normal => run_step(alloc, context, progress, step),
+        Flow::Continued => run_step(alloc, context, progress, step),
+        Flow::Broken => Ok(Some(Flow::Normal)),
+        Flow::Returned(number) => Ok(Some(Flow::Returned(number))),
+    }
+}
+
+/// The test of a loop, after a turn of its body: whether it leaves the loop.
+#[cycle(running)]
+fn run_test(
+    alloc: Global,
+    context: &Context,
+    progress: &mut Progress,
+    test: &Value,
+) -> Result<Option<Flow>, Halt>
+    ensures { Tells (option_map flow_of) result (test_of (whole (deeper context.now) (checked.value test.now)) (world progress.old)) (world progress.new) }
+{
+    let number = evaluate_whole(alloc, context, progress, test)?;
+    if is_zero(number) {
+        Ok(Some(Flow::Normal))
+    } else {
+        Ok(None)
+    }
+}
+
+/// One turn of a loop, with the test after it, and how the loop is left by it, if it is.
+#[cycle(running)]
+fn turn_after(
+    alloc: Global,
+    context: &Context,
+    progress: &mut Progress,
+    body: &Command,
+    test: &Value,
+) -> Result<Option<Flow>, Halt>
+    ensures { Tells (option_map flow_of) result (turn_of (test_of (whole (deeper context.now) (checked.value test.now))) (executed (deeper context.now) context.now.bound (checked.command body.now)) (world progress.old)) (world progress.new) }
+{
+    match execute(alloc, context, progress, body)? {
+        Flow::Normal => run_test(alloc, context, progress, test),
+        Flow::Continued => run_test(alloc, context, progress, test),
+        Flow::Broken => Ok(Some(Flow::Normal)),
+        Flow::Returned(number) => Ok(Some(Flow::Returned(number))),
+    }
+}
+
+/// Does what the body says, and again while the test isn't 0, for no more turns than the bound.
+#[cycle(running)]
+fn repeat_after(
+    alloc: Global,
+    context: &Context,
+    progress: &mut Progress,
+    body: &Command,
+    test: &Value,
+) -> Result<Flow, Halt>
+    ensures { Tells flow_of result (turns_after context.now.bound (whole (deeper context.now) (checked.value test.now)) (executed (deeper context.now) context.now.bound (checked.command body.now)) (world progress.old)) (world progress.new) }
+{
+    for _ in 0..context.bound {
+        if let Some(flow) = turn_after(alloc, context, progress, body, test)? {
+            return Ok(flow);
+        }
+    }
+    Err(Halt::Cut)
+}
+
+/// Does what the body says, and then the step, while the test isn't 0, for no more turns than the bound.
+#[cycle(running)]
+fn repeat(
+    alloc: Global,
+    context: &Context,
+    progress: &mut Progress,
+    test: &Value,
+    step: &Command,
+    body: &Command,
+) -> Result<Flow, Halt>
+    ensures { let run = λ (c : resolved.Command). executed (deeper context.now) context.now.bound c in
+        Tells flow_of result (turns context.now.bound (whole (deeper context.now) (checked.value test.now)) (run (checked.command step.now)) (run (checked.command body.now)) (world progress.old)) (world progress.new) }
+{
+    for _ in 0..context.bound {
+        let number = evaluate_whole(alloc, context, progress, test)?;
+        if is_zero(number) {
+            return Ok(Flow::Normal);
+        }
+        if let Some(flow) = turn(alloc, context, progress, step, body)? {
+            return Ok(flow);
+        }
+    }
+    let number = evaluate_whole(alloc, context, progress, test)?;
+    if is_zero(number) {
+        Ok(Flow::Normal)
+    } else {
+        Err(Halt::Cut)
+    }
+}
