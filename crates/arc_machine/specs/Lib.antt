@@ -1,5 +1,6 @@
 pub mod Cells
 pub mod Entering
+pub mod Operands
 pub mod Patterns
 pub mod Places
 pub mod Refusals

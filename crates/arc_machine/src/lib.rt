@@ -13,6 +13,7 @@ mod holding;
 pub mod machine;
 mod number;
 mod objects;
+mod operand;
 mod pattern;
 mod place;
 mod releasing;
