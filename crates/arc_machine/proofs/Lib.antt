@@ -22,6 +22,7 @@ pub mod Making
 pub mod Named
 pub mod Needs
 pub mod Newest
+pub mod Operating
 pub mod Patterning
 pub mod Piles
 pub mod Put
