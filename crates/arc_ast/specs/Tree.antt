@@ -20,6 +20,7 @@ use Rattle.arc_ast.specs.declared.tree.Parameter.{Parameter}
 use Rattle.arc_ast.specs.declared.tree.Parameters.{Parameters}
 use Rattle.arc_ast.specs.declared.tree.Parameters.TheVariants as p
 use Rattle.arc_ast.specs.declared.tree.Function.{Function}
+use Rattle.arc_ast.specs.declared.tree.Constant.{Constant}
 use Rattle.arc_ast.specs.declared.tree.Global.{Global}
 use Rattle.arc_ast.specs.declared.tree.MethodHead.{MethodHead}
 use Rattle.arc_ast.specs.declared.tree.Method.{Method}
@@ -148,13 +149,13 @@ pub record ImplementationTree : Type 0 where
   pub fields : List FieldTree
   pub methods : List MethodTree
 
--- A variable of the whole program, with the place of its name, and the number with which it is initialized, if one is written (C99, section 6.9.2). The type is one
--- of numbers.
+-- A variable of the whole program, with the place of its name, and what it begins with, if that is written: a number or `nil`, with the place of its first byte
+-- (C99, section 6.9.2).
 pub record GlobalTree : Type 0 where
   pub at : ℕ
   pub type : TypeTree
   pub name : List ℕ
-  pub initial : Option ℤ
+  pub initial : Option Constant
 
 -- what a source declares and defines
 pub record UnitTree : Type 0 where

@@ -279,14 +279,22 @@ pub struct Implementation {
     pub methods: Vec<Method>,
 }
 
-/// A variable of the whole program (C99, section 6.9.2), with the place of its name, and the number
-/// with which it is initialized, if one is written.
+/// What a variable of the whole program may begin with, with the place of its first byte.
+#[derive(Clone, Copy, Debug, PartialEq, Eq)]
+pub enum Constant {
+    Number(usize, i64),
+    /// `nil`
+    Nil(usize),
+}
+
+/// A variable of the whole program (C99, section 6.9.2), with the place of its name, and what it
+/// begins with, if that is written.
 #[derive(Drop)]
 pub struct Global {
     pub at: usize,
     pub type_name: TypeName,
     pub name: Vec<u8>,
-    pub initial: Option<i64>,
+    pub initial: Option<Constant>,
 }
 
 /// All of a source (C99, section 6.9): the functions, the global variables, the interfaces and the
