@@ -19,6 +19,8 @@ use Rattle.arc_ast.specs.declared.tree.Moment.{Moment}
 use Rattle.arc_ast.specs.declared.tree.Moment.TheVariants.{Before, After}
 use Rattle.arc_ast.specs.declared.tree.UnaryOperator.{UnaryOperator}
 use Rattle.arc_ast.specs.declared.tree.UnaryOperator.TheVariants as unary_operators
+use Rattle.arc_ast.specs.declared.tree.Constant.{Constant}
+use Rattle.arc_ast.specs.declared.tree.Constant.TheVariants as constants
 use Rattle.arc_ast.specs.Tree.{TypeTree, ResultTree, ExprTree, ExprTrees, VariableTree, StmtTree, StmtTrees, ParameterTree, ParametersTree, FunctionTree, GlobalTree, HeadTree, MethodTree, FieldTree, InterfaceTree, ImplementationTree, UnitTree, Boolean, Int, Long, Id, Object, Void, Value, Integer, Text, Paren, Call, Nil, Itself, Name, Unary, Cast, Binary, Conditional, Arrow, Assign, Update, Send, SendSuper, no_exprs, and_expr, Block, Empty, Simple, Return, Variables, If, IfElse, While, Do, For, Break, Continue, no_stmts, and_stmt, Listed, CountAndTexts, begins}
 use Rattle.arc_grammar.specs.declared.limits.TheConstants.{DEEPEST, MOST_TOKENS}
 use Rattle.arc_form.specs.Kinds.{Kinds, none, ◌∪◌, mark, word, at, name, main, other_name, integer, text}
@@ -178,12 +180,33 @@ number_type = choose (word w.Int) int_type other_type
 abbrev pub begins_number_type : Kinds
 begins_number_type = word w.Int ∪ begins_other_type
 
+unfoldable pub id_type : Part (ℕ × TypeTree)
+id_type = map (λ at. (at, Id)) (key w.Id)
+
 -- a type that names no class, with its place
 unfoldable pub plain_type : Part (ℕ × TypeTree)
-plain_type = choose (word w.Id) (map (λ at. (at, Id)) (key w.Id)) number_type
+plain_type = choose (word w.Id) id_type number_type
 
 abbrev pub begins_plain_type : Kinds
 begins_plain_type = word w.Id ∪ begins_number_type
+
+-- a class's name and `*`, which is the type of references to the class's objects (OPL, "Static Typing"), with its place
+unfoldable pub class_type : Part (ℕ × TypeTree)
+class_type = map (λ (n, star). (n.0, Object n.0 n.1)) (called ⨾ the m.Star)
+
+-- any type of a value, with its place
+unfoldable pub value_type : Part (ℕ × TypeTree)
+value_type = choose name class_type plain_type
+
+abbrev pub begins_value_type : Kinds
+begins_value_type = name ∪ begins_plain_type
+
+-- any type of a value but `int`, with its place
+unfoldable pub other_value_type : Part (ℕ × TypeTree)
+other_value_type = choose name class_type (choose (word w.Id) id_type other_type)
+
+abbrev pub begins_other_value_type : Kinds
+begins_other_value_type = name ∪ word w.Id ∪ begins_other_type
 
 -- ---- expressions (C99, section 6.5)
 
@@ -550,9 +573,9 @@ statement d = choose (mark m.OpenBrace) (block d) (choose (mark m.Semicolon) emp
 unfoldable pub result_type : Part ResultTree
 result_type = choose (word w.Void) (map (λ void. Void) (key w.Void)) (map (λ type. Value type.1) number_type)
 
--- a type of numbers and a name
+-- a type and a name
 unfoldable pub parameter : Part ParameterTree
-parameter = map (λ (type, n). record { at = n.0; type = type.1; name = n.1 }) (number_type ⨾ called)
+parameter = map (λ (type, n). record { at = n.0; type = type.1; name = n.1 }) (value_type ⨾ called)
 
 unfoldable pub next_parameter : Part ParameterTree
 next_parameter = map (λ (comma, p). p) (the m.Comma ⨾ parameter)
@@ -567,7 +590,7 @@ unfoldable pub some_parameters : Part ParametersTree
 some_parameters = map (λ (p, others). Listed (p ∷ others)) (parameter ⨾ more_parameters)
 
 unfoldable pub parameters : Part ParametersTree
-parameters = choose (word w.Void) void_parameters (choose begins_number_type some_parameters (give (Listed [])))
+parameters = choose (word w.Void) void_parameters (choose begins_value_type some_parameters (give (Listed [])))
 
 -- `name[]` or `*name`
 unfoldable pub texts_name : Part (Unit {0})
@@ -596,10 +619,10 @@ some_of_main = map (λ (p, make). make p) (count ⨾ choose (mark m.Comma) secon
 
 -- a first parameter of another type, with which no program begins, and further ones
 unfoldable pub others_of_main : Part ParametersTree
-others_of_main = map (λ ((type, n), others). Listed (record { at = n.0; type = type.1; name = n.1 } ∷ others)) ((other_type ⨾ called) ⨾ more_parameters)
+others_of_main = map (λ ((type, n), others). Listed (record { at = n.0; type = type.1; name = n.1 } ∷ others)) ((other_value_type ⨾ called) ⨾ more_parameters)
 
 unfoldable pub parameters_of_main : Part ParametersTree
-parameters_of_main = choose (word w.Void) void_parameters (choose (word w.Int) some_of_main (choose begins_other_type others_of_main (give (Listed []))))
+parameters_of_main = choose (word w.Void) void_parameters (choose (word w.Int) some_of_main (choose begins_other_value_type others_of_main (give (Listed []))))
 
 -- the block of a function or a method, whose statements are at depth 2
 unfoldable pub braces : Part StmtTrees
@@ -630,27 +653,31 @@ function = choose main main_function other_function
 
 abbrev pub number_of : Sort → ℤ
 number_of (tokens.Integer value suffixed) = value
-number_of (tokens.Key w.Yes) = pos 1
 number_of _ = pos 0
 
--- an integer or a character, `YES` or `NO`
-unfoldable pub plain_constant : Part ℤ
-plain_constant = token (integer ∪ word w.Yes ∪ word w.No) (λ t. number_of t.sort)
+abbrev pub constant_of : ℕ → Sort → Constant
+constant_of at (tokens.Key w.Nil) = constants.Nil at
+constant_of at (tokens.Key w.Yes) = constants.Number at (pos 1)
+constant_of at sort = constants.Number at (number_of sort)
+
+-- an integer or a character, `YES`, `NO` or `nil`
+unfoldable pub plain_constant : Part Constant
+plain_constant = token (integer ∪ word w.Yes ∪ word w.No ∪ word w.Nil) (λ t. constant_of t.from t.sort)
 
 -- `-`, and an integer or a character; the negation wraps, as all of them do
-unfoldable pub negative_constant : Part ℤ
-negative_constant = map (λ (sign, value). int_wrapping_neg w64 value) (the m.Minus ⨾ token integer (λ t. number_of t.sort))
+unfoldable pub negative_constant : Part Constant
+negative_constant = map (λ (at, value). constants.Number at (int_wrapping_neg w64 value)) (the m.Minus ⨾ token integer (λ t. number_of t.sort))
 
 -- what such a variable may begin with (6.7.8, paragraph 4, of whose constant expressions these alone are read)
-unfoldable pub constant : Part ℤ
+unfoldable pub constant : Part Constant
 constant = choose (mark m.Minus) negative_constant plain_constant
 
-unfoldable pub first_number : Part (Option ℤ)
-first_number = choose (mark m.Assign) (map (λ (sign, value). Some value) (the m.Assign ⨾ constant)) (give None)
+unfoldable pub first_constant : Part (Option Constant)
+first_constant = choose (mark m.Assign) (map (λ (sign, value). Some value) (the m.Assign ⨾ constant)) (give None)
 
--- a name and perhaps a first number, of a variable whose type is known
+-- a name and perhaps what it begins with, of a variable whose type is known
 unfoldable pub global : Part (TypeTree → GlobalTree)
-global = map (λ (n, value) type. record { at = n.0; type = type; name = n.1; initial = value }) (called ⨾ first_number)
+global = map (λ (n, value) type. record { at = n.0; type = type; name = n.1; initial = value }) (called ⨾ first_constant)
 
 unfoldable pub next_global : Part (TypeTree → GlobalTree)
 next_global = map (λ (comma, make). make) (the m.Comma ⨾ global)
@@ -662,11 +689,25 @@ more_globals = many (mark m.Comma) next_global
 unfoldable pub globals : Part (TypeTree → List GlobalTree)
 globals = map (λ (make, (others, end)) type. make type ∷ list_map (λ other. other type) others) (global ⨾ more_globals ⨾ the m.Semicolon)
 
+-- `*` and such a variable, which names objects of a class that is known
+unfoldable pub global_reference : Part (TypeTree → GlobalTree)
+global_reference = map (λ (star, make). make) (the m.Star ⨾ global)
+
+unfoldable pub next_global_reference : Part (TypeTree → GlobalTree)
+next_global_reference = map (λ (comma, make). make) (the m.Comma ⨾ global_reference)
+
+unfoldable pub more_global_references : Part (List (TypeTree → GlobalTree))
+more_global_references = many (mark m.Comma) next_global_reference
+
+-- one or more of these, and `;`
+unfoldable pub global_references : Part (TypeTree → List GlobalTree)
+global_references = map (λ (make, (others, end)) type. make type ∷ list_map (λ other. other type) others) (global_reference ⨾ more_global_references ⨾ the m.Semicolon)
+
 -- ---- methods (OPL, "Defining a Class")
 
--- a colon, a type of numbers in parentheses and the parameter's name
+-- a colon, a type in parentheses and the parameter's name
 unfoldable pub typed : Part ParameterTree
-typed = map (λ (colon, (start, (type, (end, n)))). record { at = n.0; type = type.1; name = n.1 }) (the m.Colon ⨾ the m.OpenParen ⨾ number_type ⨾ the m.CloseParen ⨾ called)
+typed = map (λ (colon, (start, (type, (end, n)))). record { at = n.0; type = type.1; name = n.1 }) (the m.Colon ⨾ the m.OpenParen ⨾ value_type ⨾ the m.CloseParen ⨾ called)
 
 unfoldable pub next_typed : Part (List ℕ × ParameterTree)
 next_typed = map (λ (n, p). (n.1, p)) (called ⨾ typed)
@@ -739,12 +780,29 @@ next_name = map (λ (comma, n). n) (the m.Comma ⨾ called)
 unfoldable pub more_names : Part (List (ℕ × List ℕ))
 more_names = many (mark m.Comma) next_name
 
+-- a type that names no class, names and `;`
+unfoldable pub plain_fields : Part FieldGroup
+plain_fields = map (λ (type, (n, (others, end))). OfType type.1 (n ∷ others)) (plain_type ⨾ called ⨾ more_names ⨾ the m.Semicolon)
+
+-- `*` and a name
+unfoldable pub starred_name : Part (ℕ × List ℕ)
+starred_name = map (λ (star, n). n) (the m.Star ⨾ called)
+
+unfoldable pub next_starred_name : Part (ℕ × List ℕ)
+next_starred_name = map (λ (comma, n). n) (the m.Comma ⨾ starred_name)
+
+unfoldable pub more_starred_names : Part (List (ℕ × List ℕ))
+more_starred_names = many (mark m.Comma) next_starred_name
+
+-- a class's name, names with a `*` each, and `;`
+unfoldable pub object_fields : Part FieldGroup
+object_fields = map (λ (class, (n, (others, end))). OfType (Object class.0 class.1) (n ∷ others)) (called ⨾ starred_name ⨾ more_starred_names ⨾ the m.Semicolon)
+
 unfoldable pub group : Part FieldGroup
-group = choose begins_number_type (map (λ (type, (n, (others, end))). OfType type.1 (n ∷ others)) (number_type ⨾ called ⨾ more_names ⨾ the m.Semicolon))
-    (map OfWord (token begins_visibility (λ t. visibility_of t.sort)))
+group = choose name object_fields (choose begins_plain_type plain_fields (map OfWord (token begins_visibility (λ t. visibility_of t.sort))))
 
 unfoldable pub groups : Part (List FieldGroup)
-groups = many (begins_number_type ∪ begins_visibility) group
+groups = many (begins_value_type ∪ begins_visibility) group
 
 -- no fields, or braces with them; those before any word are visible so
 unfoldable pub fields : Visibility → Part (List FieldTree)
@@ -795,16 +853,24 @@ typed_top = two_ahead main (mark m.OpenParen) (map of_function main_function)
 unfoldable pub of_numbers : Part TopTree
 of_numbers = map (λ (type, make). make type.1) (number_type ⨾ typed_top)
 
+-- `id`, and variables; no function gives an object yet
+unfoldable pub of_any_objects : Part TopTree
+of_any_objects = map (λ (at, make). OfGlobals (make Id)) (key w.Id ⨾ globals)
+
+-- a class's name, and variables with a `*` each
+unfoldable pub of_objects : Part TopTree
+of_objects = map (λ (n, make). OfGlobals (make (Object n.0 n.1))) (called ⨾ global_references)
+
 -- a function or variables
 unfoldable pub external : Part TopTree
-external = map (λ (static, t). t) (perhaps_static ⨾ choose (word w.Void) of_void of_numbers)
+external = map (λ (static, t). t) (perhaps_static ⨾ choose (word w.Void) of_void (choose (word w.Id) of_any_objects (choose name of_objects of_numbers)))
 
 unfoldable pub top : Part TopTree
 top = choose (at words.Class) (map (λ _. OfNames) class_names) (choose (at words.Interface) (map OfInterface interface)
     (choose (at words.Implementation) (map OfImplementation implementation) external))
 
 abbrev pub begins_top : Kinds
-begins_top = at words.Class ∪ at words.Interface ∪ at words.Implementation ∪ word w.Static ∪ word w.Void ∪ begins_number_type
+begins_top = at words.Class ∪ at words.Interface ∪ at words.Implementation ∪ word w.Static ∪ word w.Void ∪ begins_value_type
 
 unfoldable pub tops : Part (List TopTree)
 tops = many begins_top top
