@@ -44,10 +44,21 @@ pub fn plain_type(tokens: &[Token]) -> Read<'_, (usize, TypeName)>
     ensures shorter { IfOk result (λ x. length x.1.now < length tokens.now) }
 {
     if sees_word(Word::Id, tokens) {
-        let (at, rest) = keyword(Word::Id, tokens)?;
-        return Ok(((at, TypeName::Id), rest));
+        id_type(tokens)
+    } else {
+        number_type(tokens)
     }
-    number_type(tokens)
+}
+
+/// `id`, with its place.
+#[tactic(auto, unfolding(arc_grammar::specs::Grammar::id_type))]
+pub fn id_type(tokens: &[Token]) -> Read<'_, (usize, TypeName)>
+    ensures gives { Gives (λ x. ((x.0.0, type_tree x.0.1), toks x.1.now)) result (reads_free grammar.id_type (toks tokens.now)) }
+    ensures within { Gives (λ x. ((x.0.0, type_tree x.0.1), toks x.1.now)) result (reads grammar.id_type (toks tokens.now)) }
+    ensures shorter { IfOk result (λ x. length x.1.now < length tokens.now) }
+{
+    let (at, rest) = keyword(Word::Id, tokens)?;
+    Ok(((at, TypeName::Id), rest))
 }
 
 /// A type of numbers, with its place.
