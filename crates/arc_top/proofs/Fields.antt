@@ -1,27 +1,32 @@
 -- The fields of classes: the loops that read them.
-use Rattle.std.proofs.Common.{◌≡◌, ℕ, List, [], ◌∷◌, ◌++◌, append_assoc, append-nil, Ok, Err, Bool, true, false, cond, refl, sym, ap, ◌∙◌}
+use Rattle.std.proofs.Common.{◌≡◌, ℕ, List, [], ◌∷◌, ◌++◌, append_assoc, append-nil, Ok, Err, Bool, true, false, ◌||◌, cond, refl, sym, ap, ◌∙◌}
 use Rattle.arc_lex.specs.Tokens.{Tok}
 use Rattle.arc_lex.specs.declared.token.Mark.TheVariants as m
 use Rattle.arc_lex.specs.declared.token.AtWord.TheVariants as words
 use Rattle.arc_ast.specs.declared.tree.Visibility.{Visibility}
 use Rattle.arc_ast.specs.declared.tree.Field.{Field}
-use Rattle.arc_ast.specs.Tree.{TypeTree, FieldTree, field_tree, field_trees}
+use Rattle.arc_ast.specs.Tree.{TypeTree, Object, FieldTree, field_tree, field_trees}
 use Rattle.arc_form.specs.Kinds.{mark, at, name}
 use Rattle.arc_form.specs.Form.{map}
 use Rattle.arc_form.specs.Operators.{fold}
 use Rattle.arc_form.specs.Reader.{Read, Reader, bind, ◌>>=◌, ret, sees, if_sees, take_one, from, named}
 use Rattle.arc_form.proofs.Local.{Local}
-use Rattle.arc_grammar.specs.Grammar.{FieldGroup, OfWord, OfType, reads, perhaps_int, perhaps_long, long_type, bool_type, integer_type, int_type, other_type, number_type, begins_number_type, next_name, more_names, group, groups, fields, fields_of, named_fields, visibility_of, begins_visibility, class_names}
+use Rattle.arc_grammar.specs.Grammar.{FieldGroup, OfWord, OfType, reads, plain_type, begins_plain_type, begins_value_type, next_name, more_names, starred_name, next_starred_name, more_starred_names, plain_fields, object_fields, group, groups, fields, fields_of, named_fields, visibility_of, begins_visibility, class_names}
+use Rattle.arc_grammar.proofs.Fits.{lines}
 use Rattle.arc_top.proofs.Rests.{front}
 use Rattle.arc_form.specs.Joining.{joining}
-use Rattle.arc_top.specs.Fields.{begins_group, add_field, add_group, numbers_on, group_on, names_skipped}
+use Rattle.arc_top.specs.Fields.{begins_group, add_field, add_group, object_fields_on, plain_fields_on, typed_fields_on, group_on, names_skipped}
 
 pub name_front : (j : ℕ) → Local ⊥ 1 j (reads next_name) (reads next_name)
-unfolding next_name
+unfolding lines
 name_front j = front next_name refl refl j
 
+pub starred_front : (j : ℕ) → Local ⊥ 1 j (reads next_starred_name) (reads next_starred_name)
+unfolding lines
+starred_front j = front next_starred_name refl refl j
+
 pub group_front : (j : ℕ) → Local ⊥ 1 j (reads group) (reads group)
-unfolding group number_type int_type other_type bool_type integer_type long_type perhaps_long perhaps_int more_names next_name
+unfolding lines
 group_front j = front group refl refl j
 
 -- the fields of a class after these
@@ -39,19 +44,8 @@ module _ (v : Visibility) (made : List FieldTree) where
   abbrev Begun : Type 0
   Begun = Named × Ended
 
-  abbrev All : Type 0
-  All = (ℕ × TypeTree) × Begun
-
-  abbrev to_group : Read All → Read (Visibility × List FieldTree)
-  to_group x = bind {A = FieldGroup} (bind {A = All} x (λ p. ret (OfType p.0.1 (p.1.0 ∷ p.1.1.0)))) (λ g. ret (add_group (v, made) g))
-
   abbrev to_state : Read (List FieldTree) → Read (Visibility × List FieldTree)
   to_state x = bind x (λ all. ret (v, all))
-
-  semicolon : (written : ℕ × TypeTree) (n : Named) (others : List Named) (x : Read ℕ)
-      → to_group (bind {A = Begun} (bind {A = Ended} (bind x (λ end. ret (others, end))) (λ p. ret (n, p))) (λ p. ret (written, p))) ≡ to_state (bind x (λ end. ret (fold (add_field v written.1) (add_field v written.1 made n) others)))
-  semicolon written n others (Ok x) = refl
-  semicolon written n others (Err x) = refl
 
   abbrev end : Reader ℕ
   end = take_one (mark m.Semicolon) from
@@ -59,36 +53,66 @@ module _ (v : Visibility) (made : List FieldTree) where
   abbrev ended : Read (List Named) → Read Ended
   ended x = bind x (λ others. end >>= (λ e. ret (others, e)))
 
-  abbrev ended_on : ℕ × TypeTree → Named → Read (List Named) → Read (List FieldTree)
-  ended_on written n x = bind (bind x (λ others. ret (fold (add_field v written.1) (add_field v written.1 made n) others))) (λ all. end >>= (λ e. ret all))
+  -- fields after what says their type, and then one name or more
+  module _ {H : Type 0} (type_of : H → TypeTree) (one : Reader Named) (more : Reader (List Named)) where
+    abbrev All : Type 0
+    All = H × Begun
 
-  further : (written : ℕ × TypeTree) (n : Named) (x : Read (List Named)) → to_group (bind {A = Begun} (bind {A = Ended} (ended x) (λ p. ret (n, p))) (λ p. ret (written, p))) ≡ to_state (ended_on written n x)
-  further written n (Ok x) = semicolon written n x.0 (end x.1)
-  further written n (Err x) = refl
+    abbrev to_group : Read All → Read (Visibility × List FieldTree)
+    to_group x = bind {A = FieldGroup} (bind {A = All} x (λ p. ret (OfType (type_of p.0) (p.1.0 ∷ p.1.1.0)))) (λ g. ret (add_group (v, made) g))
 
-  abbrev begun : Read Named → Read Begun
-  begun x = bind x (λ n us. bind {A = Ended} (ended (reads more_names us)) (λ p. ret (n, p)))
+    semicolon : (h : H) (n : Named) (others : List Named) (x : Read ℕ)
+        → to_group (bind {A = Begun} (bind {A = Ended} (bind x (λ end. ret (others, end))) (λ p. ret (n, p))) (λ p. ret (h, p))) ≡ to_state (bind x (λ end. ret (fold (add_field v (type_of h)) (add_field v (type_of h) made n) others)))
+    semicolon h n others (Ok x) = refl
+    semicolon h n others (Err x) = refl
 
-  called_first : (written : ℕ × TypeTree) (x : Read Named) → to_group (bind {A = Begun} (begun x) (λ p. ret (written, p))) ≡ to_state (bind x (λ n us. ended_on written n (reads more_names us)))
-  called_first written (Ok x) = further written x.0 (reads more_names x.1)
-  called_first written (Err x) = refl
+    abbrev ended_on : H → Named → Read (List Named) → Read (List FieldTree)
+    ended_on h n x = bind (bind x (λ others. ret (fold (add_field v (type_of h)) (add_field v (type_of h) made n) others))) (λ all. end >>= (λ e. ret all))
 
-  of_numbers : (x : Read (ℕ × TypeTree)) → to_group (bind x (λ written us. bind {A = Begun} (begun (take_one name named us)) (λ p. ret (written, p)))) ≡ to_state (bind x (λ written us. bind (take_one name named us) (λ n vs. ended_on written n (reads more_names vs))))
-  of_numbers (Ok x) = called_first x.0 (take_one name named x.1)
-  of_numbers (Err x) = refl
+    further : (h : H) (n : Named) (x : Read (List Named)) → to_group (bind {A = Begun} (bind {A = Ended} (ended x) (λ p. ret (n, p))) (λ p. ret (h, p))) ≡ to_state (ended_on h n x)
+    further h n (Ok x) = semicolon h n x.0 (end x.1)
+    further h n (Err x) = refl
+
+    abbrev begun : Read Named → Read Begun
+    begun x = bind x (λ n us. bind {A = Ended} (ended (more us)) (λ p. ret (n, p)))
+
+    called_first : (h : H) (x : Read Named) → to_group (bind {A = Begun} (begun x) (λ p. ret (h, p))) ≡ to_state (bind x (λ n us. ended_on h n (more us)))
+    called_first h (Ok x) = further h x.0 (more x.1)
+    called_first h (Err x) = refl
+
+    of_fields : (x : Read H) → to_group (bind x (λ h us. bind {A = Begun} (begun (one us)) (λ p. ret (h, p)))) ≡ to_state (bind x (λ h us. bind (one us) (λ n vs. ended_on h n (more vs))))
+    of_fields (Ok x) = called_first x.0 (one x.1)
+    of_fields (Err x) = refl
 
   of_word : (x : Read Visibility) → bind {A = FieldGroup} (bind x (λ a. ret (OfWord a))) (λ g. ret (add_group (v, made) g)) ≡ bind x (λ next. ret (next, made))
   of_word (Ok x) = refl
   of_word (Err x) = refl
 
-  choice : (b : Bool) (ts : List Tok) → bind {A = FieldGroup} (cond b (bind {A = All} (bind (reads number_type ts) (λ written us. bind {A = Begun} (begun (take_one name named us)) (λ p. ret (written, p)))) (λ p. ret (OfType p.0.1 (p.1.0 ∷ p.1.1.0)))) (bind (take_one begins_visibility (λ t. visibility_of t.sort) ts) (λ a. ret (OfWord a)))) (λ g. ret (add_group (v, made) g))
-      ≡ cond b (to_state (bind (reads number_type ts) (λ written us. bind (take_one name named us) (λ n vs. ended_on written n (reads more_names vs))))) (bind (take_one begins_visibility (λ t. visibility_of t.sort) ts) (λ next. ret (next, made)))
-  choice true ts = of_numbers (reads number_type ts)
-  choice false ts = of_word (take_one begins_visibility (λ t. visibility_of t.sort) ts)
+  abbrev class_of : Named → TypeTree
+  class_of class = Object class.0 class.1
 
-  pub read_group : (ts : List Tok) → group_on (v, made) ts ≡ if_sees begins_number_type (numbers_on v made >>= (λ all. ret (v, all))) (take_one begins_visibility (λ t. visibility_of t.sort) >>= (λ next. ret (next, made))) ts
-  unfolding group more_names
-  read_group ts = choice (sees begins_number_type ts) ts
+  abbrev written : ℕ × TypeTree → TypeTree
+  written type = type.1
+
+  objects_are : (ts : List Tok) → bind {A = FieldGroup} (reads object_fields ts) (λ g. ret (add_group (v, made) g)) ≡ to_state (object_fields_on v made ts)
+  unfolding object_fields more_starred_names
+  objects_are ts = of_fields class_of (reads starred_name) (reads more_starred_names) (take_one name named ts)
+
+  plain_are : (ts : List Tok) → bind {A = FieldGroup} (reads plain_fields ts) (λ g. ret (add_group (v, made) g)) ≡ to_state (plain_fields_on v made ts)
+  unfolding plain_fields more_names
+  plain_are ts = of_fields written (take_one name named) (reads more_names) (reads plain_type ts)
+
+  choice : (is_name is_plain : Bool) (ts : List Tok) → bind {A = FieldGroup} (cond is_name (reads object_fields ts) (cond is_plain (reads plain_fields ts) (bind (take_one begins_visibility (λ t. visibility_of t.sort) ts) (λ a. ret (OfWord a))))) (λ g. ret (add_group (v, made) g))
+      ≡ cond (is_name || is_plain) (to_state (cond is_name (object_fields_on v made ts) (plain_fields_on v made ts))) (bind (take_one begins_visibility (λ t. visibility_of t.sort) ts) (λ next. ret (next, made)))
+  choice true true ts = objects_are ts
+  choice true false ts = objects_are ts
+  choice false true ts = plain_are ts
+  choice false false ts = of_word (take_one begins_visibility (λ t. visibility_of t.sort) ts)
+
+  pub read_group : (ts : List Tok) → group_on (v, made) ts ≡ if_sees begins_value_type (typed_fields_on v made >>= (λ all. ret (v, all))) (take_one begins_visibility (λ t. visibility_of t.sort) >>= (λ next. ret (next, made))) ts
+  unfolding group
+  read_group [] = choice false false []
+  read_group (t ∷ ts) = choice (sees name (t ∷ ts)) (sees begins_plain_type (t ∷ ts)) (t ∷ ts)
 
 -- ---- the fields of a class
 

@@ -8,15 +8,19 @@ use Rattle.arc_form.specs.Kinds.{mark, main, other_name}
 use Rattle.arc_form.specs.Operators.{fold}
 use Rattle.arc_form.specs.Reader.{Read, Reader, bind, ◌>>=◌, ret, sees, sees_second, take_one, from}
 use Rattle.arc_form.proofs.Local.{Local}
-use Rattle.arc_grammar.specs.Grammar.{TopTree, OfFunction, OfGlobals, reads, of_function, main_function, other_function, function, global, next_global, more_globals, globals, typed_top}
+use Rattle.arc_grammar.specs.Grammar.{TopTree, OfFunction, OfGlobals, reads, of_function, main_function, other_function, function, global, next_global, more_globals, globals, global_reference, next_global_reference, more_global_references, global_references, typed_top}
 use Rattle.arc_grammar.proofs.Fits.{lines}
-use Rattle.arc_top.specs.Globals.{add_global, globals_on, typed_on}
+use Rattle.arc_top.specs.Globals.{add_global, globals_on, global_references_on, typed_on}
 use Rattle.arc_top.specs.Signatures.{reads_after}
 use Rattle.arc_top.proofs.Rests.{front}
 
 pub global_front : (j : ℕ) → Local ⊥ 1 j (reads next_global) (reads next_global)
 unfolding lines
 global_front j = front next_global refl refl j
+
+pub reference_front : (j : ℕ) → Local ⊥ 1 j (reads next_global_reference) (reads next_global_reference)
+unfolding lines
+reference_front j = front next_global_reference refl refl j
 
 pub globals_push : (l : List Global) (g : Global) → global_trees (l ++ g ∷ []) ≡ global_trees l ++ global_tree g ∷ []
 globals_push [] g = refl
@@ -62,13 +66,17 @@ module _ (type : TypeTree) where
   further make (Ok x) = semicolon make x.0 (end x.1)
   further make (Err x) = refl
 
-  begun : (x : Read Make) → of_type (bind x (λ make us. bind {A = Ended} (ended (reads more_globals us)) (λ p. ret (make, p)))) ≡ bind (bind x (λ make. ret (make type))) (λ g us. ended_on g (reads more_globals us))
-  begun (Ok x) = further x.0 (reads more_globals x.1)
-  begun (Err x) = refl
+  begun : (more : Reader (List Make)) (x : Read Make) → of_type (bind x (λ make us. bind {A = Ended} (ended (more us)) (λ p. ret (make, p)))) ≡ bind (bind x (λ make. ret (make type))) (λ g us. ended_on g (more us))
+  begun more (Ok x) = further x.0 (more x.1)
+  begun more (Err x) = refl
 
   pub read_globals : (ts : List Tok) → reads_after globals type ts ≡ (reads_after global type >>= (λ g. globals_on type (g ∷ []) >>= (λ all. take_one (mark m.Semicolon) from >>= (λ end. ret all)))) ts
   unfolding globals more_globals
-  read_globals ts = begun (reads global ts)
+  read_globals ts = begun (reads more_globals) (reads global ts)
+
+  pub read_global_references : (ts : List Tok) → reads_after global_references type ts ≡ (reads_after global_reference type >>= (λ g. global_references_on type (g ∷ []) >>= (λ all. take_one (mark m.Semicolon) from >>= (λ end. ret all)))) ts
+  unfolding global_references more_global_references
+  read_global_references ts = begun (reads more_global_references) (reads global_reference ts)
 
   -- a function or variables, where a function's result has this type
   abbrev to_top : Read (TypeTree → TopTree) → Read TopTree

@@ -2,16 +2,16 @@
 use Rattle.std.specs.Prelude.{ℕ, List, [], ◌∷◌, ◌++◌}
 use Rattle.arc_lex.specs.declared.token.Mark.TheVariants as m
 use Rattle.arc_ast.specs.declared.tree.Visibility.{Visibility}
-use Rattle.arc_ast.specs.Tree.{TypeTree, FieldTree}
+use Rattle.arc_ast.specs.Tree.{TypeTree, FieldTree, Object}
 use Rattle.arc_form.specs.Kinds.{Kinds, ◌∪◌, mark, name}
 use Rattle.arc_form.specs.Operators.{fold}
-use Rattle.arc_form.specs.Reader.{Reader, ◌>>=◌, ret, take_one, from, named}
-use Rattle.arc_grammar.specs.Grammar.{FieldGroup, OfWord, OfType, reads, number_type, begins_number_type, next_name, group, begins_visibility}
+use Rattle.arc_form.specs.Reader.{Reader, ◌>>=◌, ret, if_sees, take_one, from, named}
+use Rattle.arc_grammar.specs.Grammar.{FieldGroup, OfWord, OfType, reads, plain_type, begins_value_type, next_name, starred_name, next_starred_name, group, begins_visibility}
 use Rattle.arc_form.specs.Joining.{joining}
 
 -- what a group of fields begins with
 abbrev pub begins_group : Kinds
-begins_group = begins_number_type ∪ begins_visibility
+begins_group = begins_value_type ∪ begins_visibility
 
 -- fields, and after them one of this type and this name that is visible so
 abbrev pub add_field : Visibility → TypeTree → List FieldTree → ℕ × List ℕ → List FieldTree
@@ -26,9 +26,21 @@ add_group s (OfType type names) = (s.0, fold (add_field s.0 type) s.1 names)
 abbrev pub names_on : Visibility → TypeTree → List FieldTree → Reader (List FieldTree)
 names_on v type = joining (mark m.Comma) (reads next_name) (add_field v type)
 
--- these fields, and those of a type of numbers, one name or more and `;`
-abbrev pub numbers_on : Visibility → List FieldTree → Reader (List FieldTree)
-numbers_on v made = reads number_type >>= (λ type. take_one name named >>= (λ n. names_on v type.1 (add_field v type.1 made n) >>= (λ all. take_one (mark m.Semicolon) from >>= (λ end. ret all))))
+-- the same, where each has a `*`
+abbrev pub starred_names_on : Visibility → TypeTree → List FieldTree → Reader (List FieldTree)
+starred_names_on v type = joining (mark m.Comma) (reads next_starred_name) (add_field v type)
+
+-- these fields, and those of a class, one name or more with a `*` each and `;`
+abbrev pub object_fields_on : Visibility → List FieldTree → Reader (List FieldTree)
+object_fields_on v made = take_one name named >>= (λ class. reads starred_name >>= (λ n. starred_names_on v (Object class.0 class.1) (add_field v (Object class.0 class.1) made n) >>= (λ all. take_one (mark m.Semicolon) from >>= (λ end. ret all))))
+
+-- these fields, and those of a type that names no class, one name or more and `;`
+abbrev pub plain_fields_on : Visibility → List FieldTree → Reader (List FieldTree)
+plain_fields_on v made = reads plain_type >>= (λ type. take_one name named >>= (λ n. names_on v type.1 (add_field v type.1 made n) >>= (λ all. take_one (mark m.Semicolon) from >>= (λ end. ret all))))
+
+-- these fields, and those of a type
+abbrev pub typed_fields_on : Visibility → List FieldTree → Reader (List FieldTree)
+typed_fields_on v made = if_sees name (object_fields_on v made) (plain_fields_on v made)
 
 -- these fields and those of a group
 abbrev pub group_on : Visibility × List FieldTree → Reader (Visibility × List FieldTree)

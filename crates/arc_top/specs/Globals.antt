@@ -5,7 +5,7 @@ use Rattle.arc_ast.specs.Tree.{TypeTree, GlobalTree, Value}
 use Rattle.arc_form.specs.Kinds.{mark, name}
 use Rattle.arc_form.specs.Reader.{Reader, ◌>>=◌, ret, if_sees_two}
 use Rattle.arc_form.specs.Joining.{joining}
-use Rattle.arc_grammar.specs.Grammar.{TopTree, OfFunction, OfGlobals, reads, function, next_global, globals}
+use Rattle.arc_grammar.specs.Grammar.{TopTree, OfFunction, OfGlobals, reads, function, next_global, globals, next_global_reference}
 use Rattle.arc_top.specs.Signatures.{reads_after}
 
 -- variables, and after them one of this type
@@ -15,6 +15,10 @@ add_global type made make = made ++ make type ∷ []
 -- these variables and further ones of this type
 abbrev pub globals_on : TypeTree → List GlobalTree → Reader (List GlobalTree)
 globals_on type = joining (mark m.Comma) (reads next_global) (add_global type)
+
+-- these variables and further ones of this class, with a `*` each
+abbrev pub global_references_on : TypeTree → List GlobalTree → Reader (List GlobalTree)
+global_references_on type = joining (mark m.Comma) (reads next_global_reference) (add_global type)
 
 -- a function whose result has this type, where a name and `(` are ahead, or variables of the type
 abbrev pub typed_on : TypeTree → Reader TopTree

@@ -6,13 +6,14 @@ ghost use Rattle.arc_form.specs.Form.{map};
 ghost use Rattle.arc_form.specs.Reader.{Gives, sees, take_one};
 ghost use Rattle.arc_grammar.specs.Grammar.{reads};
 ghost use Rattle.arc_grammar.specs.Grammar as grammar;
-ghost use Rattle.arc_top.specs.Fields.{begins_group, names_on, numbers_on, group_on};
+ghost use Rattle.arc_top.specs.Fields.{begins_group, names_on, starred_names_on, plain_fields_on, object_fields_on, typed_fields_on, group_on};
 
-use crate::name::next_name;
+use crate::name::{next_name, next_starred_name, starred_name};
+use crate::value_type::begins_value_type;
 use arc_ast::tree::{Field, TypeName, Visibility};
-use arc_expr::type_name::{begins_number_type, number_type};
+use arc_expr::type_name::plain_type;
 use arc_form::fail::{Fail, Read};
-use arc_form::step::{expect, name, sees_at, sees_mark};
+use arc_form::step::{expect, name, sees_at, sees_mark, sees_name};
 use arc_lex::token::{AtWord, Mark, Token, TokenKind};
 use std::alloc::{AllocError, Global};
 
@@ -53,13 +54,13 @@ fn groups<'a>(alloc: Global, first: Visibility, tokens: &'a [Token]) -> Read<'a,
 fn begins_group(tokens: &[Token]) -> bool
     ensures { result ≡ sees begins_group (toks tokens.now) }
 {
-    begins_number_type(tokens)
+    begins_value_type(tokens)
         || (sees_at(AtWord::Private, tokens)
             || sees_at(AtWord::Protected, tokens)
             || sees_at(AtWord::Public, tokens))
 }
 
-/// These fields and those of a type of numbers, which are visible so, or a word: how those after it are visible, and the fields.
+/// These fields and those of a type, which are visible so, or a word: how those after it are visible, and the fields.
 #[tactic(auto, using(crate::proofs::Fields::read_group))]
 fn group<'a>(
     alloc: Global,
@@ -70,8 +71,8 @@ fn group<'a>(
     ensures gives { Gives (λ x. ((x.0.0, field_trees x.0.1.items), toks x.1.now)) result (group_on (now, field_trees before.items) (toks tokens.now)) }
     ensures shorter { IfOk result (λ x. length x.1.now < length tokens.now) }
 {
-    if begins_number_type(tokens) {
-        let (all, rest) = numbers(alloc, now, before, tokens)?;
+    if begins_value_type(tokens) {
+        let (all, rest) = typed_fields(alloc, now, before, tokens)?;
         return Ok(((now, all), rest));
     }
     let (next, rest) = visibility(tokens)?;
@@ -115,18 +116,56 @@ fn visibility(tokens: &[Token]) -> Read<'_, Visibility>
     }
 }
 
-/// These fields and those of a type of numbers, one name or more and `;`.
-#[tactic(auto, using(crate::proofs::Fields::fields_push))]
-fn numbers<'a>(
+/// These fields and those of a type.
+fn typed_fields<'a>(
     alloc: Global,
     visibility: Visibility,
     before: Vec<Field>,
     tokens: &'a [Token],
 ) -> Read<'a, Vec<Field>>
-    ensures gives { Gives (λ x. (field_trees x.0.items, toks x.1.now)) result (numbers_on visibility (field_trees before.items) (toks tokens.now)) }
+    ensures gives { Gives (λ x. (field_trees x.0.items, toks x.1.now)) result (typed_fields_on visibility (field_trees before.items) (toks tokens.now)) }
     ensures shorter { IfOk result (λ x. length x.1.now < length tokens.now) }
 {
-    let ((_, type_name), rest) = number_type(tokens)?;
+    if sees_name(tokens) {
+        object_fields(alloc, visibility, before, tokens)
+    } else {
+        plain_fields(alloc, visibility, before, tokens)
+    }
+}
+
+/// These fields and those of a class, one name or more with a `*` each and `;`.
+#[tactic(auto, using(crate::proofs::Fields::fields_push))]
+fn object_fields<'a>(
+    alloc: Global,
+    visibility: Visibility,
+    before: Vec<Field>,
+    tokens: &'a [Token],
+) -> Read<'a, Vec<Field>>
+    ensures gives { Gives (λ x. (field_trees x.0.items, toks x.1.now)) result (object_fields_on visibility (field_trees before.items) (toks tokens.now)) }
+    ensures shorter { IfOk result (λ x. length x.1.now < length tokens.now) }
+{
+    let ((class_at, class), rest) = name(tokens)?;
+    let type_name = TypeName::Object(class_at, Vec::from_slice(alloc, class)?);
+    let ((at, called), rest) = starred_name(rest)?;
+    let mut all = before;
+    all.push(field(alloc, visibility, &type_name, at, called)?)?;
+    let (all, rest) = more_starred_fields(alloc, visibility, &type_name, all, rest)?;
+    let (_, rest) = expect(Mark::Semicolon, rest)?;
+    Ok((all, rest))
+}
+
+/// These fields and those of a type that names no class, one name or more and `;`.
+#[tactic(auto, using(crate::proofs::Fields::fields_push))]
+fn plain_fields<'a>(
+    alloc: Global,
+    visibility: Visibility,
+    before: Vec<Field>,
+    tokens: &'a [Token],
+) -> Read<'a, Vec<Field>>
+    ensures gives { Gives (λ x. (field_trees x.0.items, toks x.1.now)) result (plain_fields_on visibility (field_trees before.items) (toks tokens.now)) }
+    ensures shorter { IfOk result (λ x. length x.1.now < length tokens.now) }
+{
+    let ((_, type_name), rest) = plain_type(tokens)?;
     let ((at, called), rest) = name(rest)?;
     let mut all = before;
     all.push(field(alloc, visibility, &type_name, at, called)?)?;
@@ -150,6 +189,27 @@ fn more_fields<'a>(
     let mut rest = tokens;
     'fields: while sees_mark(Mark::Comma, rest) {
         let ((at, called), after) = next_name(rest)?;
+        all.push(field(alloc, visibility, type_name, at, called)?)?;
+        rest = after;
+    }
+    Ok((all, rest))
+}
+
+/// These fields and the further ones of this class, each of which is after a comma and `*`.
+fn more_starred_fields<'a>(
+    alloc: Global,
+    visibility: Visibility,
+    type_name: &TypeName,
+    before: Vec<Field>,
+    tokens: &'a [Token],
+) -> Read<'a, Vec<Field>>
+    ensures gives { Gives (λ x. (field_trees x.0.items, toks x.1.now)) result (starred_names_on visibility (type_tree type_name.now) (field_trees before.items) (toks tokens.now)) }
+    ensures shorter { IfOk result (λ x. length x.1.now ≤ length tokens.now) }
+{
+    let mut all = before;
+    let mut rest = tokens;
+    'fields: while sees_mark(Mark::Comma, rest) {
+        let ((at, called), after) = next_starred_name(rest)?;
         all.push(field(alloc, visibility, type_name, at, called)?)?;
         rest = after;
     }

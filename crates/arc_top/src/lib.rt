@@ -9,3 +9,4 @@ mod method;
 mod name;
 mod parameter;
 pub mod top;
+mod value_type;

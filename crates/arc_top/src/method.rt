@@ -10,8 +10,8 @@ ghost use Rattle.arc_top.specs.Signatures.{reads_after};
 ghost use Rattle.arc_top.specs.Signatures as signatures;
 
 use crate::function::{braces, result_type};
+use crate::value_type::value_type;
 use arc_ast::tree::{Method, MethodHead, Parameter, Sign};
-use arc_expr::type_name::number_type;
 use arc_form::fail::Read;
 use arc_form::step::{expect, name, sees_mark, sees_name};
 use arc_lex::token::{Mark, Token};
@@ -193,7 +193,7 @@ fn next_typed<'a>(alloc: Global, tokens: &'a [Token]) -> Read<'a, (&'a [u8], Par
     Ok(((called, parameter), rest))
 }
 
-/// A colon, a type of numbers in parentheses and a name
+/// A colon, a type in parentheses and a name
 #[tactic(auto, unfolding(arc_grammar::specs::Grammar::typed))]
 fn typed<'a>(alloc: Global, tokens: &'a [Token]) -> Read<'a, Parameter>
     ensures gives { Gives (λ x. (parameter_tree x.0, toks x.1.now)) result (reads grammar.typed (toks tokens.now)) }
@@ -201,7 +201,7 @@ fn typed<'a>(alloc: Global, tokens: &'a [Token]) -> Read<'a, Parameter>
 {
     let (_, rest) = expect(Mark::Colon, tokens)?;
     let (_, rest) = expect(Mark::OpenParen, rest)?;
-    let ((_, type_name), rest) = number_type(rest)?;
+    let ((_, type_name), rest) = value_type(alloc, rest)?;
     let (_, rest) = expect(Mark::CloseParen, rest)?;
     let ((at, called), rest) = name(rest)?;
     Ok((

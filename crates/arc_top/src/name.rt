@@ -18,3 +18,23 @@ pub fn next_name<'a>(tokens: &'a [Token]) -> Read<'a, (usize, &'a [u8])>
     let (_, rest) = expect(Mark::Comma, tokens)?;
     name(rest)
 }
+
+/// `*` and a name, with the name's place.
+#[tactic(auto, unfolding(arc_grammar::specs::Grammar::starred_name))]
+pub fn starred_name<'a>(tokens: &'a [Token]) -> Read<'a, (usize, &'a [u8])>
+    ensures gives { Gives (λ x. ((x.0.0, x.0.1.now), toks x.1.now)) result (reads grammar.starred_name (toks tokens.now)) }
+    ensures shorter { IfOk result (λ x. length x.1.now < length tokens.now) }
+{
+    let (_, rest) = expect(Mark::Star, tokens)?;
+    name(rest)
+}
+
+/// A comma, `*` and a name, with the name's place.
+#[tactic(auto, unfolding(arc_grammar::specs::Grammar::next_starred_name))]
+pub fn next_starred_name<'a>(tokens: &'a [Token]) -> Read<'a, (usize, &'a [u8])>
+    ensures gives { Gives (λ x. ((x.0.0, x.0.1.now), toks x.1.now)) result (reads grammar.next_starred_name (toks tokens.now)) }
+    ensures shorter { IfOk result (λ x. length x.1.now < length tokens.now) }
+{
+    let (_, rest) = expect(Mark::Comma, tokens)?;
+    starred_name(rest)
+}

@@ -11,8 +11,8 @@ ghost use Rattle.arc_grammar.specs.Grammar.{reads};
 ghost use Rattle.arc_grammar.specs.Grammar as grammar;
 ghost use Rattle.arc_top.specs.Signatures.{reads_after};
 
+use crate::value_type::{begins_other_value_type, begins_value_type, other_value_type, value_type};
 use arc_ast::tree::{Parameter, Parameters, TypeName};
-use arc_expr::type_name::{begins_number_type, begins_other_type, number_type, other_type};
 use arc_form::fail::Read;
 use arc_form::step::{expect, keyword, name, sees_mark, sees_word};
 use arc_lex::token::{Mark, Token, Word};
@@ -26,7 +26,7 @@ pub fn parameters<'a>(alloc: Global, tokens: &'a [Token]) -> Read<'a, Parameters
 {
     if sees_word(Word::Void, tokens) {
         void_parameters(alloc, tokens)
-    } else if begins_number_type(tokens) {
+    } else if begins_value_type(tokens) {
         some_parameters(alloc, tokens)
     } else {
         Ok((Parameters::Listed(Vec::new(alloc)), tokens))
@@ -43,7 +43,7 @@ pub fn parameters_of_main<'a>(alloc: Global, tokens: &'a [Token]) -> Read<'a, Pa
         void_parameters(alloc, tokens)
     } else if sees_word(Word::Int, tokens) {
         some_of_main(alloc, tokens)
-    } else if begins_other_type(tokens) {
+    } else if begins_other_value_type(tokens) {
         others_of_main(alloc, tokens)
     } else {
         Ok((Parameters::Listed(Vec::new(alloc)), tokens))
@@ -73,13 +73,13 @@ fn some_parameters<'a>(alloc: Global, tokens: &'a [Token]) -> Read<'a, Parameter
     Ok((Parameters::Listed(all), rest))
 }
 
-/// A type of numbers and a name
+/// A type and a name
 #[tactic(auto, unfolding(arc_grammar::specs::Grammar::parameter))]
 fn parameter<'a>(alloc: Global, tokens: &'a [Token]) -> Read<'a, Parameter>
     ensures gives { Gives (λ x. (parameter_tree x.0, toks x.1.now)) result (reads grammar.parameter (toks tokens.now)) }
     ensures shorter { IfOk result (λ x. length x.1.now < length tokens.now) }
 {
-    let ((_, type_name), rest) = number_type(tokens)?;
+    let ((_, type_name), rest) = value_type(alloc, tokens)?;
     let ((at, called), rest) = name(rest)?;
     Ok((
         Parameter {
@@ -159,7 +159,7 @@ fn others_of_main<'a>(alloc: Global, tokens: &'a [Token]) -> Read<'a, Parameters
     ensures gives { Gives (λ x. (parameters_tree x.0, toks x.1.now)) result (reads grammar.others_of_main (toks tokens.now)) }
     ensures shorter { IfOk result (λ x. length x.1.now < length tokens.now) }
 {
-    let ((_, type_name), rest) = other_type(tokens)?;
+    let ((_, type_name), rest) = other_value_type(alloc, tokens)?;
     let ((at, called), rest) = name(rest)?;
     let mut all = Vec::new(alloc);
     all.push(Parameter {

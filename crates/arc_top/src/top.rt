@@ -12,12 +12,13 @@ ghost use Rattle.arc_top.specs.Tops.{top_tree};
 
 use crate::class::{class_names, implementation, interface};
 use crate::function::function;
-use crate::global::globals;
+use crate::global::{global_references, globals};
+use crate::value_type::begins_value_type;
 use arc_ast::tree;
 use arc_ast::tree::{Function, Implementation, Interface, ResultType, TypeName};
-use arc_expr::type_name::{begins_number_type, number_type};
+use arc_expr::type_name::number_type;
 use arc_form::fail::Read;
-use arc_form::step::{keyword, sees_at, sees_mark, sees_name, sees_word};
+use arc_form::step::{keyword, name, sees_at, sees_mark, sees_name, sees_word};
 use arc_lex::token::{AtWord, Mark, Token, Word};
 use std::alloc::Global;
 
@@ -41,7 +42,7 @@ pub fn begins_top(tokens: &[Token]) -> bool
         || sees_at(AtWord::Implementation, tokens)
         || sees_word(Word::Static, tokens)
         || sees_word(Word::Void, tokens)
-        || begins_number_type(tokens)
+        || begins_value_type(tokens)
 }
 
 /// Names of classes, an interface, an implementation, a function, or variables of the whole program.
@@ -74,6 +75,10 @@ fn external<'a>(alloc: Global, tokens: &'a [Token]) -> Read<'a, Top>
     let (_, rest) = perhaps_static(tokens)?;
     if sees_word(Word::Void, rest) {
         of_void(alloc, rest)
+    } else if sees_word(Word::Id, rest) {
+        of_any_objects(alloc, rest)
+    } else if sees_name(rest) {
+        of_objects(alloc, rest)
     } else {
         of_numbers(alloc, rest)
     }
@@ -101,6 +106,29 @@ fn of_void<'a>(alloc: Global, tokens: &'a [Token]) -> Read<'a, Top>
     let (_, rest) = keyword(Word::Void, tokens)?;
     let (function, rest) = function(alloc, ResultType::Void, rest)?;
     Ok((Top::Function(function), rest))
+}
+
+/// `id`, and variables.
+#[tactic(auto, unfolding(arc_grammar::specs::Grammar::of_any_objects))]
+fn of_any_objects<'a>(alloc: Global, tokens: &'a [Token]) -> Read<'a, Top>
+    ensures gives { Gives (λ x. (top_tree x.0, toks x.1.now)) result (reads grammar.of_any_objects (toks tokens.now)) }
+    ensures shorter { IfOk result (λ x. length x.1.now < length tokens.now) }
+{
+    let (_, rest) = keyword(Word::Id, tokens)?;
+    let (all, rest) = globals(alloc, &TypeName::Id, rest)?;
+    Ok((Top::Globals(all), rest))
+}
+
+/// A class's name, and variables with a `*` each.
+#[tactic(auto, unfolding(arc_grammar::specs::Grammar::of_objects))]
+fn of_objects<'a>(alloc: Global, tokens: &'a [Token]) -> Read<'a, Top>
+    ensures gives { Gives (λ x. (top_tree x.0, toks x.1.now)) result (reads grammar.of_objects (toks tokens.now)) }
+    ensures shorter { IfOk result (λ x. length x.1.now < length tokens.now) }
+{
+    let ((at, called), rest) = name(tokens)?;
+    let class = TypeName::Object(at, Vec::from_slice(alloc, called)?);
+    let (all, rest) = global_references(alloc, &class, rest)?;
+    Ok((Top::Globals(all), rest))
 }
 
 /// A type of numbers, and a function or variables.

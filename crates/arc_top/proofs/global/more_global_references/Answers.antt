@@ -1,0 +1,41 @@
+use Rattle.std.proofs.Common.{[], ◌∷◌, ◌++◌, sym, ap, ◌∙◌, arith}
+use Rattle.std.proofs.lemmas.Result.{err_from_is_err_and}
+use Rattle.arc_lex.specs.Tokens.{toks}
+use Rattle.arc_lex.specs.declared.token.Mark.TheVariants as m
+use Rattle.arc_ast.specs.Tree.{type_tree, global_tree, global_trees}
+use Rattle.arc_form.specs.Kinds.{mark}
+use Rattle.arc_form.specs.Reader.{bind, ret}
+use Rattle.arc_grammar.specs.Grammar.{reads}
+use Rattle.arc_grammar.specs.Grammar as grammar
+use Rattle.arc_top.specs.Globals.{add_global, global_references_on}
+use Rattle.arc_form.proofs.Joining.{fails_is, fails_then, join_more, join_end, join_fails}
+use Rattle.arc_top.proofs.Globals.{reference_front, globals_push, one_more}
+use Rattle.arc_top.proofs.global.more_global_references.Goals as goal
+
+pub returns-in_err-next-clause-gives : goal.returns-in_err-next-clause-gives
+returns-in_err-next-clause-gives c =
+    let p = err_from_is_err_and c.from_residual.result c.from_residual.ensures.1 in
+    let type = type_tree c.args.type_name.now in
+    let made = global_trees c.references.all.items in
+    let us = toks c.references.rest.now in
+    let e = c.in_err-next.field-0.0 in
+    rw (p.1, p.2) (fails_is e _ _ c.references.invariant.all (join_fails (mark m.Comma) (reads grammar.next_global_reference) (add_global type) reference_front e made us (sym c.references-test.true ∙ c.sees_mark.ensures)
+    (fails_is e _ _ (one_more type made (reads grammar.next_global_reference us)) (fails_then e _ (λ g. ret (made ++ g ∷ [])) c.in_err-next.ensures.gives))))
+
+pub references-preserved : goal.references-preserved
+references-preserved c =
+    let type = type_tree c.args.type_name.now in
+    let made = global_trees c.references.all.items in
+    let us = toks c.references.rest.now in
+    let rest = toks c.in_ok-next.after.now in
+    let next = global_tree c.in_ok-next.next in
+    record {
+      rest = omega (arith, c.in_ok-next.ensures.shorter, c.references.invariant.rest);
+      all = c.references.invariant.all
+          ∙ join_more (mark m.Comma) (reads grammar.next_global_reference) (add_global type) reference_front made (made ++ next ∷ []) us rest (sym c.references-test.true ∙ c.sees_mark.ensures)
+          (one_more type made (reads grammar.next_global_reference us) ∙ ap (λ x. bind x (λ g. ret (made ++ g ∷ []))) c.in_ok-next.ensures.gives)
+          ∙ ap (λ all. global_references_on type all rest) (sym (ap global_trees c.in_ok-push.ensures.items ∙ globals_push c.references.all.items c.in_ok-next.next));
+    }
+
+pub returns-clause-gives : goal.returns-clause-gives
+returns-clause-gives c = c.references.invariant.all ∙ join_end (mark m.Comma) (reads grammar.next_global_reference) (add_global (type_tree c.args.type_name.now)) reference_front (global_trees c.references.all.items) (toks c.references.rest.now) (sym c.references-test.false ∙ c.sees_mark.ensures)
