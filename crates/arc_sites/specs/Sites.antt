@@ -30,8 +30,8 @@ pub record Scope : Type 0 where
   pub in_loop : Bool  -- in the body of a loop; not in its test and its step, where no rule asks for it
 
 -- What an expression is needed for: nothing more, a test, an operand of `!`, `&&` or `||`, the first value of `?:` or the left side of `==` or `!=`, a number, an object, what goes with another expression (the right side of `=`,
--- `==` and `!=`, the second value of `?:`), the first value of a variable of a type, what the function or the method returns, what a message is sent to, and the first argument or another one
--- of a function with a name. An expression in parentheses is needed for what they are needed for.
+-- `==` and `!=`, the second value of `?:`), the first value of a variable of a type, what the function or the method returns, what a message is sent to, the first argument or another one
+-- of a function with a name, and an argument of a message with a selector. An expression in parentheses is needed for what they are needed for.
 pub data Need : Type 0 where
   Anything : Need
   AValue : Need
@@ -42,6 +42,7 @@ pub data Need : Type 0 where
   Result : Need
   Receiver : Need
   Argument : (function : List ℕ) → (is_first : Bool) → Need
+  Passed : (selector : List ℕ) → Need
 
 pub record Around : Type 0 where
   pub enclosing : Enclosing
@@ -134,8 +135,8 @@ abbrev mutual
   inside m s need (Assign at sign a b) = (inside m s Anything a ++ value m s Anything a) ++ (inside m s (Like a) b ++ value m s (Like a) b)
   inside m s need (Update at sign moment operator a b) = (inside m s Anything a ++ value m s Anything a) ++ (inside m s ANumber b ++ value m s ANumber b)
   inside m s need (Send at part receiver selector all) =
-      (inside m s Receiver receiver ++ value m s Receiver receiver) ++ arguments m s ANumber ANumber all
-  inside m s need (SendSuper at part super_at selector all) = arguments m s ANumber ANumber all
+      (inside m s Receiver receiver ++ value m s Receiver receiver) ++ arguments m s (Passed selector) (Passed selector) all
+  inside m s need (SendSuper at part super_at selector all) = arguments m s (Passed selector) (Passed selector) all
   inside m s need _ = []
 
   -- the sites of arguments, where the first one and the others are needed for these

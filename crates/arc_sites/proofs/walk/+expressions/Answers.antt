@@ -2,7 +2,7 @@ use Rattle.std.proofs.Common.{◌+◌, ◌++◌, true, false, drop, refl, sym, a
 use Rattle.arc_ast.specs.Tree.{expr_tree, expr_trees}
 use Rattle.arc_sites.specs.Sites as sites
 use Rattle.arc_ast.specs.Operators.{sort_of}
-use Rattle.arc_sites.specs.Sites.{ANumber, AnObject, AValue, Anything, Receiver, Argument, Like, left_need, right_need, value, arguments}
+use Rattle.arc_sites.specs.Sites.{ANumber, AnObject, AValue, Anything, Receiver, Passed, Argument, Like, left_need, right_need, value, arguments}
 use Rattle.arc_sites.specs.Finding.{enclosing_of, found_from}
 use Rattle.arc_ast.proofs.Trees.{call_tree, send_tree, send_super_tree}
 use Rattle.arc_sites.proofs.Found.{found_both, turn, ended}
@@ -80,15 +80,17 @@ inside-returns-in-Call g t c = λ scope need.
 pub inside-returns-in-Send : goal.inside-returns-in-Send
 inside-returns-in-Send g t c = λ scope need.
     let m = enclosing_of c.args.enclosing in
-    found_both g.V.Visitor.violations _ _ _ (sites.sites m scope Receiver (expr_tree c.in-Send.receiver.value)) (arguments m scope ANumber ANumber (expr_trees c.in-Send.all.items))
-    (rw c.deref-in-Send.ensures at c.expression-in-Send.ensures scope Receiver) (rw c.deref-in-Send-2.ensures.value at c.arguments-in-Send.ensures scope ANumber ANumber)
+    let passed = Passed c.in-Send.field-3.items in
+    found_both g.V.Visitor.violations _ _ _ (sites.sites m scope Receiver (expr_tree c.in-Send.receiver.value)) (arguments m scope passed passed (expr_trees c.in-Send.all.items))
+    (rw c.deref-in-Send.ensures at c.expression-in-Send.ensures scope Receiver) (rw c.deref-in-Send-2.ensures.value at c.arguments-in-Send.ensures scope passed passed)
     ∙ ap (found_from g.V.Visitor.violations (g.V.Visitor.found c.args.visitor.now)) (sym (ap (sites.inside m scope need) (ap expr_tree c.in-Send.is
     ∙ send_tree c.in-Send.field-0 c.in-Send.field-1 c.in-Send.receiver c.in-Send.field-3 c.in-Send.all)))
 
 pub inside-returns-in-SendSuper : goal.inside-returns-in-SendSuper
 inside-returns-in-SendSuper g t c = λ scope need.
     let m = enclosing_of c.args.enclosing in
-    c.arguments-in-SendSuper.ensures scope ANumber ANumber
-    ∙ ap (found_from g.V.Visitor.violations (g.V.Visitor.found c.args.visitor.now)) (ap (λ us. arguments m scope ANumber ANumber (expr_trees us)) c.deref-in-SendSuper.ensures.value
+    let passed = Passed c.in-SendSuper.field-3.items in
+    c.arguments-in-SendSuper.ensures scope passed passed
+    ∙ ap (found_from g.V.Visitor.violations (g.V.Visitor.found c.args.visitor.now)) (ap (λ us. arguments m scope passed passed (expr_trees us)) c.deref-in-SendSuper.ensures.value
     ∙ sym (ap (sites.inside m scope need) (ap expr_tree c.in-SendSuper.is
     ∙ send_super_tree c.in-SendSuper.field-0 c.in-SendSuper.field-1 c.in-SendSuper.field-2 c.in-SendSuper.field-3 c.in-SendSuper.all)))
