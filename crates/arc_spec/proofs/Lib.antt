@@ -3,3 +3,4 @@ pub mod Composition
 pub mod Ancestry
 pub mod Deallocs
 pub mod Answering
+pub mod Ordering

@@ -1,20 +1,22 @@
 -- Classes, and the methods that messages find.
-use Rattle.std.specs.Prelude.{ℕ, zero, suc, ℤ, pos, negsuc, Bool, true, false, ◌&&◌, nat_eq, List, [], ◌∷◌, length, map, Option, Some, None, slice_get, if◌then◌else◌}
+use Rattle.std.specs.Prelude.{ℕ, zero, suc, ◌-◌, ℤ, pos, negsuc, Bool, true, false, ◌&&◌, nat_eq, nat_lt, List, [], ◌∷◌, ◌++◌, length, map, Option, Some, None, slice_get, if◌then◌else◌}
 use Rattle.std.specs.List.{list_any}
 use Rattle.arc_ast.specs.declared.tree.Sign.{Sign}
 use Rattle.arc_ast.specs.declared.tree.Sign.TheVariants as signs
 use Rattle.arc_spec.specs.declared.class.Method.{Method}
 use Rattle.arc_spec.specs.declared.class.Class as declared
 
--- a class: the number of its superclass, which the root has none of, its own methods (OPL, "Classes"), what its dealloc runs, and how many fields its objects have
+-- A class: the number of its superclass, which the root has none of, its own methods (OPL, "Classes"), what its dealloc runs, how many fields its objects have that hold
+-- numbers, and how many that name objects. Of each sort the inherited ones come first.
 pub record Class : Type 0 where
   pub superclass : Option ℕ
   pub methods : List Method
   pub dealloc : Option ℕ
   pub fields : ℕ
+  pub strong_fields : ℕ
 
 abbrev pub class_of : declared.Class → Class
-class_of c = record { superclass = c.superclass; methods = c.methods.items; dealloc = c.dealloc; fields = c.fields }
+class_of c = record { superclass = c.superclass; methods = c.methods.items; dealloc = c.dealloc; fields = c.fields; strong_fields = c.strong_fields }
 
 abbrev pub classes_of : List declared.Class → List Class
 classes_of = map class_of
@@ -24,14 +26,14 @@ same_sign signs.Class signs.Class = true
 same_sign signs.Instance signs.Instance = true
 same_sign a b = false
 
--- whether a method answers a message of this sign with this selector and so many arguments
-abbrev pub answers : Sign → (selector takes : ℕ) → Method → Bool
-answers sign selector takes m = same_sign m.sign sign && (nat_eq m.selector selector && nat_eq m.takes takes)
+-- whether a method answers a message of this sign with this selector, and so many numbers and objects as arguments
+abbrev pub answers : Sign → (selector takes objects : ℕ) → Method → Bool
+answers sign selector takes objects m = same_sign m.sign sign && (nat_eq m.selector selector && (nat_eq m.takes takes && nat_eq m.objects objects))
 
 -- what the first method runs that answers a message
-abbrev pub found : Sign → (selector takes : ℕ) → List Method → Option ℕ
-found sign selector takes [] = None
-found sign selector takes (m ∷ others) = if answers sign selector takes m then Some m.runs else found sign selector takes others
+abbrev pub found : Sign → (selector takes objects : ℕ) → List Method → Option ℕ
+found sign selector takes objects [] = None
+found sign selector takes objects (m ∷ others) = if answers sign selector takes objects m then Some m.runs else found sign selector takes objects others
 
 -- ---- the classes above a class
 
@@ -72,9 +74,9 @@ own_methods None = []
 own_methods (Some c) = c.methods
 
 -- What a message runs: the method of the first class that has one, from the class with this number up to the root (OPL, "How Messaging Works").
-abbrev pub lookup : List Class → Option ℕ → Sign → (selector takes : ℕ) → Option ℕ
-lookup classes from sign selector takes =
-    first_that_has (λ class. found sign selector takes (own_methods (slice_get classes class))) (ancestry (superclasses classes) from)
+abbrev pub lookup : List Class → Option ℕ → Sign → (selector takes objects : ℕ) → Option ℕ
+lookup classes from sign selector takes objects =
+    first_that_has (λ class. found sign selector takes objects (own_methods (slice_get classes class))) (ancestry (superclasses classes) from)
 
 -- what the dealloc of a class runs
 abbrev pub own_dealloc : Option Class → Option ℕ
@@ -89,3 +91,40 @@ descends classes from other = list_any (λ class. nat_eq class other) (ancestry 
 abbrev pub class_at : ℤ → Option ℕ
 class_at (pos n) = Some n
 class_at (negsuc n) = None
+
+-- ---- the fields that name objects
+
+-- how many fields that name objects the objects of a class have
+abbrev pub strong_count : Option Class → ℕ
+strong_count None = 0
+strong_count (Some c) = c.strong_fields
+
+-- so many numbers that follow one another, from the first one on
+abbrev pub numbers_from : (first count : ℕ) → List ℕ
+numbers_from first zero = []
+numbers_from first (suc n) = first ∷ numbers_from (suc first) n
+
+-- the lesser of two numbers
+abbrev pub lesser : ℕ → ℕ → ℕ
+lesser a b = if nat_lt a b then a else b
+
+-- The order in which so many fields are destroyed, where the classes above have so many of them: the own ones of the class, which come after the inherited ones, in
+-- their order, then those of its superclass, and so on (that a class's come before those of its superclass is this project's own choice).
+abbrev pub order_of_fields : (count : ℕ) → (inherited : List ℕ) → List ℕ
+order_of_fields count [] = numbers_from 0 count
+order_of_fields count (n ∷ above) = numbers_from (lesser n count) (count - lesser n count) ++ order_of_fields (lesser n count) above
+
+-- how many fields each of these classes has that name objects
+abbrev pub strong_counts : List Class → List ℕ → List ℕ
+strong_counts classes [] = []
+strong_counts classes (class ∷ others) = strong_count (slice_get classes class) ∷ strong_counts classes others
+
+-- the class above a class
+abbrev pub above_class : Option Class → Option ℕ
+above_class None = None
+above_class (Some c) = c.superclass
+
+-- the order in which the fields of an object of a class are destroyed that name objects
+abbrev pub field_order : List Class → (class : ℕ) → List ℕ
+field_order classes class =
+    order_of_fields (strong_count (slice_get classes class)) (strong_counts classes (ancestry (superclasses classes) (above_class (slice_get classes class))))

@@ -1,13 +1,15 @@
 -- Objects whose holders are counted: what actions and instructions do to them, and to the places that hold them.
 use Rattle.std.specs.Prelude.{◌≡◌, ◌<◌, ℕ, zero, suc, ◌-◌, ℤ, List, [], ◌∷◌, ◌++◌, length, take, drop, Bool, true, false, ◌&&◌, nat_eq, Option, Some, None, slice_get, slice_set, if◌then◌else◌}
-use Rattle.arc_spec.specs.declared.event.Fault.TheVariants.{NilField, FieldClass}
-use Rattle.arc_spec.specs.Classes.{Class, descends}
-use Rattle.arc_spec.specs.Objects.{Object, Phase, Live, Dying, Gone, object_at, with_object, in_phase, with_fields, is_live, new_object}
+use Rattle.arc_spec.specs.declared.event.Fault.TheVariants.{NilField, FieldClass, Resurrected}
+use Rattle.arc_spec.specs.Classes.{Class, descends, strong_count}
+use Rattle.arc_spec.specs.Objects.{Object, Phase, Live, Dying, Gone, object_at, with_object, in_phase, with_fields, with_strong_fields, is_live, is_emptying, new_object, field_places}
+pub use Rattle.arc_spec.specs.Objects.{is_there}
 use Rattle.arc_spec.specs.Stepping.{Next, Faults, Stuck, only_if}
 
 -- The strong places and the references of the running functions. Of the one that runs: its temporaries, the last one first, what its variables that name objects
 -- hold, the first one first, and in a method of objects `self`. The strong places of those that wait for it. The references that operands name, which hold nothing,
--- the last one first. The objects, and how many strong places are counted to name each of them. The numbers that the variables of the whole program hold.
+-- the last one first. The objects, and how many strong places are counted to name each of them. The numbers that the variables of the whole program hold, and what
+-- those of them name that name objects.
 pub record Held : Type 0 where
   pub temporaries : List ℕ
   pub variables : List ℕ
@@ -17,13 +19,22 @@ pub record Held : Type 0 where
   pub objects : List Object
   pub counts : ℕ → ℕ
   pub globals : List ℤ
+  pub strong_globals : List ℕ
 
 abbrev pub nothing_held : Held
-nothing_held = record { temporaries = []; variables = []; self = 0; places = []; names = []; objects = []; counts = λ o. 0; globals = [] }
+nothing_held = record { temporaries = []; variables = []; self = 0; places = []; names = []; objects = []; counts = λ o. 0; globals = []; strong_globals = [] }
 
--- all strong places: what each of them names
+-- the strong places of all functions that were called
+abbrev pub stacked : Held → List ℕ
+stacked h = (h.temporaries ++ h.variables) ++ h.places
+
+-- All strong places: what each of them names. They are the temporaries and variables of all functions that were called, the variables of the whole program, and the
+-- fields of the objects that aren't gone.
 abbrev pub all_places : Held → List ℕ
-all_places h = (h.temporaries ++ h.variables) ++ h.places
+all_places h =
+    stacked h
+    ++ (h.strong_globals
+    ++ field_places h.objects)
 
 -- a function that waits: its `self`, and how many temporaries and variables it has among the places that wait
 pub record Waiter : Type 0 where
@@ -31,10 +42,12 @@ pub record Waiter : Type 0 where
   pub temporaries : ℕ
   pub variables : ℕ
 
--- what waits for the running function, and where it goes on: a call of one, or the end of an object, which goes on with the dealloc of the next class, of so many that are left
+-- What waits for the running function, and where it goes on: a call of one; the end of an object, which goes on with the dealloc of the next class, of so many that are
+-- left; or the end of an object, of whose fields that name objects these are still to be destroyed.
 pub data Frame : Type 0 where
   Calling : (back : ℕ) → Waiter → Frame
   Ending : (back : ℕ) → Waiter → (object : ℕ) → (next : Option ℕ) → (classes : ℕ) → Frame
+  Clearing : (back : ℕ) → Waiter → (object : ℕ) → (fields : List ℕ) → Frame
 
 abbrev pub with_temporaries : Held → List ℕ → Held
 with_temporaries h temporaries = record h { temporaries = temporaries }
@@ -50,6 +63,9 @@ with_things h objects = record h { objects = objects }
 
 abbrev pub with_globals : Held → List ℤ → Held
 with_globals h globals = record h { globals = globals }
+
+abbrev pub with_strong_globals : Held → List ℕ → Held
+with_strong_globals h strong_globals = record h { strong_globals = strong_globals }
 
 -- how many places name an object
 abbrev pub holders : ℕ → List ℕ → ℕ
@@ -67,11 +83,6 @@ raised o h = record h { counts = λ k. if nat_eq k o then suc (h.counts k) else 
 
 abbrev pub lowered : ℕ → Held → Held
 lowered o h = record h { counts = λ k. if nat_eq k o then h.counts k - 1 else h.counts k }
-
-abbrev pub is_there : Phase → Bool
-is_there Live = true
-is_there Dying = true
-is_there Gone = false
 
 -- an object that isn't gone; no step uses one that is
 abbrev pub on_object : {S : Type 0} → Option Object → (Object → Next S) → Next S
@@ -120,7 +131,7 @@ waiter_of h = record { self = h.self; temporaries = length h.temporaries; variab
 
 -- a function runs with this `self`, and the one that ran waits
 abbrev pub entered : (self : ℕ) → Held → Held
-entered self h = record h { temporaries = []; variables = []; self = self; places = all_places h }
+entered self h = record h { temporaries = []; variables = []; self = self; places = stacked h }
 
 -- the function that waited runs again
 abbrev pub resumed : Waiter → Held → Held
@@ -144,14 +155,15 @@ on_left (r ∷ others) h go = Stuck
 
 -- ---- objects
 
--- how many fields the objects of a class have
+-- how many fields the objects of a class have that hold numbers
 abbrev pub count_of : Option Class → ℕ
 count_of None = 0
 count_of (Some c) = c.fields
 
 -- an object is made, a further temporary takes it, and a further reference names it
 abbrev pub makes : List Class → (class : ℕ) → Held → Held
-makes classes class h = named (suc (length h.objects)) (taken_by (suc (length h.objects)) (with_things h (h.objects ++ new_object class (count_of (slice_get classes class)) ∷ [])))
+makes classes class h = named (suc (length h.objects)) (taken_by (suc (length h.objects))
+    (with_things h (h.objects ++ new_object class (count_of (slice_get classes class)) (strong_count (slice_get classes class)) ∷ [])))
 
 -- a field of an object, whose own class this is
 abbrev pub on_field : {S : Type 0} → List Class → (class r : ℕ) → Held → (Object → Next S) → Next S
@@ -161,10 +173,33 @@ on_field classes class (suc k) h go = on_object (object_at h.objects (suc k)) (�
 abbrev pub with_field : Held → ℕ → Object → (index : ℕ) → ℤ → Held
 with_field h r o index v = with_things h (with_object h.objects r (with_fields o (slice_set o.fields index v)))
 
--- an object is gone
-abbrev pub gone_in : List Object → ℕ → List Object
-gone_in objects o = changed (object_at objects o)
+-- a field of an object names this now
+abbrev pub with_strong_field : Held → ℕ → Object → (index : ℕ) → ℕ → Held
+with_strong_field h r o index value = with_things h (with_object h.objects r (with_strong_fields o (slice_set o.strong index value)))
+
+-- what a place names, where there is that place
+abbrev pub on_place : {S : Type 0} → Option ℕ → Next S → (ℕ → Next S) → Next S
+on_place None none go = none
+on_place (Some old) none go = go old
+
+-- A field of an object takes this value, if there is that field, and what it named is let go; where the fields of the object are being destroyed this is a fault.
+abbrev pub stores_field : {S : Type 0} → (r : ℕ) → Object → (index value : ℕ) → Held → (stays : Held → Next S) → (ends : (o class : ℕ) → Held → Next S) → Next S
+stores_field r o index value h stays ends = if is_emptying o.phase then Faults Resurrected
+    else on_place (slice_get o.strong index) (stays h) (λ old. lets_go old (raised value (with_strong_field h r o index value)) stays ends)
+
+-- an object in another phase
+abbrev pub turned_in : Phase → List Object → ℕ → List Object
+turned_in phase objects o = changed (object_at objects o)
   where
     changed : Option Object → List Object
     changed None = objects
-    changed (Some ob) = with_object objects o (in_phase Gone ob)
+    changed (Some ob) = with_object objects o (in_phase phase ob)
+
+-- a field of an object whose fields are destroyed is nil, and what it named is let go
+abbrev pub clears_field : {S : Type 0} → (r index : ℕ) → Held → (stays : Held → Next S) → (ends : (o class : ℕ) → Held → Next S) → Next S
+clears_field r index h stays ends = on_object (object_at h.objects r) (λ o.
+    on_place (slice_get o.strong index) (stays h) (λ old. lets_go old (raised 0 (with_strong_field h r o index 0)) stays ends))
+
+-- an object is gone
+abbrev pub gone_in : List Object → ℕ → List Object
+gone_in = turned_in Gone

@@ -6,14 +6,15 @@ use Rattle.arc_ast.specs.declared.tree.Kind.{Kind}
 use Rattle.arc_ast.specs.declared.tree.Kind.TheVariants as k
 use Rattle.arc_ast.specs.declared.tree.Moment.{Moment}
 use Rattle.arc_ast.specs.declared.tree.Moment.TheVariants.{Before, After}
+use Rattle.arc_ast.specs.declared.tree.Sign.{Sign}
 use Rattle.arc_ast.specs.declared.tree.Sign.TheVariants as signs
 use Rattle.arc_spec.specs.declared.event.Event.TheVariants.{Dealloc}
 use Rattle.arc_spec.specs.declared.event.Fault.TheVariants.{Arithmetic, Unrecognized, NilField, FieldClass, Depth, Resurrected}
-use Rattle.arc_spec.specs.Classes.{Class, superclasses, ancestry, own_dealloc, lookup, descends, class_at}
+use Rattle.arc_spec.specs.Classes.{Class, superclasses, ancestry, own_dealloc, lookup, descends, class_at, strong_count, field_order}
 use Rattle.arc_spec.specs.Number.{converted, applied, combined, low_byte, is_zero}
-use Rattle.arc_spec.specs.Objects.{Object, Phase, Dying, Gone, object_at, with_object, in_phase, with_fields, is_live, new_object, names}
-use Rattle.arc_spec.specs.Resolved.{Piece, Bytes, Decimal, Character, Value, Number, ReadByte, Print, Applied, Combined, Choice, Converted, Location, Local, Global, Read, Assigned, Updated, Invoked, Sent, SentSuper, SentTo, SentToSuper, Field, FieldAssigned, FieldUpdated, Differ, IsObject, Reference, Nil, Itself, Variable, Chosen, Stored, Made, Initialized, Values, no_values, and_value, Command, Sequence, Evaluate, EvaluateReference, Begin, Return, Choose, Repeat, RepeatAfter, Break, Continue, Commands, no_commands, and_command, Function, Program}
-use Rattle.arc_spec.specs.World.{World, Outcome, Done, Faulted, Cut, then_do, Finished, finished, shows, prints, places, first_world, entered, left, takes, stores, with_objects, with_locals, with_globals, with_temporaries, local_at, name_at, next_number, has_read}
+use Rattle.arc_spec.specs.Objects.{Object, Phase, Dying, Emptying, Gone, object_at, with_object, in_phase, with_fields, with_strong_fields, is_live, is_emptying, new_object, names}
+use Rattle.arc_spec.specs.Resolved.{Piece, Bytes, Decimal, Character, Value, Number, ReadByte, Print, Applied, Combined, Choice, Converted, Location, Local, Global, Read, Assigned, Updated, Invoked, Sent, Receiver, ClassValue, ClassSuper, ObjectValue, ObjectSuper, Field, FieldAssigned, FieldUpdated, Differ, IsObject, Reference, Nil, Itself, Variable, Chosen, Stored, ObjectField, ObjectFieldStored, Made, Initialized, Arguments, no_arguments, number_argument, object_argument, Command, Sequence, Evaluate, EvaluateReference, Begin, Return, Choose, Repeat, RepeatAfter, Break, Continue, Commands, no_commands, and_command, Function, Program}
+use Rattle.arc_spec.specs.World.{World, Outcome, Done, Faulted, Cut, then_do, Finished, finished, shows, prints, places, first_world, Given, nothing_given, entered, left, takes, named_at, stores, with_objects, with_locals, with_globals, with_temporaries, local_at, name_at, next_number, has_read}
 
 -- what a format writes of these values, of which each number takes the next (C99, section 7.19.6.1)
 abbrev pub formatted : List Piece → List ℤ → List ℕ
@@ -54,7 +55,7 @@ holds (Global i) x w = with_globals w (slice_set w.globals i x)
 
 -- what a call does, one level deeper, with the number of the function, its `self` and what it is given; what the end of an object does; and the classes of the program
 pub record Deeper : Type 0 where
-  pub call : ℕ → (self : ℕ) → List ℤ → World → Outcome ℤ
+  pub call : ℕ → (self : ℕ) → Given → World → Outcome ℤ
   pub end_of : ℕ → World → Outcome Finished
   pub classes : List Class
 
@@ -74,29 +75,36 @@ abbrev pub all_dropped : Deeper → World → Outcome Finished
 all_dropped D w = temporaries_dropped D w.frame.temporaries w
 
 -- a strong variable takes a new value, and then the old one is dropped (ARC, "Assignment")
-abbrev pub assigned : Deeper → ℕ → ℕ → World → Outcome Finished
-assigned D i r w = released D (name_at w.frame.strong i) (stores i r w)
+abbrev pub assigned : Deeper → Location → ℕ → World → Outcome Finished
+assigned D i r w = released D (named_at i w) (stores i r w)
 
 -- So many variables are dropped, from the first one on, in the reverse of their order: their scope ends (C99, section 6.2.4; ARC, "Ownership qualification"; the
 -- order is this project's own choice).
 abbrev pub variables_dropped : Deeper → (first count : ℕ) → World → Outcome Finished
 variables_dropped D first zero w = Done finished w
-variables_dropped D first (suc n) w = then_do (assigned D (first + n) 0 w) (λ _ w1. variables_dropped D first n w1)
+variables_dropped D first (suc n) w = then_do (assigned D (Local (first + n)) 0 w) (λ _ w1. variables_dropped D first n w1)
 
 -- ---- messages
 
+-- a further argument, before those that follow it
+abbrev pub and_number : ℤ → Given → Given
+and_number x given = record given { numbers = x ∷ given.numbers }
+
+abbrev pub and_object : ℕ → Given → Given
+and_object r given = record given { objects = r ∷ given.objects }
+
 -- A message to a class with what it has found: that function runs with the class as its first argument, `self` (OPL, "Using Hidden Arguments"); with none it is a
 -- fault, which is this project's own choice.
-abbrev pub dispatched : Deeper → Option ℕ → (class : ℤ) → List ℤ → World → Outcome ℤ
+abbrev pub dispatched : Deeper → Option ℕ → (class : ℤ) → Given → World → Outcome ℤ
 dispatched D None class given w = Faulted Unrecognized w
-dispatched D (Some f) class given w = D.call f 0 (class ∷ given) w
+dispatched D (Some f) class given w = D.call f 0 (and_number class given) w
 
--- the function that a message to a class finds from a class up (OPL, "How Messaging Works")
-abbrev pub finds : Deeper → (from : Option ℕ) → (selector : ℕ) → List ℤ → Option ℕ
-finds D from selector given = lookup D.classes from signs.Class selector (length given)
+-- the function that a message finds from a class up (OPL, "How Messaging Works")
+abbrev pub finds : Deeper → (from : Option ℕ) → Sign → (selector : ℕ) → Given → Option ℕ
+finds D from sign selector given = lookup D.classes from sign selector (length given.numbers) (length given.objects)
 
 -- a message to an object, the same
-abbrev pub runs_found : Deeper → Option ℕ → (self : ℕ) → List ℤ → World → Outcome ℤ
+abbrev pub runs_found : Deeper → Option ℕ → (self : ℕ) → Given → World → Outcome ℤ
 runs_found D None self given w = Faulted Unrecognized w
 runs_found D (Some f) self given w = D.call f self given w
 
@@ -106,12 +114,21 @@ class_in None = None
 class_in (Some o) = Some o.class
 
 -- a message to what this names, which is looked up from a class; to nil it gives 0 (OPL, "Sending Messages to nil")
-abbrev pub sent_from : Deeper → (from : Option ℕ) → (self selector : ℕ) → List ℤ → World → Outcome ℤ
+abbrev pub sent_from : Deeper → (from : Option ℕ) → (self selector : ℕ) → Given → World → Outcome ℤ
 sent_from D from zero selector given w = Done (pos 0) w
-sent_from D from (suc k) selector given w = runs_found D (lookup D.classes from signs.Instance selector (length given)) (suc k) given w
+sent_from D from (suc k) selector given w = runs_found D (finds D from signs.Instance selector given) (suc k) given w
 
-abbrev pub sent_to : Deeper → (self selector : ℕ) → List ℤ → World → Outcome ℤ
-sent_to D self selector given w = sent_from D (class_in (object_at w.objects self)) self selector given w
+-- who gets a message: a class, whose method is looked up from this class, an object, or an object whose method is looked up from this class
+pub data Target : Type 0 where
+  ToClass : (from : Option ℕ) → (class : ℤ) → Target
+  ToObject : (self : ℕ) → Target
+  ToSuper : (from self : ℕ) → Target
+
+-- a message with its arguments
+abbrev pub sent : Deeper → Target → (selector : ℕ) → Given → World → Outcome ℤ
+sent D (ToClass from class) selector given w = dispatched D (finds D from signs.Class selector given) class given w
+sent D (ToObject self) selector given w = sent_from D (class_in (object_at w.objects self)) self selector given w
+sent D (ToSuper from self) selector given w = sent_from D (Some from) self selector given w
 
 -- ---- objects
 
@@ -127,10 +144,11 @@ field_count (Some c) = c.fields
 -- an object of a class is made, and a temporary takes it (OPL, "Allocating and Initializing Objects"); what is no class has no such method
 abbrev pub made : Deeper → Option ℕ → World → Outcome ℕ
 made D None w = Faulted Unrecognized w
-made D (Some c) w = Done (next_object w) (takes (next_object w) (with_objects w (w.objects ++ new_object c (field_count (slice_get D.classes c)) ∷ [])))
+made D (Some c) w = let class = slice_get D.classes c in
+    Done (next_object w) (takes (next_object w) (with_objects w (w.objects ++ new_object c (field_count class) (strong_count class) ∷ [])))
 
 -- an object's field is used, whose own class this is: nil has none, and an object of another class hasn't this one (this project's own choice)
-abbrev pub in_object : Deeper → (class : ℕ) → Option Object → (Object → Outcome ℤ) → World → Outcome ℤ
+abbrev pub in_object : {A : Type 0} → Deeper → (class : ℕ) → Option Object → (Object → Outcome A) → World → Outcome A
 in_object D class None go w = Faulted NilField w
 in_object D class (Some o) go w = if descends D.classes (Some o.class) class then go o else Faulted FieldClass w
 
@@ -140,6 +158,23 @@ field_read D r class index w = in_object D class (object_at w.objects r) (λ o. 
 abbrev pub field_set : Deeper → (r class index : ℕ) → ℤ → World → Outcome ℤ
 field_set D r class index v w =
     in_object D class (object_at w.objects r) (λ o. Done v (with_objects w (with_object w.objects r (with_fields o (slice_set o.fields index v))))) w
+
+-- a field that names an object is read, and a temporary takes what it names (ARC, "Object operands")
+abbrev pub object_field_read : Deeper → (r class index : ℕ) → World → Outcome ℕ
+object_field_read D r class index w =
+    in_object D class (object_at w.objects r) (λ o. Done (name_at o.strong index) (takes (name_at o.strong index) w)) w
+
+-- a field of an object names this now
+abbrev pub field_stores : (r : ℕ) → Object → (index value : ℕ) → World → World
+field_stores r o index value w = with_objects w (with_object w.objects r (with_strong_fields o (slice_set o.strong index value)))
+
+-- A field takes a new value, and then the old one is dropped (ARC, "Assignment"). Where the fields of its object are being destroyed this is a fault (this project's
+-- own choice).
+abbrev pub field_assigned : Deeper → (r index value : ℕ) → World → Object → Outcome Finished
+field_assigned D r index value w o = if is_emptying o.phase then Faulted Resurrected w else released D (name_at o.strong index) (field_stores r o index value w)
+
+abbrev pub object_field_set : Deeper → (r class index value : ℕ) → World → Outcome Finished
+object_field_set D r class index value w = in_object D class (object_at w.objects r) (field_assigned D r index value w) w
 
 -- 1 where the two differ
 abbrev pub difference : ℕ → ℕ → ℤ
@@ -152,7 +187,7 @@ chosen false a b = a
 
 -- Evaluation goes from left to right. printf evaluates all values, then writes the bytes, and gives their number. The value of an assignment is its right side (C99, section 6.5.16).
 -- A message evaluates its receiver and then its arguments; one to `super` goes to `self`, in a class method the first variable (OPL, "Messages to self and super").
--- Each object that a variable, `self`, an assignment or a message gives is taken by a temporary (this project's own choice, stronger than ARC). A field's object is
+-- Each object that a variable, `self`, a field, an assignment or a message gives is taken by a temporary (this project's own choice, stronger than ARC). A field's object is
 -- evaluated before what is assigned to it, and once where it is updated, after which its number is read, then the right side evaluated, and then the new number
 -- stored (C99, section 6.5.16.2; that the old number is read first is this project's own choice). A choice evaluates its test, and then one of the two alone (C99, section 6.5.15).
 abbrev mutual
@@ -160,7 +195,7 @@ abbrev mutual
   evaluated D (Number n) w = Done n w
   evaluated D ReadByte w = Done (next_number w.input) (has_read w)
   evaluated D (Print pieces arguments) w =
-      then_do (all_evaluated D arguments w) (λ values w1. let bytes = formatted pieces values in Done (byte_count bytes) (prints bytes w1))
+      then_do (all_evaluated D arguments w) (λ given w1. let bytes = formatted pieces given.numbers in Done (byte_count bytes) (prints bytes w1))
   evaluated D (Applied operator kind a) w = then_do (evaluated D a w) (λ x w1. Done (applied operator kind x) w1)
   evaluated D (Combined operator kind a b) w =
       then_do (evaluated D a w) (λ x w1. then_do (evaluated D b w1) (λ y w2. or_fault (combined operator kind x y) w2))
@@ -172,13 +207,8 @@ abbrev mutual
       let old = held_at i w in
       then_do (evaluated D a w) (λ x w1. then_do (updated operator computed kept old x w1) (λ new w2. Done (given_by moment old new) (holds i new w2)))
   evaluated D (Invoked f arguments) w = then_do (all_evaluated D arguments w) (λ given w1. D.call f 0 given w1)
-  evaluated D (Sent a selector arguments) w =
-      then_do (evaluated D a w) (λ self w1. then_do (all_evaluated D arguments w1) (λ given w2. dispatched D (finds D (class_at self) selector given) self given w2))
-  evaluated D (SentSuper from selector arguments) w =
-      then_do (all_evaluated D arguments w) (λ given w1. dispatched D (finds D (Some from) selector given) (local_at w.frame.locals 0) given w1)
-  evaluated D (SentTo a selector arguments) w = then_do (referred D a w) (λ self w1. then_do (all_evaluated D arguments w1) (λ given w2. sent_to D self selector given w2))
-  evaluated D (SentToSuper from selector arguments) w =
-      then_do (all_evaluated D arguments (takes w.frame.self w)) (λ given w1. sent_from D (Some from) w.frame.self selector given w1)
+  evaluated D (Sent receiver selector arguments) w =
+      then_do (received D receiver w) (λ target w1. then_do (all_evaluated D arguments w1) (λ given w2. sent D target selector given w2))
   evaluated D (Field a class index) w = then_do (referred D a w) (λ r w1. field_read D r class index w1)
   evaluated D (FieldAssigned a class index b) w = then_do (referred D a w) (λ r w1. then_do (evaluated D b w1) (λ v w2. field_set D r class index v w2))
   evaluated D (FieldUpdated moment a class index operator computed kept b) w =
@@ -190,16 +220,28 @@ abbrev mutual
   pub referred : Deeper → Reference → World → Outcome ℕ
   referred D Nil w = Done 0 w
   referred D Itself w = Done w.frame.self (takes w.frame.self w)
-  referred D (Variable i) w = Done (name_at w.frame.strong i) (takes (name_at w.frame.strong i) w)
+  referred D (Variable i) w = Done (named_at i w) (takes (named_at i w) w)
   referred D (Chosen c a b) w = then_do (evaluated D c w) (λ x w1. chosen (is_zero x) (referred D a w1) (referred D b w1))
   referred D (Stored i a) w = then_do (referred D a w) (λ r w1. then_do (assigned D i r w1) (λ _ w2. Done r (takes r w2)))
+  referred D (ObjectField a class index) w = then_do (referred D a w) (λ r w1. object_field_read D r class index w1)
+  referred D (ObjectFieldStored a class index b) w =
+      then_do (referred D a w) (λ r w1. then_do (referred D b w1) (λ value w2.
+      then_do (object_field_set D r class index value w2) (λ _ w3. Done value (takes value w3))))
   referred D (Made a) w = then_do (evaluated D a w) (λ class w1. made D (class_at class) w1)
   referred D (Initialized a) w = then_do (referred D a w) (λ r w1. Done r (takes r w1))
 
-  pub all_evaluated : Deeper → Values → World → Outcome (List ℤ)
-  all_evaluated D no_values w = Done [] w
-  all_evaluated D (and_value a others) w =
-      then_do (evaluated D a w) (λ x w1. then_do (all_evaluated D others w1) (λ xs w2. Done (x ∷ xs) w2))
+  pub received : Deeper → Receiver → World → Outcome Target
+  received D (ClassValue a) w = then_do (evaluated D a w) (λ class w1. Done (ToClass (class_at class) class) w1)
+  received D (ClassSuper from) w = Done (ToClass (Some from) (local_at w.frame.locals 0)) w
+  received D (ObjectValue a) w = then_do (referred D a w) (λ self w1. Done (ToObject self) w1)
+  received D (ObjectSuper from) w = Done (ToSuper from w.frame.self) (takes w.frame.self w)
+
+  pub all_evaluated : Deeper → Arguments → World → Outcome Given
+  all_evaluated D no_arguments w = Done nothing_given w
+  all_evaluated D (number_argument a others) w =
+      then_do (evaluated D a w) (λ x w1. then_do (all_evaluated D others w1) (λ given w2. Done (and_number x given) w2))
+  all_evaluated D (object_argument a others) w =
+      then_do (referred D a w) (λ r w1. then_do (all_evaluated D others w1) (λ given w2. Done (and_object r given) w2))
 
 -- full-expressions (C99, section 6.8): their temporaries are dropped at their end
 abbrev pub whole : Deeper → Value → World → Outcome ℤ
@@ -210,7 +252,7 @@ whole_reference D a w = then_do (referred D a w) (λ _ w1. all_dropped D w1)
 
 -- a variable begins with an object (ARC, "Ownership qualification")
 abbrev pub begun : Deeper → ℕ → Reference → World → Outcome Finished
-begun D i a w = then_do (referred D a w) (λ r w1. then_do (assigned D i r w1) (λ _ w2. all_dropped D w2))
+begun D i a w = then_do (referred D a w) (λ r w1. then_do (assigned D (Local i) r w1) (λ _ w2. all_dropped D w2))
 
 -- how a statement is left: at its end, by a `break`, by a `continue`, or by a return with a value (C99, section 6.8.6)
 pub data Flow : Type 0 where
@@ -288,14 +330,14 @@ abbrev pub function_at : Program → ℕ → Function
 function_at P f = function_of (slice_get P.functions f)
   where
     function_of : Option Function → Function
-    function_of None = record { slots = 0; names = 0; body = no_commands }
+    function_of None = record { slots = 0; names = 0; parameters = 0; body = no_commands }
     function_of (Some g) = g
 
 -- A call: the function runs with variables of its own, and after it the caller's are there again. The variables that name objects are dropped at its end, also
--- after a return; those of blocks that were left before name nothing by then.
-abbrev pub called : Deeper → (bound : ℕ) → Function → (self : ℕ) → List ℤ → World → Outcome ℤ
-called D bound f self arguments w =
-    then_do (all_executed D bound f.body (entered f.slots f.names self arguments w)) (λ flow w1.
+-- after a return, and the parameters among them last; those of blocks that were left before name nothing by then.
+abbrev pub called : Deeper → (bound : ℕ) → Function → (self : ℕ) → Given → World → Outcome ℤ
+called D bound f self given_to w =
+    then_do (all_executed D bound f.body (entered f.slots f.names f.parameters self given_to w)) (λ flow w1.
     then_do (variables_dropped D 0 f.names w1) (λ _ w2. Done (given flow) (left w w2)))
 
 -- ---- the end of an object (ARC, "dealloc")
@@ -303,7 +345,7 @@ called D bound f self arguments w =
 -- what the dealloc of a class does
 abbrev pub dealloc_run : Program → Deeper → (bound : ℕ) → Option ℕ → (o : ℕ) → World → Outcome Finished
 dealloc_run P D bound None o w = Done finished w
-dealloc_run P D bound (Some f) o w = then_do (called D bound (function_at P f) o [] w) (λ _ w1. Done finished w1)
+dealloc_run P D bound (Some f) o w = then_do (called D bound (function_at P f) o nothing_given w) (λ _ w1. Done finished w1)
 
 -- what the deallocs of these classes do, each once (ARC, "dealloc")
 abbrev pub deallocs_run : Program → Deeper → (bound : ℕ) → (classes : List ℕ) → (o : ℕ) → World → Outcome Finished
@@ -325,16 +367,33 @@ abbrev pub dying : (o : ℕ) → Option Object → World → World
 dying o None w = w
 dying o (Some ob) w = shows (Dealloc o ob.class ∷ []) (turned Dying o (Some ob) w)
 
--- the end of an object: the deallocs of its class and of those above it run, up to the root (ARC, "dealloc")
+-- a field of an object is dropped: it is nil, and what it named may end, one level deeper
+abbrev pub field_dropped : Deeper → (o index : ℕ) → Option Object → World → Outcome Finished
+field_dropped D o index None w = Done finished w
+field_dropped D o index (Some ob) w = released D (name_at ob.strong index) (field_stores o ob index 0 w)
+
+-- the fields of an object are dropped, in this order (ARC, "dealloc")
+abbrev pub fields_dropped : Deeper → (order : List ℕ) → (o : ℕ) → World → Outcome Finished
+fields_dropped D [] o w = Done finished w
+fields_dropped D (index ∷ others) o w = then_do (field_dropped D o index (object_at w.objects o) w) (λ _ w1. fields_dropped D others o w1)
+
+-- the fields of an object that name objects are destroyed: those of its class first, and then those of the classes above it
+abbrev pub emptied : Deeper → (o : ℕ) → Option Object → World → Outcome Finished
+emptied D o None w = Done finished w
+emptied D o (Some ob) w = fields_dropped D (field_order D.classes ob.class) o (turned Emptying o (Some ob) w)
+
+-- The end of an object: the deallocs of its class and of those above it run, up to the root; then its fields that name objects are destroyed; and then it is gone
+-- (ARC, "dealloc").
 abbrev pub ended : Program → Deeper → (bound : ℕ) → (o : ℕ) → World → Outcome Finished
 ended P D bound o w =
-    then_do (deallocs_run P D bound (ancestry (superclasses P.classes) (class_in (object_at w.objects o))) o (dying o (object_at w.objects o) w)) (λ _ w1. gone o w1)
+    then_do (deallocs_run P D bound (ancestry (superclasses P.classes) (class_in (object_at w.objects o))) o (dying o (object_at w.objects o) w)) (λ _ w1.
+    then_do (emptied D o (object_at w1.objects o) w1) (λ _ w2. gone o w2))
 
 -- calls and ends of objects where so many levels are left: with none they are a fault
 abbrev pub level : Program → (bound levels : ℕ) → Deeper
-level P bound zero = record { call = λ f self arguments w. Faulted Depth w; end_of = λ o w. Faulted Depth w; classes = P.classes }
+level P bound zero = record { call = λ f self given w. Faulted Depth w; end_of = λ o w. Faulted Depth w; classes = P.classes }
 level P bound (suc n) = record {
-  call = λ f self arguments w. called (level P bound n) bound (function_at P f) self arguments w;
+  call = λ f self given w. called (level P bound n) bound (function_at P f) self given w;
   end_of = λ o w. ended P (level P bound n) bound o w;
   classes = P.classes;
 }
@@ -345,4 +404,4 @@ most_levels = 2000
 
 -- the meaning of a program on an input, with a bound on the turns of each loop: main's value, as an int
 abbrev pub mean : Program → List ℕ → (bound : ℕ) → Outcome ℤ
-mean P input bound = then_do ((level P bound most_levels).call P.main 0 [] (first_world P.globals input)) (λ v w. Done (converted k.Int v) w)
+mean P input bound = then_do ((level P bound most_levels).call P.main 0 nothing_given (first_world P.globals P.strong_globals input)) (λ v w. Done (converted k.Int v) w)

@@ -16,13 +16,12 @@ pub data Piece : Type 0 where
 
 mutual
   -- An expression that gives a number; an operator has the kind in which it computes. A variable goes by its number in its function, or in the program; functions, classes and
-  -- selectors go by their numbers in the program, and a class is a value by its number. A message to `super` has the class from which its method is looked up.
-  -- A field goes by its number in the objects that have it, with the class whose own field it is. An update has the kind in which it computes, and that of what it
-  -- updates.
+  -- selectors go by their numbers in the program, and a class is a value by its number. A field goes by its number in the objects that have it, with the class whose
+  -- own field it is; fields that hold numbers and those that name objects are numbered apart. An update has the kind in which it computes, and that of what it updates.
   pub data Value : Type 0 where
     Number : ℤ → Value
     ReadByte : Value
-    Print : List Piece → Values → Value
+    Print : List Piece → Arguments → Value
     Applied : UnaryOperator → Kind → Value → Value
     Combined : BinaryOperator → Kind → Value → Value → Value
     Choice : Value → Value → Value → Value
@@ -30,30 +29,40 @@ mutual
     Read : Location → Value
     Assigned : Location → Value → Value
     Updated : Moment → Location → BinaryOperator → (computed kept : Kind) → Value → Value
-    Invoked : ℕ → Values → Value
-    Sent : Value → (selector : ℕ) → Values → Value
-    SentSuper : (from selector : ℕ) → Values → Value
-    SentTo : Reference → (selector : ℕ) → Values → Value
-    SentToSuper : (from selector : ℕ) → Values → Value
+    Invoked : ℕ → Arguments → Value
+    Sent : Receiver → (selector : ℕ) → Arguments → Value
     Field : Reference → (class index : ℕ) → Value
     FieldAssigned : Reference → (class index : ℕ) → Value → Value
     FieldUpdated : Moment → Reference → (class index : ℕ) → BinaryOperator → (computed kept : Kind) → Value → Value
     Differ : Reference → Reference → Value
     IsObject : Reference → Value
 
-  -- An expression that gives an object or nil: `nil`, `self`, a variable, an assignment to one, `alloc` or `new` of a class, and `init` of an object.
+  -- An expression that gives an object or nil: `nil`, `self`, a variable, an assignment to one, a field, an assignment to one, `alloc` or `new` of a class, and `init`
+  -- of an object. A variable goes by its number among those that name objects, of its function or of the program.
   pub data Reference : Type 0 where
     Nil : Reference
     Itself : Reference
-    Variable : ℕ → Reference
+    Variable : Location → Reference
     Chosen : Value → Reference → Reference → Reference
-    Stored : ℕ → Reference → Reference
+    Stored : Location → Reference → Reference
+    ObjectField : Reference → (class index : ℕ) → Reference
+    ObjectFieldStored : Reference → (class index : ℕ) → Reference → Reference
     Made : Value → Reference
     Initialized : Reference → Reference
 
-  pub data Values : Type 0 where
-    no_values : Values
-    and_value : Value → Values → Values
+  -- What gets a message: a class, by its number, or an object. One to `super` goes to `self`, in a class method the class that got the message, and has the class from
+  -- which its method is looked up (OPL, "Messages to self and super").
+  pub data Receiver : Type 0 where
+    ClassValue : Value → Receiver
+    ClassSuper : (from : ℕ) → Receiver
+    ObjectValue : Reference → Receiver
+    ObjectSuper : (from : ℕ) → Receiver
+
+  -- what a function or a method is passed, in its order: numbers, and objects or nil
+  pub data Arguments : Type 0 where
+    no_arguments : Arguments
+    number_argument : Value → Arguments → Arguments
+    object_argument : Reference → Arguments → Arguments
 
 mutual
   -- A statement. A sequence has so many variables of its own that name objects, from the first one on; the beginning of such a variable is what it names first.
@@ -74,16 +83,20 @@ mutual
     no_commands : Commands
     and_command : Command → Commands → Commands
 
--- A function with how many variables it has that hold numbers, of which the first are its parameters, and how many that name objects. A method is one too; the
--- first number of a class method is `self`, the class that got the message, which is passed to it before its arguments (OPL, "Using Hidden Arguments").
+-- A function with how many variables it has that hold numbers, and how many that name objects. Of each sort the first are its parameters; those that name objects are
+-- so many. A method is one too; the first number of a class method is `self`, the class that got the message, which is passed to it before its arguments (OPL, "Using
+-- Hidden Arguments").
 pub record Function : Type 0 where
   pub slots : ℕ
   pub names : ℕ
+  pub parameters : ℕ
   pub body : Commands
 
--- the functions of a program, which of them is main, what the variables of the whole program hold first, and the classes, whose methods run functions
+-- the functions of a program, which of them is main, what the variables of the whole program hold first that hold numbers, how many variables of the whole program name
+-- objects, each of which begins as nil, and the classes, whose methods run functions
 pub record Program : Type 0 where
   pub functions : List Function
   pub main : ℕ
   pub globals : List ℤ
+  pub strong_globals : ℕ
   pub classes : List Class

@@ -9,7 +9,7 @@ use Rattle.arc_spec.specs.declared.event.Event.{Event}
 use Rattle.arc_spec.specs.declared.event.Event.TheVariants.{Byte, Dealloc}
 use Rattle.arc_spec.specs.Classes.{Class}
 use Rattle.arc_spec.specs.declared.class.Method.{Method}
-use Rattle.arc_spec.specs.Resolved.{Value, Number, ReadByte, Print, Applied, Combined, Local, Read, Sent, SentSuper, SentTo, Field, FieldAssigned, Reference, Nil, Itself, Variable, Stored, Made, Program, no_values, and_value, Command, Commands, Evaluate, EvaluateReference, Begin, Return, Function, no_commands, and_command, Bytes, Decimal, Character}
+use Rattle.arc_spec.specs.Resolved.{Value, Number, ReadByte, Print, Applied, Combined, Local, Global, Read, Sent, ClassValue, ClassSuper, ObjectValue, Field, FieldAssigned, Reference, Nil, Itself, Variable, Stored, ObjectField, ObjectFieldStored, Made, Program, no_arguments, number_argument, object_argument, Invoked, Command, Commands, Evaluate, EvaluateReference, Begin, Return, Function, no_commands, and_command, Bytes, Decimal, Character}
 use Rattle.arc_spec.specs.Correct.{Stop, meaning_seen}
 use Rattle.arc_spec.specs.Meaning.{mean}
 
@@ -23,11 +23,11 @@ Shows P input bytes stop = HasTrace P input (map Byte bytes) stop
 
 -- the same of a program that is this body of main alone
 abbrev pub Prints : Commands → (input bytes : List ℕ) → Stop → Type 0
-Prints body = Shows (record { functions = record { slots = 0; names = 0; body = body } ∷ []; main = 0; globals = []; classes = [] })
+Prints body = Shows (record { functions = record { slots = 0; names = 0; parameters = 0; body = body } ∷ []; main = 0; globals = []; strong_globals = 0; classes = [] })
 
 -- { printf("42"); return 7; }
 abbrev pub forty_two : Commands
-forty_two = and_command (Evaluate (Print (Bytes (codes "42") ∷ []) no_values)) (and_command (Return (Some (Number (pos 7)))) no_commands)
+forty_two = and_command (Evaluate (Print (Bytes (codes "42") ∷ []) no_arguments)) (and_command (Return (Some (Number (pos 7)))) no_commands)
 
 -- 2 + 3 * 4
 abbrev pub fourteen : Value
@@ -40,18 +40,18 @@ minus_three = Combined Divide Int (Applied Negate Int (Number (pos 7))) (Number 
 -- { printf("%d%d", 2 + 3 * 4, -7 / 2); return 1 / 0; }
 abbrev pub division_fault : Commands
 division_fault =
-    and_command (Evaluate (Print (Decimal ∷ Decimal ∷ []) (and_value fourteen (and_value minus_three no_values))))
+    and_command (Evaluate (Print (Decimal ∷ Decimal ∷ []) (number_argument fourteen (number_argument minus_three no_arguments))))
     (and_command (Return (Some (Combined Divide Int (Number (pos 1)) (Number (pos 0))))) no_commands)
 
 -- { printf("%c%d", getchar(), getchar()); printf("after"); }, which prints a byte of the input, and -1 for its end
 abbrev pub one_byte : Commands
 one_byte =
-    and_command (Evaluate (Print (Character ∷ Decimal ∷ []) (and_value ReadByte (and_value ReadByte no_values))))
-    (and_command (Evaluate (Print (Bytes (codes "after") ∷ []) no_values)) no_commands)
+    and_command (Evaluate (Print (Character ∷ Decimal ∷ []) (number_argument ReadByte (number_argument ReadByte no_arguments))))
+    (and_command (Evaluate (Print (Bytes (codes "after") ∷ []) no_arguments)) no_commands)
 
 -- { return printf("%d", 2147483647 + 1); }
 abbrev pub wrapped_sum : Commands
-wrapped_sum = and_command (Return (Some (Print (Decimal ∷ []) (and_value (Combined Add Int (Number (pos 2147483647)) (Number (pos 1))) no_values)))) no_commands
+wrapped_sum = and_command (Return (Some (Print (Decimal ∷ []) (number_argument (Combined Add Int (Number (pos 2147483647)) (Number (pos 1))) no_arguments)))) no_commands
 
 -- { return -9223372036854775807 / -1; } with one less: the least Long by -1
 abbrev pub least_long : Commands
@@ -59,15 +59,15 @@ least_long = and_command (Return (Some (Combined Divide Long (Number (negsuc 922
 
 -- a method with this selector and no arguments, which runs a function
 abbrev pub method : Sign → (selector runs : ℕ) → Method
-method sign selector runs = record { sign = sign; selector = selector; takes = 0; runs = runs }
+method sign selector runs = record { sign = sign; selector = selector; takes = 0; objects = 0; runs = runs }
 
 -- a class without fields and dealloc
 abbrev pub plain_class : Option ℕ → List Method → Class
-plain_class superclass methods = record { superclass = superclass; methods = methods; dealloc = None; fields = 0 }
+plain_class superclass methods = record { superclass = superclass; methods = methods; dealloc = None; fields = 0; strong_fields = 0 }
 
 -- a method's body that returns this
 abbrev pub returns : Value → Function
-returns a = record { slots = 1; names = 0; body = and_command (Return (Some a)) no_commands }
+returns a = record { slots = 1; names = 0; parameters = 0; body = and_command (Return (Some a)) no_commands }
 
 -- a class's number, as a value
 abbrev pub class_value : ℕ → Value
@@ -80,14 +80,16 @@ class_methods = record {
   functions = record {
     slots = 0;
     names = 0;
+    parameters = 0;
     body = and_command (Evaluate (Print (Decimal ∷ Bytes (codes " ") ∷ Decimal ∷ [])
-        (and_value (Sent (class_value 1) 1 no_values) (and_value (Sent (class_value 2) 1 no_values) no_values))))
-        (and_command (Evaluate (Sent (class_value 2) 2 no_values)) no_commands);
+        (number_argument (Sent (ClassValue (class_value 1)) 1 no_arguments) (number_argument (Sent (ClassValue (class_value 2)) 1 no_arguments) no_arguments))))
+        (and_command (Evaluate (Sent (ClassValue (class_value 2)) 2 no_arguments)) no_commands);
   }
-      ∷ returns (Number (pos 1)) ∷ returns (Combined Multiply Int (Sent (Read (Local 0)) 0 no_values) (Number (pos 10)))
-      ∷ returns (Combined Add Int (SentSuper 1 0 no_values) (Number (pos 1))) ∷ [];
+      ∷ returns (Number (pos 1)) ∷ returns (Combined Multiply Int (Sent (ClassValue (Read (Local 0))) 0 no_arguments) (Number (pos 10)))
+      ∷ returns (Combined Add Int (Sent (ClassSuper 1) 0 no_arguments) (Number (pos 1))) ∷ [];
   main = 0;
   globals = [];
+  strong_globals = 0;
   classes = plain_class None [] ∷ plain_class (Some 0) (method signs.Class 0 1 ∷ method signs.Class 1 2 ∷ []) ∷ plain_class (Some 1) (method signs.Class 0 3 ∷ []) ∷ [];
 }
 
@@ -97,7 +99,7 @@ own_field = Field Itself 1 0
 
 -- [what v]
 abbrev pub sent_v : Reference → Value
-sent_v what = SentTo what 0 no_values
+sent_v what = Sent (ObjectValue what) 0 no_arguments
 
 -- [A new]
 abbrev pub new_a : Reference
@@ -105,28 +107,29 @@ new_a = Made (class_value 1)
 
 -- printf of a text without values
 abbrev pub printed : List ℕ → Command
-printed text = Evaluate (Print (Bytes text ∷ []) no_values)
+printed text = Evaluate (Print (Bytes text ∷ []) no_arguments)
 
 -- A class A with a field _v, a method v that gives it, and a dealloc that prints it after a `d`; and main with this body and one variable that names an object.
 abbrev pub with_class_a : Commands → Program
 with_class_a body = record {
-  functions = record { slots = 0; names = 1; body = body }
-      ∷ record { slots = 0; names = 0; body = and_command (Return (Some own_field)) no_commands }
-      ∷ record { slots = 0; names = 0; body = and_command (Evaluate (Print (Bytes (codes "d") ∷ Decimal ∷ []) (and_value own_field no_values))) no_commands } ∷ [];
+  functions = record { slots = 0; names = 1; parameters = 0; body = body }
+      ∷ record { slots = 0; names = 0; parameters = 0; body = and_command (Return (Some own_field)) no_commands }
+      ∷ record { slots = 0; names = 0; parameters = 0; body = and_command (Evaluate (Print (Bytes (codes "d") ∷ Decimal ∷ []) (number_argument own_field no_arguments))) no_commands } ∷ [];
   main = 0;
   globals = [];
-  classes = plain_class None [] ∷ record { superclass = Some 0; methods = method signs.Instance 0 1 ∷ []; dealloc = Some 2; fields = 1 } ∷ plain_class (Some 0) [] ∷ [];
+  strong_globals = 0;
+  classes = plain_class None [] ∷ record { superclass = Some 0; methods = method signs.Instance 0 1 ∷ []; dealloc = Some 2; fields = 1; strong_fields = 0 } ∷ plain_class (Some 0) [] ∷ [];
 }
 
 -- { A *a = [A new]; a->_v = 3; printf("%d", [a v]); [[A new] v]; printf("x"); a = nil; printf("y"); }
 abbrev pub objects_with_dealloc : Program
 objects_with_dealloc = with_class_a
     (and_command (Begin 0 new_a)
-    (and_command (Evaluate (FieldAssigned (Variable 0) 1 0 (Number (pos 3))))
-    (and_command (Evaluate (Print (Decimal ∷ []) (and_value (sent_v (Variable 0)) no_values)))
+    (and_command (Evaluate (FieldAssigned (Variable (Local 0)) 1 0 (Number (pos 3))))
+    (and_command (Evaluate (Print (Decimal ∷ []) (number_argument (sent_v (Variable (Local 0))) no_arguments)))
     (and_command (Evaluate (sent_v new_a))
     (and_command (printed (codes "x"))
-    (and_command (EvaluateReference (Stored 0 Nil))
+    (and_command (EvaluateReference (Stored (Local 0) Nil))
     (and_command (printed (codes "y")) no_commands)))))))
 
 -- what it shows: the dealloc of the second object begins after the 3, and that of the first one after the x
@@ -135,11 +138,84 @@ dealloc_events = map Byte (codes "3") ++ Dealloc 2 1 ∷ map Byte (codes "d0x") 
 
 -- { id b = [A new]; printf("%d", ((B *)b)->w); }, where w is the class 2's own
 abbrev pub field_of_another_class : Program
-field_of_another_class = with_class_a (and_command (Begin 0 new_a) (and_command (Evaluate (Print (Decimal ∷ []) (and_value (Field (Variable 0) 2 0) no_values))) no_commands))
+field_of_another_class = with_class_a (and_command (Begin 0 new_a) (and_command (Evaluate (Print (Decimal ∷ []) (number_argument (Field (Variable (Local 0)) 2 0) no_arguments))) no_commands))
 
 -- { return [nil v]; }, and { return ((A *)nil)->_v; }
 abbrev pub sent_to_nil : Commands
-sent_to_nil = and_command (Return (Some (SentTo Nil 0 no_values))) no_commands
+sent_to_nil = and_command (Return (Some (Sent (ObjectValue Nil) 0 no_arguments))) no_commands
 
 abbrev pub field_of_nil : Commands
 field_of_nil = and_command (Return (Some (Field Nil 1 0))) no_commands
+
+-- ---- strong places everywhere
+
+-- a class with a dealloc, and with so many fields of each sort
+abbrev pub dying_class : (dealloc fields strong_fields : ℕ) → Class
+dying_class dealloc fields strong_fields = record { superclass = Some 0; methods = []; dealloc = Some dealloc; fields = fields; strong_fields = strong_fields }
+
+-- a program with a variable that names objects, `g`, a main with this body and one such variable, functions, and the classes after the root
+abbrev pub with_global : Commands → List Function → List Class → Program
+with_global body functions classes = record {
+  functions = record { slots = 0; names = 1; parameters = 0; body = body } ∷ functions;
+  main = 0;
+  globals = [];
+  strong_globals = 1;
+  classes = plain_class None [] ∷ classes;
+}
+
+-- a function without variables that does this
+abbrev pub does : Commands → Function
+does body = record { slots = 0; names = 0; parameters = 0; body = body }
+
+-- a dealloc that prints the field _v of self after a `d`
+abbrev pub prints_v : Function
+prints_v = does (and_command (Evaluate (Print (Bytes (codes "d") ∷ Decimal ∷ []) (number_argument own_field no_arguments))) no_commands)
+
+-- A class with fields _v and _next, and that dealloc: { A *h = [A new]; h->_next = [A new]; h->_next->_v = 2; printf("c"); }
+abbrev pub chain_of_two : Program
+chain_of_two = with_global
+    (and_command (Begin 0 new_a)
+    (and_command (EvaluateReference (ObjectFieldStored (Variable (Local 0)) 1 0 new_a))
+    (and_command (Evaluate (FieldAssigned (ObjectField (Variable (Local 0)) 1 0) 1 0 (Number (pos 2))))
+    (and_command (printed (codes "c")) no_commands))))
+    (prints_v ∷ []) (dying_class 1 1 1 ∷ [])
+
+-- what it shows: the second object ends when the fields of the first one are destroyed, after its dealloc
+abbrev pub chain_events : List Event
+chain_events = map Byte (codes "c") ++ Dealloc 1 1 ∷ map Byte (codes "d0") ++ Dealloc 2 1 ∷ map Byte (codes "d2")
+
+-- void keep(id p) { g = p; } and { keep([A new]); printf("k"); g = nil; printf("n"); }
+abbrev pub replaced_global : Program
+replaced_global = with_global
+    (and_command (Evaluate (Invoked 2 (object_argument new_a no_arguments)))
+    (and_command (printed (codes "k"))
+    (and_command (EvaluateReference (Stored (Global 0) Nil))
+    (and_command (printed (codes "n")) no_commands))))
+    (prints_v
+    ∷ record { slots = 0; names = 1; parameters = 1; body = and_command (EvaluateReference (Stored (Global 0) (Variable (Local 0)))) no_commands } ∷ [])
+    (dying_class 1 1 0 ∷ [])
+
+-- what it shows: the variable holds the object after the call
+abbrev pub replaced_events : List Event
+replaced_events = map Byte (codes "k") ++ Dealloc 1 1 ∷ map Byte (codes "d0n")
+
+-- A class whose dealloc is printf("s"); g = self; and { A *a = [A new]; a = nil; printf("n"); }
+abbrev pub resurrection : Program
+resurrection = with_global
+    (and_command (Begin 0 new_a) (and_command (EvaluateReference (Stored (Local 0) Nil)) (and_command (printed (codes "n")) no_commands)))
+    (does (and_command (printed (codes "s")) (and_command (EvaluateReference (Stored (Global 0) Itself)) no_commands)) ∷ [])
+    (dying_class 1 0 0 ∷ [])
+
+abbrev pub resurrection_events : List Event
+resurrection_events = Dealloc 1 1 ∷ map Byte (codes "s")
+
+-- A class A with a field _next, whose dealloc is g = self;, a class B whose dealloc is ((A *)g)->_next = nil;, and { A *a = [A new]; a->_next = [B new]; }
+abbrev pub written_while_destroyed : Program
+written_while_destroyed = with_global
+    (and_command (Begin 0 new_a) (and_command (EvaluateReference (ObjectFieldStored (Variable (Local 0)) 1 0 (Made (class_value 2)))) no_commands))
+    (does (and_command (EvaluateReference (Stored (Global 0) Itself)) no_commands)
+    ∷ does (and_command (EvaluateReference (ObjectFieldStored (Variable (Global 0)) 1 0 Nil)) no_commands) ∷ [])
+    (dying_class 1 0 1 ∷ dying_class 2 0 0 ∷ [])
+
+abbrev pub written_events : List Event
+written_events = Dealloc 1 1 ∷ Dealloc 2 2 ∷ []

@@ -1,25 +1,28 @@
 -- What a running program can change and show, and how a part of it ends.
-use Rattle.std.specs.Prelude.{ℕ, zero, suc, slice_index_or, ℤ, pos, negsuc, List, [], ◌∷◌, ◌++◌, map, slice_set}
+use Rattle.std.specs.Prelude.{ℕ, zero, suc, slice_index_or, ℤ, pos, negsuc, List, [], ◌∷◌, ◌++◌, map, take, slice_set}
 use Rattle.arc_spec.specs.declared.event.Event.{Event}
 use Rattle.arc_spec.specs.declared.event.Event.TheVariants.{Byte}
 use Rattle.arc_spec.specs.declared.event.Fault as faults
-use Rattle.arc_spec.specs.Objects.{Object, nils}
+use Rattle.arc_spec.specs.declared.location.Location.{Location}
+use Rattle.arc_spec.specs.declared.location.Location.TheVariants.{Local, Global}
+use Rattle.arc_spec.specs.Objects.{Object, nils, field_places}
 
--- The running function: in a method of objects `self`, the variables that hold numbers, those that name objects, and the temporaries of its full-expression, the
--- last one first. The variables that name objects and the temporaries are strong places (ARC, "Ownership qualification"); `self` is none, since what sent the
--- message holds it.
+-- The running function: in a method of objects `self`, the variables that hold numbers, those that name objects, of which its parameters are the first, and the
+-- temporaries of its full-expression, the last one first. The variables that name objects and the temporaries are strong places (ARC, "Ownership qualification"); `self`
+-- is none, since what sent the message holds it.
 pub record Frame : Type 0 where
   pub self : ℕ
   pub locals : List ℤ
   pub strong : List ℕ
   pub temporaries : List ℕ
 
--- the bytes of the input that are left, the events so far, the numbers that the variables of the whole program hold, the objects, the running function, and the
--- strong places of those that wait for it
+-- the bytes of the input that are left, the events so far, the numbers that the variables of the whole program hold, what those of them name that name objects, the
+-- objects, the running function, and the strong places of those that wait for it
 pub record World : Type 0 where
   pub input : List ℕ
   pub trace : List Event
   pub globals : List ℤ
+  pub strong_globals : List ℕ
   pub objects : List Object
   pub frame : Frame
   pub waiting : List ℕ
@@ -27,15 +30,33 @@ pub record World : Type 0 where
 abbrev pub first_frame : Frame
 first_frame = record { self = 0; locals = []; strong = []; temporaries = [] }
 
-abbrev pub first_world : (globals : List ℤ) → List ℕ → World
-first_world globals input = record { input = input; trace = []; globals = globals; objects = []; frame = first_frame; waiting = [] }
+-- what a program begins with: the numbers of its variables, and so many variables that name objects, each of which is nil
+abbrev pub first_world : (globals : List ℤ) → (strong_globals : ℕ) → List ℕ → World
+first_world globals strong_globals input = record {
+  input = input;
+  trace = [];
+  globals = globals;
+  strong_globals = nils strong_globals;
+  objects = [];
+  frame = first_frame;
+  waiting = [];
+}
 
--- the strong places: what each of them names
+-- the strong places of the running function
 abbrev pub frame_places : Frame → List ℕ
 frame_places f = f.temporaries ++ f.strong
 
+-- the strong places of all functions that were called
+abbrev pub stacked : World → List ℕ
+stacked w = frame_places w.frame ++ w.waiting
+
+-- All strong places: what each of them names (ARC, "Ownership qualification"). They are the temporaries and variables of all functions that were called, the variables
+-- of the whole program, and the fields of the objects that aren't gone.
 abbrev pub places : World → List ℕ
-places w = frame_places w.frame ++ w.waiting
+places w =
+    stacked w
+    ++ (w.strong_globals
+    ++ field_places w.objects)
 
 abbrev pub with_objects : World → List Object → World
 with_objects w objects = record w { objects = objects }
@@ -45,6 +66,9 @@ with_locals w locals = record w { frame = record w.frame { locals = locals } }
 
 abbrev pub with_globals : World → List ℤ → World
 with_globals w globals = record w { globals = globals }
+
+abbrev pub with_strong_globals : World → List ℕ → World
+with_strong_globals w strong_globals = record w { strong_globals = strong_globals }
 
 abbrev pub with_strong : World → List ℕ → World
 with_strong w strong = record w { frame = record w.frame { strong = strong } }
@@ -56,7 +80,7 @@ with_temporaries w temporaries = record w { frame = record w.frame { temporaries
 abbrev pub local_at : List ℤ → ℕ → ℤ
 local_at locals i = slice_index_or locals i (pos 0)
 
--- what a variable names; one that there isn't names nothing
+-- what a place of these names; one that there isn't names nothing
 abbrev pub name_at : List ℕ → ℕ → ℕ
 name_at strong i = slice_index_or strong i 0
 
@@ -66,11 +90,26 @@ first_locals zero given = []
 first_locals (suc n) [] = pos 0 ∷ first_locals n []
 first_locals (suc n) (v ∷ given) = v ∷ first_locals n given
 
--- a function begins (C99, section 6.5.2.2): the running one waits for it
-abbrev pub entered : (slots count self : ℕ) → List ℤ → World → World
-entered slots count self given w = record w {
-  frame = record { self = self; locals = first_locals slots given; strong = nils count; temporaries = [] };
-  waiting = places w;
+-- the same of those that name objects: what it was given, and nil for all others
+abbrev pub first_names : (count : ℕ) → List ℕ → List ℕ
+first_names zero given = []
+first_names (suc n) [] = 0 ∷ first_names n []
+first_names (suc n) (r ∷ given) = r ∷ first_names n given
+
+-- what a function or a method is given: its arguments that are numbers, and those that are objects or nil
+pub record Given : Type 0 where
+  pub numbers : List ℤ
+  pub objects : List ℕ
+
+abbrev pub nothing_given : Given
+nothing_given = record { numbers = []; objects = [] }
+
+-- A function begins, with so many variables that hold numbers and so many that name objects, of which so many are parameters (C99, section 6.5.2.2): the running one
+-- waits for it.
+abbrev pub entered : (slots count parameters self : ℕ) → Given → World → World
+entered slots count parameters self given w = record w {
+  frame = record { self = self; locals = first_locals slots given.numbers; strong = first_names count (take parameters given.objects); temporaries = [] };
+  waiting = stacked w;
 }
 
 -- a function is left, and the one that waited for it runs again
@@ -81,9 +120,15 @@ left before now = record now { frame = before.frame; waiting = before.waiting }
 abbrev pub takes : ℕ → World → World
 takes r w = with_temporaries w (r ∷ w.frame.temporaries)
 
+-- what a variable names
+abbrev pub named_at : Location → World → ℕ
+named_at (Local i) w = name_at w.frame.strong i
+named_at (Global i) w = name_at w.strong_globals i
+
 -- a variable names this now
-abbrev pub stores : ℕ → ℕ → World → World
-stores i r w = with_strong w (slice_set w.frame.strong i r)
+abbrev pub stores : Location → ℕ → World → World
+stores (Local i) r w = with_strong w (slice_set w.frame.strong i r)
+stores (Global i) r w = with_strong_globals w (slice_set w.strong_globals i r)
 
 -- how a part of a program ends: with a value, stopped by a fault, or cut where a loop would pass the bound on its turns
 pub data Outcome (A : Type 0) : Type 0 where

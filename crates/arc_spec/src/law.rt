@@ -1,8 +1,8 @@
 //! What the definitions say of known programs, and what follows from them. Nothing here is run.
 ghost use Rattle.std.specs.Prelude.{◌≡◌, ℕ, ℤ, pos, negsuc, List, [], ◌∷◌, ◌++◌, codes};
-ghost use Rattle.arc_spec.specs.Rows.{Prints, Shows, forty_two, division_fault, one_byte, wrapped_sum, least_long, class_methods, HasTrace, objects_with_dealloc, dealloc_events, field_of_another_class, sent_to_nil, field_of_nil};
+ghost use Rattle.arc_spec.specs.Rows.{Prints, Shows, forty_two, division_fault, one_byte, wrapped_sum, least_long, class_methods, HasTrace, objects_with_dealloc, dealloc_events, field_of_another_class, sent_to_nil, field_of_nil, chain_of_two, chain_events, replaced_global, replaced_events, resurrection, resurrection_events, written_while_destroyed, written_events};
 ghost use Rattle.arc_spec.specs.Correct.{Sight, Behaves, Steady, Refines, Ends, Faults};
-ghost use Rattle.arc_spec.specs.declared.event.Fault.TheVariants.{Arithmetic, Unrecognized, NilField, FieldClass};
+ghost use Rattle.arc_spec.specs.declared.event.Fault.TheVariants.{Arithmetic, Unrecognized, NilField, FieldClass, Resurrected};
 
 /// Programs mean what the language's rules say of them.
 pub fn known_programs()
@@ -16,6 +16,10 @@ pub fn known_programs()
     ensures other_class { Shows field_of_another_class [] [] (Faults FieldClass) }
     ensures nil_message { Prints sent_to_nil [] [] (Ends (pos 0)) }
     ensures nil_field { Prints field_of_nil [] [] (Faults NilField) }
+    ensures fields { HasTrace chain_of_two [] chain_events (Ends (pos 0)) }
+    ensures global { HasTrace replaced_global [] replaced_events (Ends (pos 0)) }
+    ensures held_again { HasTrace resurrection [] resurrection_events (Faults Resurrected) }
+    ensures written { HasTrace written_while_destroyed [] written_events (Faults Resurrected) }
 {}
 
 /// Runs that refine runs of a meaning do what is meant.

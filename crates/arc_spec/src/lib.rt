@@ -6,3 +6,4 @@ pub mod event;
 pub mod law;
 pub mod location;
 pub mod number;
+pub mod order;

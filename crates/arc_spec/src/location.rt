@@ -1,6 +1,6 @@
-//! Where a number is held that expressions read and assign.
+//! Which variable expressions read and assign.
 
-/// A variable that holds a number.
+/// A variable; those that hold numbers and those that name objects are numbered apart.
 #[derive(Clone, Copy)]
 pub enum Location {
     /// That of the running function with this number.

@@ -21,3 +21,19 @@ returns-clause-class_methods c = refl
 pub returns-clause-objects : goal.returns-clause-objects
 unfolding digits
 returns-clause-objects c = refl
+
+pub returns-clause-fields : goal.returns-clause-fields
+unfolding digits
+returns-clause-fields c = refl
+
+pub returns-clause-global : goal.returns-clause-global
+unfolding digits
+returns-clause-global c = refl
+
+pub returns-clause-held_again : goal.returns-clause-held_again
+unfolding digits
+returns-clause-held_again c = refl
+
+pub returns-clause-written : goal.returns-clause-written
+unfolding digits
+returns-clause-written c = refl
