@@ -4,8 +4,9 @@ use Rattle.std.proofs.lemmas.List.{length-set}
 use Rattle.arc_spec.specs.Classes.{Class, class_at}
 use Rattle.arc_spec.specs.Number.{combined}
 use Rattle.arc_spec.specs.Holding.{Held}
+use Rattle.arc_spec.specs.World.{name_at}
 use Rattle.arc_code.specs.declared.instr.Op.{Op}
-use Rattle.arc_code.specs.declared.instr.Op.TheVariants.{Num, Bin, Un, Narrow, Pop, Get, Set, GetGlobal, SetGlobal, PrintNum, PrintByte, GetChar, Declare, Nil, ReadSelf, ReadRef, Hold, Again, Forget, Alloc, GetField, SetField, Differ, IsObject}
+use Rattle.arc_code.specs.declared.instr.Op.TheVariants.{Num, Bin, Un, Narrow, Pop, Get, Set, GetGlobal, SetGlobal, PrintNum, PrintByte, GetChar, Declare, Nil, ReadSelf, ReadRef, ReadGlobal, ReadField, Hold, Again, Forget, Alloc, GetField, SetField, Differ, IsObject}
 use Rattle.arc_code.specs.Instructions.{State, or_fault, allocates, operates}
 use Rattle.arc_code.specs.Effects.{Effect, of_names, on_numbers, on_names, operation_effect, Follows, After}
 use Rattle.arc_code.proofs.Outcomes.{top_after, found_after, reference_after, named_after, field_after, declares_after}
@@ -67,6 +68,9 @@ module _ (classes : List Class) (s : State) where
   operation_follows Nil = refers 0 1 0 _ (omega arith) (omega arith) refl refl
   operation_follows ReadSelf = named_after (By (on_names 0 1 1)) s.held.self _ _ (refers 0 1 1 _ (omega arith) (omega arith) refl refl)
   operation_follows (ReadRef i) = found_after (By (on_names 0 1 1)) (slice_get s.held.variables i) _ (λ r _. named_after (By (on_names 0 1 1)) r _ _ (refers 0 1 1 _ (omega arith) (omega arith) refl refl))
+  operation_follows (ReadGlobal i) = named_after (By (on_names 0 1 1)) (name_at s.held.strong_globals i) _ _ (refers 0 1 1 _ (omega arith) (omega arith) refl refl)
+  operation_follows (ReadField class index) = reference_after (By (on_names 1 1 1)) s.held.names _ (λ r rest e. field_after (By (on_names 1 1 1)) classes class r s.held _
+      (λ o. named_after (By (on_names 1 1 1)) (name_at o.strong index) _ _ (refers 1 1 1 _ (omega (arith, e)) (omega arith) refl refl)))
   operation_follows Hold = reference_after (By (on_names 1 1 1)) s.held.names _ (λ r rest _. named_after (By (on_names 1 1 1)) r _ _ (refers 1 1 1 _ refl (omega arith) refl refl))
   operation_follows Again = reference_after (By (on_names 1 2 0)) s.held.names _ (λ r rest _. refers 1 2 0 _ (omega arith) (omega arith) refl refl)
   operation_follows Forget = reference_after (By (on_names 1 0 0)) s.held.names _ (λ r rest e. refers 1 0 0 _ (omega (arith, e)) (omega arith) refl refl)

@@ -4,7 +4,7 @@ use Rattle.arc_spec.specs.Number.{counted, is_zero}
 use Rattle.arc_spec.specs.Meaning.{chosen}
 use Rattle.arc_spec.specs.Stepping.{Goes, on_top, on_found}
 use Rattle.arc_code.specs.declared.instr.Instr.{Instr}
-use Rattle.arc_code.specs.declared.instr.Instr.TheVariants.{Plain, PrintText, Jump, JumpZero, Call, Send, SendSuper, SendTo, SendToSuper, StoreStrong, Empty, DropAll, Return, EndStep}
+use Rattle.arc_code.specs.declared.instr.Instr.TheVariants.{Plain, PrintText, Jump, JumpZero, Call, Send, SendSuper, SendTo, SendToSuper, StoreStrong, StoreGlobal, StoreField, Empty, DropAll, Return, EndStep}
 use Rattle.arc_code.specs.Instructions.{Program, State, moved, goes, prints, enters, has_level, executes}
 use Rattle.arc_code.specs.Renaming.{renamed, relinked}
 
@@ -15,11 +15,13 @@ module _ {J F T K G U : Type 0} (p : Program J F T) (instrs : List (Instr K G U)
   renamed_same (Jump j) jumps calls texts = ap (λ to. Goes (moved s to s.stack) []) (jumps j)
   renamed_same (JumpZero j) jumps calls texts = ap (λ to. on_top s.stack (λ v rest. chosen (is_zero v) (goes s rest) (Goes (moved s to rest) []))) (jumps j)
   renamed_same (Call f) jumps calls texts = ap (λ found. on_found found (λ to. enters s to 0 (has_level s))) (calls f refl)
-  renamed_same (Send selector takes) jumps calls texts = refl
-  renamed_same (SendSuper from selector takes) jumps calls texts = refl
-  renamed_same (SendTo selector takes) jumps calls texts = refl
-  renamed_same (SendToSuper from selector takes) jumps calls texts = refl
+  renamed_same (Send selector takes objects) jumps calls texts = refl
+  renamed_same (SendSuper from selector takes objects) jumps calls texts = refl
+  renamed_same (SendTo selector takes objects) jumps calls texts = refl
+  renamed_same (SendToSuper from selector takes objects) jumps calls texts = refl
   renamed_same (StoreStrong i) jumps calls texts = refl
+  renamed_same (StoreGlobal i) jumps calls texts = refl
+  renamed_same (StoreField class index) jumps calls texts = refl
   renamed_same (Empty i) jumps calls texts = refl
   renamed_same DropAll jumps calls texts = refl
   renamed_same Return jumps calls texts = refl

@@ -6,10 +6,10 @@ use Rattle.arc_spec.specs.Classes.{lookup}
 use Rattle.arc_spec.specs.Meaning.{most_levels}
 use Rattle.arc_spec.specs.Stepping.{Next, Goes, Asks, Ends, Faults, Stuck, Reached, Running, Ended, Faulted, Wedged, after_steps}
 use Rattle.arc_code.specs.declared.instr.Op.{Op}
-use Rattle.arc_code.specs.declared.instr.Op.TheVariants.{Num, Bin, Un, Narrow, Pop, Get, Set, GetGlobal, SetGlobal, PrintNum, PrintByte, GetChar, Declare, Nil, ReadSelf, ReadRef, Hold, Again, Forget, Alloc, GetField, SetField, Differ, IsObject}
+use Rattle.arc_code.specs.declared.instr.Op.TheVariants.{Num, Bin, Un, Narrow, Pop, Get, Set, GetGlobal, SetGlobal, PrintNum, PrintByte, GetChar, Declare, Nil, ReadSelf, ReadRef, ReadGlobal, ReadField, Hold, Again, Forget, Alloc, GetField, SetField, Differ, IsObject}
 use Rattle.arc_code.specs.declared.instr.Instr.{Instr}
-use Rattle.arc_code.specs.declared.instr.Instr.TheVariants.{Plain, PrintText, Jump, JumpZero, Call, Send, SendSuper, SendTo, SendToSuper, StoreStrong, Empty, DropAll, Return, EndStep}
-use Rattle.arc_spec.specs.Holding.{all_places}
+use Rattle.arc_code.specs.declared.instr.Instr.TheVariants.{Plain, PrintText, Jump, JumpZero, Call, Send, SendSuper, SendTo, SendToSuper, StoreStrong, StoreGlobal, StoreField, Empty, DropAll, Return, EndStep}
+use Rattle.arc_spec.specs.Holding.{stacked}
 use Rattle.arc_code.specs.Instructions.{Program, State, start, step}
 pub use Rattle.arc_code.specs.declared.effect.Effect.{Effect}
 pub use Rattle.arc_code.specs.declared.effect.Height.{Height}
@@ -43,6 +43,8 @@ operation_effect Declare = record (on_numbers 0 0) { variables = 1 }
 operation_effect Nil = on_names 0 1 0
 operation_effect ReadSelf = on_names 0 1 1
 operation_effect (ReadRef i) = on_names 0 1 1
+operation_effect (ReadGlobal i) = on_names 0 1 1
+operation_effect (ReadField class index) = on_names 1 1 1
 operation_effect Hold = on_names 1 1 1
 operation_effect Again = on_names 1 2 0
 operation_effect Forget = on_names 1 0 0
@@ -57,19 +59,21 @@ abbrev pub passes : Sign → (takes : ℕ) → ℕ
 passes signs.Class takes = suc takes
 passes signs.Instance takes = takes
 
--- A call or a message takes what it passes, and gives a number, when it comes back. What a function is passed are its variables, whose number the call doesn't say:
--- a table says it of where the function begins.
+-- A call or a message takes what it passes, and gives a number, when it comes back. What a function is passed are its variables that hold numbers, and references
+-- for its parameters that name objects, whose numbers the call doesn't say: a table says them of where the function begins.
 abbrev pub effect : {J F T : Type 0} → Instr J F T → Effect
 effect (Plain o) = operation_effect o
 effect (PrintText t) = on_numbers 1 1
 effect (Jump j) = on_numbers 0 0
 effect (JumpZero j) = on_numbers 1 0
 effect (Call f) = on_numbers 0 1
-effect (Send selector takes) = on_numbers (passes signs.Class takes) 1
-effect (SendSuper from selector takes) = on_numbers (passes signs.Class takes) 1
-effect (SendTo selector takes) = of_names (passes signs.Instance takes) 1 1
-effect (SendToSuper from selector takes) = of_names (passes signs.Instance takes) 1 1
+effect (Send selector takes objects) = of_names (passes signs.Class takes) 1 objects
+effect (SendSuper from selector takes objects) = of_names (passes signs.Class takes) 1 objects
+effect (SendTo selector takes objects) = of_names (passes signs.Instance takes) 1 (suc objects)
+effect (SendToSuper from selector takes objects) = of_names (passes signs.Instance takes) 1 (suc objects)
 effect (StoreStrong i) = on_names 1 1 0
+effect (StoreGlobal i) = on_names 1 1 0
+effect (StoreField class index) = on_names 2 1 0
 effect (Empty i) = on_names 0 0 0
 effect DropAll = on_numbers 0 0
 effect Return = on_numbers 1 0
@@ -128,12 +132,14 @@ module _ {J F T : Type 0} (p : Program J F T) (height : ℕ → Height) where
   FitsAt pc (PrintText t) = FitsTo pc (pc + 1) (PrintText t)
   FitsAt pc (Jump j) = FitsTo pc (p.lands pc j) (Jump j)
   FitsAt pc (JumpZero j) = FitsTo pc (pc + 1) (JumpZero j) × FitsTo pc (p.lands pc j) (JumpZero j)
-  FitsAt pc (Call f) = (to : ℕ) → p.entry f ≡ Some to → FitsCall pc (on_numbers (height to).numbers 1)
-  FitsAt pc (Send selector takes) = FitsMessage pc (Send selector takes)
-  FitsAt pc (SendSuper from selector takes) = FitsMessage pc (SendSuper from selector takes)
-  FitsAt pc (SendTo selector takes) = FitsMessage pc (SendTo selector takes)
-  FitsAt pc (SendToSuper from selector takes) = FitsMessage pc (SendToSuper from selector takes)
+  FitsAt pc (Call f) = (to : ℕ) → p.entry f ≡ Some to → FitsCall pc (of_names (height to).numbers 1 (height to).names)
+  FitsAt pc (Send selector takes objects) = FitsMessage pc (Send selector takes objects)
+  FitsAt pc (SendSuper from selector takes objects) = FitsMessage pc (SendSuper from selector takes objects)
+  FitsAt pc (SendTo selector takes objects) = FitsMessage pc (SendTo selector takes objects)
+  FitsAt pc (SendToSuper from selector takes objects) = FitsMessage pc (SendToSuper from selector takes objects)
   FitsAt pc (StoreStrong i) = FitsTo pc (pc + 1) (StoreStrong i)
+  FitsAt pc (StoreGlobal i) = FitsTo pc (pc + 1) (StoreGlobal i)
+  FitsAt pc (StoreField class index) = FitsTo pc (pc + 1) (StoreField class index)
   FitsAt pc (Empty i) = FitsTo pc (pc + 1) (Empty i)
   FitsAt pc DropAll = FitsFrom (record (height pc) { temporaries = 0 }) (height (pc + 1)) DropAll
   FitsAt pc Return = FitsFrom (record (height pc) { variables = 0 }) no_height Return
@@ -142,7 +148,8 @@ module _ {J F T : Type 0} (p : Program J F T) (height : ℕ → Height) where
   -- a table that fits a program, whose greatest heights these are
   pub record HeightsFit (most_numbers most_names most_places : ℕ) : Type 0 where
     pub at : (pc : ℕ) (x : Instr J F T) → slice_get p.instrs pc ≡ Some x → FitsAt pc x
-    pub methods : (from : Option ℕ) (sign : Sign) (selector takes to : ℕ) → lookup p.classes from sign selector takes ≡ Some to → passes sign takes ≤ (height to).numbers
+    pub methods : (from : Option ℕ) (sign : Sign) (selector takes objects to : ℕ) → lookup p.classes from sign selector takes objects ≡ Some to
+        → (passes sign takes ≤ (height to).numbers) × (objects ≤ (height to).names)
     pub numbers_most : (pc : ℕ) → (height pc).numbers ≤ most_numbers
     pub names_most : (pc : ℕ) → (height pc).names ≤ most_names
     pub places_most : (pc : ℕ) → (height pc).temporaries + (height pc).variables ≤ most_places
@@ -153,7 +160,7 @@ room_for most = suc most_levels * most
 
 -- where a run is, there are at most so many numbers, references and places
 abbrev pub HasAtMost : (numbers names places : ℕ) → Reached State → Type 0
-HasAtMost numbers names places (Running s input trace) = (length s.stack ≤ numbers) × (length s.held.names ≤ names) × (length (all_places s.held) ≤ places)
+HasAtMost numbers names places (Running s input trace) = (length s.stack ≤ numbers) × (length s.held.names ≤ names) × (length (stacked s.held) ≤ places)
 HasAtMost numbers names places (Ended n input trace) = Unit {0}
 HasAtMost numbers names places (Faulted f input trace) = Unit {0}
 HasAtMost numbers names places (Wedged input trace) = Unit {0}

@@ -8,8 +8,8 @@ use Rattle.arc_ast.specs.declared.tree.UnaryOperator.TheVariants as u
 use Rattle.arc_ast.specs.declared.tree.BinaryOperator.{BinaryOperator}
 use Rattle.arc_ast.specs.declared.tree.BinaryOperator.TheVariants as o
 use Rattle.arc_code.specs.declared.instr.Op.{Op}
-use Rattle.arc_code.specs.declared.instr.Op.TheVariants.{Num, Bin, Un, Narrow, Pop, Get, Set, GetGlobal, SetGlobal, PrintNum, PrintByte, GetChar, Declare, Nil, ReadSelf, ReadRef, Hold, Again, Forget, Alloc, GetField, SetField, Differ, IsObject}
-use Rattle.arc_code.specs.declared.instr.Instr.TheVariants.{Plain, PrintText, Jump, JumpZero, Call, Send, SendSuper, SendTo, SendToSuper, StoreStrong, Empty, DropAll, Return, EndStep}
+use Rattle.arc_code.specs.declared.instr.Op.TheVariants.{Num, Bin, Un, Narrow, Pop, Get, Set, GetGlobal, SetGlobal, PrintNum, PrintByte, GetChar, Declare, Nil, ReadSelf, ReadRef, ReadGlobal, ReadField, Hold, Again, Forget, Alloc, GetField, SetField, Differ, IsObject}
+use Rattle.arc_code.specs.declared.instr.Instr.TheVariants.{Plain, PrintText, Jump, JumpZero, Call, Send, SendSuper, SendTo, SendToSuper, StoreStrong, StoreGlobal, StoreField, Empty, DropAll, Return, EndStep}
 use Rattle.arc_code.specs.Running.{Instruction}
 
 abbrev pub unary_number : UnaryOperator → ℕ
@@ -62,6 +62,8 @@ op_name Declare = codes "Declare"
 op_name Nil = codes "Nil"
 op_name ReadSelf = codes "ReadSelf"
 op_name (ReadRef i) = codes "ReadRef"
+op_name (ReadGlobal i) = codes "ReadGlobal"
+op_name (ReadField class index) = codes "ReadField"
 op_name Hold = codes "Hold"
 op_name Again = codes "Again"
 op_name Forget = codes "Forget"
@@ -77,11 +79,13 @@ name (PrintText piece) = codes "PrintText"
 name (Jump to) = codes "Jump"
 name (JumpZero to) = codes "JumpZero"
 name (Call to) = codes "Call"
-name (Send selector takes) = codes "Send"
-name (SendSuper from selector takes) = codes "SendSuper"
-name (SendTo selector takes) = codes "SendTo"
-name (SendToSuper from selector takes) = codes "SendToSuper"
+name (Send selector takes objects) = codes "Send"
+name (SendSuper from selector takes objects) = codes "SendSuper"
+name (SendTo selector takes objects) = codes "SendTo"
+name (SendToSuper from selector takes objects) = codes "SendToSuper"
 name (StoreStrong i) = codes "StoreStrong"
+name (StoreGlobal i) = codes "StoreGlobal"
+name (StoreField class index) = codes "StoreField"
 name (Empty i) = codes "Empty"
 name DropAll = codes "DropAll"
 name Return = codes "Return"
@@ -101,6 +105,8 @@ op_operands (Set depth) = operand depth
 op_operands (GetGlobal i) = operand i
 op_operands (SetGlobal i) = operand i
 op_operands (ReadRef i) = operand i
+op_operands (ReadGlobal i) = operand i
+op_operands (ReadField class index) = operand class ++ operand index
 op_operands (GetField class index) = operand class ++ operand index
 op_operands (SetField class index) = operand class ++ operand index
 op_operands _ = []
@@ -111,11 +117,13 @@ operands (PrintText piece) = operand piece.from ++ operand piece.len
 operands (Jump to) = operand to
 operands (JumpZero to) = operand to
 operands (Call to) = operand to
-operands (Send selector takes) = operand selector ++ operand takes
-operands (SendSuper from selector takes) = operand from ++ (operand selector ++ operand takes)
-operands (SendTo selector takes) = operand selector ++ operand takes
-operands (SendToSuper from selector takes) = operand from ++ (operand selector ++ operand takes)
+operands (Send selector takes objects) = operand selector ++ (operand takes ++ operand objects)
+operands (SendSuper from selector takes objects) = operand from ++ (operand selector ++ (operand takes ++ operand objects))
+operands (SendTo selector takes objects) = operand selector ++ (operand takes ++ operand objects)
+operands (SendToSuper from selector takes objects) = operand from ++ (operand selector ++ (operand takes ++ operand objects))
 operands (StoreStrong i) = operand i
+operands (StoreGlobal i) = operand i
+operands (StoreField class index) = operand class ++ operand index
 operands (Empty i) = operand i
 operands _ = []
 

@@ -1,7 +1,7 @@
 -- Instructions with other names for where jumps go, for functions and for texts.
 use Rattle.std.specs.Prelude.{ℕ, List, Option}
 use Rattle.arc_code.specs.declared.instr.Instr.{Instr}
-use Rattle.arc_code.specs.declared.instr.Instr.TheVariants.{Plain, PrintText, Jump, JumpZero, Call, Send, SendSuper, SendTo, SendToSuper, StoreStrong, Empty, DropAll, Return, EndStep}
+use Rattle.arc_code.specs.declared.instr.Instr.TheVariants.{Plain, PrintText, Jump, JumpZero, Call, Send, SendSuper, SendTo, SendToSuper, StoreStrong, StoreGlobal, StoreField, Empty, DropAll, Return, EndStep}
 use Rattle.arc_code.specs.Instructions.{Program}
 
 module _ {J F T K G U : Type 0} (jump : J → K) (call : F → G) (text : T → U) where
@@ -11,11 +11,13 @@ module _ {J F T K G U : Type 0} (jump : J → K) (call : F → G) (text : T → 
   renamed (Jump j) = Jump (jump j)
   renamed (JumpZero j) = JumpZero (jump j)
   renamed (Call f) = Call (call f)
-  renamed (Send selector takes) = Send selector takes
-  renamed (SendSuper from selector takes) = SendSuper from selector takes
-  renamed (SendTo selector takes) = SendTo selector takes
-  renamed (SendToSuper from selector takes) = SendToSuper from selector takes
+  renamed (Send selector takes objects) = Send selector takes objects
+  renamed (SendSuper from selector takes objects) = SendSuper from selector takes objects
+  renamed (SendTo selector takes objects) = SendTo selector takes objects
+  renamed (SendToSuper from selector takes objects) = SendToSuper from selector takes objects
   renamed (StoreStrong i) = StoreStrong i
+  renamed (StoreGlobal i) = StoreGlobal i
+  renamed (StoreField class index) = StoreField class index
   renamed (Empty i) = Empty i
   renamed DropAll = DropAll
   renamed Return = Return
@@ -33,5 +35,6 @@ relinked p instrs lands entry text = record {
   names = p.names;
   places = p.places;
   globals = p.globals;
+  strong_globals = p.strong_globals;
   classes = p.classes;
 }

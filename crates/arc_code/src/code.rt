@@ -16,8 +16,8 @@ pub type Instruction = Instr<usize, usize, Piece>;
 
 /// The instructions, the bytes of all texts, where the ends of objects go on, the most numbers that the
 /// stack comes to hold, the most references and the most strong places that there come to be, what the
-/// variables of the whole program hold first, and the classes, whose methods and deallocs run the
-/// instruction with a number.
+/// variables of the whole program hold first that hold numbers, how many of them name objects, and the
+/// classes, whose methods and deallocs run the instruction with a number.
 #[derive(Drop)]
 pub struct Code {
     pub instrs: Vec<Instruction>,
@@ -27,6 +27,7 @@ pub struct Code {
     pub names: usize,
     pub places: usize,
     pub globals: Vec<i64>,
+    pub strong_globals: usize,
     pub classes: Vec<Class>,
 }
 

@@ -74,8 +74,8 @@ fn operation_effect(operation: Op) -> Effect
             ..on_numbers(0, 0)
         },
         Op::Nil => on_names(0, 1, 0),
-        Op::ReadSelf | Op::ReadRef(_) => on_names(0, 1, 1),
-        Op::Hold => on_names(1, 1, 1),
+        Op::ReadSelf | Op::ReadRef(_) | Op::ReadGlobal(_) => on_names(0, 1, 1),
+        Op::Hold | Op::ReadField(_, _) => on_names(1, 1, 1),
         Op::Again => on_names(1, 2, 0),
         Op::Forget => on_names(1, 0, 0),
         Op::Alloc => Effect {
@@ -88,8 +88,8 @@ fn operation_effect(operation: Op) -> Effect
     }
 }
 
-/// How many numbers a message to a class passes: the class, and its arguments. None: these are more
-/// than can be counted.
+/// How many numbers a message to a class passes, the class and its arguments, and how many references a
+/// message to an object takes, that of the object and its arguments. None: these are more than can be counted.
 fn one_more(takes: usize) -> Option<usize>
     ensures { IfSome result (λ sum. sum ≡ suc takes) }
 {
@@ -109,11 +109,15 @@ pub fn instr_effect<J, F, T>(instr: &Instr<J, F, T>) -> Option<Effect>
         )),
         Instr::JumpZero(_) | Instr::Return => Some(on_numbers(1, 0)),
         Instr::Call(_) => Some(on_numbers(0, 1)),
-        Instr::Send(_, takes) | Instr::SendSuper(_, _, takes) => {
+        Instr::Send(_, takes, objects) | Instr::SendSuper(_, _, takes, objects) => {
             let taken = one_more(*takes)?;
-            Some(on_numbers(taken, 1))
+            Some(of_names(taken, 1, *objects))
         }
-        Instr::SendTo(_, takes) | Instr::SendToSuper(_, _, takes) => Some(of_names(*takes, 1, 1)),
-        Instr::StoreStrong(_) => Some(on_names(1, 1, 0)),
+        Instr::SendTo(_, takes, objects) | Instr::SendToSuper(_, _, takes, objects) => {
+            let references = one_more(*objects)?;
+            Some(of_names(*takes, 1, references))
+        }
+        Instr::StoreStrong(_) | Instr::StoreGlobal(_) => Some(on_names(1, 1, 0)),
+        Instr::StoreField(_, _) => Some(on_names(2, 1, 0)),
     }
 }

@@ -42,6 +42,12 @@ pub enum Op {
     ReadSelf,
     /// Gives what the variable with this number names, which a temporary takes.
     ReadRef(usize),
+    /// Gives what the variable of the whole program with this number names, which a temporary takes; one that
+    /// there isn't names nothing.
+    ReadGlobal(usize),
+    /// Takes the last reference, and gives what the field with this number of its object names, which a temporary
+    /// takes; the class, which comes first, is the one whose own field it is.
+    ReadField(usize, usize),
     /// A temporary takes what the last reference names; the reference stays.
     Hold,
     /// Gives the last reference once more; the first stays, and the second holds nothing either.
@@ -73,22 +79,29 @@ pub enum Instr<J, F, T> {
     Jump(J),
     /// Takes a number, and goes on elsewhere where it is 0.
     JumpZero(J),
-    /// Calls a function, whose variables stand on the stack.
+    /// Calls a function, whose variables stand on the stack; the references of its parameters are the last ones.
     Call(F),
-    /// A message with this selector and so many arguments, which stand on the stack above the number
-    /// of the class that gets it: calls the method that is looked up from that class.
-    Send(usize, usize),
+    /// A message with this selector, so many numbers as arguments, which stand on the stack above the number
+    /// of the class that gets it, and so many objects, which the last references name: calls the method that is
+    /// looked up from that class.
+    Send(usize, usize, usize),
     /// The same, with the number of the class from which the method is looked up before the selector.
-    SendSuper(usize, usize, usize),
-    /// A message with this selector and so many arguments, which stand on the stack, to the object of the
-    /// last reference, which is taken: calls the method that is looked up from the object's class. To nil
-    /// it takes the arguments and puts 0.
-    SendTo(usize, usize),
+    SendSuper(usize, usize, usize, usize),
+    /// A message with this selector, so many numbers as arguments, which stand on the stack, and so many objects,
+    /// which the last references name, to the object of the reference before these, which is taken: calls the
+    /// method that is looked up from the object's class. To nil it takes the arguments and puts 0.
+    SendTo(usize, usize, usize),
     /// The same, with the number of the class from which the method is looked up before the selector.
-    SendToSuper(usize, usize, usize),
+    SendToSuper(usize, usize, usize, usize),
     /// The variable with this number takes what the last reference names, and lets go of what it named;
     /// where that was its last holder, its end begins. The reference stays.
     StoreStrong(usize),
+    /// The same of the variable of the whole program with this number, where there is one.
+    StoreGlobal(usize),
+    /// The same of a field of the object of the reference before the last one, which is taken: the class comes
+    /// first whose own field it is, and then the field's number. It is a fault where the fields of that object are
+    /// being destroyed.
+    StoreField(usize, usize),
     /// The variable with this number lets go of what it named, and is nil.
     Empty(usize),
     /// Drops the temporaries, the last one first, until an object's end begins, after which this instruction
@@ -97,7 +110,7 @@ pub enum Instr<J, F, T> {
     /// Leaves the function, which has no temporary, with its variables, all of them nil: goes back to the
     /// instruction after the last call; with no call it takes the top number, with which the program ends.
     Return,
-    /// The end of an object goes on: with the dealloc of the next class, or to its last step, in which
-    /// the object is gone.
+    /// The end of an object goes on: with the dealloc of the next class, with the next of its fields that name
+    /// objects, which lets go of what it names, or to its last step, in which the object is gone.
     EndStep,
 }

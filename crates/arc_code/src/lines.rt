@@ -58,12 +58,22 @@ fn put_operands<W: Output>(instr: Instruction, writer: &mut Counted<W>) -> Resul
         Instr::Plain(op) => put_op_operands(op, writer),
         Instr::PrintText(piece) => put_pair(u64::from(piece.from), u64::from(piece.len), writer),
         Instr::Jump(to) | Instr::JumpZero(to) | Instr::Call(to) => put_operand(to as u64, writer),
-        Instr::StoreStrong(number) | Instr::Empty(number) => put_operand(number as u64, writer),
-        Instr::Send(selector, takes) | Instr::SendTo(selector, takes) => {
-            put_pair(selector as u64, takes as u64, writer)
+        Instr::StoreStrong(number) | Instr::StoreGlobal(number) | Instr::Empty(number) => {
+            put_operand(number as u64, writer)
         }
-        Instr::SendSuper(first, second, third) | Instr::SendToSuper(first, second, third) => {
+        Instr::StoreField(class, index) => put_pair(class as u64, index as u64, writer),
+        Instr::Send(first, second, third) | Instr::SendTo(first, second, third) => {
             put_three(first as u64, second as u64, third as u64, writer)
+        }
+        Instr::SendSuper(from, first, second, third)
+        | Instr::SendToSuper(from, first, second, third) => {
+            put_four(
+                from as u64,
+                first as u64,
+                second as u64,
+                third as u64,
+                writer,
+            )
         }
         Instr::DropAll | Instr::Return | Instr::EndStep => put(b"", writer),
     }
@@ -88,10 +98,11 @@ fn put_op_operands<W: Output>(op: Op, writer: &mut Counted<W>) -> Result<(), IoF
         }
         Op::Narrow(kind) => put_operand(number_of_kind(kind), writer),
         Op::Get(depth) | Op::Set(depth) => put_operand(depth as u64, writer),
-        Op::GetGlobal(number) | Op::SetGlobal(number) | Op::ReadRef(number) => {
-            put_operand(number as u64, writer)
-        }
-        Op::GetField(class, index) | Op::SetField(class, index) => {
+        Op::GetGlobal(number)
+        | Op::SetGlobal(number)
+        | Op::ReadRef(number)
+        | Op::ReadGlobal(number) => put_operand(number as u64, writer),
+        Op::GetField(class, index) | Op::SetField(class, index) | Op::ReadField(class, index) => {
             put_pair(class as u64, index as u64, writer)
         }
         Op::Pop | Op::PrintNum | Op::PrintByte | Op::GetChar => put(b"", writer),
@@ -127,6 +138,23 @@ fn put_three<W: Output>(
 {
     put_operand(first, writer)?;
     put_pair(second, third, writer)
+}
+
+fn put_four<W: Output>(
+    first: u64,
+    second: u64,
+    third: u64,
+    fourth: u64,
+    writer: &mut Counted<W>,
+) -> Result<(), IoFault>
+    requires { failures_of writer.old < 2 ^ 64 - 1 }
+    ensures { Written result (operand first ++ (operand second ++ (operand third ++ operand fourth)))
+        (held_by W.contents writer.old) (held_by W.contents writer.new)
+        (failures_of writer.old) (failures_of writer.new)
+        (HasFailedToWrite W.writes W.flushes (inner_of writer.new)) }
+{
+    put_operand(first, writer)?;
+    put_three(second, third, fourth, writer)
 }
 
 fn put_operand<W: Output>(number: u64, writer: &mut Counted<W>) -> Result<(), IoFault>
@@ -203,11 +231,13 @@ fn name_of(instr: Instruction) -> &'static str
         Instr::Jump(_) => "Jump",
         Instr::JumpZero(_) => "JumpZero",
         Instr::Call(_) => "Call",
-        Instr::Send(_, _) => "Send",
-        Instr::SendSuper(_, _, _) => "SendSuper",
-        Instr::SendTo(_, _) => "SendTo",
-        Instr::SendToSuper(_, _, _) => "SendToSuper",
+        Instr::Send(_, _, _) => "Send",
+        Instr::SendSuper(_, _, _, _) => "SendSuper",
+        Instr::SendTo(_, _, _) => "SendTo",
+        Instr::SendToSuper(_, _, _, _) => "SendToSuper",
         Instr::StoreStrong(_) => "StoreStrong",
+        Instr::StoreGlobal(_) => "StoreGlobal",
+        Instr::StoreField(_, _) => "StoreField",
         Instr::Empty(_) => "Empty",
         Instr::DropAll => "DropAll",
         Instr::Return => "Return",
@@ -235,6 +265,8 @@ fn name_of_op(op: Op) -> &'static str
         Op::Nil => "Nil",
         Op::ReadSelf => "ReadSelf",
         Op::ReadRef(_) => "ReadRef",
+        Op::ReadGlobal(_) => "ReadGlobal",
+        Op::ReadField(_, _) => "ReadField",
         Op::Hold => "Hold",
         Op::Again => "Again",
         Op::Forget => "Forget",
