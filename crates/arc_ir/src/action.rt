@@ -28,8 +28,9 @@ pub type Action = Instr<Target, usize, TextPart>;
 
 /// A program: all actions, of which the first is where it begins; where each function begins; where
 /// the ends of objects go on; the most numbers that the stack comes to hold, the most references and the
-/// most strong places that there come to be; what the variables of the whole program hold first; and the
-/// classes, whose methods and deallocs run the action with a number.
+/// most strong places of functions that there come to be; what the variables of the whole program hold first
+/// that hold numbers; how many of them name objects; and the classes, whose methods and deallocs run the
+/// action with a number.
 #[derive(Drop)]
 pub struct Ir {
     pub actions: Vec<Action>,
@@ -39,5 +40,6 @@ pub struct Ir {
     pub names: usize,
     pub places: usize,
     pub globals: Vec<i64>,
+    pub strong_globals: usize,
     pub classes: Vec<Class>,
 }
