@@ -10,7 +10,7 @@ use Rattle.arc_class.specs.declared.look.Seen.{Seen}
 use Rattle.arc_class.specs.Broken.{Broken, first, earlier_of}
 use Rattle.arc_class.specs.Bodies.{lacks_body, broken_bodies}
 use Rattle.arc_class.specs.Names.{known, number_of, is_main}
-use Rattle.arc_class.specs.ClassRules.{clashing_functions, broken_globals, broken_interfaces, broken_implementations, broken}
+use Rattle.arc_class.specs.ClassRules.{clashing_functions, broken_signatures, broken_globals, broken_interfaces, broken_implementations, broken}
 use Rattle.arc_class.specs.Fault.{told, Refuses}
 use Rattle.arc_class.specs.Functions.{duplicates, missing_main}
 use Rattle.arc_class.specs.Kept.{Knows}
@@ -55,7 +55,8 @@ first_known fs bodies seen own inside gone all h m o i a =
     first_both (A ++ B) bodies own inside all both i a ∙ ap first (append_assoc A B bodies)
 
 abbrev pub in_classes : UnitTree → List Broken
-in_classes u = clashing_functions u.interfaces u.globals u.functions u.functions ++ (broken_globals u u.globals ++ (broken_interfaces u [] u.interfaces ++ broken_implementations u [] u.implementations))
+in_classes u = clashing_functions u.interfaces u.globals u.functions u.functions
+    ++ (broken_signatures u u.functions ++ (broken_globals u u.globals ++ (broken_interfaces u [] u.interfaces ++ broken_implementations u [] u.implementations)))
 
 pub whole_known : (u : UnitTree) (seen : Seen) (own inside gone functions classes all : Option Broken) → Sums u.functions seen → gone ≡ first (missing_main seen.main) → own ≡ earlier_of (option_map told seen.fault) gone
     → inside ≡ first (broken_bodies u) → functions ≡ earlier_of own inside → classes ≡ first (in_classes u) → all ≡ earlier_of functions classes → all ≡ first (broken u)

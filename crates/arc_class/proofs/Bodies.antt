@@ -6,7 +6,7 @@ use Rattle.arc_ast.specs.Tree.{TypeTree, ExprTree, ExprTrees, Integer, Text, Par
 use Rattle.arc_sites.specs.Finding.{violations_of}
 use Rattle.arc_sites.specs.Sites as sites
 use Rattle.arc_ast.specs.Operators.{sort_of}
-use Rattle.arc_sites.specs.Sites.{Enclosing, InFunction, InMethod, Scope, Need, Anything, AValue, ANumber, AnObject, Like, Initial, Result, Receiver, Argument, Site, Statement, Variable, operand_need, cast_need, left_need, right_need, value, site, inner, after, outermost, with_variables, with_parameters, arguments, maybe_sites, variable_sites, stmt_sites, all_sites, parameter_sites, body_sites, function_sites, head_sites, method_sites, interface_sites, implementation_sites, unit_sites, named_parameters}
+use Rattle.arc_sites.specs.Sites.{Enclosing, InFunction, InMethod, Scope, Need, Anything, AValue, ANumber, AnObject, Like, Initial, Result, Receiver, Argument, Passed, Site, Statement, Variable, operand_need, cast_need, left_need, right_need, value, site, inner, after, outermost, with_variables, with_parameters, arguments, maybe_sites, variable_sites, stmt_sites, all_sites, parameter_sites, body_sites, function_sites, head_sites, method_sites, interface_sites, implementation_sites, unit_sites, named_parameters}
 use Rattle.arc_sites.specs.Violations.{at_if, violates, earlier_of}
 use Rattle.arc_sites.proofs.Firsts.{earlier_of-comm}
 use Rattle.arc_class.specs.Bodies.{is_bound, unknown_class, violations, broken_bodies}
@@ -26,6 +26,18 @@ violated number false at = refl
 alone : (number : ℕ) (breaks : Bool) (at : ℕ) → first (broken_if breaks at number) ≡ first ((violates number (at_if breaks at) ++ []) ++ [])
 alone number true at = refl
 alone number false at = refl
+
+-- a type alone
+pub type_is : (u : UnitTree) (type : TypeTree) → first (broken_type (missing_of u) type) ≡ first (violates 22 (unknown_class u type))
+type_is u t.Boolean = refl
+type_is u t.Int = refl
+type_is u t.Long = refl
+type_is u t.Id = refl
+type_is u (t.Object at name) = only ((missing_of u).classes name)
+  where
+    only : (breaks : Bool) → first (broken_if breaks at 22) ≡ first (violates 22 (at_if breaks at))
+    only true = refl
+    only false = refl
 
 module _ (u : UnitTree) where
   abbrev missing : Missing
@@ -101,11 +113,11 @@ module _ (u : UnitTree) where
         (pair (broken_expr missing a) (broken_expr missing b) x y (expr_is a m s Anything) (expr_is b m s ANumber))
     expr_is (Send at part receiver selector all) m s need =
         let x = sites.sites m s Receiver receiver in
-        let y = arguments m s ANumber ANumber all in
+        let y = arguments m s (Passed selector) (Passed selector) all in
         quiet (broken_expr missing receiver ++ broken_exprs missing all) (x ++ y) (value m s need (Send at part receiver selector all)) refl
-        (pair (broken_expr missing receiver) (broken_exprs missing all) x y (expr_is receiver m s Receiver) (exprs_are all m s ANumber ANumber))
+        (pair (broken_expr missing receiver) (broken_exprs missing all) x y (expr_is receiver m s Receiver) (exprs_are all m s (Passed selector) (Passed selector)))
     expr_is (SendSuper at part super_at selector all) m s need =
-        quiet (broken_exprs missing all) (arguments m s ANumber ANumber all) (value m s need (SendSuper at part super_at selector all)) refl (exprs_are all m s ANumber ANumber)
+        quiet (broken_exprs missing all) (arguments m s (Passed selector) (Passed selector) all) (value m s need (SendSuper at part super_at selector all)) refl (exprs_are all m s (Passed selector) (Passed selector))
 
     exprs_are : (all : ExprTrees) (m : Enclosing) (s : Scope) (one others : Need) → first (broken_exprs missing all) ≡ found (arguments m s one others all)
     exprs_are no_exprs m s one others = refl

@@ -11,6 +11,8 @@ pub mod Leasts
 pub mod Keeping
 pub mod Rules
 pub mod Parts
+pub mod Sorts
+pub mod Typed
 pub mod Tables
 pub mod FieldLists
 pub mod Runnings

@@ -13,6 +13,7 @@ use Rattle.arc_ast.specs.Tree.{MethodTree, FieldTree, InterfaceTree, Implementat
 use Rattle.arc_spec.specs.declared.class.Method.{Method}
 use Rattle.arc_spec.specs.Classes.{Class}
 use Rattle.arc_class.specs.declared.heads.Heads.{Heads}
+use Rattle.arc_class.specs.declared.sort_counts.SortCounts.{SortCounts}
 use Rattle.arc_class.specs.Classes.{first_head, heads, result_of, defined_by, class_number}
 use Rattle.arc_class.specs.Entries.{EntryTree, entry_tree, root_entry, class_entry}
 use Rattle.arc_class.specs.Fields.{fields_by, implemented_before}
@@ -102,10 +103,10 @@ entry_is u i superclass methods e h =
 pub root_is : (methods : Heads) → ((sign : Sign) (selector : List ℕ) → head_at methods sign selector ≡ None) → entry_tree (record { superclass = None; methods = methods }) ≡ root_entry
 root_is methods h = ap (entry_of None) (fun_ext (λ sign. fun_ext (λ selector. ap (option_map (λ h. result_of (head_tree h.now))) (h sign selector))))
 
-abbrev class_made : Option ℕ → List Method → Option ℕ → ℕ → Class
-class_made superclass methods dealloc fields = record { superclass = superclass; methods = methods; dealloc = dealloc; fields = fields }
+abbrev class_made : Option ℕ → List Method → Option ℕ → SortCounts → Class
+class_made superclass methods dealloc fields = record { superclass = superclass; methods = methods; dealloc = dealloc; fields = fields.numbers; strong_fields = fields.objects }
 
-pub class_is : (u : UnitTree) (fields : ℕ) (i : InterfaceTree) (superclass : Option ℕ) (methods : List Method) (dealloc : Option ℕ) → superclass ≡ class_number u.interfaces i.superclass
+pub class_is : (u : UnitTree) (fields : SortCounts) (i : InterfaceTree) (superclass : Option ℕ) (methods : List Method) (dealloc : Option ℕ) → superclass ≡ class_number u.interfaces i.superclass
     → methods ≡ option_map_or (λ p. methods_from u p.0 (p.1).methods) (implementation_of u i) [] → dealloc ≡ option_and_then (λ p. dealloc_from p.0 (p.1).methods) (implementation_of u i) → class_made superclass methods dealloc fields ≡ class_with u fields i
 class_is u fields i superclass methods dealloc e h d =
     ap (λ s. class_made s methods dealloc fields) e ∙ ap (λ ms. class_made (class_number u.interfaces i.superclass) ms dealloc fields) h

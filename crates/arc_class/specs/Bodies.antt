@@ -1,11 +1,11 @@
 -- The rules for the bodies of a source: names of variables, classes of types, and calls of functions that have no body. Each is a predicate on a site: the
 -- place at which the site breaks it, if it does.
-use Rattle.std.specs.Prelude.{ℕ, Bool, false, List, ◌++◌, Option, None, is_none}
+use Rattle.std.specs.Prelude.{ℕ, Bool, false, List, ◌++◌, flat_map, Option, None, is_none}
 use Rattle.std.specs.List.{list_any}
 use Rattle.std.specs.Option.{option_map_or}
 use Rattle.std.specs.Str.{bytes_eq}
 use Rattle.arc_ast.specs.Tree as t
-use Rattle.arc_ast.specs.Tree.{TypeTree, Call, Cast, Variables, UnitTree}
+use Rattle.arc_ast.specs.Tree.{TypeTree, Call, Cast, Variables, ParameterTree, FieldTree, UnitTree}
 use Rattle.arc_sites.specs.Finding.{violations_of}
 use Rattle.arc_sites.specs.Sites.{Around, Bound, Node, Value, Statement, Variable, Parameter, unit_sites}
 use Rattle.arc_sites.specs.Violations.{at_if, violates}
@@ -27,6 +27,16 @@ rule_21 s _ = None
 abbrev pub unknown_class : UnitTree → TypeTree → Option ℕ
 unknown_class u (t.Object at name) = at_if (is_none (class_number u.interfaces name)) at
 unknown_class u _ = None
+
+abbrev pub broken_type : UnitTree → TypeTree → List Broken
+broken_type u type = violates 22 (unknown_class u type)
+
+-- the same of the types of parameters, and of fields
+abbrev pub broken_parameter_types : UnitTree → List ParameterTree → List Broken
+broken_parameter_types u = flat_map (λ p. broken_type u p.type)
+
+abbrev pub broken_field_types : UnitTree → List FieldTree → List Broken
+broken_field_types u = flat_map (λ f. broken_type u f.type)
 
 abbrev pub rule_22 : UnitTree → Node → Option ℕ
 rule_22 u (Value (Cast at type a)) = unknown_class u type

@@ -9,8 +9,9 @@ use Rattle.arc_ast.specs.declared.tree.Kind.TheVariants as k
 use Rattle.arc_ast.specs.declared.tree.Sign.{Sign}
 use Rattle.arc_ast.specs.declared.tree.Sign.TheVariants as signs
 use Rattle.arc_ast.specs.Tree.{FunctionTree, GlobalTree, HeadTree, MethodTree, FieldTree, InterfaceTree, ImplementationTree, UnitTree}
+use Rattle.arc_sites.specs.Sites.{named_parameters}
 use Rattle.arc_spec.specs.Classes.{same_sign, ancestry}
-use Rattle.arc_class.specs.Bodies.{broken_bodies}
+use Rattle.arc_class.specs.Bodies.{broken_bodies, broken_type, broken_parameter_types, broken_field_types}
 use Rattle.arc_class.specs.Broken.{Broken, broken_if}
 use Rattle.arc_class.specs.Classes.{is_root, interface_number, class_number, superclasses, first_head, result_of, built_in_result, or_else, declared, defined}
 use Rattle.arc_class.specs.Fields.{own_fields, fields_declared, fields}
@@ -63,8 +64,9 @@ is_hook_of sign selector = if same_sign sign signs.Class then is_class_hook sele
 abbrev pub is_hook : HeadTree → Bool
 is_hook h = is_hook_of h.sign h.selector || bytes_eq h.selector (codes "class")
 
+-- 22 UnknownClass too, in the types of its parameters
 abbrev pub broken_head : UnitTree → HeadTree → List Broken
-broken_head u h = broken_if (changes_kind u h) h.at 24 ++ broken_if (is_hook h) h.at 28
+broken_head u h = broken_if (changes_kind u h) h.at 24 ++ (broken_if (is_hook h) h.at 28 ++ broken_parameter_types u h.parameters)
 
 -- 21 Duplicate: a second method of one implementation of a sign with a selector, at its `+` or `-`; `before` are those before it (this project's own choice)
 abbrev pub broken_method : UnitTree → (before : List HeadTree) → HeadTree → List Broken
@@ -105,7 +107,7 @@ stands_before f at = option_map_or (λ f. nat_lt f.at at) f false
 -- 21 Duplicate: an interface of the root, of a name of the library's, of an earlier interface's class or of the name of an earlier function or
 -- global variable, at its name (this project's own choice)
 abbrev pub is_taken : UnitTree → (before : List InterfaceTree) → InterfaceTree → Bool
-is_taken u before i = is_root i.name || (is_library i.name || (is_some (interface_number before i.name) || (stands_before (first_named i.name u.functions) i.at || variable_before (known_global u.globals i.name) i.at)))
+is_taken u before i = is_root i.name || (is_library i.name || (is_some (interface_number before i.name) || (stands_before (first_named i.name u.functions) i.at || variable_before (known_global u.interfaces u.globals i.name) i.at)))
 
 -- the first implementation with a name is there
 abbrev pub is_implemented : List ImplementationTree → List ℕ → Bool
@@ -120,9 +122,11 @@ broken_names u before i = (broken_if (is_taken u before i) i.at 21 ++ broken_if 
 abbrev pub broken_own_fields : UnitTree → (class : ℕ) → InterfaceTree → List Broken
 broken_own_fields u class i = broken_fields u (class_number u.interfaces i.superclass) (fields_declared u class i) (fields_declared u class i)
 
--- 27 TooManyFields: a class whose objects have more fields than this, at its interface's name (this project's own limit)
+-- 27 TooManyFields: a class whose objects have more fields than this, of both sorts together, at its interface's name (this project's own limit). 22 UnknownClass:
+-- the type of a field of the interface.
 abbrev pub broken_members : UnitTree → (class : ℕ) → InterfaceTree → List Broken
-broken_members u class i = broken_if (nat_lt MOST_FIELDS (length (fields u class))) i.at 27 ++ (broken_own_fields u class i ++ flat_map (broken_head u) i.methods)
+broken_members u class i =
+    broken_if (nat_lt MOST_FIELDS (length (fields u class))) i.at 27 ++ (broken_own_fields u class i ++ (broken_field_types u i.fields ++ flat_map (broken_head u) i.methods))
 
 abbrev pub broken_interface : UnitTree → (before : List InterfaceTree) → InterfaceTree → List Broken
 broken_interface u before i = broken_names u before i ++ broken_members u (suc (length before)) i
@@ -137,9 +141,9 @@ abbrev pub broken_own_names : UnitTree → (before : List ImplementationTree) �
 broken_own_names u before i =
     broken_if (is_root i.name || is_implemented before i.name) i.at 21 ++ broken_if (is_none (class_number u.interfaces i.name)) i.at 22
 
--- the fields of an implementation are looked at with those of its class's interface (`broken_own_fields`)
+-- The names of an implementation's fields are looked at with those of its class's interface (`broken_own_fields`), and their types here: 22 UnknownClass.
 abbrev pub broken_implementation : UnitTree → (before : List ImplementationTree) → ImplementationTree → List Broken
-broken_implementation u before i = broken_own_names u before i ++ broken_methods u [] i.methods
+broken_implementation u before i = broken_own_names u before i ++ (broken_field_types u i.fields ++ broken_methods u [] i.methods)
 
 abbrev pub broken_implementations : UnitTree → (before : List ImplementationTree) → List ImplementationTree → List Broken
 broken_implementations u before [] = []
@@ -164,7 +168,7 @@ other_parameters first f = option_map_or (λ e. not (same_kinds (listed_kinds e)
 -- those of the first function of its name (C99, section 6.7.5.3), at its name
 abbrev pub clashes_with : List InterfaceTree → List GlobalTree → List FunctionTree → FunctionTree → Bool
 clashes_with interfaces globals functions f =
-    class_before interfaces f.name f.at || (variable_before (known_global globals f.name) f.at || other_parameters (first_named f.name functions) f)
+    class_before interfaces f.name f.at || (variable_before (known_global interfaces globals f.name) f.at || other_parameters (first_named f.name functions) f)
 
 abbrev pub clashing_functions : List InterfaceTree → List GlobalTree → (all : List FunctionTree) → List FunctionTree → List Broken
 clashing_functions interfaces globals all = flat_map (λ f. broken_if (clashes_with interfaces globals all f) f.at 21)
@@ -173,12 +177,21 @@ clashing_functions interfaces globals all = flat_map (λ f. broken_if (clashes_w
 -- section 6.7, paragraph 3; that a declaration without a first number may not stand again is this project's own choice)
 abbrev pub is_again : UnitTree → GlobalTree → Bool
 is_again u g = is_library g.name || (class_before u.interfaces g.name g.at
-    || (stands_before (first_named g.name u.functions) g.at || variable_before (known_global u.globals g.name) g.at))
+    || (stands_before (first_named g.name u.functions) g.at || variable_before (known_global u.interfaces u.globals g.name) g.at))
+
+-- and 22 UnknownClass, in its type
+abbrev pub broken_global : UnitTree → GlobalTree → List Broken
+broken_global u g = broken_if (is_again u g) g.at 21 ++ broken_type u g.type
 
 abbrev pub broken_globals : UnitTree → List GlobalTree → List Broken
-broken_globals u = flat_map (λ g. broken_if (is_again u g) g.at 21)
+broken_globals u = flat_map (broken_global u)
+
+-- 22 UnknownClass: in the types of the parameters of a function that is declared or defined
+abbrev pub broken_signatures : UnitTree → List FunctionTree → List Broken
+broken_signatures u = flat_map (λ f. broken_parameter_types u (named_parameters f.parameters))
 
 -- all that is wrong with what a source declares, and inside its functions and methods with names of variables, with types and with calls
 abbrev pub broken : UnitTree → List Broken
 broken u = (duplicates [] u.functions ++ (missing_main (number_of is_main u.functions) ++ broken_bodies u))
-    ++ (clashing_functions u.interfaces u.globals u.functions u.functions ++ (broken_globals u u.globals ++ (broken_interfaces u [] u.interfaces ++ broken_implementations u [] u.implementations)))
+    ++ (clashing_functions u.interfaces u.globals u.functions u.functions
+    ++ (broken_signatures u u.functions ++ (broken_globals u u.globals ++ (broken_interfaces u [] u.interfaces ++ broken_implementations u [] u.implementations))))

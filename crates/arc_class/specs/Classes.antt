@@ -8,7 +8,8 @@ use Rattle.arc_ast.specs.declared.tree.Kind.TheVariants as k
 use Rattle.arc_ast.specs.declared.tree.Sign.{Sign}
 use Rattle.arc_ast.specs.declared.tree.Sign.TheVariants as signs
 use Rattle.arc_ast.specs.Types.{result_kind}
-use Rattle.arc_ast.specs.Tree.{FunctionTree, HeadTree, MethodTree, InterfaceTree, ImplementationTree, UnitTree}
+use Rattle.arc_ast.specs.Tree.{TypeTree, Object, FunctionTree, HeadTree, MethodTree, InterfaceTree, ImplementationTree, UnitTree}
+use Rattle.arc_class.specs.declared.table.ClassId.{ClassId}
 use Rattle.arc_spec.specs.Classes.{same_sign, ancestry, first_that_has}
 pub use Rattle.arc_spec.specs.Classes.{or_else}
 use Rattle.arc_class.specs.Names.{has_body, parameter_kinds}
@@ -26,6 +27,11 @@ interface_number (i ∷ others) name = if bytes_eq name i.name then Some 0 else 
 -- a name.
 abbrev pub class_number : List InterfaceTree → List ℕ → Option ℕ
 class_number interfaces name = if is_root name then Some 0 else option_map (λ n. suc n) (interface_number interfaces name)
+
+-- the class that a type names, if it names one that has an interface or is the root
+abbrev pub type_class : List InterfaceTree → TypeTree → Option ClassId
+type_class interfaces (Object at name) = option_map (λ n. record { 0 = n }) (class_number interfaces name)
+type_class interfaces _ = None
 
 -- the number of the superclass of a class (OPL, "Inheritance")
 abbrev pub superclass : List InterfaceTree → (class : ℕ) → Option ℕ

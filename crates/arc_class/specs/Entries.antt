@@ -1,5 +1,5 @@
 -- What the entries of a table say of classes.
-use Rattle.std.specs.Prelude.{ℕ, suc, ◌+◌, List, [], ◌∷◌, ◌++◌, length, slice_get, Option, Some, None}
+use Rattle.std.specs.Prelude.{ℕ, suc, List, [], ◌∷◌, ◌++◌, slice_get, Option, Some, None}
 use Rattle.arc_ast.specs.declared.tree.Kind.{Kind}
 use Rattle.arc_ast.specs.declared.tree.Sign.{Sign}
 use Rattle.arc_ast.specs.Tree.{FieldTree, InterfaceTree, UnitTree, field_trees}
@@ -10,7 +10,9 @@ use Rattle.arc_class.specs.declared.table.Entry.{Entry}
 use Rattle.arc_class.specs.declared.table.FoundField.{FoundField}
 use Rattle.arc_class.specs.ClassRules.{field_place}
 use Rattle.arc_class.specs.Classes.{class_number, own_result, superclasses}
-use Rattle.arc_class.specs.Fields.{numbered, fields_declared, inherited_by, own_fields}
+use Rattle.arc_class.specs.declared.sort_counts.SortCounts.{SortCounts}
+use Rattle.arc_class.specs.Fields.{numbered, kinds_of_fields, written_kinds, fields_declared, inherited_by, own_fields}
+use Rattle.arc_class.specs.Sorts.{none_counted, with_all, counts}
 use Rattle.arc_class.specs.Lookups.{at_name, result_at, least_among}
 
 -- a class's superclass, and what its own methods give
@@ -32,30 +34,30 @@ class_entry u i = record { superclass = class_number u.interfaces i.superclass; 
 abbrev pub own_trees : OwnFields → List FieldTree
 own_trees own = field_trees own.earlier.now ++ field_trees own.later.now
 
--- a class's superclass, the place of its own first field with each name, its own fields, and how many its objects have
+-- a class's superclass, the place of its own first field with each name, its own fields, and how many its objects have of each sort
 pub record FieldsTree : Type 0 where
   pub superclass : Option ℕ
   pub places : List ℕ → Option ℕ
   pub named : List ℕ → Option FoundField
-  pub count : ℕ
+  pub counted : SortCounts
 
 abbrev pub fields_tree : ClassFields → FieldsTree
-fields_tree c = record { superclass = c.superclass; places = at_name c.places; named = at_name c.named; count = c.count }
+fields_tree c = record { superclass = c.superclass; places = at_name c.places; named = at_name c.named; counted = c.counted }
 
 abbrev pub root_fields : FieldsTree
-root_fields = record { superclass = None; places = λ name. None; named = λ name. None; count = 0 }
+root_fields = record { superclass = None; places = λ name. None; named = λ name. None; counted = none_counted }
 
 -- those of a class whose superclass has so many
-abbrev pub class_fields_with : UnitTree → (class inherited : ℕ) → InterfaceTree → FieldsTree
+abbrev pub class_fields_with : UnitTree → (class : ℕ) → (inherited : SortCounts) → InterfaceTree → FieldsTree
 class_fields_with u class inherited i = record {
   superclass = class_number u.interfaces i.superclass;
   places = λ name. field_place name (fields_declared u class i);
-  named = numbered class inherited (fields_declared u class i);
-  count = inherited + length (fields_declared u class i);
+  named = numbered u.interfaces class inherited (fields_declared u class i);
+  counted = with_all inherited (written_kinds (fields_declared u class i));
 }
 
 abbrev pub class_fields : UnitTree → (class : ℕ) → InterfaceTree → FieldsTree
-class_fields u class i = class_fields_with u class (length (inherited_by u class (class_number u.interfaces i.superclass))) i
+class_fields u class i = class_fields_with u class (counts (kinds_of_fields (inherited_by u class (class_number u.interfaces i.superclass)))) i
 
 abbrev pub class_fields_from : UnitTree → (class : ℕ) → List InterfaceTree → List FieldsTree
 class_fields_from u class [] = []
@@ -65,14 +67,14 @@ class_fields_from u class (i ∷ others) = class_fields u class i ∷ class_fiel
 abbrev pub all_class_fields : UnitTree → List FieldsTree
 all_class_fields u = root_fields ∷ class_fields_from u 1 u.interfaces
 
--- how many fields the objects of a class have, and 0 where there is no such class yet
-abbrev pub count_at : Option ClassFields → ℕ
-count_at None = 0
-count_at (Some c) = c.count
+-- how many fields the objects of a class have of each sort, and none where there is no such class yet
+abbrev pub counted_at : Option ClassFields → SortCounts
+counted_at None = none_counted
+counted_at (Some c) = c.counted
 
-abbrev pub count_among : List ClassFields → Option ℕ → ℕ
-count_among classes None = 0
-count_among classes (Some class) = count_at (slice_get classes class)
+abbrev pub counted_among : List ClassFields → Option ℕ → SortCounts
+counted_among classes None = none_counted
+counted_among classes (Some class) = counted_at (slice_get classes class)
 
 -- the first by position of the fields with a name that a class and those above it declare, in a source
 abbrev pub inherited_place : UnitTree → (above : Option ℕ) → List ℕ → Option ℕ

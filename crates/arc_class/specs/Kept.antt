@@ -48,7 +48,7 @@ implemented_in kept name = option_map implemented_tree (at_name kept name)
 pub record Knows (u : UnitTree) (source : Source) : Type 0 where
   pub knows : (name : List ℕ) → at_name source.known name ≡ known u.functions name
   pub first_functions : (name : List ℕ) → function_kept source.functions name ≡ first_named name u.functions
-  pub globals : (name : List ℕ) → at_name source.globals name ≡ known_global u.globals name
+  pub globals : (name : List ℕ) → at_name source.globals name ≡ known_global u.interfaces u.globals name
   pub class_places : (name : List ℕ) → at_name source.names name ≡ places 1 u.interfaces name
   pub implementations : (name : List ℕ) → implemented_in source.implemented name ≡ implemented (bodies u.functions) u.implementations name
   pub counts : source.function_count ≡ function_count u

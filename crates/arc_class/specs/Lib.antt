@@ -1,5 +1,6 @@
 pub mod Broken
 pub mod Names
+pub mod Sorts
 pub mod Bodies
 pub mod Functions
 pub mod Globals

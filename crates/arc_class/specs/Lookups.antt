@@ -1,5 +1,5 @@
 -- What tables, maps and lists have at names and numbers.
-use Rattle.std.specs.Prelude.{ℕ, zero, suc, ◌+◌, Bool, false, List, [], ◌∷◌, map, slice_get, nat_eq, nat_lt, codes, Option, Some, None, option_map, Vec, if◌then◌else◌}
+use Rattle.std.specs.Prelude.{ℕ, zero, suc, ◌+◌, Bool, false, List, [], ◌∷◌, map, slice_get, nat_lt, codes, Option, Some, None, option_map, Vec, if◌then◌else◌}
 use Rattle.std.specs.Global.{Global}
 use Rattle.std.specs.Str.{bytes_eq}
 use Rattle.std.specs.BTreeMap.{BTreeMap, get_by}
@@ -10,7 +10,7 @@ use Rattle.arc_ast.specs.declared.tree.Kind.{Kind}
 use Rattle.arc_ast.specs.declared.tree.MethodHead.{MethodHead}
 use Rattle.arc_ast.specs.declared.tree.Sign.{Sign}
 use Rattle.arc_ast.specs.declared.tree.Sign.TheVariants as signs
-use Rattle.arc_ast.specs.Tree.{head_tree}
+use Rattle.arc_ast.specs.Tree.{TypeTree, Object, head_tree}
 use Rattle.arc_spec.specs.Classes.{Class, superclasses, ancestry, first_that_has, own_dealloc}
 use Rattle.arc_class.specs.declared.fields.ClassFields.{ClassFields}
 use Rattle.arc_class.specs.declared.heads.Heads.{Heads}
@@ -43,6 +43,11 @@ at_name map name = get_by (λ key. slice_cmp nat_cmp name key.now) map
 -- the number of the class with a name, by a map from the names of interfaces
 abbrev pub class_number_in : BTreeMap (Bor (List ℕ)) Place → List ℕ → Option ℕ
 class_number_in names name = if is_root name then Some 0 else option_map (λ p. p.number) (at_name names name)
+
+-- the class that a type names, by such a map
+abbrev pub type_class_in : BTreeMap (Bor (List ℕ)) Place → TypeTree → Option ClassId
+type_class_in names (Object at name) = option_map (λ n. record { 0 = n }) (class_number_in names name)
+type_class_in names _ = None
 
 -- the method of a sign that maps have at a selector
 abbrev pub head_at : Heads → Sign → List ℕ → Option (Bor MethodHead)
@@ -123,11 +128,6 @@ list_at (Some all) = list_of all
 abbrev pub list_among : List (Vec Field Global) → Option ℕ → List ClassField
 list_among lists None = []
 list_among lists (Some class) = list_at (slice_get lists class)
-
--- how many arguments a selector takes: one for each of its colons (OPL, "Objects, Classes, and Messaging")
-abbrev pub colons : List ℕ → ℕ
-colons [] = 0
-colons (b ∷ others) = if nat_eq b 58 then suc (colons others) else colons others
 
 -- the function that the nearest `dealloc` runs of a class and those above it
 abbrev pub nearest_dealloc : List Class → Option ℕ → Option ℕ

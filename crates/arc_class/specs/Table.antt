@@ -1,5 +1,5 @@
 -- What a table of a source is.
-pub use Rattle.arc_class.specs.Lookups.{number_of_class, number_of_selector, number_of_method, at_name, class_number_in, head_at, result_at, own_result_in, superclass_among, superclass_of_entry, result_among, own_field_in, own_place_in, superclass_of_fields, field_among, place_among, field_tree, list_of, items_at, list_at, list_among, colons, nearest_dealloc, ends_object, built_in_at, names_of, built_in_from}
+pub use Rattle.arc_class.specs.Lookups.{number_of_class, number_of_selector, number_of_method, at_name, class_number_in, type_class_in, head_at, result_at, own_result_in, superclass_among, superclass_of_entry, result_among, own_field_in, own_place_in, superclass_of_fields, field_among, place_among, field_tree, list_of, items_at, list_at, list_among, nearest_dealloc, ends_object, built_in_at, names_of, built_in_from}
 use Rattle.std.specs.Prelude.{◌≡◌, ℕ, List, [], position, slice_get, Option, Some, None, if◌then◌else◌}
 use Rattle.std.specs.Option.{option_map_or}
 use Rattle.std.specs.Str.{bytes_eq}
@@ -10,6 +10,7 @@ use Rattle.arc_ast.specs.declared.tree.Sign.TheVariants as signs
 use Rattle.arc_ast.specs.Tree.{UnitTree}
 use Rattle.arc_spec.specs.Classes.{classes_of, lookup, descends}
 use Rattle.arc_class.specs.declared.owners.Owners.{Owners}
+use Rattle.arc_class.specs.declared.sort_counts.SortCounts.{SortCounts}
 use Rattle.arc_class.specs.declared.table.ClassTable.{ClassTable}
 use Rattle.arc_class.specs.declared.table.Declared.{Declared}
 use Rattle.arc_class.specs.declared.table.FoundField.{FoundField}
@@ -20,6 +21,7 @@ use Rattle.arc_class.specs.Fields.{ClassField, fields, known_field}
 use Rattle.arc_class.specs.Globals.{known_global}
 use Rattle.arc_class.specs.Names.{known, parameter_kinds, listed_kinds, kinds_of_parameters, number_of, is_main}
 use Rattle.arc_class.specs.Running.{classes}
+use Rattle.arc_class.specs.Sorts.{counts}
 
 -- what a table knows of the functions of a name
 abbrev pub function_in : ClassTable → List ℕ → Option Declared
@@ -79,10 +81,13 @@ selector_name table number = name_at (slice_get table.selectors.keys number)
 
 -- The method that a message with a selector finds, from a class up to the root, and there a built-in one (OPL, "How Messaging Works"). A `dealloc` is found as
 -- the others are.
+abbrev pub look_up_passing : ClassTable → (class : ℕ) → Sign → (selector : ℕ) → SortCounts → Option ℕ
+look_up_passing table class sign selector passed = lookup (classes_of table.classes.items) (Some class) sign selector passed.numbers passed.objects
+
 abbrev pub defined_in : ClassTable → (class : ℕ) → Sign → (selector : ℕ) → Option ℕ
 defined_in table class sign selector =
     if ends_object sign (selector_name table selector) then nearest_dealloc (classes_of table.classes.items) (Some class)
-    else lookup (classes_of table.classes.items) (Some class) sign selector (colons (selector_name table selector))
+    else look_up_passing table class sign selector (counts (passed_in table sign (selector_name table selector)))
 
 abbrev pub built_in_method : ClassTable → (class : ℕ) → Sign → (selector : ℕ) → Option ℕ
 built_in_method table class sign selector =
@@ -124,7 +129,7 @@ pub record Registers (old : ClassTable) (name : List ℕ) (new : ClassTable) (nu
 -- The table is one of a source: it knows what is known of each function's and each global variable's name, which function is `main`, and the classes, their methods, their fields and the selectors.
 pub record IsTableOf (u : UnitTree) (table : ClassTable) : Type 0 where
   pub knows : (name : List ℕ) → function_in table name ≡ known u.functions name
-  pub globals : (name : List ℕ) → global_in table name ≡ known_global u.globals name
+  pub globals : (name : List ℕ) → global_in table name ≡ known_global u.interfaces u.globals name
   pub parameters : (name : List ℕ) → parameters_in table name ≡ kinds_of_parameters u.functions name
   pub passed : (sign : Sign) (selector : List ℕ) → passed_in table sign selector ≡ kinds_passed u sign selector
   pub main : number_of is_main u.functions ≡ Some table.main

@@ -13,14 +13,13 @@ ghost use Rattle.arc_class.specs.Running as running;
 ghost use Rattle.arc_class.specs.Running.{method_made, with_method, methods_from, dealloc_from, class_with};
 ghost use Rattle.arc_class.specs.Table.{names_of, list_of, built_in_from};
 
-use crate::fields::{ClassFields, count_among};
+use crate::fields::{ClassFields, counted_among};
 use crate::heads::Heads;
 use crate::kept::Source;
 use crate::root::BuiltIn;
+use crate::sort_counts::{SortCounts, parameter_counts};
 use crate::table::{Entry, Field, at_name, class_number};
-use arc_ast::tree::{
-    Implementation, Interface, Method, MethodHead, Parameter, Sign, TranslationUnit,
-};
+use arc_ast::tree::{Implementation, Interface, Method, MethodHead, Sign, TranslationUnit};
 use arc_fault::class::ClassFault;
 use arc_spec::class;
 use arc_spec::class::Class;
@@ -149,11 +148,12 @@ fn is_dealloc(head: &MethodHead) -> bool
 fn method_of<'a>(selectors: &Selectors<'a>, runs: usize, head: &'a MethodHead) -> class::Method
     ensures { result ≡ method_made (names_of selectors.now.keys) runs (head_tree head.now) }
 {
-    let parameters: &[Parameter] = &head.parameters;
+    let passed = parameter_counts(&head.parameters);
     class::Method {
         sign: head.sign,
         selector: selector_number(selectors, &head.selector),
-        takes: parameters.len(),
+        takes: passed.numbers,
+        objects: passed.objects,
         runs,
     }
 }
@@ -278,13 +278,13 @@ impl<'a> Source<'a> {
         Ok(entries)
     }
 
-    /// The interface's class as a running program knows it, whose objects have so many fields.
+    /// The interface's class as a running program knows it, whose objects have so many fields of each sort.
     /// Memory: there was none, or so many methods have no numbers.
     fn class_of(
         &self,
         alloc: Global,
         selectors: &Selectors<'a>,
-        fields: usize,
+        fields: SortCounts,
         interface: &'a Interface,
     ) -> Result<Class, ClassFault>
         requires knows { Knows (unit_tree self.now.unit.now) self.now }
@@ -299,7 +299,8 @@ impl<'a> Source<'a> {
                 superclass,
                 methods,
                 dealloc: None,
-                fields,
+                fields: fields.numbers,
+                strong_fields: fields.objects,
             });
         };
         let all: &'a [Method] = &own.implementation.methods;
@@ -309,7 +310,8 @@ impl<'a> Source<'a> {
             superclass,
             methods,
             dealloc,
-            fields,
+            fields: fields.numbers,
+            strong_fields: fields.objects,
         })
     }
 
@@ -333,12 +335,13 @@ impl<'a> Source<'a> {
             methods: Vec::new(alloc),
             dealloc: None,
             fields: 0,
+            strong_fields: 0,
         })?;
         let mut number = 0;
         for interface in &self.unit.interfaces {
             number += 1;
-            let count = count_among(fields, Some(number));
-            let class = self.class_of(alloc, selectors, count, interface)?;
+            let counted = counted_among(fields, Some(number));
+            let class = self.class_of(alloc, selectors, counted, interface)?;
             classes.push(class)?;
         }
         Ok(classes)

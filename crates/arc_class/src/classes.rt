@@ -3,7 +3,7 @@ ghost use Rattle.std.specs.Prelude.{◌≡◌, ◌≤◌, ◌||◌, List, ℕ, [
 ghost use Rattle.arc_ast.specs.Tree.{InterfaceTree, ImplementationTree, unit_tree, function_tree, global_tree, interface_tree, implementation_tree};
 ghost use Rattle.arc_class.specs.Broken.{first};
 ghost use Rattle.arc_class.specs.ClassRules as rules;
-ghost use Rattle.arc_class.specs.ClassRules.{broken_names, broken_members, broken_interfaces, broken_own_names, broken_own_fields, broken_implementations, clashing_functions, broken_globals};
+ghost use Rattle.arc_class.specs.ClassRules.{broken_names, broken_members, broken_interfaces, broken_own_names, broken_own_fields, broken_implementation, broken_implementations, clashing_functions, broken_signatures, broken_global, broken_globals};
 ghost use Rattle.arc_class.specs.Classes as classes;
 ghost use Rattle.arc_class.specs.Classes.{interface_number};
 ghost use Rattle.arc_class.specs.Entries.{fields_tree, all_class_fields};
@@ -14,11 +14,12 @@ ghost use Rattle.arc_class.specs.Owners.{TellsFields};
 ghost use Rattle.arc_class.specs.Walk.{holds};
 
 use crate::fault::fault_if;
-use crate::fields::{ClassFields, count_among, field_places, fields_fault};
+use crate::fields::{ClassFields, counted_among, field_places, fields_fault};
 use crate::kept::Source;
 use crate::look::{is_library, listed, same_parameters};
 use crate::owners::Owners;
 use crate::table::{Place, Variable, at_name, class_number, is_root};
+use crate::types::{field_types_fault, missing_class, parameter_types_fault};
 use crate::walk::{Scope, stands};
 use arc_ast::tree;
 use arc_ast::tree::{Function, Implementation, Interface};
@@ -122,15 +123,36 @@ impl<'a> Source<'a> {
             || variable_before(at_name(&self.globals, name), global.at)
     }
 
-    /// The first global variable whose name stands already.
+    /// The first rule that a global variable breaks.
+    fn global_fault(&self, global: &'a tree::Global) -> Option<ClassFault>
+        requires { Knows (unit_tree self.now.unit.now) self.now }
+        ensures { option_map told result ≡ first (broken_global (unit_tree self.now.unit.now) (global_tree global.now)) }
+    {
+        let again = fault_if(self.is_again(global), ClassFault::Duplicate(global.at));
+        earlier(again, missing_class(self, &global.type_name))
+    }
+
+    /// The first rule that the global variables break.
     fn globals_fault(&self) -> Option<ClassFault>
         requires { Knows (unit_tree self.now.unit.now) self.now }
         ensures { option_map told result ≡ first (broken_globals (unit_tree self.now.unit.now) (unit_tree self.now.unit.now).globals) }
     {
         let mut fault = None;
         for global in &self.unit.globals {
-            let again = self.is_again(global);
-            fault = earlier(fault, fault_if(again, ClassFault::Duplicate(global.at)));
+            fault = earlier(fault, self.global_fault(global));
+        }
+        fault
+    }
+
+    /// The first class that a function's parameters name and that the source doesn't have.
+    fn signatures_fault(&self) -> Option<ClassFault>
+        requires { Knows (unit_tree self.now.unit.now) self.now }
+        ensures { option_map told result ≡ first (broken_signatures (unit_tree self.now.unit.now) (unit_tree self.now.unit.now).functions) }
+    {
+        let mut fault = None;
+        for function in &self.unit.functions {
+            let own = parameter_types_fault(self, listed(&function.parameters));
+            fault = earlier(fault, own);
         }
         fault
     }
@@ -203,11 +225,12 @@ impl<'a> Source<'a> {
         requires there { class ≤ length (unit_tree self.now.unit.now).interfaces }
         ensures { IfOk result (λ fault. option_map told fault ≡ first (broken_members (unit_tree self.now.unit.now) class (interface_tree interface.now))) }
     {
-        let many = count_among(fields, Some(class)) > MOST_FIELDS;
+        let many = counted_among(fields, Some(class)).is_above(MOST_FIELDS);
         let many = fault_if(many, ClassFault::TooManyFields(interface.at));
         let again = self.own_fields_fault(alloc, fields, owners, class, interface)?;
-        let inside = earlier(again, self.heads_fault(&interface.methods));
-        Ok(earlier(many, inside))
+        let types = field_types_fault(self, &interface.fields);
+        let inside = earlier(types, self.heads_fault(&interface.methods));
+        Ok(earlier(many, earlier(again, inside)))
     }
 
     /// The first rule that the interfaces break.
@@ -253,6 +276,23 @@ impl<'a> Source<'a> {
         )
     }
 
+    /// The first rule that an implementation breaks, after those whose names stand in `before`.
+    fn implementation_fault(
+        &self,
+        alloc: Global,
+        before: &Scope<'a>,
+        implementation: &'a Implementation,
+    ) -> Result<Option<ClassFault>, AllocError>
+        requires { Knows (unit_tree self.now.unit.now) self.now }
+        ensures { (earlier : List ImplementationTree) → ((name : List ℕ) → holds before.now name ≡ rules.is_implemented earlier name)
+            → IfOk result (λ fault. option_map told fault ≡ first (broken_implementation (unit_tree self.now.unit.now) earlier (implementation_tree implementation.now))) }
+    {
+        let names = self.own_names_fault(before, implementation);
+        let types = field_types_fault(self, &implementation.fields);
+        let methods = self.methods_fault(alloc, &implementation.methods)?;
+        Ok(earlier(names, earlier(types, methods)))
+    }
+
     /// The first rule that the implementations break.
     fn implementations_fault(&self, alloc: Global) -> Result<Option<ClassFault>, AllocError>
         requires { Knows (unit_tree self.now.unit.now) self.now }
@@ -262,9 +302,8 @@ impl<'a> Source<'a> {
         let mut before = Scope::new(alloc);
         let mut fault = None;
         for implementation in &self.unit.implementations {
-            let names = self.own_names_fault(&before, implementation);
-            let methods = self.methods_fault(alloc, &implementation.methods)?;
-            fault = earlier(fault, earlier(names, methods));
+            let own = self.implementation_fault(alloc, &before, implementation)?;
+            fault = earlier(fault, own);
             before.insert(&implementation.name, ())?;
         }
         Ok(fault)
@@ -281,14 +320,16 @@ impl<'a> Source<'a> {
         requires fields { map fields_tree fields.now ≡ all_class_fields (unit_tree self.now.unit.now) }
         requires owners { TellsFields fields.now owners.now }
         ensures { IfOk result (λ fault. option_map told fault ≡ first (clashing_functions (unit_tree self.now.unit.now).interfaces (unit_tree self.now.unit.now).globals (unit_tree self.now.unit.now).functions (unit_tree self.now.unit.now).functions
+            ++ (broken_signatures (unit_tree self.now.unit.now) (unit_tree self.now.unit.now).functions
             ++ (broken_globals (unit_tree self.now.unit.now) (unit_tree self.now.unit.now).globals
             ++ (broken_interfaces (unit_tree self.now.unit.now) [] (unit_tree self.now.unit.now).interfaces
-            ++ broken_implementations (unit_tree self.now.unit.now) [] (unit_tree self.now.unit.now).implementations)))) }
+            ++ broken_implementations (unit_tree self.now.unit.now) [] (unit_tree self.now.unit.now).implementations))))) }
     {
         let interfaces = self.interfaces_fault(alloc, fields, owners)?;
         let implementations = self.implementations_fault(alloc)?;
         let inside = earlier(interfaces, implementations);
         let inside = earlier(self.globals_fault(), inside);
+        let inside = earlier(self.signatures_fault(), inside);
         Ok(earlier(self.functions_fault(), inside))
     }
 }

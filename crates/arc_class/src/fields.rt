@@ -1,26 +1,29 @@
 //! The fields of objects.
-ghost use Rattle.std.specs.Prelude.{◌≡◌, ℕ, List, ◌+◌, ◌++◌, length, map, option_map, slice_get, suc, IfOk, IfErr, OnOk};
-ghost use Rattle.arc_ast.specs.Tree.{UnitTree, FieldTree, unit_tree, interface_tree, field_trees};
+ghost use Rattle.std.specs.Prelude.{◌≡◌, ℕ, List, ◌++◌, length, map, option_map, slice_get, suc, IfOk, IfErr, OnOk};
+ghost use Rattle.arc_ast.specs.Tree.{UnitTree, FieldTree, InterfaceTree, unit_tree, interface_tree, field_tree as written_field, field_trees};
+ghost use Rattle.arc_ast.specs.Types.{type_kind};
 ghost use Rattle.arc_class.specs.Broken.{first};
-ghost use Rattle.arc_class.specs.Classes.{or_else};
+ghost use Rattle.arc_class.specs.Classes.{class_number, or_else};
 ghost use Rattle.arc_class.specs.ClassRules as rules;
 ghost use Rattle.arc_class.specs.ClassRules.{broken_field, broken_fields, broken_pair};
 ghost use Rattle.arc_fault.specs.declared.class.ClassFault.TheVariants.{Memory};
-ghost use Rattle.arc_class.specs.Entries.{own_trees, fields_tree, root_fields, all_class_fields, class_fields_with, count_among, inherited_place};
+ghost use Rattle.arc_class.specs.Entries.{own_trees, fields_tree, root_fields, all_class_fields, class_fields_with, counted_among, inherited_place};
 ghost use Rattle.arc_class.specs.Fault.{told};
 ghost use Rattle.arc_class.specs.Fields as specs;
-ghost use Rattle.arc_class.specs.Fields.{numbered, owned, fields_declared, all_fields_from};
+ghost use Rattle.arc_class.specs.Fields.{numbered, field_after, written_kinds, held_by, owned, fields_declared, all_fields_from};
 ghost use Rattle.arc_class.specs.Kept.{Knows};
-ghost use Rattle.arc_class.specs.Lookups.{at_name, own_field_in, own_place_in, field_among, place_among, field_tree, list_of, list_among, number_of_class, least_of};
+ghost use Rattle.arc_class.specs.Lookups.{at_name, class_number_in, own_field_in, own_place_in, field_among, place_among, field_tree, list_of, list_among, number_of_class, least_of};
 ghost use Rattle.arc_class.specs.Owners.{TellsFields};
+ghost use Rattle.arc_class.specs.Sorts.{with_all};
 
 use crate::fault::fault_if;
 use crate::heads::keep_first;
 use crate::kept::Source;
 use crate::owners::Owners;
-use crate::table::{ClassId, Field, FoundField, at_name, class_number};
+use crate::sort_counts::SortCounts;
+use crate::table::{ClassId, Field, FoundField, Names, at_name, class_number, type_class};
 use arc_ast::tree;
-use arc_ast::tree::Interface;
+use arc_ast::tree::{Interface, Kind, Qual};
 use arc_fault::class::ClassFault;
 use arc_sites::violation::earlier;
 use std::alloc::{AllocError, Global};
@@ -45,8 +48,8 @@ pub struct ClassFields<'a> {
     pub places: FieldPlaces<'a>,
     /// Its own fields.
     pub named: BTreeMap<&'a [u8], FoundField>,
-    /// How many fields its objects have, inherited ones too.
-    pub count: usize,
+    /// How many fields its objects have of each sort, inherited ones too.
+    pub counted: SortCounts,
 }
 
 /// Keeps the place of the first of the fields with each name.
@@ -73,47 +76,60 @@ pub fn field_places<'a>(alloc: Global, own: &OwnFields<'a>) -> Result<FieldPlace
     Ok(places)
 }
 
-/// Keeps the first of the fields with each name, which are numbered from this number on, and gives
-/// the number after them. Memory: there was none, or so many fields have no numbers.
-fn keep_fields<'a>(
-    named: &mut BTreeMap<&'a [u8], FoundField>,
+/// A field of the class after so many of each sort, where classes have these names.
+fn field_after<'a>(
+    names: &Names<'a>,
     owner: ClassId,
-    number: usize,
-    fields: &'a [tree::Field],
-) -> Result<usize, ClassFault>
-    ensures kept { OnOk result ((sought : List ℕ)
-        → at_name named.new sought ≡ or_else (at_name named.old sought) (numbered (number_of_class owner) number (field_trees fields.now) sought)) }
-    ensures counted { IfOk result (λ next. next ≡ number + length (field_trees fields.now)) }
-    ensures refused { IfErr result (λ fault. fault ≡ Memory) }
+    before: SortCounts,
+    field: &'a tree::Field,
+) -> FoundField
+    ensures field { (interfaces : List InterfaceTree) → ((sought : List ℕ) → class_number_in names.now sought ≡ class_number interfaces sought)
+        → result ≡ field_after interfaces (number_of_class owner) before (written_field field.now) }
+    ensures kind { result.kind ≡ type_kind (written_field field.now).type }
 {
-    let mut index = number;
-    for field in fields {
-        let held = field.type_name.kind();
-        let found = FoundField {
-            owner,
-            index,
-            kind: held,
-            visibility: field.visibility,
-        };
-        keep_first(named, &field.name, found)?;
-        if index == usize::MAX {
-            return Err(ClassFault::Memory);
-        }
-        index += 1;
+    let kind = field.type_name.kind();
+    FoundField {
+        owner,
+        index: before.next(kind),
+        kind,
+        class: type_class(names, &field.type_name),
+        visibility: field.visibility,
     }
-    Ok(index)
 }
 
-/// How many fields the objects of the class have, and 0 where there is no such class yet.
-pub fn count_among<'a>(classes: &[ClassFields<'a>], class: Option<usize>) -> usize
-    ensures { result ≡ count_among classes.now class }
+/// Keeps the first of the fields with each name, which come after so many of each sort, and gives how many there are then.
+/// Memory: there was none, or so many fields have no numbers.
+fn keep_fields<'a>(
+    names: &Names<'a>,
+    named: &mut BTreeMap<&'a [u8], FoundField>,
+    owner: ClassId,
+    before: SortCounts,
+    fields: &'a [tree::Field],
+) -> Result<SortCounts, ClassFault>
+    ensures kept { (interfaces : List InterfaceTree) → ((sought : List ℕ) → class_number_in names.now sought ≡ class_number interfaces sought) → OnOk result ((sought : List ℕ)
+        → at_name named.new sought ≡ or_else (at_name named.old sought) (numbered interfaces (number_of_class owner) before (field_trees fields.now) sought)) }
+    ensures counted { IfOk result (λ counted. counted ≡ with_all before (written_kinds (field_trees fields.now))) }
+    ensures refused { IfErr result (λ fault. fault ≡ Memory) }
+{
+    let mut counted = before;
+    for field in fields {
+        let found = field_after(names, owner, counted, field);
+        keep_first(named, &field.name, found)?;
+        counted = counted.with(found.kind)?;
+    }
+    Ok(counted)
+}
+
+/// How many fields the objects of the class have of each sort, and none where there is no such class yet.
+pub fn counted_among<'a>(classes: &[ClassFields<'a>], class: Option<usize>) -> SortCounts
+    ensures { result ≡ counted_among classes.now class }
 {
     let Some(number) = class else {
-        return 0;
+        return SortCounts::none();
     };
     match classes.get(number) {
-        None => 0,
-        Some(known) => known.count,
+        None => SortCounts::none(),
+        Some(known) => known.counted,
     }
 }
 
@@ -309,6 +325,16 @@ pub fn fields_fault<'a>(
     fault
 }
 
+/// How what has the kind holds an object, where nothing is written of it.
+fn held_by(kind: Kind) -> Option<Qual>
+    ensures { result ≡ held_by kind }
+{
+    match kind {
+        Kind::Object => Some(Qual::Strong),
+        Kind::Void | Kind::Bool | Kind::Int | Kind::Long => None,
+    }
+}
+
 /// Adds the fields that the class declares.
 fn add_fields<'a>(
     all: &mut Vec<Field<'a>>,
@@ -318,10 +344,11 @@ fn add_fields<'a>(
     ensures { OnOk result (map field_tree all.new.items ≡ map field_tree all.old.items ++ map (owned (number_of_class owner)) (field_trees fields.now)) }
 {
     for field in fields {
+        let kind = field.type_name.kind();
         all.push(Field {
             name: &field.name,
-            kind: field.type_name.kind(),
-            qual: None,
+            kind,
+            qual: held_by(kind),
             owner,
             visibility: field.visibility,
         })?;
@@ -354,7 +381,7 @@ fn root_fields<'a>(alloc: Global) -> ClassFields<'a>
         superclass: None,
         places: FieldPlaces::new(alloc),
         named: BTreeMap::new(alloc),
-        count: 0,
+        counted: SortCounts::none(),
     }
 }
 
@@ -414,12 +441,12 @@ impl<'a> Source<'a> {
     }
 
     /// What is known of the fields of the interface's class, which has this number, and whose
-    /// superclass has so many. Memory: there was none, or so many fields have no numbers.
+    /// superclass has so many of each sort. Memory: there was none, or so many fields have no numbers.
     fn fields_of(
         &self,
         alloc: Global,
         class: usize,
-        inherited: usize,
+        inherited: SortCounts,
         interface: &'a Interface,
     ) -> Result<ClassFields<'a>, ClassFault>
         requires { Knows (unit_tree self.now.unit.now) self.now }
@@ -431,13 +458,14 @@ impl<'a> Source<'a> {
         let own = self.own_fields(class, interface);
         let places = field_places(alloc, &own)?;
         let mut named = BTreeMap::new(alloc);
-        let next = keep_fields(&mut named, owner, inherited, own.earlier)?;
-        let count = keep_fields(&mut named, owner, next, own.later)?;
+        let names = &self.names;
+        let before = keep_fields(names, &mut named, owner, inherited, own.earlier)?;
+        let counted = keep_fields(names, &mut named, owner, before, own.later)?;
         Ok(ClassFields {
             superclass,
             places,
             named,
-            count,
+            counted,
         })
     }
 
@@ -454,7 +482,7 @@ impl<'a> Source<'a> {
         for interface in &self.unit.interfaces {
             class += 1;
             let superclass = class_number(&self.names, &interface.superclass);
-            let inherited = count_among(&all, superclass);
+            let inherited = counted_among(&all, superclass);
             let known = self.fields_of(alloc, class, inherited, interface)?;
             all.push(known)?;
         }

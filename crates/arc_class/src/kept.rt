@@ -1,19 +1,21 @@
 //! What is kept of the names of a source: the first that each of them is declared with.
 ghost use Rattle.std.specs.Prelude.{◌≡◌, ◌<◌, ℕ, List, IfOk, IfErr};
 ghost use Rattle.arc_ast.specs.declared.tree.Sign.{Sign};
-ghost use Rattle.arc_ast.specs.Tree.{unit_tree, function_trees, global_trees, interface_trees, implementation_trees};
+ghost use Rattle.arc_ast.specs.Tree.{InterfaceTree, unit_tree, function_trees, global_tree, global_trees, interface_trees, implementation_trees};
+ghost use Rattle.arc_ast.specs.Types.{type_kind};
 ghost use Rattle.arc_class.specs.Classes as classes;
-ghost use Rattle.arc_class.specs.Classes.{first_head, declared, defined};
+ghost use Rattle.arc_class.specs.Classes.{class_number, first_head, declared, defined};
 ghost use Rattle.arc_fault.specs.declared.class.ClassFault.TheVariants.{Memory};
-ghost use Rattle.arc_class.specs.Globals.{known_global};
+ghost use Rattle.arc_class.specs.Globals.{known_global, variable_after};
 ghost use Rattle.arc_class.specs.Kept.{head_in, function_kept, places, implemented_in, Knows};
 ghost use Rattle.arc_class.specs.Names as names;
 ghost use Rattle.arc_class.specs.Names.{first_named};
 ghost use Rattle.arc_class.specs.Running.{implemented};
-ghost use Rattle.arc_class.specs.Table.{at_name};
+ghost use Rattle.arc_class.specs.Table.{at_name, class_number_in};
 
 use crate::heads::{Heads, keep_first};
-use crate::table::{Known, Names, Place, Variable, Variables};
+use crate::sort_counts::SortCounts;
+use crate::table::{Known, Names, Place, Variable, Variables, type_class};
 use arc_ast::tree;
 use arc_ast::tree::{Function, Implementation, Interface, Method, TranslationUnit};
 use arc_fault::class::ClassFault;
@@ -90,23 +92,38 @@ fn first_functions<'a>(
     Ok(map)
 }
 
-/// The first global variable of each name.
+/// A global variable after so many of each sort.
+fn variable<'a>(names: &Names<'a>, before: SortCounts, global: &'a tree::Global) -> Variable
+    ensures variable { (interfaces : List InterfaceTree) → ((sought : List ℕ) → class_number_in names.now sought ≡ class_number interfaces sought)
+        → result ≡ variable_after interfaces before (global_tree global.now) }
+    ensures kind { result.kind ≡ type_kind (global_tree global.now).type }
+{
+    let kind = global.type_name.kind();
+    Variable {
+        number: before.next(kind),
+        kind,
+        class: type_class(names, &global.type_name),
+        at: global.at,
+    }
+}
+
+/// The first global variable of each name, where classes have these names. Memory: there was none for the map, or so many
+/// variables have no numbers.
 fn first_globals<'a>(
     alloc: Global,
+    names: &Names<'a>,
     globals: &'a [tree::Global],
-) -> Result<Variables<'a>, AllocError>
-    ensures { IfOk result (λ map. (sought : List ℕ) → at_name map sought ≡ known_global (global_trees globals.now) sought) }
+) -> Result<Variables<'a>, ClassFault>
+    ensures kept { (interfaces : List InterfaceTree) → ((sought : List ℕ) → class_number_in names.now sought ≡ class_number interfaces sought)
+        → IfOk result (λ map. (sought : List ℕ) → at_name map sought ≡ known_global interfaces (global_trees globals.now) sought) }
+    ensures refused { IfErr result (λ fault. fault ≡ Memory) }
 {
     let mut map = Variables::new(alloc);
-    let mut number = 0;
+    let mut before = SortCounts::none();
     for global in globals {
-        let variable = Variable {
-            number,
-            kind: global.type_name.kind(),
-            at: global.at,
-        };
+        let variable = variable(names, before, global);
         keep_first(&mut map, &global.name, variable)?;
-        number += 1;
+        before = before.with(variable.kind)?;
     }
     Ok(map)
 }
@@ -189,8 +206,8 @@ impl<'a> Source<'a> {
         ensures refused { IfErr result (λ fault. fault ≡ Memory) }
     {
         let functions = first_functions(alloc, &unit.functions)?;
-        let globals = first_globals(alloc, &unit.globals)?;
         let names = class_places(alloc, &unit.interfaces)?;
+        let globals = first_globals(alloc, &names, &unit.globals)?;
         let implemented = first_implementations(alloc, bodies, &unit.implementations)?;
         let function_count = numbers_after(bodies, &unit.implementations)?;
         let declared = declared_heads(alloc, &unit.interfaces)?;

@@ -14,5 +14,7 @@ mod nearest;
 mod numbered;
 mod owners;
 mod root;
+mod sort_counts;
 pub mod table;
+mod types;
 mod walk;

@@ -14,6 +14,7 @@ use crate::heads::Heads;
 use crate::kept::Source;
 use crate::look::{same_kind, same_parameters};
 use crate::root::built_in_result;
+use crate::types::parameter_types_fault;
 use arc_ast::tree::{Kind, Method, MethodHead, Sign};
 use arc_fault::class::ClassFault;
 use arc_sites::violation::earlier;
@@ -128,7 +129,8 @@ impl<'a> Source<'a> {
     {
         let kind = fault_if(self.changes_kind(head), ClassFault::SelectorKinds(head.at));
         let hook = fault_if(is_hook(head), ClassFault::HookMethod(head.at));
-        earlier(kind, hook)
+        let passed = parameter_types_fault(self, &head.parameters);
+        earlier(kind, earlier(hook, passed))
     }
 
     /// The first rule that an interface's methods break.

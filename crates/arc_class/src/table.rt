@@ -1,6 +1,6 @@
 //! The table that the later stages look names up in.
 ghost use Rattle.std.specs.Prelude.{◌≡◌, [], Some, map, option_map, slice_get, IfOk, IfErr, OnErr};
-ghost use Rattle.arc_ast.specs.Tree.{parameter_trees, unit_tree};
+ghost use Rattle.arc_ast.specs.Tree.{parameter_trees, type_tree, unit_tree};
 ghost use Rattle.arc_spec.specs.Classes.{classes_of};
 ghost use Rattle.arc_class.specs.Broken.{first};
 ghost use Rattle.arc_class.specs.Classes.{is_root};
@@ -13,7 +13,7 @@ ghost use Rattle.arc_class.specs.Kept.{Knows};
 ghost use Rattle.arc_class.specs.Names.{parameter_kinds, number_of, is_main};
 ghost use Rattle.arc_ast.specs.declared.tree.Sign.TheVariants as signs;
 ghost use Rattle.arc_class.specs.Classes.{or_else};
-ghost use Rattle.arc_class.specs.Lookups.{head_at, at_name, class_number_in, own_result_in, result_at, result_among, field_tree, items_at, ends_object, nearest_dealloc, colons, number_of_class, number_of_selector, number_of_method};
+ghost use Rattle.arc_class.specs.Lookups.{head_at, at_name, class_number_in, type_class_in, own_result_in, result_at, result_among, field_tree, items_at, ends_object, nearest_dealloc, number_of_class, number_of_selector, number_of_method};
 ghost use Rattle.arc_class.specs.Owners.{TellsMethods, TellsFields};
 ghost use Rattle.std.proofs.Props.{props};
 
@@ -25,8 +25,11 @@ use crate::look::{listed, look};
 use crate::nearest::{field_owners, method_owners};
 use crate::owners::Owners;
 use crate::root::{BuiltIn, built_in_result, counting_result};
+use crate::sort_counts::parameter_counts;
 use crate::walk::walk;
-use arc_ast::tree::{Kind, MethodHead, Parameter, Qual, Sign, TranslationUnit, Visibility};
+use arc_ast::tree::{
+    Kind, MethodHead, Parameter, Qual, Sign, TranslationUnit, TypeName, Visibility,
+};
 use arc_fault::class::ClassFault;
 use arc_sites::violation::earlier;
 use arc_spec::class::{Class, descends_from, look_up};
@@ -34,7 +37,7 @@ use arc_spec::event::NoMemory;
 use std::alloc::Global;
 use std::collections::BTreeMap;
 
-/// What a function gives, and how many numbers it takes: none at a count and the arguments' texts.
+/// What a function gives, and how many arguments it takes: none at a count and the arguments' texts.
 #[derive(Clone, Copy)]
 pub struct Signature {
     pub result: Kind,
@@ -66,11 +69,13 @@ pub struct Place {
     pub at: usize,
 }
 
-/// The first global variable of a name: its number, counted from 0, its kind, and the place of the name.
+/// The first global variable of a name: its number, counted from 0 among those of its sort, its kind, the class of a type
+/// that names one, and the place of the name.
 #[derive(Clone, Copy)]
 pub struct Variable {
     pub number: usize,
     pub kind: Kind,
+    pub class: Option<ClassId>,
     pub at: usize,
 }
 
@@ -100,6 +105,16 @@ pub(crate) fn class_number<'a>(names: &Names<'a>, name: &'a [u8]) -> Option<usiz
     }
 }
 
+/// The class that the type names, if it names one that the source has.
+pub(crate) fn type_class<'a>(names: &Names<'a>, written: &'a TypeName) -> Option<ClassId>
+    ensures { result ≡ type_class_in names.now (type_tree written.now) }
+{
+    match written {
+        TypeName::Bool | TypeName::Int | TypeName::Long | TypeName::Id => None,
+        TypeName::Object(_, name) => class_id(class_number(names, name)),
+    }
+}
+
 /// The fault of a source in which no function that a program can begin with has a body.
 fn missing_main(main: Option<usize>) -> Option<ClassFault>
     ensures { option_map told result ≡ first (missing_main main) }
@@ -108,19 +123,6 @@ fn missing_main(main: Option<usize>) -> Option<ClassFault>
         None => Some(ClassFault::NoMain),
         Some(_) => None,
     }
-}
-
-/// How many arguments a message takes whose selector has this name: as many as the name has colons.
-fn colons(name: &[u8]) -> usize
-    ensures { result ≡ colons name.now }
-{
-    let mut count = 0;
-    for byte in name {
-        if *byte == b':' {
-            count += 1;
-        }
-    }
-    count
 }
 
 /// A class of a table, by its number.
@@ -155,7 +157,7 @@ pub struct Sel(pub usize);
 #[derive(Clone, Copy, Debug, PartialEq, Eq)]
 pub struct MethodId(pub usize);
 
-/// A field of a class's objects, and the class that declares it. A number is held in no way.
+/// A field of a class's objects, how it holds an object, if it is one, and the class that declares it.
 #[derive(Clone, Copy)]
 pub struct Field<'a> {
     pub name: &'a [u8],
@@ -165,13 +167,14 @@ pub struct Field<'a> {
     pub visibility: Visibility,
 }
 
-/// A field that a name stands for: the class that declares it, and its number in the objects of
-/// that class and of those below it, counted from 0.
+/// A field that a name stands for: the class that declares it, its number in the objects of that
+/// class and of those below it, counted from 0 among those of its sort, and the class of a type that names one.
 #[derive(Clone, Copy)]
 pub struct FoundField {
     pub owner: ClassId,
     pub index: usize,
     pub kind: Kind,
+    pub class: Option<ClassId>,
     pub visibility: Visibility,
 }
 
@@ -464,7 +467,15 @@ impl<'a> ClassTable<'a> {
         if ends_object(sign, name) {
             return nearest_dealloc(&self.classes, Some(class.0));
         }
-        look_up(&self.classes, Some(class.0), sign, selector.0, colons(name))
+        let passed = parameter_counts(self.parameters_passed(sign, name));
+        look_up(
+            &self.classes,
+            Some(class.0),
+            sign,
+            selector.0,
+            passed.numbers,
+            passed.objects,
+        )
     }
 
     /// The function that a method of the root runs which a message with the selector finds, from the class up.

@@ -32,7 +32,7 @@ fn lacks_body<'a>(source: &Source<'a>, name: &'a [u8]) -> bool
 }
 
 /// The rule that a type breaks.
-fn type_fault<'a>(source: &Source<'a>, written: &'a TypeName) -> Option<ClassFault>
+pub fn type_fault<'a>(source: &Source<'a>, written: &'a TypeName) -> Option<ClassFault>
     ensures { option_map told result ≡ first (broken_type (missing_in source.now) (type_tree written.now)) }
 {
     match written {

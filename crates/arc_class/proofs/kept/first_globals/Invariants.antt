@@ -1,13 +1,11 @@
 use Rattle.std.proofs.Common.{◌≡◌, ℕ, List, drop}
-use Rattle.arc_ast.specs.Tree.{global_trees}
-use Rattle.arc_class.specs.Classes.{or_else}
+use Rattle.arc_ast.specs.Tree.{InterfaceTree, global_trees}
+use Rattle.arc_class.specs.Classes.{class_number, or_else}
 use Rattle.arc_class.specs.Globals.{known_global, variables}
-use Rattle.arc_class.specs.Table.{at_name}
+use Rattle.arc_class.specs.Table.{at_name, class_number_in}
 use Rattle.arc_class.proofs.kept.first_globals.Given as goal
 
 -- what is kept and what is first of the rest is first of all
 abbrev pub invariant-loop-global : goal.invariant-loop-global
-invariant-loop-global l = record {
-  counted : l.number ≡ l.global-index;
-  kept : (sought : List ℕ) → known_global (global_trees l.globals) sought ≡ or_else (at_name l.map sought) (variables l.number (global_trees (drop l.global-index l.globals)) sought);
-}
+invariant-loop-global l = (interfaces : List InterfaceTree) → ((sought : List ℕ) → class_number_in l.names sought ≡ class_number interfaces sought) → (sought : List ℕ)
+    → known_global interfaces (global_trees l.globals) sought ≡ or_else (at_name l.map sought) (variables interfaces l.before (global_trees (drop l.global-index l.globals)) sought)

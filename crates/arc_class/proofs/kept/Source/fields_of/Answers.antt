@@ -1,6 +1,6 @@
-use Rattle.std.proofs.Common.{ap, ◌∙◌}
+use Rattle.std.proofs.Common.{◌≡◌, ℕ, List, ap, ◌∙◌}
 use Rattle.arc_ast.specs.Tree.{unit_tree, interface_tree, field_trees}
-use Rattle.arc_class.specs.Classes.{or_else}
+use Rattle.arc_class.specs.Classes.{class_number, or_else}
 use Rattle.arc_class.specs.Fields.{numbered}
 use Rattle.arc_class.specs.Table.{class_number_in}
 use Rattle.arc_class.proofs.FieldLists.{fields_made}
@@ -18,10 +18,11 @@ returns-clause-known c =
     let own = c.own_fields-own.result in
     let xs = field_trees own.earlier.now in
     let ys = field_trees own.later.now in
-    let next = c.in_ok-next.next in
-    fields_made u class first next c.in_ok-count.count (interface_tree x) xs ys c.class_number-superclass.result c.in_ok-places.places c.keep_fields-2.new.named
+    let next = c.in_ok-before.before in
+    let names : (sought : List ℕ) → class_number_in source.names sought ≡ class_number u.interfaces sought = λ sought. class_number_kept source.names u.interfaces sought (c.requires.class_places sought) in
+    fields_made u class first next c.in_ok-counted.counted (interface_tree x) xs ys c.class_number-superclass.result c.in_ok-places.places c.keep_fields-2.new.named
     (c.class_number-superclass.ensures ∙ ap (class_number_in source.names) c.deref.ensures.value ∙ class_number_kept source.names u.interfaces x.superclass.items (c.requires.class_places x.superclass.items))
     c.own_fields-own.ensures c.in_ok-places.ensures
-    (λ name. c.in_ok-count.ensures.kept name ∙ ap (λ o. or_else o (numbered class next ys name)) (c.in_ok-next.ensures.kept name
-    ∙ ap (λ o. or_else o (numbered class first xs name)) (kept_none c.new-named.result name c.new-named.ensures.empty)))
-    c.in_ok-next.ensures.counted c.in_ok-count.ensures.counted
+    (λ name. c.in_ok-counted.ensures.kept u.interfaces names name ∙ ap (λ o. or_else o (numbered u.interfaces class next ys name)) (c.in_ok-before.ensures.kept u.interfaces names name
+    ∙ ap (λ o. or_else o (numbered u.interfaces class first xs name)) (kept_none c.new-named.result name c.new-named.ensures.empty)))
+    c.in_ok-before.ensures.counted c.in_ok-counted.ensures.counted

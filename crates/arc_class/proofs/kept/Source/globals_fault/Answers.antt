@@ -1,8 +1,5 @@
-use Rattle.std.proofs.Common.{◌≡◌, ◌<◌, length, get_or, option_map, subst, ap, ◌∙◌}
-use Rattle.arc_ast.specs.Tree.{unit_tree, global_tree}
-use Rattle.arc_class.specs.Broken.{broken_if, first}
-use Rattle.arc_class.specs.ClassRules.{is_again}
-use Rattle.arc_class.specs.Fault.{told}
+use Rattle.std.proofs.Common.{◌≡◌, ◌<◌, length, get_or, subst, ap, ◌∙◌}
+use Rattle.arc_ast.specs.Tree.{unit_tree}
 use Rattle.arc_class.proofs.Rules.{globals_turn}
 use Rattle.arc_class.proofs.kept.Source.globals_fault.Goals as goal
 
@@ -14,6 +11,4 @@ loop-global-preserved c =
     let x = c.global-item.result in
     let within : k < length xs = subst (λ us. k < length us) c.deref-global-items.ensures.value c.loop-global-test.true in
     let same : x ≡ get_or xs k x = c.global-item.is ∙ ap (λ us. get_or us k x) c.deref-global-items.ensures.value in
-    let one : option_map told c.fault_if.result ≡ first (broken_if (is_again u (global_tree x)) x.at 21) =
-    c.fault_if.ensures ∙ ap (λ b. first (broken_if b x.at 21)) c.is_again-again.ensures in
-    globals_turn u xs k x _ _ _ _ within same one c.earlier-fault.ensures c.loop-global.invariant
+    globals_turn u xs k x _ _ _ _ within same c.global_fault.ensures c.earlier-fault.ensures c.loop-global.invariant
