@@ -1,20 +1,19 @@
--- Methods behind functions, copies of classes, and what global variables hold first.
-use Rattle.std.proofs.Common.{◌≡◌, ℕ, ℤ, ◌+◌, ◌<◌, ◌≤◌, List, [], ◌∷◌, ◌++◌, length, get_or, drop, Option, append-nil, append_assoc, refl, sym, ap, ◌∙◌, map}
+-- Methods behind functions, and copies of classes.
+use Rattle.std.proofs.Common.{◌≡◌, ℕ, ◌+◌, ◌<◌, ◌≤◌, List, [], ◌∷◌, ◌++◌, length, get_or, drop, Option, append-nil, refl, sym, ap, ◌∙◌, map}
 use Rattle.std.specs.List.{flat_map}
-use Rattle.arc_ast.specs.declared.tree.Global.{Global}
 use Rattle.arc_ast.specs.declared.tree.Implementation.{Implementation}
 use Rattle.arc_ast.specs.declared.tree.Method.{Method}
 use Rattle.arc_ast.specs.declared.tree.Parameter.{Parameter}
 use Rattle.arc_ast.specs.declared.tree.Stmt.{Stmt}
 use Rattle.arc_ast.specs.Types.{result_kind}
-use Rattle.arc_ast.specs.Tree.{result_tree, parameter_trees, stmt_trees, global_tree, global_trees, method_trees, implementation_trees}
+use Rattle.arc_ast.specs.Tree.{result_tree, parameter_trees, stmt_trees, method_trees, implementation_trees}
 use Rattle.arc_spec.specs.declared.class.Class as declared
 use Rattle.arc_spec.specs.Classes.{Class, class_of, classes_of}
 use Rattle.arc_spec.specs.Resolved as resolved
 use Rattle.arc_check.specs.declared.checked.CheckedFunction.{CheckedFunction}
 use Rattle.arc_check.specs.private.Building.{function_of, functions_ahead}
 use Rattle.arc_check.specs.Checked as checked
-use Rattle.arc_check.specs.Resolving.{first_number, resolved_body, resolved_method, resolved_methods}
+use Rattle.arc_check.specs.Resolving.{resolved_body, resolved_method, resolved_methods}
 use Rattle.arc_check.specs.Scopes.{Known, Scope, with_parameters, in_method}
 use Rattle.arc_check.proofs.Commands.{functions_ahead-push}
 use Rattle.arc_check.proofs.Lists.{drop_turn, drop_end}
@@ -71,13 +70,3 @@ class_turn xs i x a old new whole l e h n w =
 
 pub class_end : (xs : List declared.Class) (i : ℕ) (all : List declared.Class) (whole : List Class) → length xs ≤ i → whole ≡ classes_of all ++ classes_of (drop i xs) → classes_of all ≡ whole
 class_end xs i all whole l w = sym (w ∙ ap (λ us. classes_of all ++ classes_of us) (drop_end xs i l) ∙ append-nil (classes_of all))
-
--- what one variable more holds
-pub number_turn : (xs : List Global) (i : ℕ) (x : Global) (n : ℤ) (old new whole : List ℤ) → i < length xs → x ≡ get_or xs i x → n ≡ first_number (global_tree x) → new ≡ old ++ n ∷ []
-    → whole ≡ old ++ map first_number (global_trees (drop i xs)) → whole ≡ new ++ map first_number (global_trees (drop (i + 1) xs))
-number_turn xs i x n old new whole l e h g w =
-    let rest = map first_number (global_trees (drop (i + 1) xs)) in
-    w ∙ ap (λ us. old ++ map first_number (global_trees us)) (drop_turn xs i x l e) ∙ ap (λ m. old ++ m ∷ rest) (sym h) ∙ sym (append_assoc old (n ∷ []) rest) ∙ ap (λ us. us ++ rest) (sym g)
-
-pub number_end : (xs : List Global) (i : ℕ) (all whole : List ℤ) → length xs ≤ i → whole ≡ all ++ map first_number (global_trees (drop i xs)) → all ≡ whole
-number_end xs i all whole l w = sym (w ∙ ap (λ us. all ++ map first_number (global_trees us)) (drop_end xs i l) ∙ append-nil all)

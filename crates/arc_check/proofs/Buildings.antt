@@ -8,46 +8,49 @@ use Rattle.arc_spec.specs.Resolved as resolved
 use Rattle.arc_check.specs.declared.checked.Piece.{Piece}
 use Rattle.arc_check.specs.declared.format.Begun.TheVariants.{Nothing}
 use Rattle.arc_check.specs.Formats.{parts, printed}
-use Rattle.arc_spec.specs.Resolved.{Values, no_values, and_value}
+use Rattle.arc_spec.specs.Resolved.{Arguments, no_arguments}
+use Rattle.arc_check.specs.declared.checked.Argument.{Argument}
 use Rattle.arc_check.specs.declared.checked.Value.{Value}
 use Rattle.arc_check.specs.Checked as checked
 use Rattle.arc_check.specs.private.Building.{Resolves, resolution, in_front, printing}
 use Rattle.arc_check.specs.declared.callee.Callee.{Callee}
 use Rattle.arc_check.specs.declared.resolution.Typed.{Typed}
 use Rattle.arc_check.specs.Resolving as resolving
-use Rattle.arc_check.specs.Resolving.{Gives, first_wanted, argument, wanted_by, called, resolved_all, text_of}
+use Rattle.arc_check.specs.Passing.{first_wanted, wanted_by}
+use Rattle.arc_check.specs.Resolving.{Gives, argument, called, resolved_all, text_of}
 use Rattle.arc_check.specs.Scopes.{Scope, callee, result_kind}
 use Rattle.arc_check.proofs.Lists.{drop_turn, drop_end}
 
-in_front-push : (all : List Value) (a : Value) (others : Values) → in_front (all ++ a ∷ []) others ≡ in_front all (and_value (checked.value a) others)
+in_front-push : (all : List Argument) (a : Argument) (others : Arguments) → in_front (all ++ a ∷ []) others ≡ in_front all (checked.and_argument a others)
 in_front-push [] a others = refl
-in_front-push (b ∷ all) a others = ap (and_value (checked.value b)) (in_front-push all a others)
+in_front-push (b ∷ all) a others = ap (checked.and_argument b) (in_front-push all a others)
 
-in_front-none : (all : List Value) → in_front all no_values ≡ checked.values all
+in_front-none : (all : List Argument) → in_front all no_arguments ≡ checked.arguments all
 in_front-none [] = refl
-in_front-none (b ∷ all) = ap (and_value (checked.value b)) (in_front-none all)
+in_front-none (b ∷ all) = ap (checked.and_argument b) (in_front-none all)
 
 -- one argument more
-pub values_turn : (s : Scope) (p q : Option (List Kind)) (xs : List Expr) (i : ℕ) (x : Expr) (old new : List Value) (a : Value) (whole : Values) → i < length xs → x ≡ get_or xs i x
-    → whole ≡ in_front old (resolved_all s p (expr_trees (drop i xs))) → new ≡ old ++ a ∷ [] → checked.value a ≡ argument (first_wanted p) (resolving.resolved s (expr_tree x)) → q ≡ option_map (drop 1) p
+pub values_turn : (s : Scope) (p q : Option (List Kind)) (xs : List Expr) (i : ℕ) (x : Expr) (old new : List Argument) (a : Argument) (kind : Option Kind) (whole : Arguments) → i < length xs → x ≡ get_or xs i x
+    → whole ≡ in_front old (resolved_all s p (expr_trees (drop i xs))) → new ≡ old ++ a ∷ [] → ((others : Arguments) → checked.and_argument a others ≡ argument kind (resolving.resolved s (expr_tree x)) others) → kind ≡ first_wanted p → q ≡ option_map (drop 1) p
     → whole ≡ in_front new (resolved_all s q (expr_trees (drop (i + 1) xs)))
-values_turn s p q xs i x old new a whole l e w n h d =
+values_turn s p q xs i x old new a kind whole l e w n h k d =
     let others = expr_trees (drop (i + 1) xs) in
     let rest = resolved_all s (option_map (drop 1) p) others in
-    w ∙ ap (λ us. in_front old (resolved_all s p (expr_trees us))) (drop_turn xs i x l e) ∙ ap (λ v. in_front old (and_value v rest)) (sym h) ∙ sym (in_front-push old a rest) ∙ ap (λ us. in_front us rest) (sym n)
+    let one : checked.and_argument a rest ≡ argument (first_wanted p) (resolving.resolved s (expr_tree x)) rest = h rest ∙ ap (λ o. argument o (resolving.resolved s (expr_tree x)) rest) k in
+    w ∙ ap (λ us. in_front old (resolved_all s p (expr_trees us))) (drop_turn xs i x l e) ∙ ap (in_front old) (sym one) ∙ sym (in_front-push old a rest) ∙ ap (λ us. in_front us rest) (sym n)
     ∙ ap (λ k. in_front new (resolved_all s k others)) (sym d)
 
-pub values_end : (s : Scope) (p : Option (List Kind)) (xs : List Expr) (i : ℕ) (all : List Value) (whole : Values) → length xs ≤ i → whole ≡ in_front all (resolved_all s p (expr_trees (drop i xs))) → checked.values all ≡ whole
+pub values_end : (s : Scope) (p : Option (List Kind)) (xs : List Expr) (i : ℕ) (all : List Argument) (whole : Arguments) → length xs ≤ i → whole ≡ in_front all (resolved_all s p (expr_trees (drop i xs))) → checked.arguments all ≡ whole
 values_end s p xs i all whole l w = sym (w ∙ ap (λ us. in_front all (resolved_all s p (expr_trees us))) (drop_end xs i l) ∙ in_front-none all)
 
 -- ---- calls of printf
 
-pub printing_some : (s : Scope) (all : List Expr) (one : Expr) (others : List Expr) (format : List ℕ) (pieces : List Piece) (values : List Value) → all ≡ one ∷ others → format ≡ text_of (expr_tree one)
-    → checked.pieces pieces ≡ printed (parts Nothing format) → checked.values values ≡ resolved_all s None (expr_trees others) → resolved.Print (checked.pieces pieces) (checked.values values) ≡ printing s (expr_trees all)
+pub printing_some : (s : Scope) (all : List Expr) (one : Expr) (others : List Expr) (format : List ℕ) (pieces : List Piece) (values : List Argument) → all ≡ one ∷ others → format ≡ text_of (expr_tree one)
+    → checked.pieces pieces ≡ printed (parts Nothing format) → checked.arguments values ≡ resolved_all s None (expr_trees others) → resolved.Print (checked.pieces pieces) (checked.arguments values) ≡ printing s (expr_trees all)
 printing_some s all one others format pieces values e f p v = rw (p, v, e, f) refl
 
-pub printing_none : (s : Scope) (all : List Expr) (pieces : List Piece) (values : List Value) → length all ≡ 0 → pieces ≡ [] → checked.values values ≡ resolved_all s None (expr_trees all)
-    → resolved.Print (checked.pieces pieces) (checked.values values) ≡ printing s (expr_trees all)
+pub printing_none : (s : Scope) (all : List Expr) (pieces : List Piece) (values : List Argument) → length all ≡ 0 → pieces ≡ [] → checked.arguments values ≡ resolved_all s None (expr_trees all)
+    → resolved.Print (checked.pieces pieces) (checked.arguments values) ≡ printing s (expr_trees all)
 printing_none s [] pieces values l p v = rw (p, v) refl
 printing_none s (a ∷ all) pieces values l p v = absurd (omega arith)
 

@@ -90,16 +90,17 @@ loop_command s own first count all a b one loop i n m e f = sequence_command fir
 
 -- ---- functions
 
-abbrev function : ℕ → ℕ → Commands → resolved.Function
-function slots names body = record { slots = slots; names = names; body = body }
+abbrev function : ℕ → ℕ → ℕ → Commands → resolved.Function
+function slots names parameters body = record { slots = slots; names = names; parameters = parameters; body = body }
 
 pub function_is : (parameters : List ParameterTree) (body : StmtTrees) (f : CheckedFunction) (empty before after : Scope) → before ≡ with_parameters empty parameters → after ≡ behind_all before body
-    → checked.commands f.body.items ≡ resolved_stmts before body → f.slots ≡ after.next → f.names ≡ after.names → function_of f ≡ resolved_body (with_parameters empty parameters) body
-function_is parameters body f empty before after b a c n m =
-    let end = behind_all (with_parameters empty parameters) body in
+    → checked.commands f.body.items ≡ resolved_stmts before body → f.slots ≡ after.next → f.names ≡ after.names → f.parameters ≡ before.names → function_of f ≡ resolved_body (with_parameters empty parameters) body
+function_is parameters body f empty before after b a c n m p =
+    let start = with_parameters empty parameters in
+    let end = behind_all start body in
     let same : after ≡ end = a ∙ ap (λ s. behind_all s body) b in
-    ap (λ slots. function slots f.names (checked.commands f.body.items)) (n ∙ ap (λ s. s.next) same) ∙ ap (λ names. function end.next names (checked.commands f.body.items)) (m ∙ ap (λ s. s.names) same)
-    ∙ ap (function end.next end.names) (c ∙ ap (λ s. resolved_stmts s body) b)
+    ap (λ slots. function slots f.names f.parameters (checked.commands f.body.items)) (n ∙ ap (λ s. s.next) same) ∙ ap (λ names. function end.next names f.parameters (checked.commands f.body.items)) (m ∙ ap (λ s. s.names) same)
+    ∙ ap (λ passed. function end.next end.names passed (checked.commands f.body.items)) (p ∙ ap (λ s. s.names) b) ∙ ap (function end.next end.names start.names) (c ∙ ap (λ s. resolved_stmts s body) b)
 
 pub functions_ahead-push : (all : List CheckedFunction) (a : CheckedFunction) (others : List resolved.Function) → functions_ahead (all ++ a ∷ []) others ≡ functions_ahead all (function_of a ∷ others)
 functions_ahead-push [] a others = refl

@@ -14,3 +14,4 @@ pub mod Statements
 pub mod Methods
 pub mod Appended
 pub mod Refusals
+pub mod Globals

@@ -6,14 +6,15 @@ use Rattle.arc_ast.specs.declared.tree.Expr.{Expr}
 use Rattle.arc_ast.specs.declared.tree.Kind.{Kind}
 use Rattle.arc_ast.specs.Tree.{ExprTree, ExprTrees, Send, SendSuper, expr_tree}
 use Rattle.arc_class.specs.Table.{number_of_class}
-use Rattle.arc_spec.specs.Resolved.{Values}
+use Rattle.arc_spec.specs.Resolved.{Arguments}
 use Rattle.arc_check.specs.declared.resolution.Typed.{Typed}
 use Rattle.arc_check.specs.private.Building.{Resolves, resolution}
-use Rattle.arc_check.specs.Resolving.{Resolution, assigned, receiver_sign, resolved, resolved_all, sent, sent_super, to_super}
+use Rattle.arc_check.specs.Passing.{receiver_sign}
+use Rattle.arc_check.specs.Resolving.{Resolution, assigned, resolved, resolved_all, sent, sent_super, to_super}
 use Rattle.arc_check.specs.Scopes.{Scope, class_of, class_receiver, sent_class, super_class, super_kind}
 
 -- a message to a class
-pub resolves_class : (s : Scope) (at part : ℕ) (r : ExprTree) (selector : List ℕ) (arguments : ExprTrees) (class : ℕ) (all : Values) (typed : Typed) → Some class ≡ class_receiver s r → all ≡ resolved_all s (Some (s.known.passed (receiver_sign (class_receiver s r)) selector)) arguments
+pub resolves_class : (s : Scope) (at part : ℕ) (r : ExprTree) (selector : List ℕ) (arguments : ExprTrees) (class : ℕ) (all : Arguments) (typed : Typed) → Some class ≡ class_receiver s r → all ≡ resolved_all s (Some (s.known.passed (receiver_sign (class_receiver s r)) selector)) arguments
     → option_map number_of_class typed.class ≡ sent_class (Some class) None selector → resolution typed.value ≡ sent s r (Some class) (class_of s r) (resolved s r) selector all → Resolves s (Send at part r selector arguments) typed
 resolves_class s at part r selector arguments class all typed e m c v = record {
   class = c ∙ ap (λ x. sent_class x (class_of s r) selector) e;
@@ -21,7 +22,7 @@ resolves_class s at part r selector arguments class all typed e m c v = record {
 }
 
 -- a message to an object
-pub resolves_object : (s : Scope) (at part : ℕ) (r : ExprTree) (selector : List ℕ) (arguments : ExprTrees) (object typed : Typed) (all : Values) → None ≡ class_receiver s r → Resolves s r object → all ≡ resolved_all s (Some (s.known.passed (receiver_sign (class_receiver s r)) selector)) arguments
+pub resolves_object : (s : Scope) (at part : ℕ) (r : ExprTree) (selector : List ℕ) (arguments : ExprTrees) (object typed : Typed) (all : Arguments) → None ≡ class_receiver s r → Resolves s r object → all ≡ resolved_all s (Some (s.known.passed (receiver_sign (class_receiver s r)) selector)) arguments
     → option_map number_of_class typed.class ≡ sent_class None (option_map number_of_class object.class) selector → resolution typed.value ≡ sent s r None (option_map number_of_class object.class) (resolution object.value) selector all
     → Resolves s (Send at part r selector arguments) typed
 resolves_object s at part r selector arguments object typed all e o m c v = record {
@@ -31,7 +32,7 @@ resolves_object s at part r selector arguments object typed all e o m c v = reco
 }
 
 -- a message to `super`
-pub resolves_super : (s : Scope) (at part super_at : ℕ) (selector : List ℕ) (arguments : ExprTrees) (kind : Option Kind) (from n : ℕ) (all : Values) (typed : Typed) → kind ≡ super_kind s selector → from ≡ unwrap_or (option_and_then s.known.superclass s.class) 0 → n ≡ unwrap_or (s.known.selector selector) 0
+pub resolves_super : (s : Scope) (at part super_at : ℕ) (selector : List ℕ) (arguments : ExprTrees) (kind : Option Kind) (from n : ℕ) (all : Arguments) (typed : Typed) → kind ≡ super_kind s selector → from ≡ unwrap_or (option_and_then s.known.superclass s.class) 0 → n ≡ unwrap_or (s.known.selector selector) 0
     → all ≡ resolved_all s (Some (s.known.passed s.sign selector)) arguments → option_map number_of_class typed.class ≡ super_class s selector → resolution typed.value ≡ to_super s.sign kind from n all → Resolves s (SendSuper at part super_at selector arguments) typed
 resolves_super s at part super_at selector arguments kind from n all typed k f m a c v = record {
   class = c;

@@ -5,7 +5,7 @@ use Rattle.std.specs.List.{flat_map, filter_map}
 use Rattle.std.proofs.Math.Path.{fun_ext}
 use Rattle.arc_ast.specs.declared.tree.Kind.{Kind}
 use Rattle.arc_ast.specs.declared.tree.Sign.{Sign}
-use Rattle.arc_ast.specs.Tree.{FunctionTree, InterfaceTree, ImplementationTree, UnitTree}
+use Rattle.arc_ast.specs.Tree.{FunctionTree, GlobalTree, InterfaceTree, ImplementationTree, UnitTree}
 use Rattle.arc_class.specs.declared.table.ClassTable.{ClassTable}
 use Rattle.arc_class.specs.declared.table.Declared.{Declared}
 use Rattle.arc_class.specs.declared.table.FoundField.{FoundField}
@@ -20,7 +20,7 @@ use Rattle.arc_fault.specs.declared.check.CheckFault.TheVariants as f
 use Rattle.arc_check.specs.Checked as checked
 use Rattle.arc_check.specs.Fault.{told, Refuses}
 use Rattle.arc_check.specs.Resolving.{resolved_function, resolved_methods, resolved_unit}
-use Rattle.arc_check.specs.Rules.{broken_function, broken_interface, broken_implementation, broken_unit, known_of}
+use Rattle.arc_check.specs.Rules.{broken_function, broken_global, broken_interface, broken_implementation, broken_unit, known_of}
 use Rattle.arc_check.specs.Scopes.{Known}
 use Rattle.arc_check.specs.private.Views.{known_in}
 use Rattle.arc_spec.specs.Classes.{Class, classes_of, descends}
@@ -61,16 +61,20 @@ known_is u table t =
 
 -- ---- what is told of a source
 
-pub told_of_unit : (u : UnitTree) (table : ClassTable) (fs : List FunctionTree) (is : List InterfaceTree) (ms : List ImplementationTree) (one two three between all : Option Broken) → IsTableOf u table → fs ≡ u.functions → is ≡ u.interfaces → ms ≡ u.implementations
-    → one ≡ first (flat_map (broken_function (known_in table)) fs) → two ≡ first (flat_map broken_interface is) → three ≡ first (flat_map (broken_implementation (known_in table)) ms) → between ≡ earlier_of two three → all ≡ earlier_of one between → all ≡ first (broken_unit u)
-told_of_unit u table fs is ms one two three between all t f i m o p q b a =
+pub told_of_unit : (u : UnitTree) (table : ClassTable) (fs : List FunctionTree) (gs : List GlobalTree) (is : List InterfaceTree) (ms : List ImplementationTree) (one held two three classes between all : Option Broken) → IsTableOf u table → fs ≡ u.functions → gs ≡ u.globals → is ≡ u.interfaces → ms ≡ u.implementations
+    → one ≡ first (flat_map (broken_function (known_in table)) fs) → held ≡ first (flat_map broken_global gs) → two ≡ first (flat_map broken_interface is) → three ≡ first (flat_map (broken_implementation (known_in table)) ms)
+    → classes ≡ earlier_of two three → between ≡ earlier_of held classes → all ≡ earlier_of one between → all ≡ first (broken_unit u)
+told_of_unit u table fs gs is ms one held two three classes between all t f v i m o h p q b d a =
     let k = known_of u in
     let same = known_is u table t in
     let functions : one ≡ first (flat_map (broken_function k) u.functions) = o ∙ ap (λ us. first (flat_map (broken_function (known_in table)) us)) f ∙ ap (λ known. first (flat_map (broken_function known) u.functions)) same in
+    let globals : held ≡ first (flat_map broken_global u.globals) = h ∙ ap (λ us. first (flat_map broken_global us)) v in
     let interfaces : two ≡ first (flat_map broken_interface u.interfaces) = p ∙ ap (λ us. first (flat_map broken_interface us)) i in
     let implementations : three ≡ first (flat_map (broken_implementation k) u.implementations) = q ∙ ap (λ us. first (flat_map (broken_implementation (known_in table)) us)) m ∙ ap (λ known. first (flat_map (broken_implementation known) u.implementations)) same in
-    first_both (flat_map (broken_function k) u.functions) (flat_map broken_interface u.interfaces ++ flat_map (broken_implementation k) u.implementations) one between all functions
-    (first_both (flat_map broken_interface u.interfaces) (flat_map (broken_implementation k) u.implementations) two three between interfaces implementations b) a
+    let others = flat_map broken_interface u.interfaces ++ flat_map (broken_implementation k) u.implementations in
+    first_both (flat_map (broken_function k) u.functions) (flat_map broken_global u.globals ++ others) one between all functions
+    (first_both (flat_map broken_global u.globals) others held classes between globals
+    (first_both (flat_map broken_interface u.interfaces) (flat_map (broken_implementation k) u.implementations) two three classes interfaces implementations b) d) a
 
 -- ---- what is built of a source
 
@@ -81,11 +85,12 @@ functions_are u table fs ms old new t f m o n =
     n ∙ ap (λ us. us ++ flat_map (resolved_methods k) ms) o ∙ ap (λ us. filter_map (resolved_function k) us ++ flat_map (resolved_methods k) ms) f ∙ ap (λ us. filter_map (resolved_function k) u.functions ++ flat_map (resolved_methods k) us) m
     ∙ ap (λ known. filter_map (resolved_function known) u.functions ++ flat_map (resolved_methods known) u.implementations) (known_is u table t)
 
-abbrev program : List resolved.Function → ℕ → List ℤ → List Class → resolved.Program
-program functions main globals classes = record { functions = functions; main = main; globals = globals; classes = classes }
+abbrev program : List resolved.Function → ℕ → List ℤ → ℕ → List Class → resolved.Program
+program functions main globals strong_globals classes = record { functions = functions; main = main; globals = globals; strong_globals = strong_globals; classes = classes }
 
-program_is : (f g : List resolved.Function) (m n : ℕ) (h i : List ℤ) (c d : List Class) → f ≡ g → m ≡ n → h ≡ i → c ≡ d → program f m h c ≡ program g n i d
-program_is f g m n h i c d a b o e = rw (a, b, o, e) refl
+program_is : (f g : List resolved.Function) (m n : ℕ) (h i : List ℤ) (s t : ℕ) (c d : List Class) → f ≡ g → m ≡ n → h ≡ i → s ≡ t → c ≡ d → program f m h s c ≡ program g n i t d
+program_is f g m n h i s t c d a b o w e = rw (a, b, o, w, e) refl
 
-pub resolved_is : (u : UnitTree) (table : ClassTable) (new : Checked) → IsTableOf u table → checked.functions new.functions.items ≡ (resolved_unit u).functions → new.main ≡ table.main → new.globals.items ≡ (resolved_unit u).globals → classes_of new.classes.items ≡ classes_of table.classes.items → checked.program_of new ≡ resolved_unit u
-resolved_is u table new t f m g c = program_is _ _ _ _ _ _ _ _ f (m ∙ sym (ap (λ n. unwrap_or n 0) t.main)) g (c ∙ t.classes)
+pub resolved_is : (u : UnitTree) (table : ClassTable) (new : Checked) → IsTableOf u table → checked.functions new.functions.items ≡ (resolved_unit u).functions → new.main ≡ table.main → new.globals.items ≡ (resolved_unit u).globals → new.strong_globals ≡ (resolved_unit u).strong_globals
+    → classes_of new.classes.items ≡ classes_of table.classes.items → checked.program_of new ≡ resolved_unit u
+resolved_is u table new t f m g s c = program_is _ _ _ _ _ _ _ _ _ _ f (m ∙ sym (ap (λ n. unwrap_or n 0) t.main)) g s (c ∙ t.classes)

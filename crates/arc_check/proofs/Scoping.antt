@@ -48,7 +48,7 @@ number_is table old new b kind t c g r h i n m e =
     rw t (scope_is _ _ _ _ _ _ _ _ _ _ _ _ _ _ _ (ap (option_map number_of_class) c) g r h (with_bound old.bound.items new.bound.items b i ∙ ap (λ x. bound b.name.now x (local_in old.bound.items)) n) m e)
 
 -- a variable more is visible that names objects
-pub object_is : (table : ClassTable) (old new : Visible) (b : Bound) (class : Option ℕ) → has_place (seen table old) ≡ true → new.class ≡ old.class → new.sign ≡ old.sign → new.result ≡ old.result → new.hidden ≡ old.hidden → new.bound.items ≡ old.bound.items ++ b ∷ [] → local_of b.local ≡ Object old.names class → new.next ≡ old.next
+pub object_is : (table : ClassTable) (old new : Visible) (b : Bound) (class : Option ℕ) → has_place (seen table old) ≡ true → new.class ≡ old.class → new.sign ≡ old.sign → new.result ≡ old.result → new.hidden ≡ old.hidden → new.bound.items ≡ old.bound.items ++ b ∷ [] → local_of b.local ≡ Object (location.Local old.names) class → new.next ≡ old.next
     → new.names ≡ suc old.names → seen table new ≡ cond (has_place (seen table old)) (with_object b.name.now class (seen table old)) (seen table old)
 object_is table old new b class t c g r h i n m e =
     rw t (scope_is _ _ _ _ _ _ _ _ _ _ _ _ _ _ _ (ap (option_map number_of_class) c) g r h (with_bound old.bound.items new.bound.items b i ∙ ap (λ x. bound b.name.now x (local_in old.bound.items)) n) m e)

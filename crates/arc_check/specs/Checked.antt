@@ -2,17 +2,21 @@
 use Rattle.std.specs.Prelude.{List, [], ◌∷◌, option_map}
 use Rattle.arc_check.specs.declared.checked.Piece.{Piece}
 use Rattle.arc_check.specs.declared.checked.Piece.TheVariants as p
-use Rattle.arc_check.specs.declared.checked.Value.{Value, Row_of-Value, end_of-Value, more_of-Value}
+use Rattle.arc_check.specs.declared.checked.Value.{Value, Row_of-Argument, end_of-Argument, more_of-Argument}
 use Rattle.arc_check.specs.declared.checked.Value.TheVariants as v
 use Rattle.arc_check.specs.declared.checked.Reference.{Reference}
 use Rattle.arc_check.specs.declared.checked.Reference.TheVariants as r
+use Rattle.arc_check.specs.declared.checked.Receiver.{Receiver}
+use Rattle.arc_check.specs.declared.checked.Receiver.TheVariants as rc
+use Rattle.arc_check.specs.declared.checked.Argument.{Argument}
+use Rattle.arc_check.specs.declared.checked.Argument.TheVariants as arg
 use Rattle.arc_check.specs.declared.checked.Command.{Command, Row_of-Command, end_of-Command, more_of-Command}
 use Rattle.arc_check.specs.declared.checked.Command.TheVariants as c
 use Rattle.arc_check.specs.declared.checked.CheckedFunction.{CheckedFunction}
 use Rattle.arc_check.specs.declared.checked.Checked.{Checked}
 use Rattle.arc_spec.specs.Classes.{classes_of}
 use Rattle.arc_spec.specs.Resolved as resolved
-use Rattle.arc_spec.specs.Resolved.{Number, ReadByte, Print, Applied, Combined, Choice, Converted, Read, Assigned, Updated, Invoked, Sent, SentSuper, SentTo, SentToSuper, Field, FieldAssigned, FieldUpdated, Differ, IsObject, Nil, Itself, Variable, Chosen, Stored, Made, Initialized, no_values, and_value, Sequence, Evaluate, EvaluateReference, Begin, Return, Choose, Repeat, RepeatAfter, Break, Continue, no_commands, and_command, Bytes, Decimal, Character}
+use Rattle.arc_spec.specs.Resolved.{Number, ReadByte, Print, Applied, Combined, Choice, Converted, Read, Assigned, Updated, Invoked, Sent, ClassValue, ClassSuper, ObjectValue, ObjectSuper, Field, FieldAssigned, FieldUpdated, Differ, IsObject, Nil, Itself, Variable, Chosen, Stored, ObjectField, ObjectFieldStored, Made, Initialized, no_arguments, number_argument, object_argument, Sequence, Evaluate, EvaluateReference, Begin, Return, Choose, Repeat, RepeatAfter, Break, Continue, no_commands, and_command, Bytes, Decimal, Character}
 
 abbrev pub piece : Piece → resolved.Piece
 piece (p.Bytes bytes) = Bytes bytes.items
@@ -27,7 +31,7 @@ abbrev mutual
   pub value : Value → resolved.Value
   value (v.Number n) = Number n
   value v.ReadByte = ReadByte
-  value (v.Print' all shape arguments) = Print (pieces all.items) (row_values arguments)
+  value (v.Print' all shape arguments) = Print (pieces all.items) (row_arguments arguments)
   value (v.Applied' operator kind q a) = Applied operator kind (value a)
   value (v.Combined' operator kind q a r b) = Combined operator kind (value a) (value b)
   value (v.Choice' q c r a s b) = Choice (value c) (value a) (value b)
@@ -35,11 +39,8 @@ abbrev mutual
   value (v.Read i) = Read i
   value (v.Assigned' i q a) = Assigned i (value a)
   value (v.Updated' moment i operator computed kept q a) = Updated moment i operator computed kept (value a)
-  value (v.Invoked' f shape arguments) = Invoked f (row_values arguments)
-  value (v.Sent' q a selector shape arguments) = Sent (value a) selector (row_values arguments)
-  value (v.SentSuper' from selector shape arguments) = SentSuper from selector (row_values arguments)
-  value (v.SentTo' q a selector shape arguments) = SentTo (reference a) selector (row_values arguments)
-  value (v.SentToSuper' from selector shape arguments) = SentToSuper from selector (row_values arguments)
+  value (v.Invoked' f shape arguments) = Invoked f (row_arguments arguments)
+  value (v.Sent' q a selector shape arguments) = Sent (receiver a) selector (row_arguments arguments)
   value (v.Field' q a class index) = Field (reference a) class index
   value (v.FieldAssigned' q a class index s b) = FieldAssigned (reference a) class index (value b)
   value (v.FieldUpdated' moment q a class index operator computed kept s b) = FieldUpdated moment (reference a) class index operator computed kept (value b)
@@ -52,16 +53,29 @@ abbrev mutual
   reference (r.Variable i) = Variable i
   reference (r.Chosen' q c r a s b) = Chosen (value c) (reference a) (reference b)
   reference (r.Stored' i q a) = Stored i (reference a)
+  reference (r.ObjectField' q a class index) = ObjectField (reference a) class index
+  reference (r.ObjectFieldStored' q a class index s b) = ObjectFieldStored (reference a) class index (reference b)
   reference (r.Made' q a) = Made (value a)
   reference (r.Initialized' q a) = Initialized (reference a)
 
-  pub row_values : {n : _} → Row_of-Value n → resolved.Values
-  row_values end_of-Value = no_values
-  row_values (more_of-Value a row) = and_value (value a) (row_values row)
+  pub receiver : Receiver → resolved.Receiver
+  receiver (rc.ClassValue' q a) = ClassValue (value a)
+  receiver (rc.ClassSuper from) = ClassSuper from
+  receiver (rc.ObjectValue' q a) = ObjectValue (reference a)
+  receiver (rc.ObjectSuper from) = ObjectSuper from
 
-abbrev pub values : List Value → resolved.Values
-values [] = no_values
-values (a ∷ others) = and_value (value a) (values others)
+  -- an argument before others
+  pub and_argument : Argument → resolved.Arguments → resolved.Arguments
+  and_argument (arg.Number' q x) others = number_argument (value x) others
+  and_argument (arg.Object' q x) others = object_argument (reference x) others
+
+  pub row_arguments : {n : _} → Row_of-Argument n → resolved.Arguments
+  row_arguments end_of-Argument = no_arguments
+  row_arguments (more_of-Argument x row) = and_argument x (row_arguments row)
+
+abbrev pub arguments : List Argument → resolved.Arguments
+arguments [] = no_arguments
+arguments (x ∷ others) = and_argument x (arguments others)
 
 abbrev mutual
   pub command : Command → resolved.Command
@@ -86,7 +100,7 @@ commands (a ∷ others) = and_command (command a) (commands others)
 
 abbrev pub functions : List CheckedFunction → List resolved.Function
 functions [] = []
-functions (f ∷ others) = record { slots = f.slots; names = f.names; body = commands f.body.items } ∷ functions others
+functions (f ∷ others) = record { slots = f.slots; names = f.names; parameters = f.parameters; body = commands f.body.items } ∷ functions others
 
 abbrev pub program_of : Checked → resolved.Program
-program_of c = record { functions = functions c.functions.items; main = c.main; globals = c.globals.items; classes = classes_of c.classes.items }
+program_of c = record { functions = functions c.functions.items; main = c.main; globals = c.globals.items; strong_globals = c.strong_globals; classes = classes_of c.classes.items }

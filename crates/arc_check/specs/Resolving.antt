@@ -1,11 +1,14 @@
 -- The resolved program of a source that breaks no rule.
-use Rattle.std.specs.Prelude.{ℕ, ◌-◌, ℤ, pos, Bool, false, List, [], ◌∷◌, ◌++◌, drop, map, flat_map, filter_map, Option, Some, None, option_map, option_and_then, unwrap_or, if◌then◌else◌}
+use Rattle.std.specs.Prelude.{ℕ, ◌-◌, ℤ, pos, Bool, false, not, List, [], ◌∷◌, ◌++◌, length, drop, map, flat_map, filter_map, Option, Some, None, option_map, option_and_then, unwrap_or, if◌then◌else◌}
+use Rattle.std.specs.List.{filter}
 use Rattle.std.specs.Option.{option_map_or}
 use Rattle.arc_ast.specs.declared.tree.Moment.{Moment}
 use Rattle.arc_ast.specs.declared.tree.UnaryOperator.{UnaryOperator}
 use Rattle.arc_ast.specs.declared.tree.UnaryOperator.TheVariants as u
 use Rattle.arc_ast.specs.declared.tree.BinaryOperator.{BinaryOperator}
 use Rattle.arc_ast.specs.declared.tree.BinaryOperator.TheVariants as o
+use Rattle.arc_ast.specs.declared.tree.Constant.{Constant}
+use Rattle.arc_ast.specs.declared.tree.Constant.TheVariants as constants
 use Rattle.arc_ast.specs.Operators.{sort_of}
 use Rattle.arc_ast.specs.Types as types
 use Rattle.arc_ast.specs.Types.{type_kind}
@@ -20,7 +23,7 @@ use Rattle.arc_ast.specs.Tree.{TypeTree, GlobalTree, ExprTree, ExprTrees, Intege
 use Rattle.arc_spec.specs.Classes.{same_sign}
 use Rattle.arc_spec.specs.declared.location.Location.TheVariants.{Local}
 use Rattle.arc_spec.specs.Number as number
-use Rattle.arc_spec.specs.Resolved.{Value, Reference, Number, ReadByte, Print, Applied, Combined, Choice, Converted, Read, Assigned, Updated, Invoked, Sent, SentSuper, SentTo, SentToSuper, Field, FieldAssigned, FieldUpdated, Differ, IsObject, Nil, Itself, Variable, Chosen, Stored, Made, Initialized, Values, no_values, and_value, Command, Sequence, Evaluate, EvaluateReference, Begin, Return, Choose, Repeat, RepeatAfter, Break, Continue, Commands, no_commands, and_command, Function, Program}
+use Rattle.arc_spec.specs.Resolved.{Value, Reference, Number, ReadByte, Print, Applied, Combined, Choice, Converted, Read, Assigned, Updated, Invoked, Sent, Field, FieldAssigned, FieldUpdated, Differ, IsObject, Nil, Itself, Variable, Chosen, Stored, ObjectField, ObjectFieldStored, Made, Initialized, Receiver, ClassValue, ClassSuper, ObjectValue, ObjectSuper, Arguments, no_arguments, number_argument, object_argument, Command, Sequence, Evaluate, EvaluateReference, Begin, Return, Choose, Repeat, RepeatAfter, Break, Continue, Commands, no_commands, and_command, Function, Program}
 use Rattle.arc_sites.specs.Sites.{named_parameters}
 use Rattle.arc_class.specs.Running.{classes}
 use Rattle.arc_class.specs.Names.{number_of, is_main}
@@ -33,6 +36,7 @@ use Rattle.arc_check.specs.Kinds.{literal_kind, wider, computing_kind, given_kin
 use Rattle.arc_check.specs.Formats.{parts, printed}
 use Rattle.arc_check.specs.Scopes as scopes
 use Rattle.arc_check.specs.Scopes.{Known, Scope, declare, with_parameters, leave, behind, behind_all, outermost, in_method, callee, result_kind, is_printf, own_field, variable, class_receiver, object_result, super_kind, class_of}
+use Rattle.arc_check.specs.Passing.{first_wanted, wanted_by, receiver_sign}
 use Rattle.arc_check.specs.Rules.{is_object, known_of}
 
 -- What an expression is resolved to, which breaks no rule: a number of a kind, or an object. What stands below for one that breaks a rule is never asked for.
@@ -142,45 +146,42 @@ abbrev pub format : ExprTrees → List ℕ
 format no_exprs = []
 format (and_expr a others) = text_of a
 
-abbrev pub behind_first : Values → Values
-behind_first no_values = no_values
-behind_first (and_value a others) = others
+abbrev pub behind_first : Arguments → Arguments
+behind_first no_arguments = no_arguments
+behind_first (number_argument a others) = others
+behind_first (object_argument a others) = others
 
 -- a call, from its arguments and their values
-abbrev pub called : Callee → ExprTrees → Values → Value
+abbrev pub called : Callee → ExprTrees → Arguments → Value
 called Printf arguments all = Print (printed (parts Nothing (format arguments))) (behind_first all)
 called GetChar arguments all = ReadByte
 called (Defined result count body) arguments all = Invoked (unwrap_or body 0) all
 called Unknown arguments all = ReadByte
 
--- The kinds that arguments are converted to: those of the parameters, as if by assignment (C99, section 6.5.2.2, paragraph 7). What printf prints keeps its kind:
--- None. An argument more, which breaks a rule, is as one for an int.
-abbrev pub first_wanted : Option (List Kind) → Option Kind
-first_wanted None = None
-first_wanted (Some []) = Some k.Int
-first_wanted (Some (kind ∷ others)) = Some kind
-
-abbrev pub argument : Option Kind → Resolution → Value
-argument None a = number_in a
-argument (Some kind) a = converted kind a
-
--- what a function asks of its arguments
-abbrev pub wanted_by : Callee → List Kind → Option (List Kind)
-wanted_by function kinds = if is_printf function then None else Some kinds
-
--- the sign of the methods that a message goes to, by the class that its receiver is
-abbrev pub receiver_sign : Option ℕ → Sign
-receiver_sign None = signs.Instance
-receiver_sign (Some class) = signs.Class
+-- an argument before others: an object, or a number, which becomes one of its parameter's kind
+abbrev pub argument : (wanted : Option Kind) → Resolution → Arguments → Arguments
+argument None a others = number_argument (number_in a) others
+argument (Some k.Object) a others = object_argument (object_in a) others
+argument (Some kind) a others = number_argument (converted kind a) others
 
 -- ---- names, fields and assignments
 
--- a field of an object, and an assignment to it
+-- a field of an object, which holds a number or names an object, and an assignment to it
+abbrev pub read_field : Reference → FoundField → Resolution
+read_field r f =
+    if is_object (Some f.kind) then Refers (ObjectField r (number_of_class f.owner) f.index) else Gives f.kind (Field r (number_of_class f.owner) f.index)
+
+abbrev pub store_field : Reference → FoundField → Resolution → Resolution
+store_field r f a =
+    if is_object (Some f.kind) then Refers (ObjectFieldStored r (number_of_class f.owner) f.index (object_in a))
+    else Gives f.kind (FieldAssigned r (number_of_class f.owner) f.index (converted f.kind a))
+
+-- the same of a field that may be there
 abbrev pub field : Reference → Option FoundField → Resolution
-field r found = option_map_or (λ f. Gives f.kind (Field r (number_of_class f.owner) f.index)) found (Gives k.Int (Number (pos 0)))
+field r found = option_map_or (read_field r) found (Gives k.Int (Number (pos 0)))
 
 abbrev pub field_assigned : Reference → Option FoundField → Resolution → Resolution
-field_assigned r found a = option_map_or (λ f. Gives f.kind (FieldAssigned r (number_of_class f.owner) f.index (converted f.kind a))) found a
+field_assigned r found a = option_map_or (λ f. store_field r f a) found a
 
 -- what a name means: a variable, or else a field of `self`; and an assignment to it
 abbrev pub named : Option scopes.Local → Option FoundField → Resolution
@@ -220,14 +221,17 @@ class_value _ class = Read (Local 0)
 
 -- What gives an object is built in: `alloc` and `new` of classes, and `init` of objects. (`retain` and `autorelease` are refused by the rules of ownership, and
 -- stand here as `alloc` and `init`.)
-abbrev pub to_class : Option Kind → Value → (selector : ℕ) → Values → Resolution
-to_class kind class selector all = if is_object kind then Refers (Made class) else Gives (unwrap_or kind k.Int) (Sent class selector all)
+abbrev pub sent_number : Option Kind → Receiver → (selector : ℕ) → Arguments → Resolution
+sent_number kind receiver selector all = Gives (unwrap_or kind k.Int) (Sent receiver selector all)
 
-abbrev pub to_object : Option Kind → Reference → (selector : ℕ) → Values → Resolution
-to_object kind r selector all = if is_object kind then Refers (Initialized r) else Gives (unwrap_or kind k.Int) (SentTo r selector all)
+abbrev pub to_class : Option Kind → Value → (selector : ℕ) → Arguments → Resolution
+to_class kind class selector all = if is_object kind then Refers (Made class) else sent_number kind (ClassValue class) selector all
+
+abbrev pub to_object : Option Kind → Reference → (selector : ℕ) → Arguments → Resolution
+to_object kind r selector all = if is_object kind then Refers (Initialized r) else sent_number kind (ObjectValue r) selector all
 
 -- a message to a class, or else to an object with a static class (OPL, "Messages to self and super")
-abbrev pub sent : Scope → ExprTree → (class static : Option ℕ) → Resolution → List ℕ → Values → Resolution
+abbrev pub sent : Scope → ExprTree → (class static : Option ℕ) → Resolution → List ℕ → Arguments → Resolution
 sent s receiver (Some class) static a name all =
     to_class (s.known.result (Some class) signs.Class name) (class_value receiver class) (unwrap_or (s.known.selector name) 0) all
 sent s receiver None static a name all = to_object (object_result s.known static name) (object_in a) (unwrap_or (s.known.selector name) 0) all
@@ -236,13 +240,13 @@ sent s receiver None static a name all = to_object (object_result s.known static
 abbrev pub made_by_super : Sign → Resolution
 made_by_super sign = Refers (if same_sign sign signs.Class then Made (Read (Local 0)) else Initialized Itself)
 
-abbrev pub super_value : Sign → (from selector : ℕ) → Values → Value
-super_value sign from selector all = if same_sign sign signs.Class then SentSuper from selector all else SentToSuper from selector all
+abbrev pub super_receiver : Sign → (from : ℕ) → Receiver
+super_receiver sign from = if same_sign sign signs.Class then ClassSuper from else ObjectSuper from
 
-abbrev pub to_super : Sign → Option Kind → (from selector : ℕ) → Values → Resolution
-to_super sign kind from selector all = if is_object kind then made_by_super sign else Gives (unwrap_or kind k.Int) (super_value sign from selector all)
+abbrev pub to_super : Sign → Option Kind → (from selector : ℕ) → Arguments → Resolution
+to_super sign kind from selector all = if is_object kind then made_by_super sign else sent_number kind (super_receiver sign from) selector all
 
-abbrev pub sent_super : Scope → List ℕ → Values → Resolution
+abbrev pub sent_super : Scope → List ℕ → Arguments → Resolution
 sent_super s name all = to_super s.sign (super_kind s name) (unwrap_or (option_and_then s.known.superclass s.class) 0) (unwrap_or (s.known.selector name) 0) all
 
 -- ---- expressions
@@ -276,9 +280,9 @@ abbrev mutual
   assigned s (Arrow at name_at a name) b = field_assigned (object_in (resolved s a)) (s.known.field (class_of s a) name) b
   assigned s _ b = b
 
-  pub resolved_all : Scope → (wanted : Option (List Kind)) → ExprTrees → Values
-  resolved_all s wanted no_exprs = no_values
-  resolved_all s wanted (and_expr a others) = and_value (argument (first_wanted wanted) (resolved s a)) (resolved_all s (option_map (drop 1) wanted) others)
+  pub resolved_all : Scope → (wanted : Option (List Kind)) → ExprTrees → Arguments
+  resolved_all s wanted no_exprs = no_arguments
+  resolved_all s wanted (and_expr a others) = argument (first_wanted wanted) (resolved s a) (resolved_all s (option_map (drop 1) wanted) others)
 
 -- ---- statements
 
@@ -355,9 +359,10 @@ abbrev mutual
   resolved_stmts s no_stmts = no_commands
   resolved_stmts s (and_stmt a others) = and_command (resolved_stmt s a) (resolved_stmts (behind s a) others)
 
--- a function, in whose scope its parameters are; it has as many variables as have got numbers
+-- a function, in whose scope its parameters are; it has as many variables as have got numbers, and those of its variables that name objects are its parameters that have
+-- got theirs before its body
 abbrev pub resolved_body : Scope → StmtTrees → Function
-resolved_body s body = record { slots = (behind_all s body).next; names = (behind_all s body).names; body = resolved_stmts s body }
+resolved_body s body = record { slots = (behind_all s body).next; names = (behind_all s body).names; parameters = s.names; body = resolved_stmts s body }
 
 -- a function, if it has a body
 abbrev pub resolved_function : Known → FunctionTree → Option Function
@@ -369,15 +374,27 @@ resolved_method known class m = resolved_body (with_parameters (in_method known 
 abbrev pub resolved_methods : Known → ImplementationTree → List Function
 resolved_methods known i = map (resolved_method known (known.class i.name)) i.methods
 
--- what a global variable holds first: what is written, as a number of its kind, and else 0 (C99, section 6.7.8, paragraphs 10 and 11)
+abbrev pub names_objects : GlobalTree → Bool
+names_objects g = is_object (Some (type_kind g.type))
+
+abbrev pub number_written : Option Constant → ℤ
+number_written (Some (constants.Number at n)) = n
+number_written _ = pos 0
+
+-- What a global variable holds first that holds a number: what is written, as a number of its kind, and else 0 (C99, section 6.7.8, paragraphs 10 and 11). One that
+-- names objects begins as nil (ARC, "Ownership qualification").
 abbrev pub first_number : GlobalTree → ℤ
-first_number g = number.converted (type_kind g.type) (unwrap_or g.initial (pos 0))
+first_number g = number.converted (type_kind g.type) (number_written g.initial)
+
+abbrev pub first_numbers : List GlobalTree → List ℤ
+first_numbers globals = map first_number (filter (λ g. not (names_objects g)) globals)
 
 -- the program of a source: its functions with a body, and then its methods, in their order
 abbrev pub resolved_unit : UnitTree → Program
 resolved_unit u = record {
   functions = filter_map (resolved_function (known_of u)) u.functions ++ flat_map (resolved_methods (known_of u)) u.implementations;
   main = unwrap_or (number_of is_main u.functions) 0;
-  globals = map first_number u.globals;
+  globals = first_numbers u.globals;
+  strong_globals = length (filter names_objects u.globals);
   classes = classes u;
 }

@@ -1,5 +1,5 @@
 -- The rules for functions and methods: names, kinds, counts of arguments, formats, and the number of variables.
-use Rattle.std.specs.Prelude.{ℕ, Bool, true, false, ◌&&◌, ◌||◌, not, List, [], ◌∷◌, ◌++◌, length, flat_map, Option, Some, None, is_some, is_none, option_map, option_and_then, nat_lt, nat_eq, slice_get, if◌then◌else◌}
+use Rattle.std.specs.Prelude.{ℕ, Bool, true, false, ◌&&◌, ◌||◌, not, List, [], ◌∷◌, ◌++◌, length, flat_map, drop, Option, Some, None, is_some, is_none, option_map, option_and_then, nat_lt, nat_eq, slice_get, if◌then◌else◌}
 use Rattle.std.specs.Option.{option_map_or}
 use Rattle.arc_ast.specs.declared.tree.UnaryOperator.{UnaryOperator}
 use Rattle.arc_ast.specs.declared.tree.UnaryOperator.TheVariants as u
@@ -10,7 +10,9 @@ use Rattle.arc_ast.specs.declared.tree.OperatorSort.{OperatorSort}
 use Rattle.arc_ast.specs.declared.tree.OperatorSort.TheVariants.{Arithmetic, Shift, Relation, Equality, Logic}
 use Rattle.arc_ast.specs.Types.{type_kind}
 use Rattle.arc_ast.specs.Types as types
-use Rattle.arc_ast.specs.Tree.{TypeTree, ExprTree, ExprTrees, Integer, Text, Paren, Call, Nil, Itself, Name, Unary, Cast, Binary, Conditional, Arrow, Assign, Update, Send, SendSuper, no_exprs, and_expr, place, VariableTree, StmtTree, StmtTrees, Block, Empty, Simple, Return, Variables, If, IfElse, While, Do, For, Break, Continue, no_stmts, and_stmt, ParameterTree, FunctionTree, HeadTree, MethodTree, InterfaceTree, ImplementationTree, UnitTree}
+use Rattle.arc_ast.specs.Tree.{TypeTree, ExprTree, ExprTrees, Integer, Text, Paren, Call, Nil, Itself, Name, Unary, Cast, Binary, Conditional, Arrow, Assign, Update, Send, SendSuper, no_exprs, and_expr, place, VariableTree, StmtTree, StmtTrees, Block, Empty, Simple, Return, Variables, If, IfElse, While, Do, For, Break, Continue, no_stmts, and_stmt, ParameterTree, FunctionTree, GlobalTree, HeadTree, MethodTree, InterfaceTree, ImplementationTree, UnitTree}
+use Rattle.arc_ast.specs.declared.tree.Constant.{Constant}
+use Rattle.arc_ast.specs.declared.tree.Constant.TheVariants as constants
 use Rattle.arc_class.specs.Broken.{broken_if, Broken}
 use Rattle.arc_sites.specs.Sites.{named_parameters}
 use Rattle.arc_class.specs.Classes.{kinds_passed, class_number, superclass, known_result, any_result, selector_number}
@@ -27,6 +29,7 @@ use Rattle.arc_check.specs.declared.callee.Callee.{Callee}
 use Rattle.arc_check.specs.declared.callee.Callee.TheVariants.{Printf, GetChar, Defined, Unknown}
 use Rattle.arc_check.specs.Formats.{wanted, fits}
 use Rattle.arc_check.specs.Kinds.{literal_kind, wider}
+use Rattle.arc_check.specs.Passing.{first_wanted, wanted_by, receiver_sign}
 use Rattle.arc_check.specs.Scopes.{Known, Local, Scope, is_full, declare, with_parameters, leave, behind, outermost, in_method, variable, callee, result_kind, is_printf, own_class, own_field, is_visible, class_receiver, sent_kind, super_kind, class_of}
 use Rattle.arc_check.specs.Scopes as scopes
 
@@ -214,7 +217,8 @@ abbrev mutual
   broken s (Text at bytes) = record { at = at; number = 43 } ∷ []
   broken s (Paren at a) = broken s a
   broken s (Call at name arguments) =
-      broken_at at (call_rule (callee s.known name) arguments (kinds s arguments)) ++ broken_arguments s (is_printf (callee s.known name)) (is_printf (callee s.known name)) arguments
+      broken_at at (call_rule (callee s.known name) arguments (kinds s arguments))
+      ++ broken_arguments s (wanted_by (callee s.known name) (s.known.parameters name)) (is_printf (callee s.known name)) arguments
   broken s (Itself at) = broken_itself s at
   broken s (Name at name) = broken_name s (variable s name) name at
   broken s (Unary at operator a) = broken s a ++ no_operand operator (kind_of s a) (place a)
@@ -232,55 +236,62 @@ abbrev mutual
   broken s (Send at part receiver selector arguments) =
       ((if is_some (class_receiver s receiver) then [] else broken s receiver ++ no_object (kind_of s receiver) (place receiver))
       ++ no_method s (class_receiver s receiver) (kind_of s receiver) (class_of s receiver) selector part)
-      ++ broken_arguments s false false arguments
-  broken s (SendSuper at part super_at selector arguments) = broken_if (is_none (super_kind s selector)) part 42 ++ broken_arguments s false false arguments
+      ++ broken_arguments s (Some (s.known.passed (receiver_sign (class_receiver s receiver)) selector)) false arguments
+  broken s (SendSuper at part super_at selector arguments) =
+      broken_if (is_none (super_kind s selector)) part 42 ++ broken_arguments s (Some (s.known.passed s.sign selector)) false arguments
   broken s _ = []
 
-  -- what printf prints may be of any kind here, since a wrong one breaks the rule of formats
-  pub broken_arguments : Scope → (printed text_may_begin : Bool) → ExprTrees → List Broken
-  broken_arguments s printed text_may_begin no_exprs = []
-  broken_arguments s printed text_may_begin (and_expr a others) =
-      ((if text_may_begin && is_text a then [] else broken s a) ++ (if printed then [] else no_number (kind_of s a) (place a))) ++ broken_arguments s printed false others
+  -- An argument has to be what its parameter is, an object or a number (C99, section 6.5.2.2, paragraph 7); what printf prints may be of any kind here, since a wrong
+  -- one breaks the rule of formats.
+  pub broken_arguments : Scope → (wanted : Option (List Kind)) → (text_may_begin : Bool) → ExprTrees → List Broken
+  broken_arguments s wanted text_may_begin no_exprs = []
+  broken_arguments s wanted text_may_begin (and_expr a others) =
+      ((if text_may_begin && is_text a then [] else broken s a) ++ no_such (first_wanted wanted) (kind_of s a) (place a)) ++ broken_arguments s (option_map (drop 1) wanted) false others
 
 -- ---- how many objects an expression takes
 
 abbrev pub at_if : Bool → ℕ → List ℕ
 at_if so at = if so then at ∷ [] else []
 
--- a name reads the variable that it means, or `self`, whose field it means
-abbrev pub name_takes : Scope → Option Local → List ℕ → Bool
-name_takes s None name = is_some (own_field s name)
-name_takes s (Some (scopes.Number kind n)) name = false
-name_takes s (Some (scopes.Object n class)) name = true
+-- a name reads the variable that it means or `self`, whose field it means, and then that field
+abbrev pub name_taken : Scope → Option Local → List ℕ → ℕ → List ℕ
+name_taken s None name at = at_if (is_some (own_field s name)) at ++ at_if (is_object (field_kind s (own_field s name))) at
+name_taken s (Some (scopes.Number kind n)) name at = []
+name_taken s (Some (scopes.Object n class)) name at = at ∷ []
 
--- whether an assignment's left side is a variable of the body or `self`, which it doesn't read
-abbrev pub is_unread : Scope → ExprTree → Bool
-is_unread s (Paren at a) = is_unread s a
-is_unread s (Itself at) = true
-is_unread s (Name at name) = is_some (s.variables name)
-is_unread s _ = false
+-- a name that is assigned to reads `self`, where it means a field of it, and no variable
+abbrev pub unread_name : Scope → Option Local → List ℕ → ℕ → List ℕ
+unread_name s None name at = at_if (is_some (own_field s name)) at
+unread_name s (Some local) name at = []
 
 -- The places at which an expression takes an object, in the order of the source: each read of a variable that names objects, and of `self` (by `super` and by
--- the name of a field too), each message that gives an object, at its selector's first part, and each assignment of one, at its `=` (this project's own
--- choice).
+-- the name of a field too), each read of a field that names one, at its name, each message that gives an object, at its selector's first part, and each assignment
+-- of one, at its `=` (this project's own choice).
 abbrev mutual
   pub taken : Scope → ExprTree → List ℕ
   taken s (Paren at a) = taken s a
   taken s (Call at name arguments) = all_taken s arguments
   taken s (Itself at) = at_if (is_some (own_class s)) at
-  taken s (Name at name) = at_if (name_takes s (variable s name) name) at
+  taken s (Name at name) = name_taken s (variable s name) name at
   taken s (Unary at operator a) = taken s a
   taken s (Cast at type a) = taken s a
   taken s (Binary at operator a b) = taken s a ++ taken s b
   taken s (Conditional at c a b) = taken s c ++ (taken s a ++ taken s b)
-  taken s (Arrow at name_at a name) = taken s a
-  taken s (Assign at sign a b) = ((if is_unread s a then [] else taken s a) ++ at_if (is_object (kind_of s a)) sign) ++ taken s b
+  taken s (Arrow at name_at a name) = taken s a ++ at_if (is_object (arrow_kind s (kind_of s a) (s.known.field (class_of s a) name))) name_at
+  taken s (Assign at sign a b) = ((if is_assignable a then unread s a else taken s a) ++ at_if (is_object (kind_of s a)) sign) ++ taken s b
   taken s (Update at sign moment operator a b) = taken s a ++ taken s b
   taken s (Send at part receiver selector arguments) =
       (taken s receiver ++ at_if (is_object (message_kind s (class_receiver s receiver) (kind_of s receiver) (class_of s receiver) selector)) part) ++ all_taken s arguments
   taken s (SendSuper at part super_at selector arguments) =
       (at_if (is_some (own_class s)) super_at ++ at_if (is_object (super_kind s selector)) part) ++ all_taken s arguments
   taken s _ = []
+
+  -- what a variable, a field or `self` takes that isn't read, but assigned to: the object whose field it is
+  pub unread : Scope → ExprTree → List ℕ
+  unread s (Paren at a) = unread s a
+  unread s (Name at name) = unread_name s (variable s name) name at
+  unread s (Arrow at name_at a name) = taken s a
+  unread s _ = []
 
   pub all_taken : Scope → ExprTrees → List ℕ
   all_taken s no_exprs = []
@@ -353,6 +364,25 @@ broken_body result known parameters None = []
 broken_body result known parameters (Some body) =
     broken_parameters (outermost known result) parameters ++ broken_stmts (is_nothing (Some result)) false (with_parameters (outermost known result) parameters) body
 
+-- ---- variables of the whole program
+
+-- A constant is a number, or `nil`.
+abbrev pub constant_kind : Constant → Kind
+constant_kind (constants.Number at n) = k.Int
+constant_kind (constants.Nil at) = k.Object
+
+-- the place of its first byte
+abbrev pub constant_place : Constant → ℕ
+constant_place (constants.Number at n) = at
+constant_place (constants.Nil at) = at
+
+-- 43 KindMismatch too: a number with which a variable begins that names objects, or `nil` with which one begins that holds a number, at the constant's first byte
+-- (C99, section 6.7.8, paragraph 11)
+abbrev pub broken_global : GlobalTree → List Broken
+broken_global g = option_map_or (λ c. no_such (Some (type_kind g.type)) (Some (constant_kind c)) (constant_place c)) g.initial []
+
+-- ---- functions, methods and classes
+
 -- 45 ArgumentCount too: a function with more parameters than are allowed, at its name (this project's own choice)
 abbrev pub broken_function : Known → FunctionTree → List Broken
 broken_function known f =
@@ -377,7 +407,7 @@ broken_implementation known i = flat_map (broken_method known (known.class i.nam
 abbrev pub known_of : UnitTree → Known
 known_of u = record {
   function = known u.functions;
-  global = known_global u.globals;
+  global = known_global u.interfaces u.globals;
   parameters = kinds_of_parameters u.functions;
   passed = kinds_passed u;
   class = class_number u.interfaces;
@@ -391,4 +421,5 @@ known_of u = record {
 
 -- all that is wrong in the functions and the methods of a source
 abbrev pub broken_unit : UnitTree → List Broken
-broken_unit u = flat_map (broken_function (known_of u)) u.functions ++ (flat_map broken_interface u.interfaces ++ flat_map (broken_implementation (known_of u)) u.implementations)
+broken_unit u = flat_map (broken_function (known_of u)) u.functions
+    ++ (flat_map broken_global u.globals ++ (flat_map broken_interface u.interfaces ++ flat_map (broken_implementation (known_of u)) u.implementations))

@@ -9,7 +9,7 @@ use Rattle.arc_ast.specs.declared.tree.Sign.TheVariants as signs
 use Rattle.arc_ast.specs.declared.tree.Visibility.{Visibility}
 use Rattle.arc_ast.specs.declared.tree.Visibility.TheVariants as v
 use Rattle.arc_ast.specs.Tree as tree
-use Rattle.arc_ast.specs.Tree.{TypeTree, ExprTree, Paren, Nil, Cast, Conditional, Itself, Name, Assign, Send, SendSuper, VariableTree, StmtTree, StmtTrees, Block, Empty, Simple, Return, Variables, If, IfElse, While, Do, For, Break, Continue, no_stmts, and_stmt, ParameterTree}
+use Rattle.arc_ast.specs.Tree.{TypeTree, ExprTree, Paren, Nil, Cast, Conditional, Itself, Name, Arrow, Assign, Send, SendSuper, VariableTree, StmtTree, StmtTrees, Block, Empty, Simple, Return, Variables, If, IfElse, While, Do, For, Break, Continue, no_stmts, and_stmt, ParameterTree}
 use Rattle.arc_spec.specs.Classes.{same_sign}
 use Rattle.arc_spec.specs.declared.location.Location.{Location}
 use Rattle.arc_spec.specs.declared.location.Location.TheVariants as location
@@ -37,11 +37,11 @@ pub record Known : Type 0 where
   pub selector : List ℕ → Option ℕ
   pub field : Option ℕ → List ℕ → Option FoundField
 
--- A variable: a number of a kind, by where it is held, or one that names objects, by its number among these, and with its static class, of which `id` has none
--- (OPL, "Static Typing").
+-- A variable, by where it is: one that holds a number of a kind, or one that names objects, with its static class, of which `id` has none (OPL, "Static Typing").
+-- The two sorts are numbered apart.
 pub data Local : Type 0 where
   Number : Kind → Location → Local
-  Object : ℕ → (class : Option ℕ) → Local
+  Object : Location → (class : Option ℕ) → Local
 
 -- What names mean at a place: what is known of the source; the class in whose method the place is, if it is in one, and the method's sign; the kind of what the
 -- function or the method gives; how many numbers come before all others, which is one in a class method, `self`; the variables in scope; and the numbers that
@@ -71,7 +71,7 @@ abbrev pub with_number : List ℕ → Kind → Scope → Scope
 with_number name kind s = record s { variables = bound name (Number kind (location.Local s.next)) s.variables; next = suc s.next }
 
 abbrev pub with_object : List ℕ → (class : Option ℕ) → Scope → Scope
-with_object name class s = record s { variables = bound name (Object s.names class) s.variables; names = suc s.names }
+with_object name class s = record s { variables = bound name (Object (location.Local s.names) class) s.variables; names = suc s.names }
 
 -- the class of a type, of which `id` has none
 abbrev pub static_class : Known → TypeTree → Option ℕ
@@ -134,7 +134,7 @@ in_method known class sign result =
 
 -- ---- functions
 
--- a function that takes numbers; a count and texts are `main`'s alone
+-- a function that takes arguments; a count and texts are `main`'s alone
 abbrev pub callee_known : Option Declared → Callee
 callee_known f = unwrap_or (option_and_then (λ d. option_map (λ count. Defined d.signature.result count d.body) d.signature.takes) f) Unknown
 
@@ -167,10 +167,17 @@ class_itself s = if same_sign s.sign signs.Class then s.class else None
 abbrev pub own_field : Scope → List ℕ → Option FoundField
 own_field s name = s.known.field (own_class s) name
 
+abbrev pub of_kind : Kind → Location → (class : Option ℕ) → Local
+of_kind k.Object n class = Object n class
+of_kind kind n class = Number kind n
+
+abbrev pub of_global : Variable → Local
+of_global v = of_kind v.kind (location.Global v.number) (option_map number_of_class v.class)
+
 -- the variable of the whole program that a name means which no field of `self` has (C99, section 6.2.1; it is known in the whole source, which is this project's
 -- own choice)
 abbrev pub global_variable : Scope → List ℕ → Option Local
-global_variable s name = if is_some (own_field s name) then None else option_map (λ v. Number v.kind (location.Global v.number)) (s.known.global name)
+global_variable s name = if is_some (own_field s name) then None else option_map of_global (s.known.global name)
 
 -- the variable that a name means: one of the body, or else one of the whole program
 abbrev pub variable : Scope → List ℕ → Option Local
@@ -238,10 +245,14 @@ sent_class class static selector = option_map_or (λ c. if_class (makes selector
 abbrev pub super_class : Scope → List ℕ → Option ℕ
 super_class s selector = if_class (if same_sign s.sign signs.Class then makes selector else is_init selector) s.class
 
-abbrev pub local_class : Option Local → Option ℕ
-local_class None = None
-local_class (Some (Number kind n)) = None
-local_class (Some (Object n class)) = class
+-- the static class of a field that names objects, and of what a name means: a variable, or else a field of `self`
+abbrev pub field_class : Option FoundField → Option ℕ
+field_class found = option_and_then (λ f. option_map number_of_class f.class) found
+
+abbrev pub name_class : Option Local → Option FoundField → Option ℕ
+name_class None own = field_class own
+name_class (Some (Number kind n)) own = None
+name_class (Some (Object n class)) own = class
 
 -- whether an expression is `nil`, parentheses aside
 abbrev pub is_nil : ExprTree → Bool
@@ -264,9 +275,10 @@ either_class false false a b = same_class a b
 abbrev pub class_of : Scope → ExprTree → Option ℕ
 class_of s (Paren at a) = class_of s a
 class_of s (Itself at) = own_class s
-class_of s (Name at name) = local_class (variable s name)
+class_of s (Name at name) = name_class (variable s name) (own_field s name)
 class_of s (Cast at type a) = static_class s.known type
 class_of s (Conditional at c a b) = either_class (is_nil a) (is_nil b) (class_of s a) (class_of s b)
+class_of s (Arrow at name_at a name) = field_class (s.known.field (class_of s a) name)
 class_of s (Assign at sign a b) = class_of s a
 class_of s (Send at part receiver selector arguments) = sent_class (class_receiver s receiver) (class_of s receiver) selector
 class_of s (SendSuper at part super_at selector arguments) = super_class s selector

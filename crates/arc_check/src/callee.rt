@@ -11,7 +11,7 @@ use arc_class::table::{ClassTable, Declared};
 pub enum Callee {
     Printf,
     GetChar,
-    /// One of the source: what it gives, how many numbers it takes, and which of the functions with a body it is, if it has one.
+    /// One of the source: what it gives, how many arguments it takes, and which of the functions with a body it is, if it has one.
     Defined(Kind, usize, Option<usize>),
     Unknown,
 }

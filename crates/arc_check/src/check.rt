@@ -12,7 +12,7 @@ ghost use Rattle.arc_check.specs.Rules.{broken_unit};
 use crate::body::judge_functions;
 use crate::checked::{Checked, CheckedFunction};
 use crate::classes::copied;
-use crate::global::first_numbers;
+use crate::global::{first_numbers, judge_globals, strong_globals};
 use crate::method::{judge_implementations, judge_interfaces};
 use crate::program::{add_implementations, functions};
 use arc_ast::tree::TranslationUnit;
@@ -31,9 +31,11 @@ fn judge_unit<'a>(
     ensures { IfOk result (λ fault. option_map told fault ≡ first (broken_unit (unit_tree unit.now))) }
 {
     let functions = judge_functions(alloc, table, &unit.functions)?;
+    let globals = judge_globals(&unit.globals);
     let interfaces = judge_interfaces(&unit.interfaces);
     let implementations = judge_implementations(alloc, table, &unit.implementations)?;
-    Ok(earlier(functions, earlier(interfaces, implementations)))
+    let classes = earlier(interfaces, implementations);
+    Ok(earlier(functions, earlier(globals, classes)))
 }
 
 /// The resolved functions and, after them, the methods of the source. The table is one of the unit.
@@ -71,6 +73,7 @@ pub fn check<'a>(
         functions: resolve_unit(alloc, unit, table)?,
         main: table.main,
         globals: first_numbers(alloc, &unit.globals)?,
+        strong_globals: strong_globals(&unit.globals),
         classes: copied(alloc, &table.classes)?,
     })
 }

@@ -23,7 +23,7 @@ pub enum Value {
     /// A call of `getchar`.
     ReadByte,
     /// A call of `printf`, with its format and the values after it.
-    Print(Vec<Piece>, Vec<Value>),
+    Print(Vec<Piece>, Vec<Argument>),
     Applied(UnaryOperator, Kind, Box<Value>),
     Combined(BinaryOperator, Kind, Box<Value>, Box<Value>),
     /// The first of two values where the test is other than 0, else the second.
@@ -36,19 +36,11 @@ pub enum Value {
     /// that of the variable, and the right operand.
     Updated(Moment, Location, BinaryOperator, Kind, Kind, Box<Value>),
     /// A call of the function with this number.
-    Invoked(usize, Vec<Value>),
-    /// A message: what gets it, which gives a class's number, the selector's number, and the
-    /// arguments.
-    Sent(Box<Value>, usize, Vec<Value>),
-    /// A message to `super`: the number of the class from which the method is looked up, the
-    /// selector's number, and the arguments.
-    SentSuper(usize, usize, Vec<Value>),
-    /// A message to an object: the object, the selector's number, and the arguments.
-    SentTo(Box<Reference>, usize, Vec<Value>),
-    /// A message to `super` in a method of objects: the number of the class from which the method is
-    /// looked up, the selector's number, and the arguments.
-    SentToSuper(usize, usize, Vec<Value>),
-    /// A field: the object, the class whose own field it is, and the field's number in the objects.
+    Invoked(usize, Vec<Argument>),
+    /// A message: what gets it, the selector's number, and the arguments.
+    Sent(Box<Receiver>, usize, Vec<Argument>),
+    /// A field that holds a number: the object, the class whose own field it is, and the field's number in the
+    /// objects.
     Field(Box<Reference>, usize, usize),
     /// The same, and what is assigned to the field.
     FieldAssigned(Box<Reference>, usize, usize, Box<Value>),
@@ -68,16 +60,44 @@ pub enum Reference {
     Nil,
     /// `self`
     Itself,
-    /// The variable of the running function with this number among those that name objects.
-    Variable(usize),
+    /// A variable that names objects, by its number among these.
+    Variable(Location),
     /// The first of two objects where the test is other than 0, else the second.
     Chosen(Box<Value>, Box<Reference>, Box<Reference>),
     /// An assignment to such a variable.
-    Stored(usize, Box<Reference>),
+    Stored(Location, Box<Reference>),
+    /// A field that names an object: the object that has it, the class whose own field it is, and its number in
+    /// the objects among the fields that name objects.
+    ObjectField(Box<Reference>, usize, usize),
+    /// The same, and what is assigned to the field.
+    ObjectFieldStored(Box<Reference>, usize, usize, Box<Reference>),
     /// `alloc` or `new`: what gives the class's number.
     Made(Box<Value>),
     /// `init` of an object.
     Initialized(Box<Reference>),
+}
+
+/// What gets a message.
+#[cycle(expression)]
+#[derive(Drop)]
+pub enum Receiver {
+    /// The class whose number this gives.
+    ClassValue(Box<Value>),
+    /// `super` in a class method: the number of the class from which the method is looked up.
+    ClassSuper(usize),
+    /// The object that this gives, or nil.
+    ObjectValue(Box<Reference>),
+    /// `super` in a method of objects: the number of the class from which the method is looked up.
+    ObjectSuper(usize),
+}
+
+/// What a function or a method is passed.
+#[cycle(expression)]
+#[derive(Drop)]
+pub enum Argument {
+    Number(Box<Value>),
+    /// An object or nil.
+    Object(Box<Reference>),
 }
 
 /// A statement.
@@ -101,23 +121,26 @@ pub enum Command {
     Continue,
 }
 
-/// A function with how many variables it has that hold numbers, of which the first are its parameters,
-/// and how many that name objects; the first number of a class method is `self`.
+/// A function with how many variables it has that hold numbers, and how many that name objects. Of each
+/// sort the first are its parameters; those that name objects are so many. The first number of a class
+/// method is `self`.
 #[derive(Drop)]
 pub struct CheckedFunction {
     pub slots: usize,
     pub names: usize,
+    pub parameters: usize,
     pub body: Vec<Command>,
 }
 
 /// A checked program: the source that it comes from; its functions with a body, in their order, and then
-/// its methods; which of them is `main`; what its global variables hold first; and its classes, whose
-/// methods run functions.
+/// its methods; which of them is `main`; what those of its global variables hold first that hold numbers;
+/// how many of its global variables name objects; and its classes, whose methods run functions.
 #[derive(Drop)]
 pub struct Checked<'a> {
     pub unit: &'a TranslationUnit,
     pub functions: Vec<CheckedFunction>,
     pub main: usize,
     pub globals: Vec<i64>,
+    pub strong_globals: usize,
     pub classes: Vec<Class>,
 }

@@ -10,7 +10,7 @@ ghost use Rattle.arc_check.specs.private.Views.{known_in, local_of, seen};
 
 use crate::scope::{Local, Visible};
 use arc_ast::tree::{Kind, Visibility};
-use arc_class::table::{ClassId, ClassTable, FoundField};
+use arc_class::table::{ClassId, ClassTable, FoundField, Variable};
 use arc_fault::check::CheckFault;
 use arc_spec::class::descends_from;
 use arc_spec::location::Location;
@@ -39,7 +39,39 @@ fn global_variable<'a>(
     }
     match table.global(name) {
         None => None,
-        Some(global) => Some(Local::Number(global.kind, Location::Global(global.number))),
+        Some(global) => Some(of_global(global)),
+    }
+}
+
+/// What a name means that is this variable's of the whole program.
+fn of_global(global: Variable) -> Local
+    ensures { local_of result ≡ scopes.of_global global }
+{
+    let location = Location::Global(global.number);
+    match global.kind {
+        Kind::Object => Local::Object(location, global.class),
+        Kind::Void | Kind::Bool | Kind::Int | Kind::Long => Local::Number(global.kind, location),
+    }
+}
+
+/// The static class of the field, if it names objects of one.
+pub fn field_class(found: Option<FoundField>) -> Option<ClassId>
+    ensures { option_map number_of_class result ≡ scopes.field_class found }
+{
+    match found {
+        None => None,
+        Some(field) => field.class,
+    }
+}
+
+/// The static class of what a name means: a variable, or else a field of `self`.
+pub fn name_class(local: Option<Local>, own: Option<FoundField>) -> Option<ClassId>
+    ensures { option_map number_of_class result ≡ scopes.name_class (option_map local_of local) own }
+{
+    match local {
+        None => field_class(own),
+        Some(Local::Number(_, _)) => None,
+        Some(Local::Object(_, class)) => class,
     }
 }
 

@@ -1,5 +1,6 @@
 //! Finds the first rule that is broken in an expression.
-ghost use Rattle.std.specs.Prelude.{◌≡◌, ℕ, None, Some, not, is_none, is_some, option_map, if◌then◌else◌, []};
+ghost use Rattle.std.specs.Prelude.{◌≡◌, ℕ, List, None, Some, not, is_none, is_some, option_map, if◌then◌else◌, [], ◌∷◌};
+ghost use Rattle.arc_ast.specs.declared.tree.Kind.{Kind};
 ghost use Rattle.arc_ast.specs.Tree as tree;
 ghost use Rattle.arc_ast.specs.Tree.{Arrow, Assign, Cast, Conditional, Itself, Name, Send, SendSuper, Update, expr_tree, expr_trees, type_tree};
 ghost use Rattle.arc_class.specs.Broken.{broken_if, earlier_of, first};
@@ -14,36 +15,38 @@ ghost use Rattle.arc_ast.specs.declared.tree.Moment.{Moment};
 ghost use Rattle.arc_check.specs.Rules.{kind_if, no_left, no_number, no_right, no_value};
 ghost use Rattle.arc_check.specs.Scopes as scopes;
 ghost use Rattle.arc_check.specs.declared.scope.Visible.{Visible};
-ghost use Rattle.arc_check.specs.private.Views.{known_in, seen};
+ghost use Rattle.arc_check.specs.private.Views.{kinds_wanted, known_in, seen};
 
 use crate::callee::{Callee, callee_of, result_kind};
-use crate::field::{field_fault, field_kind, named_variable, own_field};
+use crate::field::{field_class, field_fault, field_kind, named_variable, own_field};
 use crate::format::{next_conversion, take_conversion};
 use crate::message::{
     class_receiver, sent_class, sent_kind, static_class, super_class, super_kind,
 };
 use crate::rule::{
     binary_kind, call_fault, either_class, either_kind, is_assignable, is_nil, is_object,
-    is_unread, is_updatable, literal_kind, no_left, no_number, no_object, no_operand, no_right,
-    no_such, no_value, place, unary_kind,
+    is_updatable, literal_kind, no_left, no_number, no_object, no_operand, no_right, no_such,
+    no_value, place, unary_kind,
 };
 use crate::scope::{Local, Visible};
 use crate::taken::Taken;
+use crate::wanted::{after_first, first_wanted, receiver_sign};
 use arc_ast::tree::{
-    BinaryOperator, Expr, Kind, OperatorSort, TypeName, UnaryOperator, operator_sort,
+    BinaryOperator, Expr, Kind, OperatorSort, Parameter, TypeName, UnaryOperator, operator_sort,
 };
 use arc_class::table::{ClassId, ClassTable, FoundField};
 use arc_fault::check::CheckFault;
 use arc_sites::violation::earlier;
 
-/// The judgement on an expression: its kind, where it has one, its static class, the first rule that is broken in it, and how many objects the
-/// full-expression has taken after it.
+/// The judgement on an expression: its kind, where it has one, its static class, the first rule that is broken in it, how many objects the
+/// full-expression has taken after it, and how many where it isn't read, but assigned to.
 #[derive(Clone, Copy)]
 pub struct Judged {
     pub kind: Option<Kind>,
     pub class: Option<ClassId>,
     pub fault: Option<CheckFault>,
     pub taken: Taken,
+    pub unread: Taken,
 }
 
 /// The judgement on a call's arguments: whether they suit a format, the first rule that is broken in them, and how many objects the full-expression has taken
@@ -57,25 +60,40 @@ pub struct Arguments {
 
 /// A number, where one has a kind, in which this is broken.
 fn number(kind: Option<Kind>, fault: Option<CheckFault>, taken: Taken) -> Judged
-    ensures { result ≡ (record { kind = kind; class = None; fault = fault; taken = taken }) }
+    ensures { result ≡ (record { kind = kind; class = None; fault = fault; taken = taken; unread = taken }) }
 {
     Judged {
         kind,
         class: None,
         fault,
         taken,
+        unread: taken,
     }
 }
 
-/// An object, of a static class, in which this is broken.
-fn object(class: Option<ClassId>, fault: Option<CheckFault>, taken: Taken) -> Judged
-    ensures { result ≡ (record { kind = Some Kind.Object; class = class; fault = fault; taken = taken }) }
+/// An object, of a static class, which is read from a variable or `self` at this place.
+fn object_read(class: Option<ClassId>, before: Taken, at: usize) -> Judged
+    ensures { result ≡ (record { kind = Some Kind.Object; class = class; fault = None; taken = counted before (at ∷ []); unread = before }) }
 {
     Judged {
         kind: Some(Kind::Object),
         class,
-        fault,
-        taken,
+        fault: None,
+        taken: before.one_if(true, at),
+        unread: before,
+    }
+}
+
+/// `nil`
+fn no_object_read(before: Taken) -> Judged
+    ensures { result ≡ (record { kind = Some Kind.Object; class = None; fault = None; taken = before; unread = before }) }
+{
+    Judged {
+        kind: Some(Kind::Object),
+        class: None,
+        fault: None,
+        taken: before,
+        unread: before,
     }
 }
 
@@ -121,7 +139,7 @@ fn judge_itself(visible: &Visible, before: Taken, at: usize) -> Judged
 {
     let class = visible.own_class();
     if class.is_some() {
-        object(class, None, before.one_if(true, at))
+        object_read(class, before, at)
     } else if visible.class.is_some() {
         number(None, Some(CheckFault::KindMismatch(at)), before)
     } else {
@@ -138,15 +156,20 @@ fn judge_own_field(
     own: Option<FoundField>,
 ) -> Judged
     ensures kind { result.kind ≡ rules.field_kind (seen table.now visible.now) own }
-    ensures class { result.class ≡ None }
+    ensures class { option_map number_of_class result.class ≡ scopes.field_class own }
     ensures fault { option_map told result.fault ≡ first (rules.no_field (seen table.now visible.now) own at) }
-    ensures taken { result.taken ≡ counted before (rules.at_if (is_some own) at) }
+    ensures taken { result.taken ≡ counted (counted before (rules.at_if (is_some own) at)) (rules.at_if (rules.is_object (rules.field_kind (seen table.now visible.now) own)) at) }
+    ensures unread { result.unread ≡ counted before (rules.at_if (is_some own) at) }
 {
-    number(
-        field_kind(table, visible, own),
-        field_fault(table, visible, own, at),
-        before.one_if(own.is_some(), at),
-    )
+    let kind = field_kind(table, visible, own);
+    let unread = before.one_if(own.is_some(), at);
+    Judged {
+        kind,
+        class: field_class(own),
+        fault: field_fault(table, visible, own, at),
+        taken: unread.one_if(is_object(kind), at),
+        unread,
+    }
 }
 
 /// The judgement on a name.
@@ -161,7 +184,7 @@ fn judge_name<'a>(
 {
     match named_variable(table, visible, name) {
         Some(Local::Number(kind, _)) => number(Some(kind), None, before),
-        Some(Local::Object(_, class)) => object(class, None, before.one_if(true, at)),
+        Some(Local::Object(_, class)) => object_read(class, before, at),
         None => judge_own_field(table, visible, before, at, own_field(table, visible, name)),
     }
 }
@@ -183,7 +206,7 @@ pub fn judge<'a>(
         Expr::Text(at, _) => number(None, Some(CheckFault::KindMismatch(*at)), before),
         Expr::Paren(_, inside) => judge(table, visible, before, inside),
         Expr::Call(at, name, arguments) => judge_call(table, visible, before, *at, name, arguments),
-        Expr::Nil(_) => object(None, None, before),
+        Expr::Nil(_) => no_object_read(before),
         Expr::Itself(at) => judge_itself(visible, before, *at),
         Expr::Name(at, name) => judge_name(table, visible, before, *at, name),
         Expr::Unary(_, operator, operand) => {
@@ -267,6 +290,7 @@ fn chosen(
         class,
         fault: earlier(by_test, earlier(of_one, of_other)),
         taken: other.taken,
+        unread: other.taken,
     }
 }
 
@@ -315,6 +339,7 @@ fn judge_cast<'a>(
         class: static_class(table, type_name),
         fault: earlier(judged.fault, no_such(kind, judged.kind, place(operand))),
         taken: judged.taken,
+        unread: judged.taken,
     }
 }
 
@@ -328,19 +353,35 @@ fn field_of(
     name_at: usize,
 ) -> Judged
     ensures kind { result.kind ≡ rules.arrow_kind (seen table.now visible.now) base.kind found }
-    ensures class { result.class ≡ None }
+    ensures class { option_map number_of_class result.class ≡ scopes.field_class found }
     ensures fault { option_map told result.fault
         ≡ earlier_of (earlier_of (option_map told base.fault) (first (rules.no_object base.kind base_at)))
         (first (rules.broken_field (seen table.now visible.now) base.kind found name_at)) }
-    ensures taken { result.taken ≡ base.taken }
+    ensures taken { result.taken ≡ counted base.taken (rules.at_if (rules.is_object (rules.arrow_kind (seen table.now visible.now) base.kind found)) name_at) }
+    ensures unread { result.unread ≡ base.taken }
 {
     let own = earlier(base.fault, no_object(base.kind, base_at));
+    let class = field_class(found);
+    let unread = base.taken;
     if is_object(base.kind) {
         let kind = field_kind(table, visible, found);
-        let fault = field_fault(table, visible, found, name_at);
-        number(kind, earlier(own, fault), base.taken)
+        let fault = earlier(own, field_fault(table, visible, found, name_at));
+        let taken = unread.one_if(is_object(kind), name_at);
+        Judged {
+            kind,
+            class,
+            fault,
+            taken,
+            unread,
+        }
     } else {
-        number(None, own, base.taken)
+        Judged {
+            kind: None,
+            class,
+            fault: own,
+            taken: unread,
+            unread,
+        }
     }
 }
 
@@ -362,18 +403,11 @@ fn judge_arrow<'a>(
 }
 
 /// What an assignment has taken after its `=`, from the judgement on its left side.
-fn taken_by_left(
-    visible: &Visible,
-    before: Taken,
-    left: &Expr,
-    judged: Judged,
-    sign: usize,
-) -> Taken
-    ensures { (table : ClassTable) → result
-        ≡ counted (if rules.is_unread (seen table visible.now) (expr_tree left.now) then before else judged.taken) (rules.at_if (rules.is_object judged.kind) sign) }
+fn taken_by_left(is_assignable: bool, judged: Judged, sign: usize) -> Taken
+    ensures { result ≡ counted (if is_assignable then judged.unread else judged.taken) (rules.at_if (rules.is_object judged.kind) sign) }
 {
-    let read = if is_unread(visible, left) {
-        before
+    let read = if is_assignable {
+        judged.unread
     } else {
         judged.taken
     };
@@ -407,6 +441,7 @@ fn assigned(
         class: left.class,
         fault: earlier(earlier(left.fault, own), other),
         taken: right.taken,
+        unread: right.taken,
     }
 }
 
@@ -423,9 +458,10 @@ fn judge_assignment<'a>(
     ensures { (at : ℕ) → Judges (seen table.now visible.now) before (Assign at sign (expr_tree left.now) (expr_tree right.now)) result }
 {
     let first = judge(table, visible, before, left);
-    let between = taken_by_left(visible, before, left, first, sign);
+    let is_assignable = is_assignable(left);
+    let between = taken_by_left(is_assignable, first, sign);
     let second = judge(table, visible, between, right);
-    assigned(is_assignable(left), sign, first, second, place(right))
+    assigned(is_assignable, sign, first, second, place(right))
 }
 
 /// The judgement on an update, from its sides.
@@ -537,12 +573,14 @@ fn judge_send<'a>(
     let own = receiver_fault(class, judged, place(receiver));
     let unknown = method_fault(table, class, judged, selector, part);
     let between = judged.taken.one_if(is_object(kind), part);
-    let passed = judge_arguments(table, visible, between, false, b"", arguments);
+    let wanted = Some(table.parameters_passed(receiver_sign(class), selector));
+    let passed = judge_arguments(table, visible, between, wanted, b"", arguments);
     Judged {
         kind,
         class: sent_class(class, judged.class, selector),
         fault: earlier(earlier(own, unknown), passed.fault),
         taken: passed.taken,
+        unread: passed.taken,
     }
 }
 
@@ -576,12 +614,14 @@ fn judge_super<'a>(
 {
     let kind = super_kind(table, visible, selector);
     let between = taken_by_super(visible, before, super_at, kind, part);
-    let passed = judge_arguments(table, visible, between, false, b"", arguments);
+    let wanted = Some(table.parameters_passed(visible.sign, selector));
+    let passed = judge_arguments(table, visible, between, wanted, b"", arguments);
     Judged {
         kind,
         class: super_class(visible, selector),
         fault: earlier(unknown_method(kind, part), passed.fault),
         taken: passed.taken,
+        unread: passed.taken,
     }
 }
 
@@ -595,13 +635,14 @@ fn judge_call<'a>(
     name: &'a [u8],
     arguments: &'a [Expr],
 ) -> Judged
-    ensures { JudgesCall (seen table.now visible.now) before at (scopes.callee (known_in table.now) name.now) (expr_trees arguments.now) result }
+    ensures { JudgesCall (seen table.now visible.now) before at (scopes.callee (known_in table.now) name.now) ((known_in table.now).parameters name.now) (expr_trees arguments.now) result }
 {
     let callee = callee_of(table, name);
     match callee {
         Callee::Printf => judge_print(table, visible, before, at, arguments),
         _ => {
-            let inside = judge_arguments(table, visible, before, false, b"", arguments);
+            let wanted = Some(table.parameters(name));
+            let inside = judge_arguments(table, visible, before, wanted, b"", arguments);
             let own = call_fault(callee, at, arguments.len());
             called(result_kind(callee), own, inside)
         }
@@ -617,11 +658,11 @@ fn judge_print<'a>(
     at: usize,
     arguments: &'a [Expr],
 ) -> Judged
-    ensures { JudgesCall (seen table.now visible.now) before at Callee.Printf (expr_trees arguments.now) result }
+    ensures { (kinds : List Kind) → JudgesCall (seen table.now visible.now) before at Callee.Printf kinds (expr_trees arguments.now) result }
 {
     match arguments.split_first() {
         Some((Expr::Text(_, format), values)) => {
-            let inside = judge_arguments(table, visible, before, true, format, values);
+            let inside = judge_arguments(table, visible, before, None, format, values);
             let own = if inside.fit {
                 None
             } else {
@@ -630,59 +671,59 @@ fn judge_print<'a>(
             called(Kind::Int, own, inside)
         }
         _ => {
-            let inside = judge_arguments(table, visible, before, true, b"", arguments);
+            let inside = judge_arguments(table, visible, before, None, b"", arguments);
             called(Kind::Int, Some(CheckFault::Format(at)), inside)
         }
     }
 }
 
-/// The judgement on an argument: printf's may be of any kind here.
+/// The judgement on an argument, which has to be of the kind, if there is one: printf's may be of any kind here.
 #[cycle(judge)]
 fn judge_argument<'a>(
     table: &ClassTable<'a>,
     visible: &Visible<'a>,
     before: Taken,
-    printed: bool,
+    wanted: Option<Kind>,
     argument: &'a Expr,
 ) -> Judged
     ensures kind { result.kind ≡ rules.kind_of (seen table.now visible.now) (expr_tree argument.now) }
     ensures fault { option_map told result.fault
-        ≡ earlier_of (first (rules.broken (seen table.now visible.now) (expr_tree argument.now))) (first (if printed then [] else (no_number (rules.kind_of (seen table.now visible.now) (expr_tree argument.now)) (tree.place (expr_tree argument.now))))) }
+        ≡ earlier_of (first (rules.broken (seen table.now visible.now) (expr_tree argument.now))) (first (rules.no_such wanted (rules.kind_of (seen table.now visible.now) (expr_tree argument.now)) (tree.place (expr_tree argument.now)))) }
     ensures taken { result.taken ≡ counted before (rules.taken (seen table.now visible.now) (expr_tree argument.now)) }
 {
     let judged = judge(table, visible, before, argument);
-    if printed {
-        return judged;
-    }
     number(
         judged.kind,
-        earlier(judged.fault, no_number(judged.kind, place(argument))),
+        earlier(judged.fault, no_such(wanted, judged.kind, place(argument))),
         judged.taken,
     )
 }
 
-/// The judgement on arguments after a format.
+/// The judgement on arguments, which are passed to these parameters or, without any, printed by a format.
 #[cycle(judge)]
 fn judge_arguments<'a>(
     table: &ClassTable<'a>,
     visible: &Visible<'a>,
     before: Taken,
-    printed: bool,
+    passed: Option<&'a [Parameter]>,
     format: &[u8],
     arguments: &'a [Expr],
 ) -> Arguments
-    ensures { JudgesAll (seen table.now visible.now) before printed (wanted format.now) (expr_trees arguments.now) result }
+    ensures { JudgesAll (seen table.now visible.now) before (kinds_wanted passed.entry) (wanted format.now) (expr_trees arguments.now) result }
 {
     let mut rest = format;
+    let mut parameters = passed;
     let mut told = Arguments {
         fit: true,
         fault: None,
         taken: before,
     };
     for argument in arguments {
-        let judged = judge_argument(table, visible, told.taken, printed, argument);
+        let wanted = first_wanted(parameters);
+        let judged = judge_argument(table, visible, told.taken, wanted, argument);
         let (fit, behind) = take_conversion(rest, judged.kind);
         rest = behind;
+        parameters = after_first(parameters);
         told = Arguments {
             fit: told.fit && fit,
             fault: earlier(told.fault, judged.fault),

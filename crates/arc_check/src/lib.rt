@@ -19,3 +19,4 @@ mod resolve;
 mod rule;
 mod scope;
 mod taken;
+mod wanted;

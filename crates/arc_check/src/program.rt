@@ -459,10 +459,12 @@ fn function<'a>(
         ≡ resolved_body (with_parameters (seen table.now visible.entry) (parameter_trees named.now)) (stmt_trees body.now)) }
 {
     visible.declare_parameters(table, named)?;
+    let parameters = usize::from(visible.names);
     let body = commands(alloc, table, &mut visible, body)?;
     Ok(CheckedFunction {
         slots: usize::from(visible.next),
         names: usize::from(visible.names),
+        parameters,
         body,
     })
 }

@@ -10,7 +10,7 @@ ghost use Rattle.arc_check.specs.Resolving as resolving;
 ghost use Rattle.arc_check.specs.Resolving.{resolved};
 ghost use Rattle.arc_check.specs.private.Views.{local_of};
 
-use crate::checked::{Reference, Value};
+use crate::checked::{Argument, Receiver, Reference, Value};
 use crate::rule::{is_object, wider};
 use crate::scope::Local;
 use arc_ast::tree::{
@@ -372,12 +372,23 @@ pub fn field(
 ) -> Result<Resolution, AllocError>
     ensures { IfOk result (λ new. resolution new ≡ resolving.field (checked.reference object) found) }
 {
-    let Some(field) = found else {
-        return given(alloc, Kind::Int, Value::Number(0));
-    };
+    match found {
+        None => given(alloc, Kind::Int, Value::Number(0)),
+        Some(field) => read_field(alloc, object, field),
+    }
+}
+
+/// This field of the object.
+fn read_field(alloc: Global, object: Reference, field: FoundField) -> Result<Resolution, AllocError>
+    ensures { IfOk result (λ new. resolution new ≡ resolving.read_field (checked.reference object) field) }
+{
     let object = Box::new(alloc, object)?;
-    let value = Value::Field(object, field.owner.0, field.index);
-    given(alloc, field.kind, value)
+    if is_object(Some(field.kind)) {
+        Ok(Resolution::Refers(Reference::ObjectField(object, field.owner.0, field.index)))
+    } else {
+        let value = Value::Field(object, field.owner.0, field.index);
+        given(alloc, field.kind, value)
+    }
 }
 
 /// An assignment to the field of the object.
@@ -389,13 +400,31 @@ pub fn field_assigned(
 ) -> Result<Resolution, AllocError>
     ensures { IfOk result (λ new. resolution new ≡ resolving.field_assigned (checked.reference object) found (resolution of)) }
 {
-    let Some(field) = found else {
-        return Ok(of);
-    };
-    let value = converted(alloc, field.kind, of)?;
+    match found {
+        None => Ok(of),
+        Some(field) => store_field(alloc, object, field, of),
+    }
+}
+
+/// An assignment to this field of the object.
+fn store_field(
+    alloc: Global,
+    object: Reference,
+    field: FoundField,
+    of: Resolution,
+) -> Result<Resolution, AllocError>
+    ensures { IfOk result (λ new. resolution new ≡ resolving.store_field (checked.reference object) field (resolution of)) }
+{
     let object = Box::new(alloc, object)?;
-    let value = Value::FieldAssigned(object, field.owner.0, field.index, value);
-    given(alloc, field.kind, value)
+    if is_object(Some(field.kind)) {
+        let stored = Box::new(alloc, object_in(of))?;
+        let (owner, index) = (field.owner.0, field.index);
+        Ok(Resolution::Refers(Reference::ObjectFieldStored(object, owner, index, stored)))
+    } else {
+        let value = converted(alloc, field.kind, of)?;
+        let value = Value::FieldAssigned(object, field.owner.0, field.index, value);
+        given(alloc, field.kind, value)
+    }
 }
 
 /// What a name means: the variable, or else the field of `self`.
@@ -409,7 +438,7 @@ pub fn named(
     match local {
         None => field(alloc, Reference::Itself, own),
         Some(Local::Number(kind, location)) => given(alloc, kind, Value::Read(location)),
-        Some(Local::Object(number, _)) => Ok(Resolution::Refers(Reference::Variable(number))),
+        Some(Local::Object(location, _)) => Ok(Resolution::Refers(Reference::Variable(location))),
     }
 }
 
@@ -428,9 +457,9 @@ pub fn name_assigned(
             let value = converted(alloc, kind, of)?;
             given(alloc, kind, Value::Assigned(location, value))
         }
-        Some(Local::Object(number, _)) => {
+        Some(Local::Object(location, _)) => {
             let object = Box::new(alloc, object_in(of))?;
-            Ok(Resolution::Refers(Reference::Stored(number, object)))
+            Ok(Resolution::Refers(Reference::Stored(location, object)))
         }
     }
 }
@@ -492,22 +521,39 @@ pub fn class_value(receiver: &Expr, number: usize) -> Result<Value, AllocError>
     }
 }
 
+/// A message that gives no object, but a number of the kind.
+fn sent(
+    alloc: Global,
+    kind: Option<Kind>,
+    receiver: Receiver,
+    selector: usize,
+    all: Vec<Argument>,
+) -> Result<Resolution, AllocError>
+    ensures { IfOk result (λ new. resolution new ≡ resolving.sent_number kind (checked.receiver receiver) selector (checked.arguments all.items)) }
+{
+    let receiver = Box::new(alloc, receiver)?;
+    given(
+        alloc,
+        kind_or_int(kind),
+        Value::Sent(receiver, selector, all),
+    )
+}
+
 /// A message to a class that gives a value of the kind.
 pub fn to_class(
     alloc: Global,
     kind: Option<Kind>,
     class: Value,
     selector: usize,
-    all: Vec<Value>,
+    all: Vec<Argument>,
 ) -> Result<Resolution, AllocError>
-    ensures { IfOk result (λ new. resolution new ≡ resolving.to_class kind (checked.value class) selector (checked.values all.items)) }
+    ensures { IfOk result (λ new. resolution new ≡ resolving.to_class kind (checked.value class) selector (checked.arguments all.items)) }
 {
     let class = Box::new(alloc, class)?;
     if is_object(kind) {
         Ok(Resolution::Refers(Reference::Made(class)))
     } else {
-        let value = Value::Sent(class, selector, all);
-        given(alloc, kind_or_int(kind), value)
+        sent(alloc, kind, Receiver::ClassValue(class), selector, all)
     }
 }
 
@@ -517,16 +563,15 @@ pub fn to_object(
     kind: Option<Kind>,
     object: Reference,
     selector: usize,
-    all: Vec<Value>,
+    all: Vec<Argument>,
 ) -> Result<Resolution, AllocError>
-    ensures { IfOk result (λ new. resolution new ≡ resolving.to_object kind (checked.reference object) selector (checked.values all.items)) }
+    ensures { IfOk result (λ new. resolution new ≡ resolving.to_object kind (checked.reference object) selector (checked.arguments all.items)) }
 {
     let object = Box::new(alloc, object)?;
     if is_object(kind) {
         Ok(Resolution::Refers(Reference::Initialized(object)))
     } else {
-        let value = Value::SentTo(object, selector, all);
-        given(alloc, kind_or_int(kind), value)
+        sent(alloc, kind, Receiver::ObjectValue(object), selector, all)
     }
 }
 
@@ -546,13 +591,13 @@ fn made_by_super(alloc: Global, sign: Sign) -> Result<Resolution, AllocError>
     }
 }
 
-/// A message to `super` that gives a number, in a method of the sign; the method is looked up from the class with the number.
-fn super_value(sign: Sign, from: usize, selector: usize, all: Vec<Value>) -> Value
-    ensures { checked.value result ≡ resolving.super_value sign from selector (checked.values all.items) }
+/// What gets a message to `super` in a method of the sign; the method is looked up from the class with the number.
+fn super_receiver(sign: Sign, from: usize) -> Receiver
+    ensures { checked.receiver result ≡ resolving.super_receiver sign from }
 {
     match sign {
-        Sign::Class => Value::SentSuper(from, selector, all),
-        Sign::Instance => Value::SentToSuper(from, selector, all),
+        Sign::Class => Receiver::ClassSuper(from),
+        Sign::Instance => Receiver::ObjectSuper(from),
     }
 }
 
@@ -563,14 +608,13 @@ pub fn to_super(
     kind: Option<Kind>,
     from: usize,
     selector: usize,
-    all: Vec<Value>,
+    all: Vec<Argument>,
 ) -> Result<Resolution, AllocError>
-    ensures { IfOk result (λ new. resolution new ≡ resolving.to_super sign kind from selector (checked.values all.items)) }
+    ensures { IfOk result (λ new. resolution new ≡ resolving.to_super sign kind from selector (checked.arguments all.items)) }
 {
     if is_object(kind) {
         made_by_super(alloc, sign)
     } else {
-        let value = super_value(sign, from, selector, all);
-        given(alloc, kind_or_int(kind), value)
+        sent(alloc, kind, super_receiver(sign, from), selector, all)
     }
 }

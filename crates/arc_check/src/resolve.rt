@@ -1,18 +1,19 @@
 //! Builds the resolved expressions of a source that breaks no rule.
-ghost use Rattle.std.specs.Prelude.{◌≡◌, ℕ, List, Option, Some, None, drop, option_map, IfOk};
+ghost use Rattle.std.specs.Prelude.{◌≡◌, ℕ, List, Option, Some, None, option_map, IfOk};
 ghost use Rattle.arc_ast.specs.Tree.{ExprTree, type_tree, expr_tree, expr_trees, Integer, Text, Name, Unary, Cast, Binary, Conditional, Arrow, Assign, Update, Call, Send, SendSuper};
 ghost use Rattle.arc_class.specs.Table.{number_of_class};
-ghost use Rattle.arc_check.specs.private.Building.{Resolves, kinds_wanted, printing, resolution};
+ghost use Rattle.arc_check.specs.private.Building.{Resolves, printing, resolution};
 ghost use Rattle.arc_check.specs.Checked as checked;
 ghost use Rattle.arc_check.specs.Resolving as resolving;
 ghost use Rattle.arc_check.specs.Resolving.{number_as, resolved, resolved_all};
 ghost use Rattle.arc_check.specs.Scopes as scopes;
 ghost use Rattle.arc_check.specs.declared.scope.Visible.{Visible};
-ghost use Rattle.arc_check.specs.private.Views.{local_of, seen};
+ghost use Rattle.arc_check.specs.private.Views.{kinds_wanted, seen};
+ghost use Rattle.arc_spec.specs.Resolved as spec;
 
 use crate::callee::{Callee, callee_of, result_kind};
-use crate::checked::{Reference, Value};
-use crate::field::{named_variable, own_field};
+use crate::checked::{Argument, Reference, Value};
+use crate::field::{field_class, name_class, named_variable, own_field};
 use crate::format::pieces;
 use crate::message::{
     above, class_receiver, sent_class, sent_kind, static_class, super_class, super_kind,
@@ -23,8 +24,9 @@ use crate::resolution::{
     selector_number, to_class, to_object, to_super, unary, updated,
 };
 use crate::rule::{either_class, is_nil, literal_kind};
-use crate::scope::{Local, Visible};
-use arc_ast::tree::{BinaryOperator, Expr, Kind, Moment, Parameter, Sign, TypeName, UnaryOperator};
+use crate::scope::Visible;
+use crate::wanted::{after_first, first_wanted, receiver_sign};
+use arc_ast::tree::{BinaryOperator, Expr, Kind, Moment, Parameter, TypeName, UnaryOperator};
 use arc_class::table::{ClassId, ClassTable};
 use std::alloc::{AllocError, Global};
 
@@ -58,9 +60,10 @@ fn variable<'a>(
     ensures { IfOk result (λ typed. (at : ℕ) → Resolves (seen table.now visible.now) (Name at name.now) typed) }
 {
     let local = named_variable(table, visible, name);
-    let value = named(alloc, local, own_field(table, visible, name))?;
+    let own = own_field(table, visible, name);
+    let value = named(alloc, local, own)?;
     Ok(Typed {
-        class: local_class(local),
+        class: name_class(local, own),
         value,
     })
 }
@@ -200,7 +203,10 @@ fn arrow<'a>(
     let base = expression(alloc, table, visible, base)?;
     let found = table.field(base.class, name);
     let value = field(alloc, object_in(base.value), found)?;
-    Ok(Typed { class: None, value })
+    Ok(Typed {
+        class: field_class(found),
+        value,
+    })
 }
 
 /// A resolved assignment.
@@ -237,16 +243,6 @@ fn update<'a>(
     Ok(Typed { class: None, value })
 }
 
-/// The static class of the variable, if there is one.
-fn local_class(local: Option<Local>) -> Option<ClassId>
-    ensures { option_map number_of_class result ≡ scopes.local_class (option_map local_of local) }
-{
-    match local {
-        None | Some(Local::Number(_, _)) => None,
-        Some(Local::Object(_, class)) => class,
-    }
-}
-
 /// An assignment to the name, of what is resolved.
 fn to_name<'a>(
     alloc: Global,
@@ -255,14 +251,15 @@ fn to_name<'a>(
     name: &'a [u8],
     of: Resolution,
 ) -> Result<Typed, AllocError>
-    ensures class { IfOk result (λ typed. option_map number_of_class typed.class ≡ scopes.local_class (scopes.variable (seen table.now visible.now) name.now)) }
+    ensures class { IfOk result (λ typed. option_map number_of_class typed.class ≡ scopes.name_class (scopes.variable (seen table.now visible.now) name.now) (scopes.own_field (seen table.now visible.now) name.now)) }
     ensures value { IfOk result (λ typed. resolution typed.value
         ≡ resolving.name_assigned (scopes.variable (seen table.now visible.now) name.now) (scopes.own_field (seen table.now visible.now) name.now) (resolution of)) }
 {
     let local = named_variable(table, visible, name);
-    let value = name_assigned(alloc, local, own_field(table, visible, name), of)?;
+    let own = own_field(table, visible, name);
+    let value = name_assigned(alloc, local, own, of)?;
     Ok(Typed {
-        class: local_class(local),
+        class: name_class(local, own),
         value,
     })
 }
@@ -277,14 +274,17 @@ fn to_field<'a>(
     name: &'a [u8],
     of: Resolution,
 ) -> Result<Typed, AllocError>
-    ensures class { IfOk result (λ typed. option_map number_of_class typed.class ≡ None) }
+    ensures class { IfOk result (λ typed. option_map number_of_class typed.class ≡ scopes.field_class ((seen table.now visible.now).known.field (scopes.class_of (seen table.now visible.now) (expr_tree base.now)) name.now)) }
     ensures value { IfOk result (λ typed. resolution typed.value
         ≡ resolving.field_assigned (resolving.object_in (resolved (seen table.now visible.now) (expr_tree base.now))) ((seen table.now visible.now).known.field (scopes.class_of (seen table.now visible.now) (expr_tree base.now)) name.now) (resolution of)) }
 {
     let base = expression(alloc, table, visible, base)?;
     let found = table.field(base.class, name);
     let value = field_assigned(alloc, object_in(base.value), found, of)?;
-    Ok(Typed { class: None, value })
+    Ok(Typed {
+        class: field_class(found),
+        value,
+    })
 }
 
 /// The static class of the resolved expression, if it has one.
@@ -370,7 +370,7 @@ fn call<'a>(
             let wanted = Some(table.parameters(name));
             Value::Invoked(
                 number(body),
-                values(alloc, table, visible, wanted, arguments)?,
+                resolved_arguments(alloc, table, visible, wanted, arguments)?,
             )
         }
         Callee::GetChar => Value::ReadByte,
@@ -390,10 +390,10 @@ fn class_message<'a>(
     receiver: &'a Expr,
     class: ClassId,
     selector: &'a [u8],
-    all: Vec<Value>,
+    all: Vec<Argument>,
 ) -> Result<Resolution, AllocError>
     ensures { IfOk result (λ new. (visible : Visible) (static_class : Option ℕ) (of : resolving.Resolution) → resolution new
-        ≡ resolving.sent (seen table.now visible) (expr_tree receiver.now) (Some (number_of_class class)) static_class of selector.now (checked.values all.items)) }
+        ≡ resolving.sent (seen table.now visible) (expr_tree receiver.now) (Some (number_of_class class)) static_class of selector.now (checked.arguments all.items)) }
 {
     let kind = sent_kind(table, Some(class), None, selector);
     let number = selector_number(table.selector(selector));
@@ -407,10 +407,10 @@ fn object_message<'a>(
     table: &ClassTable<'a>,
     receiver: Typed,
     selector: &'a [u8],
-    all: Vec<Value>,
+    all: Vec<Argument>,
 ) -> Result<Resolution, AllocError>
     ensures { IfOk result (λ new. (visible : Visible) (a : ExprTree) → resolution new
-        ≡ resolving.sent (seen table.now visible) a None (option_map number_of_class receiver.class) (resolution receiver.value) selector.now (checked.values all.items)) }
+        ≡ resolving.sent (seen table.now visible) a None (option_map number_of_class receiver.class) (resolution receiver.value) selector.now (checked.arguments all.items)) }
 {
     let kind = sent_kind(table, None, receiver.class, selector);
     let number = selector_number(table.selector(selector));
@@ -431,7 +431,7 @@ fn message<'a>(
 {
     let class = class_receiver(table, visible, receiver);
     let wanted = Some(table.parameters_passed(receiver_sign(class), selector));
-    let all = values(alloc, table, visible, wanted, arguments)?;
+    let all = resolved_arguments(alloc, table, visible, wanted, arguments)?;
     match class {
         Some(class) => Ok(Typed {
             class: sent_class(Some(class), None, selector),
@@ -459,7 +459,7 @@ fn super_message<'a>(
     ensures { IfOk result (λ typed. (at part super_at : ℕ) → Resolves (seen table.now visible.now) (SendSuper at part super_at selector.now (expr_trees arguments.now)) typed) }
 {
     let wanted = Some(table.parameters_passed(visible.sign, selector));
-    let all = values(alloc, table, visible, wanted, arguments)?;
+    let all = resolved_arguments(alloc, table, visible, wanted, arguments)?;
     let kind = super_kind(table, visible, selector);
     let from = class_number(above(table, visible.class));
     let number = selector_number(table.selector(selector));
@@ -492,60 +492,32 @@ fn print<'a>(
     match arguments.split_first() {
         None => Ok(Value::Print(
             Vec::new(alloc),
-            values(alloc, table, visible, None, arguments)?,
+            resolved_arguments(alloc, table, visible, None, arguments)?,
         )),
         Some((first, others)) => {
-            let values = values(alloc, table, visible, None, others)?;
+            let values = resolved_arguments(alloc, table, visible, None, others)?;
             let pieces = pieces(alloc, text_of(first))?;
             Ok(Value::Print(pieces, values))
         }
     }
 }
 
-/// The kind that the first argument is converted to, by the parameters that it is passed to. What is printed keeps its
-/// kind: None.
-fn first_wanted(wanted: Option<&[Parameter]>) -> Option<Kind>
-    ensures { result ≡ resolving.first_wanted (kinds_wanted wanted.entry) }
+/// What is passed to a parameter of the kind or, without one, printed.
+fn passed(alloc: Global, wanted: Option<Kind>, of: Resolution) -> Result<Argument, AllocError>
+    ensures { IfOk result (λ new. (others : spec.Arguments) → checked.and_argument new others ≡ resolving.argument wanted (resolution of) others) }
 {
-    let parameters = wanted?;
-    match parameters.split_first() {
-        None => Some(Kind::Int),
-        Some((first, _)) => Some(first.type_name.kind()),
+    let Some(kind) = wanted else {
+        return Ok(Argument::Number(number_in(alloc, of)?));
+    };
+    match kind {
+        Kind::Object => Ok(Argument::Object(Box::new(alloc, object_in(of))?)),
+        Kind::Void | Kind::Bool | Kind::Int | Kind::Long => {
+            Ok(Argument::Number(converted(alloc, kind, of)?))
+        }
     }
 }
 
-/// The parameters that the others are passed to.
-fn after_first(wanted: Option<&[Parameter]>) -> Option<&[Parameter]>
-    ensures { kinds_wanted result ≡ option_map (drop 1) (kinds_wanted wanted.entry) }
-{
-    let parameters = wanted?;
-    match parameters.split_first() {
-        None => Some(&[]),
-        Some((_, others)) => Some(others),
-    }
-}
-
-/// The sign of the methods that a message goes to, by the class that its receiver is.
-fn receiver_sign(class: Option<ClassId>) -> Sign
-    ensures { result ≡ resolving.receiver_sign (option_map number_of_class class) }
-{
-    match class {
-        None => Sign::Instance,
-        Some(_) => Sign::Class,
-    }
-}
-
-/// The number that is passed, converted to the kind, if there is one.
-fn passed(alloc: Global, wanted: Option<Kind>, of: Resolution) -> Result<Box<Value>, AllocError>
-    ensures { IfOk result (λ new. checked.value new.value ≡ resolving.argument wanted (resolution of)) }
-{
-    match wanted {
-        None => number_in(alloc, of),
-        Some(kind) => converted(alloc, kind, of),
-    }
-}
-
-/// A resolved argument, converted to the kind, if there is one.
+/// A resolved argument, as what has the kind, if there is one.
 #[cycle(resolve)]
 fn argument<'a>(
     alloc: Global,
@@ -553,24 +525,23 @@ fn argument<'a>(
     visible: &Visible<'a>,
     wanted: Option<Kind>,
     expr: &'a Expr,
-) -> Result<Value, AllocError>
-    ensures { IfOk result (λ new. checked.value new ≡ resolving.argument wanted (resolved (seen table.now visible.now) (expr_tree expr.now))) }
+) -> Result<Argument, AllocError>
+    ensures { IfOk result (λ new. (others : spec.Arguments) → checked.and_argument new others ≡ resolving.argument wanted (resolved (seen table.now visible.now) (expr_tree expr.now)) others) }
 {
     let typed = expression(alloc, table, visible, expr)?;
-    let value = passed(alloc, wanted, typed.value)?;
-    Ok(Box::into_inner(value))
+    passed(alloc, wanted, typed.value)
 }
 
 /// Resolved arguments, which are passed to these parameters or, without any, printed.
 #[cycle(resolve)]
-fn values<'a>(
+fn resolved_arguments<'a>(
     alloc: Global,
     table: &ClassTable<'a>,
     visible: &Visible<'a>,
     wanted: Option<&'a [Parameter]>,
     arguments: &'a [Expr],
-) -> Result<Vec<Value>, AllocError>
-    ensures { IfOk result (λ all. checked.values all.items ≡ resolved_all (seen table.now visible.now) (kinds_wanted wanted.entry) (expr_trees arguments.now)) }
+) -> Result<Vec<Argument>, AllocError>
+    ensures { IfOk result (λ all. checked.arguments all.items ≡ resolved_all (seen table.now visible.now) (kinds_wanted wanted.entry) (expr_trees arguments.now)) }
 {
     let mut all = Vec::new(alloc);
     let mut rest = wanted;

@@ -3,7 +3,6 @@ ghost use Rattle.std.specs.Prelude.{◌≡◌, option_map};
 ghost use Rattle.arc_ast.specs.Tree as tree;
 ghost use Rattle.arc_ast.specs.Tree.{expr_tree};
 ghost use Rattle.arc_class.specs.Broken.{first};
-ghost use Rattle.arc_class.specs.declared.table.ClassTable.{ClassTable};
 ghost use Rattle.arc_check.specs.Fault.{told};
 ghost use Rattle.arc_check.specs.Kinds as kinds;
 ghost use Rattle.arc_check.specs.Rules as rules;
@@ -11,10 +10,8 @@ ghost use Rattle.arc_check.specs.Scopes as scopes;
 ghost use Rattle.arc_class.specs.Table.{number_of_class};
 ghost use Rattle.arc_check.specs.Rules.{broken_at, no_left, no_number, no_operand, no_right, no_value, number_kind, unary_kind};
 ghost use Rattle.arc_check.specs.private.Judging.{other_rule};
-ghost use Rattle.arc_check.specs.private.Views.{seen};
 
 use crate::callee::Callee;
-use crate::scope::Visible;
 use arc_ast::tree::{Expr, Kind, Moment, OperatorSort, UnaryOperator};
 use arc_class::table::ClassId;
 use arc_fault::check::CheckFault;
@@ -127,18 +124,6 @@ pub fn either_kind(a: Option<Kind>, b: Option<Kind>) -> Option<Kind>
         Some(Kind::Object)
     } else {
         both_kinds(number_kind(a), number_kind(b))
-    }
-}
-
-/// Whether an assignment's left side is a variable or `self`, which it doesn't read.
-pub fn is_unread(visible: &Visible, expr: &Expr) -> bool
-    ensures { (table : ClassTable) → result ≡ rules.is_unread (seen table visible.now) (expr_tree expr.now) }
-{
-    match expr {
-        Expr::Paren(_, inside) => is_unread(visible, inside),
-        Expr::Itself(_) => true,
-        Expr::Name(_, name) => visible.local(name).is_some(),
-        _ => false,
     }
 }
 

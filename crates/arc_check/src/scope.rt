@@ -11,13 +11,13 @@ use arc_class::table::{ClassId, ClassTable};
 use arc_spec::location::Location;
 use std::alloc::{AllocError, Global};
 
-/// A variable: a number, by where it is held, or one that names objects, by its number among these in its function.
+/// A variable, by where it is: one that holds a number, or one that names objects.
 #[derive(Clone, Copy)]
 pub enum Local {
     /// A number of a kind.
     Number(Kind, Location),
     /// One that names objects, with its static class, of which `id` has none.
-    Object(usize, Option<ClassId>),
+    Object(Location, Option<ClassId>),
 }
 
 /// A variable that is visible, and its name.
@@ -155,7 +155,7 @@ impl<'a> Visible<'a> {
         if self.has_place() {
             self.bound.push(Bound {
                 name,
-                local: Local::Object(usize::from(self.names), class),
+                local: Local::Object(Location::Local(usize::from(self.names)), class),
             })?;
             self.names += 1;
         }

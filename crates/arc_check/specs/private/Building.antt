@@ -1,14 +1,10 @@
 -- What is built of expressions and statements.
 use Rattle.std.specs.Prelude.{◌≡◌, List, [], ◌∷◌, Option, None, option_map}
-use Rattle.std.specs.Borrow.{Bor}
-use Rattle.arc_ast.specs.declared.tree.Kind.{Kind}
-use Rattle.arc_ast.specs.declared.tree.Parameter.{Parameter}
-use Rattle.arc_class.specs.Names.{parameter_kinds}
-use Rattle.arc_ast.specs.Tree.{ExprTree, ExprTrees, parameter_trees}
+use Rattle.arc_ast.specs.Tree.{ExprTree, ExprTrees}
 use Rattle.arc_class.specs.Table.{number_of_class}
 use Rattle.arc_spec.specs.Resolved as spec
-use Rattle.arc_spec.specs.Resolved.{Values, and_value, Commands, and_command}
-use Rattle.arc_check.specs.declared.checked.Value as checked_value
+use Rattle.arc_spec.specs.Resolved.{Arguments, Commands, and_command}
+use Rattle.arc_check.specs.declared.checked.Argument as checked_argument
 use Rattle.arc_check.specs.declared.checked.Command as checked_command
 use Rattle.arc_check.specs.declared.checked.CheckedFunction.{CheckedFunction}
 use Rattle.arc_check.specs.declared.callee.Callee.TheVariants.{Printf}
@@ -31,25 +27,21 @@ pub record Resolves (s : Scope) (a : ExprTree) (typed : Typed) : Type 0 where
 
 -- the function that a checked one stands for
 abbrev pub function_of : CheckedFunction → spec.Function
-function_of f = record { slots = f.slots; names = f.names; body = checked.commands f.body.items }
+function_of f = record { slots = f.slots; names = f.names; parameters = f.parameters; body = checked.commands f.body.items }
 
 -- functions in front of others
 abbrev pub functions_ahead : List CheckedFunction → List spec.Function → List spec.Function
 functions_ahead [] others = others
 functions_ahead (a ∷ all) others = function_of a ∷ functions_ahead all others
 
--- the kinds of the parameters that are there
-abbrev pub kinds_wanted : Option (Bor (List Parameter)) → Option (List Kind)
-kinds_wanted = option_map (λ all. parameter_kinds (parameter_trees all.now))
-
 -- a call of printf with these arguments
 abbrev pub printing : Scope → ExprTrees → spec.Value
 printing s arguments = called Printf arguments (resolved_all s None arguments)
 
--- values in front of others
-abbrev pub in_front : List checked_value.Value → Values → Values
+-- arguments in front of others
+abbrev pub in_front : List checked_argument.Argument → Arguments → Arguments
 in_front [] others = others
-in_front (a ∷ all) others = and_value (checked.value a) (in_front all others)
+in_front (a ∷ all) others = checked.and_argument a (in_front all others)
 
 -- commands in front of others
 abbrev pub ahead_of : List checked_command.Command → Commands → Commands

@@ -1,5 +1,6 @@
 -- The judgements on expressions: kinds, first broken rules, and how many objects are taken.
-use Rattle.std.specs.Prelude.{◌≡◌, ℕ, zero, suc, Bool, List, [], ◌∷◌, ◌++◌, Option, Some, None, false, is_none, option_map, nat_eq}
+use Rattle.std.specs.Prelude.{◌≡◌, ℕ, zero, suc, Bool, List, [], ◌∷◌, ◌++◌, Option, Some, None, true, false, is_none, option_map, nat_eq}
+use Rattle.arc_ast.specs.declared.tree.Kind.{Kind}
 use Rattle.arc_ast.specs.Tree.{ExprTree, ExprTrees}
 use Rattle.arc_class.specs.Broken.{first}
 use Rattle.arc_class.specs.Table.{number_of_class}
@@ -11,7 +12,8 @@ use Rattle.arc_check.specs.declared.judge.Arguments.{Arguments}
 use Rattle.arc_check.specs.declared.taken.Taken.{Taken}
 use Rattle.arc_check.specs.Fault.{told}
 use Rattle.arc_check.specs.Formats.{fits}
-use Rattle.arc_check.specs.Rules.{call_rule, kind_if, kind_of, kinds, broken_at, broken, broken_whole, broken_arguments, taken, all_taken, unless_so}
+use Rattle.arc_check.specs.Passing.{wanted_by}
+use Rattle.arc_check.specs.Rules.{call_rule, kind_if, kind_of, kinds, is_assignable, broken_at, broken, broken_whole, broken_arguments, taken, unread, all_taken, unless_so}
 use Rattle.arc_check.specs.Scopes.{Scope, result_kind, is_printf, class_of}
 use Rattle.arc_check.specs.declared.taken.TheConstants.{MOST_TAKEN}
 
@@ -43,12 +45,14 @@ other_rule GetChar arguments = unless_so (nat_eq arguments 0) 45
 other_rule (Defined result wanted body) arguments = unless_so (nat_eq arguments wanted) 45
 other_rule Unknown arguments = Some 41
 
--- an expression's kind, where it has one, its static class, the first rule that is broken in it, and how many objects are taken after it
+-- an expression's kind, where it has one, its static class, the first rule that is broken in it, how many objects are taken after it, and how many where it is assigned
+-- to
 pub record Judges (s : Scope) (before : Taken) (a : ExprTree) (judged : Judged) : Type 0 where
   pub kind : judged.kind ≡ kind_of s a
   pub class : option_map number_of_class judged.class ≡ class_of s a
   pub fault : option_map told judged.fault ≡ first (broken s a)
   pub taken : judged.taken ≡ counted before (taken s a)
+  pub unread : is_assignable a ≡ true → judged.unread ≡ counted before (unread s a)
 
 -- the kind of a full-expression, and the first rule that is broken in it
 pub record JudgesWhole (s : Scope) (a : ExprTree) (judged : Judged) : Type 0 where
@@ -56,15 +60,15 @@ pub record JudgesWhole (s : Scope) (a : ExprTree) (judged : Judged) : Type 0 whe
   pub fault : option_map told judged.fault ≡ first (broken_whole s a)
 
 -- whether arguments suit these conversions, the first rule that is broken in them, where none may be a text, and how many objects are taken after them
-pub record JudgesAll (s : Scope) (before : Taken) (printed : Bool) (wanted : List Part) (all : ExprTrees) (judged : Arguments) : Type 0 where
+pub record JudgesAll (s : Scope) (before : Taken) (passed : Option (List Kind)) (wanted : List Part) (all : ExprTrees) (judged : Arguments) : Type 0 where
   pub fit : judged.fit ≡ fits wanted (kinds s all)
-  pub fault : option_map told judged.fault ≡ first (broken_arguments s printed false all)
+  pub fault : option_map told judged.fault ≡ first (broken_arguments s passed false all)
   pub taken : judged.taken ≡ counted before (all_taken s all)
 
 -- the same of a call
-pub record JudgesCall (s : Scope) (before : Taken) (at : ℕ) (callee : Callee) (arguments : ExprTrees) (judged : Judged) : Type 0 where
+pub record JudgesCall (s : Scope) (before : Taken) (at : ℕ) (callee : Callee) (parameters : List Kind) (arguments : ExprTrees) (judged : Judged) : Type 0 where
   pub kind : judged.kind ≡ kind_if (is_none (call_rule callee arguments (kinds s arguments))) (result_kind callee)
   pub class : judged.class ≡ None
   pub fault : option_map told judged.fault
-      ≡ first (broken_at at (call_rule callee arguments (kinds s arguments)) ++ broken_arguments s (is_printf callee) (is_printf callee) arguments)
+      ≡ first (broken_at at (call_rule callee arguments (kinds s arguments)) ++ broken_arguments s (wanted_by callee parameters) (is_printf callee) arguments)
   pub taken : judged.taken ≡ counted before (all_taken s arguments)

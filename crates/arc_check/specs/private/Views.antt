@@ -1,6 +1,11 @@
 -- What the code knows of names.
 use Rattle.std.specs.Prelude.{ℕ, List, [], ◌∷◌, Option, Some, None, option_map, if◌then◌else◌}
 use Rattle.std.specs.Str.{bytes_eq}
+use Rattle.std.specs.Borrow.{Bor}
+use Rattle.arc_ast.specs.declared.tree.Kind.{Kind}
+use Rattle.arc_ast.specs.declared.tree.Parameter.{Parameter}
+use Rattle.arc_ast.specs.Tree.{parameter_trees}
+use Rattle.arc_class.specs.Names.{parameter_kinds}
 use Rattle.arc_class.specs.declared.table.ClassTable.{ClassTable}
 use Rattle.arc_class.specs.Table.{function_in, global_in, parameters_in, passed_in, class_in, superclass_in, result_in_table, any_result_in, field_in_table, selector_in, number_of_class}
 use Rattle.arc_spec.specs.Classes.{classes_of, descends}
@@ -9,6 +14,10 @@ use Rattle.arc_check.specs.declared.scope.Local as declared
 use Rattle.arc_check.specs.declared.scope.Local.TheVariants as l
 use Rattle.arc_check.specs.declared.scope.Visible.{Visible}
 use Rattle.arc_check.specs.Scopes.{Known, Local, Number, Object, Scope}
+
+-- the kinds of the parameters that are there
+abbrev pub kinds_wanted : Option (Bor (List Parameter)) → Option (List Kind)
+kinds_wanted = option_map (λ all. parameter_kinds (parameter_trees all.now))
 
 -- a variable, by the number of its class
 abbrev pub local_of : declared.Local → Local

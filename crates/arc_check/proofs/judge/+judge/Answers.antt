@@ -1,4 +1,4 @@
-use Rattle.std.proofs.Common.{◌≡◌, ◌<◌, ◌&&◌, length, Some, is_none, refl, sym, ap, ◌∙◌, option_map}
+use Rattle.std.proofs.Common.{◌≡◌, ◌<◌, ◌&&◌, false, length, Some, is_none, refl, sym, ap, ◌∙◌, option_map}
 use Rattle.arc_ast.specs.Tree.{expr_tree, expr_trees, type_tree, place}
 use Rattle.arc_ast.specs.Types.{type_kind}
 use Rattle.arc_class.specs.Broken.{first, earlier_of}
@@ -6,9 +6,10 @@ use Rattle.arc_class.specs.Table.{number_of_class}
 use Rattle.arc_check.specs.Fault.{told}
 use Rattle.arc_check.specs.Formats.{wanted}
 use Rattle.arc_check.specs.private.Judging.{Judges, counted}
-use Rattle.arc_check.specs.Rules.{at_if, kind_if, no_such}
+use Rattle.arc_check.specs.Passing.{receiver_sign}
+use Rattle.arc_check.specs.Rules.{at_if, broken_arguments, kind_if, no_such}
 use Rattle.arc_check.specs.Scopes.{either_class, is_nil}
-use Rattle.arc_check.specs.private.Views.{seen}
+use Rattle.arc_check.specs.private.Views.{kinds_wanted, seen}
 use Rattle.arc_check.proofs.Judgements.{judges_call, judges_send, judges_super, judges_unary, judges_cast, judges_arrow, judges_message, judges_super_message, judges_binary, judges_choice, judges_assign, judges_update, judges_other, fit_turn, fault_turn, taken_turn}
 use Rattle.arc_check.proofs.judge.+judge.Goals as goal
 use Rattle.arc_check.proofs.judge.+judge.Goals.{judge_arguments-then-told, judge_arguments-else-told}
@@ -20,7 +21,7 @@ pub judge-returns-in-Paren : goal.judge-returns-in-Paren
 judge-returns-in-Paren t c =
     let s = seen c.args.table.now c.args.visible.now in
     let h : Judges s c.args.before (expr_tree c.in-Paren.inside.value) c.judge.result = rw c.deref.ensures at c.judge.ensures in
-    rw c.in-Paren.is (record { kind = h.kind; class = h.class; fault = h.fault; taken = h.taken })
+    rw c.in-Paren.is (record { kind = h.kind; class = h.class; fault = h.fault; taken = h.taken; unread = h.unread })
 
 pub judge-returns-in-Unary : goal.judge-returns-in-Unary
 judge-returns-in-Unary t c = rw c.in-Unary.is (rw c.deref-in-Unary.ensures at (c.judge_unary.ensures c.in-Unary.field-0))
@@ -87,18 +88,18 @@ judge_cast-returns t c = λ at.
     let type = type_tree c.args.type_name.now in
     let same : Some c.kind.result ≡ Some (type_kind type) = ap Some c.kind.ensures in
     judges_cast (seen c.args.table.now c.args.visible.now) c.args.before at type (expr_tree c.args.operand.now) c.judge-judged.result
-    (record { kind = Some c.kind.result; class = c.static_class.result; fault = c.earlier.result; taken = c.judge-judged.result.taken }) c.place.result c.judge-judged.ensures c.place.ensures same c.static_class.ensures
+    (record { kind = Some c.kind.result; class = c.static_class.result; fault = c.earlier.result; taken = c.judge-judged.result.taken; unread = c.judge-judged.result.taken }) c.place.result c.judge-judged.ensures c.place.ensures same c.static_class.ensures
     (c.earlier.ensures ∙ ap (earlier_of (option_map told c.judge-judged.result.fault)) (c.no_such.ensures ∙ ap (λ k. first (no_such k c.judge-judged.result.kind c.place.result)) same)) refl
 
 pub judge_arrow-returns : goal.judge_arrow-returns
 judge_arrow-returns t c = λ at.
     judges_arrow (seen c.args.table.now c.args.visible.now) c.args.before at c.args.name_at (expr_tree c.args.base.now) c.args.name.now c.judge-judged.result c.field_of.result c.place.result c.field-found.result c.judge-judged.ensures c.place.ensures c.field-found.ensures
-    c.field_of.ensures.kind c.field_of.ensures.class c.field_of.ensures.fault c.field_of.ensures.taken
+    c.field_of.ensures.kind c.field_of.ensures.class c.field_of.ensures.fault c.field_of.ensures.taken c.field_of.ensures.unread
 
 pub judge_assignment-returns : goal.judge_assignment-returns
 judge_assignment-returns t c = λ at.
-    judges_assign (seen c.args.table.now c.args.visible.now) c.args.before c.taken_by_left-between.result at c.args.sign (expr_tree c.args.left.now) (expr_tree c.args.right.now) c.is_assignable.result c.judge-first.result c.judge-second.result c.assigned.result c.place.result c.judge-first.ensures
-    (c.taken_by_left-between.ensures c.args.table.now) c.judge-second.ensures c.is_assignable.ensures c.place.ensures c.assigned.ensures.kind c.assigned.ensures.class c.assigned.ensures.fault c.assigned.ensures.taken
+    judges_assign (seen c.args.table.now c.args.visible.now) c.args.before c.taken_by_left-between.result at c.args.sign (expr_tree c.args.left.now) (expr_tree c.args.right.now) c.is_assignable-is_assignable.result c.judge-first.result c.judge-second.result c.assigned.result c.place.result c.judge-first.ensures
+    c.taken_by_left-between.ensures c.judge-second.ensures c.is_assignable-is_assignable.ensures c.place.ensures c.assigned.ensures.kind c.assigned.ensures.class c.assigned.ensures.fault c.assigned.ensures.taken
 
 pub judge_update-returns : goal.judge_update-returns
 judge_update-returns t c = λ at moment operator.
@@ -108,25 +109,38 @@ judge_update-returns t c = λ at moment operator.
 pub judge_send-returns : goal.judge_send-returns
 judge_send-returns t c = λ at.
     let visible = c.args.visible.now in
-    judges_message (seen c.args.table.now visible) c.args.before c.one_if-between.result at c.args.part (expr_tree c.args.receiver.now) c.args.selector.now (expr_trees c.args.arguments.now) (option_map number_of_class c.class_receiver-class.result) c.judge-judged.result
-    (record { kind = c.message_kind-kind.result; class = c.sent_class.result; fault = c.earlier-2.result; taken = c.judge_arguments-passed.result.taken }) c.judge_arguments-passed.result c.place.result (option_map told c.receiver_fault-own.result) (option_map told c.method_fault-unknown.result)
+    let s = seen c.args.table.now visible in
+    let args = expr_trees c.args.arguments.now in
+    let passed = c.judge_arguments-passed.result in
+    let fault : option_map told passed.fault ≡ first (broken_arguments s (Some (s.known.passed (receiver_sign (option_map number_of_class c.class_receiver-class.result)) c.args.selector.now)) false args) =
+    c.judge_arguments-passed.ensures.fault ∙ ap (λ ks. first (broken_arguments s (Some ks) false args)) (c.parameters_passed.ensures ∙ ap (λ g. s.known.passed g c.args.selector.now) c.receiver_sign.ensures) in
+    judges_message s c.args.before c.one_if-between.result at c.args.part (expr_tree c.args.receiver.now) c.args.selector.now args (option_map number_of_class c.class_receiver-class.result) c.judge-judged.result
+    (record { kind = c.message_kind-kind.result; class = c.sent_class.result; fault = c.earlier-2.result; taken = passed.taken; unread = passed.taken }) passed c.place.result (option_map told c.receiver_fault-own.result) (option_map told c.method_fault-unknown.result)
     c.class_receiver-class.ensures c.judge-judged.ensures c.place.ensures (c.message_kind-kind.ensures visible) (c.receiver_fault-own.ensures) (c.method_fault-unknown.ensures visible)
-    (c.one_if-between.ensures ∙ ap (λ b. counted c.judge-judged.result.taken (at_if b c.args.part)) c.is_object.ensures) c.judge_arguments-passed.ensures.fault c.judge_arguments-passed.ensures.taken c.sent_class.ensures (c.earlier-2.ensures ∙ ap (λ o. earlier_of o (option_map told c.judge_arguments-passed.result.fault)) c.earlier.ensures) refl
+    (c.one_if-between.ensures ∙ ap (λ b. counted c.judge-judged.result.taken (at_if b c.args.part)) c.is_object.ensures) fault c.judge_arguments-passed.ensures.taken c.sent_class.ensures (c.earlier-2.ensures ∙ ap (λ o. earlier_of o (option_map told passed.fault)) c.earlier.ensures) refl
 
 pub judge_super-returns : goal.judge_super-returns
 judge_super-returns t c = λ at.
-    judges_super_message (seen c.args.table.now c.args.visible.now) c.args.before c.taken_by_super-between.result at c.args.part c.args.super_at c.args.selector.now (expr_trees c.args.arguments.now)
-    (record { kind = c.super_kind-kind.result; class = c.super_class.result; fault = c.earlier.result; taken = c.judge_arguments-passed.result.taken }) c.judge_arguments-passed.result (option_map told c.unknown_method.result) c.super_kind-kind.ensures (c.super_class.ensures c.args.table.now)
-    c.unknown_method.ensures (c.taken_by_super-between.ensures c.args.table.now) c.judge_arguments-passed.ensures.fault c.judge_arguments-passed.ensures.taken c.earlier.ensures refl
+    let s = seen c.args.table.now c.args.visible.now in
+    let args = expr_trees c.args.arguments.now in
+    let passed = c.judge_arguments-passed.result in
+    let fault : option_map told passed.fault ≡ first (broken_arguments s (Some (s.known.passed s.sign c.args.selector.now)) false args) =
+    c.judge_arguments-passed.ensures.fault ∙ ap (λ ks. first (broken_arguments s (Some ks) false args)) c.parameters_passed.ensures in
+    judges_super_message s c.args.before c.taken_by_super-between.result at c.args.part c.args.super_at c.args.selector.now args
+    (record { kind = c.super_kind-kind.result; class = c.super_class.result; fault = c.earlier.result; taken = passed.taken; unread = passed.taken }) passed (option_map told c.unknown_method.result) c.super_kind-kind.ensures (c.super_class.ensures c.args.table.now)
+    c.unknown_method.ensures (c.taken_by_super-between.ensures c.args.table.now) fault c.judge_arguments-passed.ensures.taken c.earlier.ensures refl
 
 pub judge_call-returns-in-Printf : goal.judge_call-returns-in-Printf
-judge_call-returns-in-Printf t c = rw (sym c.callee_of-callee.ensures, c.in-Printf.is) c.judge_print.ensures
+judge_call-returns-in-Printf t c = rw (sym c.callee_of-callee.ensures, c.in-Printf.is) (c.judge_print.ensures ((seen c.args.table.now c.args.visible.now).known.parameters c.args.name.now))
 
 pub judge_call-returns-in_default : goal.judge_call-returns-in_default
 judge_call-returns-in_default t c =
     let s = seen c.args.table.now c.args.visible.now in
-    rw (sym c.callee_of-callee.ensures) (judges_other s c.args.before c.args.at c.callee_of-callee.result c.args.arguments.now c.call_fault-own.result c.judge_arguments-inside.result c.called.result c.in_default.not-Printf c.call_fault-own.ensures
-    (c.called.ensures.kind ∙ ap (kind_if (is_none c.call_fault-own.result)) c.result_kind.ensures) c.called.ensures.class c.called.ensures.fault c.called.ensures.taken c.judge_arguments-inside.ensures.fault c.judge_arguments-inside.ensures.taken)
+    let all = expr_trees c.args.arguments.now in
+    let fault : option_map told c.judge_arguments-inside.result.fault ≡ first (broken_arguments s (Some (s.known.parameters c.args.name.now)) false all) =
+    c.judge_arguments-inside.ensures.fault ∙ ap (λ ks. first (broken_arguments s (Some ks) false all)) c.parameters.ensures in
+    rw (sym c.callee_of-callee.ensures) (judges_other s c.args.before c.args.at c.callee_of-callee.result (s.known.parameters c.args.name.now) c.args.arguments.now c.call_fault-own.result c.judge_arguments-inside.result c.called.result c.in_default.not-Printf c.call_fault-own.ensures
+    (c.called.ensures.kind ∙ ap (kind_if (is_none c.call_fault-own.result)) c.result_kind.ensures) c.called.ensures.class c.called.ensures.fault c.called.ensures.taken fault c.judge_arguments-inside.ensures.taken)
 
 pub judge_arguments-loop-argument-preserved : goal.judge_arguments-loop-argument-preserved
 judge_arguments-loop-argument-preserved t c =
@@ -140,5 +154,5 @@ judge_arguments-loop-argument-preserved t c =
       fit = fit_turn s xs i x c.judge_argument-judged.result.kind (wanted c.loop-argument.rest.now) (wanted c.take_conversion-fit.result.1.now) c.loop-argument.told.fit c.take_conversion-fit.result.0 c.if-told.told _ l c.argument-item.is c.judge_argument-judged.ensures.kind
           c.take_conversion-fit.ensures c.loop-argument.invariant.fit now;
       taken = taken_turn s xs i x c.loop-argument.told.taken c.judge_argument-judged.result.taken _ l c.argument-item.is c.judge_argument-judged.ensures.taken c.loop-argument.invariant.taken;
-      fault = fault_turn s c.args.printed xs i x (option_map told c.loop-argument.told.fault) (option_map told c.judge_argument-judged.result.fault) (option_map told c.earlier.result) _ l c.argument-item.is c.judge_argument-judged.ensures.fault c.earlier.ensures c.loop-argument.invariant.fault;
+      fault = fault_turn s (kinds_wanted c.loop-argument.parameters) c.first_wanted-wanted.result (kinds_wanted c.after_first-parameters.result) xs i x (option_map told c.loop-argument.told.fault) (option_map told c.judge_argument-judged.result.fault) (option_map told c.earlier.result) _ l c.argument-item.is c.first_wanted-wanted.ensures c.after_first-parameters.ensures c.judge_argument-judged.ensures.fault c.earlier.ensures c.loop-argument.invariant.fault;
     }

@@ -7,7 +7,7 @@ use Rattle.arc_check.specs.Fault.{told}
 use Rattle.arc_check.specs.Formats.{fits, wanted}
 use Rattle.arc_check.specs.private.Judging.{counted}
 use Rattle.arc_check.specs.Rules.{kinds, all_taken, broken_arguments}
-use Rattle.arc_check.specs.private.Views.{seen}
+use Rattle.arc_check.specs.private.Views.{kinds_wanted, seen}
 use Rattle.arc_check.proofs.judge.+judge.Given as goal
 
 -- the deepest of what is still to be judged, and in front of it what calls what
@@ -56,6 +56,6 @@ invariant-judge_arguments-loop-argument l =
     let s = seen l.table l.visible in
     record {
       fit : fits (wanted l.format) (kinds s (expr_trees l.arguments)) ≡ (l.told.fit && fits (wanted l.rest) (kinds s (expr_trees (drop l.argument-index l.arguments))));
-      fault : first (broken_arguments s l.printed false (expr_trees l.arguments)) ≡ earlier_of (option_map told l.told.fault) (first (broken_arguments s l.printed false (expr_trees (drop l.argument-index l.arguments))));
+      fault : first (broken_arguments s (kinds_wanted l.fn.passed) false (expr_trees l.arguments)) ≡ earlier_of (option_map told l.told.fault) (first (broken_arguments s (kinds_wanted l.parameters) false (expr_trees (drop l.argument-index l.arguments))));
       taken : counted l.fn.before (all_taken s (expr_trees l.arguments)) ≡ counted l.told.taken (all_taken s (expr_trees (drop l.argument-index l.arguments)));
     }

@@ -5,20 +5,21 @@ use Rattle.arc_class.specs.Table.{number_of_class}
 use Rattle.arc_spec.specs.Resolved.{Invoked}
 use Rattle.arc_check.specs.declared.callee.Callee.TheVariants.{Printf, GetChar, Defined, Unknown}
 use Rattle.arc_check.specs.declared.resolution.Typed.{Typed}
-use Rattle.arc_check.specs.private.Building.{resolution, kinds_wanted}
+use Rattle.arc_check.specs.private.Building.{resolution}
+use Rattle.arc_check.specs.Passing as passing
 use Rattle.arc_check.specs.Checked as checked
 use Rattle.arc_ast.specs.Tree.{expr_tree, expr_trees, type_tree}
 use Rattle.arc_ast.specs.Types.{type_kind}
 use Rattle.arc_check.specs.Resolving as resolving
 use Rattle.arc_check.specs.Resolving.{unary, binary, updated, cast, conditional, resolved, resolved_all}
 use Rattle.arc_check.specs.Scopes.{class_of, either_class, is_nil, result_kind}
-use Rattle.arc_check.specs.private.Views.{seen}
+use Rattle.arc_check.specs.private.Views.{kinds_wanted, seen}
 use Rattle.arc_ast.proofs.Trees.{call_tree, send_tree, send_super_tree}
 use Rattle.arc_check.proofs.Trees.{print_value, invoked_value}
 use Rattle.arc_check.proofs.Buildings.{values_turn, values_end, printing_some, printing_none, resolves_call}
 use Rattle.arc_check.proofs.Messages.{assigned_other, resolves_class, resolves_object, resolves_super}
 use Rattle.arc_check.proofs.resolve.+resolve.Goals as goal
-use Rattle.arc_check.proofs.resolve.+resolve.Goals.{call-in-Printf+in_ok-value-in-Printf, call-in-Defined+in_ok-values-in-Defined, call-in-GetChar, call-in-Unknown}
+use Rattle.arc_check.proofs.resolve.+resolve.Goals.{call-in-Printf+in_ok-value-in-Printf, call-in-Defined+in_ok-resolved_arguments-in-Defined, call-in-GetChar, call-in-Unknown}
 
 pub expression-returns-in-Call : goal.expression-returns-in-Call
 expression-returns-in-Call t c =
@@ -108,7 +109,7 @@ pub class_in-returns : goal.class_in-returns
 class_in-returns t c = c.in_ok-typed.ensures.class
 
 pub argument-returns : goal.argument-returns
-argument-returns t c = ap checked.value c.into_inner.ensures ∙ c.in_ok-value.ensures ∙ ap (resolving.argument c.args.wanted) c.in_ok-typed.ensures.value
+argument-returns t c = IfOk-weaker c.passed.result _ _ (λ new h others. h others ∙ ap (λ x. resolving.argument c.args.wanted x others) c.in_ok-typed.ensures.value) c.passed.ensures
 
 pub assigned-returns-in-Name-clause-class : goal.assigned-returns-in-Name-clause-class
 assigned-returns-in-Name-clause-class t c = rw (c.in-Name.is, sym c.deref-in-Name.ensures.value) c.to_name.ensures.class
@@ -117,7 +118,7 @@ pub assigned-returns-in-Name-clause-value : goal.assigned-returns-in-Name-clause
 assigned-returns-in-Name-clause-value t c = rw (c.in-Name.is, sym c.deref-in-Name.ensures.value) c.to_name.ensures.value
 
 pub assigned-returns-in-Arrow-clause-class : goal.assigned-returns-in-Arrow-clause-class
-assigned-returns-in-Arrow-clause-class t c = rw c.in-Arrow.is c.to_field.ensures.class
+assigned-returns-in-Arrow-clause-class t c = rw (c.in-Arrow.is, sym c.deref-in-Arrow.ensures, sym c.deref-in-Arrow-2.ensures.value) c.to_field.ensures.class
 
 pub assigned-returns-in-Arrow-clause-value : goal.assigned-returns-in-Arrow-clause-value
 assigned-returns-in-Arrow-clause-value t c = rw (c.in-Arrow.is, sym c.deref-in-Arrow.ensures, sym c.deref-in-Arrow-2.ensures.value) c.to_field.ensures.value
@@ -132,8 +133,8 @@ message-returns-in_ok-class_message-in-Some t c = λ at part.
     let args = expr_trees c.args.arguments.now in
     let name = c.args.selector.now in
     let class = c.class_receiver-class.ensures in
-    let passed = c.in_ok-all.ensures ∙ ap (λ k. resolved_all s (Some k) args) (c.parameters_passed.ensures ∙ ap (λ g. s.known.passed g name) (c.receiver_sign.ensures ∙ ap resolving.receiver_sign class)) in
-    resolves_class s at part r name args (number_of_class c.in-Some.class) (checked.values c.in_ok-all.all.items) (record { class = c.sent_class.result; value = c.in_ok-class_message-in-Some.field-0 })
+    let passed = c.in_ok-all.ensures ∙ ap (λ k. resolved_all s (Some k) args) (c.parameters_passed.ensures ∙ ap (λ g. s.known.passed g name) (c.receiver_sign.ensures ∙ ap passing.receiver_sign class)) in
+    resolves_class s at part r name args (number_of_class c.in-Some.class) (checked.arguments c.in_ok-all.all.items) (record { class = c.sent_class.result; value = c.in_ok-class_message-in-Some.field-0 })
     (sym (ap (option_map number_of_class) c.in-Some.is) ∙ class) passed c.sent_class.ensures (c.in_ok-class_message-in-Some.ensures c.args.visible.now (class_of s r) (resolved s r))
 
 pub message-returns-in_ok-object_message-in-None : goal.message-returns-in_ok-object_message-in-None
@@ -143,13 +144,13 @@ message-returns-in_ok-object_message-in-None t c = λ at part.
     let args = expr_trees c.args.arguments.now in
     let name = c.args.selector.now in
     let class = c.class_receiver-class.ensures in
-    let passed = c.in_ok-all.ensures ∙ ap (λ k. resolved_all s (Some k) args) (c.parameters_passed.ensures ∙ ap (λ g. s.known.passed g name) (c.receiver_sign.ensures ∙ ap resolving.receiver_sign class)) in
-    resolves_object s at part r name args c.in_ok-object-in-None.object (record { class = c.sent_class-in-None.result; value = c.in_ok-object_message-in-None.field-0 }) (checked.values c.in_ok-all.all.items)
+    let passed = c.in_ok-all.ensures ∙ ap (λ k. resolved_all s (Some k) args) (c.parameters_passed.ensures ∙ ap (λ g. s.known.passed g name) (c.receiver_sign.ensures ∙ ap passing.receiver_sign class)) in
+    resolves_object s at part r name args c.in_ok-object-in-None.object (record { class = c.sent_class-in-None.result; value = c.in_ok-object_message-in-None.field-0 }) (checked.arguments c.in_ok-all.all.items)
     (sym (ap (option_map number_of_class) c.in-None.is) ∙ class) c.in_ok-object-in-None.ensures passed c.sent_class-in-None.ensures (c.in_ok-object_message-in-None.ensures c.args.visible.now r)
 
 pub super_message-returns : goal.super_message-returns
 super_message-returns t c = λ at part super_at.
-    resolves_super (seen c.args.table.now c.args.visible.now) at part super_at c.args.selector.now (expr_trees c.args.arguments.now) c.super_kind-kind.result c.class_number-from.result c.selector_number-number.result (checked.values c.in_ok-all.all.items)
+    resolves_super (seen c.args.table.now c.args.visible.now) at part super_at c.args.selector.now (expr_trees c.args.arguments.now) c.super_kind-kind.result c.class_number-from.result c.selector_number-number.result (checked.arguments c.in_ok-all.all.items)
     (record { class = c.super_class.result; value = c.in_ok-to_super.field-0 }) c.super_kind-kind.ensures (c.class_number-from.ensures ∙ ap (λ n. unwrap_or n 0) c.above.ensures) (c.selector_number-number.ensures ∙ ap (λ n. unwrap_or n 0) c.selector.ensures)
     (c.in_ok-all.ensures ∙ ap (λ k. resolved_all (seen c.args.table.now c.args.visible.now) (Some k) (expr_trees c.args.arguments.now)) c.parameters_passed.ensures)
     (c.super_class.ensures c.args.table.now) c.in_ok-to_super.ensures
@@ -163,8 +164,8 @@ call-returns t c = λ at.
     let typed : Typed = record { class = None; value = c.in_ok-given.given } in
     elim c.match-callee.branch [
       | call-in-Printf+in_ok-value-in-Printf w ↦ resolves_call s at c.args.name.now all Printf k v typed (sym w.in-Printf.ensures) (c.result_kind.ensures ∙ ap result_kind (w.callee-is ∙ c.callee_of-callee.ensures ∙ sym w.in-Printf.ensures)) (ap checked.value w.value-is ∙ w.in_ok-value-in-Printf.ensures) refl c.in_ok-given.ensures
-      | call-in-Defined+in_ok-values-in-Defined w ↦ resolves_call s at c.args.name.now all (Defined w.in-Defined.field-0 w.in-Defined.field-1 w.in-Defined.body) k v typed (sym w.in-Defined.ensures) (c.result_kind.ensures ∙ ap result_kind w.callee-is)
-          (ap checked.value w.value-is ∙ invoked_value w.number.result w.in_ok-values-in-Defined.field-0 ∙ ap (λ f. Invoked f (checked.values w.in_ok-values-in-Defined.field-0.items)) w.number.ensures ∙ ap (Invoked (unwrap_or w.in-Defined.body 0)) (w.in_ok-values-in-Defined.ensures ∙ ap (λ k. resolved_all s (Some k) all) w.parameters.ensures)) refl c.in_ok-given.ensures
+      | call-in-Defined+in_ok-resolved_arguments-in-Defined w ↦ resolves_call s at c.args.name.now all (Defined w.in-Defined.field-0 w.in-Defined.field-1 w.in-Defined.body) k v typed (sym w.in-Defined.ensures) (c.result_kind.ensures ∙ ap result_kind w.callee-is)
+          (ap checked.value w.value-is ∙ invoked_value w.number.result w.in_ok-resolved_arguments-in-Defined.field-0 ∙ ap (λ f. Invoked f (checked.arguments w.in_ok-resolved_arguments-in-Defined.field-0.items)) w.number.ensures ∙ ap (Invoked (unwrap_or w.in-Defined.body 0)) (w.in_ok-resolved_arguments-in-Defined.ensures ∙ ap (λ k. resolved_all s (Some k) all) w.parameters.ensures)) refl c.in_ok-given.ensures
       | call-in-GetChar w ↦ resolves_call s at c.args.name.now all GetChar k v typed (sym w.in-GetChar.ensures) (c.result_kind.ensures ∙ ap result_kind (w.callee-is ∙ c.callee_of-callee.ensures ∙ sym w.in-GetChar.ensures)) (ap checked.value w.value-is) refl c.in_ok-given.ensures
       | call-in-Unknown w ↦ resolves_call s at c.args.name.now all Unknown k v typed (sym w.in-Unknown.ensures) (c.result_kind.ensures ∙ ap result_kind (w.callee-is ∙ c.callee_of-callee.ensures ∙ sym w.in-Unknown.ensures)) (ap checked.value w.value-is) refl c.in_ok-given.ensures
     ]
@@ -173,18 +174,18 @@ pub print-returns-in_ok-pieces-in-Some : goal.print-returns-in_ok-pieces-in-Some
 print-returns-in_ok-pieces-in-Some t c = print_value c.in_ok-pieces-in-Some.pieces c.in_ok-values-in-Some.values
     ∙ printing_some (seen c.args.table.now c.args.visible.now) c.args.arguments.now c.in-Some.first.now c.in-Some.others.now c.text_of.result.now c.in_ok-pieces-in-Some.pieces.items c.in_ok-values-in-Some.values.items c.in-Some.ensures.cases.0 c.text_of.ensures c.in_ok-pieces-in-Some.ensures c.in_ok-values-in-Some.ensures
 
-pub print-returns-in_ok-values-in-None : goal.print-returns-in_ok-values-in-None
-print-returns-in_ok-values-in-None t c = print_value c.new.result c.in_ok-values-in-None.field-0
-    ∙ printing_none (seen c.args.table.now c.args.visible.now) c.args.arguments.now c.new.result.items c.in_ok-values-in-None.field-0.items c.in-None.ensures.cases c.new.ensures.items c.in_ok-values-in-None.ensures
+pub print-returns-in_ok-resolved_arguments-in-None : goal.print-returns-in_ok-resolved_arguments-in-None
+print-returns-in_ok-resolved_arguments-in-None t c = print_value c.new.result c.in_ok-resolved_arguments-in-None.field-0
+    ∙ printing_none (seen c.args.table.now c.args.visible.now) c.args.arguments.now c.new.result.items c.in_ok-resolved_arguments-in-None.field-0.items c.in-None.ensures.cases c.new.ensures.items c.in_ok-resolved_arguments-in-None.ensures
 
-pub values-loop-one-preserved : goal.values-loop-one-preserved
-values-loop-one-preserved t c =
+pub resolved_arguments-loop-one-preserved : goal.resolved_arguments-loop-one-preserved
+resolved_arguments-loop-one-preserved t c =
     let s = seen c.args.table.now c.args.visible.now in
-    values_turn s (kinds_wanted c.loop-one.rest) (kinds_wanted c.after_first-rest.result) c.args.arguments.now c.loop-one.one-index c.one-item.result c.loop-one.all.items c.push.new.self.items c.in_ok-argument.field-0
+    values_turn s (kinds_wanted c.loop-one.rest) (kinds_wanted c.after_first-rest.result) c.args.arguments.now c.loop-one.one-index c.one-item.result c.loop-one.all.items c.push.new.self.items c.in_ok-argument.field-0 c.first_wanted-kind.result
     (resolved_all s (kinds_wanted c.args.wanted) (expr_trees c.args.arguments.now)) c.loop-one-test.true c.one-item.is c.loop-one.invariant c.in_ok-push.ensures.items
-    (c.in_ok-argument.ensures ∙ ap (λ k. resolving.argument k (resolving.resolved s (expr_tree c.one-item.result))) c.first_wanted-kind.ensures) c.after_first-rest.ensures
+    c.in_ok-argument.ensures c.first_wanted-kind.ensures c.after_first-rest.ensures
 
-pub values-returns : goal.values-returns
-values-returns t c =
+pub resolved_arguments-returns : goal.resolved_arguments-returns
+resolved_arguments-returns t c =
     let s = seen c.args.table.now c.args.visible.now in
     values_end s (kinds_wanted c.loop-one.rest) c.args.arguments.now c.loop-one.one-index c.loop-one.all.items (resolved_all s (kinds_wanted c.args.wanted) (expr_trees c.args.arguments.now)) c.loop-one-test.false c.loop-one.invariant

@@ -2,9 +2,9 @@ use Rattle.std.proofs.Common.{◌≡◌, ◌+◌, ◌*◌, max, drop}
 use denote.Param.Weighed.{most}
 use Rattle.arc_ast.specs.declared.tree.Expr.{size-Expr}
 use Rattle.arc_ast.specs.Tree.{expr_trees}
-use Rattle.arc_check.specs.private.Building.{in_front, kinds_wanted}
+use Rattle.arc_check.specs.private.Building.{in_front}
 use Rattle.arc_check.specs.Resolving.{resolved_all}
-use Rattle.arc_check.specs.private.Views.{seen}
+use Rattle.arc_check.specs.private.Views.{kinds_wanted, seen}
 use Rattle.arc_check.proofs.resolve.+resolve.Given as goal
 
 -- the deepest of what is still to be resolved, and in front of it what calls what
@@ -44,8 +44,8 @@ decreases-assignment l = 8 * max (size-Expr l.left.now) (size-Expr l.right.now) 
 abbrev pub decreases-argument : goal.decreases-argument
 decreases-argument l = 8 * goal.size-argument l + 1
 
-abbrev pub decreases-values : goal.decreases-values
-decreases-values l = 8 * goal.size-values l + 2
+abbrev pub decreases-resolved_arguments : goal.decreases-resolved_arguments
+decreases-resolved_arguments l = 8 * goal.size-resolved_arguments l + 2
 
 abbrev pub decreases-print : goal.decreases-print
 decreases-print l = 8 * goal.size-print l + 3
@@ -60,6 +60,6 @@ abbrev pub decreases-message : goal.decreases-message
 decreases-message l = 8 * max (size-Expr l.receiver.now) (most size-Expr l.arguments.now) + 3
 
 -- the values so far and those of the rest are all
-abbrev pub invariant-values-loop-one : goal.invariant-values-loop-one
-invariant-values-loop-one l =
+abbrev pub invariant-resolved_arguments-loop-one : goal.invariant-resolved_arguments-loop-one
+invariant-resolved_arguments-loop-one l =
     let s = seen l.table l.visible in resolved_all s (kinds_wanted l.wanted) (expr_trees l.arguments) ≡ in_front l.all.items (resolved_all s (kinds_wanted l.rest) (expr_trees (drop l.one-index l.arguments)))
