@@ -1,20 +1,21 @@
 -- A step shows the same and leads to the same, whatever is counted for nil, where each count is the number of places.
-use Rattle.std.proofs.Common.{◌≡◌, ℕ, zero, suc, ◌+◌, ◌-◌, Bool, true, false, ◌&&◌, nat_eq, if◌then◌else◌, ℤ, List, [], ◌∷◌, Option, Some, None, slice_get, slice_set, refl, ap, ◌∙◌}
+use Rattle.std.proofs.Common.{◌≡◌, ℕ, zero, suc, ◌+◌, ◌-◌, Bool, true, false, ◌&&◌, nat_eq, if◌then◌else◌, ℤ, List, [], ◌∷◌, ◌++◌, take, drop, Option, Some, None, slice_get, slice_set, refl, ap, ◌∙◌}
 use Rattle.arc_ast.specs.declared.tree.Sign.TheVariants as signs
 use Rattle.arc_spec.specs.declared.event.Fault.TheVariants.{Resurrected}
-use Rattle.arc_spec.specs.Classes.{Class, class_at, lookup, descends}
+use Rattle.arc_spec.specs.Classes.{Class, class_at, lookup, descends, field_order}
+use Rattle.arc_spec.specs.World.{name_at}
 use Rattle.arc_spec.specs.Number.{combined, is_zero}
 use Rattle.arc_spec.specs.Meaning.{chosen}
-use Rattle.arc_spec.specs.Objects.{Object, Dying, object_at, with_object, in_phase, is_live}
+use Rattle.arc_spec.specs.Objects.{Object, Dying, object_at, with_object, in_phase, is_live, is_emptying}
 use Rattle.arc_spec.specs.Stepping.{Next, Goes, Faults, on_top, on_two, on_found, only_if}
-use Rattle.arc_spec.specs.Holding.{Held, Frame, Calling, Ending, Waiter, Counted, holders, all_places, is_there, all_nil, with_things, with_temporaries, with_variables, on_object, on_named, on_reference, named, declares, lets_go, on_left, on_field, with_names, resumed, gone_in}
+use Rattle.arc_spec.specs.Holding.{Held, Frame, Calling, Ending, Clearing, Waiter, with_strong_globals, with_strong_field, on_place, Counted, holders, all_places, is_there, all_nil, with_things, with_temporaries, with_variables, on_object, on_named, on_reference, named, declares, lets_go, on_left, on_field, with_names, resumed, gone_in}
 use Rattle.arc_ir.specs.Acting.{Action}
 use Rattle.arc_code.specs.declared.instr.Op.TheVariants as ops
-use Rattle.arc_code.specs.declared.instr.Op.TheVariants.{Num, Bin, Un, Narrow, Pop, Get, Set, PrintNum, PrintByte, GetChar, Declare, Nil, ReadSelf, ReadRef, Hold, Forget, Alloc, GetField, SetField, Differ, IsObject}
-use Rattle.arc_code.specs.declared.instr.Instr.TheVariants.{Plain, PrintText, Jump, JumpZero, Call, Send, SendSuper, SendTo, SendToSuper, StoreStrong, Empty, DropAll, Return, EndStep}
-use Rattle.arc_ir.specs.Acting.{Program, State, entry, or_fault, keeps, has_level, enters, answers, taken, sends, begins_end, releases, drops_all, ends_object, runs_dealloc, ends_class, end_goes_on, leaves, allocates, executes}
+use Rattle.arc_code.specs.declared.instr.Op.TheVariants.{Num, Bin, Un, Narrow, Pop, Get, Set, PrintNum, PrintByte, GetChar, Declare, Nil, ReadSelf, ReadRef, ReadGlobal, ReadField, Hold, Forget, Alloc, GetField, SetField, Differ, IsObject}
+use Rattle.arc_code.specs.declared.instr.Instr.TheVariants.{Plain, PrintText, Jump, JumpZero, Call, Send, SendSuper, SendTo, SendToSuper, StoreStrong, StoreGlobal, StoreField, Empty, DropAll, Return, EndStep}
+use Rattle.arc_ir.specs.Acting.{Program, State, entry, or_fault, keeps, has_level, enters, answers, taken, sends, begins_end, releases, drops_all, ends_object, runs_dealloc, clears, after_deallocs, clears_next, ends_class, end_goes_on, leaves, allocates, executes}
 use Rattle.arc_lower.proofs.Standing.{ending, AllDying, no_nil}
-use Rattle.arc_lower.proofs.Recounting.{fresh, recount}
+use Rattle.arc_lower.proofs.Recounting.{fresh, recount, at}
 
 -- two steps lead to the same but for counts
 abbrev Agree : Next State → Next State → Type 0
@@ -95,6 +96,15 @@ module _ (h : Held) (stays stays' : Held → Next State) (ends ends' : ℕ → �
       ap (λ n. recount (lets k stays ends c o n)) (same k)
       ∙ if_agrees (is_live (Some o) && nat_eq (d (suc k)) 1) _ _ _ _ (over (suc k) o.class (with_object h.objects (suc k) (in_phase Dying o)) (λ i. if nat_eq i (suc k) then c i - 1 else c i) (λ i. if nat_eq i (suc k) then d i - 1 else d i)) (on (λ i. if nat_eq i (suc k) then c i - 1 else c i) (λ i. if nat_eq i (suc k) then d i - 1 else d i) (less_same (suc k) c d same)))
 
+place_agrees : (found : Option ℕ) (none none' : Next State) (go go' : ℕ → Next State) → Agree none none' → ((old : ℕ) → Agree (go old) (go' old)) → Agree (on_place found none go) (on_place found none' go')
+place_agrees None none none' go go' same h = same
+place_agrees (Some old) none none' go go' same h = h old
+
+-- the end of an object begins, whatever was held before
+begins_agree : (p : Program) (fs : List Frame) (pc : ℕ) (stack : List ℤ) (before other h : Held) (back o class : ℕ) (c d : ℕ → ℕ) (b b' : Bool) → b ≡ b' → Agree (begins_end p (at fs pc stack before) back o class (counted_by h c) b) (begins_end p (at fs pc stack other) back o class (counted_by h d) b')
+begins_agree p fs pc stack before other h back o class c d true b' e = ap (λ b. recount (begins_end p (at fs pc stack other) back o class (counted_by h d) b)) e
+begins_agree p fs pc stack before other h back o class c d false b' e = ap (λ b. recount (begins_end p (at fs pc stack other) back o class (counted_by h d) b)) e
+
 enters_agree : (s : State) (c : ℕ → ℕ) (to self : ℕ) (b : Bool) → Agree (enters s to self b) (enters (record s { held = counted_by s.held c }) to self b)
 enters_agree s c to self true = refl
 enters_agree s c to self false = refl
@@ -114,9 +124,9 @@ module _ (p : Program) (s : State) (right : Counted s.held) where
   or_fault_agrees None rest = refl
   or_fault_agrees (Some v) rest = refl
 
-  sends_agree : (from : Object → ℕ) (self selector takes : ℕ) (names : List ℕ) → Agree (sends p s from self selector takes names) (sends p t from self selector takes names)
-  sends_agree from zero selector takes names = taken_agrees takes s.stack _ _ (λ rest. refl)
-  sends_agree from (suc k) selector takes names = object_agrees (object_at s.held.objects (suc k)) _ _ (λ o. answers_agree (record s { held = with_names s.held names }) places (suc k) (lookup p.classes (Some (from o)) signs.Instance selector takes))
+  sends_agree : (from : Object → ℕ) (self selector takes objects : ℕ) (names : List ℕ) → Agree (sends p s from self selector takes objects names) (sends p t from self selector takes objects names)
+  sends_agree from zero selector takes objects names = taken_agrees takes s.stack _ _ (λ rest. refl)
+  sends_agree from (suc k) selector takes objects names = object_agrees (object_at s.held.objects (suc k)) _ _ (λ o. answers_agree (record s { held = with_names s.held names }) places (suc k) (lookup p.classes (Some (from o)) signs.Instance selector takes objects))
 
   begins_end_agrees : (back o class : ℕ) (h : Held) (c d : ℕ → ℕ) (b : Bool) → Agree (begins_end p s back o class (counted_by h c) b) (begins_end p t back o class (counted_by h d) b)
   begins_end_agrees back o class h c d true = refl
@@ -142,22 +152,43 @@ module _ (p : Program) (s : State) (right : Counted s.held) where
   runs_dealloc_agrees None frames = refl
   runs_dealloc_agrees (Some to) frames = refl
 
+  clears_agree : (back : ℕ) (waits : Waiter) (k : ℕ) (fields : List ℕ) (others : List Frame) → Agree (clears p s back waits (suc k) fields others) (clears p t back waits (suc k) fields others)
+  clears_agree back waits k [] others = ends_object_agrees back waits k others
+  clears_agree back waits k (index ∷ fields) others = refl
+
+  after_agrees : (back : ℕ) (waits : Waiter) (k : ℕ) (others : List Frame) → Agree (after_deallocs p s back waits (suc k) others) (after_deallocs p t back waits (suc k) others)
+  after_agrees back waits k others = object_agrees (object_at s.held.objects (suc k)) _ _ (λ ob. clears_agree back waits k (field_order p.classes ob.class) others)
+
+  -- the next field lets go of what it names
+  next_agrees : (fs : List Frame) (o index : ℕ) → Agree (clears_next p (record s { frames = fs }) o index) (clears_next p (record t { frames = fs }) o index)
+  next_agrees fs o index =
+      let stays : Held → Next State = λ h. Goes (at fs s.at s.stack h) [] in
+      let level = has_level (record s { frames = fs }) in
+      object_agrees (object_at s.held.objects o) _ _ (λ ob. place_agrees (slice_get ob.strong index) _ _ _ _ refl (λ old.
+      lets_agree (with_strong_field s.held o ob index 0) stays stays (λ other class h. begins_end p (at fs s.at s.stack s.held) s.at other class h level) (λ other class h. begins_end p (at fs s.at s.stack t.held) s.at other class h level)
+      (λ c d same. refl) (λ other class objects c d. begins_agree p fs s.at s.stack s.held t.held (with_things (with_strong_field s.held o ob index 0) objects) s.at other class c d level level refl)
+      old _ _ (more_same 0 s.held.counts places right.counted)))
+
   ends_class_agrees : (back : ℕ) (waits : Waiter) (k : ℕ) (class : Option Class) (left : ℕ) (others : List Frame) → Agree (ends_class p s back waits (suc k) class left others) (ends_class p t back waits (suc k) class left others)
-  ends_class_agrees back waits k None left others = ends_object_agrees back waits k others
+  ends_class_agrees back waits k None left others = after_agrees back waits k others
   ends_class_agrees back waits k (Some class) left others = runs_dealloc_agrees class.dealloc _
 
   end_goes_on_agrees : (frames : List Frame) → AllDying s.held.objects (ending frames) → Agree (end_goes_on p s frames) (end_goes_on p t frames)
   end_goes_on_agrees [] dying = refl
   end_goes_on_agrees (Calling back waits ∷ others) dying = refl
-  end_goes_on_agrees (Ending back waits zero next left ∷ others) dying = absurd (no_nil s.held.objects dying.0)
-  end_goes_on_agrees (Ending back waits (suc k) None left ∷ others) dying = ends_object_agrees back waits k others
-  end_goes_on_agrees (Ending back waits (suc k) (Some class) zero ∷ others) dying = ends_object_agrees back waits k others
+  end_goes_on_agrees (Ending back waits zero next left ∷ others) dying = absurd (no_nil s.held.objects None dying.0)
+  end_goes_on_agrees (Ending back waits (suc k) None left ∷ others) dying = after_agrees back waits k others
+  end_goes_on_agrees (Ending back waits (suc k) (Some class) zero ∷ others) dying = after_agrees back waits k others
   end_goes_on_agrees (Ending back waits (suc k) (Some class) (suc left) ∷ others) dying = ends_class_agrees back waits k (slice_get p.classes class) left others
+  end_goes_on_agrees (Clearing back waits zero [] ∷ others) dying = absurd (no_nil s.held.objects (Some []) dying.0)
+  end_goes_on_agrees (Clearing back waits (suc k) [] ∷ others) dying = ends_object_agrees back waits k others
+  end_goes_on_agrees (Clearing back waits o (index ∷ fields) ∷ others) dying = next_agrees (Clearing back waits o fields ∷ others) o index
 
   leaves_agree : (frames : List Frame) (v : ℤ) (rest : List ℤ) (h : Held) (c : ℕ → ℕ) → Agree (leaves p s frames v rest h) (leaves p t frames v rest (counted_by h c))
   leaves_agree [] v rest h c = refl
   leaves_agree (Calling back waits ∷ others) v rest h c = refl
   leaves_agree (Ending back waits o next left ∷ others) v rest h c = refl
+  leaves_agree (Clearing back waits o fields ∷ others) v rest h c = refl
 
   allocates_agree : (rest : List ℤ) (class : Option ℕ) → Agree (allocates p.classes s rest class) (allocates p.classes t rest class)
   allocates_agree rest None = refl
@@ -189,6 +220,8 @@ module _ (p : Program) (s : State) (right : Counted s.held) where
   acts_agree (Some (Plain Nil)) dying = refl
   acts_agree (Some (Plain ReadSelf)) dying = named_agrees s.held.self (named s.held.self s.held) places _ _ refl
   acts_agree (Some (Plain (ReadRef i))) dying = found_agrees (slice_get s.held.variables i) _ _ (λ r _. named_agrees r (named r s.held) places _ _ refl)
+  acts_agree (Some (Plain (ReadGlobal i))) dying = named_agrees (name_at s.held.strong_globals i) (named (name_at s.held.strong_globals i) s.held) places _ _ refl
+  acts_agree (Some (Plain (ReadField class index))) dying = reference_agrees s.held.names _ _ (λ r rest. field_agrees class r _ _ (λ o. named_agrees (name_at o.strong index) (with_names s.held (name_at o.strong index ∷ rest)) places _ _ refl))
   acts_agree (Some (Plain Hold)) dying = reference_agrees s.held.names _ _ (λ r rest. named_agrees r s.held places _ _ refl)
   acts_agree (Some (Plain ops.Again)) dying = reference_agrees s.held.names _ _ (λ r rest. refl)
   acts_agree (Some (Plain Forget)) dying = reference_agrees s.held.names _ _ (λ r rest. refl)
@@ -201,11 +234,16 @@ module _ (p : Program) (s : State) (right : Counted s.held) where
   acts_agree (Some (Jump to)) dying = refl
   acts_agree (Some (JumpZero to)) dying = top_agrees s.stack _ _ (λ v rest. chosen_agrees (is_zero v) _ _ _ _ refl refl)
   acts_agree (Some (Call f)) dying = enters_agree s places (entry p f) 0 (has_level s)
-  acts_agree (Some (Send selector takes)) dying = found_agrees (slice_get s.stack takes) _ _ (λ self _. answers_agree s places 0 (lookup p.classes (class_at self) signs.Class selector takes))
-  acts_agree (Some (SendSuper from selector takes)) dying = answers_agree s places 0 (lookup p.classes (Some from) signs.Class selector takes)
-  acts_agree (Some (SendTo selector takes)) dying = reference_agrees s.held.names _ _ (λ r rest. sends_agree (λ o. o.class) r selector takes rest)
-  acts_agree (Some (SendToSuper from selector takes)) dying = reference_agrees s.held.names _ _ (λ r rest. sends_agree (λ o. from) r selector takes rest)
+  acts_agree (Some (Send selector takes objects)) dying = found_agrees (slice_get s.stack takes) _ _ (λ self _. answers_agree s places 0 (lookup p.classes (class_at self) signs.Class selector takes objects))
+  acts_agree (Some (SendSuper from selector takes objects)) dying = answers_agree s places 0 (lookup p.classes (Some from) signs.Class selector takes objects)
+  acts_agree (Some (SendTo selector takes objects)) dying = found_agrees (slice_get s.held.names objects) _ _ (λ r _. sends_agree (λ o. o.class) r selector takes objects (take objects s.held.names ++ drop (suc objects) s.held.names))
+  acts_agree (Some (SendToSuper from selector takes objects)) dying = found_agrees (slice_get s.held.names objects) _ _ (λ r _. sends_agree (λ o. from) r selector takes objects (take objects s.held.names ++ drop (suc objects) s.held.names))
   acts_agree (Some (StoreStrong i)) dying = reference_agrees s.held.names _ _ (λ r rest. found_agrees (slice_get s.held.variables i) _ _ (λ old _. named_agrees r s.held places _ _ (stored_agrees i r old)))
+  acts_agree (Some (StoreGlobal i)) dying = reference_agrees s.held.names _ _ (λ r rest. named_agrees r s.held places _ _ (place_agrees (slice_get s.held.strong_globals i) _ _ _ _ refl (λ old.
+      releases_agree old (with_strong_globals s.held (slice_set s.held.strong_globals i r)) _ _ (more_same r s.held.counts places right.counted))))
+  acts_agree (Some (StoreField class index)) dying = reference_agrees s.held.names _ _ (λ r rest. reference_agrees rest _ _ (λ x below. named_agrees r s.held places _ _ (field_agrees class x _ _ (λ o.
+      if_agrees (is_emptying o.phase) _ _ _ _ refl (place_agrees (slice_get o.strong index) _ _ _ _ refl (λ old.
+      releases_agree old (with_strong_field (with_names s.held (r ∷ below)) x o index r) _ _ (more_same r s.held.counts places right.counted)))))))
   acts_agree (Some (Empty i)) dying = found_agrees (slice_get s.held.variables i) _ _ (λ old _. stored_agrees i 0 old)
   acts_agree (Some DropAll) dying = drops_agree s.held.temporaries s.held s.held.counts places right.counted
   acts_agree (Some Return) dying = top_agrees s.stack _ _ (λ v rest. left_agrees s.held.temporaries s.held places _ _ (leaves_agree s.frames v rest (with_variables s.held []) places))

@@ -1,34 +1,36 @@
 -- A run calls functions and methods, and ends objects, to the most levels.
-use Rattle.std.proofs.Common.{◌≡◌, ℕ, zero, suc, ◌+◌, ℤ, Bool, true, false, not, nat_lt, if◌then◌else◌, List, [], ◌∷◌, ◌++◌, length, take, drop, Option, Some, None, slice_get, slice_index_or, refl, sym, ap, ◌∙◌, subst, arith, append_assoc, inr}
+use Rattle.std.proofs.Common.{◌≡◌, ℕ, zero, suc, ◌+◌, ◌-◌, ℤ, Bool, true, false, not, ◌&&◌, nat_eq, nat_lt, if◌then◌else◌, List, [], ◌∷◌, ◌++◌, length, take, drop, Option, Some, None, slice_get, slice_set, slice_index_or, refl, sym, ap, ◌∙◌, subst, arith, append_assoc, inr}
 use Rattle.std.proofs.lemmas.Bool.{lt-ltb, le-ltb}
-use Rattle.std.proofs.lemmas.List.{append-nil, length-map}
+use Rattle.std.proofs.lemmas.List.{append-nil, length-map, get_or_past, set_past}
 use Rattle.arc_spec.specs.declared.event.Fault.TheVariants.{Resurrected}
-use Rattle.arc_spec.specs.Classes.{Class, superclass_of, superclasses, ancestry_within, lookup}
-use Rattle.arc_spec.specs.Objects.{Object, Gone, object_at, names}
+use Rattle.arc_spec.specs.Classes.{Class, superclass_of, superclasses, ancestry_within, lookup, field_order}
+use Rattle.arc_spec.specs.Objects.{Object, Phase, Emptying, Gone, object_at, with_object, in_phase, with_strong_fields, is_live, is_there, fields_of, field_places, names}
 use Rattle.arc_spec.specs.Resolved as resolved
-use Rattle.arc_spec.specs.Meaning.{function_at, called, class_in, dealloc_run, deallocs_run, turned, gone, dying, level, most_levels}
+use Rattle.arc_spec.specs.Meaning.{function_at, called, released, field_stores, field_dropped, fields_dropped, emptied, class_in, dealloc_run, deallocs_run, turned, gone, dying, level, most_levels}
 use Rattle.arc_spec.specs.World as world
-use Rattle.arc_spec.specs.World.{World, Outcome, Done, Faulted, Cut, Finished, finished, then_do, places, frame_places, first_locals, entered}
-use Rattle.arc_spec.specs.Holding.{Held, Frame, Calling, Ending, Waiter, holders, with_things, resumed, gone_in}
+use Rattle.arc_spec.specs.World.{World, Outcome, Done, Faulted, Cut, Finished, finished, then_do, Given, nothing_given, places, stacked, frame_places, with_objects, name_at, first_locals, first_names, entered}
+use Rattle.arc_spec.specs.Holding.{Held, Frame, Calling, Ending, Clearing, Waiter, holders, with_things, with_strong_field, on_place, lets_go, raised, lowered, resumed, turned_in, gone_in}
 use Rattle.arc_spec.specs.Stepping.{Next, Goes, Faults, Reached, Running, follow}
 use Rattle.arc_spec.proofs.Deallocs.{dealloc_and_above, deallocs_from}
-use Rattle.arc_ir.specs.Acting.{Program, State, has_level, enters, answers, begins_end, ends_object, runs_dealloc, ends_class}
+use Rattle.arc_ir.specs.Acting.{Program, State, has_level, enters, answers, begins_end, clears, after_deallocs, clears_next, runs_dealloc, ends_class}
 use Rattle.arc_code.specs.declared.instr.Instr.TheVariants.{Call, Jump, EndStep}
 use Rattle.arc_ir.specs.declared.action.Target.TheVariants as target
 use Rattle.arc_code.specs.Effects.{passes}
-use Rattle.arc_lower.specs.Lowered.{number_of, slots_of, entry_of, entries_of, fit_orders, leave_orders, body_orders}
+use Rattle.arc_lower.specs.Lowered.{number_of, slots_of, parameters_of, entry_of, entries_of, passing_orders, leave_orders, body_orders}
 use Rattle.arc_lower.proofs.CountsPlaces.{no_one}
+use Rattle.arc_lower.proofs.CountsHeld.{there_fields}
+use Rattle.arc_lower.proofs.CountsThere.{set_here}
 use Rattle.arc_lower.proofs.Leading.{Leads, leads_same, leads_trans, leads_step, Runs, leads_runs, ends_here, then_runs, better_runs}
-use Rattle.arc_lower.proofs.Recounting.{recounted, recount, moves, at, held_of}
+use Rattle.arc_lower.proofs.Recounting.{recounted, recount, moves, at, counting, held_of}
 use Rattle.arc_lower.proofs.Doing.{HasAt, has_front, has_back}
 use Rattle.arc_lower.proofs.Segments.{running, quiet}
 use Rattle.arc_lower.proofs.Stacking.{onto}
-use Rattle.arc_lower.proofs.Fitting.{first_length, fit_passes}
-use Rattle.arc_lower.proofs.Releasing.{Kept, kept_trans, Ends, Stays, dying_in}
-use Rattle.arc_lower.proofs.Running.{behind_call, Returns, answered, Deep}
+use Rattle.arc_lower.proofs.Fitting.{first_length, passing_leads}
+use Rattle.arc_lower.proofs.Releasing.{Kept, kept_trans, Ends, laid, dying_in, object_runs, there_runs, place_runs, same_test, field_count}
+use Rattle.arc_lower.proofs.Running.{behind_call, Returns, answered, Deep, found_name, past_end, same_put}
 use Rattle.arc_lower.proofs.Leaving.{leaving, Left, function_runs}
 use Rattle.arc_lower.proofs.Linking.{Begins, call_enters}
-use Rattle.arc_lower.proofs.Finding.{Stub, Meets, Same, Linked, lookup_meets, descent_same, fields_same}
+use Rattle.arc_lower.proofs.Finding.{Stub, Meets, Same, Linked, lookup_meets, descent_same, fields_same, strong_fields_same, order_same}
 
 then_thrice : {A B C E : Type 0} (o : Outcome A) (f : A → World → Outcome B) (g : B → World → Outcome C) (h : C → World → Outcome E) → then_do o (λ a w. then_do (then_do (f a w) g) h) ≡ then_do (then_do (then_do o f) g) h
 then_thrice (Done a w) f g h = refl
@@ -48,19 +50,67 @@ waits_of w = waits_at w.frame
 
 -- what is held by these places and those that wait
 abbrev held_by : (rs : List ℕ) (self : ℕ) → World → world.Frame → List ℕ → Held
-held_by rs self w f waiting = record { temporaries = f.temporaries; variables = f.strong; self = self; places = waiting; names = rs; objects = w.objects; counts = λ k. holders k (frame_places f ++ waiting); globals = w.globals }
+held_by rs self w f waiting = record { temporaries = f.temporaries; variables = f.strong; self = self; places = waiting; names = rs; objects = w.objects; counts = λ k. holders k ((frame_places f ++ waiting) ++ (w.strong_globals ++ field_places w.objects)); globals = w.globals; strong_globals = w.strong_globals }
 
 -- a state by its own places and those that wait
 abbrev placed_at : List Frame → (rs : List ℕ) → (pc : ℕ) → List ℤ → (self : ℕ) → World → world.Frame → List ℕ → Reached State
 placed_at frames rs pc stack self w f waiting = Running (at frames pc stack (held_by rs self w f waiting)) w.input w.trace
 
 -- what is held in the end of an object, between two deallocs
+abbrev ended_by : (rs : List ℕ) → (o : ℕ) → World → (all : List ℕ) → Held
+ended_by rs o w all = record { temporaries = []; variables = []; self = o; places = all; names = rs; objects = w.objects; counts = λ i. holders i (all ++ (w.strong_globals ++ field_places w.objects)); globals = w.globals; strong_globals = w.strong_globals }
+
 abbrev ended_held : (rs : List ℕ) → (o : ℕ) → World → Held
-ended_held rs o w = record { temporaries = []; variables = []; self = o; places = places w; names = rs; objects = w.objects; counts = λ i. holders i (places w); globals = w.globals }
+ended_held rs o w = ended_by rs o w (stacked w)
 
 -- the same with the objects and the variables of the whole program as they are now
 abbrev ended_now : (rs : List ℕ) → (o : ℕ) → (before now : World) → Held
-ended_now rs o before now = record (ended_held rs o before) { objects = now.objects; globals = now.globals }
+ended_now rs o before now = ended_by rs o now (stacked before)
+
+then_twice : {A B C : Type 0} (o : Outcome A) (f : A → World → Outcome B) (g : B → World → Outcome C) → then_do o (λ a w. then_do (f a w) g) ≡ then_do (then_do o f) g
+then_twice (Done a w) f g = refl
+then_twice (Faulted e w) f g = refl
+then_twice (Cut w) f g = refl
+
+-- ---- an object that is changed
+
+-- an object that is put in its own place
+put_same : (objects : List Object) (o : ℕ) (ob : Object) → object_at objects o ≡ Some ob → with_object objects o ob ≡ objects
+put_same objects zero ob found = refl
+put_same objects (suc k) ob found = same_put objects k ob found
+
+-- one that is put in the place of another, which was put there
+put_again : (objects : List Object) (k : ℕ) (x y : Object) → slice_set (slice_set objects k x) k y ≡ slice_set objects k y
+put_again [] k x y = refl
+put_again (a ∷ objects) zero x y = refl
+put_again (a ∷ objects) (suc k) x y = ap (λ l. a ∷ l) (put_again objects k x y)
+
+put_twice : (objects : List Object) (o : ℕ) (x y : Object) → with_object (with_object objects o x) o y ≡ with_object objects o y
+put_twice objects zero x y = refl
+put_twice objects (suc k) x y = put_again objects k x y
+
+put_found : (objects : List Object) (o : ℕ) (ob x : Object) → object_at objects o ≡ Some ob → object_at (with_object objects o x) o ≡ Some x
+put_found objects zero ob x found = cc
+put_found objects (suc k) ob x found = set_here objects k x ob found
+
+-- one whose fields name the same
+fields_put : (objects : List Object) (k : ℕ) (ob x : Object) → slice_get objects k ≡ Some ob → fields_of x ≡ fields_of ob → field_places (slice_set objects k x) ≡ field_places objects
+fields_put [] k ob x found same = refl
+fields_put (a ∷ objects) zero ob x found same = let alike : ob ≡ a = cc in ap (λ l. l ++ field_places objects) (same ∙ ap fields_of alike)
+fields_put (a ∷ objects) (suc k) ob x found same = ap (λ l. fields_of a ++ l) (fields_put objects k ob x found same)
+
+places_put : (o : ℕ) (ob x : Object) (w : World) → object_at w.objects o ≡ Some ob → fields_of x ≡ fields_of ob → places (with_objects w (with_object w.objects o x)) ≡ places w
+places_put zero ob x w found same = refl
+places_put (suc k) ob x w found same = ap (λ l. stacked w ++ (w.strong_globals ++ l)) (fields_put w.objects k ob x found same)
+
+turned_put : (phase : Phase) (objects : List Object) (o : ℕ) (ob : Object) → object_at objects o ≡ Some ob → turned_in phase objects o ≡ with_object objects o (in_phase phase ob)
+turned_put phase objects o ob found = rw found refl
+
+-- what a field named that is dropped
+dropped_count : (o : ℕ) (ob : Object) (index old k : ℕ) (w : World) → object_at w.objects o ≡ Some ob → is_there ob.phase ≡ true → slice_get ob.strong index ≡ Some old → old ≡ suc k
+    → (if nat_eq (suc k) 0 then suc (holders (suc k) (places w)) else holders (suc k) (places w)) ≡ suc (holders (suc k) (places (field_stores o ob index 0 w)))
+dropped_count zero ob index old k w found there named e = cc
+dropped_count (suc j) ob index old k w found there named e = field_count j ob index old 0 k w found there named e
 
 take_front : (a b : List ℕ) → take (length a) (a ++ b) ≡ a
 take_front [] b = refl
@@ -97,37 +147,43 @@ module _ (p : Program) (R : resolved.Program) (bound : ℕ) (begins : (f : ℕ) 
   call_steps f pc frames stack held b has e = ap recount (call_enters p R f (begins f) pc frames stack held b has e)
 
   -- a stub makes its function ready, and leads there
-  stub_leads : (rs : List ℕ) (frames : List Frame) (values f to : ℕ) (given stack : List ℤ) (w : World) → length given ≡ values → Stub p R values f to → Leads (moves p) (running frames rs to (onto given stack) w) (running frames rs (entry f) (onto (first_locals (slots_of R f) given) stack) w)
-  stub_leads rs frames values f to given stack w size has =
-      let fits = fit_orders values (slots_of R f) in
+  stub_leads : (rs : List ℕ) (frames : List Frame) (values objects f to : ℕ) (given : Given) (stack : List ℤ) (w : World) → length given.numbers ≡ values → length given.objects ≡ objects → Stub p R values objects f to
+      → Leads (moves p) (running frames (onto given.objects rs) to (onto given.numbers stack) w) (running frames (onto (first_names (parameters_of R f) given.objects) rs) (entry f) (onto (first_locals (slots_of R f) given.numbers) stack) w)
+  stub_leads rs frames values objects f to given stack w size few has =
+      let fits = passing_orders R f values objects in
       let place = slice_index_or (entries_of R) (number_of R f) 0 in
       let q = to + length fits in
-      let before = onto given stack in
-      let s = onto (first_locals (slots_of R f) given) stack in
-      let next = Goes (at frames place s (held_of rs w)) [] in
+      let s = onto (first_locals (slots_of R f) given.numbers) stack in
+      let names1 = onto (first_names (parameters_of R f) given.objects) rs in
+      let start = running frames (onto given.objects rs) to (onto given.numbers stack) w in
+      let next = Goes (at frames place s (held_of names1 w)) [] in
       let last = has_back p to fits (Jump (target.At place) ∷ []) has in
-      let ready = subst (λ n. HasAt p to (fit_orders n (slots_of R f)) → Leads (moves p) (running frames rs to before w) (running frames rs (to + length (fit_orders n (slots_of R f))) s w)) size (λ h. fit_passes p frames bound rs (slots_of R f) given stack w to h) (has_front p to fits (Jump (target.At place) ∷ []) has) in
-      let there = subst (λ n. Leads (moves p) (follow next w.input w.trace) (running frames rs n s w)) (begins f).first (quiet p frames bound rs place s w) in
-      leads_trans (moves p) (running frames rs to before w) (running frames rs q s w) (running frames rs (entry f) s w) ready
-      (leads_trans (moves p) (running frames rs q s w) (follow next w.input w.trace) (running frames rs (entry f) s w) (leads_step (moves p) (at frames q s (held_of rs w)) w.input w.trace next (ap recount (last.0 frames s (held_of rs w)))) there)
+      let ready = passing_leads p frames (slots_of R f) (parameters_of R f) values objects given stack rs w to size few (has_front p to fits (Jump (target.At place) ∷ []) has) in
+      let there = subst (λ n. Leads (moves p) (follow next w.input w.trace) (running frames names1 n s w)) (begins f).first (quiet p frames bound names1 place s w) in
+      leads_trans (moves p) start (running frames names1 q s w) (running frames names1 (entry f) s w) ready
+      (leads_trans (moves p) (running frames names1 q s w) (follow next w.input w.trace) (running frames names1 (entry f) s w) (leads_step (moves p) (at frames q s (held_of names1 w)) w.input w.trace next (ap recount (last.0 frames s (held_of names1 w)))) there)
 
   abbrev Left_by : (rs : List ℕ) (f self : ℕ) (frames : List Frame) (stack : List ℤ) (before : World) (levels : ℕ) → Deep p frames bound R (level R bound levels) → ℤ → World → Reached State → Type 0
   Left_by rs f self frames stack before levels deep = Left p frames bound R (function_at R f).slots (function_at R f).names self before stack rs (level R bound levels) deep (begins f).place
 
+  -- a function as it is entered
+  abbrev begun_at : (rs : List ℕ) (f self : ℕ) (frames : List Frame) (given : Given) (stack : List ℤ) → World → Reached State
+  begun_at rs f self frames given stack w = running frames (onto (first_names (parameters_of R f) given.objects) rs) (entry f) (onto (first_locals (slots_of R f) given.numbers) stack) (entered (slots_of R f) 0 0 self given w)
+
   -- a function that was entered comes to its last step
-  body_runs : (rs : List ℕ) (levels f self : ℕ) (frames : List Frame) (given stack : List ℤ) (w : World) (deep : Deep p frames bound R (level R bound levels)) → Runs (moves p) bound (running frames rs (entry f) (onto (first_locals (slots_of R f) given) stack) (entered (slots_of R f) 0 self given w)) (Left_by rs f self frames stack w levels deep) (called (level R bound levels) bound (function_at R f) self given w)
+  body_runs : (rs : List ℕ) (levels f self : ℕ) (frames : List Frame) (given : Given) (stack : List ℤ) (w : World) (deep : Deep p frames bound R (level R bound levels)) → Runs (moves p) bound (begun_at rs f self frames given stack w) (Left_by rs f self frames stack w levels deep) (called (level R bound levels) bound (function_at R f) self given w)
   body_runs rs levels f self frames given stack w deep =
       let F = function_at R f in
       let place = (begins f).place in
       let leave = leave_orders F.slots F.names in
       let body = body_orders R place (entry f) F in
-      function_runs p frames bound R F.slots F.names self w stack rs (level R bound levels) deep place F.body (entry f) given (first_length F.slots given) (has_front p place leave body (begins f).code) (has_back p place leave body (begins f).code)
+      function_runs p frames bound R F.slots F.names self w stack rs (level R bound levels) deep place F.body F.parameters (entry f) given (first_length F.slots given.numbers) (has_front p place leave body (begins f).code) (has_back p place leave body (begins f).code)
 
   -- a method or a function comes back behind its call
-  method_runs : (rs : List ℕ) (levels f pc self : ℕ) (frames : List Frame) (given stack : List ℤ) (w : World) → Deep p (Calling (pc + 1) (waits_of w) ∷ frames) bound R (level R bound levels) → Runs (moves p) bound (running (Calling (pc + 1) (waits_of w) ∷ frames) rs (entry f) (onto (first_locals (slots_of R f) given) stack) (entered (slots_of R f) 0 self given w)) (Returns frames rs pc stack w) ((level R bound (suc levels)).call f self given w)
+  method_runs : (rs : List ℕ) (levels f pc self : ℕ) (frames : List Frame) (given : Given) (stack : List ℤ) (w : World) → Deep p (Calling (pc + 1) (waits_of w) ∷ frames) bound R (level R bound levels) → Runs (moves p) bound (begun_at rs f self (Calling (pc + 1) (waits_of w) ∷ frames) given stack w) (Returns frames rs pc stack w) ((level R bound (suc levels)).call f self given w)
   method_runs rs levels f pc self frames given stack w deep =
       let inner = Calling (pc + 1) (waits_of w) ∷ frames in
-      better_runs (moves p) bound (running inner rs (entry f) (onto (first_locals (slots_of R f) given) stack) (entered (slots_of R f) 0 self given w)) (Left_by rs f self inner stack w levels deep) (Returns frames rs pc stack w) (called (level R bound levels) bound (function_at R f) self given w) (body_runs rs levels f self inner given stack w deep) (λ v w2 to m. (m.0 ∙ home v w2 m.1, m.1))
+      better_runs (moves p) bound (begun_at rs f self inner given stack w) (Left_by rs f self inner stack w levels deep) (Returns frames rs pc stack w) (called (level R bound levels) bound (function_at R f) self given w) (body_runs rs levels f self inner given stack w deep) (λ v w2 to m. (m.0 ∙ home v w2 m.1, m.1))
     where
       home : (v : ℤ) (w2 : World) → Kept w w2 → leaving p (Calling (pc + 1) (waits_of w) ∷ frames) bound R (function_at R f).slots (function_at R f).names self w stack rs (level R bound levels) deep (begins f).place v w2 ≡ behind_call frames rs pc stack v w2
       home v w2 k =
@@ -140,28 +196,28 @@ module _ (p : Program) (R : resolved.Program) (bound : ℕ) (begins : (f : ℕ) 
   enters_at rs frames pc to self stack w b = follow (recount (enters (at frames pc stack (held_of rs w)) to self b)) w.input w.trace
 
   -- a message, by what it finds
-  abbrev Tells : (rs : List ℕ) (levels : ℕ) (frames : List Frame) (meant stands : Option ℕ) (values self : ℕ) (given stack : List ℤ) (w : World) (pc : ℕ) → Type 0
-  Tells rs levels frames meant stands values self given stack w pc = Meets p R values meant stands → Runs (moves p) bound (follow (recount (answers (at frames pc (onto given stack) (held_of rs w)) self stands)) w.input w.trace) (Returns frames rs pc stack w) (answered (level R bound levels) meant self given w)
+  abbrev Tells : (rs : List ℕ) (levels : ℕ) (frames : List Frame) (meant stands : Option ℕ) (values objects self : ℕ) (given : Given) (stack : List ℤ) (w : World) (pc : ℕ) → Type 0
+  Tells rs levels frames meant stands values objects self given stack w pc = Meets p R values objects meant stands → Runs (moves p) bound (follow (recount (answers (at frames pc (onto given.numbers stack) (held_of (onto given.objects rs) w)) self stands)) w.input w.trace) (Returns frames rs pc stack w) (answered (level R bound levels) meant self given w)
 
-  last_tells : (rs : List ℕ) (frames : List Frame) → length frames + 0 ≡ most_levels → (meant stands : Option ℕ) (values self : ℕ) (given stack : List ℤ) (w : World) (pc : ℕ) → Tells rs zero frames meant stands values self given stack w pc
-  last_tells rs frames full None None values self given stack w pc meets = inr (leads_same (moves p) _ _ refl)
-  last_tells rs frames full (Some f) (Some to) values self given stack w pc meets = inr (leads_same (moves p) _ _ (ap (enters_at rs frames pc to self (onto given stack) w) (le-ltb (length frames) most_levels (omega (arith, full)))))
-  last_tells rs frames full None (Some to) values self given stack w pc meets = absurd meets
-  last_tells rs frames full (Some f) None values self given stack w pc meets = absurd meets
+  last_tells : (rs : List ℕ) (frames : List Frame) → length frames + 0 ≡ most_levels → (meant stands : Option ℕ) (values objects self : ℕ) (given : Given) (stack : List ℤ) (w : World) (pc : ℕ) → Tells rs zero frames meant stands values objects self given stack w pc
+  last_tells rs frames full None None values objects self given stack w pc meets = inr (leads_same (moves p) _ _ refl)
+  last_tells rs frames full (Some f) (Some to) values objects self given stack w pc meets = inr (leads_same (moves p) _ _ (ap (enters_at (onto given.objects rs) frames pc to self (onto given.numbers stack) w) (le-ltb (length frames) most_levels (omega (arith, full)))))
+  last_tells rs frames full None (Some to) values objects self given stack w pc meets = absurd meets
+  last_tells rs frames full (Some f) None values objects self given stack w pc meets = absurd meets
 
-  level_tells : (rs : List ℕ) (levels : ℕ) (frames : List Frame) → length frames + suc levels ≡ most_levels → (meant stands : Option ℕ) (values self : ℕ) (given stack : List ℤ) (w : World) (pc : ℕ) → Deep p (Calling (pc + 1) (waits_of w) ∷ frames) bound R (level R bound levels) → length given ≡ values → Tells rs (suc levels) frames meant stands values self given stack w pc
-  level_tells rs levels frames full None None values self given stack w pc deep size meets = inr (leads_same (moves p) _ _ refl)
-  level_tells rs levels frames full (Some f) (Some to) values self given stack w pc deep size meets =
+  level_tells : (rs : List ℕ) (levels : ℕ) (frames : List Frame) → length frames + suc levels ≡ most_levels → (meant stands : Option ℕ) (values objects self : ℕ) (given : Given) (stack : List ℤ) (w : World) (pc : ℕ) → Deep p (Calling (pc + 1) (waits_of w) ∷ frames) bound R (level R bound levels) → length given.numbers ≡ values → length given.objects ≡ objects → Tells rs (suc levels) frames meant stands values objects self given stack w pc
+  level_tells rs levels frames full None None values objects self given stack w pc deep size few meets = inr (leads_same (moves p) _ _ refl)
+  level_tells rs levels frames full (Some f) (Some to) values objects self given stack w pc deep size few meets =
       let inner = Calling (pc + 1) (waits_of w) ∷ frames in
-      let all = onto given stack in
-      let w1 = entered (slots_of R f) 0 self given w in
-      let after = onto (first_locals (slots_of R f) given) stack in
-      let from = enters_at rs frames pc to self all w in
-      let into = leads_trans (moves p) (from true) (running inner rs to all w1) (running inner rs (entry f) after w1) (quiet p inner bound rs to all w1) (stub_leads rs inner values f to given stack w1 size meets) in
+      let all = onto given.numbers stack in
+      let names1 = onto given.objects rs in
+      let w1 = entered (slots_of R f) 0 0 self given w in
+      let from = enters_at names1 frames pc to self all w in
+      let into = leads_trans (moves p) (from true) (running inner names1 to all w1) (begun_at rs f self inner given stack w) (quiet p inner bound names1 to all w1) (stub_leads rs inner values objects f to given stack w1 size few meets) in
       subst (λ b. Runs (moves p) bound (from b) (Returns frames rs pc stack w) ((level R bound (suc levels)).call f self given w)) (sym (lt-ltb (length frames) most_levels (omega (arith, full))))
-      (leads_runs (moves p) bound (from true) (running inner rs (entry f) after w1) (Returns frames rs pc stack w) ((level R bound (suc levels)).call f self given w) into (method_runs rs levels f pc self frames given stack w deep))
-  level_tells rs levels frames full None (Some to) values self given stack w pc deep size meets = absurd meets
-  level_tells rs levels frames full (Some f) None values self given stack w pc deep size meets = absurd meets
+      (leads_runs (moves p) bound (from true) (begun_at rs f self inner given stack w) (Returns frames rs pc stack w) ((level R bound (suc levels)).call f self given w) into (method_runs rs levels f pc self frames given stack w deep))
+  level_tells rs levels frames full None (Some to) values objects self given stack w pc deep size few meets = absurd meets
+  level_tells rs levels frames full (Some f) None values objects self given stack w pc deep size few meets = absurd meets
 
   -- ---- the end of an object
 
@@ -169,13 +225,26 @@ module _ (p : Program) (R : resolved.Program) (bound : ℕ) (begins : (f : ℕ) 
   abbrev at_end : (rs : List ℕ) → List Frame → (o : ℕ) → List ℤ → World → Reached State
   at_end rs frames o stack w = Running (at frames p.end_step stack (ended_held rs o w)) w.input w.trace
 
-  module _ (rs : List ℕ) (back : ℕ) (waits : Waiter) (o levels : ℕ) (frames : List Frame) (stack : List ℤ) (deep : (next : Option ℕ) (left : ℕ) → Deep p (Ending back waits o next left ∷ frames) bound R (level R bound levels)) where
-    -- the function that waits is as it was
+  classes_are : (levels : ℕ) → (level R bound levels).classes ≡ R.classes
+  classes_are zero = refl
+  classes_are (suc levels) = refl
+
+  module _ (rs : List ℕ) (back : ℕ) (f0 : world.Frame) (waiting : List ℕ) (o levels : ℕ) (frames : List Frame) (stack : List ℤ) (deep : (frame : Frame) → Deep p (frame ∷ frames) bound R (level R bound levels)) where
+    abbrev waits : Waiter
+    waits = waits_at f0
+
+    -- the places of the functions are as they were
     abbrev Still : World → Type 0
-    Still w = waits ≡ waits_of w
+    Still w = frame_places f0 ++ waiting ≡ stacked w
+
+    still_on : (w w1 : World) → Still w → Kept w w1 → Still w1
+    still_on w w1 still k = still ∙ ap (λ (f : world.Frame). frame_places f ++ w.waiting) (sym k.frame) ∙ ap (λ l. frame_places w1.frame ++ l) (sym k.waiting)
 
     abbrev Back : World → Finished → World → Reached State → Type 0
-    Back w = Stays frames rs stack back w
+    Back w done w1 to = (to ≡ running frames rs back stack (laid w1 f0 waiting)) × Kept w w1
+
+    back_from : (w w1 : World) (from : Reached State) (o1 : Outcome Finished) → Kept w w1 → Runs (moves p) bound from (Back w1) o1 → Runs (moves p) bound from (Back w) o1
+    back_from w w1 from o1 k runs = better_runs (moves p) bound from (Back w1) (Back w) o1 runs (λ done w2 to m. (m.0, kept_trans w w1 w2 k m.1))
 
     -- behind the end
     abbrev goes_back : World → Next State
@@ -186,75 +255,216 @@ module _ (p : Program) (R : resolved.Program) (bound : ℕ) (begins : (f : ℕ) 
     last_by false w still =
         let w2 : World = record w { objects = gone_in w.objects o } in
         let from = recount (goes_back w) in
-        let path : follow from w.input w.trace ≡ running frames rs back stack w2 =
+        let path : follow from w.input w.trace ≡ running frames rs back stack (laid w2 f0 waiting) =
         ap (λ t. Running (at frames back stack (recounted (resumed waits (with_things (ended_held rs o w) w2.objects)))) w.input t) (append-nil w.trace)
-        ∙ ap (λ x. Running (at frames back stack (recounted (resumed x (with_things (ended_held rs o w) w2.objects)))) w.input w.trace) still
-        ∙ ap (λ h. Running (at frames back stack (recounted h)) w.input w.trace) (resumed_is w.frame w.waiting (with_things (ended_held rs o w) w2.objects) refl)
+        ∙ ap (λ h. Running (at frames back stack (recounted h)) w.input w.trace) (resumed_is f0 waiting (with_things (ended_held rs o w) w2.objects) (sym still))
         in
         subst (λ (x : World). Runs (moves p) bound (follow from w.input w.trace) (Back w) (Done finished x)) (sym (turned_is w.objects o (object_at w.objects o) w refl refl))
         (ends_here (moves p) bound (follow from w.input w.trace) (Back w) finished w2 (path, record { frame = refl; waiting = refl }))
 
-    -- the last step of an end
-    last_runs : (next : Option ℕ) (left : ℕ) (w : World) → Still w → moves p (at (Ending back waits o next left ∷ frames) p.end_step stack (ended_held rs o w)) ≡ recount (ends_object (at (Ending back waits o next left ∷ frames) p.end_step stack (ended_held rs o w)) back waits o frames) → Runs (moves p) bound (at_end rs (Ending back waits o next left ∷ frames) o stack w) (Back w) (gone o w)
-    last_runs next left w still e =
-        let inner = Ending back waits o next left ∷ frames in
-        let s = at inner p.end_step stack (ended_held rs o w) in
-        let goes = goes_back w in
-        let test = no_one o (holders o (places w)) (places w) refl in
-        let last = recount (if not (names o (places w)) then goes else Faults Resurrected) in
-        let step : moves p s ≡ last = e ∙ ap (λ b. recount (if b then goes else Faults Resurrected)) test in
-        leads_runs (moves p) bound (at_end rs inner o stack w) (follow last w.input w.trace) (Back w) (gone o w) (leads_step (moves p) s w.input w.trace last step) (last_by (names o (places w)) w still)
+    abbrev last_step : World → Next State
+    last_step w = if nat_eq (holders o (places w)) 0 then goes_back w else Faults Resurrected
 
-    -- what the deallocs of n classes mean, and then the last step
+    -- the last step of an end
+    last_runs : (w : World) → Still w → Runs (moves p) bound (follow (recount (last_step w)) w.input w.trace) (Back w) (gone o w)
+    last_runs w still = subst (λ b. Runs (moves p) bound (follow (recount (if b then goes_back w else Faults Resurrected)) w.input w.trace) (Back w) (gone o w)) (sym (no_one o (holders o (places w)) (places w) refl)) (last_by (names o (places w)) w still)
+
+    -- the same of an object whose fields there are none to destroy of
+    bare_runs : (w : World) (ob : Object) → object_at w.objects o ≡ Some ob → is_there ob.phase ≡ true → Still w → Runs (moves p) bound (follow (recount (last_step w)) w.input w.trace) (Back w) (gone o (turned Emptying o (Some ob) w))
+    bare_runs w ob found there still =
+        let x = in_phase Emptying ob in
+        let w1 = turned Emptying o (Some ob) w in
+        let same : names o (places w1) ≡ names o (places w) = ap (names o) (places_put o ob x w found (sym (there_fields ob there))) in
+        subst (λ b. Runs (moves p) bound (follow (recount (if b then goes_back w else Faults Resurrected)) w.input w.trace) (Back w) (gone o w1)) (sym (no_one o (holders o (places w)) (places w) refl))
+        (subst (λ b. Runs (moves p) bound (follow (recount (if not (names o (places w)) then goes_back w else Faults Resurrected)) w.input w.trace) (Back w) (if b then Faulted Resurrected w1 else Done finished (turned Gone o (object_at w1.objects o) w1))) (sym same) (by (names o (places w))))
+      where
+        gone_same : turned Gone o (object_at w.objects o) w ≡ turned Gone o (object_at (turned Emptying o (Some ob) w).objects o) (turned Emptying o (Some ob) w)
+        gone_same =
+            let y = in_phase Emptying ob in
+            ap (λ f. turned Gone o f w) found
+            ∙ ap (λ l. with_objects w l) (sym (put_twice w.objects o y (in_phase Gone ob)))
+            ∙ ap (λ f. turned Gone o f (turned Emptying o (Some ob) w)) (sym (put_found w.objects o ob y found))
+
+        by : (b : Bool) → Runs (moves p) bound (follow (recount (if not b then goes_back w else Faults Resurrected)) w.input w.trace) (Back w) (if b then Faulted Resurrected (turned Emptying o (Some ob) w) else Done finished (turned Gone o (object_at (turned Emptying o (Some ob) w).objects o) (turned Emptying o (Some ob) w)))
+        by true = inr (leads_same (moves p) _ _ refl)
+        by false = subst (λ (x : World). Runs (moves p) bound (follow (recount (goes_back w)) w.input w.trace) (Back w) (Done finished x)) gone_same (last_by false w still)
+
+    -- ---- fields that are destroyed
+
+    module _ (fields : List ℕ) where
+      abbrev inner : List Frame
+      inner = Clearing back waits o fields ∷ frames
+
+      -- the end goes on
+      abbrev Goes_on : World → Finished → World → Reached State → Type 0
+      Goes_on w done w1 to = (to ≡ at_end rs inner o stack w1) × Kept w w1
+
+      abbrev own_frame : world.Frame
+      own_frame = record world.first_frame { self = o }
+
+      abbrev lay : World → World
+      lay w = laid w own_frame (stacked w)
+
+      abbrev stays : Held → Next State
+      stays h = Goes (at inner p.end_step stack h) []
+
+      abbrev ends : World → ℕ → ℕ → Held → Next State
+      ends w other class h = begins_end p (at inner p.end_step stack (ended_held rs o w)) p.end_step other class h (has_level (at inner p.end_step stack (ended_held rs o w)))
+
+      stays_run : (w : World) (c : ℕ → ℕ) → Runs (moves p) bound (follow (recount (stays (counting rs (lay w) c))) w.input w.trace) (Goes_on w) (Done finished w)
+      stays_run w c = leads_runs (moves p) bound _ (at_end rs inner o stack w) (Goes_on w) (Done finished w) (leads_same (moves p) _ _ (ap (λ t. Running (at inner p.end_step stack (ended_held rs o w)) w.input t) (append-nil w.trace)))
+          (ends_here (moves p) bound (at_end rs inner o stack w) (Goes_on w) finished w (refl, record { frame = refl; waiting = refl }))
+
+      lets_by : (before : World) (k : ℕ) (ob : Object) (c : ℕ → ℕ) (w : World) → object_at w.objects (suc k) ≡ Some ob → (b : Bool)
+          → Runs (moves p) bound (follow (recount (if b then ends before (suc k) ob.class (dying_in rs (lay w) k ob c) else stays (counting rs (lay w) c))) w.input w.trace) (Goes_on w) (if b then (level R bound levels).end_of (suc k) w else Done finished w)
+      lets_by before k ob c w found false = stays_run w c
+      lets_by before k ob c w found true =
+          better_runs (moves p) bound _ (λ done w1 to. (to ≡ running inner rs p.end_step stack (laid w1 own_frame (stacked w))) × Kept w w1) (Goes_on w) ((level R bound levels).end_of (suc k) w)
+          ((deep (Clearing back waits o fields)).ends own_frame (stacked w) k ob c (ended_held rs o before) rs stack w p.end_step p.end_step refl found)
+          (λ done w1 to m. (
+            m.0 ∙ ap (λ (f : world.Frame). running inner rs p.end_step stack (laid w1 own_frame (frame_places f ++ w.waiting))) (sym m.1.frame) ∙ ap (λ l. running inner rs p.end_step stack (laid w1 own_frame (frame_places w1.frame ++ l))) (sym m.1.waiting),
+            m.1,
+          ))
+
+      -- a field lets go of what it named
+      lets_run : (before : World) (old : ℕ) (c : ℕ → ℕ) (w : World) → ((k : ℕ) → old ≡ suc k → c (suc k) ≡ suc (holders (suc k) (places w)))
+          → Runs (moves p) bound (follow (recount (lets_go old (counting rs (lay w) c) stays (ends before))) w.input w.trace) (Goes_on w) (released (level R bound levels) old w)
+      lets_run before zero c w count = stays_run w (λ k. if nat_eq k 0 then c k - 1 else c k)
+      lets_run before (suc k) c w count =
+          let D = level R bound levels in
+          let less = (lowered (suc k) (counting rs (lay w) c)).counts in
+          let test = is_live (object_at w.objects (suc k)) && not (names (suc k) (places w)) in
+          object_runs p bound w.input w.trace (Goes_on w) (released D (suc k) w) (object_at w.objects (suc k)) (λ x. if is_live (Some x) && nat_eq (c (suc k)) 1 then ends before (suc k) x.class (dying_in rs (lay w) k x less) else stays (counting rs (lay w) less)) (λ ob found.
+          subst (λ b. Runs (moves p) bound (follow (recount (if b then ends before (suc k) ob.class (dying_in rs (lay w) k ob less) else stays (counting rs (lay w) less))) w.input w.trace) (Goes_on w) (released D (suc k) w)) (sym (same_test p inner bound rs D (deep (Clearing back waits o fields)).ends k ob c w found (count k refl)))
+          (lets_by before k ob less w found test))
+
+      -- the next field
+      field_run : (index : ℕ) (w : World) → Runs (moves p) bound (follow (recount (clears_next p (at inner p.end_step stack (ended_held rs o w)) o index)) w.input w.trace) (Goes_on w) (field_dropped (level R bound levels) o index (object_at w.objects o) w)
+      field_run index w =
+          let D = level R bound levels in
+          let h = ended_held rs o w in
+          let meant : Option Object → Outcome Finished = λ f. field_dropped D o index f w in
+          let go : Object → Next State = λ ob. on_place (slice_get ob.strong index) (stays h) (λ old. lets_go old (raised 0 (with_strong_field h o ob index 0)) stays (ends w)) in
+          there_runs p bound w.input w.trace (Goes_on w) (meant (object_at w.objects o)) (object_at w.objects o) go (λ ob found there.
+          subst (λ f. Runs (moves p) bound (follow (recount (go ob)) w.input w.trace) (Goes_on w) (meant f)) (sym found)
+          (place_runs p bound w.input w.trace (Goes_on w) (meant (Some ob)) (slice_get ob.strong index) (stays h) (λ old. lets_go old (raised 0 (with_strong_field h o ob index 0)) stays (ends w))
+          (λ none.
+          let le = past_end ob.strong index none in
+          let same : slice_set ob.strong index 0 ≡ ob.strong = set_past ob.strong index 0 le in
+          let nil : name_at ob.strong index ≡ 0 = get_or_past ob.strong index 0 le in
+          let is : meant (Some ob) ≡ Done finished w =
+          ap (λ q. released D q (field_stores o ob index 0 w)) nil ∙ ap (λ l. Done finished (with_objects w (with_object w.objects o (with_strong_fields ob l)))) same ∙ ap (λ l. Done finished (with_objects w l)) (put_same w.objects o ob found) in
+          subst (Runs (moves p) bound (follow (recount (stays h)) w.input w.trace) (Goes_on w)) (sym is) (stays_run w h.counts))
+          (λ old named.
+          let w1 = field_stores o ob index 0 w in
+          subst (λ q. Runs (moves p) bound (follow (recount (lets_go old (raised 0 (with_strong_field h o ob index 0)) stays (ends w))) w.input w.trace) (Goes_on w) (released D q w1)) (sym (found_name ob.strong index old named))
+          (better_runs (moves p) bound _ (Goes_on w1) (Goes_on w) (released D old w1) (lets_run w old (raised 0 h).counts w1 (λ k e. dropped_count o ob index old k w found there named e)) (λ done w2 to m. (m.0, record { frame = m.1.frame; waiting = m.1.waiting }))))))
+
+    -- ---- what is left of an end
+
+    -- what the fields mean, and the last step
+    abbrev rest_of : World → Outcome Finished
+    rest_of w = then_do (emptied (level R bound levels) o (object_at w.objects o) w) (λ _ w1. gone o w1)
+
+    -- what the deallocs of n classes mean, and then that
     abbrev meant_from : (n : ℕ) → Option ℕ → World → Outcome Finished
-    meant_from n next w = then_do (deallocs_run R (level R bound levels) bound (above_in R n next) o w) (λ _ w1. gone o w1)
+    meant_from n next w = then_do (deallocs_run R (level R bound levels) bound (above_in R n next) o w) (λ _ w1. rest_of w1)
 
     abbrev EndRuns : (n : ℕ) → (next : Option ℕ) → World → Type 0
     EndRuns n next w = Runs (moves p) bound (at_end rs (Ending back waits o next n ∷ frames) o stack w) (Back w) (meant_from n next w)
 
     -- between two deallocs, by the places of the function that waits
     abbrev with_ended : World → world.Frame → List ℕ → Held
-    with_ended w1 f1 waiting = record { temporaries = []; variables = []; self = o; places = frame_places f1 ++ waiting; names = rs; objects = w1.objects; counts = λ i. holders i (frame_places f1 ++ waiting); globals = w1.globals }
+    with_ended w1 f1 waiting1 = ended_by rs o w1 (frame_places f1 ++ waiting1)
 
     -- the dealloc of one class, and then what is above it
-    by_dealloc : (n : ℕ) (next : Option ℕ) (w : World) (from : Reached State) (meant stands : Option ℕ) → Still w → Meets p R 0 meant stands → Leads (moves p) from (follow (recount (runs_dealloc stands (at [] p.end_step stack (ended_held rs o w)) (Ending back waits o next n ∷ frames))) w.input w.trace) → ((w1 : World) → Still w1 → EndRuns n next w1) → Runs (moves p) bound from (Back w) (then_do (then_do (dealloc_run R (level R bound levels) bound meant o w) (λ _ w1. deallocs_run R (level R bound levels) bound (above_in R n next) o w1)) (λ _ w1. gone o w1))
+    by_dealloc : (n : ℕ) (next : Option ℕ) (w : World) (from : Reached State) (meant stands : Option ℕ) → Still w → Meets p R 0 0 meant stands → Leads (moves p) from (follow (recount (runs_dealloc stands (at [] p.end_step stack (ended_held rs o w)) (Ending back waits o next n ∷ frames))) w.input w.trace) → ((w1 : World) → Still w1 → EndRuns n next w1) → Runs (moves p) bound from (Back w) (then_do (then_do (dealloc_run R (level R bound levels) bound meant o w) (λ _ w1. deallocs_run R (level R bound levels) bound (above_in R n next) o w1)) (λ _ w1. rest_of w1))
     by_dealloc n next w from None None still meets e go =
-        let inner = Ending back waits o next n ∷ frames in
-        let there = leads_trans (moves p) from _ (at_end rs inner o stack w) e (leads_same (moves p) _ (at_end rs inner o stack w) (ap (λ t. Running (at inner p.end_step stack (ended_held rs o w)) w.input t) (append-nil w.trace))) in
-        leads_runs (moves p) bound from (at_end rs inner o stack w) (Back w) (meant_from n next w) there (go w still)
+        let inner1 = Ending back waits o next n ∷ frames in
+        let there = leads_trans (moves p) from _ (at_end rs inner1 o stack w) e (leads_same (moves p) _ (at_end rs inner1 o stack w) (ap (λ t. Running (at inner1 p.end_step stack (ended_held rs o w)) w.input t) (append-nil w.trace))) in
+        leads_runs (moves p) bound from (at_end rs inner1 o stack w) (Back w) (meant_from n next w) there (go w still)
     by_dealloc n next w from (Some f) (Some to) still meets e go =
-        let inner = Ending back waits o next n ∷ frames in
+        let inner1 = Ending back waits o next n ∷ frames in
         let D = level R bound levels in
-        let w0 = entered (slots_of R f) 0 o [] w in
-        let ready = onto (first_locals (slots_of R f) []) stack in
-        let into = leads_trans (moves p) from _ (running inner rs to stack w0) e (quiet p inner bound rs to stack w0) in
-        let there = leads_trans (moves p) from (running inner rs to stack w0) (running inner rs (entry f) ready w0) into (stub_leads rs inner 0 f to [] stack w0 refl meets) in
-        let body = called D bound (function_at R f) o [] w in
-        let end = Left_by rs f o inner stack w levels (deep next n) in
-        let runs = leads_runs (moves p) bound from (running inner rs (entry f) ready w0) end body there (body_runs rs levels f o inner [] stack w (deep next n)) in
-        subst (Runs (moves p) bound from (Back w)) (then_thrice body (λ _ w1. Done finished w1) (λ _ w1. deallocs_run R D bound (above_in R n next) o w1) (λ _ w1. gone o w1))
+        let w0 = entered (slots_of R f) 0 0 o nothing_given w in
+        let into = leads_trans (moves p) from _ (running inner1 rs to stack w0) e (quiet p inner1 bound rs to stack w0) in
+        let there = leads_trans (moves p) from (running inner1 rs to stack w0) (begun_at rs f o inner1 nothing_given stack w) into (stub_leads rs inner1 0 0 f to nothing_given stack w0 refl refl meets) in
+        let body = called D bound (function_at R f) o nothing_given w in
+        let inside = deep (Ending back waits o next n) in
+        let end = Left_by rs f o inner1 stack w levels inside in
+        let runs = leads_runs (moves p) bound from (begun_at rs f o inner1 nothing_given stack w) end body there (body_runs rs levels f o inner1 nothing_given stack w inside) in
+        subst (Runs (moves p) bound from (Back w)) (then_thrice body (λ _ w1. Done finished w1) (λ _ w1. deallocs_run R D bound (above_in R n next) o w1) (λ _ w1. rest_of w1))
         (then_runs (moves p) bound from end (Back w) body (λ _ w1. meant_from n next w1) runs (λ v w1 reached m.
         let k = m.1 in
-        let home : reached ≡ at_end rs inner o stack w1 =
-        m.0 ∙ ap (λ t. Running (at inner p.end_step stack (with_ended w1 w.frame w.waiting)) w1.input t) (append-nil w1.trace)
-        ∙ ap (λ (g : world.Frame). Running (at inner p.end_step stack (with_ended w1 g w.waiting)) w1.input w1.trace) (sym k.frame)
-        ∙ ap (λ l. Running (at inner p.end_step stack (with_ended w1 w1.frame l)) w1.input w1.trace) (sym k.waiting)
+        let home : reached ≡ at_end rs inner1 o stack w1 =
+        m.0 ∙ ap (λ t. Running (at inner1 p.end_step stack (with_ended w1 w.frame w.waiting)) w1.input t) (append-nil w1.trace)
+        ∙ ap (λ (g : world.Frame). Running (at inner1 p.end_step stack (with_ended w1 g w.waiting)) w1.input w1.trace) (sym k.frame)
+        ∙ ap (λ l. Running (at inner1 p.end_step stack (with_ended w1 w1.frame l)) w1.input w1.trace) (sym k.waiting)
         in
-        leads_runs (moves p) bound reached (at_end rs inner o stack w1) (Back w) (meant_from n next w1) (leads_same (moves p) reached (at_end rs inner o stack w1) home)
-        (better_runs (moves p) bound (at_end rs inner o stack w1) (Back w1) (Back w) (meant_from n next w1) (go w1 (still ∙ ap waits_at (sym k.frame))) (λ done w2 to2 m2. (m2.0, kept_trans w w1 w2 k m2.1)))))
+        leads_runs (moves p) bound reached (at_end rs inner1 o stack w1) (Back w) (meant_from n next w1) (leads_same (moves p) reached (at_end rs inner1 o stack w1) home)
+        (back_from w w1 (at_end rs inner1 o stack w1) (meant_from n next w1) k (go w1 (still_on w w1 still k)))))
     by_dealloc n next w from None (Some to) still meets e go = absurd meets
     by_dealloc n next w from (Some f) None still meets e go = absurd meets
 
     module _ (links : Linked p R) (has_end : HasAt p p.end_step (EndStep ∷ [])) where
-      by_class : (n c : ℕ) (w : World) (a b : Option Class) → Still w → Same p R a b → moves p (at (Ending back waits o (Some c) (suc n) ∷ frames) p.end_step stack (ended_held rs o w)) ≡ recount (ends_class p (at (Ending back waits o (Some c) (suc n) ∷ frames) p.end_step stack (ended_held rs o w)) back waits o b n frames) → ((next : Option ℕ) (w1 : World) → Still w1 → EndRuns n next w1) → Runs (moves p) bound (at_end rs (Ending back waits o (Some c) (suc n) ∷ frames) o stack w) (Back w) (then_do (dealloc_and_above R (level R bound levels) bound a o (λ above w1. deallocs_run R (level R bound levels) bound (above_in R n above) o w1) w) (λ _ w1. gone o w1))
-      by_class n c w None None still same e go = last_runs (Some c) (suc n) w still e
+      -- the fields that are left, and the last step
+      fields_run : (fields : List ℕ) (w : World) → Still w → Runs (moves p) bound (at_end rs (Clearing back waits o fields ∷ frames) o stack w) (Back w) (then_do (fields_dropped (level R bound levels) fields o w) (λ _ w1. gone o w1))
+      fields_run [] w still =
+          let inner1 = Clearing back waits o [] ∷ frames in
+          leads_runs (moves p) bound (at_end rs inner1 o stack w) (follow (recount (last_step w)) w.input w.trace) (Back w) (gone o w) (leads_step (moves p) (at inner1 p.end_step stack (ended_held rs o w)) w.input w.trace (recount (last_step w)) (ap recount (has_end.0 inner1 stack (ended_held rs o w)))) (last_runs w still)
+      fields_run (index ∷ others) w still =
+          let inner1 = Clearing back waits o (index ∷ others) ∷ frames in
+          let D = level R bound levels in
+          let next = recount (clears_next p (at (inner others) p.end_step stack (ended_held rs o w)) o index) in
+          let from = follow next w.input w.trace in
+          let first = field_dropped D o index (object_at w.objects o) w in
+          let meant = then_do (fields_dropped D (index ∷ others) o w) (λ _ w1. gone o w1) in
+          leads_runs (moves p) bound (at_end rs inner1 o stack w) from (Back w) meant (leads_step (moves p) (at inner1 p.end_step stack (ended_held rs o w)) w.input w.trace next (ap recount (has_end.0 inner1 stack (ended_held rs o w))))
+          (subst (Runs (moves p) bound from (Back w)) (then_twice first (λ _ w1. fields_dropped D others o w1) (λ _ w1. gone o w1))
+          (then_runs (moves p) bound from (Goes_on others w) (Back w) first (λ _ w1. then_do (fields_dropped D others o w1) (λ _ w2. gone o w2)) (field_run others index w) (λ done w1 to m.
+          leads_runs (moves p) bound to (at_end rs (inner others) o stack w1) (Back w) (then_do (fields_dropped D others o w1) (λ _ w2. gone o w2)) (leads_same (moves p) _ _ m.0)
+          (back_from w w1 (at_end rs (inner others) o stack w1) (then_do (fields_dropped D others o w1) (λ _ w2. gone o w2)) m.1 (fields_run others w1 (still_on w w1 still m.1))))))
+
+      -- the deallocs are done
+      clears_run : (frame : Frame) (order : List ℕ) (ob : Object) (w : World) → object_at w.objects o ≡ Some ob → is_there ob.phase ≡ true → Still w
+          → Runs (moves p) bound (follow (recount (clears p (at (frame ∷ frames) p.end_step stack (ended_held rs o w)) back waits o order frames)) w.input w.trace) (Back w) (then_do (fields_dropped (level R bound levels) order o (turned Emptying o (Some ob) w)) (λ _ w1. gone o w1))
+      clears_run frame [] ob w found there still = bare_runs w ob found there still
+      clears_run frame (index ∷ order) ob w found there still =
+          let fields = index ∷ order in
+          let inner1 = Clearing back waits o fields ∷ frames in
+          let w1 = turned Emptying o (Some ob) w in
+          let meant = then_do (fields_dropped (level R bound levels) fields o w1) (λ _ w2. gone o w2) in
+          let from = follow (recount (clears p (at (frame ∷ frames) p.end_step stack (ended_held rs o w)) back waits o fields frames)) w.input w.trace in
+          let path : from ≡ at_end rs inner1 o stack w1 =
+          ap (λ t. Running (at inner1 p.end_step stack (recounted (with_things (ended_held rs o w) (turned_in Emptying w.objects o)))) w.input t) (append-nil w.trace)
+          ∙ ap (λ l. Running (at inner1 p.end_step stack (recounted (with_things (ended_held rs o w) l))) w.input w.trace) (turned_put Emptying w.objects o ob found)
+          in
+          leads_runs (moves p) bound from (at_end rs inner1 o stack w1) (Back w) meant (leads_same (moves p) _ _ path)
+          (back_from w w1 (at_end rs inner1 o stack w1) meant (record { frame = refl; waiting = refl }) (fields_run fields w1 still))
+
+      after_runs : (frame : Frame) (w : World) → Still w → moves p (at (frame ∷ frames) p.end_step stack (ended_held rs o w)) ≡ recount (after_deallocs p (at (frame ∷ frames) p.end_step stack (ended_held rs o w)) back waits o frames) → Runs (moves p) bound (at_end rs (frame ∷ frames) o stack w) (Back w) (rest_of w)
+      after_runs frame w still e =
+          let D = level R bound levels in
+          let s = at (frame ∷ frames) p.end_step stack (ended_held rs o w) in
+          let next = recount (after_deallocs p s back waits o frames) in
+          let meant : Option Object → Outcome Finished = λ f. then_do (emptied D o f w) (λ _ w1. gone o w1) in
+          let go : Object → Next State = λ ob. clears p s back waits o (field_order p.classes ob.class) frames in
+          leads_runs (moves p) bound (at_end rs (frame ∷ frames) o stack w) (follow next w.input w.trace) (Back w) (rest_of w) (leads_step (moves p) s w.input w.trace next e)
+          (there_runs p bound w.input w.trace (Back w) (rest_of w) (object_at w.objects o) go (λ ob found there.
+          let order_is : field_order D.classes ob.class ≡ field_order p.classes ob.class = ap (λ cs. field_order cs ob.class) (classes_are levels) ∙ sym (order_same p R links ob.class) in
+          subst (λ f. Runs (moves p) bound (follow (recount (go ob)) w.input w.trace) (Back w) (meant f)) (sym found)
+          (subst (λ order. Runs (moves p) bound (follow (recount (go ob)) w.input w.trace) (Back w) (then_do (fields_dropped D order o (turned Emptying o (Some ob) w)) (λ _ w1. gone o w1))) (sym order_is)
+          (clears_run frame (field_order p.classes ob.class) ob w found there still))))
+
+      by_class : (n c : ℕ) (w : World) (a b : Option Class) → Still w → Same p R a b → moves p (at (Ending back waits o (Some c) (suc n) ∷ frames) p.end_step stack (ended_held rs o w)) ≡ recount (ends_class p (at (Ending back waits o (Some c) (suc n) ∷ frames) p.end_step stack (ended_held rs o w)) back waits o b n frames) → ((next : Option ℕ) (w1 : World) → Still w1 → EndRuns n next w1) → Runs (moves p) bound (at_end rs (Ending back waits o (Some c) (suc n) ∷ frames) o stack w) (Back w) (then_do (dealloc_and_above R (level R bound levels) bound a o (λ above w1. deallocs_run R (level R bound levels) bound (above_in R n above) o w1) w) (λ _ w1. rest_of w1))
+      by_class n c w None None still same e go = after_runs (Ending back waits o (Some c) (suc n)) w still e
       by_class n c w (Some x) (Some d) still same e go =
-          let inner = Ending back waits o (Some c) (suc n) ∷ frames in
+          let inner1 = Ending back waits o (Some c) (suc n) ∷ frames in
           let h : Held = ended_held rs o w in
-          let s = at inner p.end_step stack h in
+          let s = at inner1 p.end_step stack h in
           let next = recount (runs_dealloc d.dealloc (at [] p.end_step stack h) (Ending back waits o x.superclass n ∷ frames)) in
           let step : moves p s ≡ next = e ∙ ap (λ up. recount (runs_dealloc d.dealloc s (Ending back waits o up n ∷ frames))) same.0 ∙ deallocs_alike d.dealloc (Ending back waits o x.superclass n ∷ frames) in
-          by_dealloc n x.superclass w (at_end rs inner o stack w) x.dealloc d.dealloc still same.2 (leads_step (moves p) s w.input w.trace next step) (go x.superclass)
+          by_dealloc n x.superclass w (at_end rs inner1 o stack w) x.dealloc d.dealloc still same.3 (leads_step (moves p) s w.input w.trace next step) (go x.superclass)
         where
           -- what waited before doesn't matter
           deallocs_alike : (dealloc : Option ℕ) (all : List Frame) → recount (runs_dealloc dealloc (at (Ending back waits o (Some c) (suc n) ∷ frames) p.end_step stack (ended_held rs o w)) all) ≡ recount (runs_dealloc dealloc (at [] p.end_step stack (ended_held rs o w)) all)
@@ -264,63 +474,69 @@ module _ (p : Program) (R : resolved.Program) (bound : ℕ) (begins : (f : ℕ) 
       by_class n c w (Some x) None still same e go = absurd same
 
       end_runs : (n : ℕ) (next : Option ℕ) (w : World) → Still w → EndRuns n next w
-      end_runs zero None w still = last_runs None zero w still (ap recount (has_end.0 (Ending back waits o None zero ∷ frames) stack (ended_held rs o w)))
-      end_runs zero (Some c) w still = last_runs (Some c) zero w still (ap recount (has_end.0 (Ending back waits o (Some c) zero ∷ frames) stack (ended_held rs o w)))
-      end_runs (suc n) None w still = last_runs None (suc n) w still (ap recount (has_end.0 (Ending back waits o None (suc n) ∷ frames) stack (ended_held rs o w)))
+      end_runs zero None w still = after_runs (Ending back waits o None zero) w still (ap recount (has_end.0 (Ending back waits o None zero ∷ frames) stack (ended_held rs o w)))
+      end_runs zero (Some c) w still = after_runs (Ending back waits o (Some c) zero) w still (ap recount (has_end.0 (Ending back waits o (Some c) zero ∷ frames) stack (ended_held rs o w)))
+      end_runs (suc n) None w still = after_runs (Ending back waits o None (suc n)) w still (ap recount (has_end.0 (Ending back waits o None (suc n) ∷ frames) stack (ended_held rs o w)))
       end_runs (suc n) (Some c) w still =
-          subst (λ x. Runs (moves p) bound (at_end rs (Ending back waits o (Some c) (suc n) ∷ frames) o stack w) (Back w) (then_do x (λ _ w1. gone o w1)))
+          subst (λ x. Runs (moves p) bound (at_end rs (Ending back waits o (Some c) (suc n) ∷ frames) o stack w) (Back w) (then_do x (λ _ w1. rest_of w1)))
           (sym (deallocs_from R (level R bound levels) bound n c o w))
           (by_class n c w (slice_get R.classes c) (slice_get p.classes c) still (links.same c) (ap recount (has_end.0 (Ending back waits o (Some c) (suc n) ∷ frames) stack (ended_held rs o w))) (λ next w1 still1. end_runs n next w1 still1))
 
   module _ (links : Linked p R) (has_end : HasAt p p.end_step (EndStep ∷ [])) where
     -- the end of an object at the last level
     last_ends : (frames : List Frame) → length frames + 0 ≡ most_levels → Ends p frames bound (level R bound zero)
-    last_ends frames full k ob c h0 rs stack w pc back found =
-        inr (leads_same (moves p) _ _ (ap (λ b. follow (recount (begins_end p (at frames pc stack h0) back (suc k) ob.class (dying_in rs w k ob c) b)) w.input w.trace) (le-ltb (length frames) most_levels (omega (arith, full)))))
+    last_ends frames full f0 waiting k ob c h0 rs stack w pc back e found =
+        inr (leads_same (moves p) _ _ (ap (λ b. follow (recount (begins_end p (at frames pc stack h0) back (suc k) ob.class (dying_in rs (laid w f0 waiting) k ob c) b)) w.input w.trace) (le-ltb (length frames) most_levels (omega (arith, full)))))
 
     level_ends : (levels : ℕ) (frames : List Frame) → length frames + suc levels ≡ most_levels → ((frame : Frame) → Deep p (frame ∷ frames) bound R (level R bound levels)) → Ends p frames bound (level R bound (suc levels))
-    level_ends levels frames full deep k ob c h0 rs stack w pc back found =
+    level_ends levels frames full deep f0 waiting k ob c h0 rs stack w pc back e found =
         let n = length (superclasses R.classes) in
-        let waits = waits_of w in
-        let inner = Ending back waits (suc k) (Some ob.class) n ∷ frames in
+        let waits1 = waits_at f0 in
+        let inner1 = Ending back waits1 (suc k) (Some ob.class) n ∷ frames in
         let w1 = dying (suc k) (Some ob) w in
-        let h = dying_in rs w k ob c in
+        let h = dying_in rs (laid w f0 waiting) k ob c in
         let s = at frames pc stack h0 in
         let D = level R bound levels in
-        let runs = end_runs rs back waits (suc k) levels frames stack (λ next left. deep (Ending back waits (suc k) next left)) links has_end n (Some ob.class) w1 refl in
+        let o = meant_from rs back f0 waiting (suc k) levels frames stack deep n (Some ob.class) w1 in
+        let runs = end_runs rs back f0 waiting (suc k) levels frames stack deep links has_end n (Some ob.class) w1 e in
         let from = follow (recount (begins_end p s back (suc k) ob.class h (has_level s))) w.input w.trace in
-        let path : from ≡ at_end rs inner (suc k) stack w1 =
+        let path : from ≡ at_end rs inner1 (suc k) stack w1 =
         ap (λ b. follow (recount (begins_end p s back (suc k) ob.class h b)) w.input w.trace) (lt-ltb (length frames) most_levels (omega (arith, full)))
-        ∙ ap (λ m. Running (at (Ending back waits (suc k) (Some ob.class) m ∷ frames) p.end_step stack (ended_held rs (suc k) w1)) w.input w1.trace) (links.count ∙ sym (length-map R.classes superclass_of))
+        ∙ ap (λ m. Running (at (Ending back waits1 (suc k) (Some ob.class) m ∷ frames) p.end_step stack (ended_by rs (suc k) w1 (frame_places f0 ++ waiting))) w.input w1.trace) (links.count ∙ sym (length-map R.classes superclass_of))
+        ∙ ap (λ l. Running (at inner1 p.end_step stack (ended_by rs (suc k) w1 l)) w.input w1.trace) e
         in
-        let o = then_do (deallocs_run R D bound (above_in R n (Some ob.class)) (suc k) w1) (λ _ w2. gone (suc k) w2) in
-        let meant : o ≡ (level R bound (suc levels)).end_of (suc k) w = ap (λ x. then_do (deallocs_run R D bound (above_in R n (class_in x)) (suc k) (dying (suc k) x w)) (λ _ w2. gone (suc k) w2)) (sym found) in
-        subst (Runs (moves p) bound from (Stays frames rs stack back w)) meant
-        (leads_runs (moves p) bound from (at_end rs inner (suc k) stack w1) (Stays frames rs stack back w) o (leads_same (moves p) _ _ path)
-        (better_runs (moves p) bound (at_end rs inner (suc k) stack w1) (Stays frames rs stack back w1) (Stays frames rs stack back w) o runs (λ done w2 to m. (m.0, record { frame = m.1.frame; waiting = m.1.waiting }))))
+        let meant : o ≡ (level R bound (suc levels)).end_of (suc k) w = ap (λ x. then_do (deallocs_run R D bound (above_in R n (class_in x)) (suc k) (dying (suc k) x w)) (λ _ w2. then_do (emptied D (suc k) (object_at w2.objects (suc k)) w2) (λ _ w3. gone (suc k) w3))) (sym found) in
+        subst (Runs (moves p) bound from (λ done w2 to. (to ≡ running frames rs back stack (laid w2 f0 waiting)) × Kept w w2)) meant
+        (leads_runs (moves p) bound from (at_end rs inner1 (suc k) stack w1) (λ done w2 to. (to ≡ running frames rs back stack (laid w2 f0 waiting)) × Kept w w2) o (leads_same (moves p) _ _ path)
+        (better_runs (moves p) bound (at_end rs inner1 (suc k) stack w1) (λ done w2 to. (to ≡ running frames rs back stack (laid w2 f0 waiting)) × Kept w1 w2) (λ done w2 to. (to ≡ running frames rs back stack (laid w2 f0 waiting)) × Kept w w2) o runs (λ done w2 to m. (m.0, record { frame = m.1.frame; waiting = m.1.waiting }))))
 
     pub calls_run : (levels : ℕ) (frames : List Frame) → length frames + levels ≡ most_levels → Deep p frames bound R (level R bound levels)
     calls_run zero frames full = record {
       invokes = λ f given stack rs w pc has.
-          let s = onto (first_locals (slots_of R f) given) stack in
-          inr (leads_step (moves p) (at frames pc s (held_of rs w)) w.input w.trace (enters (at frames pc s (held_of rs w)) (entry f) 0 false) (call_steps f pc frames s (held_of rs w) false has (le-ltb (length frames) most_levels (omega (arith, full)))));
-      tells = λ sign from selector arguments self given stack rs w pc size.
-          last_tells rs frames full (lookup R.classes from sign selector arguments) (lookup p.classes from sign selector arguments) (passes sign arguments) self given stack w pc (lookup_meets p R links sign from selector arguments);
+          let s = onto (first_locals (slots_of R f) given.numbers) stack in
+          let names1 = onto (first_names (parameters_of R f) given.objects) rs in
+          inr (leads_step (moves p) (at frames pc s (held_of names1 w)) w.input w.trace (enters (at frames pc s (held_of names1 w)) (entry f) 0 false) (call_steps f pc frames s (held_of names1 w) false has (le-ltb (length frames) most_levels (omega (arith, full)))));
+      tells = λ sign from selector arguments objects self given stack rs w pc size few.
+          last_tells rs frames full (lookup R.classes from sign selector arguments objects) (lookup p.classes from sign selector arguments objects) (passes sign arguments) objects self given stack w pc (lookup_meets p R links sign from selector arguments objects);
       ends = last_ends frames full;
       same_descent = descent_same p R links;
       same_fields = fields_same p R links;
+      same_strong = strong_fields_same p R links;
     }
     calls_run (suc levels) frames full = record {
       invokes = λ f given stack rs w pc has.
-          let inner = Calling (pc + 1) (waits_of w) ∷ frames in
-          let s = onto (first_locals (slots_of R f) given) stack in
-          let w1 = entered (slots_of R f) 0 0 given w in
-          let next = Goes (at inner (entry f) s (held_of rs w1)) [] in
-          let into = leads_trans (moves p) (running frames rs pc s w) (follow next w.input w.trace) (running inner rs (entry f) s w1) (leads_step (moves p) (at frames pc s (held_of rs w)) w.input w.trace next (call_steps f pc frames s (held_of rs w) true has (lt-ltb (length frames) most_levels (omega (arith, full))))) (quiet p inner bound rs (entry f) s w1) in
-          leads_runs (moves p) bound (running frames rs pc s w) (running inner rs (entry f) s w1) (Returns frames rs pc stack w) ((level R bound (suc levels)).call f 0 given w) into (method_runs rs levels f pc 0 frames given stack w (calls_run levels inner (omega (arith, full))));
-      tells = λ sign from selector arguments self given stack rs w pc size.
-          level_tells rs levels frames full (lookup R.classes from sign selector arguments) (lookup p.classes from sign selector arguments) (passes sign arguments) self given stack w pc (calls_run levels (Calling (pc + 1) (waits_of w) ∷ frames) (omega (arith, full))) size (lookup_meets p R links sign from selector arguments);
+          let inner1 = Calling (pc + 1) (waits_of w) ∷ frames in
+          let s = onto (first_locals (slots_of R f) given.numbers) stack in
+          let names1 = onto (first_names (parameters_of R f) given.objects) rs in
+          let w1 = entered (slots_of R f) 0 0 0 given w in
+          let next = Goes (at inner1 (entry f) s (held_of names1 w1)) [] in
+          let begun1 = begun_at rs f 0 inner1 given stack w in
+          let into = leads_trans (moves p) (running frames names1 pc s w) (follow next w.input w.trace) begun1 (leads_step (moves p) (at frames pc s (held_of names1 w)) w.input w.trace next (call_steps f pc frames s (held_of names1 w) true has (lt-ltb (length frames) most_levels (omega (arith, full))))) (quiet p inner1 bound names1 (entry f) s w1) in
+          leads_runs (moves p) bound (running frames names1 pc s w) begun1 (Returns frames rs pc stack w) ((level R bound (suc levels)).call f 0 given w) into (method_runs rs levels f pc 0 frames given stack w (calls_run levels inner1 (omega (arith, full))));
+      tells = λ sign from selector arguments objects self given stack rs w pc size few.
+          level_tells rs levels frames full (lookup R.classes from sign selector arguments objects) (lookup p.classes from sign selector arguments objects) (passes sign arguments) objects self given stack w pc (calls_run levels (Calling (pc + 1) (waits_of w) ∷ frames) (omega (arith, full))) size few (lookup_meets p R links sign from selector arguments objects);
       ends = level_ends levels frames full (λ frame. calls_run levels (frame ∷ frames) (omega (arith, full)));
       same_descent = descent_same p R links;
       same_fields = fields_same p R links;
+      same_strong = strong_fields_same p R links;
     }

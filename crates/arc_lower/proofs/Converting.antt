@@ -181,7 +181,7 @@ module _ (D : Deeper) where
 
   pub known_good : (a : Value) (w : World) → Holds (IsOf (known_kind a)) (evaluated D a w)
   known_good (Number n) w = number_good n
-  known_good (Print pieces all) w = any_holds (IsOf k.Int) (all_evaluated D all w) _ (λ values w1. again k.Int (pos (length (formatted pieces values))))
+  known_good (Print pieces all) w = any_holds (IsOf k.Int) (all_evaluated D all w) _ (λ given w1. again k.Int (pos (length (formatted pieces given.numbers))))
   known_good (Applied operator kind a) w = any_holds (IsOf (applied_kind operator kind)) (evaluated D a w) _ (λ x w1. applied_good operator kind x)
   known_good (Combined operator kind a b) w = any_holds (IsOf (combined_kind operator kind)) (evaluated D a w) _ (λ x w1. any_holds (IsOf (combined_kind operator kind)) (evaluated D b w1) _ (λ y w2. combined_good operator kind x y w2))
   known_good (Choice c a b) w =

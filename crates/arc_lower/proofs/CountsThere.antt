@@ -1,9 +1,9 @@
 -- What a place names is nil or an object that isn't gone.
-use Rattle.std.proofs.Common.{◌≡◌, ℕ, zero, suc, ◌<◌, true, List, [], ◌∷◌, ◌++◌, length, Option, Some, None, slice_get, slice_set, refl, sym, ap, ◌∙◌, subst, ⊎_elim, arith}
+use Rattle.std.proofs.Common.{◌≡◌, ℕ, zero, suc, ◌<◌, true, List, [], ◌∷◌, ◌++◌, length, Option, Some, slice_get, slice_set, refl, sym, ap, ◌∙◌, subst, ⊎_elim, arith}
 use Rattle.std.proofs.lemmas.Bool.{cases_eq}
-use Rattle.arc_spec.specs.Objects.{Object, Gone, object_at, in_phase}
+use Rattle.arc_spec.specs.Objects.{Object, object_at}
 use Rattle.arc_spec.specs.Stepping.{Next, only_if}
-use Rattle.arc_spec.specs.Holding.{Held, holders, is_there, gone_in, taken_by, on_object, on_named, holds}
+use Rattle.arc_spec.specs.Holding.{Held, holders, is_there, taken_by, on_object, on_named, holds}
 use Rattle.arc_lower.proofs.CountsPlaces.{tally_nil, tally_same, tally_other, holders_head, holders_set, holders_nil}
 use Rattle.arc_lower.proofs.CountsHeld.{set_other}
 
@@ -73,14 +73,6 @@ made_there objects places x there all =
   where
     before : (k : ℕ) → IsThere objects (suc k) → IsThere (objects ++ x ∷ []) (suc k)
     before k found = (found.0, get_first objects k x found.0 found.1, found.2)
-
--- an object is gone, which no place names
-gone_found : (objects : List Object) (places : List ℕ) (j : ℕ) (found : Option Object) → object_at objects (suc j) ≡ found → holders (suc j) places ≡ 0 → AllThere objects places → AllThere (gone_in objects (suc j)) places
-gone_found objects places j None e none all = rw e all
-gone_found objects places j (Some ob) e none all = rw e (changed_there objects places j (in_phase Gone ob) (λ some. absurd (omega (arith, some, none))) all)
-
-pub gone_there : (objects : List Object) (places : List ℕ) (j : ℕ) → holders (suc j) places ≡ 0 → AllThere objects places → AllThere (gone_in objects (suc j)) places
-gone_there objects places j none all = gone_found objects places j (object_at objects (suc j)) refl none all
 
 -- ---- steps
 

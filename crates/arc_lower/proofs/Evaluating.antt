@@ -1,5 +1,5 @@
 -- The blocks of expressions mean what these mean.
-use Rattle.std.proofs.Common.{◌≡◌, ℕ, suc, ℤ, Bool, true, false, sym, if◌then◌else◌, List, ◌∷◌, length, Option, Some, None, refl, ap, ◌∙◌}
+use Rattle.std.proofs.Common.{◌≡◌, ℕ, suc, ℤ, Bool, true, false, sym, if◌then◌else◌, length, Option, Some, None, refl, ap, ◌∙◌}
 use Rattle.arc_ast.specs.declared.tree.BinaryOperator.{BinaryOperator}
 use Rattle.arc_ast.specs.declared.tree.Kind.{Kind}
 use Rattle.arc_ast.specs.declared.tree.Moment.{Moment}
@@ -8,15 +8,16 @@ use Rattle.arc_spec.specs.declared.event.Fault.TheVariants.{FieldClass}
 use Rattle.arc_spec.specs.Classes.{class_at, descends}
 use Rattle.arc_spec.specs.Objects.{Object, object_at}
 use Rattle.arc_spec.specs.declared.location.Location.{Location}
-use Rattle.arc_spec.specs.Resolved.{Piece, Value, Number, ReadByte, Print, Applied, Combined, Choice, Converted, Read, Assigned, Updated, Invoked, Sent, SentSuper, SentTo, SentToSuper, Field, FieldAssigned, FieldUpdated, Reference, Itself, Variable, Chosen, Stored, Made, Initialized, Values, no_values, and_value}
+use Rattle.arc_spec.specs.Resolved.{Piece, Value, Number, ReadByte, Print, Applied, Combined, Choice, Converted, Read, Assigned, Updated, Invoked, Sent, ClassValue, ClassSuper, ObjectValue, ObjectSuper, Field, FieldAssigned, FieldUpdated, Reference, Itself, Variable, Chosen, Stored, ObjectField, ObjectFieldStored, Made, Initialized, Arguments, no_arguments, number_argument, object_argument}
 use Rattle.arc_spec.specs.Resolved as resolved
-use Rattle.arc_spec.specs.World.{World, Outcome, Done, Faulted, Cut, Finished, then_do, prints, local_at, takes}
+use Rattle.arc_spec.specs.World.{World, Outcome, Done, Faulted, Cut, Finished, then_do, Given, prints, local_at, takes}
 use Rattle.arc_spec.specs.Number.{converted, combined, is_zero}
-use Rattle.arc_spec.specs.Meaning.{Deeper, dispatched, finds, sent_to, sent_from, formatted, byte_count, or_fault, held_at, holds, updated, given_by, in_object, field_read, field_set, assigned, evaluated, referred, all_evaluated}
+use Rattle.arc_spec.specs.Meaning as meaning
+use Rattle.arc_spec.specs.Meaning.{Deeper, sent, and_number, and_object, object_field_set, formatted, byte_count, or_fault, held_at, holds, updated, given_by, in_object, field_read, field_set, assigned, evaluated, referred, all_evaluated}
 use Rattle.arc_code.specs.declared.instr.Op.TheVariants.{Narrow, SetField, Hold}
 use Rattle.arc_lower.specs.Known.{is_within, combined_kind, known_kind}
 use Rattle.arc_lower.proofs.Converting.{IsOf, within_keeps, combined_good, known_good}
-use Rattle.arc_lower.specs.Lowered.{Message, ToClass, ToSuperClass, ToObject, ToSuper, Block, Idle, One, Store, Format, Calls, Tells, Then, value_count, given_block, below_new, narrow_block, update_block, value_block, reference_block, values_block}
+use Rattle.arc_lower.specs.Lowered.{Message, ToClass, ToSuperClass, ToObject, ToSuper, Block, Idle, One, Store, Format, Calls, Tells, Then, number_count, object_count, given_block, below_new, narrow_block, update_block, value_block, reference_block, arguments_block}
 use Rattle.arc_lower.proofs.Shaping.{Operands, push, name, pushed, Way, On, Lost, left_by, and_then, pushes, passes_by, told, block, after, chosen_by, same_depth, on_pushed, Holds, after_known}
 
 module _ (D : Deeper) (bound : ℕ) where
@@ -30,7 +31,7 @@ module _ (D : Deeper) (bound : ℕ) where
   abbrev pub beside : Operands → ℕ → Way
   beside s r = On (name r s)
 
-  abbrev pub all_above : Operands → List ℤ → Way
+  abbrev pub all_above : Operands → Given → Way
   all_above s given = On (pushed given s)
 
   -- there are as many values as expressions
@@ -39,19 +40,39 @@ module _ (D : Deeper) (bound : ℕ) where
   any_holds Good (Faulted f w) go h = tt
   any_holds Good (Cut w) go h = tt
 
-  one_more : (n : ℕ) (x : ℤ) (o : Outcome (List ℤ)) → Holds (λ given. length given ≡ n) o → Holds (λ given. length given ≡ suc n) (then_do o (λ xs w. Done (x ∷ xs) w))
-  one_more n x (Done given w) h = ap suc h
-  one_more n x (Faulted f w) h = tt
-  one_more n x (Cut w) h = tt
+  abbrev Counted : Arguments → Given → Type 0
+  Counted all given = (length given.numbers ≡ number_count all) × (length given.objects ≡ object_count all)
 
-  values_counted : (all : Values) (w : World) → Holds (λ given. length given ≡ value_count all) (all_evaluated D all w)
-  values_counted no_values w = refl
-  values_counted (and_value a others) w = any_holds (λ given. length given ≡ value_count (and_value a others)) (evaluated D a w) _ (λ x w1. one_more (value_count others) x (all_evaluated D others w1) (values_counted others w1))
+  more_numbers : (a : Value) (others : Arguments) (x : ℤ) (o : Outcome Given) → Holds (Counted others) o → Holds (Counted (number_argument a others)) (then_do o (λ given w. Done (and_number x given) w))
+  more_numbers a others x (Done given w) h = (ap suc h.0, h.1)
+  more_numbers a others x (Faulted f w) h = tt
+  more_numbers a others x (Cut w) h = tt
 
-  with_first : (x : ℤ) (s : Operands) (o : Outcome (List ℤ)) → left_by (all_above (push x s)) o ≡ left_by (all_above s) (then_do o (λ xs w. Done (x ∷ xs) w))
-  with_first x s (Done given w) = refl
-  with_first x s (Faulted f w) = refl
-  with_first x s (Cut w) = refl
+  more_objects : (a : Reference) (others : Arguments) (r : ℕ) (o : Outcome Given) → Holds (Counted others) o → Holds (Counted (object_argument a others)) (then_do o (λ given w. Done (and_object r given) w))
+  more_objects a others r (Done given w) h = (h.0, ap suc h.1)
+  more_objects a others r (Faulted f w) h = tt
+  more_objects a others r (Cut w) h = tt
+
+  given_counted : (all : Arguments) (w : World) → Holds (Counted all) (all_evaluated D all w)
+  given_counted no_arguments w = (refl, refl)
+  given_counted (number_argument a others) w = any_holds (Counted (number_argument a others)) (evaluated D a w) _ (λ x w1. more_numbers a others x (all_evaluated D others w1) (given_counted others w1))
+  given_counted (object_argument a others) w = any_holds (Counted (object_argument a others)) (referred D a w) _ (λ r w1. more_objects a others r (all_evaluated D others w1) (given_counted others w1))
+
+  with_number : (x : ℤ) (s : Operands) (o : Outcome Given) → left_by (all_above (push x s)) o ≡ left_by (all_above s) (then_do o (λ given w. Done (and_number x given) w))
+  with_number x s (Done given w) = refl
+  with_number x s (Faulted f w) = refl
+  with_number x s (Cut w) = refl
+
+  with_object : (r : ℕ) (s : Operands) (o : Outcome Given) → left_by (all_above (name r s)) o ≡ left_by (all_above s) (then_do o (λ given w. Done (and_object r given) w))
+  with_object r s (Done given w) = refl
+  with_object r s (Faulted f w) = refl
+  with_object r s (Cut w) = refl
+
+  -- one part after two others
+  three_parts : {A B C : Type 0} (o : Outcome A) (f : A → World → Outcome B) (g : B → World → Outcome C) → then_do o (λ a w. then_do (f a w) g) ≡ then_do (then_do o f) g
+  three_parts (Done a w) f g = refl
+  three_parts (Faulted e w) f g = refl
+  three_parts (Cut w) f g = refl
 
   held : (r : ℕ) (s : Operands) (o : Outcome Finished) → and_then (passes_by (name r s) o) (run (One Hold)) ≡ left_by (beside s) (then_do o (λ _ w. Done r (takes r w)))
   held r s (Done done w) = refl
@@ -59,11 +80,13 @@ module _ (D : Deeper) (bound : ℕ) where
   held r s (Cut w) = refl
 
   -- arguments, and what they are passed to
-  passed : {B : Type 0} (all : Values) (behind : Block) (end : B → Way) (s : Operands) (w : World) (go : List ℤ → World → Outcome B) → run (values_block (length s.numbers) all) s w ≡ left_by (all_above s) (all_evaluated D all w) → ((given : List ℤ) (w1 : World) → length given ≡ value_count all → run behind (pushed given s) w1 ≡ left_by end (go given w1)) → run (Then (values_block (length s.numbers) all) behind) s w ≡ left_by end (then_do (all_evaluated D all w) go)
-  passed all behind end s w go arguments next = after_known (λ given. length given ≡ value_count all) (λ given. pushed given s) end _ (all_evaluated D all w) _ _ (values_counted all w) arguments next
+  passed : {B : Type 0} (all : Arguments) (behind : Block) (end : B → Way) (s : Operands) (w : World) (go : Given → World → Outcome B) → run (arguments_block (length s.numbers) all) s w ≡ left_by (all_above s) (all_evaluated D all w) → ((given : Given) (w1 : World) → Counted all given → run behind (pushed given s) w1 ≡ left_by end (go given w1))
+      → run (Then (arguments_block (length s.numbers) all) behind) s w ≡ left_by end (then_do (all_evaluated D all w) go)
+  passed all behind end s w go arguments next = after_known (Counted all) (λ given. pushed given s) end _ (all_evaluated D all w) _ _ (given_counted all w) arguments next
 
-  tells : (message : Message) (all : Values) (s rest : Operands) (w : World) (go : List ℤ → World → Outcome ℤ) → run (values_block (length s.numbers) all) s w ≡ left_by (all_above s) (all_evaluated D all w) → ((given : List ℤ) (w1 : World) → told D message given s w1 ≡ left_by (above rest) (go given w1)) → run (Then (values_block (length s.numbers) all) (Tells message (value_count all))) s w ≡ left_by (above rest) (then_do (all_evaluated D all w) go)
-  tells message all s rest w go arguments answer = passed all (Tells message (value_count all)) (above rest) s w go arguments (λ given w1 e. on_pushed (value_count all) given s w1 (λ values below. told D message values below w1) e ∙ answer given w1)
+  tells : (message : Message) (all : Arguments) (s rest : Operands) (w : World) (go : Given → World → Outcome ℤ) → run (arguments_block (length s.numbers) all) s w ≡ left_by (all_above s) (all_evaluated D all w) → ((given : Given) (w1 : World) → told D message given s w1 ≡ left_by (above rest) (go given w1))
+      → run (Then (arguments_block (length s.numbers) all) (Tells message (number_count all) (object_count all))) s w ≡ left_by (above rest) (then_do (all_evaluated D all w) go)
+  tells message all s rest w go arguments answer = passed all (Tells message (number_count all) (object_count all)) (above rest) s w go arguments (λ given w1 e. on_pushed (number_count all) (object_count all) given s w1 (λ values below. told D message values below w1) e.0 e.1 ∙ answer given w1)
 
   -- ---- conversions
 
@@ -128,7 +151,8 @@ module _ (D : Deeper) (bound : ℕ) where
     pub value_is : (a : Value) (s : Operands) (w : World) → run (value_block (length s.numbers) a) s w ≡ left_by (above s) (evaluated D a w)
     value_is (Number n) s w = refl
     value_is ReadByte s w = refl
-    value_is (Print pieces all) s w = passed all (Format pieces (value_count all)) (above s) s w _ (values_is all s w) (λ given w1 e. on_pushed (value_count all) given s w1 (λ values rest. Done (On (push (byte_count (formatted pieces values)) rest)) (prints (formatted pieces values) w1)) e)
+    value_is (Print pieces all) s w = passed all (Format pieces (number_count all) (object_count all)) (above s) s w _ (arguments_is all s w) (λ given w1 e.
+        on_pushed (number_count all) (object_count all) given s w1 (λ values rest. Done (On (push (byte_count (formatted pieces values.numbers)) rest)) (prints (formatted pieces values.numbers) w1)) e.0 e.1)
     value_is (Applied operator kind a) s w = after (λ v. push v s) (above s) _ (evaluated D a w) _ _ (value_is a s w) (λ x w1. refl)
     value_is (Combined operator kind a b) s w = after (λ v. push v s) (above s) _ (evaluated D a w) _ _ (value_is a s w) (λ x w1.
         after (λ v. push v (push x s)) (above s) _ (evaluated D b w1) _ _ (value_is b (push x s) w1) (λ y w2. refl))
@@ -144,18 +168,20 @@ module _ (D : Deeper) (bound : ℕ) where
         let old = held_at i w in
         ap (λ x. and_then x (run (update_block moment (value_block (suc (below_new moment depth)) a) operator computed kept store))) (same_depth depth (Done (On (push old s)) w) (Done Lost w))
         ∙ update_is moment operator computed kept old a store s s w (λ new w1. Done new (holds i new w1)) (λ s1. value_is a s1 w) (variable_stores moment old i s)
-    value_is (Invoked f all) s w = passed all (Calls f (value_count all)) (above s) s w _ (values_is all s w) (λ given w1 e. on_pushed (value_count all) given s w1 (λ values rest. pushes rest (D.call f 0 values w1)) e)
-    value_is (Sent a selector all) s w = after (λ v. push v s) (above s) _ (evaluated D a w) _ _ (value_is a s w) (λ self w1.
-        tells (ToClass selector) all (push self s) s w1 (λ given w2. dispatched D (finds D (class_at self) selector given) self given w2) (values_is all (push self s) w1) (λ given w2. refl))
-    value_is (SentSuper from selector all) s w =
+    value_is (Invoked f all) s w = passed all (Calls f (number_count all) (object_count all)) (above s) s w _ (arguments_is all s w) (λ given w1 e. on_pushed (number_count all) (object_count all) given s w1 (λ values rest. pushes rest (D.call f 0 values w1)) e.0 e.1)
+    value_is (Sent (ClassValue a) selector all) s w = after (λ v. push v s) (above s) _ (evaluated D a w) _ _ (value_is a s w) (λ self w1.
+        tells (ToClass selector) all (push self s) s w1 (λ given w2. sent D (meaning.ToClass (class_at self) self) selector given w2) (arguments_is all (push self s) w1) (λ given w2. refl))
+        ∙ ap (left_by (above s)) (three_parts (evaluated D a w) (λ self w1. Done (meaning.ToClass (class_at self) self) w1) (λ target w1. then_do (all_evaluated D all w1) (λ given w2. sent D target selector given w2)))
+    value_is (Sent (ClassSuper from) selector all) s w =
         let self = local_at w.frame.locals 0 in
-        ap (λ x. and_then x (run (Then (values_block (suc (length s.numbers)) all) (Tells (ToSuperClass from selector) (value_count all))))) (same_depth (length s.numbers) (Done (On (push self s)) w) (Done Lost w))
-        ∙ tells (ToSuperClass from selector) all (push self s) s w (λ given w2. dispatched D (finds D (Some from) selector given) self given w2) (values_is all (push self s) w) (λ given w2. refl)
-    value_is (SentTo a selector all) s w = after (λ r. name r s) (above s) _ (referred D a w) _ _ (reference_is a s w) (λ self w1.
-        tells (ToObject selector) all (name self s) s w1 (λ given w2. sent_to D self selector given w2) (values_is all (name self s) w1) (λ given w2. refl))
-    value_is (SentToSuper from selector all) s w =
+        ap (λ x. and_then x (run (Then (arguments_block (suc (length s.numbers)) all) (Tells (ToSuperClass from selector) (number_count all) (object_count all))))) (same_depth (length s.numbers) (Done (On (push self s)) w) (Done Lost w))
+        ∙ tells (ToSuperClass from selector) all (push self s) s w (λ given w2. sent D (meaning.ToClass (Some from) self) selector given w2) (arguments_is all (push self s) w) (λ given w2. refl)
+    value_is (Sent (ObjectValue a) selector all) s w = after (λ r. name r s) (above s) _ (referred D a w) _ _ (reference_is a s w) (λ self w1.
+        tells (ToObject selector) all (name self s) s w1 (λ given w2. sent D (meaning.ToObject self) selector given w2) (arguments_is all (name self s) w1) (λ given w2. refl))
+        ∙ ap (left_by (above s)) (three_parts (referred D a w) (λ self w1. Done (meaning.ToObject self) w1) (λ target w1. then_do (all_evaluated D all w1) (λ given w2. sent D target selector given w2)))
+    value_is (Sent (ObjectSuper from) selector all) s w =
         let self = w.frame.self in
-        tells (ToSuper from selector) all (name self s) s (takes self w) (λ given w2. sent_from D (Some from) self selector given w2) (values_is all (name self s) (takes self w)) (λ given w2. refl)
+        tells (ToSuper from selector) all (name self s) s (takes self w) (λ given w2. sent D (meaning.ToSuper from self) selector given w2) (arguments_is all (name self s) (takes self w)) (λ given w2. refl)
     value_is (Field a class index) s w = after (λ r. name r s) (above s) _ (referred D a w) _ _ (reference_is a s w) (λ r w1. refl)
     value_is (FieldAssigned a class index b) s w = after (λ r. name r s) (above s) _ (referred D a w) _ _ (reference_is a s w) (λ r w1.
         after (λ v. push v (name r s)) (above s) _ (evaluated D b w1) _ _ (value_is b (name r s) w1) (λ v w2. refl))
@@ -174,9 +200,13 @@ module _ (D : Deeper) (bound : ℕ) where
         let rest : Operands = record { numbers = s.numbers; names = s.names } in
         chosen_by (beside s) (is_zero x) _ _ (referred D a w1) (referred D b w1) (reference_is a rest w1) (reference_is b rest w1))
     reference_is (Stored i a) s w = after (λ r. name r s) (beside s) _ (referred D a w) _ _ (reference_is a s w) (λ r w1. held r s (assigned D i r w1))
+    reference_is (ObjectField a class index) s w = after (λ r. name r s) (beside s) _ (referred D a w) _ _ (reference_is a s w) (λ r w1. refl)
+    reference_is (ObjectFieldStored a class index b) s w = after (λ r. name r s) (beside s) _ (referred D a w) _ _ (reference_is a s w) (λ r w1.
+        after (λ v. name v (name r s)) (beside s) _ (referred D b w1) _ _ (reference_is b (name r s) w1) (λ value w2. held value s (object_field_set D r class index value w2)))
     reference_is (Made a) s w = after (λ v. push v s) (beside s) _ (evaluated D a w) _ _ (value_is a s w) (λ class w1. refl)
     reference_is (Initialized a) s w = after (λ r. name r s) (beside s) _ (referred D a w) _ _ (reference_is a s w) (λ r w1. refl)
 
-    pub values_is : (all : Values) (s : Operands) (w : World) → run (values_block (length s.numbers) all) s w ≡ left_by (all_above s) (all_evaluated D all w)
-    values_is no_values s w = refl
-    values_is (and_value a others) s w = after (λ v. push v s) (all_above s) _ (evaluated D a w) _ _ (value_is a s w) (λ x w1. values_is others (push x s) w1 ∙ with_first x s (all_evaluated D others w1))
+    pub arguments_is : (all : Arguments) (s : Operands) (w : World) → run (arguments_block (length s.numbers) all) s w ≡ left_by (all_above s) (all_evaluated D all w)
+    arguments_is no_arguments s w = refl
+    arguments_is (number_argument a others) s w = after (λ v. push v s) (all_above s) _ (evaluated D a w) _ _ (value_is a s w) (λ x w1. arguments_is others (push x s) w1 ∙ with_number x s (all_evaluated D others w1))
+    arguments_is (object_argument a others) s w = after (λ r. name r s) (all_above s) _ (referred D a w) _ _ (reference_is a s w) (λ r w1. arguments_is others (name r s) w1 ∙ with_object r s (all_evaluated D others w1))

@@ -1,6 +1,7 @@
 -- The blocks of statements and functions mean what these mean.
 use Rattle.std.proofs.Common.{◌≡◌, ℕ, zero, suc, ℤ, Bool, true, false, List, [], Some, None, refl, sym, ap, ◌∙◌}
 use Rattle.arc_spec.specs.Number.{is_zero}
+use Rattle.arc_spec.specs.declared.location.Location.TheVariants.{Local}
 use Rattle.arc_spec.specs.Resolved.{Value, Reference, Command, Sequence, Evaluate, EvaluateReference, Begin, Choose, Repeat, RepeatAfter, Break, Continue, Commands, no_commands, and_command}
 use Rattle.arc_spec.specs.Resolved as resolved
 use Rattle.arc_spec.specs.World.{World, Outcome, Done, Faulted, Cut, Finished, finished, then_do}
@@ -70,7 +71,7 @@ module _ (D : Deeper) (bound : ℕ) where
   begin_is : (i : ℕ) (a : Reference) (names : List ℕ) (w : World) → run (begin_block i a) (calm names) w ≡ passes_by (calm names) (begun D i a w)
   begin_is i a names w =
       let s = calm names in
-      full (λ r. name r s) (λ (done : Finished). s) (λ (done : Finished). On s) _ (referred D a w) _ (λ r w1. assigned D i r w1) _ (reference_is D bound a s w) (λ r w1. forgotten r s (assigned D i r w1)) (λ done w1. refl)
+      full (λ r. name r s) (λ (done : Finished). s) (λ (done : Finished). On s) _ (referred D a w) _ (λ r w1. assigned D (Local i) r w1) _ (reference_is D bound a s w) (λ r w1. forgotten r s (assigned D (Local i) r w1)) (λ done w1. refl)
 
   module _ (exit : ℕ) (names : List ℕ) where
     abbrev s : Operands

@@ -5,7 +5,7 @@ use Rattle.std.proofs.lemmas.Bool.{eqb-true, and_parts}
 use Rattle.arc_ast.specs.declared.tree.Sign.{Sign}
 use Rattle.arc_ast.specs.declared.tree.Sign.TheVariants as signs
 use Rattle.arc_spec.specs.declared.class.Method.{Method}
-use Rattle.arc_spec.specs.Classes.{Class, superclasses, ancestry, first_that_has, own_methods, same_sign, answers, found, or_else, lookup, descends}
+use Rattle.arc_spec.specs.Classes.{Class, superclasses, ancestry, first_that_has, own_methods, same_sign, answers, found, or_else, lookup, descends, strong_count, strong_counts, order_of_fields, above_class, field_order}
 use Rattle.arc_spec.specs.Meaning.{field_count}
 use Rattle.arc_spec.specs.Holding.{count_of}
 use Rattle.arc_spec.specs.Resolved as resolved
@@ -15,20 +15,20 @@ use Rattle.arc_lower.specs.Lowered.{entries_of, stub_orders, dealloc_orders, met
 use Rattle.arc_lower.proofs.Doing.{HasAt, has_front, has_back}
 
 -- a function's stub for so many numbers stands at a place
-abbrev pub Stub : Program → resolved.Program → (values f place : ℕ) → Type 0
-Stub p R values f place = HasAt p place (stub_orders R (entries_of R) values f)
+abbrev pub Stub : Program → resolved.Program → (values objects f place : ℕ) → Type 0
+Stub p R values objects f place = HasAt p place (stub_orders R (entries_of R) values objects f)
 
 -- both are nothing, or a function and its stub
-abbrev pub Meets : Program → resolved.Program → (values : ℕ) → (meant stands : Option ℕ) → Type 0
-Meets p R values None None = Unit {0}
-Meets p R values (Some f) (Some place) = Stub p R values f place
-Meets p R values None (Some place) = ⊥
-Meets p R values (Some f) None = ⊥
+abbrev pub Meets : Program → resolved.Program → (values objects : ℕ) → (meant stands : Option ℕ) → Type 0
+Meets p R values objects None None = Unit {0}
+Meets p R values objects (Some f) (Some place) = Stub p R values objects f place
+Meets p R values objects None (Some place) = ⊥
+Meets p R values objects (Some f) None = ⊥
 
 -- no class, or one with the same superclass, fields, dealloc and methods, which are stubs
 abbrev pub Same : Program → resolved.Program → Option Class → Option Class → Type 0
 Same p R None None = Unit {0}
-Same p R (Some c) (Some d) = (d.superclass ≡ c.superclass) × (d.fields ≡ c.fields) × Meets p R 0 c.dealloc d.dealloc × ((sign : Sign) (selector takes : ℕ) → Meets p R (passes sign takes) (found sign selector takes c.methods) (found sign selector takes d.methods))
+Same p R (Some c) (Some d) = (d.superclass ≡ c.superclass) × (d.fields ≡ c.fields) × (d.strong_fields ≡ c.strong_fields) × Meets p R 0 0 c.dealloc d.dealloc × ((sign : Sign) (selector takes objects : ℕ) → Meets p R (passes sign takes) objects (found sign selector takes objects c.methods) (found sign selector takes objects d.methods))
 Same p R None (Some d) = ⊥
 Same p R (Some c) None = ⊥
 
@@ -44,26 +44,29 @@ sign_same signs.Instance signs.Instance e = refl
 sign_same signs.Class signs.Instance e = absurd (true≢false (sym e))
 sign_same signs.Instance signs.Class e = absurd (true≢false (sym e))
 
-pub passes_same : (sign : Sign) (selector takes : ℕ) (m : Method) → answers sign selector takes m ≡ true → passes m.sign m.takes ≡ passes sign takes
-passes_same sign selector takes m e =
+pub passes_same : (sign : Sign) (selector takes objects : ℕ) (m : Method) → answers sign selector takes objects m ≡ true → (passes m.sign m.takes ≡ passes sign takes) × (m.objects ≡ objects)
+passes_same sign selector takes objects m e =
     let parts = and_parts (same_sign m.sign sign) _ e in
-    let count = eqb-true m.takes takes (and_parts (nat_eq m.selector selector) (nat_eq m.takes takes) parts.1).1 in
-    ap (λ s. passes s m.takes) (sign_same m.sign sign parts.0) ∙ ap (passes sign) count
+    let counts = and_parts (nat_eq m.takes takes) (nat_eq m.objects objects) (and_parts (nat_eq m.selector selector) _ parts.1).1 in
+    let count = eqb-true m.takes takes counts.0 in
+    (ap (λ s. passes s m.takes) (sign_same m.sign sign parts.0) ∙ ap (passes sign) count, eqb-true m.objects objects counts.1)
 
 module _ (p : Program) (R : resolved.Program) where
-  first_meets : (sign : Sign) (selector takes place : ℕ) (m : Method) (a b : Option ℕ) (t : Bool) → answers sign selector takes m ≡ t → Stub p R (passes m.sign m.takes) m.runs place → Meets p R (passes sign takes) a b → Meets p R (passes sign takes) (if t then Some m.runs else a) (if t then Some place else b)
-  first_meets sign selector takes place m a b true e stub rest = subst (λ n. Stub p R n m.runs place) (passes_same sign selector takes m e) stub
-  first_meets sign selector takes place m a b false e stub rest = rest
+  first_meets : (sign : Sign) (selector takes objects place : ℕ) (m : Method) (a b : Option ℕ) (t : Bool) → answers sign selector takes objects m ≡ t → Stub p R (passes m.sign m.takes) m.objects m.runs place → Meets p R (passes sign takes) objects a b → Meets p R (passes sign takes) objects (if t then Some m.runs else a) (if t then Some place else b)
+  first_meets sign selector takes objects place m a b true e stub rest =
+      let same = passes_same sign selector takes objects m e in
+      subst (λ n. Stub p R (passes sign takes) n m.runs place) same.1 (subst (λ n. Stub p R n m.objects m.runs place) same.0 stub)
+  first_meets sign selector takes objects place m a b false e stub rest = rest
 
-  found_meets : (place : ℕ) (ms : List Method) → HasAt p place (methods_orders R (entries_of R) ms) → (sign : Sign) (selector takes : ℕ) → Meets p R (passes sign takes) (found sign selector takes ms) (found sign selector takes (linked_methods R (entries_of R) place ms))
-  found_meets place [] has sign selector takes = tt
-  found_meets place (m ∷ others) has sign selector takes =
-      let xs = stub_orders R (entries_of R) (passes m.sign m.takes) m.runs in
+  found_meets : (place : ℕ) (ms : List Method) → HasAt p place (methods_orders R (entries_of R) ms) → (sign : Sign) (selector takes objects : ℕ) → Meets p R (passes sign takes) objects (found sign selector takes objects ms) (found sign selector takes objects (linked_methods R (entries_of R) place ms))
+  found_meets place [] has sign selector takes objects = tt
+  found_meets place (m ∷ others) has sign selector takes objects =
+      let xs = stub_orders R (entries_of R) (passes m.sign m.takes) m.objects m.runs in
       let ys = methods_orders R (entries_of R) others in
       let behind = place + length xs in
-      first_meets sign selector takes place m (found sign selector takes others) (found sign selector takes (linked_methods R (entries_of R) behind others)) (answers sign selector takes m) refl (has_front p place xs ys has) (found_meets behind others (has_back p place xs ys has) sign selector takes)
+      first_meets sign selector takes objects place m (found sign selector takes objects others) (found sign selector takes objects (linked_methods R (entries_of R) behind others)) (answers sign selector takes objects m) refl (has_front p place xs ys has) (found_meets behind others (has_back p place xs ys has) sign selector takes objects)
 
-  dealloc_meets : (place : ℕ) (dealloc : Option ℕ) → HasAt p place (dealloc_orders R (entries_of R) dealloc) → Meets p R 0 dealloc (linked_dealloc place dealloc)
+  dealloc_meets : (place : ℕ) (dealloc : Option ℕ) → HasAt p place (dealloc_orders R (entries_of R) dealloc) → Meets p R 0 0 dealloc (linked_dealloc place dealloc)
   dealloc_meets place None has = tt
   dealloc_meets place (Some f) has = has
 
@@ -73,7 +76,7 @@ module _ (p : Program) (R : resolved.Program) where
       let all = has_front p place (class_orders R (entries_of R) c) (classes_orders R (entries_of R) others) has in
       let first = dealloc_orders R (entries_of R) c.dealloc in
       let next = methods_orders R (entries_of R) c.methods in
-      (refl, refl, dealloc_meets place c.dealloc (has_front p place first next all), found_meets (place + length first) c.methods (has_back p place first next all))
+      (refl, refl, refl, dealloc_meets place c.dealloc (has_front p place first next all), found_meets (place + length first) c.methods (has_back p place first next all))
   classes_same place (c ∷ others) has (suc i) =
       let xs = class_orders R (entries_of R) c in
       classes_same (place + length xs) others (has_back p place xs (classes_orders R (entries_of R) others) has) i
@@ -95,31 +98,31 @@ module _ (p : Program) (R : resolved.Program) where
 
   -- ---- lookups
 
-  else_meets : (values : ℕ) (a b x y : Option ℕ) → Meets p R values a b → Meets p R values x y → Meets p R values (or_else a x) (or_else b y)
-  else_meets values None None x y first above = above
-  else_meets values (Some f) (Some place) x y first above = first
-  else_meets values None (Some place) x y first above = absurd first
-  else_meets values (Some f) None x y first above = absurd first
+  else_meets : (values objects : ℕ) (a b x y : Option ℕ) → Meets p R values objects a b → Meets p R values objects x y → Meets p R values objects (or_else a x) (or_else b y)
+  else_meets values objects None None x y first above = above
+  else_meets values objects (Some f) (Some place) x y first above = first
+  else_meets values objects None (Some place) x y first above = absurd first
+  else_meets values objects (Some f) None x y first above = absurd first
 
-  own_meets : (sign : Sign) (selector takes : ℕ) (a b : Option Class) → Same p R a b → Meets p R (passes sign takes) (found sign selector takes (own_methods a)) (found sign selector takes (own_methods b))
-  own_meets sign selector takes None None same = tt
-  own_meets sign selector takes (Some c) (Some d) same = same.3 sign selector takes
-  own_meets sign selector takes None (Some d) same = absurd same
-  own_meets sign selector takes (Some c) None same = absurd same
+  own_meets : (sign : Sign) (selector takes objects : ℕ) (a b : Option Class) → Same p R a b → Meets p R (passes sign takes) objects (found sign selector takes objects (own_methods a)) (found sign selector takes objects (own_methods b))
+  own_meets sign selector takes objects None None same = tt
+  own_meets sign selector takes objects (Some c) (Some d) same = same.4 sign selector takes objects
+  own_meets sign selector takes objects None (Some d) same = absurd same
+  own_meets sign selector takes objects (Some c) None same = absurd same
 
-  first_found_meets : (sign : Sign) (selector takes : ℕ) (cs ds : List Class) → ((i : ℕ) → Same p R (slice_get cs i) (slice_get ds i)) → (classes : List ℕ)
-      → Meets p R (passes sign takes) (first_that_has (λ class. found sign selector takes (own_methods (slice_get cs class))) classes) (first_that_has (λ class. found sign selector takes (own_methods (slice_get ds class))) classes)
-  first_found_meets sign selector takes cs ds same [] = tt
-  first_found_meets sign selector takes cs ds same (i ∷ above) =
-      else_meets (passes sign takes) (found sign selector takes (own_methods (slice_get cs i))) (found sign selector takes (own_methods (slice_get ds i))) _ _
-      (own_meets sign selector takes (slice_get cs i) (slice_get ds i) (same i)) (first_found_meets sign selector takes cs ds same above)
+  first_found_meets : (sign : Sign) (selector takes objects : ℕ) (cs ds : List Class) → ((i : ℕ) → Same p R (slice_get cs i) (slice_get ds i)) → (classes : List ℕ)
+      → Meets p R (passes sign takes) objects (first_that_has (λ class. found sign selector takes objects (own_methods (slice_get cs class))) classes) (first_that_has (λ class. found sign selector takes objects (own_methods (slice_get ds class))) classes)
+  first_found_meets sign selector takes objects cs ds same [] = tt
+  first_found_meets sign selector takes objects cs ds same (i ∷ above) =
+      else_meets (passes sign takes) objects (found sign selector takes objects (own_methods (slice_get cs i))) (found sign selector takes objects (own_methods (slice_get ds i))) _ _
+      (own_meets sign selector takes objects (slice_get cs i) (slice_get ds i) (same i)) (first_found_meets sign selector takes objects cs ds same above)
 
   -- looking a method up among the linked classes comes to the stub of what is meant
-  pub lookup_meets : Linked p R → (sign : Sign) (from : Option ℕ) (selector takes : ℕ) → Meets p R (passes sign takes) (lookup R.classes from sign selector takes) (lookup p.classes from sign selector takes)
-  lookup_meets links sign from selector takes =
-      let meant = lookup R.classes from sign selector takes in
-      subst (λ above. Meets p R (passes sign takes) meant (first_that_has (λ class. found sign selector takes (own_methods (slice_get p.classes class))) (ancestry above from))) (sym links.above)
-      (first_found_meets sign selector takes R.classes p.classes links.same (ancestry (superclasses R.classes) from))
+  pub lookup_meets : Linked p R → (sign : Sign) (from : Option ℕ) (selector takes objects : ℕ) → Meets p R (passes sign takes) objects (lookup R.classes from sign selector takes objects) (lookup p.classes from sign selector takes objects)
+  lookup_meets links sign from selector takes objects =
+      let meant = lookup R.classes from sign selector takes objects in
+      subst (λ above. Meets p R (passes sign takes) objects meant (first_that_has (λ class. found sign selector takes objects (own_methods (slice_get p.classes class))) (ancestry above from))) (sym links.above)
+      (first_found_meets sign selector takes objects R.classes p.classes links.same (ancestry (superclasses R.classes) from))
 
   -- ---- descent and fields
 
@@ -134,3 +137,31 @@ module _ (p : Program) (R : resolved.Program) where
 
   pub fields_same : Linked p R → (class : ℕ) → count_of (slice_get p.classes class) ≡ field_count (slice_get R.classes class)
   fields_same links class = counts_same (slice_get R.classes class) (slice_get p.classes class) (links.same class)
+
+  strong_same : (a b : Option Class) → Same p R a b → strong_count b ≡ strong_count a
+  strong_same None None same = refl
+  strong_same (Some c) (Some d) same = same.2
+  strong_same None (Some d) same = absurd same
+  strong_same (Some c) None same = absurd same
+
+  above_same : (a b : Option Class) → Same p R a b → above_class b ≡ above_class a
+  above_same None None same = refl
+  above_same (Some c) (Some d) same = same.0
+  above_same None (Some d) same = absurd same
+  above_same (Some c) None same = absurd same
+
+  pub strong_fields_same : Linked p R → (class : ℕ) → strong_count (slice_get p.classes class) ≡ strong_count (slice_get R.classes class)
+  strong_fields_same links class = strong_same (slice_get R.classes class) (slice_get p.classes class) (links.same class)
+
+  all_strong_same : Linked p R → (classes : List ℕ) → strong_counts p.classes classes ≡ strong_counts R.classes classes
+  all_strong_same links [] = refl
+  all_strong_same links (class ∷ others) = ap (λ n. n ∷ strong_counts p.classes others) (strong_fields_same links class) ∙ ap (λ l. strong_count (slice_get R.classes class) ∷ l) (all_strong_same links others)
+
+  -- the fields of an object are destroyed in the same order
+  pub order_same : Linked p R → (class : ℕ) → field_order p.classes class ≡ field_order R.classes class
+  order_same links class =
+      let count = strong_count (slice_get R.classes class) in
+      ap (λ n. order_of_fields n (strong_counts p.classes (ancestry (superclasses p.classes) (above_class (slice_get p.classes class))))) (strong_fields_same links class)
+      ∙ ap (λ c. order_of_fields count (strong_counts p.classes (ancestry (superclasses p.classes) c))) (above_same (slice_get R.classes class) (slice_get p.classes class) (links.same class))
+      ∙ ap (λ above. order_of_fields count (strong_counts p.classes (ancestry above (above_class (slice_get R.classes class))))) links.above
+      ∙ ap (order_of_fields count) (all_strong_same links (ancestry (superclasses R.classes) (above_class (slice_get R.classes class))))

@@ -6,20 +6,20 @@ use Rattle.arc_ast.specs.declared.tree.Kind.{Kind}
 use Rattle.arc_ast.specs.declared.tree.Moment.{Moment}
 use Rattle.arc_ast.specs.declared.tree.Moment.TheVariants.{Before, After}
 use Rattle.arc_spec.specs.declared.location.Location.TheVariants.{Local}
-use Rattle.arc_spec.specs.Resolved.{Value, Number, ReadByte, Print, Applied, Combined, Choice, Converted, Read, Assigned, Updated, Invoked, Sent, SentSuper, SentTo, SentToSuper, Field, FieldAssigned, FieldUpdated, Reference, Itself, Variable, Chosen, Stored, Made, Initialized, Values, no_values, and_value, Command, Sequence, Evaluate, EvaluateReference, Begin, Choose, Repeat, RepeatAfter, Break, Continue, Commands, no_commands, and_command, Program}
+use Rattle.arc_spec.specs.Resolved.{Value, Number, ReadByte, Print, Applied, Combined, Choice, Converted, Read, Assigned, Updated, Invoked, Sent, ClassValue, ClassSuper, ObjectValue, ObjectSuper, Field, FieldAssigned, FieldUpdated, Reference, Itself, Variable, Chosen, Stored, ObjectField, ObjectFieldStored, Made, Initialized, Arguments, no_arguments, number_argument, object_argument, Command, Sequence, Evaluate, EvaluateReference, Begin, Choose, Repeat, RepeatAfter, Break, Continue, Commands, no_commands, and_command, Program}
 use Rattle.arc_spec.specs.Resolved as resolved
 use Rattle.arc_code.specs.declared.instr.Op.{Op}
 use Rattle.arc_code.specs.declared.instr.Op.TheVariants as ops
-use Rattle.arc_code.specs.declared.instr.Op.TheVariants.{Num, Bin, Un, Narrow, Pop, Get, GetChar, Nil, ReadSelf, Hold, Forget, Alloc, GetField, SetField, Differ, IsObject}
+use Rattle.arc_code.specs.declared.instr.Op.TheVariants.{Num, Bin, Un, Narrow, Pop, Get, GetChar, Nil, ReadSelf, ReadField, Hold, Forget, Alloc, GetField, SetField, Differ, IsObject}
 use Rattle.arc_code.specs.declared.effect.Height.{Height}
 use Rattle.arc_code.specs.Effects.{on_numbers, of_names, operation_effect}
 use Rattle.arc_lower.specs.Known.{is_within, combined_kind, known_kind}
 use Rattle.arc_lower.specs.declared.frame.Turn.{Turn}
 use Rattle.arc_lower.specs.declared.frame.Scope.{Scope}
-use Rattle.arc_lower.specs.Lowered.{value_count, order_takes, Inside, Block, Idle, One, Clear, Then, Fork, Quit, Advance, Full, Assign, flat, old_block, given_block, below_new, narrow_block, update_block, value_block, reference_block, values_block, whole_block, whole_reference_block, begin_block, unused, nothing_given, does_nothing, loop_block, command_block, commands_block, Surroundings, within_scopes, leaving, breaking, continuing}
+use Rattle.arc_lower.specs.Lowered.{number_count, object_count, forget_orders, print_orders, order_takes, Inside, Block, Idle, One, Clear, Then, Fork, Quit, Advance, Full, Assign, flat, old_block, given_block, below_new, narrow_block, update_block, value_block, reference_block, arguments_block, whole_block, whole_reference_block, begin_block, unused, nothing_given, does_nothing, loop_block, command_block, commands_block, Surroundings, within_scopes, leaving, breaking, continuing}
 use Rattle.arc_lower.specs.Heights.{height, between, after_effect, walk, last_walk}
 use Rattle.arc_lower.specs.Lowered.{whole_orders, whole_reference_orders}
-use Rattle.arc_lower.proofs.Typing.{heights_same, Reaches, print_types, get_types, set_types, call_types, store_types, read_types, all_empty_type, drop_types, tested, Forks, BlockTypes}
+use Rattle.arc_lower.proofs.Typing.{heights_same, Reaches, types_then, forgets_type, print_types, get_types, set_types, call_types, store_types, read_types, all_empty_type, drop_types, tested, Forks, BlockTypes}
 use Rattle.arc_lower.proofs.HeightsEnd.{within_ends, quiet_types}
 
 module _ (P : Program) (r s slots names exit d : ℕ) (room : names ≤ d + s) where
@@ -53,14 +53,14 @@ module _ (P : Program) (r s slots names exit d : ℕ) (room : names ≤ d + s) w
       record { more = rest.more; most = omega (arith, first.most, rest.most); types = (height a b c d, first.more, forks, tt, first.types, rest.types) }
 
   -- what a message leaves
-  class_left : (n a b c : ℕ) → after_effect (height (n + suc a) b c d) (suc n) (on_numbers (suc n) 1) ≡ height (suc a) b c d
-  class_left n a b c = heights_same _ _ _ _ (suc a) b c d (omega arith) (omega arith) (omega arith) (omega arith)
+  class_left : (n m a b c : ℕ) → after_effect (height (n + suc a) (m + b) c d) (of_names (suc n) 1 m) ≡ height (suc a) b c d
+  class_left n m a b c = heights_same _ _ _ _ (suc a) b c d (omega arith) (omega arith) (omega arith) (omega arith)
 
-  object_left : (n a b c : ℕ) → after_effect (height (n + a) (suc b) c d) n (of_names n 1 1) ≡ height (suc a) b c d
-  object_left n a b c = heights_same _ _ _ _ (suc a) b c d (omega arith) (omega arith) (omega arith) (omega arith)
+  object_left : (n m a b c : ℕ) → after_effect (height (n + a) (m + suc b) c d) (of_names n 1 (suc m)) ≡ height (suc a) b c d
+  object_left n m a b c = heights_same _ _ _ _ (suc a) b c d (omega arith) (omega arith) (omega arith) (omega arith)
 
-  shifted : (n a b c : ℕ) (x : Block) → Comes (suc a) b c x (n + suc a) b → Comes (suc a) b c x (suc n + a) b
-  shifted n a b c x first = let e : n + suc a ≡ suc n + a = omega arith in subst (λ m. Comes (suc a) b c x m b) e first
+  ends_with : {a b c n m u v : ℕ} {x : Block} → n ≡ u → m ≡ v → Comes a b c x n m → Comes a b c x u v
+  ends_with {a = a} {b = b} {c = c} {n = n} {m = m} {u = u} {v = v} {x = x} e f first = subst (λ k. Comes a b c x u k) f (subst (λ k. Comes a b c x k m) e first)
 
   old_types : (moment : Moment) (a b c : ℕ) → Comes (suc a) b c (old_block moment) (suc (below_new moment a)) b
   old_types Before a b c = op (Get 0) (omega arith) (omega arith) (omega arith) refl
@@ -95,7 +95,10 @@ module _ (P : Program) (r s slots names exit d : ℕ) (room : names ≤ d + s) w
     pub value_types : (e : Value) (depth a b c : ℕ) → depth + slots ≤ a + r → Comes a b c (value_block depth e) (suc a) b
     value_types (Number n) depth a b c h = op (Num n) tt (omega arith) (omega arith) refl
     value_types ReadByte depth a b c h = op GetChar tt (omega arith) (omega arith) refl
-    value_types (Print pieces arguments) depth a b c h = next (values_type arguments depth a b c h) (λ t. plain (print_types P r s b t d pieces (value_count arguments) a))
+    value_types (Print pieces arguments) depth a b c h =
+        let n = number_count arguments in
+        let m = object_count arguments in
+        next (arguments_type arguments depth a b c h) (λ t. plain (types_then P r s (height (n + a) (m + b) t d) (forget_orders m) (height (n + a) b t d) (print_orders pieces n) (height (suc a) b t d) (forgets_type P r s m (n + a) b t d) (print_types P r s b t d pieces n a)))
     value_types (Applied operator kind v) depth a b c h = next (value_types v depth a b c h) (λ t. op (Un operator kind) (omega arith) (omega arith) (omega arith) refl)
     value_types (Combined operator kind v u) depth a b c h = next (value_types v depth a b c h) (λ t. next (value_types u (suc depth) (suc a) b t (omega (arith, h))) (λ q. op (Bin operator kind) (omega arith) (omega arith) (omega arith) refl))
     value_types (Choice v u w) depth a b c h = next (value_types v depth a b c h) (λ t. choice (value_types u depth a b t h) (λ q. value_types w depth a b q h))
@@ -105,11 +108,11 @@ module _ (P : Program) (r s slots names exit d : ℕ) (room : names ≤ d + s) w
     value_types (Updated moment i operator computed kept v) depth a b c h =
         let lies = lies_below moment depth a h in
         next (plain (get_types P r s b c d slots depth i a h)) (λ t. update_types moment operator computed kept _ _ a b t b (λ q. value_types v (suc (below_new moment depth)) (suc (below_new moment a)) b q (omega (arith, lies))) (λ q. plain (set_types P r s b q d slots (below_new moment depth) i (below_new moment a) lies)))
-    value_types (Invoked f arguments) depth a b c h = next (values_type arguments depth a b c h) (λ t. plain (call_types P r s b t d f (value_count arguments) a))
-    value_types (Sent v selector arguments) depth a b c h = next (value_types v depth a b c h) (λ t. next (values_type arguments (suc depth) (suc a) b t (omega (arith, h))) (λ q. plain (omega arith, class_left (value_count arguments) a b q)))
-    value_types (SentSuper from selector arguments) depth a b c h = next (plain (get_types P r s b c d slots depth (Local 0) a h)) (λ t. next (values_type arguments (suc depth) (suc a) b t (omega (arith, h))) (λ q. plain (omega arith, class_left (value_count arguments) a b q)))
-    value_types (SentTo v selector arguments) depth a b c h = next (reference_types v depth a b c h) (λ t. next (values_type arguments depth a (suc b) t h) (λ q. plain ((omega arith, omega arith), object_left (value_count arguments) a b q)))
-    value_types (SentToSuper from selector arguments) depth a b c h = next (op ReadSelf tt (omega arith) (omega arith) refl) (λ t. next (values_type arguments depth a (suc b) t h) (λ q. plain ((omega arith, omega arith), object_left (value_count arguments) a b q)))
+    value_types (Invoked f arguments) depth a b c h = next (arguments_type arguments depth a b c h) (λ t. plain (call_types P r s b t d f (number_count arguments) (object_count arguments) a))
+    value_types (Sent (ClassValue v) selector arguments) depth a b c h = next (value_types v depth a b c h) (λ t. next (arguments_type arguments (suc depth) (suc a) b t (omega (arith, h))) (λ q. plain ((omega arith, omega arith), class_left (number_count arguments) (object_count arguments) a b q)))
+    value_types (Sent (ClassSuper from) selector arguments) depth a b c h = next (plain (get_types P r s b c d slots depth (Local 0) a h)) (λ t. next (arguments_type arguments (suc depth) (suc a) b t (omega (arith, h))) (λ q. plain ((omega arith, omega arith), class_left (number_count arguments) (object_count arguments) a b q)))
+    value_types (Sent (ObjectValue v) selector arguments) depth a b c h = next (reference_types v depth a b c h) (λ t. next (arguments_type arguments depth a (suc b) t h) (λ q. plain ((omega arith, omega arith), object_left (number_count arguments) (object_count arguments) a b q)))
+    value_types (Sent (ObjectSuper from) selector arguments) depth a b c h = next (op ReadSelf tt (omega arith) (omega arith) refl) (λ t. next (arguments_type arguments depth a (suc b) t h) (λ q. plain ((omega arith, omega arith), object_left (number_count arguments) (object_count arguments) a b q)))
     value_types (Field v class index) depth a b c h = next (reference_types v depth a b c h) (λ t. op (GetField class index) (omega arith) (omega arith) (omega arith) refl)
     value_types (FieldAssigned v class index u) depth a b c h = next (reference_types v depth a b c h) (λ t. next (value_types u depth a (suc b) t h) (λ q. op (SetField class index) (omega arith, omega arith) (omega arith) (omega arith) refl))
     value_types (FieldUpdated moment v class index operator computed kept u) depth a b c h =
@@ -125,12 +128,19 @@ module _ (P : Program) (r s slots names exit d : ℕ) (room : names ≤ d + s) w
     reference_types (Variable i) depth a b c h = record { more = c + 1; most = omega arith; types = read_types P r s names i a b c d room }
     reference_types (Chosen v u w) depth a b c h = next (value_types v depth a b c h) (λ t. choice (reference_types u depth a b t h) (λ q. reference_types w depth a b q h))
     reference_types (Stored i v) depth a b c h = next (reference_types v depth a b c h) (λ t. next (plain (store_types P r s names a (suc b) t d room i (omega arith))) (λ q. op Hold (omega arith) (omega arith) (omega arith) refl))
+    reference_types (ObjectField v class index) depth a b c h = next (reference_types v depth a b c h) (λ t. op (ReadField class index) (omega arith) (omega arith) (omega arith) refl)
+    reference_types (ObjectFieldStored v class index u) depth a b c h =
+        next (reference_types v depth a b c h) (λ t. next (reference_types u depth a (suc b) t h) (λ q. next {n = a} {m = suc b} (plain (omega arith, heights_same _ _ _ _ a (suc b) q d (omega arith) (omega arith) (omega arith) (omega arith)))
+        (λ u1. op Hold (omega arith) (omega arith) (omega arith) refl)))
     reference_types (Made v) depth a b c h = next (value_types v depth a b c h) (λ t. op Alloc (omega arith) (omega arith) (omega arith) refl)
     reference_types (Initialized v) depth a b c h = next (reference_types v depth a b c h) (λ t. op Hold (omega arith) (omega arith) (omega arith) refl)
 
-    pub values_type : (es : Values) (depth a b c : ℕ) → depth + slots ≤ a + r → Comes a b c (values_block depth es) (value_count es + a) b
-    values_type no_values depth a b c h = plain (heights_same _ _ _ _ (0 + a) b c d (omega arith) refl refl refl)
-    values_type (and_value v others) depth a b c h = next (value_types v depth a b c h) (λ t. shifted (value_count others) a b t (values_block (suc depth) others) (values_type others (suc depth) (suc a) b t (omega (arith, h))))
+    pub arguments_type : (es : Arguments) (depth a b c : ℕ) → depth + slots ≤ a + r → Comes a b c (arguments_block depth es) (number_count es + a) (object_count es + b)
+    arguments_type no_arguments depth a b c h = plain (heights_same _ _ _ _ (0 + a) (0 + b) c d (omega arith) (omega arith) refl refl)
+    arguments_type (number_argument v others) depth a b c h =
+        ends_with {n = number_count others + suc a} {m = object_count others + b} (omega arith) refl (next (value_types v depth a b c h) (λ t. arguments_type others (suc depth) (suc a) b t (omega (arith, h))))
+    arguments_type (object_argument v others) depth a b c h =
+        ends_with {n = number_count others + a} {m = object_count others + suc b} refl (omega arith) (next (reference_types v depth a b c h) (λ t. arguments_type others depth a (suc b) t h))
 
   -- ---- full-expressions, which end without temporaries
 
@@ -154,7 +164,7 @@ module _ (P : Program) (r s slots names exit d : ℕ) (room : names ≤ d + s) w
   whole_reference_types looping statement e a h = full looping statement a a 1 a (reference_block 0 e) (One Forget) (reference_types e 0 a 0 0 (omega (arith, h))) (λ t. forget_types a t)
 
   pub begin_types : (looping statement : Bool) (i : ℕ) (e : Reference) (a : ℕ) → slots ≤ a + r → BlockTypes P r s slots names exit looping statement (height a 0 0 d) (begin_block i e) (height a 0 0 d)
-  begin_types looping statement i e a h = full looping statement a a 1 a (reference_block 0 e) (Then (Assign i) (One Forget)) (reference_types e 0 a 0 0 (omega (arith, h))) (λ t. (height a 1 t d, store_types P r s names a 1 t d room i (omega arith), forget_types a t))
+  begin_types looping statement i e a h = full looping statement a a 1 a (reference_block 0 e) (Then (Assign (Local i)) (One Forget)) (reference_types e 0 a 0 0 (omega (arith, h))) (λ t. (height a 1 t d, store_types P r s names a 1 t d room (Local i) (omega arith), forget_types a t))
 
 pub whole_ends : (P : Program) (base : Height) (pending : List Height) (slots names : ℕ) (e : Value) (a b : ℕ) → last_walk P base (walk (between a b) pending) (whole_orders P slots names e) ≡ walk (between (suc a) b) pending
 whole_ends P base pending slots names e a b = within_ends P slots names slots names 0 base (whole_block e) (between a b) (between (suc a) b) pending (whole_types P slots names slots names 0 b (omega arith) false false e a (omega arith))
@@ -191,7 +201,7 @@ module _ (P : Program) (slots names exit : ℕ) where
     loop_types true step x body s t u = (refl, refl, refl, t, u, refl)
     loop_types false step x body s t u = (refl, refl, s, t, u, refl)
 
-  less : after_effect test 1 (on_numbers 1 0) ≡ base
+  less : after_effect test (on_numbers 1 0) ≡ base
   less = heights_same _ _ _ _ slots 0 0 names (omega arith) (omega arith) (omega arith) (omega arith)
 
   mutual

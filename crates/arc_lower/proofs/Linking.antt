@@ -10,8 +10,8 @@ use Rattle.arc_ir.specs.Acting as acting
 use Rattle.arc_ir.specs.Acting.{Program, has_level, enters, step}
 use Rattle.arc_code.specs.declared.instr.Instr.TheVariants.{Call, Return, EndStep}
 use Rattle.arc_lower.specs.Order.{Order, orders}
-use Rattle.arc_lower.specs.Lowered.{nothing, all_functions, number_of, slots_of, zero_orders, end_step_of, entry_of, function_orders, functions_orders, entries_from, start_orders, running_orders, lowered, entries_of, classes_orders}
-use Rattle.arc_lower.proofs.Rows.{zeros_length}
+use Rattle.arc_lower.specs.Lowered.{nothing, all_functions, number_of, call_orders, end_step_of, entry_of, function_orders, functions_orders, entries_from, start_orders, running_orders, lowered, entries_of, classes_orders}
+use Rattle.arc_lower.proofs.Rows.{call_length}
 use Rattle.arc_lower.proofs.Recounting.{at}
 use Rattle.arc_lower.proofs.Doing.{HasAt, has_front, has_back, has_all}
 
@@ -49,23 +49,23 @@ find p R (g ∷ fs) place (suc n) f e has =
     let there = find p R fs (place + length xs) n f e (has_back p place xs (functions_orders R (place + length xs) fs) has) in
     record { place = there.place; entry = there.entry; code = there.code }
 
-in_list : (fs : List Function) (main : ℕ) (gs : List ℤ) (cs : List Class) (f : ℕ) → f < length fs → slice_get (fs ++ nothing ∷ []) f ≡ Some (function_at (record { functions = fs; main = main; globals = gs; classes = cs }) f)
-in_list [] main gs cs f lt = absurd (omega (arith, lt))
-in_list (g ∷ fs) main gs cs zero lt = refl
-in_list (g ∷ fs) main gs cs (suc f) lt = in_list fs main gs cs f (omega (arith, lt))
+in_list : (fs : List Function) (main : ℕ) (gs : List ℤ) (sg : ℕ) (cs : List Class) (f : ℕ) → f < length fs → slice_get (fs ++ nothing ∷ []) f ≡ Some (function_at (record { functions = fs; main = main; globals = gs; strong_globals = sg; classes = cs }) f)
+in_list [] main gs sg cs f lt = absurd (omega (arith, lt))
+in_list (g ∷ fs) main gs sg cs zero lt = refl
+in_list (g ∷ fs) main gs sg cs (suc f) lt = in_list fs main gs sg cs f (omega (arith, lt))
 
-pub out_of_list : (fs : List Function) (main : ℕ) (gs : List ℤ) (cs : List Class) (f : ℕ) → length fs ≤ f → nothing ≡ function_at (record { functions = fs; main = main; globals = gs; classes = cs }) f
-out_of_list [] main gs cs f le = refl
-out_of_list (g ∷ fs) main gs cs zero le = absurd (omega (arith, le))
-out_of_list (g ∷ fs) main gs cs (suc f) le = out_of_list fs main gs cs f (omega (arith, le))
+pub out_of_list : (fs : List Function) (main : ℕ) (gs : List ℤ) (sg : ℕ) (cs : List Class) (f : ℕ) → length fs ≤ f → nothing ≡ function_at (record { functions = fs; main = main; globals = gs; strong_globals = sg; classes = cs }) f
+out_of_list [] main gs sg cs f le = refl
+out_of_list (g ∷ fs) main gs sg cs zero le = absurd (omega (arith, le))
+out_of_list (g ∷ fs) main gs sg cs (suc f) le = out_of_list fs main gs sg cs f (omega (arith, le))
 
 last_one : (fs : List Function) → slice_get (fs ++ nothing ∷ []) (length fs) ≡ Some nothing
 last_one [] = refl
 last_one (g ∷ fs) = last_one fs
 
 numbered_by : (R : resolved.Program) (f : ℕ) (b : Bool) → nat_lt f (length R.functions) ≡ b → slice_get (all_functions R) (if b then f else length R.functions) ≡ Some (function_at R f)
-numbered_by R f true e = in_list R.functions R.main R.globals R.classes f (ltb-true f (length R.functions) e)
-numbered_by R f false e = last_one R.functions ∙ ap Some (out_of_list R.functions R.main R.globals R.classes f (ltb-false f (length R.functions) e))
+numbered_by R f true e = in_list R.functions R.main R.globals R.strong_globals R.classes f (ltb-true f (length R.functions) e)
+numbered_by R f false e = last_one R.functions ∙ ap Some (out_of_list R.functions R.main R.globals R.strong_globals R.classes f (ltb-false f (length R.functions) e))
 
 pub numbered : (R : resolved.Program) (f : ℕ) → slice_get (all_functions R) (number_of R f) ≡ Some (function_at R f)
 numbered R f = numbered_by R f (nat_lt f (length R.functions)) refl
@@ -93,11 +93,11 @@ module _ (p : Program) (R : resolved.Program) (is : orders p.actions ≡ lowered
   -- the action at which the ends of objects go on
   pub has_end : p.end_step ≡ end_step_of R → HasAt p p.end_step (EndStep ∷ [])
   has_end at_end =
-      let zeros = zero_orders (slots_of R R.main) in
-      let rest = Call (number_of R R.main) ∷ (Return ∷ (EndStep ∷ [])) in
-      let has = has_back p 0 zeros rest has_start in
-      let e : 0 + length zeros + 1 + 1 ≡ p.end_step = omega (arith, zeros_length (slots_of R R.main), at_end) in
-      subst (λ n. HasAt p n (EndStep ∷ [])) e has.1.1
+      let call = call_orders R R.main 0 0 in
+      let rest = Return ∷ (EndStep ∷ []) in
+      let has = has_back p 0 call rest has_start in
+      let e : 0 + length call + 1 ≡ p.end_step = omega (arith, call_length R R.main, at_end) in
+      subst (λ n. HasAt p n (EndStep ∷ [])) e has.1
 
   pub has_stubs : HasAt p (length (running_orders R)) stubs
   has_stubs =

@@ -1,9 +1,9 @@
 -- Each order of a lowered program has what it needs, with the heights before it.
-use Rattle.std.proofs.Common.{◌≡◌, inl, inr, ℕ, zero, suc, ◌+◌, ◌≤◌, pos, Bool, true, false, if◌then◌else◌, nat_lt, List, [], ◌∷◌, ◌++◌, length, Option, Some, None, refl, sym, ap, ◌∙◌, subst, arith, length-append, slice_get, slice_index_or}
-use Rattle.std.proofs.lemmas.Bool.{ltb-false, false≢true}
+use Rattle.std.proofs.Common.{◌≡◌, inl, inr, ℕ, zero, suc, ◌+◌, ◌≤◌, pos, Bool, true, false, if◌then◌else◌, nat_lt, List, [], ◌∷◌, ◌++◌, length, Option, Some, None, refl, sym, ap, ◌∙◌, subst, arith, length-append, append_assoc, slice_get, slice_index_or}
+use Rattle.std.proofs.lemmas.Bool.{ltb-true, ltb-false, false≢true}
 use Rattle.arc_ast.specs.declared.tree.Sign.{Sign}
 use Rattle.arc_spec.specs.declared.class.Method.{Method}
-use Rattle.arc_spec.specs.Classes.{Class, answers, found, own_methods, or_else, first_that_has, superclasses, ancestry, lookup}
+use Rattle.arc_spec.specs.Classes.{Class, answers, found, own_methods, or_else, first_that_has, superclasses, ancestry, lookup, lesser}
 use Rattle.arc_spec.specs.Resolved.{Function, Commands}
 use Rattle.arc_spec.specs.Resolved as resolved
 use Rattle.arc_spec.specs.Meaning.{function_at}
@@ -13,15 +13,15 @@ use Rattle.arc_code.specs.declared.instr.Instr.TheVariants.{Plain, Jump, Call, R
 use Rattle.arc_code.specs.Effects.{passes}
 use Rattle.arc_ir.specs.declared.action.Target.TheVariants.{At}
 use Rattle.arc_lower.specs.Order.{Order}
-use Rattle.arc_lower.specs.Lowered.{all_functions, number_of, slots_of, zero_orders, fit_orders, declare_orders, pop_orders, keep_orders, all_empty_orders, no_turn, Spot, Between, Block, nothing_given, commands_block, flat, function_orders, functions_orders, entries_from, start_orders, end_step_of, entry_of, entries_of, stub_orders, methods_orders, dealloc_orders, class_orders, classes_orders, linked_methods, linked_dealloc, linked_classes, running_orders, lowered, classes_linked}
+use Rattle.arc_lower.specs.Lowered.{all_functions, number_of, slots_of, parameters_of, object_parameters, call_orders, passing_orders, opening_orders, take_orders, leave_orders, body_orders, declare_orders, pop_orders, keep_orders, all_empty_orders, no_turn, Spot, Between, Block, nothing_given, commands_block, flat, function_orders, functions_orders, entries_from, start_orders, end_step_of, entry_of, entries_of, stub_orders, methods_orders, dealloc_orders, class_orders, classes_orders, linked_methods, linked_dealloc, linked_classes, running_orders, lowered, classes_linked}
 use Rattle.arc_lower.specs.Heights.{height, between, next_height, walk, Walk, next_walk, last_walk, walk_heights, heights, start_heights, function_heights, functions_heights, stub_heights, methods_heights, dealloc_heights, class_heights, classes_heights, lowered_heights}
-use Rattle.arc_lower.proofs.Rows.{zeros_length}
+use Rattle.arc_lower.proofs.Rows.{call_length}
 use Rattle.arc_lower.proofs.Linking.{numbered}
 use Rattle.arc_lower.proofs.Finding.{passes_same}
-use Rattle.arc_lower.proofs.Typing.{heights_same, slots_same, number_there, Types, types_same, types_last, tested, keep_types, zeros_type, fit_types, declare_types, BlockTypes}
+use Rattle.arc_lower.proofs.Typing.{heights_same, slots_same, parameters_same, number_there, Types, types_then, types_same, types_last, tested, keep_types, passing_types, declare_types, take_types, BlockTypes}
 use Rattle.arc_lower.proofs.HeightsEnd.{last_append, Keeps, block_ends}
 use Rattle.arc_lower.proofs.Forms.{nothing_types, commands_type}
-use Rattle.arc_lower.proofs.Stepping.{some_same, HasPart, part_front, part_back, has_whole, types_ordinary, Takes, Clears, Stands, Goes, StepsAt, AllStep, step_then, IsReturn, opens_goes, none_goes, Row, row_of, row_prefix, row_front, row_back, Follows, goes_here, typed_steps, AllTake, takes_stand, takes_step, block_ordinary, block_steps}
+use Rattle.arc_lower.proofs.Stepping.{some_same, HasPart, part_front, part_back, has_whole, types_ordinary, Takes, Clears, Stands, Goes, StepsAt, AllStep, step_then, IsReturn, opens_goes, none_goes, Row, row_of, row_front, row_back, Follows, goes_here, typed_steps, AllTake, takes_stand, takes_step, block_ordinary, block_steps}
 
 heights_length : (R : resolved.Program) (base : Height) (w : Walk) (xs : List Order) → length (walk_heights R base w xs) ≡ length xs
 heights_length R base w [] = refl
@@ -61,7 +61,7 @@ module _ (R : resolved.Program) where
 
   -- ---- one function
 
-  module _ (place slots names : ℕ) (cs : Commands) where
+  module _ (place slots names objects : ℕ) (few : objects ≤ names) (cs : Commands) where
     abbrev base : Height
     base = between slots names
 
@@ -83,10 +83,10 @@ module _ (R : resolved.Program) where
 
     -- where it is entered
     abbrev begun : Height
-    begun = height slots 0 0 0
+    begun = height slots objects 0 0
 
     abbrev declared : List Order
-    declared = declare_orders names
+    declared = opening_orders names objects
 
     abbrev start : ℕ
     start = entered + length declared
@@ -135,13 +135,6 @@ module _ (R : resolved.Program) where
     keep_typed : Types R 0 0 leaving keep (height 1 0 0 names)
     keep_typed = subst (λ h. Types R 0 0 h keep (height 1 0 0 names)) (heights_same (suc (slots + 0)) 0 0 names (suc slots) 0 0 names (omega arith) refl refl refl) (keep_types R 0 0 0 0 names slots 0)
 
-    leave_ends : last_walk R base (walk leaving []) leave ≡ walk begun []
-    leave_ends =
-        last_append R base (walk leaving []) (emptied names) (keep ++ Return ∷ [])
-        ∙ ap (λ w. last_walk R base w (keep ++ Return ∷ [])) (emptied_ends names)
-        ∙ last_append R base (walk leaving []) keep (Return ∷ [])
-        ∙ ap (λ w. last_walk R base w (Return ∷ [])) (types_last R 0 0 base leaving [] keep (height 1 0 0 names) keep_typed)
-
     -- before so many variables are emptied the others are nil
     abbrev Emptying : ℕ → ℕ → Type 0
     Emptying n pc = Step_all pc (emptied n) × Stands R all table pc leaving × ((k : ℕ) → Clears R all table k pc → k ≡ n)
@@ -173,21 +166,19 @@ module _ (R : resolved.Program) where
               only f.1,
             )
 
-    module _ (has : Rows place leaving (leave ++ body)) where
-      leave_row : Rows place leaving leave
-      leave_row = row_prefix R all table base place (walk leaving []) leave body has
-
+    module _ (leave_row : Rows place leaving leave) (body_row : Rows entered begun body) where
       exit : Emptying names place
       exit = emptying names place (omega arith) leave_row
 
       exit_goes : Goes_to place leaving
       exit_goes = (exit.1, λ k c. let e = exit.2 k c in omega (arith, e))
 
-      body_row : Rows entered begun body
-      body_row = subst (λ w. Row R all table base entered w body) leave_ends (row_back R all table base place (walk leaving []) leave body has)
-
       declared_typed : Types R 0 0 begun declared base
-      declared_typed = types_same R 0 0 begun declared (height slots 0 0 (names + 0)) base (heights_same _ _ _ _ slots 0 0 names refl refl refl (omega arith)) (declare_types R 0 0 names slots 0)
+      declared_typed =
+          let all_declared = height slots objects 0 names in
+          types_then R 0 0 begun (declare_orders names) all_declared (take_orders objects) base
+          (types_same R 0 0 begun (declare_orders names) (height slots objects 0 (names + 0)) all_declared (heights_same _ _ _ _ slots objects 0 names refl refl refl (omega arith)) (declare_types R 0 0 names slots objects 0))
+          (subst (λ n. Types R 0 0 (height slots n 0 names) (take_orders objects) base) (omega arith) (take_types R 0 0 objects slots 0 0 names (omega (arith, few))))
 
       rows : Rows start base (statements ++ end)
       rows = subst (λ w. Row R all table base start w (statements ++ end)) (types_last R 0 0 base begun [] declared base declared_typed) (row_back R all table base entered (walk begun []) declared (statements ++ end) body_row)
@@ -233,20 +224,69 @@ module _ (R : resolved.Program) where
   row base h pc xs f = row_of R all table base pc (walk h []) xs f.0 f.1
 
   function_length : (place : ℕ) (g : Function) → length (function_heights R place g) ≡ length (function_orders R place g)
-  function_length place g = heights_length R _ _ (function_orders R place g)
+  function_length place g =
+      let leave = leave_orders g.slots g.names in
+      let body = body_orders R place (entry_of place g) g in
+      let base = between g.slots g.names in
+      let first = height (suc g.slots) 0 0 g.names in
+      let entered = height g.slots (object_parameters g) 0 0 in
+      let one = heights_length R base (walk first []) leave in
+      let other = heights_length R base (walk entered []) body in
+      let orders = length-append leave body in
+      let heights_too = length-append (heights R base first leave) (heights R base entered body) in
+      omega (arith, one, other, orders, heights_too)
 
-  pub record Entered (entries : List ℕ) (n slots : ℕ) : Type 0 where
+  pub record Entered (entries : List ℕ) (n slots objects : ℕ) : Type 0 where
     pub at : ℕ
     pub is : slice_get entries n ≡ Some at
-    pub goes : Goes R all table at (height slots 0 0 0)
+    pub goes : Goes R all table at (height slots objects 0 0)
 
-  functions_begin : (fs : List Function) (place n : ℕ) (f : Function) → Both place (functions_heights R place fs) (functions_orders R place fs) → slice_get fs n ≡ Some f → Entered (entries_from R place fs) n f.slots
+  objects_few : (a b : ℕ) → lesser a b ≤ b
+  objects_few a b = by (nat_lt a b) refl
+    where
+      by : (t : Bool) → nat_lt a b ≡ t → (if t then a else b) ≤ b
+      by true e = let lt = ltb-true a b e in omega (arith, lt)
+      by false e = omega arith
+
+  -- the rows of one function
+  module _ (place : ℕ) (g : Function) (here : Both place (function_heights R place g) (function_orders R place g)) where
+    abbrev g_leave : List Order
+    g_leave = leave_orders g.slots g.names
+
+    abbrev g_body : List Order
+    g_body = body_orders R place (entry_of place g) g
+
+    abbrev g_base : Height
+    g_base = between g.slots g.names
+
+    abbrev g_first : Height
+    g_first = height (suc g.slots) 0 0 g.names
+
+    abbrev g_entered : Height
+    g_entered = height g.slots (object_parameters g) 0 0
+
+    leave_length : length (heights R g_base g_first g_leave) ≡ length g_leave
+    leave_length = heights_length R g_base (walk g_first []) g_leave
+
+    g_leave_row : Row R all table g_base place (walk g_first []) g_leave
+    g_leave_row = row g_base g_first place g_leave (both_front place (heights R g_base g_first g_leave) (heights R g_base g_entered g_body) g_leave g_body leave_length here)
+
+    g_body_row : Row R all table g_base (entry_of place g) (walk g_entered []) g_body
+    g_body_row = row g_base g_entered (entry_of place g) g_body (both_back place (heights R g_base g_first g_leave) (heights R g_base g_entered g_body) g_leave g_body leave_length here)
+
+    g_goes : Goes_to (entry_of place g) g_entered
+    g_goes = entry_goes place g.slots g.names (object_parameters g) (objects_few g.parameters g.names) g.body g_leave_row g_body_row
+
+    g_steps : Step_all place (function_orders R place g)
+    g_steps = function_steps place g.slots g.names (object_parameters g) (objects_few g.parameters g.names) g.body g_leave_row g_body_row
+
+  functions_begin : (fs : List Function) (place n : ℕ) (f : Function) → Both place (functions_heights R place fs) (functions_orders R place fs) → slice_get fs n ≡ Some f → Entered (entries_from R place fs) n f.slots (object_parameters f)
   functions_begin [] place n f has e = cc
   functions_begin (g ∷ fs) place zero f has e =
       let same : g ≡ f = cc in
       let xs = function_orders R place g in
       let here = both_front place (function_heights R place g) (functions_heights R (place + length xs) fs) xs _ (function_length place g) has in
-      record { at = entry_of place g; is = refl; goes = subst (λ (h : Function). Goes_to (entry_of place g) (height h.slots 0 0 0)) same (entry_goes place g.slots g.names g.body (row (height g.slots 0 0 g.names) (height (suc g.slots) 0 0 g.names) place xs here)) }
+      record { at = entry_of place g; is = refl; goes = subst (λ (h : Function). Goes_to (entry_of place g) (height h.slots (object_parameters h) 0 0)) same (g_goes place g here) }
   functions_begin (g ∷ fs) place (suc n) f has e =
       let xs = function_orders R place g in
       let there = functions_begin fs (place + length xs) n f (both_back place (function_heights R place g) (functions_heights R (place + length xs) fs) xs _ (function_length place g) has) e in
@@ -257,7 +297,7 @@ module _ (R : resolved.Program) where
   functions_step (g ∷ fs) place has =
       let xs = function_orders R place g in
       let rest = functions_heights R (place + length xs) fs in
-      step_then R all table place xs (functions_orders R (place + length xs) fs) (function_steps place g.slots g.names g.body (row (height g.slots 0 0 g.names) (height (suc g.slots) 0 0 g.names) place xs (both_front place (function_heights R place g) rest xs _ (function_length place g) has)))
+      step_then R all table place xs (functions_orders R (place + length xs) fs) (g_steps place g (both_front place (function_heights R place g) rest xs _ (function_length place g) has))
       (functions_step fs (place + length xs) (both_back place (function_heights R place g) rest xs _ (function_length place g) has))
 
   functions_length : (fs : List Function) (place : ℕ) → length (functions_heights R place fs) ≡ length (functions_orders R place fs)
@@ -271,49 +311,55 @@ module _ (R : resolved.Program) where
   abbrev zeroed : Height
   zeroed = height 0 0 0 0
 
-  abbrev stub : (values f : ℕ) → List Order
-  stub values f = stub_orders R (entries_of R) values f
+  abbrev stub : (values objects f : ℕ) → List Order
+  stub values objects f = stub_orders R (entries_of R) values objects f
 
-  stub_length : (values f : ℕ) → length (stub_heights R (entries_of R) values f) ≡ length (stub values f)
-  stub_length values f = heights_length R zeroed (walk (height values 0 0 0) []) (stub values f)
+  stub_length : (values objects f : ℕ) → length (stub_heights R (entries_of R) values objects f) ≡ length (stub values objects f)
+  stub_length values objects f = heights_length R zeroed (walk (height values objects 0 0) []) (stub values objects f)
 
-  fit_typed : (values slots : ℕ) → Types R 0 0 (height values 0 0 0) (fit_orders values slots) (height slots 0 0 0)
-  fit_typed values slots =
-      let v : values + 0 ≡ values = omega arith in
-      let s : slots + 0 ≡ slots = omega arith in
-      subst (λ n. Types R 0 0 (height n 0 0 0) (fit_orders values slots) (height slots 0 0 0)) v (subst (λ m. Types R 0 0 (height (values + 0) 0 0 0) (fit_orders values slots) (height m 0 0 0)) s (fit_types R 0 0 0 0 0 values slots 0))
+  fit_typed : (values objects f : ℕ) → Types R 0 0 (height values objects 0 0) (passing_orders R f values objects) (height (slots_of R f) (parameters_of R f) 0 0)
+  fit_typed values objects f =
+      subst (λ h. Types R 0 0 h (passing_orders R f values objects) (height (slots_of R f) (parameters_of R f) 0 0)) (heights_same (values + 0) (objects + 0) 0 0 values objects 0 0 (omega arith) (omega arith) refl refl)
+      (types_same R 0 0 (height (values + 0) (objects + 0) 0 0) (passing_orders R f values objects) (height (slots_of R f + 0) (parameters_of R f + 0) 0 0) (height (slots_of R f) (parameters_of R f) 0 0)
+      (heights_same (slots_of R f + 0) (parameters_of R f + 0) 0 0 (slots_of R f) (parameters_of R f) 0 0 (omega arith) (omega arith) refl refl) (passing_types R 0 0 f values objects 0 0 0 0))
 
-  module _ (values f place : ℕ) (has : Both place (stub_heights R (entries_of R) values f) (stub values f)) where
+  module _ (values objects f place : ℕ) (has : Both place (stub_heights R (entries_of R) values objects f) (stub values objects f)) where
     abbrev fit : List Order
-    fit = fit_orders values (slots_of R f)
+    fit = passing_orders R f values objects
+
+    abbrev begin : Height
+    begin = height values objects 0 0
+
+    abbrev ready : Height
+    ready = height (slots_of R f) (parameters_of R f) 0 0
 
     abbrev to : ℕ
     to = slice_index_or (entries_of R) (number_of R f) 0
 
-    stub_row : Row R all table zeroed place (walk (height values 0 0 0) []) (stub values f)
-    stub_row = row zeroed (height values 0 0 0) place (stub values f) has
+    stub_row : Row R all table zeroed place (walk begin []) (stub values objects f)
+    stub_row = row zeroed begin place (stub values objects f) has
 
-    stub_last : Row R all table zeroed (place + length fit) (walk (height (slots_of R f) 0 0 0) []) (Jump (At to) ∷ [])
-    stub_last = subst (λ w. Row R all table zeroed (place + length fit) w (Jump (At to) ∷ [])) (types_last R 0 0 zeroed (height values 0 0 0) [] fit (height (slots_of R f) 0 0 0) (fit_typed values (slots_of R f))) (row_back R all table zeroed place (walk (height values 0 0 0) []) fit (Jump (At to) ∷ []) stub_row)
+    stub_last : Row R all table zeroed (place + length fit) (walk ready []) (Jump (At to) ∷ [])
+    stub_last = subst (λ w. Row R all table zeroed (place + length fit) w (Jump (At to) ∷ [])) (types_last R 0 0 zeroed begin [] fit ready (fit_typed values objects f)) (row_back R all table zeroed place (walk begin []) fit (Jump (At to) ∷ []) stub_row)
 
-    stub_follows : Follows R all table zeroed place (walk (height values 0 0 0) []) fit
-    stub_follows = row_front R all table zeroed place (walk (height values 0 0 0) []) fit (Jump (At to) ∷ []) (subst (λ w. Goes_to (place + length fit) w.height) (sym (types_last R 0 0 zeroed (height values 0 0 0) [] fit (height (slots_of R f) 0 0 0) (fit_typed values (slots_of R f)))) (opens_goes R all table (place + length fit) (height (slots_of R f) 0 0 0) (Jump (At to)) tt stub_last.0 stub_last.1)) stub_row
+    stub_follows : Follows R all table zeroed place (walk begin []) fit
+    stub_follows = row_front R all table zeroed place (walk begin []) fit (Jump (At to) ∷ []) (subst (λ w. Goes_to (place + length fit) w.height) (sym (types_last R 0 0 zeroed begin [] fit ready (fit_typed values objects f))) (opens_goes R all table (place + length fit) ready (Jump (At to)) tt stub_last.0 stub_last.1)) stub_row
 
-    pub stub_goes : Goes_to place (height values 0 0 0)
-    stub_goes = goes_here R all table zeroed place (walk (height values 0 0 0) []) fit (types_ordinary R (height values 0 0 0) fit (height (slots_of R f) 0 0 0) (fit_typed values (slots_of R f))) stub_follows
+    pub stub_goes : Goes_to place begin
+    stub_goes = goes_here R all table zeroed place (walk begin []) fit (types_ordinary R begin fit ready (fit_typed values objects f)) stub_follows
 
-    stub_steps : Goes_to to (height (slots_of R f) 0 0 0) → Step_all place (stub values f)
-    stub_steps goes = step_then R all table place fit (Jump (At to) ∷ []) (typed_steps R all table zeroed place (height values 0 0 0) [] fit (height (slots_of R f) 0 0 0) (fit_typed values (slots_of R f)) stub_follows) ((height (slots_of R f) 0 0 0, stub_last.0, (0, omega arith, goes)), tt)
+    stub_steps : Goes_to to ready → Step_all place (stub values objects f)
+    stub_steps goes = step_then R all table place fit (Jump (At to) ∷ []) (typed_steps R all table zeroed place begin [] fit ready (fit_typed values objects f) stub_follows) ((ready, stub_last.0, (0, omega arith, goes)), tt)
 
   methods_length : (ms : List Method) → length (methods_heights R (entries_of R) ms) ≡ length (methods_orders R (entries_of R) ms)
   methods_length [] = refl
   methods_length (m ∷ others) =
       let n = passes m.sign m.takes in
-      omega (arith, length-append (stub_heights R (entries_of R) n m.runs) (methods_heights R (entries_of R) others), length-append (stub n m.runs) (methods_orders R (entries_of R) others), stub_length n m.runs, methods_length others)
+      omega (arith, length-append (stub_heights R (entries_of R) n m.objects m.runs) (methods_heights R (entries_of R) others), length-append (stub n m.objects m.runs) (methods_orders R (entries_of R) others), stub_length n m.objects m.runs, methods_length others)
 
   dealloc_length : (d : Option ℕ) → length (dealloc_heights R (entries_of R) d) ≡ length (dealloc_orders R (entries_of R) d)
   dealloc_length None = refl
-  dealloc_length (Some f) = stub_length 0 f
+  dealloc_length (Some f) = stub_length 0 0 f
 
   class_length : (c : Class) → length (class_heights R (entries_of R) c) ≡ length (class_orders R (entries_of R) c)
   class_length c = omega (arith, length-append (dealloc_heights R (entries_of R) c.dealloc) (methods_heights R (entries_of R) c.methods), length-append (dealloc_orders R (entries_of R) c.dealloc) (methods_orders R (entries_of R) c.methods), dealloc_length c.dealloc, methods_length c.methods)
@@ -325,11 +371,11 @@ module _ (R : resolved.Program) where
   abbrev Classes : ℕ → List Class → Type 0
   Classes place cs = Both place (classes_heights R (entries_of R) cs) (classes_orders R (entries_of R) cs)
 
-  first_method : (place : ℕ) (m : Method) (others : List Method) → Methods place (m ∷ others) → Both place (stub_heights R (entries_of R) (passes m.sign m.takes) m.runs) (stub (passes m.sign m.takes) m.runs)
-  first_method place m others has = both_front place _ (methods_heights R (entries_of R) others) _ _ (stub_length (passes m.sign m.takes) m.runs) has
+  first_method : (place : ℕ) (m : Method) (others : List Method) → Methods place (m ∷ others) → Both place (stub_heights R (entries_of R) (passes m.sign m.takes) m.objects m.runs) (stub (passes m.sign m.takes) m.objects m.runs)
+  first_method place m others has = both_front place _ (methods_heights R (entries_of R) others) _ _ (stub_length (passes m.sign m.takes) m.objects m.runs) has
 
-  other_methods : (place : ℕ) (m : Method) (others : List Method) → Methods place (m ∷ others) → Methods (place + length (stub (passes m.sign m.takes) m.runs)) others
-  other_methods place m others has = both_back place (stub_heights R (entries_of R) (passes m.sign m.takes) m.runs) _ (stub (passes m.sign m.takes) m.runs) _ (stub_length (passes m.sign m.takes) m.runs) has
+  other_methods : (place : ℕ) (m : Method) (others : List Method) → Methods place (m ∷ others) → Methods (place + length (stub (passes m.sign m.takes) m.objects m.runs)) others
+  other_methods place m others has = both_back place (stub_heights R (entries_of R) (passes m.sign m.takes) m.objects m.runs) _ (stub (passes m.sign m.takes) m.objects m.runs) _ (stub_length (passes m.sign m.takes) m.objects m.runs) has
 
   first_class : (place : ℕ) (c : Class) (others : List Class) → Classes place (c ∷ others) → Both place (class_heights R (entries_of R) c) (class_orders R (entries_of R) c)
   first_class place c others has = both_front place _ (classes_heights R (entries_of R) others) _ _ (class_length c) has
@@ -343,16 +389,16 @@ module _ (R : resolved.Program) where
   class_methods : (place : ℕ) (c : Class) → Both place (class_heights R (entries_of R) c) (class_orders R (entries_of R) c) → Methods (place + length (dealloc_orders R (entries_of R) c.dealloc)) c.methods
   class_methods place c has = both_back place (dealloc_heights R (entries_of R) c.dealloc) _ (dealloc_orders R (entries_of R) c.dealloc) _ (dealloc_length c.dealloc) has
 
-  module _ (target : (f : ℕ) → Goes_to (slice_index_or (entries_of R) (number_of R f) 0) (height (slots_of R f) 0 0 0)) where
+  module _ (target : (f : ℕ) → Goes_to (slice_index_or (entries_of R) (number_of R f) 0) (height (slots_of R f) (parameters_of R f) 0 0)) where
     methods_step : (ms : List Method) (place : ℕ) → Methods place ms → Step_all place (methods_orders R (entries_of R) ms)
     methods_step [] place has = tt
     methods_step (m ∷ others) place has =
         let n = passes m.sign m.takes in
-        step_then R all table place (stub n m.runs) (methods_orders R (entries_of R) others) (stub_steps n m.runs place (first_method place m others has) (target m.runs)) (methods_step others (place + length (stub n m.runs)) (other_methods place m others has))
+        step_then R all table place (stub n m.objects m.runs) (methods_orders R (entries_of R) others) (stub_steps n m.objects m.runs place (first_method place m others has) (target m.runs)) (methods_step others (place + length (stub n m.objects m.runs)) (other_methods place m others has))
 
     dealloc_steps : (d : Option ℕ) (place : ℕ) → Both place (dealloc_heights R (entries_of R) d) (dealloc_orders R (entries_of R) d) → Step_all place (dealloc_orders R (entries_of R) d)
     dealloc_steps None place has = tt
-    dealloc_steps (Some f) place has = stub_steps 0 f place has (target f)
+    dealloc_steps (Some f) place has = stub_steps 0 0 f place has (target f)
 
     classes_step : (cs : List Class) (place : ℕ) → Classes place cs → Step_all place (classes_orders R (entries_of R) cs)
     classes_step [] place has = tt
@@ -365,37 +411,37 @@ module _ (R : resolved.Program) where
 
   -- ---- what messages and ends of objects find
 
-  found_goes : (ms : List Method) (place : ℕ) → Methods place ms → (sign : Sign) (selector takes to : ℕ) → found sign selector takes (linked_methods R (entries_of R) place ms) ≡ Some to → Goes_to to (height (passes sign takes) 0 0 0)
-  found_goes [] place has sign selector takes to e = cc
-  found_goes (m ∷ others) place has sign selector takes to e =
-      by (found_goes others (place + length (stub (passes m.sign m.takes) m.runs)) (other_methods place m others has) sign selector takes to)
-      (stub_goes (passes m.sign m.takes) m.runs place (first_method place m others has)) (answers sign selector takes m) refl e
+  found_goes : (ms : List Method) (place : ℕ) → Methods place ms → (sign : Sign) (selector takes objects to : ℕ) → found sign selector takes objects (linked_methods R (entries_of R) place ms) ≡ Some to → Goes_to to (height (passes sign takes) objects 0 0)
+  found_goes [] place has sign selector takes objects to e = cc
+  found_goes (m ∷ others) place has sign selector takes objects to e =
+      by (found_goes others (place + length (stub (passes m.sign m.takes) m.objects m.runs)) (other_methods place m others has) sign selector takes objects to)
+      (stub_goes (passes m.sign m.takes) m.objects m.runs place (first_method place m others has)) (answers sign selector takes objects m) refl e
     where
-      by : (found sign selector takes (linked_methods R (entries_of R) (place + length (stub (passes m.sign m.takes) m.runs)) others) ≡ Some to → Goes_to to (height (passes sign takes) 0 0 0)) → Goes_to place (height (passes m.sign m.takes) 0 0 0) → (t : Bool) → answers sign selector takes m ≡ t
-          → (if t then Some place else found sign selector takes (linked_methods R (entries_of R) (place + length (stub (passes m.sign m.takes) m.runs)) others)) ≡ Some to → Goes_to to (height (passes sign takes) 0 0 0)
-      by rest here true is e = subst (λ n. Goes_to n (height (passes sign takes) 0 0 0)) (some_same place to e) (subst (λ n. Goes_to place (height n 0 0 0)) (passes_same sign selector takes m is) here)
+      by : (found sign selector takes objects (linked_methods R (entries_of R) (place + length (stub (passes m.sign m.takes) m.objects m.runs)) others) ≡ Some to → Goes_to to (height (passes sign takes) objects 0 0)) → Goes_to place (height (passes m.sign m.takes) m.objects 0 0) → (t : Bool) → answers sign selector takes objects m ≡ t
+          → (if t then Some place else found sign selector takes objects (linked_methods R (entries_of R) (place + length (stub (passes m.sign m.takes) m.objects m.runs)) others)) ≡ Some to → Goes_to to (height (passes sign takes) objects 0 0)
+      by rest here true is e = subst (λ n. Goes_to n (height (passes sign takes) objects 0 0)) (some_same place to e) (let same = passes_same sign selector takes objects m is in subst (λ n. Goes_to place (height (passes sign takes) n 0 0)) same.1 (subst (λ n. Goes_to place (height n m.objects 0 0)) same.0 here))
       by rest here false is e = rest e
 
   -- the classes of a program, with their stubs
   record Finds (d : Class) : Type 0 where
-    methods : (sign : Sign) (selector takes to : ℕ) → found sign selector takes d.methods ≡ Some to → Goes R all table to (height (passes sign takes) 0 0 0)
+    methods : (sign : Sign) (selector takes objects to : ℕ) → found sign selector takes objects d.methods ≡ Some to → Goes R all table to (height (passes sign takes) objects 0 0)
     dealloc : (to : ℕ) → d.dealloc ≡ Some to → Goes R all table to (height 0 0 0 0)
 
   stub_found : (d : Option ℕ) (place to : ℕ) → Both place (dealloc_heights R (entries_of R) d) (dealloc_orders R (entries_of R) d) → linked_dealloc place d ≡ Some to → Goes_to to zeroed
   stub_found None place to has e = cc
-  stub_found (Some f) place to has e = subst (λ n. Goes_to n zeroed) (some_same place to e) (stub_goes 0 f place has)
+  stub_found (Some f) place to has e = subst (λ n. Goes_to n zeroed) (some_same place to e) (stub_goes 0 0 f place has)
 
   class_finds : (cs : List Class) (place i : ℕ) (d : Class) → Classes place cs → slice_get (linked_classes R (entries_of R) place cs) i ≡ Some d → Finds d
   class_finds [] place i d has e = cc
   class_finds (c ∷ others) place zero d has e =
       let here = first_class place c others has in
       let q = place + length (dealloc_orders R (entries_of R) c.dealloc) in
-      subst Finds (some_same _ d e) (record { methods = λ sign selector takes to e. found_goes c.methods q (class_methods place c here) sign selector takes to e; dealloc = λ to e. stub_found c.dealloc place to (class_dealloc place c here) e })
+      subst Finds (some_same _ d e) (record { methods = λ sign selector takes objects to e. found_goes c.methods q (class_methods place c here) sign selector takes objects to e; dealloc = λ to e. stub_found c.dealloc place to (class_dealloc place c here) e })
   class_finds (c ∷ others) place (suc i) d has e = class_finds others (place + length (class_orders R (entries_of R) c)) i d (other_classes place c others has) e
 
-  own_goes : (o : Option Class) → ((d : Class) → o ≡ Some d → Finds d) → (sign : Sign) (selector takes to : ℕ) → found sign selector takes (own_methods o) ≡ Some to → Goes_to to (height (passes sign takes) 0 0 0)
-  own_goes None finds sign selector takes to e = cc
-  own_goes (Some d) finds sign selector takes to e = (finds d refl).methods sign selector takes to e
+  own_goes : (o : Option Class) → ((d : Class) → o ≡ Some d → Finds d) → (sign : Sign) (selector takes objects to : ℕ) → found sign selector takes objects (own_methods o) ≡ Some to → Goes_to to (height (passes sign takes) objects 0 0)
+  own_goes None finds sign selector takes objects to e = cc
+  own_goes (Some d) finds sign selector takes objects to e = (finds d refl).methods sign selector takes objects to e
 
   first_of : (Q : Type 0) (go : ℕ → Option ℕ) (to : ℕ) → ((c : ℕ) → go c ≡ Some to → Q) → (cs : List ℕ) → first_that_has go cs ≡ Some to → Q
   first_of Q go to one [] e = cc
@@ -445,7 +491,7 @@ module _ (R : resolved.Program) where
   has_stubs = subst (λ n. Classes n R.classes) (none_more (length (running_orders R))) (both_back 0 (first ++ functions) (classes_heights R (entries_of R) R.classes) (running_orders R) (classes_orders R (entries_of R) R.classes) running_length has_all)
 
   -- a function is entered with its variables
-  pub entered_at : (f : ℕ) → Entered (entries_of R) (number_of R f) (slots_of R f)
+  pub entered_at : (f : ℕ) → Entered (entries_of R) (number_of R f) (slots_of R f) (parameters_of R f)
   entered_at f = functions_begin (all_functions R) (length (start_orders R)) (number_of R f) (function_at R f) has_functions (numbered R f)
 
   get_index : (list : List ℕ) (n x : ℕ) → slice_get list n ≡ Some x → slice_index_or list n 0 ≡ x
@@ -453,56 +499,67 @@ module _ (R : resolved.Program) where
   get_index (y ∷ list) zero x e = cc
   get_index (y ∷ list) (suc n) x e = get_index list n x e
 
-  target : (f : ℕ) → Goes_to (slice_index_or (entries_of R) (number_of R f) 0) (height (slots_of R f) 0 0 0)
-  target f = let e = entered_at f in subst (λ n. Goes_to n (height (slots_of R f) 0 0 0)) (sym (get_index (entries_of R) (number_of R f) e.at e.is)) e.goes
+  target : (f : ℕ) → Goes_to (slice_index_or (entries_of R) (number_of R f) 0) (height (slots_of R f) (parameters_of R f) 0 0)
+  target f = let e = entered_at f in subst (λ n. Goes_to n (height (slots_of R f) (parameters_of R f) 0 0)) (sym (get_index (entries_of R) (number_of R f) e.at e.is)) e.goes
 
-  pub methods_go : (from : Option ℕ) (sign : Sign) (selector takes to : ℕ) → lookup (classes_linked R) from sign selector takes ≡ Some to → Goes_to to (height (passes sign takes) 0 0 0)
-  methods_go from sign selector takes to e =
-      first_of (Goes_to to (height (passes sign takes) 0 0 0)) (λ c. found sign selector takes (own_methods (slice_get (classes_linked R) c))) to (λ c f.
-      own_goes (slice_get (classes_linked R) c) (λ d is. class_finds R.classes (length (running_orders R)) c d has_stubs is) sign selector takes to f) (ancestry (superclasses (classes_linked R)) from) e
+  pub methods_go : (from : Option ℕ) (sign : Sign) (selector takes objects to : ℕ) → lookup (classes_linked R) from sign selector takes objects ≡ Some to → Goes_to to (height (passes sign takes) objects 0 0)
+  methods_go from sign selector takes objects to e =
+      first_of (Goes_to to (height (passes sign takes) objects 0 0)) (λ c. found sign selector takes objects (own_methods (slice_get (classes_linked R) c))) to (λ c f.
+      own_goes (slice_get (classes_linked R) c) (λ d is. class_finds R.classes (length (running_orders R)) c d has_stubs is) sign selector takes objects to f) (ancestry (superclasses (classes_linked R)) from) e
 
   pub dealloc_goes : (i : ℕ) (d : Class) (to : ℕ) → slice_get (classes_linked R) i ≡ Some d → d.dealloc ≡ Some to → Goes_to to (height 0 0 0 0)
   dealloc_goes i d to is e = (class_finds R.classes (length (running_orders R)) i d has_stubs is).dealloc to e
 
   abbrev zeros : List Order
-  zeros = zero_orders (slots_of R R.main)
+  zeros = passing_orders R R.main 0 0
+
+  abbrev main_ready : Height
+  main_ready = height (slots_of R R.main) (parameters_of R R.main) 0 0
 
   abbrev call : List Order
   call = Call (number_of R R.main) ∷ (Return ∷ (EndStep ∷ []))
 
-  zeros_typed : Types R 0 0 zeroed zeros (height (slots_of R R.main) 0 0 0)
-  zeros_typed = types_same R 0 0 zeroed zeros (height (slots_of R R.main + 0) 0 0 0) (height (slots_of R R.main) 0 0 0) (heights_same _ _ _ _ (slots_of R R.main) 0 0 0 (omega arith) refl refl refl) (zeros_type R 0 0 0 0 0 (slots_of R R.main) 0)
+  zeros_typed : Types R 0 0 zeroed zeros main_ready
+  zeros_typed = fit_typed 0 0 R.main
 
-  start_row : Row R all table zeroed 0 (walk zeroed []) (start_orders R)
-  start_row = row zeroed zeroed 0 (start_orders R) has_start
+  -- the call comes before the end
+  start_is : start_orders R ≡ zeros ++ call
+  start_is = append_assoc zeros (Call (number_of R R.main) ∷ []) (Return ∷ (EndStep ∷ []))
 
-  call_row : Row R all table zeroed (0 + length zeros) (walk (height (slots_of R R.main) 0 0 0) []) call
-  call_row = subst (λ w. Row R all table zeroed (0 + length zeros) w call) (types_last R 0 0 zeroed zeroed [] zeros (height (slots_of R R.main) 0 0 0) zeros_typed) (row_back R all table zeroed 0 (walk zeroed []) zeros call start_row)
+  start_row : Row R all table zeroed 0 (walk zeroed []) (zeros ++ call)
+  start_row = subst (Row R all table zeroed 0 (walk zeroed [])) start_is (row zeroed zeroed 0 (start_orders R) has_start)
+
+  call_row : Row R all table zeroed (0 + length zeros) (walk main_ready []) call
+  call_row = subst (λ w. Row R all table zeroed (0 + length zeros) w call) (types_last R 0 0 zeroed zeroed [] zeros main_ready zeros_typed) (row_back R all table zeroed 0 (walk zeroed []) zeros call start_row)
 
   zeros_follow : Follows R all table zeroed 0 (walk zeroed []) zeros
-  zeros_follow = row_front R all table zeroed 0 (walk zeroed []) zeros call (subst (λ w. Goes_to (0 + length zeros) w.height) (sym (types_last R 0 0 zeroed zeroed [] zeros (height (slots_of R R.main) 0 0 0) zeros_typed)) (opens_goes R all table (0 + length zeros) (height (slots_of R R.main) 0 0 0) (Call (number_of R R.main)) tt call_row.0 call_row.1)) start_row
+  zeros_follow = row_front R all table zeroed 0 (walk zeroed []) zeros call (subst (λ w. Goes_to (0 + length zeros) w.height) (sym (types_last R 0 0 zeroed zeroed [] zeros main_ready zeros_typed)) (opens_goes R all table (0 + length zeros) main_ready (Call (number_of R R.main)) tt call_row.0 call_row.1)) start_row
 
   pub start_goes : Goes_to 0 zeroed
-  start_goes = goes_here R all table zeroed 0 (walk zeroed []) zeros (types_ordinary R zeroed zeros (height (slots_of R R.main) 0 0 0) zeros_typed) zeros_follow
+  start_goes = goes_here R all table zeroed 0 (walk zeroed []) zeros (types_ordinary R zeroed zeros main_ready zeros_typed) zeros_follow
 
   -- the order at which the ends of objects go on
   pub end_is : slice_get all (end_step_of R) ≡ Some EndStep
   end_is =
-      let e : 0 + length zeros + 1 + 1 ≡ end_step_of R = omega (arith, zeros_length (slots_of R R.main)) in
+      let size = ap length start_is in
+      let both = length-append zeros call in
+      let whole = length-append (call_orders R R.main 0 0) (Return ∷ (EndStep ∷ [])) in
+      let e : 0 + length zeros + 1 + 1 ≡ end_step_of R = omega (arith, call_length R R.main, size, both, whole) in
       subst (λ n. slice_get all n ≡ Some EndStep) e call_row.2.2.1
 
   start_steps : Step_all 0 (start_orders R)
   start_steps =
       let q = 0 + length zeros in
-      let s = slots_of R R.main in
       let rest = call_row.2 in
-      let called : next_height R (Call (number_of R R.main)) (height s 0 0 0) ≡ height 1 0 0 0 = heights_same _ _ _ _ 1 0 0 0 (omega (arith, slots_same R R.main)) (omega arith) (omega arith) (omega arith) in
+      let same = slots_same R R.main in
+      let other = parameters_same R R.main in
+      let called : next_height R (Call (number_of R R.main)) main_ready ≡ height 1 0 0 0 = heights_same _ _ _ _ 1 0 0 0 (omega (arith, same)) (omega (arith, other)) (omega arith) (omega arith) in
       let one = rest.0 ∙ ap Some called in
       let home : Stands R all table (q + 1) (height 1 0 0 0) = record { height = one; order = Return; is = rest.1; no_end = λ same. subst IsReturn same tt } in
-      step_then R all table 0 zeros call (typed_steps R all table zeroed 0 zeroed [] zeros (height s 0 0 0) zeros_typed zeros_follow) (
-        (height s 0 0 0, call_row.0, ((omega (arith, slots_same R R.main), number_there R R.main), subst (Goes_to (q + 1)) (sym called) (none_goes R all table (q + 1) (height 1 0 0 0) home refl))),
+      subst (Step_all 0) (sym start_is) (step_then R all table 0 zeros call (typed_steps R all table zeroed 0 zeroed [] zeros main_ready zeros_typed zeros_follow) (
+        (main_ready, call_row.0, ((omega (arith, same), number_there R R.main, omega (arith, other)), subst (Goes_to (q + 1)) (sym called) (none_goes R all table (q + 1) (height 1 0 0 0) home refl))),
         ((height 1 0 0 0, one, (refl, refl, refl)), ((zeroed, rest.2.0, (refl, refl, refl, refl)), tt)),
-      )
+      ))
 
   program_steps : Step_all 0 (lowered R)
   program_steps =

@@ -3,6 +3,7 @@ use Rattle.std.proofs.Common.{◌≡◌, ℕ, suc, ◌+◌, Bool, true, false, n
 use Rattle.std.proofs.lemmas.Bool.{true≢false}
 use Rattle.std.specs.List.{list_any}
 use Rattle.std.proofs.lemmas.List.Folds.{list_any-append}
+use Rattle.arc_spec.specs.declared.location.Location.TheVariants.{Local, Global}
 use Rattle.arc_spec.specs.Resolved.{Program}
 use Rattle.arc_code.specs.declared.instr.Op.TheVariants.{Nil, ReadRef, Hold}
 use Rattle.arc_code.specs.declared.instr.Instr.TheVariants.{Plain, Jump, JumpZero}
@@ -54,7 +55,8 @@ module _ (P : Program) (slots names : ℕ) where
 
   pub quiet_flat : (b : Block) → none (flat P slots names Inside b) → takes_none b ≡ true
   quiet_flat (One o) e = ap not (or_first (nat_lt 0 (operation_effect o).temporaries) false e)
-  quiet_flat (Read i) e = read_takes (nat_lt i names) i e
+  quiet_flat (Read (Global i)) e = sym e
+  quiet_flat (Read (Local i)) e = read_takes (nat_lt i names) i e
   quiet_flat (Then a b) e =
       let xs = flat P slots names Inside a in
       let ys = flat P slots names Inside b in

@@ -26,7 +26,7 @@ at frames pc stack held = record { at = pc; stack = stack; frames = frames; held
 
 -- what a world holds with these references, and with these counts
 abbrev pub counting : List ℕ → World → (ℕ → ℕ) → Held
-counting rs w c = record { temporaries = w.frame.temporaries; variables = w.frame.strong; self = w.frame.self; places = w.waiting; names = rs; objects = w.objects; counts = c; globals = w.globals }
+counting rs w c = record { temporaries = w.frame.temporaries; variables = w.frame.strong; self = w.frame.self; places = w.waiting; names = rs; objects = w.objects; counts = c; globals = w.globals; strong_globals = w.strong_globals }
 
 -- the same, with the counts of its places
 abbrev pub held_of : List ℕ → World → Held

@@ -3,11 +3,12 @@ use Rattle.std.proofs.Common.{◌≡◌, ℕ, zero, suc, ◌+◌, ◌-◌, ◌<�
 use Rattle.std.proofs.lemmas.Bool.{ltb-true, ltb-false}
 use Rattle.std.proofs.lemmas.List.{length-set, get_or_past, set_past}
 use Rattle.arc_spec.specs.declared.event.Event.{Event}
-use Rattle.arc_spec.specs.Objects.{Object, Dying, object_at, with_object, in_phase, is_live, names}
+use Rattle.arc_spec.specs.declared.location.Location.TheVariants.{Local, Global}
+use Rattle.arc_spec.specs.Objects.{Object, Dying, object_at, with_object, in_phase, with_strong_fields, is_live, names, field_places}
 use Rattle.arc_spec.specs.World as world
-use Rattle.arc_spec.specs.World.{World, Outcome, Done, finished, Finished, then_do, places, with_temporaries, with_strong, stores, name_at}
-use Rattle.arc_spec.specs.Meaning.{Deeper, released, temporaries_dropped, all_dropped, assigned, variables_dropped}
-use Rattle.arc_spec.specs.Holding.{Held, Frame, holders, is_there, on_object, on_named, with_things, with_variables, raised, lowered}
+use Rattle.arc_spec.specs.World.{World, Outcome, Done, finished, Finished, then_do, places, stacked, with_temporaries, with_strong, stores, name_at}
+use Rattle.arc_spec.specs.Meaning.{Deeper, released, field_stores, temporaries_dropped, all_dropped, assigned, variables_dropped}
+use Rattle.arc_spec.specs.Holding.{Held, Frame, holders, is_there, on_object, on_named, with_things, with_variables, with_strong_globals, with_strong_field, on_place, raised, lowered}
 use Rattle.arc_spec.specs.Stepping.{Next, Reached, on_found, only_if, follow}
 use Rattle.arc_code.specs.Instructions as instructions
 use Rattle.arc_ir.specs.Acting.{Program, State, keeps, has_level, begins_end, releases}
@@ -15,6 +16,7 @@ use Rattle.arc_code.specs.declared.instr.Instr.TheVariants.{DropAll, Empty}
 use Rattle.arc_lower.specs.Order.{Order}
 use Rattle.arc_lower.specs.Lowered.{empty_orders, all_empty_orders}
 use Rattle.arc_lower.proofs.CountsPlaces.{tally, one_more_if, one_less_if, tally_same, holders_head, holders_append, holders_set, last_one}
+use Rattle.arc_lower.proofs.CountsHeld.{there_fields, fields_set}
 use Rattle.arc_lower.proofs.Leading.{Runs, stuck_runs, ends_here, then_at, better_runs}
 use Rattle.arc_lower.proofs.Recounting.{recount, moves, at, counting, held_of}
 use Rattle.arc_lower.proofs.Doing.{bare, HasAt, has_front, has_back}
@@ -39,9 +41,23 @@ dying_in rs w k ob c = with_things (counting rs w c) (with_object w.objects (suc
 abbrev pub Stays : List Frame → (rs : List ℕ) → List ℤ → (pc : ℕ) → (before : World) → Finished → World → Reached State → Type 0
 Stays frames rs stack pc before done w to = (to ≡ running frames rs pc stack w) × Kept before w
 
--- the ends of objects do what is meant, and go on at a place
+-- a world with this running function, and these places of those that wait
+abbrev pub laid : World → world.Frame → List ℕ → World
+laid w f waiting = record w { frame = f; waiting = waiting }
+
+-- The ends of objects do what is meant, and go on at a place. The places of the functions are laid out between the one that runs and those that wait as in this frame.
 abbrev pub Ends : Program → List Frame → (bound : ℕ) → Deeper → Type 0
-Ends p frames bound D = (k : ℕ) (ob : Object) (c : ℕ → ℕ) (h0 : Held) (rs : List ℕ) (stack : List ℤ) (w : World) (pc back : ℕ) → object_at w.objects (suc k) ≡ Some ob → Runs (moves p) bound (follow (recount (begins_end p (at frames pc stack h0) back (suc k) ob.class (dying_in rs w k ob c) (has_level (at frames pc stack h0)))) w.input w.trace) (Stays frames rs stack back w) (D.end_of (suc k) w)
+Ends p frames bound D = (f : world.Frame) (waiting : List ℕ) (k : ℕ) (ob : Object) (c : ℕ → ℕ) (h0 : Held) (rs : List ℕ) (stack : List ℤ) (w : World) (pc back : ℕ) → world.frame_places f ++ waiting ≡ stacked w → object_at w.objects (suc k) ≡ Some ob
+    → Runs (moves p) bound (follow (recount (begins_end p (at frames pc stack h0) back (suc k) ob.class (dying_in rs (laid w f waiting) k ob c) (has_level (at frames pc stack h0)))) w.input w.trace) (λ done w1 to. (to ≡ running frames rs back stack (laid w1 f waiting)) × Kept w w1) (D.end_of (suc k) w)
+
+-- the same where they are laid out as in the world
+abbrev pub OwnEnds : Program → List Frame → (bound : ℕ) → Deeper → Type 0
+OwnEnds p frames bound D = (k : ℕ) (ob : Object) (c : ℕ → ℕ) (h0 : Held) (rs : List ℕ) (stack : List ℤ) (w : World) (pc back : ℕ) → object_at w.objects (suc k) ≡ Some ob → Runs (moves p) bound (follow (recount (begins_end p (at frames pc stack h0) back (suc k) ob.class (dying_in rs w k ob c) (has_level (at frames pc stack h0)))) w.input w.trace) (Stays frames rs stack back w) (D.end_of (suc k) w)
+
+own_ends : (p : Program) (frames : List Frame) (bound : ℕ) (D : Deeper) → Ends p frames bound D → OwnEnds p frames bound D
+own_ends p frames bound D ends k ob c h0 rs stack w pc back found =
+    better_runs (moves p) bound _ (λ done w1 to. (to ≡ running frames rs back stack (laid w1 w.frame w.waiting)) × Kept w w1) (Stays frames rs stack back w) (D.end_of (suc k) w) (ends w.frame w.waiting k ob c h0 rs stack w pc back refl found) (λ done w1 to m.
+    (m.0 ∙ ap (λ (f : world.Frame). running frames rs back stack (laid w1 f w.waiting)) (sym m.1.frame) ∙ ap (λ l. running frames rs back stack (laid w1 w1.frame l)) (sym m.1.waiting), m.1))
 
 -- ---- what a step needs
 
@@ -57,6 +73,19 @@ module _ (p : Program) (bound : ℕ) {A : Type 0} (i : List ℕ) (t : List Event
   object_runs None go h = stuck_runs (moves p) bound i t end o
   object_runs (Some ob) go h = only_runs (is_there ob.phase) (go ob) (h ob refl)
 
+  there_only_runs : (b : Bool) (next : Next State) → (b ≡ true → Goes_on next) → Goes_on (only_if b next)
+  there_only_runs true next h = h refl
+  there_only_runs false next h = stuck_runs (moves p) bound i t end o
+
+  -- the same, where that the object is there matters
+  pub there_runs : (found : Option Object) (go : Object → Next State) → ((ob : Object) → found ≡ Some ob → is_there ob.phase ≡ true → Goes_on (go ob)) → Goes_on (on_object found go)
+  there_runs None go h = stuck_runs (moves p) bound i t end o
+  there_runs (Some ob) go h = there_only_runs (is_there ob.phase) (go ob) (h ob refl)
+
+  pub place_runs : (found : Option ℕ) (none : Next State) (go : ℕ → Next State) → (found ≡ None → Goes_on none) → ((old : ℕ) → found ≡ Some old → Goes_on (go old)) → Goes_on (on_place found none go)
+  place_runs None none go h g = h refl
+  place_runs (Some old) none go h g = g old refl
+
   pub named_runs : (r : ℕ) (h : Held) (next : Next State) → Goes_on next → Goes_on (on_named r h next)
   named_runs zero h next go = go
   named_runs (suc k) h next go = object_runs (object_at h.objects (suc k)) (λ _. next) (λ ob e. go)
@@ -67,14 +96,35 @@ module _ (p : Program) (bound : ℕ) {A : Type 0} (i : List ℕ) (t : List Event
 
 -- ---- how many places name an object
 
-parts_holders : (k : ℕ) (w : World) → holders k (places w) ≡ holders k w.frame.temporaries + holders k w.frame.strong + holders k w.waiting
-parts_holders k w = omega (arith, holders_append k (w.frame.temporaries ++ w.frame.strong) w.waiting, holders_append k w.frame.temporaries w.frame.strong)
+parts_holders : (k : ℕ) (w : World) → holders k (places w) ≡ holders k w.frame.temporaries + holders k w.frame.strong + holders k w.waiting + holders k w.strong_globals + holders k (field_places w.objects)
+parts_holders k w =
+    let whole = holders_append k (stacked w) (w.strong_globals ++ field_places w.objects) in
+    let rest = holders_append k w.strong_globals (field_places w.objects) in
+    let calls = holders_append k (w.frame.temporaries ++ w.frame.strong) w.waiting in
+    let own = holders_append k w.frame.temporaries w.frame.strong in
+    omega (arith, whole, rest, calls, own)
 
 -- the count of what a variable named that takes another object
-stored_count : (i old r k : ℕ) (w : World) → slice_get w.frame.strong i ≡ Some old → old ≡ suc k → (if nat_eq (suc k) r then suc (holders (suc k) (places w)) else holders (suc k) (places w)) ≡ suc (holders (suc k) (places (stores i r w)))
+stored_count : (i old r k : ℕ) (w : World) → slice_get w.frame.strong i ≡ Some old → old ≡ suc k → (if nat_eq (suc k) r then suc (holders (suc k) (places w)) else holders (suc k) (places w)) ≡ suc (holders (suc k) (places (stores (Local i) r w)))
 stored_count i old r k w found e =
     let one : tally (suc k) old ≡ 1 = ap (tally (suc k)) e ∙ tally_same (suc k) in
-    omega (arith, one_more_if (nat_eq (suc k) r) (holders (suc k) (places w)), parts_holders (suc k) w, parts_holders (suc k) (stores i r w), holders_set (suc k) i old r w.frame.strong found, one)
+    omega (arith, one_more_if (nat_eq (suc k) r) (holders (suc k) (places w)), parts_holders (suc k) w, parts_holders (suc k) (stores (Local i) r w), holders_set (suc k) i old r w.frame.strong found, one)
+
+-- the same of a variable of the whole program
+global_count : (i old r k : ℕ) (w : World) → slice_get w.strong_globals i ≡ Some old → old ≡ suc k → (if nat_eq (suc k) r then suc (holders (suc k) (places w)) else holders (suc k) (places w)) ≡ suc (holders (suc k) (places (stores (Global i) r w)))
+global_count i old r k w found e =
+    let one : tally (suc k) old ≡ 1 = ap (tally (suc k)) e ∙ tally_same (suc k) in
+    omega (arith, one_more_if (nat_eq (suc k) r) (holders (suc k) (places w)), parts_holders (suc k) w, parts_holders (suc k) (stores (Global i) r w), holders_set (suc k) i old r w.strong_globals found, one)
+
+-- the same of a field of an object that is there
+pub field_count : (j : ℕ) (ob : Object) (index old r k : ℕ) (w : World) → object_at w.objects (suc j) ≡ Some ob → is_there ob.phase ≡ true → slice_get ob.strong index ≡ Some old → old ≡ suc k
+    → (if nat_eq (suc k) r then suc (holders (suc k) (places w)) else holders (suc k) (places w)) ≡ suc (holders (suc k) (places (field_stores (suc j) ob index r w)))
+field_count j ob index old r k w found there named e =
+    let one : tally (suc k) old ≡ 1 = ap (tally (suc k)) e ∙ tally_same (suc k) in
+    let x = with_strong_fields ob (slice_set ob.strong index r) in
+    let before = ap (holders (suc k)) (there_fields ob there) in
+    let after = ap (holders (suc k)) (there_fields x there) in
+    omega (arith, one_more_if (nat_eq (suc k) r) (holders (suc k) (places w)), parts_holders (suc k) w, parts_holders (suc k) (field_stores (suc j) ob index r w), fields_set (suc k) w.objects j ob x found, before, after, holders_set (suc k) index old r ob.strong named, one)
 
 dropped_count : (r k : ℕ) (rest : List ℕ) → r ≡ suc k → holders (suc k) (r ∷ rest) ≡ suc (holders (suc k) rest)
 dropped_count r k rest e =
@@ -98,7 +148,10 @@ get_front [] i lt = absurd (omega (arith, lt))
 get_front (r ∷ strong) zero lt = refl
 get_front (r ∷ strong) (suc i) lt = get_front strong i (omega (arith, lt))
 
-module _ (p : Program) (frames : List Frame) (bound : ℕ) (rs : List ℕ) (D : Deeper) (ends : Ends p frames bound D) where
+module _ (p : Program) (frames : List Frame) (bound : ℕ) (rs : List ℕ) (D : Deeper) (all_ends : Ends p frames bound D) where
+  ends : OwnEnds p frames bound D
+  ends = own_ends p frames bound D all_ends
+
   abbrev stays : List ℤ → ℕ → World → Finished → World → Reached State → Type 0
   stays stack pc before done w to = Stays frames rs stack pc before done w to
 
@@ -110,7 +163,7 @@ module _ (p : Program) (frames : List Frame) (bound : ℕ) (rs : List ℕ) (D : 
   by_test k ob c h0 stack w pc found false = quiet_runs p frames bound rs (pc + 1) stack w (stays stack (pc + 1) w) (Done finished w) (keeps_runs stack w (pc + 1))
 
   -- the machine tests the count where the meaning looks at the places
-  same_test : (k : ℕ) (ob : Object) (c : ℕ → ℕ) (w : World) → object_at w.objects (suc k) ≡ Some ob → c (suc k) ≡ suc (holders (suc k) (places w)) → (is_live (Some ob) && nat_eq (c (suc k)) 1) ≡ (is_live (object_at w.objects (suc k)) && not (names (suc k) (places w)))
+  pub same_test : (k : ℕ) (ob : Object) (c : ℕ → ℕ) (w : World) → object_at w.objects (suc k) ≡ Some ob → c (suc k) ≡ suc (holders (suc k) (places w)) → (is_live (Some ob) && nat_eq (c (suc k)) 1) ≡ (is_live (object_at w.objects (suc k)) && not (names (suc k) (places w)))
   same_test k ob c w found count = ap (λ f. is_live f && nat_eq (c (suc k)) 1) (sym found) ∙ ap (λ b. is_live (object_at w.objects (suc k)) && b) (last_one (suc k) (c (suc k)) (places w) count)
 
   -- a variable that named this names it no more
@@ -179,33 +232,43 @@ module _ (p : Program) (frames : List Frame) (bound : ℕ) (rs : List ℕ) (D : 
   -- ---- variables
 
   -- a variable that there isn't
-  pub no_variable : (i r : ℕ) (stack : List ℤ) (w : World) (pc : ℕ) → length w.frame.strong ≤ i → Runs (moves p) bound (running frames rs pc stack w) (stays stack (pc + 0) (stores i r w)) (assigned D i r w)
+  pub no_variable : (i r : ℕ) (stack : List ℤ) (w : World) (pc : ℕ) → length w.frame.strong ≤ i → Runs (moves p) bound (running frames rs pc stack w) (stays stack (pc + 0) (stores (Local i) r w)) (assigned D (Local i) r w)
   no_variable i r stack w pc le =
       let e : pc ≡ pc + 0 = omega arith in
       let same : slice_set w.frame.strong i r ≡ w.frame.strong = set_past w.frame.strong i r le in
       let none : name_at w.frame.strong i ≡ 0 = get_or_past w.frame.strong i 0 le in
-      let o : assigned D i r w ≡ Done finished w = ap (λ q. released D q (stores i r w)) none ∙ ap (λ l. Done finished (with_strong w l)) same in
-      subst (λ (o : Outcome Finished). Runs (moves p) bound (running frames rs pc stack w) (stays stack (pc + 0) (stores i r w)) o) (sym o)
-      (ends_here (moves p) bound (running frames rs pc stack w) (stays stack (pc + 0) (stores i r w)) finished w (ap (λ q. running frames rs q stack w) e, record { frame = ap (λ l. (with_strong w l).frame) (sym same); waiting = refl }))
+      let o : assigned D (Local i) r w ≡ Done finished w = ap (λ q. released D q (stores (Local i) r w)) none ∙ ap (λ l. Done finished (with_strong w l)) same in
+      subst (λ (o : Outcome Finished). Runs (moves p) bound (running frames rs pc stack w) (stays stack (pc + 0) (stores (Local i) r w)) o) (sym o)
+      (ends_here (moves p) bound (running frames rs pc stack w) (stays stack (pc + 0) (stores (Local i) r w)) finished w (ap (λ q. running frames rs q stack w) e, record { frame = ap (λ l. (with_strong w l).frame) (sym same); waiting = refl }))
 
   -- a variable takes this
-  pub changes_runs : (i r old : ℕ) (stack : List ℤ) (w : World) (pc : ℕ) → slice_get w.frame.strong i ≡ Some old → Runs (moves p) bound (follow (recount (releases p (at frames pc stack (held_of rs w)) old (raised r (with_variables (held_of rs w) (slice_set w.frame.strong i r))))) w.input w.trace) (stays stack (pc + 1) (stores i r w)) (released D old (stores i r w))
-  changes_runs i r old stack w pc found = release_runs old (raised r (held_of rs w)).counts (held_of rs w) stack (stores i r w) pc (λ k same. stored_count i old r k w found same)
+  pub changes_runs : (i r old : ℕ) (stack : List ℤ) (w : World) (pc : ℕ) → slice_get w.frame.strong i ≡ Some old → Runs (moves p) bound (follow (recount (releases p (at frames pc stack (held_of rs w)) old (raised r (with_variables (held_of rs w) (slice_set w.frame.strong i r))))) w.input w.trace) (stays stack (pc + 1) (stores (Local i) r w)) (released D old (stores (Local i) r w))
+  changes_runs i r old stack w pc found = release_runs old (raised r (held_of rs w)).counts (held_of rs w) stack (stores (Local i) r w) pc (λ k same. stored_count i old r k w found same)
+
+  -- a variable of the whole program takes this
+  pub global_runs : (i r old : ℕ) (stack : List ℤ) (w : World) (pc : ℕ) → slice_get w.strong_globals i ≡ Some old → Runs (moves p) bound (follow (recount (releases p (at frames pc stack (held_of rs w)) old (raised r (with_strong_globals (held_of rs w) (slice_set w.strong_globals i r))))) w.input w.trace) (stays stack (pc + 1) (stores (Global i) r w)) (released D old (stores (Global i) r w))
+  global_runs i r old stack w pc found = release_runs old (raised r (held_of rs w)).counts (held_of rs w) stack (stores (Global i) r w) pc (λ k same. global_count i old r k w found same)
+
+  -- a field of an object that is there takes this
+  pub strong_field_runs : (j : ℕ) (ob : Object) (index r old : ℕ) (h0 : Held) (stack : List ℤ) (w : World) (pc : ℕ) → object_at w.objects (suc j) ≡ Some ob → is_there ob.phase ≡ true → slice_get ob.strong index ≡ Some old
+      → Runs (moves p) bound (follow (recount (releases p (at frames pc stack h0) old (raised r (with_strong_field (held_of rs w) (suc j) ob index r)))) w.input w.trace) (stays stack (pc + 1) (field_stores (suc j) ob index r w)) (released D old (field_stores (suc j) ob index r w))
+  strong_field_runs j ob index r old h0 stack w pc found there named =
+      release_runs old (raised r (held_of rs w)).counts h0 stack (field_stores (suc j) ob index r w) pc (λ k same. field_count j ob index old r k w found there named same)
 
   abbrev emptying : Bool → ℕ → List Order
   emptying b i = if b then Empty i ∷ [] else []
 
-  empty_by : (b : Bool) (i : ℕ) (stack : List ℤ) (w : World) (pc : ℕ) → nat_lt i (length w.frame.strong) ≡ b → HasAt p pc (emptying b i) → Runs (moves p) bound (running frames rs pc stack w) (stays stack (pc + length (emptying b i)) (stores i 0 w)) (assigned D i 0 w)
+  empty_by : (b : Bool) (i : ℕ) (stack : List ℤ) (w : World) (pc : ℕ) → nat_lt i (length w.frame.strong) ≡ b → HasAt p pc (emptying b i) → Runs (moves p) bound (running frames rs pc stack w) (stays stack (pc + length (emptying b i)) (stores (Local i) 0 w)) (assigned D (Local i) 0 w)
   empty_by true i stack w pc e has =
       let h = held_of rs w in
       let s = at frames pc stack h in
       let found = get_front w.frame.strong i (ltb-true i (length w.frame.strong) e) in
-      one_runs p frames bound rs (Empty i) pc stack w (stays stack (pc + 1) (stores i 0 w)) (assigned D i 0 w) has
-      (subst (λ f. Runs (moves p) bound (follow (recount (on_found f (λ q. releases p s q (raised 0 (with_variables h (slice_set w.frame.strong i 0)))))) w.input w.trace) (stays stack (pc + 1) (stores i 0 w)) (assigned D i 0 w)) (sym found) (changes_runs i 0 (name_at w.frame.strong i) stack w pc found))
+      one_runs p frames bound rs (Empty i) pc stack w (stays stack (pc + 1) (stores (Local i) 0 w)) (assigned D (Local i) 0 w) has
+      (subst (λ f. Runs (moves p) bound (follow (recount (on_found f (λ q. releases p s q (raised 0 (with_variables h (slice_set w.frame.strong i 0)))))) w.input w.trace) (stays stack (pc + 1) (stores (Local i) 0 w)) (assigned D (Local i) 0 w)) (sym found) (changes_runs i 0 (name_at w.frame.strong i) stack w pc found))
   empty_by false i stack w pc e has = no_variable i 0 stack w pc (ltb-false i (length w.frame.strong) e)
 
-  empty_runs : (count i : ℕ) (stack : List ℤ) (w : World) (pc : ℕ) → length w.frame.strong ≡ count → HasAt p pc (empty_orders count i) → Runs (moves p) bound (running frames rs pc stack w) (stays stack (pc + length (empty_orders count i)) (stores i 0 w)) (assigned D i 0 w)
-  empty_runs count i stack w pc size = subst (λ m. HasAt p pc (empty_orders m i) → Runs (moves p) bound (running frames rs pc stack w) (stays stack (pc + length (empty_orders m i)) (stores i 0 w)) (assigned D i 0 w)) size (λ has. empty_by (nat_lt i (length w.frame.strong)) i stack w pc refl has)
+  empty_runs : (count i : ℕ) (stack : List ℤ) (w : World) (pc : ℕ) → length w.frame.strong ≡ count → HasAt p pc (empty_orders count i) → Runs (moves p) bound (running frames rs pc stack w) (stays stack (pc + length (empty_orders count i)) (stores (Local i) 0 w)) (assigned D (Local i) 0 w)
+  empty_runs count i stack w pc size = subst (λ m. HasAt p pc (empty_orders m i) → Runs (moves p) bound (running frames rs pc stack w) (stays stack (pc + length (empty_orders m i)) (stores (Local i) 0 w)) (assigned D (Local i) 0 w)) size (λ has. empty_by (nat_lt i (length w.frame.strong)) i stack w pc refl has)
 
   -- variables from the first one on, the last one first
   pub empties_run : (names' first count : ℕ) (stack : List ℤ) (w : World) (pc : ℕ) → length w.frame.strong ≡ names' → HasAt p pc (all_empty_orders names' first count) → Runs (moves p) bound (running frames rs pc stack w) (stays stack (pc + length (all_empty_orders names' first count)) (emptied first count w)) (variables_dropped D first count w)
@@ -217,7 +280,7 @@ module _ (p : Program) (frames : List Frame) (bound : ℕ) (rs : List ℕ) (D : 
       let q = pc + length xs in
       let e : q + length ys ≡ pc + length (xs ++ ys) = omega (arith, length-append xs ys) in
       let end = emptied first (suc n) w in
-      then_at (moves p) bound (running frames rs pc stack w) (λ (done : Finished) w2. Kept (stores i 0 w) w2) (λ done w2. running frames rs q stack w2) (stays stack (pc + length (xs ++ ys)) end) (assigned D i 0 w) (λ _ w2. variables_dropped D first n w2) (empty_runs names' i stack w pc size (has_front p pc xs ys has)) (λ done w2 k.
+      then_at (moves p) bound (running frames rs pc stack w) (λ (done : Finished) w2. Kept (stores (Local i) 0 w) w2) (λ done w2. running frames rs q stack w2) (stays stack (pc + length (xs ++ ys)) end) (assigned D (Local i) 0 w) (λ _ w2. variables_dropped D first n w2) (empty_runs names' i stack w pc size (has_front p pc xs ys has)) (λ done w2 k.
       let size2 = ap (λ (f : world.Frame). length f.strong) k.frame ∙ length-set w.frame.strong i 0 ∙ size in
       better_runs (moves p) bound (running frames rs q stack w2) (stays stack (q + length ys) (emptied first n w2)) (stays stack (pc + length (xs ++ ys)) end) (variables_dropped D first n w2) (empties_run names' first n stack w2 q size2 (has_back p pc xs ys has)) (λ done w3 to m. (
         m.0 ∙ ap (λ n. running frames rs n stack w3) e,

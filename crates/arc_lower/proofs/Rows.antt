@@ -1,15 +1,12 @@
 -- Rows of orders, and lists of a checked program as long as what they are of.
-use Rattle.std.proofs.Common.{◌≡◌, ℕ, zero, suc, ◌+◌, ◌-◌, ◌/◌, ◌<◌, arith, pos, List, [], ◌∷◌, ◌++◌, length, take, drop, length-drop, refl, ap, ◌∙◌, add-one}
-use Rattle.arc_check.specs.declared.checked.Value.{Value}
+use Rattle.std.proofs.Common.{◌≡◌, ℕ, zero, suc, ◌+◌, ◌-◌, ◌/◌, ◌<◌, arith, pos, List, [], ◌∷◌, ◌++◌, length, take, drop, length-drop, length-append, append_assoc, refl, ap, ◌∙◌, add-one}
 use Rattle.arc_check.specs.declared.checked.CheckedFunction.{CheckedFunction}
-use Rattle.arc_check.specs.Checked.{values, functions}
-use Rattle.arc_code.specs.declared.instr.Op.TheVariants.{Num, Pop, Declare}
-use Rattle.arc_code.specs.declared.instr.Instr.TheVariants.{Plain, PrintText}
-use Rattle.arc_lower.specs.Lowered.{part_orders, text_orders, pop_orders, zero_orders, declare_orders, empty_orders, all_empty_orders, value_count}
-
-pub values_counted : (all : List Value) → value_count (values all) ≡ length all
-values_counted [] = refl
-values_counted (a ∷ others) = ap suc (values_counted others)
+use Rattle.arc_check.specs.Checked.{functions}
+use Rattle.arc_spec.specs.Resolved.{Program}
+use Rattle.arc_code.specs.declared.instr.Op.TheVariants.{Num, Pop, Declare, Forget, Nil}
+use Rattle.arc_code.specs.declared.instr.Instr.TheVariants.{Plain, PrintText, Call, StoreStrong}
+use Rattle.arc_lower.specs.Order.{Order}
+use Rattle.arc_lower.specs.Lowered.{part_orders, text_orders, pop_orders, zero_orders, declare_orders, empty_orders, all_empty_orders, forget_orders, nil_orders, take_orders, fit_orders, fit_object_orders, call_orders, number_of, slots_of, parameters_of}
 
 -- of more than 16 bytes the first 16 are one part
 pub text_more : (bytes : List ℕ) → 16 < length bytes → text_orders bytes ≡ PrintText (take 16 bytes) ∷ text_orders (drop 16 bytes)
@@ -38,6 +35,29 @@ declares_snoc (suc n) = ap (λ l. Plain Declare ∷ l) (declares_snoc n)
 pub declares_more : (n : ℕ) → declare_orders (n + 1) ≡ declare_orders n ++ Plain Declare ∷ []
 declares_more n = rw add-one (declares_snoc n)
 
+forgets_snoc : (n : ℕ) → forget_orders (suc n) ≡ forget_orders n ++ Plain Forget ∷ []
+forgets_snoc zero = refl
+forgets_snoc (suc n) = ap (λ l. Plain Forget ∷ l) (forgets_snoc n)
+
+pub forgets_more : (n : ℕ) → forget_orders (n + 1) ≡ forget_orders n ++ Plain Forget ∷ []
+forgets_more n = rw add-one (forgets_snoc n)
+
+nils_snoc : (n : ℕ) → nil_orders (suc n) ≡ nil_orders n ++ Plain Nil ∷ []
+nils_snoc zero = refl
+nils_snoc (suc n) = ap (λ l. Plain Nil ∷ l) (nils_snoc n)
+
+pub nils_more : (n : ℕ) → nil_orders (n + 1) ≡ nil_orders n ++ Plain Nil ∷ []
+nils_more n = rw add-one (nils_snoc n)
+
+pub takes_more : (n : ℕ) → 0 < n → take_orders n ≡ StoreStrong (n - 1) ∷ Plain Forget ∷ take_orders (n - 1)
+takes_more zero lt = absurd (omega (arith, lt))
+takes_more (suc n) lt = let e : n ≡ suc n - 1 = omega arith in ap (λ m. StoreStrong m ∷ Plain Forget ∷ take_orders m) e
+
+-- two actions more behind others
+pub two_more : (old middle last left : List Order) (a b : Order) → middle ≡ old ++ a ∷ [] → last ≡ middle ++ b ∷ [] → last ++ left ≡ old ++ a ∷ b ∷ left
+two_more old middle last left a b first second =
+    ap (λ l. l ++ left) (second ∙ ap (λ l. l ++ b ∷ []) first ∙ append_assoc old (a ∷ []) (b ∷ [])) ∙ append_assoc old (a ∷ b ∷ []) left
+
 -- one variable less is to be emptied
 pub emptied_more : (names first count passed : ℕ) → passed < count → all_empty_orders names first (count - passed) ≡ empty_orders names (first + (count - 1 - passed)) ++ all_empty_orders names first (count - (passed + 1))
 emptied_more names first count passed lt =
@@ -49,6 +69,30 @@ emptied_more names first count passed lt =
 pub zeros_length : (n : ℕ) → length (zero_orders n) ≡ n
 zeros_length zero = refl
 zeros_length (suc n) = ap suc (zeros_length n)
+
+pub forgets_length : (n : ℕ) → length (forget_orders n) ≡ n
+forgets_length zero = refl
+forgets_length (suc n) = ap suc (forgets_length n)
+
+pub nils_length : (n : ℕ) → length (nil_orders n) ≡ n
+nils_length zero = refl
+nils_length (suc n) = ap suc (nils_length n)
+
+pub pops_length : (n : ℕ) → length (pop_orders n) ≡ n
+pops_length zero = refl
+pops_length (suc n) = ap suc (pops_length n)
+
+fits_from_nothing : (slots parameters number : ℕ) → length ((fit_orders 0 slots ++ fit_object_orders 0 parameters) ++ Call number ∷ []) ≡ slots + parameters + 1
+fits_from_nothing slots parameters number =
+    let whole = length-append (fit_orders 0 slots ++ fit_object_orders 0 parameters) (Call number ∷ []) in
+    let both = length-append (fit_orders 0 slots) (fit_object_orders 0 parameters) in
+    let numbers = length-append (pop_orders (0 - slots)) (zero_orders (slots - 0)) in
+    let objects = length-append (forget_orders (0 - parameters)) (nil_orders (parameters - 0)) in
+    omega (arith, whole, both, numbers, objects, pops_length (0 - slots), zeros_length (slots - 0), forgets_length (0 - parameters), nils_length (parameters - 0))
+
+-- how many actions a call is that passes nothing
+pub call_length : (P : Program) (f : ℕ) → length (call_orders P f 0 0) ≡ slots_of P f + parameters_of P f + 1
+call_length P f = fits_from_nothing (slots_of P f) (parameters_of P f) (number_of P f)
 
 pub functions_length : (all : List CheckedFunction) → length (functions all) ≡ length all
 functions_length [] = refl

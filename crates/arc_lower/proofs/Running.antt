@@ -1,44 +1,45 @@
 -- Steps do what blocks mean.
-use Rattle.std.proofs.Common.{◌≡◌, ℕ, zero, suc, ◌+◌, ◌-◌, ◌≤◌, ◌<◌, ℤ, pos, Bool, true, false, not, ◌&&◌, nat_eq, nat_lt, if◌then◌else◌, ◌⊎◌, inl, inr, List, [], ◌∷◌, ◌++◌, length, Option, Some, None, slice_get, slice_set, refl, sym, ap, ◌∙◌, subst, arith, length-append}
+use Rattle.std.proofs.Common.{◌≡◌, ℕ, zero, suc, ◌+◌, ◌-◌, ◌≤◌, ◌<◌, ℤ, pos, Bool, true, false, not, ◌&&◌, nat_eq, nat_lt, if◌then◌else◌, ◌⊎◌, inl, inr, List, [], ◌∷◌, ◌++◌, length, take, drop, Option, Some, None, slice_get, slice_set, refl, sym, ap, ◌∙◌, subst, arith, length-append}
 use Rattle.std.proofs.lemmas.Bool.{ltb-true, ltb-false, eqb-true, and_parts, false≢true}
 use Rattle.std.proofs.lemmas.List.{length-set, get_or_past, set_past}
 use Rattle.arc_ast.specs.declared.tree.Sign.{Sign}
 use Rattle.arc_ast.specs.declared.tree.Sign.TheVariants as signs
-use Rattle.arc_spec.specs.declared.event.Fault.TheVariants.{Unrecognized, FieldClass}
-use Rattle.arc_spec.specs.Classes.{class_at, lookup, descends}
+use Rattle.arc_spec.specs.declared.event.Fault.TheVariants.{Unrecognized, FieldClass, Resurrected}
+use Rattle.arc_spec.specs.Classes.{class_at, lookup, descends, strong_count}
 use Rattle.arc_spec.specs.Number.{converted, applied, combined, byte_or_end, is_zero}
-use Rattle.arc_spec.specs.Objects.{Object, object_at, with_object, with_fields, new_object}
+use Rattle.arc_spec.specs.Objects.{Object, object_at, with_object, with_fields, with_strong_fields, is_emptying, new_object}
 use Rattle.arc_spec.specs.Resolved as resolved
 use Rattle.arc_spec.specs.declared.location.Location.{Location}
 use Rattle.arc_spec.specs.declared.location.Location.TheVariants.{Local, Global}
 use Rattle.arc_spec.specs.Resolved.{Piece}
-use Rattle.arc_spec.specs.Meaning.{Deeper, held_at, holds, chosen, temporaries_dropped, dispatched, finds, runs_found, class_in, sent_from, next_object, field_count, made, in_object, difference, formatted, byte_count, or_fault, assigned, all_dropped, variables_dropped}
+use Rattle.arc_spec.specs.Meaning.{Deeper, held_at, holds, chosen, temporaries_dropped, released, and_number, field_stores, dispatched, finds, runs_found, class_in, sent_from, next_object, field_count, made, in_object, difference, formatted, byte_count, or_fault, assigned, all_dropped, variables_dropped}
 use Rattle.arc_spec.specs.World as world
-use Rattle.arc_spec.specs.World.{World, Outcome, Done, Faulted, Cut, Finished, finished, then_do, prints, next_number, after_next, has_read, with_locals, with_objects, with_temporaries, local_at, name_at, first_locals, takes, stores}
-use Rattle.arc_spec.specs.Holding.{Held, Frame, is_there, on_field, count_of, with_field, with_names, named, raised, with_variables}
+use Rattle.arc_spec.specs.World.{World, Outcome, Done, Faulted, Cut, Finished, finished, then_do, Given, prints, next_number, after_next, has_read, with_locals, with_objects, with_temporaries, local_at, name_at, named_at, first_locals, first_names, with_strong_globals, takes, stores}
+use Rattle.arc_spec.specs.Holding.{Held, Frame, is_there, on_field, count_of, with_field, with_names, with_strong_field, on_place, lets_go, named, raised, with_variables}
 use Rattle.arc_spec.specs.Stepping.{Next, Goes, Faults, Reached, follow, fed, on_found}
 use Rattle.arc_ir.specs.declared.action.Target.{Target}
 use Rattle.arc_ir.specs.declared.action.Target.TheVariants.{Skip, Back, At}
-use Rattle.arc_ir.specs.Acting.{Program, State, lands, onward, goes, keeps, answers, taken, sends, allocates, releases}
+use Rattle.arc_ir.specs.Acting.{Program, State, lands, onward, goes, keeps, answers, taken, sends, allocates, ends_behind, releases}
 use Rattle.arc_ir.specs.Acting as acting
+use Rattle.arc_code.specs.Instructions as instructions
 use Rattle.arc_code.specs.declared.instr.Op.{Op}
-use Rattle.arc_code.specs.declared.instr.Op.TheVariants.{Num, Bin, Un, Narrow, Pop, Get, Set, GetChar, Nil, ReadSelf, ReadRef, Hold, Forget, Alloc, GetField, SetField, Differ, IsObject}
+use Rattle.arc_code.specs.declared.instr.Op.TheVariants.{Num, Bin, Un, Narrow, Pop, Get, Set, GetChar, Nil, ReadSelf, ReadRef, ReadGlobal, ReadField, Hold, Forget, Alloc, GetField, SetField, Differ, IsObject}
 use Rattle.arc_code.specs.declared.instr.Op.TheVariants as ops
-use Rattle.arc_code.specs.declared.instr.Instr.TheVariants.{Plain, Jump, JumpZero, Call, StoreStrong, DropAll}
+use Rattle.arc_code.specs.declared.instr.Instr.TheVariants.{Plain, Jump, JumpZero, Call, StoreStrong, StoreGlobal, StoreField, DropAll}
 use Rattle.arc_code.specs.Effects.{passes}
 use Rattle.arc_lower.specs.Order.{Order}
 use Rattle.arc_lower.specs.declared.frame.Turn.{Turn}
-use Rattle.arc_lower.specs.Lowered.{Message, ToClass, ToSuperClass, ToObject, ToSuper, message_order, Block, Idle, One, Load, Store, Read, Assign, Clear, Format, Calls, Tells, Then, Fork, Loop, Quit, Advance, Full, Leave, Entry, AtStep, AtTest, AtBody, enter_orders, enter_size, no_turn, Spot, Inside, Between, past, turn_at, body_spot, flat, print_orders, get_orders, set_orders, fit_orders, read_orders, store_orders, all_empty_orders, order_takes, number_of, slots_of, call_orders}
+use Rattle.arc_lower.specs.Lowered.{Message, ToClass, ToSuperClass, ToObject, ToSuper, message_order, Block, Idle, One, Load, Store, Read, Assign, AssignField, Clear, Format, Calls, Tells, Then, Fork, Loop, Quit, Advance, Full, Leave, Entry, AtStep, AtTest, AtBody, enter_orders, enter_size, no_turn, Spot, Inside, Between, past, turn_at, body_spot, flat, print_orders, get_orders, set_orders, read_orders, store_orders, all_empty_orders, order_takes, forget_orders, passing_orders, number_of, slots_of, parameters_of, call_orders}
 use Rattle.std.specs.List.{list_any}
 use Rattle.arc_lower.proofs.Leading.{Leads, leads_same, leads_trans, leads_step, Runs, leads_runs, later_runs, fewer_runs, ends_here, then_runs}
 use Rattle.arc_lower.proofs.Recounting.{fresh, recount, moves, at, held_of}
 use Rattle.arc_lower.proofs.Doing.{does, HasAt, has_front, has_back}
 use Rattle.arc_lower.proofs.Segments.{running, one_runs, quiet, quiet_runs, Passes, then_passes, one_passes, no_passes}
-use Rattle.arc_lower.proofs.Stacking.{onto, Peels, peels_onto, get_onto, get_local, set_local, get_below, set_below}
+use Rattle.arc_lower.proofs.Stacking.{onto, Peels, peels_onto, drop_onto, without_below, get_onto, get_local, set_local, get_below, set_below}
 use Rattle.arc_lower.proofs.Printing.{print_passes}
-use Rattle.arc_lower.proofs.Fitting.{fit_passes}
-use Rattle.arc_lower.proofs.Releasing.{Kept, Ends, Stays, object_runs, named_runs, emptied, empties, get_front, dropped_runs, no_variable, changes_runs, empties_run}
-use Rattle.arc_lower.proofs.Shaping.{Operands, push, name, Way, On, Out, Quits, Turns, Lost, left_by, on_way, and_then, only_on, after_turn, on_test, top_of, values_of, pushes, passes_by, operation, told, block_turns, loop_entered, block}
+use Rattle.arc_lower.proofs.Fitting.{forgets_shift, passing_leads}
+use Rattle.arc_lower.proofs.Releasing.{Kept, Ends, Stays, object_runs, there_runs, place_runs, named_runs, global_runs, strong_field_runs, emptied, empties, get_front, dropped_runs, no_variable, changes_runs, empties_run}
+use Rattle.arc_lower.proofs.Shaping.{Operands, push, name, Way, On, Out, Quits, Turns, Lost, left_by, on_way, and_then, only_on, after_turn, on_test, top_of, values_of, objects_of, on_given, pushes, passes_by, operation, told, block_turns, loop_entered, block}
 use Rattle.arc_lower.proofs.Quiet.{takes_none, quiet_flat}
 
 -- behind a call, with its value on top
@@ -49,25 +50,47 @@ abbrev pub Returns : (frames : List Frame) (rs : List ℕ) (pc : ℕ) (stack : L
 Returns frames rs pc stack before v w to = (to ≡ behind_call frames rs pc stack v w) × Kept before w
 
 -- what a message does by what it has found
-abbrev pub answered : Deeper → Option ℕ → (self : ℕ) → List ℤ → World → Outcome ℤ
+abbrev pub answered : Deeper → Option ℕ → (self : ℕ) → Given → World → Outcome ℤ
 answered D None self given w = Faulted Unrecognized w
 answered D (Some f) self given w = D.call f self given w
 
-dispatched_answers : (D : Deeper) (found : Option ℕ) (class : ℤ) (given : List ℤ) (w : World) → answered D found 0 (class ∷ given) w ≡ dispatched D found class given w
+dispatched_answers : (D : Deeper) (found : Option ℕ) (class : ℤ) (given : Given) (w : World) → answered D found 0 (and_number class given) w ≡ dispatched D found class given w
 dispatched_answers D None class given w = refl
 dispatched_answers D (Some f) class given w = refl
 
-found_answers : (D : Deeper) (found : Option ℕ) (self : ℕ) (given : List ℤ) (w : World) → answered D found self given w ≡ runs_found D found self given w
+found_answers : (D : Deeper) (found : Option ℕ) (self : ℕ) (given : Given) (w : World) → answered D found self given w ≡ runs_found D found self given w
 found_answers D None self given w = refl
 found_answers D (Some f) self given w = refl
 
 -- calls of functions, messages and ends of objects do what is meant, and classes are as they are meant
 pub record Deep (p : Program) (frames : List Frame) (bound : ℕ) (R : resolved.Program) (D : Deeper) : Type 0 where
-  pub invokes : (f : ℕ) (given stack : List ℤ) (rs : List ℕ) (w : World) (pc : ℕ) → HasAt p pc (Call (number_of R f) ∷ []) → Runs (moves p) bound (running frames rs pc (onto (first_locals (slots_of R f) given) stack) w) (Returns frames rs pc stack w) (D.call f 0 given w)
-  pub tells : (sign : Sign) (from : Option ℕ) (selector arguments self : ℕ) (given stack : List ℤ) (rs : List ℕ) (w : World) (pc : ℕ) → length given ≡ passes sign arguments → Runs (moves p) bound (follow (recount (answers (at frames pc (onto given stack) (held_of rs w)) self (lookup p.classes from sign selector arguments))) w.input w.trace) (Returns frames rs pc stack w) (answered D (lookup D.classes from sign selector arguments) self given w)
+  pub invokes : (f : ℕ) (given : Given) (stack : List ℤ) (rs : List ℕ) (w : World) (pc : ℕ) → HasAt p pc (Call (number_of R f) ∷ [])
+      → Runs (moves p) bound (running frames (onto (first_names (parameters_of R f) given.objects) rs) pc (onto (first_locals (slots_of R f) given.numbers) stack) w) (Returns frames rs pc stack w) (D.call f 0 given w)
+  pub tells : (sign : Sign) (from : Option ℕ) (selector arguments objects self : ℕ) (given : Given) (stack : List ℤ) (rs : List ℕ) (w : World) (pc : ℕ) → length given.numbers ≡ passes sign arguments → length given.objects ≡ objects
+      → Runs (moves p) bound (follow (recount (answers (at frames pc (onto given.numbers stack) (held_of (onto given.objects rs) w)) self (lookup p.classes from sign selector arguments objects))) w.input w.trace) (Returns frames rs pc stack w) (answered D (lookup D.classes from sign selector arguments objects) self given w)
   pub ends : Ends p frames bound D
   pub same_descent : (from : Option ℕ) (other : ℕ) → descends p.classes from other ≡ descends D.classes from other
   pub same_fields : (class : ℕ) → count_of (slice_get p.classes class) ≡ field_count (slice_get D.classes class)
+  pub same_strong : (class : ℕ) → strong_count (slice_get p.classes class) ≡ strong_count (slice_get D.classes class)
+
+pub found_name : (names : List ℕ) (i r : ℕ) → slice_get names i ≡ Some r → name_at names i ≡ r
+found_name [] i r e = cc
+found_name (q ∷ names) zero r e = cc
+found_name (q ∷ names) (suc i) r e = found_name names i r e
+
+pub past_end : (names : List ℕ) (i : ℕ) → slice_get names i ≡ None → length names ≤ i
+past_end [] i e = omega arith
+past_end (q ∷ names) zero e = absurd (some_none q e)
+  where
+    some_none : (r : ℕ) → Some r ≡ None → ⊥
+    some_none r f = cc
+past_end (q ∷ names) (suc i) e = omega (arith, past_end names i e)
+
+-- an object that is put in its own place
+pub same_put : (objects : List Object) (k : ℕ) (o : Object) → slice_get objects k ≡ Some o → slice_set objects k o ≡ objects
+same_put [] k o e = cc
+same_put (a ∷ objects) zero o e = let same : o ≡ a = cc in ap (λ x. x ∷ objects) same
+same_put (a ∷ objects) (suc k) o e = ap (λ l. a ∷ l) (same_put objects k o e)
 
 -- so many numbers are taken
 taken_peels : {S : Type 0} → (n : ℕ) (stack rest : List ℤ) (go : List ℤ → Next S) → Peels n stack rest → taken n stack go ≡ go rest
@@ -170,23 +193,26 @@ module _ (p : Program) (frames : List Frame) (bound : ℕ) (R : resolved.Program
   making turn calm None pc v s w free g = inr (leads_same (moves p) _ _ refl)
   making turn calm (Some class) pc v s w free g =
       let r = next_object w in
-      let with_new : (fields : ℕ) → World = λ fields. with_objects w (w.objects ++ new_object class fields ∷ []) in
-      let w1 = with_new (field_count (slice_get D.classes class)) in
+      let with_new : (fields strong : ℕ) → World = λ fields strong. with_objects w (w.objects ++ new_object class fields strong ∷ []) in
+      let w1 = with_new (field_count (slice_get D.classes class)) (strong_count (slice_get D.classes class)) in
       let good : Good calm w1 = (record { locals = g.0.locals; strong = g.0.strong; itself = g.0.itself; waits = g.0.waits }, g.1) in
-      subst (λ m. Goes_on turn calm (follow (Goes (state (pc + 1) (name r s) (takes r (with_new m))) []) w.input w.trace) (pc + 1) (Done (On (name r s)) (takes r w1))) (sym (deep.same_fields class)) (holding turn calm r (pc + 1) s w1 free good)
+      subst (λ m. Goes_on turn calm (follow (Goes (state (pc + 1) (name r s) (takes r (with_new m (strong_count (slice_get p.classes class))))) []) w.input w.trace) (pc + 1) (Done (On (name r s)) (takes r w1))) (sym (deep.same_fields class))
+      (subst (λ m. Goes_on turn calm (follow (Goes (state (pc + 1) (name r s) (takes r (with_new (field_count (slice_get D.classes class)) m))) []) w.input w.trace) (pc + 1) (Done (On (name r s)) (takes r w1))) (sym (deep.same_strong class)) (holding turn calm r (pc + 1) s w1 free good))
 
-  by_descent : (turn : Turn) (calm : Bool) (b : Bool) (pc : ℕ) (s : Operands) (w : World) (next : Next State) (go : Outcome ℤ) → Goes_on turn calm (next_of next w) pc (pushes s go) → Goes_on turn calm (next_of (if b then next else Faults FieldClass) w) pc (pushes s (if b then go else Faulted FieldClass w))
-  by_descent turn calm true pc s w next go h = h
-  by_descent turn calm false pc s w next go h = inr (leads_same (moves p) _ _ refl)
+  by_descent : {A : Type 0} (turn : Turn) (calm : Bool) (b : Bool) (pc : ℕ) (way : A → Way) (w : World) (next : Next State) (go : Outcome A) → Goes_on turn calm (next_of next w) pc (left_by way go) → Goes_on turn calm (next_of (if b then next else Faults FieldClass) w) pc (left_by way (if b then go else Faulted FieldClass w))
+  by_descent turn calm true pc way w next go h = h
+  by_descent turn calm false pc way w next go h = inr (leads_same (moves p) _ _ refl)
 
   -- a field of an object
-  field_runs : (turn : Turn) (calm : Bool) (class r pc : ℕ) (rs : List ℕ) (s : Operands) (w : World) (next : Object → Next State) (go : Object → Outcome ℤ) → ((o : Object) → Goes_on turn calm (next_of (next o) w) pc (pushes s (go o))) → Goes_on turn calm (next_of (on_field p.classes class r (held_of rs w) next) w) pc (pushes s (in_object D class (object_at w.objects r) go w))
-  field_runs turn calm class zero pc rs s w next go h = inr (leads_same (moves p) _ _ refl)
-  field_runs turn calm class (suc k) pc rs s w next go h =
-      let meant = pushes s (in_object D class (object_at w.objects (suc k)) go w) in
-      object_runs p bound w.input w.trace (Leaves turn calm pc) meant (object_at w.objects (suc k)) (λ o. if descends p.classes (Some o.class) class then next o else Faults FieldClass) (λ o found.
-      subst (λ f. Goes_on turn calm (next_of (if descends p.classes (Some o.class) class then next o else Faults FieldClass) w) pc (pushes s (in_object D class f go w))) (sym found)
-      (subst (λ b. Goes_on turn calm (next_of (if b then next o else Faults FieldClass) w) pc (pushes s (in_object D class (Some o) go w))) (sym (deep.same_descent (Some o.class) class)) (by_descent turn calm (descends D.classes (Some o.class) class) pc s w (next o) (go o) (h o))))
+  field_runs : {A : Type 0} (turn : Turn) (calm : Bool) (class r pc : ℕ) (rs : List ℕ) (way : A → Way) (w : World) (next : Object → Next State) (go : Object → Outcome A)
+      → ((k : ℕ) (o : Object) → r ≡ suc k → object_at w.objects (suc k) ≡ Some o → is_there o.phase ≡ true → Goes_on turn calm (next_of (next o) w) pc (left_by way (go o)))
+      → Goes_on turn calm (next_of (on_field p.classes class r (held_of rs w) next) w) pc (left_by way (in_object D class (object_at w.objects r) go w))
+  field_runs turn calm class zero pc rs way w next go h = inr (leads_same (moves p) _ _ refl)
+  field_runs turn calm class (suc k) pc rs way w next go h =
+      let meant = left_by way (in_object D class (object_at w.objects (suc k)) go w) in
+      there_runs p bound w.input w.trace (Leaves turn calm pc) meant (object_at w.objects (suc k)) (λ o. if descends p.classes (Some o.class) class then next o else Faults FieldClass) (λ o found there.
+      subst (λ f. Goes_on turn calm (next_of (if descends p.classes (Some o.class) class then next o else Faults FieldClass) w) pc (left_by way (in_object D class f go w))) (sym found)
+      (subst (λ b. Goes_on turn calm (next_of (if b then next o else Faults FieldClass) w) pc (left_by way (in_object D class (Some o) go w))) (sym (deep.same_descent (Some o.class) class)) (by_descent turn calm (descends D.classes (Some o.class) class) pc way w (next o) (go o) (h k o refl found there))))
 
   operation_runs : (turn : Turn) (calm : Bool) (o : Op) (pc : ℕ) (numbers : List ℤ) (rs : List ℕ) (w : World) → (calm ≡ true → takes_none (One o) ≡ true) → Good calm w → Goes_on turn calm (next_of (does p (Plain o) (state pc (record { numbers = numbers; names = rs }) w)) w) (pc + 1) (operation D o (record { numbers = numbers; names = rs }) w)
   operation_runs turn calm (Num n) pc numbers rs w free g = quietly turn calm (pc + 1) (push n (record { numbers = numbers; names = rs })) w g
@@ -207,6 +233,12 @@ module _ (p : Program) (frames : List Frame) (bound : ℕ) (R : resolved.Program
       let s : Operands = record { numbers = numbers; names = rs } in
       let r = w.frame.self in
       named_runs p bound w.input w.trace (Leaves turn calm (pc + 1)) (Done (On (name r s)) (takes r w)) r (named r (held_of rs w)) _ (holding turn calm r (pc + 1) s w free g)
+  operation_runs turn calm (ReadField class index) pc numbers [] w free g = lost turn calm _ (pc + 1) w
+  operation_runs turn calm (ReadField class index) pc numbers (r ∷ rs) w free g =
+      let s : Operands = record { numbers = numbers; names = rs } in
+      field_runs turn calm class r (pc + 1) (r ∷ rs) (λ v. On (name v s)) w _ _ (λ k o e found there.
+      let q = name_at o.strong index in
+      named_runs p bound w.input w.trace (Leaves turn calm (pc + 1)) (Done (On (name q s)) (takes q w)) q (held_of (q ∷ rs) w) _ (holding turn calm q (pc + 1) s w free g))
   operation_runs turn calm Hold pc numbers [] w free g = lost turn calm _ (pc + 1) w
   operation_runs turn calm Hold pc numbers (r ∷ rs) w free g =
       let s : Operands = record { numbers = numbers; names = rs } in
@@ -220,12 +252,12 @@ module _ (p : Program) (frames : List Frame) (bound : ℕ) (R : resolved.Program
   operation_runs turn calm (GetField class index) pc numbers [] w free g = lost turn calm _ (pc + 1) w
   operation_runs turn calm (GetField class index) pc numbers (r ∷ rs) w free g =
       let s : Operands = record { numbers = numbers; names = rs } in
-      field_runs turn calm class r (pc + 1) (r ∷ rs) s w _ _ (λ o. quietly turn calm (pc + 1) (push (Rattle.std.proofs.Common.slice_index_or o.fields index (pos 0)) s) w g)
+      field_runs turn calm class r (pc + 1) (r ∷ rs) (λ v. On (push v s)) w _ _ (λ k o e found there. quietly turn calm (pc + 1) (push (Rattle.std.proofs.Common.slice_index_or o.fields index (pos 0)) s) w g)
   operation_runs turn calm (SetField class index) pc numbers [] w free g = lost turn calm _ (pc + 1) w
   operation_runs turn calm (SetField class index) pc [] (r ∷ rs) w free g = lost turn calm _ (pc + 1) w
   operation_runs turn calm (SetField class index) pc (v ∷ numbers) (r ∷ rs) w free g =
       let s : Operands = record { numbers = numbers; names = rs } in
-      field_runs turn calm class r (pc + 1) (r ∷ rs) s w _ _ (λ o. quietly turn calm (pc + 1) (push v s) (with_objects w (with_object w.objects r (with_fields o (slice_set o.fields index v)))) (record { locals = g.0.locals; strong = g.0.strong; itself = g.0.itself; waits = g.0.waits }, g.1))
+      field_runs turn calm class r (pc + 1) (r ∷ rs) (λ v. On (push v s)) w _ _ (λ k o e found there. quietly turn calm (pc + 1) (push v s) (with_objects w (with_object w.objects r (with_fields o (slice_set o.fields index v)))) (record { locals = g.0.locals; strong = g.0.strong; itself = g.0.itself; waits = g.0.waits }, g.1))
   operation_runs turn calm Differ pc numbers [] w free g = lost turn calm _ (pc + 1) w
   operation_runs turn calm Differ pc numbers (y ∷ []) w free g = lost turn calm _ (pc + 1) w
   operation_runs turn calm Differ pc numbers (y ∷ x ∷ rs) w free g =
@@ -314,68 +346,118 @@ module _ (p : Program) (frames : List Frame) (bound : ℕ) (R : resolved.Program
   with_values turn calm from pc (suc n) given [] rs w stack go e h = lost turn calm from pc w
   with_values turn calm from pc (suc n) given (v ∷ numbers) rs w stack go e h = with_values turn calm from pc n (v ∷ given) numbers rs w stack go e (λ values rest f size. h values rest f (omega (arith, size)))
 
-  on_values_runs : (turn : Turn) (calm : Bool) (pc q n : ℕ) (s : Operands) (w : World) (go : List ℤ → Operands → Outcome Way) → ((values : List ℤ) (rest : Operands) → length values ≡ n → rest.names ≡ s.names → Goes_on turn calm (running frames rest.names pc (onto values (rest.numbers ++ vars w)) w) q (go values rest)) → Goes_on turn calm (standing pc s w) q (values_of n [] s.numbers s.names w go)
-  on_values_runs turn calm pc q n s w go h = with_values turn calm (standing pc s w) q n [] s.numbers s.names w (s.numbers ++ vars w) go refl (λ values rest e size.
-      subst (λ l. Goes_on turn calm (running frames s.names pc l w) q (go values (record { numbers = rest; names = s.names }))) (sym e) (h values (record { numbers = rest; names = s.names }) (omega (arith, size)) refl))
+  with_objects_of : (turn : Turn) (calm : Bool) (from : Reached State) (pc m : ℕ) (given names1 : List ℕ) (numbers : List ℤ) (w : World) (all : List ℕ) (go : List ℕ → Operands → Outcome Way) → all ≡ onto given names1 → ((objects rest : List ℕ) → all ≡ onto objects rest → length objects ≡ m + length given → Goes_on turn calm from pc (go objects (record { numbers = numbers; names = rest })))
+      → Goes_on turn calm from pc (objects_of m given names1 numbers w go)
+  with_objects_of turn calm from pc zero given names1 numbers w all go e h = h given names1 e (omega arith)
+  with_objects_of turn calm from pc (suc m) given [] numbers w all go e h = lost turn calm from pc w
+  with_objects_of turn calm from pc (suc m) given (r ∷ names1) numbers w all go e h = with_objects_of turn calm from pc m (r ∷ given) names1 numbers w all go e (λ objects rest f size. h objects rest f (omega (arith, size)))
 
-  format_runs : (turn : Turn) (calm : Bool) (pieces : List Piece) (pc : ℕ) (values : List ℤ) (s : Operands) (w : World) → Good calm w → HasAt p pc (print_orders pieces (length values)) → Goes_on turn calm (running frames s.names pc (onto values (s.numbers ++ vars w)) w) (pc + length (print_orders pieces (length values))) (Done (On (push (byte_count (formatted pieces values)) s)) (prints (formatted pieces values) w))
-  format_runs turn calm pieces pc values s w g has =
+  on_given_runs : (turn : Turn) (calm : Bool) (pc q n m : ℕ) (s : Operands) (w : World) (go : Given → Operands → Outcome Way) → ((given : Given) (rest : Operands) → length given.numbers ≡ n → length given.objects ≡ m → Goes_on turn calm (running frames (onto given.objects rest.names) pc (onto given.numbers (rest.numbers ++ vars w)) w) q (go given rest))
+      → Goes_on turn calm (standing pc s w) q (on_given n m s w go)
+  on_given_runs turn calm pc q n m s w go h = with_values turn calm (standing pc s w) q n [] s.numbers s.names w (s.numbers ++ vars w) _ refl (λ values numbers e size.
+      with_objects_of turn calm (standing pc s w) q m [] s.names numbers w s.names (λ objects others. go (record { numbers = values; objects = objects }) others) refl (λ objects rest f few.
+      subst (λ l. Goes_on turn calm (running frames s.names pc l w) q (go (record { numbers = values; objects = objects }) (record { numbers = numbers; names = rest }))) (sym e)
+      (subst (λ l. Goes_on turn calm (running frames l pc (onto values (numbers ++ vars w)) w) q (go (record { numbers = values; objects = objects }) (record { numbers = numbers; names = rest }))) (sym f)
+      (h (record { numbers = values; objects = objects }) (record { numbers = numbers; names = rest }) (omega (arith, size)) (omega (arith, few))))))
+
+  format_runs : (turn : Turn) (calm : Bool) (pieces : List Piece) (pc n m : ℕ) (given : Given) (s : Operands) (w : World) → length given.numbers ≡ n → length given.objects ≡ m → Good calm w → HasAt p pc (forget_orders m ++ print_orders pieces n)
+      → Goes_on turn calm (running frames (onto given.objects s.names) pc (onto given.numbers (s.numbers ++ vars w)) w) (pc + length (forget_orders m ++ print_orders pieces n)) (Done (On (push (byte_count (formatted pieces given.numbers)) s)) (prints (formatted pieces given.numbers) w))
+  format_runs turn calm pieces pc n m given s w e f g has =
+      let values = given.numbers in
       let w1 = prints (formatted pieces values) w in
       let s1 = push (byte_count (formatted pieces values)) s in
-      let q = pc + length (print_orders pieces (length values)) in
-      leads_runs (moves p) bound (running frames s.names pc (onto values (s.numbers ++ vars w)) w) (standing q s1 w1) (Leaves turn calm q) (Done (On s1) w1) (print_passes p frames bound s.names pieces values (s.numbers ++ vars w) w pc has) (here turn calm q s1 w1 (record { locals = g.0.locals; strong = g.0.strong; itself = g.0.itself; waits = g.0.waits }, g.1))
+      let xs = forget_orders m in
+      let ys = print_orders pieces n in
+      let stack = onto values (s.numbers ++ vars w) in
+      let middle = pc + length xs in
+      let q = middle + length ys in
+      let size : q ≡ pc + length (xs ++ ys) = omega (arith, length-append xs ys) in
+      let forgets = subst (λ k. HasAt p pc (forget_orders k) → Leads (moves p) (running frames (onto given.objects s.names) pc stack w) (running frames s.names (pc + length (forget_orders k)) stack w)) f
+      (forgets_shift p frames (length given.objects) (onto given.objects s.names) s.names stack w (peels_onto given.objects s.names) pc) (has_front p pc xs ys has) in
+      let printed = subst (λ k. HasAt p middle (print_orders pieces k) → Leads (moves p) (running frames s.names middle stack w) (standing (middle + length (print_orders pieces k)) s1 w1)) e
+      (print_passes p frames bound s.names pieces values (s.numbers ++ vars w) w middle) (has_back p pc xs ys has) in
+      subst (λ k. Goes_on turn calm (running frames (onto given.objects s.names) pc stack w) k (Done (On s1) w1)) size
+      (leads_runs (moves p) bound (running frames (onto given.objects s.names) pc stack w) (running frames s.names middle stack w) (Leaves turn calm q) (Done (On s1) w1) forgets
+      (leads_runs (moves p) bound (running frames s.names middle stack w) (standing q s1 w1) (Leaves turn calm q) (Done (On s1) w1) printed
+      (here turn calm q s1 w1 (record { locals = g.0.locals; strong = g.0.strong; itself = g.0.itself; waits = g.0.waits }, g.1))))
 
-  calls_run : (turn : Turn) (calm : Bool) (f pc : ℕ) (values : List ℤ) (s : Operands) (w : World) → Good calm w → HasAt p pc (call_orders R f (length values)) → Goes_on turn calm (running frames s.names pc (onto values (s.numbers ++ vars w)) w) (pc + length (call_orders R f (length values))) (pushes s (D.call f 0 values w))
-  calls_run turn calm f pc values s w g has =
+  calls_run : (turn : Turn) (calm : Bool) (f pc n m : ℕ) (given : Given) (s : Operands) (w : World) → length given.numbers ≡ n → length given.objects ≡ m → Good calm w → HasAt p pc (call_orders R f n m)
+      → Goes_on turn calm (running frames (onto given.objects s.names) pc (onto given.numbers (s.numbers ++ vars w)) w) (pc + length (call_orders R f n m)) (pushes s (D.call f 0 given w))
+  calls_run turn calm f pc n m given s w e1 e2 g has =
       let stack = s.numbers ++ vars w in
-      let fits = fit_orders (length values) (slots_of R f) in
+      let fits = passing_orders R f n m in
       let call : List Order = Call (number_of R f) ∷ [] in
       let q = pc + length fits in
       let e : q + 1 ≡ pc + length (fits ++ call) = omega (arith, length-append fits call) in
-      let from = running frames s.names q (onto (first_locals (slots_of R f) values) stack) w in
-      subst (λ n. Goes_on turn calm (running frames s.names pc (onto values stack) w) n (pushes s (D.call f 0 values w))) e
-      (leads_runs (moves p) bound (running frames s.names pc (onto values stack) w) from (Leaves turn calm (q + 1)) (pushes s (D.call f 0 values w)) (fit_passes p frames bound s.names (slots_of R f) values stack w pc (has_front p pc fits call has))
-      (returned turn calm q s w from (D.call f 0 values w) g (deep.invokes f values stack s.names w q (has_back p pc fits call has))))
+      let start = running frames (onto given.objects s.names) pc (onto given.numbers stack) w in
+      let from = running frames (onto (first_names (parameters_of R f) given.objects) s.names) q (onto (first_locals (slots_of R f) given.numbers) stack) w in
+      subst (λ k. Goes_on turn calm start k (pushes s (D.call f 0 given w))) e
+      (leads_runs (moves p) bound start from (Leaves turn calm (q + 1)) (pushes s (D.call f 0 given w)) (passing_leads p frames (slots_of R f) (parameters_of R f) n m given stack s.names w pc e1 e2 (has_front p pc fits call has))
+      (returned turn calm q s w from (D.call f 0 given w) g (deep.invokes f given stack s.names w q (has_back p pc fits call has))))
 
   -- ---- messages
 
-  to_class : (turn : Turn) (calm : Bool) (from : Option ℕ) (class : ℤ) (selector pc : ℕ) (values : List ℤ) (s : Operands) (w : World) (next : Next State) → Good calm w → next ≡ answers (at frames pc (onto values (class ∷ (s.numbers ++ vars w))) (held_of s.names w)) 0 (lookup p.classes from signs.Class selector (length values)) → Goes_on turn calm (next_of next w) (pc + 1) (pushes s (dispatched D (finds D from selector values) class values w))
-  to_class turn calm from class selector pc values s w next g e =
-      let found = lookup D.classes from signs.Class selector (length values) in
-      subst (λ n. Goes_on turn calm (next_of n w) (pc + 1) (pushes s (dispatched D found class values w))) (sym e)
-      (subst (λ o. Goes_on turn calm (next_of (answers (at frames pc (onto values (class ∷ (s.numbers ++ vars w))) (held_of s.names w)) 0 (lookup p.classes from signs.Class selector (length values))) w) (pc + 1) (pushes s o)) (dispatched_answers D found class values w)
-      (returned turn calm pc s w _ (answered D found 0 (class ∷ values) w) g (deep.tells signs.Class from selector (length values) 0 (class ∷ values) (s.numbers ++ vars w) s.names w pc refl)))
+  to_class : (turn : Turn) (calm : Bool) (from : Option ℕ) (class : ℤ) (selector pc : ℕ) (given : Given) (s : Operands) (w : World) (next : Next State) → Good calm w
+      → next ≡ answers (at frames pc (onto given.numbers (class ∷ (s.numbers ++ vars w))) (held_of (onto given.objects s.names) w)) 0 (lookup p.classes from signs.Class selector (length given.numbers) (length given.objects))
+      → Goes_on turn calm (next_of next w) (pc + 1) (pushes s (dispatched D (finds D from signs.Class selector given) class given w))
+  to_class turn calm from class selector pc given s w next g e =
+      let found = lookup D.classes from signs.Class selector (length given.numbers) (length given.objects) in
+      subst (λ n. Goes_on turn calm (next_of n w) (pc + 1) (pushes s (dispatched D found class given w))) (sym e)
+      (subst (λ o. Goes_on turn calm (next_of (answers (at frames pc (onto given.numbers (class ∷ (s.numbers ++ vars w))) (held_of (onto given.objects s.names) w)) 0 (lookup p.classes from signs.Class selector (length given.numbers) (length given.objects))) w) (pc + 1) (pushes s o)) (dispatched_answers D found class given w)
+      (returned turn calm pc s w _ (answered D found 0 (and_number class given) w) g (deep.tells signs.Class from selector (length given.numbers) (length given.objects) 0 (and_number class given) (s.numbers ++ vars w) s.names w pc refl refl)))
 
-  nil_runs : (turn : Turn) (calm : Bool) (pc : ℕ) (values : List ℤ) (before : List ℕ) (s : Operands) (w : World) → Good calm w → Goes_on turn calm (next_of (taken (length values) (onto values (s.numbers ++ vars w)) (λ rest. keeps (at frames pc (onto values (s.numbers ++ vars w)) (held_of before w)) (pos 0 ∷ rest) (with_names (held_of before w) s.names))) w) (pc + 1) (Done (On (push (pos 0) s)) w)
-  nil_runs turn calm pc values before s w g =
+  nil_runs : (turn : Turn) (calm : Bool) (pc : ℕ) (given : Given) (before : List ℕ) (s : Operands) (w : World) → Good calm w
+      → Goes_on turn calm (next_of (taken (length given.numbers) (onto given.numbers (s.numbers ++ vars w)) (λ rest. keeps (at frames pc (onto given.numbers (s.numbers ++ vars w)) (held_of before w)) (pos 0 ∷ rest) (with_names (held_of before w) (drop (length given.objects) (onto given.objects s.names))))) w) (pc + 1) (Done (On (push (pos 0) s)) w)
+  nil_runs turn calm pc given before s w g =
+      let values = given.numbers in
       let stack = onto values (s.numbers ++ vars w) in
-      let go : List ℤ → Next State = λ rest. keeps (at frames pc stack (held_of before w)) (pos 0 ∷ rest) (with_names (held_of before w) s.names) in
-      subst (λ n. Goes_on turn calm (next_of n w) (pc + 1) (Done (On (push (pos 0) s)) w)) (sym (taken_peels (length values) stack (s.numbers ++ vars w) go (peels_onto values (s.numbers ++ vars w)))) (quietly turn calm (pc + 1) (push (pos 0) s) w g)
+      let go : List ℕ → List ℤ → Next State = λ left rest. keeps (at frames pc stack (held_of before w)) (pos 0 ∷ rest) (with_names (held_of before w) left) in
+      subst (λ l. Goes_on turn calm (next_of (taken (length values) stack (go l)) w) (pc + 1) (Done (On (push (pos 0) s)) w)) (sym (drop_onto given.objects s.names))
+      (subst (λ n. Goes_on turn calm (next_of n w) (pc + 1) (Done (On (push (pos 0) s)) w)) (sym (taken_peels (length values) stack (s.numbers ++ vars w) (go s.names) (peels_onto values (s.numbers ++ vars w)))) (quietly turn calm (pc + 1) (push (pos 0) s) w g))
 
   -- a message to an object that is found, by the class from which its method is looked up
-  sends_run : (turn : Turn) (calm : Bool) (class_of : Object → ℕ) (from : Option ℕ) (selector self' pc : ℕ) (values : List ℤ) (before : List ℕ) (s : Operands) (w : World) → Good calm w → ((k : ℕ) (o : Object) → self' ≡ suc k → object_at w.objects (suc k) ≡ Some o → from ≡ Some (class_of o)) → Goes_on turn calm (next_of (sends p (at frames pc (onto values (s.numbers ++ vars w)) (held_of before w)) class_of self' selector (length values) s.names) w) (pc + 1) (pushes s (sent_from D from self' selector values w))
-  sends_run turn calm class_of from selector zero pc values before s w g same = nil_runs turn calm pc values before s w g
-  sends_run turn calm class_of from selector (suc k) pc values before s w g same =
-      let stack = onto values (s.numbers ++ vars w) in
-      let found : Option ℕ → Option ℕ = λ f. lookup D.classes f signs.Instance selector (length values) in
-      let meant : Option ℕ → Outcome Way = λ f. pushes s (runs_found D (found f) (suc k) values w) in
-      let next : Object → Next State = λ o. answers (at frames pc stack (with_names (held_of before w) s.names)) (suc k) (lookup p.classes (Some (class_of o)) signs.Instance selector (length values)) in
+  sends_run : (turn : Turn) (calm : Bool) (class_of : Object → ℕ) (from : Option ℕ) (selector self' pc : ℕ) (given : Given) (before : List ℕ) (s : Operands) (w : World) → Good calm w → ((k : ℕ) (o : Object) → self' ≡ suc k → object_at w.objects (suc k) ≡ Some o → from ≡ Some (class_of o))
+      → Goes_on turn calm (next_of (sends p (at frames pc (onto given.numbers (s.numbers ++ vars w)) (held_of before w)) class_of self' selector (length given.numbers) (length given.objects) (onto given.objects s.names)) w) (pc + 1) (pushes s (sent_from D from self' selector given w))
+  sends_run turn calm class_of from selector zero pc given before s w g same = nil_runs turn calm pc given before s w g
+  sends_run turn calm class_of from selector (suc k) pc given before s w g same =
+      let stack = onto given.numbers (s.numbers ++ vars w) in
+      let n = length given.numbers in
+      let m = length given.objects in
+      let found : Option ℕ → Option ℕ = λ f. lookup D.classes f signs.Instance selector n m in
+      let meant : Option ℕ → Outcome Way = λ f. pushes s (runs_found D (found f) (suc k) given w) in
+      let next : Object → Next State = λ o. answers (at frames pc stack (with_names (held_of before w) (onto given.objects s.names))) (suc k) (lookup p.classes (Some (class_of o)) signs.Instance selector n m) in
       object_runs p bound w.input w.trace (Leaves turn calm (pc + 1)) (meant from) (object_at w.objects (suc k)) next (λ o there.
       subst (λ f. Goes_on turn calm (next_of (next o) w) (pc + 1) (meant f)) (sym (same k o refl there))
-      (subst (λ o1. Goes_on turn calm (next_of (next o) w) (pc + 1) (pushes s o1)) (found_answers D (found (Some (class_of o))) (suc k) values w)
-      (returned turn calm pc s w (next_of (next o) w) (answered D (found (Some (class_of o))) (suc k) values w) g (deep.tells signs.Instance (Some (class_of o)) selector (length values) (suc k) values (s.numbers ++ vars w) s.names w pc refl))))
+      (subst (λ o1. Goes_on turn calm (next_of (next o) w) (pc + 1) (pushes s o1)) (found_answers D (found (Some (class_of o))) (suc k) given w)
+      (returned turn calm pc s w (next_of (next o) w) (answered D (found (Some (class_of o))) (suc k) given w) g (deep.tells signs.Instance (Some (class_of o)) selector n m (suc k) given (s.numbers ++ vars w) s.names w pc refl refl))))
 
-  tells_run : (turn : Turn) (calm : Bool) (message : Message) (pc : ℕ) (values : List ℤ) (numbers : List ℤ) (rs : List ℕ) (w : World) → Good calm w → Goes_on turn calm (next_of (does p (message_order message (length values)) (at frames pc (onto values (numbers ++ vars w)) (held_of rs w))) w) (pc + 1) (told D message values (record { numbers = numbers; names = rs }) w)
-  tells_run turn calm (ToClass selector) pc values [] rs w g = lost turn calm _ (pc + 1) w
-  tells_run turn calm (ToClass selector) pc values (class ∷ numbers) rs w g =
-      let st = at frames pc (onto values (class ∷ (numbers ++ vars w))) (held_of rs w) in
-      to_class turn calm (class_at class) class selector pc values (record { numbers = numbers; names = rs }) w _ g (ap (λ o. on_found o (λ v. answers st 0 (lookup p.classes (class_at v) signs.Class selector (length values)))) (get_onto values (numbers ++ vars w) class))
-  tells_run turn calm (ToSuperClass from selector) pc values [] rs w g = lost turn calm _ (pc + 1) w
-  tells_run turn calm (ToSuperClass from selector) pc values (class ∷ numbers) rs w g = to_class turn calm (Some from) class selector pc values (record { numbers = numbers; names = rs }) w _ g refl
-  tells_run turn calm (ToObject selector) pc values numbers [] w g = lost turn calm _ (pc + 1) w
-  tells_run turn calm (ToObject selector) pc values numbers (r ∷ rs) w g = sends_run turn calm (λ o. o.class) (class_in (object_at w.objects r)) selector r pc values (r ∷ rs) (record { numbers = numbers; names = rs }) w g (λ k o e found. ap (λ i. class_in (object_at w.objects i)) e ∙ ap class_in found)
-  tells_run turn calm (ToSuper from selector) pc values numbers [] w g = lost turn calm _ (pc + 1) w
-  tells_run turn calm (ToSuper from selector) pc values numbers (r ∷ rs) w g = sends_run turn calm (λ o. from) (Some from) selector r pc values (r ∷ rs) (record { numbers = numbers; names = rs }) w g (λ k o e found. refl)
+  -- what gets a message lies below its arguments
+  receiver_goes : (objects rest : List ℕ) (r : ℕ) (go : ℕ → List ℕ → Next State) → instructions.on_receiver (length objects) (onto objects (r ∷ rest)) go ≡ go r (onto objects rest)
+  receiver_goes objects rest r go =
+      ap (λ found. on_found found (λ q. go q (take (length objects) (onto objects (r ∷ rest)) ++ drop (suc (length objects)) (onto objects (r ∷ rest))))) (get_onto objects rest r)
+      ∙ ap (go r) (without_below objects rest r)
+
+  to_object : (turn : Turn) (calm : Bool) (class_of : Object → ℕ) (from : Option ℕ) (selector r pc : ℕ) (given : Given) (numbers : List ℤ) (rs : List ℕ) (w : World) → Good calm w → ((k : ℕ) (o : Object) → r ≡ suc k → object_at w.objects (suc k) ≡ Some o → from ≡ Some (class_of o))
+      → Goes_on turn calm (next_of (instructions.on_receiver (length given.objects) (onto given.objects (r ∷ rs)) (λ q rest. sends p (at frames pc (onto given.numbers (numbers ++ vars w)) (held_of (onto given.objects (r ∷ rs)) w)) class_of q selector (length given.numbers) (length given.objects) rest)) w) (pc + 1)
+      (pushes (record { numbers = numbers; names = rs }) (sent_from D from r selector given w))
+  to_object turn calm class_of from selector r pc given numbers rs w g same =
+      let st = at frames pc (onto given.numbers (numbers ++ vars w)) (held_of (onto given.objects (r ∷ rs)) w) in
+      subst (λ n. Goes_on turn calm (next_of n w) (pc + 1) (pushes (record { numbers = numbers; names = rs }) (sent_from D from r selector given w)))
+      (sym (receiver_goes given.objects rs r (λ q rest. sends p st class_of q selector (length given.numbers) (length given.objects) rest)))
+      (sends_run turn calm class_of from selector r pc given (onto given.objects (r ∷ rs)) (record { numbers = numbers; names = rs }) w g same)
+
+  tells_run : (turn : Turn) (calm : Bool) (message : Message) (pc : ℕ) (given : Given) (numbers : List ℤ) (rs : List ℕ) (w : World) → Good calm w
+      → Goes_on turn calm (next_of (does p (message_order message (length given.numbers) (length given.objects)) (at frames pc (onto given.numbers (numbers ++ vars w)) (held_of (onto given.objects rs) w))) w) (pc + 1) (told D message given (record { numbers = numbers; names = rs }) w)
+  tells_run turn calm (ToClass selector) pc given [] rs w g = lost turn calm _ (pc + 1) w
+  tells_run turn calm (ToClass selector) pc given (class ∷ numbers) rs w g =
+      let st = at frames pc (onto given.numbers (class ∷ (numbers ++ vars w))) (held_of (onto given.objects rs) w) in
+      to_class turn calm (class_at class) class selector pc given (record { numbers = numbers; names = rs }) w _ g (ap (λ o. on_found o (λ v. answers st 0 (lookup p.classes (class_at v) signs.Class selector (length given.numbers) (length given.objects)))) (get_onto given.numbers (numbers ++ vars w) class))
+  tells_run turn calm (ToSuperClass from selector) pc given [] rs w g = lost turn calm _ (pc + 1) w
+  tells_run turn calm (ToSuperClass from selector) pc given (class ∷ numbers) rs w g = to_class turn calm (Some from) class selector pc given (record { numbers = numbers; names = rs }) w _ g refl
+  tells_run turn calm (ToObject selector) pc given numbers [] w g = lost turn calm _ (pc + 1) w
+  tells_run turn calm (ToObject selector) pc given numbers (r ∷ rs) w g = to_object turn calm (λ o. o.class) (class_in (object_at w.objects r)) selector r pc given numbers rs w g (λ k o e found. ap (λ i. class_in (object_at w.objects i)) e ∙ ap class_in found)
+  tells_run turn calm (ToSuper from selector) pc given numbers [] w g = lost turn calm _ (pc + 1) w
+  tells_run turn calm (ToSuper from selector) pc given numbers (r ∷ rs) w g = to_object turn calm (λ o. from) (Some from) selector r pc given numbers rs w g (λ k o e found. refl)
 
   -- ---- variables that name objects
 
@@ -405,7 +487,7 @@ module _ (p : Program) (frames : List Frame) (bound : ℕ) (R : resolved.Program
   abbrev storing_orders : Bool → ℕ → List Order
   storing_orders b i = if b then StoreStrong i ∷ [] else []
 
-  assign_by : (calm : Bool) (b : Bool) (i r pc : ℕ) (s : Operands) (w : World) → nat_lt i (length w.frame.strong) ≡ b → HasAt p pc (storing_orders b i) → Runs (moves p) bound (running frames (r ∷ s.names) pc (s.numbers ++ vars w) w) (Stays frames (r ∷ s.names) (s.numbers ++ vars w) (pc + length (storing_orders b i)) (stores i r w)) (assigned D i r w)
+  assign_by : (calm : Bool) (b : Bool) (i r pc : ℕ) (s : Operands) (w : World) → nat_lt i (length w.frame.strong) ≡ b → HasAt p pc (storing_orders b i) → Runs (moves p) bound (running frames (r ∷ s.names) pc (s.numbers ++ vars w) w) (Stays frames (r ∷ s.names) (s.numbers ++ vars w) (pc + length (storing_orders b i)) (stores (Local i) r w)) (assigned D (Local i) r w)
   assign_by calm true i r pc s w e has =
       let rs = r ∷ s.names in
       let h = held_of rs w in
@@ -414,21 +496,84 @@ module _ (p : Program) (frames : List Frame) (bound : ℕ) (R : resolved.Program
       let old = name_at w.frame.strong i in
       let after = raised r (with_variables h (slice_set w.frame.strong i r)) in
       let found = get_front w.frame.strong i (ltb-true i (length w.frame.strong) e) in
-      let end = Stays frames rs stack (pc + 1) (stores i r w) in
-      one_runs p frames bound rs (StoreStrong i) pc stack w end (assigned D i r w) has
-      (subst (λ f. Runs (moves p) bound (next_of (on_found f (λ q. Rattle.arc_spec.specs.Holding.on_named r h (releases p st q after))) w) end (assigned D i r w)) (sym found)
-      (named_runs p bound w.input w.trace end (assigned D i r w) r h (releases p st old after) (changes_runs p frames bound rs D deep.ends i r old stack w pc found)))
+      let end = Stays frames rs stack (pc + 1) (stores (Local i) r w) in
+      one_runs p frames bound rs (StoreStrong i) pc stack w end (assigned D (Local i) r w) has
+      (subst (λ f. Runs (moves p) bound (next_of (on_found f (λ q. Rattle.arc_spec.specs.Holding.on_named r h (releases p st q after))) w) end (assigned D (Local i) r w)) (sym found)
+      (named_runs p bound w.input w.trace end (assigned D (Local i) r w) r h (releases p st old after) (changes_runs p frames bound rs D deep.ends i r old stack w pc found)))
   assign_by calm false i r pc s w e has = no_variable p frames bound (r ∷ s.names) D deep.ends i r (s.numbers ++ vars w) w pc (ltb-false i (length w.frame.strong) e)
 
-  stored_good : (calm : Bool) (i r : ℕ) (w : World) → Good calm w → Good calm (stores i r w)
-  stored_good calm i r w g = (record { locals = g.0.locals; strong = length-set w.frame.strong i r ∙ g.0.strong; itself = g.0.itself; waits = g.0.waits }, g.1)
+  -- a variable of the whole program takes this
+  assign_global : (i r pc : ℕ) (s : Operands) (w : World) → HasAt p pc (StoreGlobal i ∷ []) → Runs (moves p) bound (running frames (r ∷ s.names) pc (s.numbers ++ vars w) w) (Stays frames (r ∷ s.names) (s.numbers ++ vars w) (pc + 1) (stores (Global i) r w)) (assigned D (Global i) r w)
+  assign_global i r pc s w has =
+      let rs = r ∷ s.names in
+      let h = held_of rs w in
+      let stack = s.numbers ++ vars w in
+      let st = at frames pc stack h in
+      let after = raised r (Rattle.arc_spec.specs.Holding.with_strong_globals h (slice_set w.strong_globals i r)) in
+      let end = Stays frames rs stack (pc + 1) (stores (Global i) r w) in
+      let o = assigned D (Global i) r w in
+      one_runs p frames bound rs (StoreGlobal i) pc stack w end o has
+      (named_runs p bound w.input w.trace end o r h _ (place_runs p bound w.input w.trace end o (slice_get w.strong_globals i) (keeps st stack h) (λ old. releases p st old after)
+      (λ none.
+      let le = past_end w.strong_globals i none in
+      let same : slice_set w.strong_globals i r ≡ w.strong_globals = set_past w.strong_globals i r le in
+      let nil : name_at w.strong_globals i ≡ 0 = get_or_past w.strong_globals i 0 le in
+      let is : o ≡ Done finished w = ap (λ q. released D q (stores (Global i) r w)) nil ∙ ap (λ l. Done finished (with_strong_globals w l)) same in
+      subst (λ x. Runs (moves p) bound (next_of (keeps st stack h) w) end x) (sym is)
+      (quiet_runs p frames bound rs (pc + 1) stack w end (Done finished w) (ends_here (moves p) bound (running frames rs (pc + 1) stack w) end finished w (refl, record { frame = refl; waiting = refl }))))
+      (λ old found. subst (λ q. Runs (moves p) bound (next_of (releases p st old after) w) end (released D q (stores (Global i) r w))) (sym (found_name w.strong_globals i old found)) (global_runs p frames bound rs D deep.ends i r old stack w pc found))))
 
-  assign_runs : (turn : Turn) (calm : Bool) (i pc : ℕ) (numbers : List ℤ) (rs : List ℕ) (w : World) → Good calm w → HasAt p pc (store_orders names i) → Goes_on turn calm (standing pc (record { numbers = numbers; names = rs }) w) (pc + length (store_orders names i)) (block D bound false (Assign i) (record { numbers = numbers; names = rs }) w)
+  stored_good : (calm : Bool) (i : Location) (r : ℕ) (w : World) → Good calm w → Good calm (stores i r w)
+  stored_good calm (Local i) r w g = (record { locals = g.0.locals; strong = length-set w.frame.strong i r ∙ g.0.strong; itself = g.0.itself; waits = g.0.waits }, g.1)
+  stored_good calm (Global i) r w g = (record { locals = g.0.locals; strong = g.0.strong; itself = g.0.itself; waits = g.0.waits }, g.1)
+
+  assign_runs : (turn : Turn) (calm : Bool) (i : Location) (pc : ℕ) (numbers : List ℤ) (rs : List ℕ) (w : World) → Good calm w → HasAt p pc (store_orders names i) → Goes_on turn calm (standing pc (record { numbers = numbers; names = rs }) w) (pc + length (store_orders names i)) (block D bound false (Assign i) (record { numbers = numbers; names = rs }) w)
   assign_runs turn calm i pc numbers [] w g has = lost turn calm _ (pc + length (store_orders names i)) w
-  assign_runs turn calm i pc numbers (r ∷ rs) w g has =
+  assign_runs turn calm (Global i) pc numbers (r ∷ rs) w g has =
       let s : Operands = record { numbers = numbers; names = rs } in
-      let runs = subst (λ n. HasAt p pc (store_orders n i) → Runs (moves p) bound (running frames (r ∷ rs) pc (numbers ++ vars w) w) (Stays frames (r ∷ rs) (numbers ++ vars w) (pc + length (store_orders n i)) (stores i r w)) (assigned D i r w)) g.0.strong (assign_by calm (nat_lt i (length w.frame.strong)) i r pc s w refl) has in
-      stayed turn calm (pc + length (store_orders names i)) (pc + length (store_orders names i)) (name r s) w (stores i r w) (standing pc (name r s) w) (assigned D i r w) refl (stored_good calm i r w g) runs refl
+      stayed turn calm (pc + 1) (pc + 1) (name r s) w (stores (Global i) r w) (standing pc (name r s) w) (assigned D (Global i) r w) refl (stored_good calm (Global i) r w g) (assign_global i r pc s w has) refl
+  assign_runs turn calm (Local i) pc numbers (r ∷ rs) w g has =
+      let s : Operands = record { numbers = numbers; names = rs } in
+      let runs = subst (λ n. HasAt p pc (store_orders n (Local i)) → Runs (moves p) bound (running frames (r ∷ rs) pc (numbers ++ vars w) w) (Stays frames (r ∷ rs) (numbers ++ vars w) (pc + length (store_orders n (Local i))) (stores (Local i) r w)) (assigned D (Local i) r w)) g.0.strong (assign_by calm (nat_lt i (length w.frame.strong)) i r pc s w refl) has in
+      stayed turn calm (pc + length (store_orders names (Local i))) (pc + length (store_orders names (Local i))) (name r s) w (stores (Local i) r w) (standing pc (name r s) w) (assigned D (Local i) r w) refl (stored_good calm (Local i) r w g) runs refl
+
+  -- a field of an object takes this, unless its fields are being destroyed
+  field_stored : (turn : Turn) (calm : Bool) (b : Bool) (x r index pc : ℕ) (before : List ℕ) (s : Operands) (w : World) (k : ℕ) (o : Object) → x ≡ suc k → object_at w.objects (suc k) ≡ Some o → is_there o.phase ≡ true → Good calm w
+      → Goes_on turn calm (next_of (if b then Faults Resurrected else on_place (slice_get o.strong index) (keeps (at frames pc (s.numbers ++ vars w) (held_of before w)) (s.numbers ++ vars w) (held_of (r ∷ s.names) w)) (λ old. releases p (at frames pc (s.numbers ++ vars w) (held_of before w)) old (raised r (with_strong_field (held_of (r ∷ s.names) w) x o index r)))) w) (pc + 1)
+      (passes_by (name r s) (if b then Faulted Resurrected w else released D (name_at o.strong index) (field_stores x o index r w)))
+  field_stored turn calm true x r index pc before s w k o e found there g = inr (leads_same (moves p) _ _ refl)
+  field_stored turn calm false x r index pc before s w k o e found there g =
+      let rs = r ∷ s.names in
+      let stack = s.numbers ++ vars w in
+      let st = at frames pc stack (held_of before w) in
+      let meant : ℕ → Outcome Way = λ q. passes_by (name r s) (released D (name_at o.strong index) (field_stores q o index r w)) in
+      let end = Leaves turn calm (pc + 1) in
+      subst (λ q. Goes_on turn calm (next_of (on_place (slice_get o.strong index) (keeps st stack (held_of rs w)) (λ old. releases p st old (raised r (with_strong_field (held_of rs w) q o index r)))) w) (pc + 1) (meant q)) (sym e)
+      (place_runs p bound w.input w.trace end (meant (suc k)) (slice_get o.strong index) (keeps st stack (held_of rs w)) (λ old. releases p st old (raised r (with_strong_field (held_of rs w) (suc k) o index r)))
+      (λ none.
+      let le = past_end o.strong index none in
+      let same : slice_set o.strong index r ≡ o.strong = set_past o.strong index r le in
+      let nil : name_at o.strong index ≡ 0 = get_or_past o.strong index 0 le in
+      let is : released D (name_at o.strong index) (field_stores (suc k) o index r w) ≡ Done finished w =
+      ap (λ q. released D q (field_stores (suc k) o index r w)) nil ∙ ap (λ l. Done finished (with_objects w (slice_set w.objects k (with_strong_fields o l)))) same ∙ ap (λ l. Done finished (with_objects w l)) (same_put w.objects k o found) in
+      subst (λ m. Goes_on turn calm (next_of (keeps st stack (held_of rs w)) w) (pc + 1) (passes_by (name r s) m)) (sym is) (quietly turn calm (pc + 1) (name r s) w g))
+      (λ old named.
+      let w1 = field_stores (suc k) o index r w in
+      let good : Good calm w1 = (record { locals = g.0.locals; strong = g.0.strong; itself = g.0.itself; waits = g.0.waits }, g.1) in
+      subst (λ q. Goes_on turn calm (next_of (releases p st old (raised r (with_strong_field (held_of rs w) (suc k) o index r))) w) (pc + 1) (passes_by (name r s) (released D q w1))) (sym (found_name o.strong index old named))
+      (stayed turn calm (pc + 1) (pc + 1) (name r s) w w1 (next_of (releases p st old (raised r (with_strong_field (held_of rs w) (suc k) o index r))) w) (released D old w1) refl good (strong_field_runs p frames bound rs D deep.ends k o index r old (held_of before w) stack w pc found there named) refl)))
+
+  assign_field_runs : (turn : Turn) (calm : Bool) (class index pc : ℕ) (numbers : List ℤ) (rs : List ℕ) (w : World) → Good calm w → HasAt p pc (StoreField class index ∷ []) → Goes_on turn calm (standing pc (record { numbers = numbers; names = rs }) w) (pc + 1) (block D bound false (AssignField class index) (record { numbers = numbers; names = rs }) w)
+  assign_field_runs turn calm class index pc numbers [] w g has = lost turn calm _ (pc + 1) w
+  assign_field_runs turn calm class index pc numbers (r ∷ []) w g has = lost turn calm _ (pc + 1) w
+  assign_field_runs turn calm class index pc numbers (r ∷ x ∷ rs) w g has =
+      let s : Operands = record { numbers = numbers; names = rs } in
+      let before = r ∷ x ∷ rs in
+      let end = Leaves turn calm (pc + 1) in
+      let o = block D bound false (AssignField class index) (record { numbers = numbers; names = before }) w in
+      one_runs p frames bound before (StoreField class index) pc (numbers ++ vars w) w end o has
+      (named_runs p bound w.input w.trace end o r (held_of before w) _ (field_runs turn calm class x (pc + 1) before (λ _. On (name r s)) w _ _ (λ k ob e found there.
+      field_stored turn calm (is_emptying ob.phase) x r index pc before s w k ob e found there g)))
 
   empties_length : (first count : ℕ) (strong : List ℕ) → length (empties first count strong) ≡ length strong
   empties_length first zero strong = refl
@@ -619,9 +764,15 @@ module _ (p : Program) (frames : List Frame) (bound : ℕ) (R : resolved.Program
   store_runs turn calm depth i pc [] rs w g has = lost turn calm _ (pc + length (set_orders slots depth i)) w
   store_runs turn calm depth i pc (v ∷ numbers) rs w g has = store_by turn calm depth i pc v (record { numbers = numbers; names = rs }) w (nat_eq depth (length numbers)) refl g has
 
-  read_runs : (turn : Turn) (calm : Bool) (i pc : ℕ) (s : Operands) (w : World) → (calm ≡ true → false ≡ true) → Good calm w → HasAt p pc (read_orders names i) → Goes_on turn calm (standing pc s w) (pc + length (read_orders names i)) (Done (On (name (name_at w.frame.strong i) s)) (takes (name_at w.frame.strong i) w))
+  read_runs : (turn : Turn) (calm : Bool) (i : Location) (pc : ℕ) (s : Operands) (w : World) → (calm ≡ true → false ≡ true) → Good calm w → HasAt p pc (read_orders names i) → Goes_on turn calm (standing pc s w) (pc + length (read_orders names i)) (Done (On (name (named_at i w) s)) (takes (named_at i w) w))
   read_runs turn true i pc s w free g has = absurd (false≢true (free refl))
-  read_runs turn false i pc s w free g has = subst (λ n. HasAt p pc (read_orders n i) → Goes_on turn false (standing pc s w) (pc + length (read_orders n i)) (Done (On (name (name_at w.frame.strong i) s)) (takes (name_at w.frame.strong i) w))) g.0.strong (read_by turn (nat_lt i (length w.frame.strong)) i pc s w refl g) has
+  read_runs turn false (Global i) pc s w free g has =
+      let r = name_at w.strong_globals i in
+      let end = Leaves turn false (pc + 1) in
+      let o = Done (On (name r s)) (takes r w) in
+      one_runs p frames bound s.names (Plain (ReadGlobal i)) pc (s.numbers ++ vars w) w end o has
+      (named_runs p bound w.input w.trace end o r (named r (held_of s.names w)) _ (holding turn false r (pc + 1) s w (λ x. x) g))
+  read_runs turn false (Local i) pc s w free g has = subst (λ n. HasAt p pc (read_orders n (Local i)) → Goes_on turn false (standing pc s w) (pc + length (read_orders n (Local i))) (Done (On (name (name_at w.frame.strong i) s)) (takes (name_at w.frame.strong i) w))) g.0.strong (read_by turn (nat_lt i (length w.frame.strong)) i pc s w refl g) has
 
   -- temporaries are dropped, where some may be taken
   abbrev dropping : Bool → List Order
@@ -679,13 +830,15 @@ module _ (p : Program) (frames : List Frame) (bound : ℕ) (R : resolved.Program
   block_runs e turn calm m h (Read i) free pc stands s w g has = read_runs turn calm i pc s w free g has
   block_runs e turn calm m h (Assign i) free pc stands s w g has = assign_runs turn calm i pc s.numbers s.names w g has
   block_runs e turn calm m h (Clear first count) free pc stands s w g has = clear_runs turn calm first count pc s w g has
-  block_runs e turn calm m h (Format pieces n) free pc stands s w g has = on_values_runs turn calm pc (pc + length (print_orders pieces n)) n s w _ (λ values rest size same.
-      subst (λ k. HasAt p pc (print_orders pieces k) → Goes_on turn calm (running frames rest.names pc (onto values (rest.numbers ++ vars w)) w) (pc + length (print_orders pieces k)) (Done (On (push (byte_count (formatted pieces values)) rest)) (prints (formatted pieces values) w))) size (λ there. format_runs turn calm pieces pc values rest w g there) has)
-  block_runs e turn calm m h (Calls f n) free pc stands s w g has = on_values_runs turn calm pc (pc + length (call_orders R f n)) n s w _ (λ values rest size same.
-      subst (λ k. HasAt p pc (call_orders R f k) → Goes_on turn calm (running frames rest.names pc (onto values (rest.numbers ++ vars w)) w) (pc + length (call_orders R f k)) (pushes rest (D.call f 0 values w))) size (λ there. calls_run turn calm f pc values rest w g there) has)
-  block_runs e turn calm m h (Tells message n) free pc stands s w g has = on_values_runs turn calm pc (pc + 1) n s w _ (λ values rest size same.
-      one_runs p frames bound rest.names (message_order message n) pc (onto values (rest.numbers ++ vars w)) w (Leaves turn calm (pc + 1)) (told D message values rest w) has
-      (subst (λ k. Goes_on turn calm (next_of (does p (message_order message k) (at frames pc (onto values (rest.numbers ++ vars w)) (held_of rest.names w))) w) (pc + 1) (told D message values rest w)) size (tells_run turn calm message pc values rest.numbers rest.names w g)))
+  block_runs e turn calm m h (AssignField class index) free pc stands s w g has = assign_field_runs turn calm class index pc s.numbers s.names w g has
+  block_runs e turn calm m h (Format pieces n k) free pc stands s w g has = on_given_runs turn calm pc (pc + length (forget_orders k ++ print_orders pieces n)) n k s w (λ given rest. Done (On (push (byte_count (formatted pieces given.numbers)) rest)) (prints (formatted pieces given.numbers) w)) (λ given rest size few. format_runs turn calm pieces pc n k given rest w size few g has)
+  block_runs e turn calm m h (Calls f n k) free pc stands s w g has = on_given_runs turn calm pc (pc + length (call_orders R f n k)) n k s w (λ given rest. pushes rest (D.call f 0 given w)) (λ given rest size few. calls_run turn calm f pc n k given rest w size few g has)
+  block_runs e turn calm m h (Tells message n k) free pc stands s w g has = on_given_runs turn calm pc (pc + 1) n k s w (λ given rest. told D message given rest w) (λ given rest size few.
+      let names1 = onto given.objects rest.names in
+      let stack = onto given.numbers (rest.numbers ++ vars w) in
+      one_runs p frames bound names1 (message_order message n k) pc stack w (Leaves turn calm (pc + 1)) (told D message given rest w) has
+      (subst (λ q. Goes_on turn calm (next_of (does p (message_order message q k) (at frames pc stack (held_of names1 w))) w) (pc + 1) (told D message given rest w)) size
+      (subst (λ q. Goes_on turn calm (next_of (does p (message_order message (length given.numbers) q) (at frames pc stack (held_of names1 w))) w) (pc + 1) (told D message given rest w)) few (tells_run turn calm message pc given rest.numbers rest.names w g))))
   block_runs e turn calm m h (Then a b) free pc stands s w g has =
       let xs = actions e a in
       let ys = actions (past (length xs) e) b in

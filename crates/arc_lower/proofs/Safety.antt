@@ -1,37 +1,38 @@
 -- No action lacks what it takes, whatever is read, and the counts are right: what runs and what waits have as many numbers, references and places as the heights of a program say.
-use Rattle.std.proofs.Common.{◌≡◌, ◌⊎◌, inl, inr, ℕ, zero, suc, ◌+◌, ◌-◌, ◌<◌, ◌≤◌, ℤ, pos, Bool, true, false, ◌&&◌, nat_eq, if◌then◌else◌, List, [], ◌∷◌, ◌++◌, length, take, drop, Option, Some, None, ⊎_elim, refl, sym, ap, ◌∙◌, subst, arith, append_assoc, slice_get, slice_set, slice_index_or}
+use Rattle.std.proofs.Common.{◌≡◌, ◌⊎◌, inl, inr, ℕ, zero, suc, ◌+◌, ◌-◌, ◌<◌, ◌≤◌, ℤ, pos, Bool, true, false, ◌&&◌, nat_eq, if◌then◌else◌, List, [], ◌∷◌, ◌++◌, length, take, drop, Option, Some, None, ⊎_elim, refl, sym, ap, ◌∙◌, subst, arith, append_assoc, length-append, slice_get, slice_set, slice_index_or}
 use Rattle.std.proofs.Math.Seq.{take-append_seam, drop-append_seam}
 use Rattle.std.proofs.lemmas.Bool.{and_parts}
 use Rattle.std.proofs.lemmas.List.{length-set}
 use Rattle.std.specs.Fmt.{signed_decimal}
 use Rattle.arc_ast.specs.declared.tree.Sign.{Sign}
 use Rattle.arc_ast.specs.declared.tree.Sign.TheVariants as signs
-use Rattle.arc_spec.specs.Classes.{Class, class_at, lookup, descends}
+use Rattle.arc_spec.specs.Classes.{Class, class_at, lookup, descends, field_order}
+use Rattle.arc_spec.specs.World.{name_at}
 use Rattle.arc_spec.specs.declared.event.Fault.TheVariants.{FieldClass, Resurrected}
 use Rattle.arc_spec.specs.Meaning.{chosen}
 use Rattle.arc_spec.specs.Number.{converted, applied, combined, counted, low_byte, byte_or_end, is_zero}
-use Rattle.arc_spec.specs.Objects.{Object, Dying, Gone, object_at, with_object, with_fields, in_phase, is_live}
+use Rattle.arc_spec.specs.Objects.{Object, Dying, Emptying, Gone, object_at, with_object, with_fields, with_strong_fields, in_phase, is_live, is_emptying, fields_of}
 use Rattle.arc_spec.specs.Resolved as resolved
-use Rattle.arc_spec.specs.Holding.{Held, nothing_held, Frame, Calling, Ending, Waiter, Counted, holders, is_there, all_places, with_temporaries, with_variables, with_names, with_things, with_globals, lowered, raised, named, taken_by, gone_in, on_named, on_reference, on_field, declares, lets_go, resumed, all_nil, on_left, makes, with_field}
+use Rattle.arc_spec.specs.Holding.{Held, nothing_held, Frame, Calling, Ending, Clearing, Waiter, Counted, holders, is_there, stacked, with_strong_globals, with_strong_field, on_place, turned_in, with_temporaries, with_variables, with_names, with_things, with_globals, lowered, raised, named, taken_by, gone_in, on_named, on_reference, on_field, declares, lets_go, resumed, all_nil, on_left, makes, with_field}
 use Rattle.arc_spec.specs.Stepping.{Next, Goes, Asks, Ends, Faults, Stuck, Along, Safe, Sound, on_top, on_found, only_if}
-use Rattle.arc_ir.specs.Acting.{Action, Program, State, lands, start, step, entry, keeps, goes, or_fault, has_level, enters, answers, taken, sends, allocates, difference, operates, begins_end, releases, runs_dealloc, ends_class, end_goes_on, leaves, executes}
+use Rattle.arc_ir.specs.Acting.{Action, Program, State, lands, start, step, entry, keeps, goes, or_fault, has_level, enters, answers, taken, sends, allocates, difference, operates, begins_end, releases, runs_dealloc, clears, after_deallocs, clears_next, ends_class, end_goes_on, leaves, executes}
 use Rattle.arc_code.specs.declared.effect.Height.{Height}
 use Rattle.arc_code.specs.declared.instr.Op.{Op}
 use Rattle.arc_code.specs.declared.instr.Op.TheVariants as ops
-use Rattle.arc_code.specs.declared.instr.Op.TheVariants.{Num, Bin, Un, Narrow, Pop, Get, Set, PrintNum, PrintByte, GetChar, Declare, Nil, ReadSelf, ReadRef, Hold, Forget, Alloc, GetField, SetField, Differ, IsObject}
-use Rattle.arc_code.specs.declared.instr.Instr.TheVariants.{Plain, PrintText, Jump, JumpZero, Call, Send, SendSuper, SendTo, SendToSuper, StoreStrong, Empty, DropAll, Return, EndStep}
+use Rattle.arc_code.specs.declared.instr.Op.TheVariants.{Num, Bin, Un, Narrow, Pop, Get, Set, PrintNum, PrintByte, GetChar, Declare, Nil, ReadSelf, ReadRef, ReadGlobal, ReadField, Hold, Forget, Alloc, GetField, SetField, Differ, IsObject}
+use Rattle.arc_code.specs.declared.instr.Instr.TheVariants.{Plain, PrintText, Jump, JumpZero, Call, Send, SendSuper, SendTo, SendToSuper, StoreStrong, StoreGlobal, StoreField, Empty, DropAll, Return, EndStep}
 use Rattle.arc_code.specs.Effects.{passes}
 use Rattle.arc_code.specs.Instructions as instructions
 use Rattle.arc_lower.specs.Order.{Order, order, orders}
-use Rattle.arc_lower.specs.Lowered.{slots_of, entries_of, end_step_of, lowered as lowered_orders, classes_linked}
+use Rattle.arc_lower.specs.Lowered.{slots_of, parameters_of, entries_of, end_step_of, lowered as lowered_orders, classes_linked}
 use Rattle.arc_lower.specs.Heights.{height, next_height}
 use Rattle.arc_lower.proofs.CountsThere.{IsThere, AllThere, object_goes, named_goes, set_here}
-use Rattle.arc_lower.proofs.CountsKept.{Sane, Drops, nothing_sane, sane_moved, sane_names, sane_globals, sane_entered, sane_take, sane_declare, variable_there, waiting_there, sane_store, sane_drop, sane_nil, sane_last, sane_other, sane_make, sane_field, sane_gone}
-use Rattle.arc_lower.proofs.CountsHeld.{all_holders}
-use Rattle.arc_lower.proofs.CountsPlaces.{holders_head, holders_nil}
+use Rattle.arc_lower.proofs.CountsKept.{Sane, Drops, nothing_sane, sane_moved, sane_names, sane_globals, sane_start, sane_entered, sane_take, sane_declare, variable_there, waiting_there, stacked_there, globals_there, fields_there, name_there, sane_store, sane_store_global, sane_store_field, sane_drop, drops_there, sane_nil, sane_last, sane_other, sane_make, sane_field, sane_empty, sane_gone}
+use Rattle.arc_lower.proofs.CountsHeld.{all_holders, live_there, there_fields}
+use Rattle.arc_lower.proofs.CountsPlaces.{holders_head, holders_nil, holders_append}
 use Rattle.arc_lower.proofs.Recounting.{at}
 use Rattle.arc_lower.proofs.Doing.{bare, does, acts_does}
-use Rattle.arc_lower.proofs.Standing.{no_nil, ending, AllDying, IsDying, Alive, nil_alive, ending_alive, IsHeld, last_held, held_there, made_dying, changed_dying, IsApart, live_apart, apart_dying}
+use Rattle.arc_lower.proofs.Standing.{no_nil, ending, AllDying, IsDying, NilBut, Alive, nil_alive, ends_there, ending_alive, IsHeld, last_held, held_there, held_within, made_dying, changed_dying, IsApart, live_apart, apart_dying, stored_far, fields_far, one_nil, no_field, nil_named, all_in_order}
 use Rattle.arc_lower.proofs.Typing.{Reaches}
 use Rattle.arc_lower.proofs.Stepping.{some_same, Clears, opens_clears, Stands, Onward, Steps}
 use Rattle.arc_lower.proofs.Stepping as stepping
@@ -85,6 +86,33 @@ one_more q (suc k) temporaries h = omega (arith, holders_head (suc k) q temporar
 all_more : (q : ℕ) (own temporaries : List ℕ) → AllHeld own temporaries → AllHeld own (q ∷ temporaries)
 all_more q [] temporaries h = tt
 all_more q (r ∷ own) temporaries h = (one_more q r temporaries h.0, all_more q own temporaries h.1)
+
+all_within : (temporaries strong waiting own : List ℕ) → AllHeld own (temporaries ++ waiting) → AllHeld own ((temporaries ++ strong) ++ waiting)
+all_within temporaries strong waiting [] h = tt
+all_within temporaries strong waiting (r ∷ own) h = (held_within temporaries strong waiting r h.0, all_within temporaries strong waiting own h.1)
+
+held_first : (first rest temporaries : List ℕ) → AllHeld (first ++ rest) temporaries → AllHeld first temporaries
+held_first [] rest temporaries h = tt
+held_first (r ∷ first) rest temporaries h = (h.0, held_first first rest temporaries h.1)
+
+held_rest : (first rest temporaries : List ℕ) → AllHeld (first ++ rest) temporaries → AllHeld rest temporaries
+held_rest [] rest temporaries h = h
+held_rest (r ∷ first) rest temporaries h = held_rest first rest temporaries h.1
+
+-- so many references, and those below
+record Parted (n : ℕ) (own : List ℕ) : Type 0 where
+  first : List ℕ
+  rest : List ℕ
+  is : own ≡ first ++ rest
+  many : length first ≡ n
+  left : length own ≡ n + length rest
+
+parted : (n : ℕ) (own : List ℕ) → n ≤ length own → Parted n own
+parted zero own le = record { first = []; rest = own; is = refl; many = refl; left = omega arith }
+parted (suc n) [] le = absurd (omega (arith, le))
+parted (suc n) (r ∷ own) le =
+    let deep = parted n own (omega (arith, le)) in
+    record { first = r ∷ deep.first; rest = deep.rest; is = ap (λ l. r ∷ l) deep.is; many = ap suc deep.many; left = omega (arith, deep.left) }
 
 first_of : (own : List ℕ) → 1 ≤ length own → (r : ℕ) × (rest : List ℕ) × (own ≡ r ∷ rest)
 first_of [] some = absurd (omega (arith, some))
@@ -141,12 +169,12 @@ resumes_again w h s =
     ∙ ap (λ l. record h { temporaries = s.temporaries; variables = s.variables; self = w.self; places = l }) third
 
 -- the function that is left has no temporary, and its variables are nil
-again_sane : (w : Waiter) (h : Held) (s : Splits w h.places) → h.temporaries ≡ [] → AllNil h.variables → Sane h → Sane (again w s h)
+again_sane : {classes : List Class} (w : Waiter) (h : Held) (s : Splits w h.places) → h.temporaries ≡ [] → AllNil h.variables → Sane classes h → Sane classes (again w s h)
 again_sane w h s none nil sane = sane_moved h (again w s h) refl refl (λ k.
     let h1 = again w s h in
-    omega (arith, ap (holders (suc k)) s.is, all_holders (suc k) h1, all_holders (suc k) h, nil_holders k h.variables nil, ap (holders (suc k)) none)) sane
+    omega (arith, ap (holders (suc k)) s.is, holders_append (suc k) (s.temporaries ++ s.variables) s.waiting, holders_append (suc k) s.temporaries s.variables, all_holders (suc k) h1, all_holders (suc k) h, nil_holders k h.variables nil, ap (holders (suc k)) none)) sane
 
-left_sane : (h : Held) → h.temporaries ≡ [] → AllNil h.variables → Sane h → Sane (with_variables h [])
+left_sane : {classes : List Class} (h : Held) → h.temporaries ≡ [] → AllNil h.variables → Sane classes h → Sane classes (with_variables h [])
 left_sane h none nil sane = sane_moved h (with_variables h []) refl refl (λ k. omega (arith, all_holders (suc k) (with_variables h []), all_holders (suc k) h, nil_holders k h.variables nil)) sane
 
 module _ (p : Program) (R : resolved.Program) where
@@ -158,6 +186,16 @@ module _ (p : Program) (R : resolved.Program) where
 
   -- ---- what runs, and what waits
 
+  -- a function runs above none of whose fields are destroyed
+  abbrev Runs : List Frame → Type 0
+  Runs (Clearing back w o fields ∷ others) = ⊥
+  Runs _ = Unit {0}
+
+  abbrev pub IsEnding : List Frame → Type 0
+  IsEnding (Ending back w o next left ∷ others) = Unit {0}
+  IsEnding (Clearing back w o fields ∷ others) = Unit {0}
+  IsEnding _ = ⊥
+
   -- with so many numbers, these references and these places a function goes on at a place, above those that wait
   pub record Resumes (back self : ℕ) (others : List Frame) (numbers below : ℕ) (names deeper temporaries variables waiting : List ℕ) : Type 0 where
     high : Height
@@ -168,8 +206,17 @@ module _ (p : Program) (R : resolved.Program) where
     size : length own ≡ high.names
     few : length temporaries ≤ high.temporaries
     many : length variables ≡ high.variables
-    held : AllHeld own temporaries
+    held : AllHeld own (temporaries ++ waiting)
     nil : (k : ℕ) → Clear k back → NilFrom k variables
+    alive : Alive others waiting self
+    running : Runs others
+
+  -- the end of an object goes on, in which the end of another one began
+  pub record EndsAgain (back self : ℕ) (others : List Frame) (temporaries variables waiting : List ℕ) : Type 0 where
+    at_end : back ≡ p.end_step
+    is_ending : IsEnding others
+    none : temporaries ≡ []
+    empty : variables ≡ []
     alive : Alive others waiting self
 
   -- so many numbers, and these references and places, wait; a call gives a number, which isn't there yet
@@ -177,18 +224,18 @@ module _ (p : Program) (R : resolved.Program) where
   Waits [] n names places = Unit {0}
   Waits (Calling back w ∷ others) n names places =
       (below : ℕ) × (deeper : List ℕ) × (s : Splits w places) × Resumes back w.self others (n + 1) below names deeper s.temporaries s.variables s.waiting × Waits others below deeper s.waiting
-  Waits (Ending back w o next left ∷ others) n names places =
-      (below : ℕ) × (deeper : List ℕ) × (s : Splits w places) × Resumes back w.self others n below names deeper s.temporaries s.variables s.waiting × Waits others below deeper s.waiting × IsApart o (ending others)
+  Waits (Ending back w o next left ∷ others) n names places = IsApart o (ending others) × (s : Splits w places)
+      × (((below : ℕ) × (deeper : List ℕ) × Resumes back w.self others n below names deeper s.temporaries s.variables s.waiting × Waits others below deeper s.waiting)
+      ⊎ (EndsAgain back w.self others s.temporaries s.variables s.waiting × Waits others n names s.waiting))
+  Waits (Clearing back w o fields ∷ others) n names places = IsApart o (ending others) × (s : Splits w places)
+      × (((below : ℕ) × (deeper : List ℕ) × Resumes back w.self others n below names deeper s.temporaries s.variables s.waiting × Waits others below deeper s.waiting)
+      ⊎ (EndsAgain back w.self others s.temporaries s.variables s.waiting × Waits others n names s.waiting))
 
   pub record InFunction (s : State) : Type 0 where
     below : ℕ
     deeper : List ℕ
     resumes : Resumes s.at s.held.self s.frames (length s.stack) below s.held.names deeper s.held.temporaries s.held.variables s.held.places
     waits : Waits s.frames below deeper s.held.places
-
-  abbrev pub IsEnding : List Frame → Type 0
-  IsEnding (Ending back w o next left ∷ others) = Unit {0}
-  IsEnding _ = ⊥
 
   -- where the end of an object goes on
   pub record InEnd (s : State) : Type 0 where
@@ -200,7 +247,7 @@ module _ (p : Program) (R : resolved.Program) where
     waits : Waits s.frames (length s.stack) s.held.names s.held.places
 
   abbrev pub Good : State → Type 0
-  Good s = (InFunction s ⊎ InEnd s) × AllDying s.held.objects (ending s.frames) × Sane s.held
+  Good s = (InFunction s ⊎ InEnd s) × AllDying s.held.objects (ending s.frames) × Sane p.classes s.held
 
   abbrev Leads : Next State → Type 0
   Leads = Along Good
@@ -220,6 +267,21 @@ module _ (p : Program) (R : resolved.Program) where
   named_leads : (r : ℕ) (held : Held) (next : Next State) → IsThere held.objects r → Leads next → Leads (on_named r held next)
   named_leads r held next there h = subst Leads (sym (named_goes r held next there)) h
 
+  receiver_goes : (objects : ℕ) (given rest : List ℕ) (r : ℕ) (go : ℕ → List ℕ → Next State) → length given ≡ objects → instructions.on_receiver objects (given ++ r ∷ rest) go ≡ go r (given ++ rest)
+  receiver_goes objects given rest r go some =
+      ap (λ n. instructions.on_receiver n (given ++ r ∷ rest) go) (sym some)
+      ∙ ap (λ found. on_found found (λ q. go q (take (length given) (given ++ r ∷ rest) ++ drop (suc (length given)) (given ++ r ∷ rest)))) (receiver_found given rest r)
+      ∙ ap (λ l. go r (l ++ drop (suc (length given)) (given ++ r ∷ rest))) (take-append_seam given (r ∷ rest))
+      ∙ ap (λ l. go r (given ++ l)) (receiver_rest given rest r)
+    where
+      receiver_found : (xs ys : List ℕ) (q : ℕ) → slice_get (xs ++ q ∷ ys) (length xs) ≡ Some q
+      receiver_found [] ys q = refl
+      receiver_found (x ∷ xs) ys q = receiver_found xs ys q
+
+      receiver_rest : (xs ys : List ℕ) (q : ℕ) → drop (suc (length xs)) (xs ++ q ∷ ys) ≡ ys
+      receiver_rest [] ys q = refl
+      receiver_rest (x ∷ xs) ys q = receiver_rest xs ys q
+
   taken_leads : (takes : ℕ) (stack : List ℤ) (go : List ℤ → Next State) → takes ≤ length stack → ((rest : List ℤ) → length stack ≡ takes + length rest → Leads (go rest)) → Leads (taken takes stack go)
   taken_leads zero stack go le h = h stack (omega arith)
   taken_leads (suc takes) [] go le h = absurd (omega (arith, le))
@@ -236,6 +298,10 @@ module _ (p : Program) (R : resolved.Program) where
       subst Leads (sym (object_goes (object_at held.objects (suc j)) o (λ x. if descends p.classes (Some x.class) class then go x else Faults FieldClass) there.1 there.2))
       (if_leads (descends p.classes (Some o.class) class) (go o) (Faults FieldClass) (h j o refl there.1 there.2) tt)
 
+  place_leads : (found : Option ℕ) (none : Next State) (go : ℕ → Next State) → (found ≡ None → Leads none) → ((old : ℕ) → found ≡ Some old → Leads (go old)) → Leads (on_place found none go)
+  place_leads None none go h g = h refl
+  place_leads (Some old) none go h g = g old refl
+
   left_leads : (temporaries : List ℕ) (held : Held) (go : Held → Next State) → temporaries ≡ [] → AllNil held.variables → Leads (go (with_variables held [])) → Leads (on_left temporaries held go)
   left_leads [] held go none nil h = subst (λ b. Leads (only_if b (go (with_variables held [])))) (sym (nil_seen held.variables nil)) h
   left_leads (r ∷ others) held go none nil h = absurd (no_list none)
@@ -244,51 +310,80 @@ module _ (p : Program) (R : resolved.Program) where
       no_list e = cc
 
   -- a place that named this is dropped
-  lets_go_leads : (r : ℕ) (held : Held) (stays : Held → Next State) (ends : (o class : ℕ) → Held → Next State) → IsThere held.objects r → Drops r held → (Sane (lowered r held) → Leads (stays (lowered r held)))
+  lets_go_leads : (r : ℕ) (held : Held) (stays : Held → Next State) (ends : (o class : ℕ) → Held → Next State) → Drops p.classes r held → (Sane p.classes (lowered r held) → Leads (stays (lowered r held)))
       → ((k : ℕ) (ob : Object) → r ≡ suc k → object_at held.objects (suc k) ≡ Some ob → is_live (Some ob) ≡ true → Leads (ends (suc k) ob.class (with_things (lowered (suc k) held) (with_object held.objects (suc k) (in_phase Dying ob))))) → Leads (lets_go r held stays ends)
-  lets_go_leads zero held stays ends there drops h e = h (sane_nil held drops)
-  lets_go_leads (suc k) held stays ends there drops h e =
+  lets_go_leads zero held stays ends drops h e = h (sane_nil held drops)
+  lets_go_leads (suc k) held stays ends drops h e =
+      let there = drops_there (suc k) held drops in
       let ob = there.0 in
       let go : Object → Next State = λ x. if is_live (Some x) && nat_eq (held.counts (suc k)) 1 then ends (suc k) x.class (with_things (lowered (suc k) held) (with_object held.objects (suc k) (in_phase Dying x))) else stays (lowered (suc k) held) in
       subst Leads (sym (object_goes (object_at held.objects (suc k)) ob go there.1 there.2)) (by (is_live (Some ob) && nat_eq (held.counts (suc k)) 1) refl)
     where
+      there : IsThere held.objects (suc k)
+      there = drops_there (suc k) held drops
+
       by : (b : Bool) → (is_live (Some there.0) && nat_eq (held.counts (suc k)) 1) ≡ b → Leads (if b then ends (suc k) there.0.class (with_things (lowered (suc k) held) (with_object held.objects (suc k) (in_phase Dying there.0))) else stays (lowered (suc k) held))
       by true t = e k there.0 refl there.1 (and_parts (is_live (Some there.0)) (nat_eq (held.counts (suc k)) 1) t).0
       by false t = h (sane_other held k there.0 there.1 t drops)
 
   -- a function is left
-  leaves_lead : (frames : List Frame) (below : ℕ) (deeper : List ℕ) (pc : ℕ) (v : ℤ) (stack rest : List ℤ) (held : Held) → Waits frames below deeper held.places → Alive frames held.places held.self → length stack ≡ suc (length rest) → below ≡ length rest → held.names ≡ deeper → held.temporaries ≡ [] → AllNil held.variables → AllDying held.objects (ending frames) → Sane held
+  leaves_lead : (frames : List Frame) (below : ℕ) (deeper : List ℕ) (pc : ℕ) (v : ℤ) (stack rest : List ℤ) (held : Held) → Waits frames below deeper held.places → Alive frames held.places held.self → length stack ≡ suc (length rest) → below ≡ length rest → held.names ≡ deeper → held.temporaries ≡ [] → AllNil held.variables → AllDying held.objects (ending frames) → Sane p.classes held → Runs frames
       → Leads (leaves p (at frames pc stack held) frames v rest (with_variables held []))
-  leaves_lead [] below deeper pc v stack rest held waits alive size e f none nil dying sane = tt
-  leaves_lead (Calling back w ∷ others) below deeper pc v stack rest held waits alive size e f none nil dying sane =
+  leaves_lead [] below deeper pc v stack rest held waits alive size e f none nil dying sane running = tt
+  leaves_lead (Calling back w ∷ others) below deeper pc v stack rest held waits alive size e f none nil dying sane running =
       let h = with_variables held [] in
       let s = waits.2 in
       let more : below + 1 ≡ length stack = omega (arith, size, e) in
       let resumes = subst (λ l. Resumes back w.self others (length stack) waits.0 l waits.1 s.temporaries s.variables s.waiting) (sym f) (subst (λ n. Resumes back w.self others n waits.0 deeper waits.1 s.temporaries s.variables s.waiting) more waits.3) in
       subst (λ h1. Good (at others back stack h1)) (sym (resumes_again w h s))
       (inl (record { below = waits.0; deeper = waits.1; resumes = resumes; waits = waits.4 }), dying, again_sane w h s none tt (left_sane held none nil sane))
-  leaves_lead (Ending back w o next left ∷ others) below deeper pc v stack rest held waits alive size e f none nil dying sane =
+  leaves_lead (Ending back w o next left ∷ others) below deeper pc v stack rest held waits alive size e f none nil dying sane running =
       let frames = Ending back w o next left ∷ others in
       (inr (record { at_end = refl; is_ending = tt; none = none; empty = refl; alive = alive; waits = subst (λ l. Waits frames (length rest) l held.places) (sym f) (subst (λ n. Waits frames n deeper held.places) e waits) }), dying, left_sane held none nil sane)
+  leaves_lead (Clearing back w o fields ∷ others) below deeper pc v stack rest held waits alive size e f none nil dying sane running = absurd running
+
+  -- ---- ends that begin
+
+  abbrev waits_as : Held → Waiter
+  waits_as held = record { self = held.self; temporaries = length held.temporaries; variables = length held.variables }
+
+  abbrev splits_as : (held : Held) → Splits (waits_as held) (stacked held)
+  splits_as held = record { temporaries = held.temporaries; variables = held.variables; waiting = held.places; is = refl; first = refl; next = refl }
+
+  -- what was dropped ends, and what runs waits
+  begins_lead : (frames : List Frame) (b : Bool) (k to pc : ℕ) (ob : Object) (stack : List ℤ) (before held : Held) → object_at held.objects (suc k) ≡ Some ob → is_live (Some ob) ≡ true → AllDying held.objects (ending frames) → Drops p.classes (suc k) held
+      → (IsApart (suc k) (ending frames) → Waits (Ending to (waits_as held) (suc k) (Some ob.class) (length p.classes) ∷ frames) (length stack) held.names (stacked held))
+      → Leads (begins_end p (at frames pc stack before) to (suc k) ob.class (with_things (lowered (suc k) held) (with_object held.objects (suc k) (in_phase Dying ob))) b)
+  begins_lead frames false k to pc ob stack before held found live dying drops waits = tt
+  begins_lead frames true k to pc ob stack before held found live dying drops waits =
+      let objects = with_object held.objects (suc k) (in_phase Dying ob) in
+      let h1 = with_things (lowered (suc k) held) objects in
+      let begun : IsDying objects (suc k) None = (in_phase Dying ob, set_here held.objects k (in_phase Dying ob) ob found, refl) in
+      let apart = live_apart held.objects k ob (ending frames) found live dying in
+      let still : AllDying objects (ending frames) = apart_dying held.objects k (in_phase Dying ob) (ending frames) apart dying in (
+        inr (record { at_end = refl; is_ending = tt; none = refl; empty = refl; alive = ending_alive frames to (waits_as held) (suc k) (Some ob.class) (length p.classes) (stacked held); waits = waits apart }),
+        (begun, still),
+        sane_entered h1 (suc k) (sane_last held k ob found (live_there ob live) drops),
+      )
 
   -- ---- one step of a function
 
-  module _ (frames : List Frame) (below : ℕ) (deeper waiting : List ℕ) (self : ℕ) (alive : Alive frames waiting self) (waits : Waits frames below deeper waiting) where
+  module _ (frames : List Frame) (below : ℕ) (deeper waiting : List ℕ) (self : ℕ) (alive : Alive frames waiting self) (waits : Waits frames below deeper waiting) (running : Runs frames) where
     -- these are the references of the running function
     record Owns (own : List ℕ) (held : Held) : Type 0 where
       is : held.names ≡ own ++ deeper
       places : held.places ≡ waiting
       itself : held.self ≡ self
-      keeps : AllHeld own held.temporaries
+      keeps : AllHeld own (held.temporaries ++ waiting)
       dying : AllDying held.objects (ending frames)
-      sane : Sane held
+      sane : Sane p.classes held
 
     -- a function to which the run comes back
     abbrev Back : ℕ → ℕ → List ℕ → Held → Type 0
     Back to numbers names held = Resumes to self frames numbers below names deeper held.temporaries held.variables waiting
 
-    back : (to : ℕ) (h : Height) → Stands R (all R) (table R) to h → (numbers : ℕ) (own : List ℕ) (held : Held) → ((k : ℕ) → Clear k to → NilFrom k held.variables) → numbers ≡ h.numbers + below → length own ≡ h.names → length held.temporaries ≤ h.temporaries → length held.variables ≡ h.variables → AllHeld own held.temporaries → Back to numbers (own ++ deeper) held
-    back to h stands numbers own held nil count size few many keeps = record { high = h; stands = stands; count = count; own = own; is = refl; size = size; few = few; many = many; held = keeps; nil = nil; alive = alive }
+    back : (to : ℕ) (h : Height) → Stands R (all R) (table R) to h → (numbers : ℕ) (own : List ℕ) (held : Held) → ((k : ℕ) → Clear k to → NilFrom k held.variables) → numbers ≡ h.numbers + below → length own ≡ h.names → length held.temporaries ≤ h.temporaries → length held.variables ≡ h.variables → AllHeld own (held.temporaries ++ waiting) → Back to numbers (own ++ deeper) held
+    back to h stands numbers own held nil count size few many keeps = record { high = h; stands = stands; count = count; own = own; is = refl; size = size; few = few; many = many; held = keeps; nil = nil; alive = alive; running = running }
 
     goes_nil : (to : ℕ) (h : Height) → Goes_to to h → (variables : List ℕ) → length variables ≡ h.variables → (k : ℕ) → Clear k to → NilFrom k variables
     goes_nil to h g variables many k c = let le = g.1 k c in nil_from_end variables k (omega (arith, many, le))
@@ -308,54 +403,49 @@ module _ (p : Program) (R : resolved.Program) where
     go_on : (to : ℕ) (h : Height) → Goes_to to h → (stack : List ℤ) (held : Held) (own : List ℕ) → length stack ≡ h.numbers + below → length own ≡ h.names → length held.temporaries ≤ h.temporaries → length held.variables ≡ h.variables → Owns own held → Good (at frames to stack held)
     go_on to h g stack held own count size few many o = run_on to stack held own o (back to h g.0 (length stack) own held (goes_nil to h g held.variables many) count size few many o.keeps)
 
-    -- what a temporary holds is there
-    own_there : (own : List ℕ) (held : Held) → Owns own held → (r : ℕ) → IsHeld r held.temporaries → IsThere held.objects r
-    own_there own held o r h = held_there held.objects held.temporaries held.variables held.places r h o.sane.there
+    -- what is held is there
+    own_there : (own : List ℕ) (held : Held) → Owns own held → (r : ℕ) → IsHeld r (held.temporaries ++ waiting) → IsThere held.objects r
+    own_there own held o r h = held_there held.objects held.temporaries held.variables waiting r h
+        (subst (λ l. AllThere held.objects ((held.temporaries ++ held.variables) ++ l)) o.places (stacked_there held o.sane))
 
     -- ---- what begins the end of an object, or calls
 
-    begins_leads : (b : Bool) (k to pc : ℕ) (ob : Object) (stack : List ℤ) (before held : Held) → held.self ≡ self → held.places ≡ waiting → object_at held.objects (suc k) ≡ Some ob → is_live (Some ob) ≡ true → AllDying held.objects (ending frames) → Drops (suc k) held → Back to (length stack) held.names held → Leads (begins_end p (at frames pc stack before) to (suc k) ob.class (with_things (lowered (suc k) held) (with_object held.objects (suc k) (in_phase Dying ob))) b)
-    begins_leads false k to pc ob stack before held same there found live dying drops home = tt
-    begins_leads true k to pc ob stack before held same there found live dying drops home =
-        let objects = with_object held.objects (suc k) (in_phase Dying ob) in
-        let h1 = with_things (lowered (suc k) held) objects in
-        let begun : IsDying objects (suc k) = (in_phase Dying ob, set_here held.objects k (in_phase Dying ob) ob found, refl) in
-        let still : AllDying objects (ending frames) = changed_dying held.objects k (in_phase Dying ob) (ending frames) (λ _. refl) dying in
-        let apart = live_apart held.objects k ob (ending frames) found live dying in
-        let w : Waiter = record { self = held.self; temporaries = length held.temporaries; variables = length held.variables } in
-        let splits : Splits w (all_places held) = record { temporaries = held.temporaries; variables = held.variables; waiting = held.places; is = refl; first = refl; next = refl } in
-        let home1 = subst (λ l. Resumes to held.self frames (length stack) below held.names deeper held.temporaries held.variables l) (sym there) (subst (λ x. Resumes to x frames (length stack) below held.names deeper held.temporaries held.variables waiting) (sym same) home) in (
-          inr (record { at_end = refl; is_ending = tt; none = refl; empty = refl; alive = ending_alive frames to w (suc k) (Some ob.class) (length p.classes) (all_places held); waits = (below, deeper, splits, home1, subst (Waits frames below deeper) (sym there) waits, apart) }),
-          (begun, still),
-          sane_entered h1 (suc k) (sane_last held k ob found drops),
-        )
+    begins_leads : (b : Bool) (k to pc : ℕ) (ob : Object) (stack : List ℤ) (before held : Held) → held.self ≡ self → held.places ≡ waiting → object_at held.objects (suc k) ≡ Some ob → is_live (Some ob) ≡ true → AllDying held.objects (ending frames) → Drops p.classes (suc k) held → Back to (length stack) held.names held → Leads (begins_end p (at frames pc stack before) to (suc k) ob.class (with_things (lowered (suc k) held) (with_object held.objects (suc k) (in_phase Dying ob))) b)
+    begins_leads b k to pc ob stack before held same there found live dying drops home =
+        let w : Waiter = waits_as held in
+        let splits : Splits w (stacked held) = splits_as held in
+        let home1 = subst (λ l. Resumes to held.self frames (length stack) below held.names deeper held.temporaries held.variables l) (sym there) (subst (λ x. Resumes to x frames (length stack) below held.names deeper held.temporaries held.variables waiting) (sym same) home) in
+        begins_lead frames b k to pc ob stack before held found live dying drops (λ apart. (apart, splits, inl (below, deeper, home1, subst (Waits frames below deeper) (sym there) waits)))
 
     -- a place that named this names another, or nil
-    releases_lead : (r pc : ℕ) (stack : List ℤ) (before held : Held) (own : List ℕ) → held.names ≡ own ++ deeper → held.places ≡ waiting → held.self ≡ self → AllHeld own held.temporaries → IsThere held.objects r → AllDying held.objects (ending frames) → Drops r held → Back (pc + 1) (length stack) held.names held → Leads (releases p (at frames pc stack before) r held)
-    releases_lead r pc stack before held own is places same keeps there dying drops home = lets_go_leads r held _ _ there drops
+    releases_lead : (r pc : ℕ) (stack : List ℤ) (before held : Held) (own : List ℕ) → held.names ≡ own ++ deeper → held.places ≡ waiting → held.self ≡ self → AllHeld own (held.temporaries ++ waiting) → AllDying held.objects (ending frames) → Drops p.classes r held → Back (pc + 1) (length stack) held.names held → Leads (releases p (at frames pc stack before) r held)
+    releases_lead r pc stack before held own is places same keeps dying drops home = lets_go_leads r held _ _ drops
         (λ sane. run_on (pc + 1) stack (lowered r held) own (record { is = is; places = places; itself = same; keeps = keeps; dying = dying; sane = sane }) (subst (λ l. Resumes (pc + 1) self frames (length stack) below l deeper held.temporaries held.variables waiting) is home))
-        (λ k ob e found live. begins_leads (has_level (at frames pc stack before)) k (pc + 1) pc ob stack before held same places found live dying (subst (λ q. Drops q held) e drops) home)
+        (λ k ob e found live. begins_leads (has_level (at frames pc stack before)) k (pc + 1) pc ob stack before held same places found live dying (subst (λ q. Drops p.classes q held) e drops) home)
 
-    -- what is entered has so many numbers, which lie on the stack
-    enters_lead : (b : Bool) (to self1 passed pc : ℕ) (stack : List ℤ) (held : Held) → Goes_to to (height passed 0 0 0) → passed ≤ length stack → Alive frames (all_places held) self1 → held.self ≡ self → held.places ≡ waiting → AllDying held.objects (ending frames) → Sane held → Back (pc + 1) (length stack - passed + 1) held.names held → Leads (enters (at frames pc stack held) to self1 b)
-    enters_lead false to self1 passed pc stack held g le living same there dying sane home = tt
-    enters_lead true to self1 passed pc stack held g le living same there dying sane home =
-        let w : Waiter = record { self = held.self; temporaries = length held.temporaries; variables = length held.variables } in
-        let splits : Splits w (all_places held) = record { temporaries = held.temporaries; variables = held.variables; waiting = held.places; is = refl; first = refl; next = refl } in
-        let home1 = subst (λ l. Resumes (pc + 1) held.self frames (length stack - passed + 1) below held.names deeper held.temporaries held.variables l) (sym there) (subst (λ x. Resumes (pc + 1) x frames (length stack - passed + 1) below held.names deeper held.temporaries held.variables waiting) (sym same) home) in (
+    -- what is entered has so many numbers, which lie on the stack, and these references
+    enters_lead : (b : Bool) (to self1 passed pc : ℕ) (given rest : List ℕ) (stack : List ℤ) (held : Held) → Goes_to to (height passed (length given) 0 0) → passed ≤ length stack → held.names ≡ given ++ rest → AllHeld given (held.temporaries ++ waiting) → Alive frames (stacked held) self1 → held.self ≡ self → held.places ≡ waiting → AllDying held.objects (ending frames) → Sane p.classes held → Back (pc + 1) (length stack - passed + 1) rest held
+        → Leads (enters (at frames pc stack held) to self1 b)
+    enters_lead false to self1 passed pc given rest stack held g le is keeps living same there dying sane home = tt
+    enters_lead true to self1 passed pc given rest stack held g le is keeps living same there dying sane home =
+        let w : Waiter = waits_as held in
+        let splits : Splits w (stacked held) = splits_as held in
+        let home1 = subst (λ l. Resumes (pc + 1) held.self frames (length stack - passed + 1) below rest deeper held.temporaries held.variables l) (sym there) (subst (λ x. Resumes (pc + 1) x frames (length stack - passed + 1) below rest deeper held.temporaries held.variables waiting) (sym same) home) in
+        let held_there = subst (λ l. AllHeld given ((held.temporaries ++ held.variables) ++ l)) (sym there) (all_within held.temporaries held.variables waiting given keeps) in (
           inl (record {
             below = length stack - passed;
-            deeper = held.names;
-            resumes = record { high = height passed 0 0 0; stands = g.0; count = omega (arith, le); own = []; is = refl; size = refl; few = omega arith; many = refl; held = tt; nil = λ k c. nil_from_end [] k (omega arith); alive = living };
+            deeper = rest;
+            resumes = record { high = height passed (length given) 0 0; stands = g.0; count = omega (arith, le); own = given; is = is; size = refl; few = omega arith; many = refl; held = held_there; nil = λ k c. nil_from_end [] k (omega arith); alive = living; running = tt };
             waits = (below, deeper, splits, home1, subst (Waits frames below deeper) (sym there) waits);
           }),
           dying,
           sane_entered held self1 sane,
         )
 
-    answers_lead : (found : Option ℕ) (self1 passed pc : ℕ) (stack : List ℤ) (held : Held) → ((to : ℕ) → found ≡ Some to → Goes_to to (height passed 0 0 0)) → passed ≤ length stack → Alive frames (all_places held) self1 → held.self ≡ self → held.places ≡ waiting → AllDying held.objects (ending frames) → Sane held → Back (pc + 1) (length stack - passed + 1) held.names held → Leads (answers (at frames pc stack held) self1 found)
-    answers_lead None self1 passed pc stack held begins le living same there dying sane home = tt
-    answers_lead (Some to) self1 passed pc stack held begins le living same there dying sane home = enters_lead (has_level (at frames pc stack held)) to self1 passed pc stack held (begins to refl) le living same there dying sane home
+    answers_lead : (found : Option ℕ) (self1 passed pc : ℕ) (given rest : List ℕ) (stack : List ℤ) (held : Held) → ((to : ℕ) → found ≡ Some to → Goes_to to (height passed (length given) 0 0)) → passed ≤ length stack → held.names ≡ given ++ rest → AllHeld given (held.temporaries ++ waiting) → Alive frames (stacked held) self1 → held.self ≡ self → held.places ≡ waiting → AllDying held.objects (ending frames) → Sane p.classes held → Back (pc + 1) (length stack - passed + 1) rest held
+        → Leads (answers (at frames pc stack held) self1 found)
+    answers_lead None self1 passed pc given rest stack held begins le is keeps living same there dying sane home = tt
+    answers_lead (Some to) self1 passed pc given rest stack held begins le is keeps living same there dying sane home = enters_lead (has_level (at frames pc stack held)) to self1 passed pc given rest stack held (begins to refl) le is keeps living same there dying sane home
 
     -- the temporaries are dropped, where there is no reference
     drops_lead : (temporaries : List ℕ) (pc : ℕ) (h : Height) (stack : List ℤ) (before held : Held) → held.temporaries ≡ temporaries → Stands R (all R) (table R) pc h → Goes_to (pc + 1) (record h { temporaries = 0 }) → ((k : ℕ) → Clear k pc → NilFrom k held.variables) → length stack ≡ h.numbers + below → 0 ≡ h.names → length temporaries ≤ h.temporaries → length held.variables ≡ h.variables → Owns [] held
@@ -363,36 +453,35 @@ module _ (p : Program) (R : resolved.Program) where
     drops_lead [] pc h stack before held is stands g nil count size few many o = go_on (pc + 1) (record h { temporaries = 0 }) g stack held [] count size (let none = ap length is in omega (arith, none)) many o
     drops_lead (r ∷ others) pc h stack before held is stands g nil count size few many o =
         let held1 = with_temporaries held others in
-        let there = own_there [] held o r (subst (IsHeld r) (sym is) (last_held r others)) in
-        lets_go_leads r held1 _ _ there (sane_drop held r others is o.sane)
+        lets_go_leads r held1 _ _ (sane_drop held r others is o.sane)
         (λ sane. drops_lead others pc h stack before (lowered r held1) refl stands g nil count size (omega (arith, few)) many (record { is = o.is; places = o.places; itself = o.itself; keeps = tt; dying = o.dying; sane = sane }))
-        (λ k ob e found live. begins_leads (has_level (at frames pc stack before)) k pc pc ob stack before held1 o.itself o.places found live o.dying (subst (λ q. Drops q held1) e (sane_drop held r others is o.sane))
+        (λ k ob e found live. begins_leads (has_level (at frames pc stack before)) k pc pc ob stack before held1 o.itself o.places found live o.dying (subst (λ q. Drops p.classes q held1) e (sane_drop held r others is o.sane))
         (subst (λ l. Resumes pc self frames (length stack) below l deeper others held.variables waiting) (sym o.is) (back pc h stands (length stack) [] held1 nil count size (omega (arith, few)) many tt)))
 
     -- ---- one order
 
-    module _ (classes : p.classes ≡ classes_linked R) (calls : (f : ℕ) → f ≤ length R.functions → Goes_to (entry p f) (height (slots_of R f) 0 0 0)) (pc : ℕ) (h : Height) (stack : List ℤ) (held : Held) (own : List ℕ) (count : length stack ≡ h.numbers + below) (size : length own ≡ h.names) (few : length held.temporaries ≤ h.temporaries) (many : length held.variables ≡ h.variables) (o : Owns own held) where
+    module _ (classes : p.classes ≡ classes_linked R) (calls : (f : ℕ) → f ≤ length R.functions → Goes_to (entry p f) (height (slots_of R f) (parameters_of R f) 0 0)) (pc : ℕ) (h : Height) (stack : List ℤ) (held : Held) (own : List ℕ) (count : length stack ≡ h.numbers + below) (size : length own ≡ h.names) (few : length held.temporaries ≤ h.temporaries) (many : length held.variables ≡ h.variables) (o : Owns own held) where
       abbrev s : State
       s = at frames pc stack held
 
-      finds : (from : Option ℕ) (sign : Sign) (selector takes to : ℕ) → lookup p.classes from sign selector takes ≡ Some to → Goes_to to (height (passes sign takes) 0 0 0)
-      finds from sign selector takes to e = methods_go R from sign selector takes to (subst (λ cs. lookup cs from sign selector takes ≡ Some to) classes e)
+      finds : (from : Option ℕ) (sign : Sign) (selector takes objects to : ℕ) → lookup p.classes from sign selector takes objects ≡ Some to → Goes_to to (height (passes sign takes) objects 0 0)
+      finds from sign selector takes objects to e = methods_go R from sign selector takes objects to (subst (λ cs. lookup cs from sign selector takes objects ≡ Some to) classes e)
 
       self_there : IsThere held.objects held.self
-      self_there = subst (IsThere held.objects) (sym o.itself) (alive held.objects (subst (AllThere held.objects) o.places (waiting_there held o.sane)) o.dying)
+      self_there = subst (IsThere held.objects) (sym o.itself) (alive held.objects (subst (AllThere held.objects) o.places (waiting_there held o.sane)) (ends_there held.objects frames o.dying))
 
-      is_held : (r : ℕ) → IsHeld r held.temporaries → IsThere held.objects r
+      is_held : (r : ℕ) → IsHeld r (held.temporaries ++ waiting) → IsThere held.objects r
       is_held r e = own_there own held o r e
 
-      held_alive : (r : ℕ) → IsHeld r held.temporaries → Alive frames (all_places held) r
-      held_alive r e objects there dying = held_there objects held.temporaries held.variables held.places r e there
+      held_alive : (r : ℕ) → IsHeld r (held.temporaries ++ waiting) → Alive frames (stacked held) r
+      held_alive r e objects there ends = held_there objects held.temporaries held.variables waiting r e (subst (λ l. AllThere objects ((held.temporaries ++ held.variables) ++ l)) o.places there)
 
       -- the last reference, and the others
       top_is : (r : ℕ) (rest : List ℕ) → own ≡ r ∷ rest → held.names ≡ r ∷ (rest ++ deeper)
       top_is r rest e = o.is ∙ ap (λ l. l ++ deeper) e
 
-      keeps_of : (r : ℕ) (rest : List ℕ) → own ≡ r ∷ rest → IsHeld r held.temporaries × AllHeld rest held.temporaries
-      keeps_of r rest e = subst (λ l. AllHeld l held.temporaries) e o.keeps
+      keeps_of : (r : ℕ) (rest : List ℕ) → own ≡ r ∷ rest → IsHeld r (held.temporaries ++ waiting) × AllHeld rest (held.temporaries ++ waiting)
+      keeps_of r rest e = subst (λ l. AllHeld l (held.temporaries ++ waiting)) e o.keeps
 
       -- behind an operation that leaves the variables as they are
       next : (nil : (k : ℕ) → Clear k pc → NilFrom k held.variables) (g : Height) → Onward R (all R) (table R) pc (pc + 1) g → (stack1 : List ℤ) (held1 : Held) (own1 : List ℕ) → held1.variables ≡ held.variables → length stack1 ≡ g.numbers + below → length own1 ≡ g.names → length held1.temporaries ≤ g.temporaries → h.variables ≡ g.variables → Owns own1 held1 → Good (at frames (pc + 1) stack1 held1)
@@ -409,13 +498,13 @@ module _ (p : Program) (R : resolved.Program) where
         counts stack1 count1 a b c = next nil to g stack1 held own refl count1 (omega (arith, size, a)) (omega (arith, few, b)) (omega (arith, c)) o
 
         -- behind one that takes references
-        refers : (stack1 : List ℤ) (held1 : Held) (own1 : List ℕ) → held1.names ≡ own1 ++ deeper → held1.places ≡ held.places → held1.self ≡ held.self → held1.temporaries ≡ held.temporaries → held1.variables ≡ held.variables → AllHeld own1 held.temporaries → AllDying held1.objects (ending frames) → Sane held1 → length stack1 ≡ to.numbers + below → length own1 ≡ to.names → to.temporaries ≡ h.temporaries → to.variables ≡ h.variables → Good (at frames (pc + 1) stack1 held1)
+        refers : (stack1 : List ℤ) (held1 : Held) (own1 : List ℕ) → held1.names ≡ own1 ++ deeper → held1.places ≡ held.places → held1.self ≡ held.self → held1.temporaries ≡ held.temporaries → held1.variables ≡ held.variables → AllHeld own1 (held.temporaries ++ waiting) → AllDying held1.objects (ending frames) → Sane p.classes held1 → length stack1 ≡ to.numbers + below → length own1 ≡ to.names → to.temporaries ≡ h.temporaries → to.variables ≡ h.variables → Good (at frames (pc + 1) stack1 held1)
         refers stack1 held1 own1 is places itself temporaries variables keeps dying sane count1 size1 b c =
             let long = ap length temporaries in
-            next nil to g stack1 held1 own1 variables count1 size1 (omega (arith, few, b, long)) (omega (arith, c)) (record { is = is; places = places ∙ o.places; itself = itself ∙ o.itself; keeps = subst (AllHeld own1) (sym temporaries) keeps; dying = dying; sane = sane })
+            next nil to g stack1 held1 own1 variables count1 size1 (omega (arith, few, b, long)) (omega (arith, c)) (record { is = is; places = places ∙ o.places; itself = itself ∙ o.itself; keeps = subst (λ l. AllHeld own1 (l ++ waiting)) (sym temporaries) keeps; dying = dying; sane = sane })
 
         -- behind one by which a temporary takes an object, and with these references
-        takes : (r : ℕ) (names own1 : List ℕ) → names ≡ own1 ++ deeper → IsThere held.objects r → AllHeld own1 (r ∷ held.temporaries) → to.numbers ≡ h.numbers → length own1 ≡ to.names → to.temporaries ≡ h.temporaries + 1 → to.variables ≡ h.variables → Good (at frames (pc + 1) stack (taken_by r (with_names held names)))
+        takes : (r : ℕ) (names own1 : List ℕ) → names ≡ own1 ++ deeper → IsThere held.objects r → AllHeld own1 (r ∷ (held.temporaries ++ waiting)) → to.numbers ≡ h.numbers → length own1 ≡ to.names → to.temporaries ≡ h.temporaries + 1 → to.variables ≡ h.variables → Good (at frames (pc + 1) stack (taken_by r (with_names held names)))
         takes r names own1 is there keeps a size1 b c = next nil to g stack (taken_by r (with_names held names)) own1 refl (omega (arith, count, a)) size1 (omega (arith, few, b)) (omega (arith, c)) (record { is = is; places = o.places; itself = o.itself; keeps = keeps; dying = o.dying; sane = sane_take (with_names held names) r there (sane_names held names o.sane) })
 
       or_fault_leads : (v : Option ℤ) (rest : List ℤ) → ((x : ℤ) → Good (at frames (pc + 1) (x ∷ rest) held)) → Leads (or_fault v s rest)
@@ -427,13 +516,10 @@ module _ (p : Program) (R : resolved.Program) where
       made_leads nil (Some c) rest some g e =
           let r = suc (length held.objects) in
           next nil (next_height R (Plain Alloc) h) g rest (makes p.classes c held) (r ∷ own) refl (omega (arith, some, count, e)) (omega (arith, size)) (omega (arith, few)) (omega arith)
-          (record { is = ap (λ l. r ∷ l) o.is; places = o.places; itself = o.itself; keeps = (last_held r held.temporaries, all_more r own held.temporaries o.keeps); dying = made_dying held.objects _ (ending frames) o.dying; sane = sane_make p.classes held c o.sane })
+          (record { is = ap (λ l. r ∷ l) o.is; places = o.places; itself = o.itself; keeps = (last_held r (held.temporaries ++ waiting), all_more r own (held.temporaries ++ waiting) o.keeps); dying = made_dying held.objects _ (ending frames) o.dying; sane = sane_make held c o.sane })
 
       field_dies : (j : ℕ) (ob : Object) (fields : List ℤ) (r : ℕ) → r ≡ suc j → object_at held.objects (suc j) ≡ Some ob → AllDying (with_object held.objects r (with_fields ob fields)) (ending frames)
-      field_dies j ob fields r same found = subst (λ q. AllDying (with_object held.objects q (with_fields ob fields)) (ending frames)) (sym same) (changed_dying held.objects j (with_fields ob fields) (ending frames) (λ x. dies x.0 (sym x.1 ∙ found) x.2) o.dying)
-        where
-          dies : (x : Object) → Some x ≡ Some ob → x.phase ≡ Dying → ob.phase ≡ Dying
-          dies x e d = let alike : x ≡ ob = cc in subst (λ (y : Object). y.phase ≡ Dying) alike d
+      field_dies j ob fields r same found = subst (λ q. AllDying (with_object held.objects q (with_fields ob fields)) (ending frames)) (sym same) (changed_dying held.objects j (with_fields ob fields) (ending frames) (fields_far held.objects j ob fields found) o.dying)
 
       operation_leads : (x : Op) → slice_get (all R) pc ≡ Some (Plain x) → (nil : (k : ℕ) → Clear k pc → NilFrom k held.variables) → Reaches x h → Onward R (all R) (table R) pc (pc + 1) (next_height R (Plain x) h) → Leads (operates p.classes x s)
       operation_leads (Num n) is nil needs g = counts nil (Num n) g (n ∷ stack) (omega (arith, count)) (omega arith) (omega arith) (omega arith)
@@ -459,14 +545,26 @@ module _ (p : Program) (R : resolved.Program) where
       operation_leads Nil is nil needs g = refers nil Nil g stack (named 0 held) (0 ∷ own) (ap (λ l. 0 ∷ l) o.is) refl refl refl refl (tt, o.keeps) o.dying (sane_names held (0 ∷ held.names) o.sane) (omega (arith, count)) (omega (arith, size)) (omega arith) (omega arith)
       operation_leads ReadSelf is nil needs g =
           let r = held.self in
-          named_leads r _ _ self_there (takes nil ReadSelf g r (r ∷ held.names) (r ∷ own) (ap (λ l. r ∷ l) o.is) self_there (last_held r held.temporaries, all_more r own held.temporaries o.keeps) (omega arith) (omega (arith, size)) (omega arith) (omega arith))
+          named_leads r _ _ self_there (takes nil ReadSelf g r (r ∷ held.names) (r ∷ own) (ap (λ l. r ∷ l) o.is) self_there (last_held r (held.temporaries ++ waiting), all_more r own (held.temporaries ++ waiting) o.keeps) (omega arith) (omega (arith, size)) (omega arith) (omega arith))
       operation_leads (ReadRef i) is nil needs g = found_leads held.variables i _ (omega (arith, many, needs)) (λ r found.
           let there = variable_there held i r found o.sane in
-          named_leads r _ _ there (takes nil (ReadRef i) g r (r ∷ held.names) (r ∷ own) (ap (λ l. r ∷ l) o.is) there (last_held r held.temporaries, all_more r own held.temporaries o.keeps) (omega arith) (omega (arith, size)) (omega arith) (omega arith)))
+          named_leads r _ _ there (takes nil (ReadRef i) g r (r ∷ held.names) (r ∷ own) (ap (λ l. r ∷ l) o.is) there (last_held r (held.temporaries ++ waiting), all_more r own (held.temporaries ++ waiting) o.keeps) (omega arith) (omega (arith, size)) (omega arith) (omega arith)))
+      operation_leads (ReadGlobal i) is nil needs g =
+          let r = name_at held.strong_globals i in
+          let there = name_there held.objects held.strong_globals i (globals_there held o.sane) in
+          named_leads r _ _ there (takes nil (ReadGlobal i) g r (r ∷ held.names) (r ∷ own) (ap (λ l. r ∷ l) o.is) there (last_held r (held.temporaries ++ waiting), all_more r own (held.temporaries ++ waiting) o.keeps) (omega arith) (omega (arith, size)) (omega arith) (omega arith))
+      operation_leads (ReadField class index) is nil needs g =
+          let f = first_of own (omega (arith, needs, size)) in
+          let shorter = ap length f.2 in
+          let kept = keeps_of f.0 f.1 f.2 in
+          reference_leads f.0 held.names (f.1 ++ deeper) _ (top_is f.0 f.1 f.2) (field_leads class f.0 held _ (is_held f.0 kept.0) (λ j ob same found is_there_now.
+          let r = name_at ob.strong index in
+          let there = name_there held.objects ob.strong index (fields_there held j ob found is_there_now o.sane) in
+          named_leads r _ _ there (takes nil (ReadField class index) g r (r ∷ (f.1 ++ deeper)) (r ∷ f.1) refl there (last_held r (held.temporaries ++ waiting), all_more r f.1 (held.temporaries ++ waiting) kept.1) (omega arith) (omega (arith, size, needs, shorter)) (omega arith) (omega arith))))
       operation_leads Hold is nil needs g =
           let f = first_of own (omega (arith, needs, size)) in
           let there = is_held f.0 (keeps_of f.0 f.1 f.2).0 in
-          reference_leads f.0 held.names (f.1 ++ deeper) _ (top_is f.0 f.1 f.2) (named_leads f.0 held _ there (takes nil Hold g f.0 held.names own o.is there (all_more f.0 own held.temporaries o.keeps) (omega arith) (omega (arith, size, needs)) (omega arith) (omega arith)))
+          reference_leads f.0 held.names (f.1 ++ deeper) _ (top_is f.0 f.1 f.2) (named_leads f.0 held _ there (takes nil Hold g f.0 held.names own o.is there (all_more f.0 own (held.temporaries ++ waiting) o.keeps) (omega arith) (omega (arith, size, needs)) (omega arith) (omega arith)))
       operation_leads ops.Again is nil needs g =
           let f = first_of own (omega (arith, needs, size)) in
           reference_leads f.0 held.names (f.1 ++ deeper) _ (top_is f.0 f.1 f.2) (refers nil ops.Again g stack (named f.0 held) (f.0 ∷ own) (ap (λ l. f.0 ∷ l) o.is) refl refl refl refl ((keeps_of f.0 f.1 f.2).0, o.keeps) o.dying (sane_names held (f.0 ∷ held.names) o.sane) (omega (arith, count)) (omega (arith, size, needs)) (omega arith) (omega arith))
@@ -486,7 +584,7 @@ module _ (p : Program) (R : resolved.Program) where
           let shorter = ap length f.2 in
           reference_leads r held.names (f.1 ++ deeper) _ (top_is r f.1 f.2) (top_leads stack _ (omega (arith, count, needs.0)) (λ v rest e. field_leads class r held _ (is_held r (keeps_of r f.1 f.2).0) (λ j ob same found there.
           let fields = slice_set ob.fields index v in
-          let set : Sane (with_field held r ob index v) = subst (λ q. Sane (with_things held (with_object held.objects q (with_fields ob fields)))) (sym same) (sane_field held j ob fields found there o.sane) in
+          let set : Sane p.classes (with_field held r ob index v) = subst (λ q. Sane p.classes (with_things held (with_object held.objects q (with_fields ob fields)))) (sym same) (sane_field held j ob fields found there o.sane) in
           refers nil (SetField class index) g stack (with_names (with_field held r ob index v) (f.1 ++ deeper)) f.1 refl refl refl refl refl (keeps_of r f.1 f.2).1 (field_dies j ob fields r same found) (sane_names (with_field held r ob index v) (f.1 ++ deeper) set) (omega (arith, count, needs.0)) (omega (arith, size, shorter)) (omega arith) (omega arith))))
       operation_leads Differ is nil needs g =
           let f = first_of own (omega (arith, needs, size)) in
@@ -494,7 +592,7 @@ module _ (p : Program) (R : resolved.Program) where
           let q = first_of f.1 (omega (arith, needs, size, shorter)) in
           let least = ap length q.2 in
           let first = keeps_of f.0 f.1 f.2 in
-          let second = subst (λ l. AllHeld l held.temporaries) q.2 first.1 in
+          let second = subst (λ l. AllHeld l (held.temporaries ++ waiting)) q.2 first.1 in
           reference_leads f.0 held.names (f.1 ++ deeper) _ (top_is f.0 f.1 f.2) (reference_leads q.0 (f.1 ++ deeper) (q.1 ++ deeper) _ (ap (λ l. l ++ deeper) q.2)
           (named_leads f.0 held _ (is_held f.0 first.0) (named_leads q.0 held _ (is_held q.0 second.0)
           (refers nil Differ g (difference q.0 f.0 ∷ stack) (with_names held (q.1 ++ deeper)) q.1 refl refl refl refl refl second.1 o.dying (sane_names held (q.1 ++ deeper) o.sane) (omega (arith, count)) (omega (arith, size, shorter, least)) (omega arith) (omega arith)))))
@@ -506,34 +604,82 @@ module _ (p : Program) (R : resolved.Program) where
           (refers nil IsObject g (difference f.0 0 ∷ stack) (with_names held (f.1 ++ deeper)) f.1 refl refl refl refl refl first.1 o.dying (sane_names held (f.1 ++ deeper) o.sane) (omega (arith, count)) (omega (arith, size, shorter)) (omega arith) (omega arith)))
 
       -- where a call comes back, with these references
-      home : (x : Height) (passed : ℕ) (rest : List ℕ) → Goes_to (pc + 1) x → AllHeld rest held.temporaries → length stack - passed + 1 ≡ x.numbers + below → length rest ≡ x.names → x.temporaries ≡ h.temporaries → x.variables ≡ h.variables → Back (pc + 1) (length stack - passed + 1) (rest ++ deeper) held
+      home : (x : Height) (passed : ℕ) (rest : List ℕ) → Goes_to (pc + 1) x → AllHeld rest (held.temporaries ++ waiting) → length stack - passed + 1 ≡ x.numbers + below → length rest ≡ x.names → x.temporaries ≡ h.temporaries → x.variables ≡ h.variables → Back (pc + 1) (length stack - passed + 1) (rest ++ deeper) held
       home x passed rest g keeps count1 size1 b c = back (pc + 1) x g.0 (length stack - passed + 1) rest held (goes_nil (pc + 1) x g held.variables (omega (arith, many, c))) count1 size1 (omega (arith, few, b)) (omega (arith, many, c)) keeps
 
-      -- a message to the object of the last reference
-      told : (from : Object → ℕ) (r : ℕ) (rest : List ℕ) (selector takes : ℕ) (x : Height) → own ≡ r ∷ rest → takes ≤ h.numbers → Goes_to (pc + 1) x → x.numbers ≡ h.numbers - takes + 1 → x.names + 1 ≡ h.names → x.temporaries ≡ h.temporaries → x.variables ≡ h.variables → Leads (sends p s from r selector takes (rest ++ deeper))
-      told from zero rest selector takes x e le g a b c d =
+      -- a message to the object of the reference below its arguments
+      told : (from : Object → ℕ) (r : ℕ) (given rest : List ℕ) (selector takes objects : ℕ) (x : Height) → own ≡ given ++ r ∷ rest → length given ≡ objects → takes ≤ h.numbers → Goes_to (pc + 1) x → x.numbers ≡ h.numbers - takes + 1 → x.names + suc objects ≡ h.names → x.temporaries ≡ h.temporaries → x.variables ≡ h.variables
+          → Leads (sends p s from r selector takes objects (given ++ (rest ++ deeper)))
+      told from zero given rest selector takes objects x e some le g a b c d =
           let shorter = ap length e in
-          taken_leads takes stack _ (omega (arith, count, le)) (λ numbers m. go_on (pc + 1) x g (pos 0 ∷ numbers) (with_names held (rest ++ deeper)) rest (omega (arith, count, le, m, a)) (omega (arith, size, shorter, b)) (omega (arith, few, c)) (omega (arith, many, d))
-          (record { is = refl; places = o.places; itself = o.itself; keeps = (keeps_of zero rest e).1; dying = o.dying; sane = sane_names held (rest ++ deeper) o.sane }))
-      told from (suc j) rest selector takes x e le g a b c d =
+          let both = length-append given (zero ∷ rest) in
+          let kept = held_rest given (zero ∷ rest) (held.temporaries ++ waiting) (subst (λ l. AllHeld l (held.temporaries ++ waiting)) e o.keeps) in
+          let names_is : drop objects (given ++ (rest ++ deeper)) ≡ rest ++ deeper = ap (λ n. drop n (given ++ (rest ++ deeper))) (sym some) ∙ drop-append_seam given (rest ++ deeper) in
+          taken_leads takes stack _ (omega (arith, count, le)) (λ numbers m.
+          subst (λ l. Good (at frames (pc + 1) (pos 0 ∷ numbers) (with_names held l))) (sym names_is)
+          (go_on (pc + 1) x g (pos 0 ∷ numbers) (with_names held (rest ++ deeper)) rest (omega (arith, count, le, m, a)) (omega (arith, size, shorter, both, some, b)) (omega (arith, few, c)) (omega (arith, many, d))
+          (record { is = refl; places = o.places; itself = o.itself; keeps = kept.1; dying = o.dying; sane = sane_names held (rest ++ deeper) o.sane })))
+      told from (suc j) given rest selector takes objects x e some le g a b c d =
           let shorter = ap length e in
-          let first = keeps_of (suc j) rest e in
-          let there = is_held (suc j) first.0 in
-          let held1 = with_names held (rest ++ deeper) in
-          subst Leads (sym (object_goes (object_at held.objects (suc j)) there.0 (λ ob. answers (at frames pc stack held1) (suc j) (lookup p.classes (Some (from ob)) signs.Instance selector takes)) there.1 there.2))
-          (answers_lead (lookup p.classes (Some (from there.0)) signs.Instance selector takes) (suc j) takes pc stack held1 (finds (Some (from there.0)) signs.Instance selector takes) (omega (arith, count, le)) (held_alive (suc j) first.0) o.itself o.places o.dying (sane_names held (rest ++ deeper) o.sane)
-          (home x takes rest g first.1 (omega (arith, count, le, a)) (omega (arith, size, shorter, b)) c d))
+          let both = length-append given (suc j ∷ rest) in
+          let all_kept = subst (λ l. AllHeld l (held.temporaries ++ waiting)) e o.keeps in
+          let kept = held_rest given (suc j ∷ rest) (held.temporaries ++ waiting) all_kept in
+          let there = is_held (suc j) kept.0 in
+          let names1 = given ++ (rest ++ deeper) in
+          let held1 = with_names held names1 in
+          subst Leads (sym (object_goes (object_at held.objects (suc j)) there.0 (λ ob. answers (at frames pc stack held1) (suc j) (lookup p.classes (Some (from ob)) signs.Instance selector takes objects)) there.1 there.2))
+          (answers_lead (lookup p.classes (Some (from there.0)) signs.Instance selector takes objects) (suc j) takes pc given (rest ++ deeper) stack held1
+          (λ to f. subst (λ n. Goes_to to (height takes n 0 0)) (sym some) (finds (Some (from there.0)) signs.Instance selector takes objects to f))
+          (omega (arith, count, le)) refl (held_first given (suc j ∷ rest) (held.temporaries ++ waiting) all_kept) (held_alive (suc j) kept.0) o.itself o.places o.dying (sane_names held names1 o.sane)
+          (home x takes rest g kept.1 (omega (arith, count, le, a)) (omega (arith, size, shorter, both, some, b)) c d))
 
-      -- a call that takes no reference
-      own_home : (x : Height) (passed : ℕ) → Goes_to (pc + 1) x → length stack - passed + 1 ≡ x.numbers + below → x.names ≡ h.names → x.temporaries ≡ h.temporaries → x.variables ≡ h.variables → Back (pc + 1) (length stack - passed + 1) held.names held
-      own_home x passed g a b c d = subst (λ l. Back (pc + 1) (length stack - passed + 1) l held) (sym o.is) (home x passed own g o.keeps a (omega (arith, size, b)) c d)
+      -- a message to an object, with what gets it below its arguments
+      message_leads : (from : Object → ℕ) (selector takes objects : ℕ) (x : Height) → (takes ≤ h.numbers) × (suc objects ≤ h.names) → Goes_to (pc + 1) x → x.numbers ≡ h.numbers - takes + 1 → x.names ≡ h.names - suc objects → x.temporaries ≡ h.temporaries → x.variables ≡ h.variables
+          → Leads (instructions.on_receiver objects held.names (λ r rest. sends p s from r selector takes objects rest))
+      message_leads from selector takes objects x needs g a b c d =
+          let part = parted objects own (omega (arith, needs.1, size)) in
+          let f = first_of part.rest (omega (arith, needs.1, size, part.left)) in
+          let is : own ≡ part.first ++ f.0 ∷ f.1 = part.is ∙ ap (λ l. part.first ++ l) f.2 in
+          let names_is : held.names ≡ part.first ++ f.0 ∷ (f.1 ++ deeper) = o.is ∙ ap (λ l. l ++ deeper) is ∙ append_assoc part.first (f.0 ∷ f.1) deeper in
+          subst (λ l. Leads (instructions.on_receiver objects l (λ r rest. sends p s from r selector takes objects rest))) (sym names_is)
+          (subst Leads (sym (receiver_goes objects part.first (f.1 ++ deeper) f.0 (λ r rest. sends p s from r selector takes objects rest) part.many))
+          (told from f.0 part.first f.1 selector takes objects x is part.many needs.0 g a (omega (arith, b, needs.1)) c d))
 
-      class_told : (from : Option ℕ) (selector takes : ℕ) (x : Height) → suc takes ≤ h.numbers → Goes_to (pc + 1) x → x.numbers ≡ h.numbers - suc takes + 1 → x.names ≡ h.names → x.temporaries ≡ h.temporaries → x.variables ≡ h.variables → Leads (answers s 0 (lookup p.classes from signs.Class selector takes))
-      class_told from selector takes x le g a b c d = answers_lead (lookup p.classes from signs.Class selector takes) 0 (suc takes) pc stack held (finds from signs.Class selector takes) (omega (arith, count, le)) (nil_alive frames (all_places held)) o.itself o.places o.dying o.sane (own_home x (suc takes) g (omega (arith, count, le, a)) b c d)
+      -- a call that takes no reference below what it passes
+      own_home : (x : Height) (passed : ℕ) (given rest : List ℕ) → own ≡ given ++ rest → Goes_to (pc + 1) x → length stack - passed + 1 ≡ x.numbers + below → length rest ≡ x.names → x.temporaries ≡ h.temporaries → x.variables ≡ h.variables → Back (pc + 1) (length stack - passed + 1) (rest ++ deeper) held
+      own_home x passed given rest is g a b c d = home x passed rest g (held_rest given rest (held.temporaries ++ waiting) (subst (λ l. AllHeld l (held.temporaries ++ waiting)) is o.keeps)) a b c d
+
+      class_told : (from : Option ℕ) (selector takes objects : ℕ) (x : Height) → (suc takes ≤ h.numbers) × (objects ≤ h.names) → Goes_to (pc + 1) x → x.numbers ≡ h.numbers - suc takes + 1 → x.names ≡ h.names - objects → x.temporaries ≡ h.temporaries → x.variables ≡ h.variables
+          → Leads (answers s 0 (lookup p.classes from signs.Class selector takes objects))
+      class_told from selector takes objects x needs g a b c d =
+          let part = parted objects own (omega (arith, needs.1, size)) in
+          let names_is : held.names ≡ part.first ++ (part.rest ++ deeper) = o.is ∙ ap (λ l. l ++ deeper) part.is ∙ append_assoc part.first part.rest deeper in
+          answers_lead (lookup p.classes from signs.Class selector takes objects) 0 (suc takes) pc part.first (part.rest ++ deeper) stack held
+          (λ to f. subst (λ n. Goes_to to (height (suc takes) n 0 0)) (sym part.many) (finds from signs.Class selector takes objects to f))
+          (omega (arith, count, needs.0)) names_is (held_first part.first part.rest (held.temporaries ++ waiting) (subst (λ l. AllHeld l (held.temporaries ++ waiting)) part.is o.keeps)) (nil_alive frames (stacked held)) o.itself o.places o.dying o.sane
+          (own_home x (suc takes) part.first part.rest part.is g (omega (arith, count, needs.0, a)) (omega (arith, size, part.left, b)) c d)
 
       chosen_leads : (b : Bool) (x y : Next State) → Leads x → Leads y → Leads (chosen b x y)
       chosen_leads false x y f g = f
       chosen_leads true x y f g = g
+
+      -- a field of an object takes what a reference names
+      stored : (b : Bool) (j : ℕ) (ob : Object) {q : ℕ} → q ≡ suc j → object_at held.objects (suc j) ≡ Some ob → is_there ob.phase ≡ true → (index r : ℕ) → IsThere held.objects r → (own1 : List ℕ) → AllHeld own1 (held.temporaries ++ waiting) → (x : Height) → Goes_to (pc + 1) x
+          → length stack ≡ x.numbers + below → length own1 ≡ x.names → x.temporaries ≡ h.temporaries → x.variables ≡ h.variables → is_emptying ob.phase ≡ b
+          → Leads (if b then Faults Resurrected else on_place (slice_get ob.strong index) (keeps s stack (with_names held (own1 ++ deeper))) (λ old. releases p s old (raised r (with_strong_field (with_names held (own1 ++ deeper)) q ob index r))))
+      stored true j ob same found is_there_now index r there own1 kept x g a b c d e = tt
+      stored false j ob {q} same found is_there_now index r there own1 kept x g a b c d e =
+          let held1 = with_names held (own1 ++ deeper) in
+          let sane1 = sane_names held (own1 ++ deeper) o.sane in
+          place_leads (slice_get ob.strong index) _ _
+          (λ none. go_on (pc + 1) x g stack held1 own1 a b (omega (arith, few, c)) (omega (arith, many, d)) (record { is = refl; places = o.places; itself = o.itself; keeps = kept; dying = o.dying; sane = sane1 }))
+          (λ old named.
+          let strong = slice_set ob.strong index r in
+          let held2 = raised r (with_strong_field held1 (suc j) ob index r) in
+          let dying1 = changed_dying held.objects j (with_strong_fields ob strong) (ending frames) (stored_far held.objects j ob strong found e) o.dying in
+          subst (λ k. Leads (releases p s old (raised r (with_strong_field held1 k ob index r)))) (sym same)
+          (releases_lead old pc stack held held2 own1 refl o.places o.itself kept dying1 (sane_store_field held1 j ob index old r found is_there_now named there sane1)
+          (back (pc + 1) x g.0 (length stack) own1 held1 (goes_nil (pc + 1) x g held.variables (omega (arith, many, d))) a b (omega (arith, few, c)) (omega (arith, many, d)) kept)))
 
       order_leads : (x : Order) → slice_get (all R) pc ≡ Some x → Stands R (all R) (table R) pc h → (x ≡ EndStep → ⊥) → (nil : (k : ℕ) → Clear k pc → NilFrom k held.variables) → Steps R (all R) (table R) h pc x → Leads (does p x s)
       order_leads (Plain x) is stands no_end nil st = operation_leads x is nil st.0 st.1
@@ -542,15 +688,19 @@ module _ (p : Program) (R : resolved.Program) where
       order_leads (JumpZero to) is stands no_end nil st = top_leads stack _ (omega (arith, count, st.0)) (λ v rest e. chosen_leads (is_zero v) _ _
           (go_on (pc + 1) _ st.1 rest held own (omega (arith, count, st.0, e)) (omega (arith, size)) (omega (arith, few)) (omega (arith, many)) o)
           (go_on (lands pc to) _ st.2.2 rest held own (omega (arith, count, st.0, e)) (omega (arith, size)) (omega (arith, few, st.2.1)) (omega (arith, many)) o))
-      order_leads (Call f) is stands no_end nil st = enters_lead (has_level s) (entry p f) 0 (slots_of R f) pc stack held (calls f st.0.1) (omega (arith, count, st.0.0)) (nil_alive frames (all_places held)) o.itself o.places o.dying o.sane (own_home (next_height R (Call f) h) (slots_of R f) st.1 (omega (arith, count, st.0.0)) (omega arith) (omega arith) (omega arith))
-      order_leads (Send selector takes) is stands no_end nil st = found_leads stack takes _ (omega (arith, count, st.0)) (λ class _. class_told (class_at class) selector takes (next_height R (Send selector takes) h) st.0 st.1 (omega arith) (omega arith) (omega arith) (omega arith))
-      order_leads (SendSuper from selector takes) is stands no_end nil st = class_told (Some from) selector takes (next_height R (SendSuper from selector takes) h) st.0 st.1 (omega arith) (omega arith) (omega arith) (omega arith)
-      order_leads (SendTo selector takes) is stands no_end nil st =
-          let f = first_of own (omega (arith, st.0.1, size)) in
-          reference_leads f.0 held.names (f.1 ++ deeper) _ (top_is f.0 f.1 f.2) (told (λ ob. ob.class) f.0 f.1 selector takes (next_height R (SendTo selector takes) h) f.2 st.0.0 st.1 (omega arith) (omega (arith, st.0.1)) (omega arith) (omega arith))
-      order_leads (SendToSuper from selector takes) is stands no_end nil st =
-          let f = first_of own (omega (arith, st.0.1, size)) in
-          reference_leads f.0 held.names (f.1 ++ deeper) _ (top_is f.0 f.1 f.2) (told (λ ob. from) f.0 f.1 selector takes (next_height R (SendToSuper from selector takes) h) f.2 st.0.0 st.1 (omega arith) (omega (arith, st.0.1)) (omega arith) (omega arith))
+      order_leads (Call f) is stands no_end nil st =
+          let n = parameters_of R f in
+          let x = next_height R (Call f) h in
+          let part = parted n own (omega (arith, st.0.2, size)) in
+          let names_is : held.names ≡ part.first ++ (part.rest ++ deeper) = o.is ∙ ap (λ l. l ++ deeper) part.is ∙ append_assoc part.first part.rest deeper in
+          enters_lead (has_level s) (entry p f) 0 (slots_of R f) pc part.first (part.rest ++ deeper) stack held
+          (subst (λ m. Goes_to (entry p f) (height (slots_of R f) m 0 0)) (sym part.many) (calls f st.0.1))
+          (omega (arith, count, st.0.0)) names_is (held_first part.first part.rest (held.temporaries ++ waiting) (subst (λ l. AllHeld l (held.temporaries ++ waiting)) part.is o.keeps)) (nil_alive frames (stacked held)) o.itself o.places o.dying o.sane
+          (own_home x (slots_of R f) part.first part.rest part.is st.1 (omega (arith, count, st.0.0)) (omega (arith, size, part.left)) (omega arith) (omega arith))
+      order_leads (Send selector takes objects) is stands no_end nil st = found_leads stack takes _ (omega (arith, count, st.0.0)) (λ class _. class_told (class_at class) selector takes objects (next_height R (Send selector takes objects) h) st.0 st.1 (omega arith) (omega arith) (omega arith) (omega arith))
+      order_leads (SendSuper from selector takes objects) is stands no_end nil st = class_told (Some from) selector takes objects (next_height R (SendSuper from selector takes objects) h) st.0 st.1 (omega arith) (omega arith) (omega arith) (omega arith)
+      order_leads (SendTo selector takes objects) is stands no_end nil st = message_leads (λ ob. ob.class) selector takes objects (next_height R (SendTo selector takes objects) h) st.0 st.1 (omega arith) (omega arith) (omega arith) (omega arith)
+      order_leads (SendToSuper from selector takes objects) is stands no_end nil st = message_leads (λ ob. from) selector takes objects (next_height R (SendToSuper from selector takes objects) h) st.0 st.1 (omega arith) (omega arith) (omega arith) (omega arith)
       order_leads (StoreStrong i) is stands no_end nil st =
           let f = first_of own (omega (arith, st.0.0, size)) in
           let r = f.0 in
@@ -559,12 +709,40 @@ module _ (p : Program) (R : resolved.Program) where
           (let held1 = raised r (with_variables held (slice_set held.variables i r)) in
           let long = length-set held.variables i r in
           let every : length held1.variables ≡ (next_height R (StoreStrong i) h).variables = omega (arith, many, long) in
-          releases_lead old pc stack held held1 own o.is o.places o.itself o.keeps (variable_there held i old found o.sane) o.dying (sane_store held i old r found there o.sane)
+          releases_lead old pc stack held held1 own o.is o.places o.itself o.keeps o.dying (sane_store held i old r found there o.sane)
           (subst (λ l. Resumes (pc + 1) self frames (length stack) below l deeper held.temporaries held1.variables waiting) (sym o.is) (back (pc + 1) (next_height R (StoreStrong i) h) st.1.0 (length stack) own held1 (goes_nil (pc + 1) (next_height R (StoreStrong i) h) st.1 held1.variables every) (omega (arith, count)) (omega (arith, size, st.0.0)) (omega (arith, few)) every o.keeps)))))
+      order_leads (StoreGlobal i) is stands no_end nil st =
+          let f = first_of own (omega (arith, st.0, size)) in
+          let r = f.0 in
+          let there = is_held r (keeps_of r f.1 f.2).0 in
+          let x = next_height R (StoreGlobal i) h in
+          reference_leads r held.names (f.1 ++ deeper) _ (top_is r f.1 f.2) (named_leads r held _ there (place_leads (slice_get held.strong_globals i) _ _
+          (λ none. go_on (pc + 1) x st.1 stack held own (omega (arith, count)) (omega (arith, size, st.0)) (omega (arith, few)) (omega (arith, many)) o)
+          (λ old found.
+          let held1 = raised r (with_strong_globals held (slice_set held.strong_globals i r)) in
+          releases_lead old pc stack held held1 own o.is o.places o.itself o.keeps o.dying (sane_store_global held i old r found there o.sane)
+          (subst (λ l. Resumes (pc + 1) self frames (length stack) below l deeper held.temporaries held.variables waiting) (sym o.is) (back (pc + 1) x st.1.0 (length stack) own held (goes_nil (pc + 1) x st.1 held.variables (omega (arith, many))) (omega (arith, count)) (omega (arith, size, st.0)) (omega (arith, few)) (omega (arith, many)) o.keeps)))))
+      order_leads (StoreField class index) is stands no_end nil st =
+          let f = first_of own (omega (arith, st.0, size)) in
+          let r = f.0 in
+          let shorter = ap length f.2 in
+          let q = first_of f.1 (omega (arith, st.0, size, shorter)) in
+          let least = ap length q.2 in
+          let first = keeps_of r f.1 f.2 in
+          let second = subst (λ l. AllHeld l (held.temporaries ++ waiting)) q.2 first.1 in
+          let there = is_held r first.0 in
+          let x = next_height R (StoreField class index) h in
+          let names1 = r ∷ (q.1 ++ deeper) in
+          let own1 = r ∷ q.1 in
+          let kept : AllHeld own1 (held.temporaries ++ waiting) = (first.0, second.1) in
+          let held1 = with_names held names1 in
+          reference_leads r held.names (f.1 ++ deeper) _ (top_is r f.1 f.2) (reference_leads q.0 (f.1 ++ deeper) (q.1 ++ deeper) _ (ap (λ l. l ++ deeper) q.2)
+          (named_leads r held _ there (field_leads class q.0 held _ (is_held q.0 second.0) (λ j ob same found is_there_now.
+          stored (is_emptying ob.phase) j ob same found is_there_now index r there own1 kept x st.1 (omega (arith, count)) (omega (arith, size, st.0, shorter, least)) (omega arith) (omega arith) refl))))
       order_leads (Empty i) is stands no_end nil st = found_leads held.variables i _ (omega (arith, many, st.0)) (λ r found.
           let held1 = raised 0 (with_variables held (slice_set held.variables i 0)) in
           let long = length-set held.variables i 0 in
-          releases_lead r pc stack held held1 own o.is o.places o.itself o.keeps (variable_there held i r found o.sane) o.dying (sane_store held i r 0 found tt o.sane)
+          releases_lead r pc stack held held1 own o.is o.places o.itself o.keeps o.dying (sane_store held i r 0 found tt o.sane)
           (subst (λ l. Resumes (pc + 1) self frames (length stack) below l deeper held.temporaries held1.variables waiting) (sym o.is) (back (pc + 1) (next_height R (Empty i) h) st.1 (length stack) own held1 (λ k c. ⊎_elim (λ same. nil_from k (subst (λ j. Clear j (pc + 1)) same c) same) (λ le. nil_from_end held1.variables k (omega (arith, many, long, le))) (st.2 k c)) (omega (arith, count)) (omega (arith, size)) (omega (arith, few)) (omega (arith, many, long)) o.keeps)))
         where
           nil_from : (k : ℕ) → Clear i (pc + 1) → k ≡ i → NilFrom k (slice_set held.variables i 0)
@@ -576,35 +754,99 @@ module _ (p : Program) (R : resolved.Program) where
           let none = none_of held.temporaries (omega (arith, few, st.2)) in
           let empty = nil 0 (0, is) in
           top_leads stack _ (omega (arith, count, st.0)) (λ v rest e. left_leads held.temporaries held _ none empty
-          (leaves_lead frames below deeper pc v stack rest held (subst (Waits frames below deeper) (sym o.places) waits) (subst (λ l. Alive frames l held.self) (sym o.places) (subst (Alive frames waiting) (sym o.itself) alive)) e (omega (arith, count, st.0, e)) (o.is ∙ ap (λ l. l ++ deeper) (none_of own (omega (arith, size, st.1)))) none empty o.dying o.sane))
+          (leaves_lead frames below deeper pc v stack rest held (subst (Waits frames below deeper) (sym o.places) waits) (subst (λ l. Alive frames l held.self) (sym o.places) (subst (Alive frames waiting) (sym o.itself) alive)) e (omega (arith, count, st.0, e)) (o.is ∙ ap (λ l. l ++ deeper) (none_of own (omega (arith, size, st.1)))) none empty o.dying o.sane running))
       order_leads EndStep is stands no_end nil st = absurd (no_end refl)
 
   -- ---- the end of an object
 
-  module _ (classes : p.classes ≡ classes_linked R) (stack : List ℤ) (held : Held) (none : held.temporaries ≡ []) (empty : held.variables ≡ []) (sane : Sane held) where
+  module _ (classes : p.classes ≡ classes_linked R) (stack : List ℤ) (held : Held) (none : held.temporaries ≡ []) (empty : held.variables ≡ []) (sane : Sane p.classes held) where
     no_variables : AllNil held.variables
     no_variables = subst AllNil (sym empty) tt
 
-    ends_lead : (b : Bool) (back : ℕ) (w : Waiter) (o : ℕ) (next : Option ℕ) (left : ℕ) (others frames : List Frame) → nat_eq (held.counts o) 0 ≡ b → Waits (Ending back w o next left ∷ others) (length stack) held.names held.places → AllDying held.objects (ending (Ending back w o next left ∷ others))
-        → Leads (if b then on_left held.temporaries held (λ h. Goes (record { at = back; stack = stack; frames = others; held = resumed w (with_things h (gone_in h.objects o)) }) []) else Faults Resurrected)
-    ends_lead false back w o next left others frames e waits dying = tt
-    ends_lead true back w zero next left others frames e waits dying = absurd (no_nil held.objects dying.0)
-    ends_lead true back w (suc k) next left others frames e waits dying =
-        let ob = dying.0.0 in
-        let found : object_at held.objects (suc k) ≡ Some ob = dying.0.1 in
-        let still : AllDying (gone_in held.objects (suc k)) (ending others) = rw found (apart_dying held.objects k (in_phase Gone ob) (ending others) waits.5 dying.1) in
-        let h1 = with_things held (gone_in held.objects (suc k)) in
-        let h = with_variables h1 [] in
-        left_leads held.temporaries held _ none no_variables
-        (subst (λ x. Good (at others back stack x)) (sym (resumes_again w h waits.2))
-        (inl (record { below = waits.0; deeper = waits.1; resumes = waits.3; waits = waits.4 }), still, again_sane w h waits.2 none tt (left_sane h1 none no_variables (sane_gone held (suc k) e sane))))
+    -- what waits for the end of this object
+    abbrev Behind : (back : ℕ) → Waiter → ℕ → List Frame → Type 0
+    Behind back w o others = IsApart o (ending others) × (s : Splits w held.places)
+        × (((below : ℕ) × (deeper : List ℕ) × Resumes back w.self others (length stack) below held.names deeper s.temporaries s.variables s.waiting × Waits others below deeper s.waiting)
+        ⊎ (EndsAgain back w.self others s.temporaries s.variables s.waiting × Waits others (length stack) held.names s.waiting))
 
-    module _ (back : ℕ) (w : Waiter) (o : ℕ) (others : List Frame) (alive : (next : Option ℕ) (left : ℕ) → Alive (Ending back w o next left ∷ others) held.places held.self) (waits : (next : Option ℕ) (left : ℕ) → Waits (Ending back w o next left ∷ others) (length stack) held.names held.places) (dying : (next : Option ℕ) (left : ℕ) → AllDying held.objects (ending (Ending back w o next left ∷ others))) (frames : List Frame) where
+    -- an object is gone, whose fields name nothing
+    ends_lead : (b : Bool) (back : ℕ) (w : Waiter) (o : ℕ) (others frames : List Frame) (ob : Object) → object_at held.objects o ≡ Some ob → ((k : ℕ) → holders (suc k) (fields_of ob) ≡ 0) → AllDying held.objects (ending others) → nat_eq (held.counts o) 0 ≡ b → Behind back w o others
+        → Leads (if b then on_left held.temporaries held (λ h. Goes (record { at = back; stack = stack; frames = others; held = resumed w (with_things h (gone_in h.objects o)) }) []) else Faults Resurrected)
+    ends_lead false back w o others frames ob found none_named dying e behind = tt
+    ends_lead true back w zero others frames ob found none_named dying e behind = cc
+    ends_lead true back w (suc k) others frames ob found none_named dying e behind =
+        let x = in_phase Gone ob in
+        let objects = slice_set held.objects k x in
+        let gone_is : gone_in held.objects (suc k) ≡ objects = rw found refl in
+        let still : AllDying objects (ending others) = apart_dying held.objects k x (ending others) behind.0 dying in
+        let h1 = with_things held objects in
+        let h = with_variables h1 [] in
+        let split = behind.1 in
+        let sane1 = again_sane w h split none tt (left_sane h1 none no_variables (sane_gone held k ob found none_named e sane)) in
+        left_leads held.temporaries held _ none no_variables
+        (subst (λ l. Good (at others back stack (resumed w (with_things (with_variables held []) l)))) (sym gone_is)
+        (subst (λ q. Good (at others back stack q)) (sym (resumes_again w h split))
+        (⊎_elim
+        (λ f. (inl (record { below = f.0; deeper = f.1; resumes = f.2; waits = f.3 }), still, sane1))
+        (λ f. (inr (record { at_end = f.0.at_end; is_ending = f.0.is_ending; none = f.0.none; empty = f.0.empty; alive = f.0.alive; waits = f.1 }), still, sane1))
+        behind.2)))
+
+    -- the deallocs of an object are done: its fields are destroyed, and then it is gone
+    clears_lead : (back : ℕ) (w : Waiter) (o : ℕ) (others frames : List Frame) (order : List ℕ) (ob : Object) → object_at held.objects o ≡ Some ob → ob.phase ≡ Dying → NilBut order ob.strong → AllDying held.objects (ending others) → Alive (Ending back w o None 0 ∷ others) held.places held.self → Behind back w o others
+        → Leads (clears p (at frames p.end_step stack held) back w o order others)
+    clears_lead back w o others frames [] ob found phase but dying alive behind =
+        ends_lead (nat_eq (held.counts o) 0) back w o others frames ob found (λ k. ap (holders (suc k)) (there_fields ob (ap is_there phase)) ∙ nil_named ob.strong but k) dying refl behind
+    clears_lead back w zero others frames (index ∷ order) ob found phase but dying alive behind = cc
+    clears_lead back w (suc k) others frames (index ∷ order) ob found phase but dying alive behind =
+        let x = in_phase Emptying ob in
+        let objects = slice_set held.objects k x in
+        let turned_is : turned_in Emptying held.objects (suc k) ≡ objects = rw found refl in
+        let still : AllDying objects (ending others) = apart_dying held.objects k x (ending others) behind.0 dying in
+        subst (λ l. Good (at (Clearing back w (suc k) (index ∷ order) ∷ others) p.end_step stack (with_things held l))) (sym turned_is) (
+          inr (record { at_end = refl; is_ending = tt; none = none; empty = empty; alive = alive; waits = behind }),
+          ((x, set_here held.objects k x ob found, (refl, but)), still),
+          sane_empty held k ob found (ap is_there phase) sane,
+        )
+
+    after_lead : (back : ℕ) (w : Waiter) (o : ℕ) (others frames : List Frame) → IsDying held.objects o None → AllDying held.objects (ending others) → Alive (Ending back w o None 0 ∷ others) held.places held.self → Behind back w o others → Leads (after_deallocs p (at frames p.end_step stack held) back w o others)
+    after_lead back w zero others frames dies dying alive behind = absurd (no_nil held.objects None dies)
+    after_lead back w (suc k) others frames dies dying alive behind =
+        let ob = dies.0 in
+        subst Leads (sym (object_goes (object_at held.objects (suc k)) ob (λ x. clears p (at frames p.end_step stack held) back w (suc k) (field_order p.classes x.class) others) dies.1 (ap is_there dies.2)))
+        (clears_lead back w (suc k) others frames (field_order p.classes ob.class) ob dies.1 dies.2 (all_in_order p.classes ob (sane.sized k ob dies.1)) dying alive behind)
+
+    -- the next field lets go of what it names
+    next_lead : (back : ℕ) (w : Waiter) (o index : ℕ) (fields : List ℕ) (others : List Frame) → IsDying held.objects o (Some (index ∷ fields)) → AllDying held.objects (ending others) → Alive (Clearing back w o (index ∷ fields) ∷ others) held.places held.self → Behind back w o others
+        → Leads (clears_next p (at (Clearing back w o fields ∷ others) p.end_step stack held) o index)
+    next_lead back w zero index fields others dies dying alive behind = absurd (no_nil held.objects (Some (index ∷ fields)) dies)
+    next_lead back w (suc k) index fields others dies dying alive behind =
+        let ob = dies.0 in
+        let frames : List Frame = Clearing back w (suc k) fields ∷ others in
+        let s = at frames p.end_step stack held in
+        let there_now = ap is_there dies.2.0 in
+        let stays : Held → Next State = λ h. Goes (at frames p.end_step stack h) [] in
+        let ends : ℕ → ℕ → Held → Next State = λ other class h. begins_end p s p.end_step other class h (has_level s) in
+        let go : Object → Next State = λ x. on_place (slice_get x.strong index) (stays held) (λ old. lets_go old (raised 0 (with_strong_field held (suc k) x index 0)) stays ends) in
+        subst Leads (sym (object_goes (object_at held.objects (suc k)) ob go dies.1 there_now))
+        (place_leads (slice_get ob.strong index) _ _
+        (λ absent. (inr (record { at_end = refl; is_ending = tt; none = none; empty = empty; alive = alive; waits = behind }), ((ob, dies.1, (dies.2.0, no_field index fields ob.strong absent dies.2.1)), dying), sane))
+        (λ old named.
+        let x = with_strong_fields ob (slice_set ob.strong index 0) in
+        let objects = slice_set held.objects k x in
+        let held1 = raised 0 (with_strong_field held (suc k) ob index 0) in
+        let still : AllDying objects (ending frames) = ((x, set_here held.objects k x ob dies.1, (dies.2.0, one_nil index fields ob.strong dies.2.1)), apart_dying held.objects k x (ending others) behind.0 dying) in
+        lets_go_leads old held1 stays ends (sane_store_field held k ob index old 0 dies.1 there_now named tt sane)
+        (λ sane1. (inr (record { at_end = refl; is_ending = tt; none = none; empty = empty; alive = alive; waits = behind }), still, sane1))
+        (λ j other e found live.
+        begins_lead frames (has_level s) j p.end_step p.end_step other stack held held1 found live still (subst (λ q. Drops p.classes q held1) e (sane_store_field held k ob index old 0 dies.1 there_now named tt sane))
+        (λ apart. (apart, splits_as held1, inr (record { at_end = refl; is_ending = tt; none = none; empty = empty; alive = alive }, behind))))))
+
+    module _ (back : ℕ) (w : Waiter) (o : ℕ) (others : List Frame) (alive : (next : Option ℕ) (left : ℕ) → Alive (Ending back w o next left ∷ others) held.places held.self) (behind : Behind back w o others) (dying : (next : Option ℕ) (left : ℕ) → AllDying held.objects (ending (Ending back w o next left ∷ others))) (frames : List Frame) where
       abbrev here : State
       here = at frames p.end_step stack held
 
       dealloc_leads : (d : Option ℕ) (next : Option ℕ) (left : ℕ) → ((to : ℕ) → d ≡ Some to → Goes_to to (height 0 0 0 0)) → Leads (runs_dealloc d here (Ending back w o next left ∷ others))
-      dealloc_leads None next left goes = (inr (record { at_end = refl; is_ending = tt; none = none; empty = empty; alive = alive next left; waits = waits next left }), dying next left, sane)
+      dealloc_leads None next left goes = (inr (record { at_end = refl; is_ending = tt; none = none; empty = empty; alive = alive next left; waits = behind }), dying next left, sane)
       dealloc_leads (Some to) next left goes =
           let g = goes to refl in
           let few = ap length none in
@@ -612,23 +854,27 @@ module _ (p : Program) (R : resolved.Program) where
             inl (record {
               below = length stack;
               deeper = held.names;
-              resumes = record { high = height 0 0 0 0; stands = g.0; count = omega arith; own = []; is = refl; size = refl; few = omega (arith, few); many = many; held = tt; nil = λ k c. nil_from_end held.variables k (omega (arith, many)); alive = alive next left };
-              waits = waits next left;
+              resumes = record { high = height 0 0 0 0; stands = g.0; count = omega arith; own = []; is = refl; size = refl; few = omega (arith, few); many = many; held = tt; nil = λ k c. nil_from_end held.variables k (omega (arith, many)); alive = alive next left; running = tt };
+              waits = behind;
             }),
             dying next left,
             sane,
           )
 
       class_leads : (i : ℕ) (c : Option Class) (left : ℕ) → slice_get p.classes i ≡ c → Leads (ends_class p here back w o c left others)
-      class_leads i None left e = ends_lead (nat_eq (held.counts o) 0) back w o None left others frames refl (waits None left) (dying None left)
+      class_leads i None left e = after_lead back w o others frames (dying None left).0 (dying None left).1 (alive None 0) behind
       class_leads i (Some d) left e = dealloc_leads d.dealloc d.superclass left (λ to f. dealloc_goes R i d to (ap (λ cs. slice_get cs i) (sym classes) ∙ e) f)
 
     goes_on_leads : (frames : List Frame) → IsEnding frames → Alive frames held.places held.self → Waits frames (length stack) held.names held.places → AllDying held.objects (ending frames) → Leads (end_goes_on p (at frames p.end_step stack held) frames)
     goes_on_leads [] is alive waits dying = absurd is
     goes_on_leads (Calling back w ∷ others) is alive waits dying = absurd is
-    goes_on_leads (Ending back w o None left ∷ others) is alive waits dying = ends_lead (nat_eq (held.counts o) 0) back w o None left others (Ending back w o None left ∷ others) refl waits dying
-    goes_on_leads (Ending back w o (Some c) zero ∷ others) is alive waits dying = ends_lead (nat_eq (held.counts o) 0) back w o (Some c) zero others (Ending back w o (Some c) zero ∷ others) refl waits dying
-    goes_on_leads (Ending back w o (Some c) (suc left) ∷ others) is alive waits dying = class_leads back w o others (λ n l. alive) (λ n l. waits) (λ n l. dying) (Ending back w o (Some c) (suc left) ∷ others) c (slice_get p.classes c) left refl
+    goes_on_leads (Ending back w o None left ∷ others) is alive waits dying = after_lead back w o others (Ending back w o None left ∷ others) dying.0 dying.1 alive waits
+    goes_on_leads (Ending back w o (Some c) zero ∷ others) is alive waits dying = after_lead back w o others (Ending back w o (Some c) zero ∷ others) dying.0 dying.1 alive waits
+    goes_on_leads (Ending back w o (Some c) (suc left) ∷ others) is alive waits dying = class_leads back w o others (λ n l. alive) waits (λ n l. dying) (Ending back w o (Some c) (suc left) ∷ others) c (slice_get p.classes c) left refl
+    goes_on_leads (Clearing back w o [] ∷ others) is alive waits dying =
+        let ob = dying.0.0 in
+        ends_lead (nat_eq (held.counts o) 0) back w o others (Clearing back w o [] ∷ others) ob dying.0.1 (λ k. ap (holders (suc k)) (there_fields ob (ap is_there dying.0.2.0)) ∙ nil_named ob.strong dying.0.2.1 k) dying.1 refl waits
+    goes_on_leads (Clearing back w o (index ∷ fields) ∷ others) is alive waits dying = next_lead back w o index fields others dying.0 dying.1 alive waits
 
   -- ---- the program
 
@@ -636,7 +882,7 @@ module _ (p : Program) (R : resolved.Program) where
     step_does : (s : State) (x : Order) → slice_get (lowered_orders R) s.at ≡ Some x → step p s ≡ does p x s
     step_does s x e = executes_at p p.actions s.at x s (ap (λ l. slice_get l s.at) is ∙ e)
 
-    function_leads : (s : State) → InFunction s → AllDying s.held.objects (ending s.frames) → Sane s.held → Leads (step p s)
+    function_leads : (s : State) → InFunction s → AllDying s.held.objects (ending s.frames) → Sane p.classes s.held → Leads (step p s)
     function_leads s f dying sane =
         let r = f.resumes in
         let x = r.stands.order in
@@ -644,9 +890,9 @@ module _ (p : Program) (R : resolved.Program) where
         let same : st.0 ≡ r.high = some_same st.0 r.high (sym st.1 ∙ r.stands.height) in
         let steps = subst (λ h. Steps R (all R) (table R) h s.at x) same st.2 in
         subst Leads (sym (step_does s x r.stands.is))
-        (order_leads s.frames f.below f.deeper s.held.places s.held.self r.alive f.waits classes (λ g le. entry_goes p R is entries g le) s.at r.high s.stack s.held r.own r.count r.size r.few r.many (record { is = r.is; places = refl; itself = refl; keeps = r.held; dying = dying; sane = sane }) x r.stands.is r.stands r.stands.no_end r.nil steps)
+        (order_leads s.frames f.below f.deeper s.held.places s.held.self r.alive f.waits r.running classes (λ g le. entry_goes p R is entries g le) s.at r.high s.stack s.held r.own r.count r.size r.few r.many (record { is = r.is; places = refl; itself = refl; keeps = r.held; dying = dying; sane = sane }) x r.stands.is r.stands r.stands.no_end r.nil steps)
 
-    end_leads : (s : State) → InEnd s → AllDying s.held.objects (ending s.frames) → Sane s.held → Leads (step p s)
+    end_leads : (s : State) → InEnd s → AllDying s.held.objects (ending s.frames) → Sane p.classes s.held → Leads (step p s)
     end_leads s f dying sane =
         let e : slice_get (lowered_orders R) s.at ≡ Some EndStep = ap (slice_get (lowered_orders R)) (f.at_end ∙ end) ∙ end_is R in
         subst Leads (sym (step_does s EndStep e)) (subst (λ pc. Leads (end_goes_on p (at s.frames pc s.stack s.held) s.frames)) (sym f.at_end) (goes_on_leads classes s.stack s.held f.none f.empty sane s.frames f.is_ending f.alive f.waits dying))
@@ -659,7 +905,7 @@ module _ (p : Program) (R : resolved.Program) where
     safe (suc n) s good = along_map Good (Safe (step p) (λ t. Counted t.held) n) (safe n) (step p s) (step_leads s good)
 
     pub start_good : Good (start p)
-    start_good = (inl (record { below = 0; deeper = []; resumes = record { high = height 0 0 0 0; stands = (start_goes R).0; count = refl; own = []; is = refl; size = refl; few = omega arith; many = refl; held = tt; nil = λ k c. nil_from_end [] k (omega arith); alive = nil_alive [] [] }; waits = tt }), tt, sane_globals nothing_held p.globals nothing_sane)
+    start_good = (inl (record { below = 0; deeper = []; resumes = record { high = height 0 0 0 0; stands = (start_goes R).0; count = refl; own = []; is = refl; size = refl; few = omega arith; many = refl; held = tt; nil = λ k c. nil_from_end [] k (omega arith); alive = nil_alive [] []; running = tt }; waits = tt }), tt, sane_start (with_globals nothing_held p.globals) p.strong_globals refl (sane_globals nothing_held p.globals nothing_sane))
 
     -- the actions of a lowered program are never stuck, and their counts are right
     pub lowered_never_stuck : Sound (step p) (λ s. Counted s.held) (start p)

@@ -40,3 +40,20 @@ module _ (p : Program) (frames : List Frame) (bound : ℕ) (rs : List ℕ) where
 
   pub no_passes : (s : List ℤ) (w : World) (s' : List ℤ) (w' : World) → s ≡ s' → w ≡ w' → Passes [] s w s' w'
   no_passes s w s' w' es ew pc has = let e : pc ≡ pc + 0 = omega arith in leads_same (moves p) _ _ (ap (λ q. running frames rs q s w) e ∙ ap (λ x. running frames rs (pc + 0) x w) es ∙ ap (λ (x : World). running frames rs (pc + 0) s' x) ew)
+
+module _ (p : Program) (frames : List Frame) where
+  -- the same, where the references change and the stack doesn't
+  abbrev pub Shifts : List Order → (rs : List ℕ) → List ℤ → World → (rs' : List ℕ) → Type 0
+  Shifts xs rs stack w rs' = (pc : ℕ) → HasAt p pc xs → Leads (moves p) (running frames rs pc stack w) (running frames rs' (pc + length xs) stack w)
+
+  pub then_shifts : (xs ys : List Order) (r0 r1 r2 : List ℕ) (stack : List ℤ) (w : World) → Shifts xs r0 stack w r1 → Shifts ys r1 stack w r2 → Shifts (xs ++ ys) r0 stack w r2
+  then_shifts xs ys r0 r1 r2 stack w first next pc has =
+      let e : pc + length xs + length ys ≡ pc + length (xs ++ ys) = omega (arith, length-append xs ys) in
+      leads_trans (moves p) (running frames r0 pc stack w) (running frames r1 (pc + length xs) stack w) (running frames r2 (pc + length (xs ++ ys)) stack w) (first pc (has_front p pc xs ys has))
+      (subst (λ q. Leads (moves p) (running frames r1 (pc + length xs) stack w) (running frames r2 q stack w)) e (next (pc + length xs) (has_back p pc xs ys has)))
+
+  pub one_shifts : (x : Order) (rs rs' : List ℕ) (stack : List ℤ) (w : World) → ((pc : ℕ) → Leads (moves p) (follow (recount (does p x (at frames pc stack (held_of rs w)))) w.input w.trace) (running frames rs' (pc + 1) stack w)) → Shifts (x ∷ []) rs stack w rs'
+  one_shifts x rs rs' stack w h pc has = leads_trans (moves p) (running frames rs pc stack w) (follow (recount (does p x (at frames pc stack (held_of rs w)))) w.input w.trace) (running frames rs' (pc + 1) stack w) (leads_step (moves p) (at frames pc stack (held_of rs w)) w.input w.trace (recount (does p x (at frames pc stack (held_of rs w)))) (ap recount (has.0 frames stack (held_of rs w)))) (h pc)
+
+  pub no_shifts : (rs rs' : List ℕ) (stack : List ℤ) (w : World) → rs ≡ rs' → Shifts [] rs stack w rs'
+  no_shifts rs rs' stack w e pc has = let same : pc ≡ pc + 0 = omega arith in leads_same (moves p) _ _ (ap (λ q. running frames rs q stack w) same ∙ ap (λ l. running frames l (pc + 0) stack w) e)

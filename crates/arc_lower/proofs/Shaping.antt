@@ -3,12 +3,13 @@ use Rattle.std.proofs.Common.{◌≡◌, ℕ, zero, suc, ℤ, Bool, true, false,
 use Rattle.std.proofs.lemmas.Bool.{eq-eqb}
 use Rattle.arc_spec.specs.Classes.{class_at}
 use Rattle.arc_spec.specs.Number.{converted, applied, combined, is_zero}
-use Rattle.arc_spec.specs.World.{World, Outcome, Done, Faulted, Cut, Finished, then_do, prints, next_number, has_read, name_at, takes}
-use Rattle.arc_spec.specs.Meaning.{Deeper, held_at, holds, chosen, dispatched, finds, sent_to, sent_from, made, field_read, field_set, difference, formatted, byte_count, or_fault, all_dropped, assigned, variables_dropped}
+use Rattle.arc_spec.specs.World.{World, Outcome, Done, Faulted, Cut, Finished, then_do, Given, prints, next_number, has_read, named_at, takes}
+use Rattle.arc_spec.specs.Meaning as meaning
+use Rattle.arc_spec.specs.Meaning.{Deeper, held_at, holds, chosen, sent, made, field_read, field_set, object_field_read, object_field_set, difference, formatted, byte_count, or_fault, all_dropped, assigned, variables_dropped}
 use Rattle.arc_code.specs.declared.instr.Op.{Op}
 use Rattle.arc_code.specs.declared.instr.Op.TheVariants as ops
-use Rattle.arc_code.specs.declared.instr.Op.TheVariants.{Num, Bin, Un, Narrow, Pop, Get, GetChar, Nil, ReadSelf, Hold, Forget, Alloc, GetField, SetField, Differ, IsObject}
-use Rattle.arc_lower.specs.Lowered.{Message, ToClass, ToSuperClass, ToObject, ToSuper, Entry, AtStep, AtTest, AtBody, Block, Idle, One, Load, Store, Read, Assign, Clear, Format, Calls, Tells, Then, Fork, Loop, Quit, Advance, Full, Leave}
+use Rattle.arc_code.specs.declared.instr.Op.TheVariants.{Num, Bin, Un, Narrow, Pop, Get, GetChar, Nil, ReadSelf, ReadField, Hold, Forget, Alloc, GetField, SetField, Differ, IsObject}
+use Rattle.arc_lower.specs.Lowered.{Message, ToClass, ToSuperClass, ToObject, ToSuper, Entry, AtStep, AtTest, AtBody, Block, Idle, One, Load, Store, Read, Assign, AssignField, Clear, Format, Calls, Tells, Then, Fork, Loop, Quit, Advance, Full, Leave}
 use Rattle.arc_lower.proofs.Stacking.{onto}
 
 -- operands: numbers and references, the last one first
@@ -22,9 +23,9 @@ push v s = record { numbers = v ∷ s.numbers; names = s.names }
 abbrev pub name : ℕ → Operands → Operands
 name r s = record { numbers = s.numbers; names = r ∷ s.names }
 
--- these values, the first one deepest
-abbrev pub pushed : List ℤ → Operands → Operands
-pushed given s = record { numbers = onto given s.numbers; names = s.names }
+-- these numbers and references, the first one of each deepest
+abbrev pub pushed : Given → Operands → Operands
+pushed given s = record { numbers = onto given.numbers s.numbers; names = onto given.objects s.names }
 
 -- how a block is left: behind it, by an exit of the function, or by what leaves the loop in whose body it stands, or goes on with its next turn; nothing is said
 -- where it lacks operands
@@ -68,8 +69,15 @@ values_of zero given numbers names w go = go given (record { numbers = numbers; 
 values_of (suc n) given [] names w go = Done Lost w
 values_of (suc n) given (v ∷ numbers) names w go = values_of n (v ∷ given) numbers names w go
 
-abbrev pub on_values : ℕ → Operands → World → (List ℤ → Operands → Outcome Way) → Outcome Way
-on_values n s w go = values_of n [] s.numbers s.names w go
+-- so many references, the same
+abbrev pub objects_of : ℕ → (given names : List ℕ) → (numbers : List ℤ) → World → (List ℕ → Operands → Outcome Way) → Outcome Way
+objects_of zero given names numbers w go = go given (record { numbers = numbers; names = names })
+objects_of (suc m) given [] numbers w go = Done Lost w
+objects_of (suc m) given (r ∷ names) numbers w go = objects_of m (r ∷ given) names numbers w go
+
+-- so many numbers and so many references
+abbrev pub on_given : (n m : ℕ) → Operands → World → (Given → Operands → Outcome Way) → Outcome Way
+on_given n m s w go = values_of n [] s.numbers s.names w (λ values rest. objects_of m [] rest.names rest.numbers w (λ objects others. go (record { numbers = values; objects = objects }) others))
 
 abbrev pub pushes : Operands → Outcome ℤ → Outcome Way
 pushes s o = left_by (λ v. On (push v s)) o
@@ -85,6 +93,7 @@ operation D (Get zero) s w = on_number s w (λ v rest. Done (On (push v (push v 
 operation D GetChar s w = Done (On (push (next_number w.input) s)) (has_read w)
 operation D Nil s w = Done (On (name 0 s)) w
 operation D ReadSelf s w = Done (On (name w.frame.self s)) (takes w.frame.self w)
+operation D (ReadField class index) s w = on_name s w (λ r rest. left_by (λ v. On (name v rest)) (object_field_read D r class index w))
 operation D Hold s w = on_name s w (λ r rest. Done (On (name r rest)) (takes r w))
 operation D ops.Again s w = on_name s w (λ r rest. Done (On (name r (name r rest))) w)
 operation D Forget s w = on_name s w (λ r rest. Done (On rest) w)
@@ -96,11 +105,11 @@ operation D IsObject s w = on_name s w (λ x rest. Done (On (push (difference x 
 operation D _ s w = Done Lost w
 
 -- a message, with what it passes; what gets it is a number or a reference
-abbrev pub told : Deeper → Message → List ℤ → Operands → World → Outcome Way
-told D (ToClass selector) given s w = on_number s w (λ self rest. pushes rest (dispatched D (finds D (class_at self) selector given) self given w))
-told D (ToSuperClass from selector) given s w = on_number s w (λ self rest. pushes rest (dispatched D (finds D (Some from) selector given) self given w))
-told D (ToObject selector) given s w = on_name s w (λ self rest. pushes rest (sent_to D self selector given w))
-told D (ToSuper from selector) given s w = on_name s w (λ self rest. pushes rest (sent_from D (Some from) self selector given w))
+abbrev pub told : Deeper → Message → Given → Operands → World → Outcome Way
+told D (ToClass selector) given s w = on_number s w (λ self rest. pushes rest (sent D (meaning.ToClass (class_at self) self) selector given w))
+told D (ToSuperClass from selector) given s w = on_number s w (λ self rest. pushes rest (sent D (meaning.ToClass (Some from) self) selector given w))
+told D (ToObject selector) given s w = on_name s w (λ self rest. pushes rest (sent D (meaning.ToObject self) selector given w))
+told D (ToSuper from selector) given s w = on_name s w (λ self rest. pushes rest (sent D (meaning.ToSuper from self) selector given w))
 
 -- what follows a loop's body
 abbrev pub after_turn : (Operands → World → Outcome Way) → Way → World → Outcome Way
@@ -139,12 +148,13 @@ block D bound m Idle s w = Done (On s) w
 block D bound m (One o) s w = operation D o s w
 block D bound m (Load depth i) s w = if nat_eq depth (length s.numbers) then Done (On (push (held_at i w) s)) w else Done Lost w
 block D bound m (Store depth i) s w = on_number s w (λ x rest. if nat_eq depth (length rest.numbers) then Done (On s) (holds i x w) else Done Lost w)
-block D bound m (Read i) s w = Done (On (name (name_at w.frame.strong i) s)) (takes (name_at w.frame.strong i) w)
+block D bound m (Read i) s w = Done (On (name (named_at i w) s)) (takes (named_at i w) w)
 block D bound m (Assign i) s w = on_name s w (λ r rest. passes_by s (assigned D i r w))
+block D bound m (AssignField class index) s w = on_name s w (λ r above. on_name above w (λ x rest. passes_by (name r rest) (object_field_set D x class index r w)))
 block D bound m (Clear first count) s w = passes_by s (variables_dropped D first count w)
-block D bound m (Format pieces n) s w = on_values n s w (λ values rest. Done (On (push (byte_count (formatted pieces values)) rest)) (prints (formatted pieces values) w))
-block D bound m (Calls f n) s w = on_values n s w (λ given rest. pushes rest (D.call f 0 given w))
-block D bound m (Tells message n) s w = on_values n s w (λ given rest. told D message given rest w)
+block D bound m (Format pieces n k) s w = on_given n k s w (λ given rest. Done (On (push (byte_count (formatted pieces given.numbers)) rest)) (prints (formatted pieces given.numbers) w))
+block D bound m (Calls f n k) s w = on_given n k s w (λ given rest. pushes rest (D.call f 0 given w))
+block D bound m (Tells message n k) s w = on_given n k s w (λ given rest. told D message given rest w)
 block D bound m (Then a b) s w = and_then (block D bound m a s w) (block D bound m b)
 block D bound m (Fork a b) s w = on_number s w (λ v rest. chosen (is_zero v) (block D bound m a rest w) (block D bound m b rest w))
 block D bound true (Loop entry step test body) s w = loop_entered entry bound (block D bound true step) (block D bound true test) (block D bound true body) s w
@@ -185,8 +195,25 @@ values_onto (v ∷ given) numbers names w go =
     values_more (length given) [] (onto given (v ∷ numbers)) names w go
     ∙ values_onto given (v ∷ numbers) names w (λ g r. top_of r.numbers r.names w (λ u rest. go (u ∷ g) rest))
 
-pub on_pushed : (n : ℕ) (given : List ℤ) (s : Operands) (w : World) (go : List ℤ → Operands → Outcome Way) → length given ≡ n → on_values n (pushed given s) w go ≡ go given s
-on_pushed n given s w go e = ap (λ m. on_values m (pushed given s) w go) (sym e) ∙ values_onto given s.numbers s.names w go
+objects_more : (m : ℕ) (given names : List ℕ) (numbers : List ℤ) (w : World) (go : List ℕ → Operands → Outcome Way) → objects_of (suc m) given names numbers w go ≡ objects_of m given names numbers w (λ g r. last_of r.numbers r.names w (λ o rest. go (o ∷ g) rest))
+objects_more zero given [] numbers w go = refl
+objects_more zero given (r ∷ names) numbers w go = refl
+objects_more (suc m) given [] numbers w go = refl
+objects_more (suc m) given (r ∷ names) numbers w go = objects_more m (r ∷ given) names numbers w go
+
+objects_onto : (given names : List ℕ) (numbers : List ℤ) (w : World) (go : List ℕ → Operands → Outcome Way) → objects_of (length given) [] (onto given names) numbers w go ≡ go given (record { numbers = numbers; names = names })
+objects_onto [] names numbers w go = refl
+objects_onto (r ∷ given) names numbers w go =
+    objects_more (length given) [] (onto given (r ∷ names)) numbers w go
+    ∙ objects_onto given (r ∷ names) numbers w (λ g q. last_of q.numbers q.names w (λ o rest. go (o ∷ g) rest))
+
+pub on_pushed : (n m : ℕ) (given : Given) (s : Operands) (w : World) (go : Given → Operands → Outcome Way) → length given.numbers ≡ n → length given.objects ≡ m → on_given n m (pushed given s) w go ≡ go given s
+on_pushed n m given s w go e f =
+    let rest : List ℤ → Operands → Outcome Way = λ values q. objects_of m [] q.names q.numbers w (λ objects others. go (record { numbers = values; objects = objects }) others) in
+    ap (λ k. values_of k [] (onto given.numbers s.numbers) (onto given.objects s.names) w rest) (sym e)
+    ∙ values_onto given.numbers s.numbers (onto given.objects s.names) w rest
+    ∙ ap (λ k. objects_of k [] (onto given.objects s.names) s.numbers w (λ objects others. go (record { numbers = given.numbers; objects = objects }) others)) (sym f)
+    ∙ objects_onto given.objects s.names s.numbers w (λ objects others. go (record { numbers = given.numbers; objects = objects }) others)
 
 -- what is known of the value where a part is done
 abbrev pub Holds : {A : Type 0} → (A → Type 0) → Outcome A → Type 0

@@ -1,6 +1,7 @@
--- Values that lie on a stack, the first one deepest.
-use Rattle.std.proofs.Common.{◌≡◌, ℕ, zero, suc, ◌+◌, ◌%◌, ◌^◌, ℤ, pos, List, [], ◌∷◌, ◌++◌, length, map, Some, refl, sym, ap, ◌∙◌, arith, append_assoc, slice_get, slice_set}
+-- Values that lie on a stack, the first one deepest, and references, the same.
+use Rattle.std.proofs.Common.{◌≡◌, ℕ, zero, suc, ◌+◌, ◌%◌, ◌^◌, ℤ, pos, List, [], ◌∷◌, ◌++◌, length, take, drop, map, Some, refl, sym, ap, ◌∙◌, arith, append_assoc, length-append, slice_get, slice_set}
 use Rattle.std.proofs.lemmas.List.{append-nil, map-append}
+use Rattle.std.proofs.Math.Seq.{take-append_seam, drop-append_seam}
 use Rattle.std.proofs.Math.Nat.{mod-add-mod, mod-mod}
 use Rattle.std.specs.Int.{w32, cast_signed}
 use Rattle.arc_ast.specs.declared.tree.Kind.TheVariants as k
@@ -9,23 +10,23 @@ use Rattle.arc_spec.specs.Number.{converted, counted}
 use Rattle.arc_spec.specs.Meaning.{byte_count}
 use Rattle.arc_spec.specs.World.{World, prints, local_at}
 
-abbrev pub onto : List ℤ → List ℤ → List ℤ
+abbrev pub onto : {A : Type 0} → List A → List A → List A
 onto [] stack = stack
 onto (v ∷ values) stack = onto values (v ∷ stack)
 
-get_deep : (values stack : List ℤ) (n m : ℕ) → n ≡ length values + m → slice_get (onto values stack) n ≡ slice_get stack m
+get_deep : {A : Type 0} (values stack : List A) (n m : ℕ) → n ≡ length values + m → slice_get (onto values stack) n ≡ slice_get stack m
 get_deep [] stack n m e = let h : n ≡ m = omega arith in ap (slice_get stack) h
 get_deep (v ∷ values) stack n m e = get_deep values (v ∷ stack) n (suc m) (omega arith)
 
 -- the value below all others
-pub get_onto : (values stack : List ℤ) (v : ℤ) → slice_get (onto values (v ∷ stack)) (length values) ≡ Some v
+pub get_onto : {A : Type 0} (values stack : List A) (v : A) → slice_get (onto values (v ∷ stack)) (length values) ≡ Some v
 get_onto values stack v = get_deep values (v ∷ stack) (length values) 0 (omega arith)
 
-set_deep : (values stack : List ℤ) (n m : ℕ) (u : ℤ) → n ≡ length values + m → slice_set (onto values stack) n u ≡ onto values (slice_set stack m u)
+set_deep : {A : Type 0} (values stack : List A) (n m : ℕ) (u : A) → n ≡ length values + m → slice_set (onto values stack) n u ≡ onto values (slice_set stack m u)
 set_deep [] stack n m u e = let h : n ≡ m = omega arith in ap (λ q. slice_set stack q u) h
 set_deep (v ∷ values) stack n m u e = set_deep values (v ∷ stack) n (suc m) u (omega arith)
 
-pub set_onto : (values stack : List ℤ) (v u : ℤ) → slice_set (onto values (v ∷ stack)) (length values) u ≡ onto values (u ∷ stack)
+pub set_onto : {A : Type 0} (values stack : List A) (v u : A) → slice_set (onto values (v ∷ stack)) (length values) u ≡ onto values (u ∷ stack)
 set_onto values stack v u = set_deep values (v ∷ stack) (length values) 0 u (omega arith)
 
 -- a variable below operands, of which the first one lies deepest
@@ -52,18 +53,18 @@ set_below (v ∷ operands) stack n u =
     ap (λ m. slice_set (v ∷ operands ++ stack) m u) e ∙ ap (λ l. v ∷ l) (set_below operands stack n u)
 
 -- the stack without so many numbers
-abbrev pub Peels : ℕ → List ℤ → List ℤ → Type 0
+abbrev pub Peels : {A : Type 0} → ℕ → List A → List A → Type 0
 Peels zero stack rest = stack ≡ rest
 Peels (suc n) [] rest = ⊥
 Peels (suc n) (v ∷ stack) rest = Peels n stack rest
 
-peels_more : (n : ℕ) (stack : List ℤ) (v : ℤ) (rest : List ℤ) → Peels n stack (v ∷ rest) → Peels (suc n) stack rest
+peels_more : {A : Type 0} (n : ℕ) (stack : List A) (v : A) (rest : List A) → Peels n stack (v ∷ rest) → Peels (suc n) stack rest
 peels_more zero [] v rest h = cc
 peels_more zero (u ∷ stack) v rest h = cc
 peels_more (suc n) [] v rest h = h
 peels_more (suc n) (u ∷ stack) v rest h = peels_more n stack v rest h
 
-pub peels_onto : (values stack : List ℤ) → Peels (length values) (onto values stack) stack
+pub peels_onto : {A : Type 0} (values stack : List A) → Peels (length values) (onto values stack) stack
 peels_onto [] stack = refl
 peels_onto (v ∷ values) stack = peels_more (length values) (onto values (v ∷ stack)) v stack (peels_onto values (v ∷ stack))
 
@@ -82,3 +83,41 @@ prints_none w = ap (λ t. record w { trace = t }) (sym (append-nil w.trace))
 
 pub prints_both : (a b : List ℕ) (w : World) → prints b (prints a w) ≡ prints (a ++ b) w
 prints_both a b w = ap (λ t. record w { trace = t }) (append_assoc w.trace (map Byte a) (map Byte b) ∙ ap (λ l. w.trace ++ l) (sym (map-append Byte a b)))
+
+-- ---- what lies on others, as one list before them
+
+pub record Front {A : Type 0} (values : List A) : Type 0 where
+  pub front : List A
+  pub is : (rest : List A) → onto values rest ≡ front ++ rest
+  pub size : length front ≡ length values
+
+pub front_of : {A : Type 0} (values : List A) → Front values
+front_of [] = record { front = []; is = λ rest. refl; size = refl }
+front_of (v ∷ values) =
+    let deep = front_of values in
+    record {
+      front = deep.front ++ v ∷ [];
+      is = λ rest. deep.is (v ∷ rest) ∙ sym (append_assoc deep.front (v ∷ []) rest);
+      size = omega (arith, length-append deep.front (v ∷ []), deep.size);
+    }
+
+-- those that lie below
+pub drop_onto : {A : Type 0} (values rest : List A) → drop (length values) (onto values rest) ≡ rest
+drop_onto values rest =
+    let f = front_of values in
+    ap (drop (length values)) (f.is rest) ∙ ap (λ n. drop n (f.front ++ rest)) (sym f.size) ∙ drop-append_seam f.front rest
+
+behind_one : {A : Type 0} (xs ys : List A) (x : A) → drop (suc (length xs)) (xs ++ x ∷ ys) ≡ ys
+behind_one [] ys x = refl
+behind_one (y ∷ xs) ys x = behind_one xs ys x
+
+-- all but the one below these
+pub without_below : {A : Type 0} (values rest : List A) (r : A) → take (length values) (onto values (r ∷ rest)) ++ drop (suc (length values)) (onto values (r ∷ rest)) ≡ onto values rest
+without_below values rest r =
+    let f = front_of values in
+    let n = length values in
+    ap (λ l. take n l ++ drop (suc n) l) (f.is (r ∷ rest))
+    ∙ ap (λ k. take k (f.front ++ r ∷ rest) ++ drop (suc k) (f.front ++ r ∷ rest)) (sym f.size)
+    ∙ ap (λ l. l ++ drop (suc (length f.front)) (f.front ++ r ∷ rest)) (take-append_seam f.front (r ∷ rest))
+    ∙ ap (λ l. f.front ++ l) (behind_one f.front rest r)
+    ∙ sym (f.is rest)

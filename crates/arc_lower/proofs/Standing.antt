@@ -1,38 +1,75 @@
 -- What a running program keeps: what places name is there, and an object whose end is running stays as it is.
-use Rattle.std.proofs.Common.{◌≡◌, ℕ, zero, suc, ◌<◌, Bool, true, false, List, [], ◌∷◌, ◌++◌, Some, None, ⊎_elim, slice_set, sym, ap, ◌∙◌, subst, arith}
+use Rattle.std.proofs.Common.{◌≡◌, ◌⊎◌, inl, inr, ℕ, zero, suc, ◌+◌, ◌-◌, ◌<◌, ◌≤◌, ℤ, Bool, true, false, List, [], ◌∷◌, ◌++◌, length, Option, Some, None, ⊎_elim, slice_get, slice_set, refl, sym, ap, ◌∙◌, subst, arith}
 use Rattle.std.proofs.lemmas.Bool.{cases_eq, false≢true}
-use Rattle.arc_spec.specs.Objects.{Object, Phase, Dying, object_at, object_live, is_live}
-use Rattle.arc_spec.specs.Holding.{Frame, Calling, Ending, Waiter, holders, is_there}
-use Rattle.arc_lower.proofs.CountsPlaces.{tally_same, holders_head, holders_append}
-use Rattle.arc_lower.proofs.CountsHeld.{set_other}
+use Rattle.arc_spec.specs.Classes.{Class, lesser, numbers_from, order_of_fields, strong_count, strong_counts, ancestry, superclasses, above_class, field_order}
+use Rattle.arc_spec.specs.Objects.{Object, Phase, Dying, Emptying, object_at, in_phase, with_fields, with_strong_fields, is_live, is_emptying}
+use Rattle.arc_spec.specs.Holding.{Frame, Calling, Ending, Clearing, Waiter, holders, is_there}
+use Rattle.arc_lower.proofs.CountsPlaces.{tally_same, holders_head, holders_append, holders_nil}
+use Rattle.arc_lower.proofs.CountsHeld.{set_other, set_same}
 use Rattle.arc_lower.proofs.CountsThere.{IsThere, AllThere, set_here, get_first}
 
--- the objects whose ends are running
-abbrev pub ending : List Frame → List ℕ
+-- an end that is running: of this object, and which fields are still to be destroyed, where they are being
+pub record End : Type 0 where
+  pub object : ℕ
+  pub fields : Option (List ℕ)
+
+-- the ends that are running
+abbrev pub ending : List Frame → List End
 ending [] = []
 ending (Calling back waits ∷ others) = ending others
-ending (Ending back waits o next left ∷ others) = o ∷ ending others
+ending (Ending back waits o next left ∷ others) = record { object = o; fields = None } ∷ ending others
+ending (Clearing back waits o fields ∷ others) = record { object = o; fields = Some fields } ∷ ending others
 
-abbrev pub IsDying : List Object → ℕ → Type 0
-IsDying objects o = (ob : Object) × (object_at objects o ≡ Some ob) × (ob.phase ≡ Dying)
+abbrev pub IsOneOf : ℕ → List ℕ → Type 0
+IsOneOf i [] = ⊥
+IsOneOf i (j ∷ others) = (i ≡ j) ⊎ IsOneOf i others
 
-abbrev pub AllDying : List Object → List ℕ → Type 0
+-- all fields but these name nothing
+abbrev pub NilBut : (fields strong : List ℕ) → Type 0
+NilBut fields strong = (i k : ℕ) → slice_get strong i ≡ Some (suc k) → IsOneOf i fields
+
+-- how far an object is on its way whose end is running
+abbrev pub IsAsFar : Option (List ℕ) → Object → Type 0
+IsAsFar None ob = ob.phase ≡ Dying
+IsAsFar (Some fields) ob = (ob.phase ≡ Emptying) × NilBut fields ob.strong
+
+abbrev pub IsDying : List Object → ℕ → Option (List ℕ) → Type 0
+IsDying objects o fields = (ob : Object) × (object_at objects o ≡ Some ob) × IsAsFar fields ob
+
+abbrev pub AllDying : List Object → List End → Type 0
 AllDying objects [] = Unit {0}
-AllDying objects (o ∷ others) = IsDying objects o × AllDying objects others
+AllDying objects (e ∷ others) = IsDying objects e.object e.fields × AllDying objects others
+
+-- the objects whose ends are running are there
+abbrev pub EndsThere : List Object → List Frame → Type 0
+EndsThere objects [] = Unit {0}
+EndsThere objects (Calling back waits ∷ others) = EndsThere objects others
+EndsThere objects (Ending back waits o next left ∷ others) = IsThere objects o × EndsThere objects others
+EndsThere objects (Clearing back waits o fields ∷ others) = IsThere objects o × EndsThere objects others
 
 -- wherever what these places name is there, and what is ending is, this object is there, too
 abbrev pub Alive : List Frame → (held : List ℕ) → ℕ → Type 0
-Alive frames held o = (objects : List Object) → AllThere objects held → AllDying objects (ending frames) → IsThere objects o
+Alive frames held o = (objects : List Object) → AllThere objects held → EndsThere objects frames → IsThere objects o
 
 pub nil_alive : (frames : List Frame) (held : List ℕ) → Alive frames held 0
-nil_alive frames held objects there dying = tt
+nil_alive frames held objects there ends = tt
 
-pub dying_there : (objects : List Object) (o : ℕ) → IsDying objects o → IsThere objects o
-dying_there objects zero d = tt
-dying_there objects (suc k) d = (d.0, d.1, ap is_there d.2)
+far_there : (fields : Option (List ℕ)) (ob : Object) → IsAsFar fields ob → is_there ob.phase ≡ true
+far_there None ob far = ap is_there far
+far_there (Some fields) ob far = ap is_there far.0
+
+dying_there : (objects : List Object) (o : ℕ) (fields : Option (List ℕ)) → IsDying objects o fields → IsThere objects o
+dying_there objects zero fields d = tt
+dying_there objects (suc k) fields d = (d.0, d.1, far_there fields d.0 d.2)
+
+pub ends_there : (objects : List Object) (frames : List Frame) → AllDying objects (ending frames) → EndsThere objects frames
+ends_there objects [] dying = tt
+ends_there objects (Calling back waits ∷ others) dying = ends_there objects others dying
+ends_there objects (Ending back waits o next left ∷ others) dying = (dying_there objects o None dying.0, ends_there objects others dying.1)
+ends_there objects (Clearing back waits o fields ∷ others) dying = (dying_there objects o (Some fields) dying.0, ends_there objects others dying.1)
 
 pub ending_alive : (frames : List Frame) (back : ℕ) (waits : Waiter) (o : ℕ) (next : _) (left : ℕ) (held : List ℕ) → Alive (Ending back waits o next left ∷ frames) held o
-ending_alive frames back waits o next left held objects there dying = dying_there objects o dying.0
+ending_alive frames back waits o next left held objects there ends = ends.0
 
 -- nil, or what one of these names
 abbrev pub IsHeld : ℕ → List ℕ → Type 0
@@ -44,71 +81,161 @@ pub last_held : (r : ℕ) (others : List ℕ) → IsHeld r (r ∷ others)
 last_held zero others = tt
 last_held (suc k) others = omega (arith, holders_head (suc k) (suc k) others, tally_same (suc k))
 
--- what a temporary holds is there
-pub held_there : (objects : List Object) (temporaries strong waiting : List ℕ) (r : ℕ) → IsHeld r temporaries → AllThere objects ((temporaries ++ strong) ++ waiting) → IsThere objects r
+-- what a temporary of the running function holds, or a place of one that waits, is there
+pub held_there : (objects : List Object) (temporaries strong waiting : List ℕ) (r : ℕ) → IsHeld r (temporaries ++ waiting) → AllThere objects ((temporaries ++ strong) ++ waiting) → IsThere objects r
 held_there objects temporaries strong waiting zero h there = tt
-held_there objects temporaries strong waiting (suc k) h there = there k (omega (arith, holders_append (suc k) (temporaries ++ strong) waiting, holders_append (suc k) temporaries strong, h))
+held_there objects temporaries strong waiting (suc k) h there = there k (omega (arith, holders_append (suc k) (temporaries ++ strong) waiting, holders_append (suc k) temporaries strong, holders_append (suc k) temporaries waiting, h))
+
+-- and is held once a function is called
+pub held_within : (temporaries strong waiting : List ℕ) (r : ℕ) → IsHeld r (temporaries ++ waiting) → IsHeld r ((temporaries ++ strong) ++ waiting)
+held_within temporaries strong waiting zero h = tt
+held_within temporaries strong waiting (suc k) h = omega (arith, holders_append (suc k) (temporaries ++ strong) waiting, holders_append (suc k) temporaries strong, holders_append (suc k) temporaries waiting, h)
 
 -- ---- objects that are ending
 
 -- an object is made
-made_dies : (objects : List Object) (x : Object) (o : ℕ) → IsDying objects o → IsDying (objects ++ x ∷ []) o
-made_dies objects x zero d = d
-made_dies objects x (suc j) d = (d.0, get_first objects j x d.0 d.1, d.2)
+made_dies : (objects : List Object) (x : Object) (o : ℕ) (fields : Option (List ℕ)) → IsDying objects o fields → IsDying (objects ++ x ∷ []) o fields
+made_dies objects x zero fields d = d
+made_dies objects x (suc j) fields d = (d.0, get_first objects j x d.0 d.1, d.2)
 
-pub made_dying : (objects : List Object) (x : Object) (all : List ℕ) → AllDying objects all → AllDying (objects ++ x ∷ []) all
+pub made_dying : (objects : List Object) (x : Object) (all : List End) → AllDying objects all → AllDying (objects ++ x ∷ []) all
 made_dying objects x [] d = tt
-made_dying objects x (o ∷ others) d = (made_dies objects x o d.0, made_dying objects x others d.1)
+made_dying objects x (e ∷ others) d = (made_dies objects x e.object e.fields d.0, made_dying objects x others d.1)
 
--- an object is changed, which is ending afterwards where it was before
-changed_dies : (objects : List Object) (k : ℕ) (x : Object) → (IsDying objects (suc k) → x.phase ≡ Dying) → (o : ℕ) → IsDying objects o → IsDying (slice_set objects k x) o
-changed_dies objects k x still zero d = absurd (none d.1)
+-- an object is changed, which is afterwards as far as before
+changed_dies : (objects : List Object) (k : ℕ) (x : Object) → ((fields : Option (List ℕ)) → IsDying objects (suc k) fields → IsAsFar fields x) → (o : ℕ) (fields : Option (List ℕ)) → IsDying objects o fields → IsDying (slice_set objects k x) o fields
+changed_dies objects k x still zero fields d = absurd (none d.1)
   where
     none : None ≡ Some d.0 → ⊥
     none e = cc
-changed_dies objects k x still (suc j) d = ⊎_elim
-    (λ same. let here : IsDying objects (suc k) = subst (λ i. IsDying objects (suc i)) same d in subst (λ i. IsDying (slice_set objects k x) (suc i)) (sym same) (x, set_here objects k x here.0 here.1, still here))
+changed_dies objects k x still (suc j) fields d = ⊎_elim
+    (λ same.
+    let here : IsDying objects (suc k) fields = subst (λ i. IsDying objects (suc i) fields) same d in
+    subst (λ i. IsDying (slice_set objects k x) (suc i) fields) (sym same) (x, set_here objects k x here.0 here.1, still fields here))
     (λ ne. (d.0, set_other objects k j x ne ∙ d.1, d.2))
     (cases_eq j k)
 
-pub changed_dying : (objects : List Object) (k : ℕ) (x : Object) (all : List ℕ) → (IsDying objects (suc k) → x.phase ≡ Dying) → AllDying objects all → AllDying (slice_set objects k x) all
+pub changed_dying : (objects : List Object) (k : ℕ) (x : Object) (all : List End) → ((fields : Option (List ℕ)) → IsDying objects (suc k) fields → IsAsFar fields x) → AllDying objects all → AllDying (slice_set objects k x) all
 changed_dying objects k x [] still d = tt
-changed_dying objects k x (o ∷ others) still d = (changed_dies objects k x still o d.0, changed_dying objects k x others still d.1)
+changed_dying objects k x (e ∷ others) still d = (changed_dies objects k x still e.object e.fields d.0, changed_dying objects k x others still d.1)
 
 -- this object isn't one of these
-abbrev pub IsApart : ℕ → List ℕ → Type 0
+abbrev pub IsApart : ℕ → List End → Type 0
 IsApart o [] = Unit {0}
-IsApart o (q ∷ others) = (q ≡ o → ⊥) × IsApart o others
+IsApart o (q ∷ others) = (q.object ≡ o → ⊥) × IsApart o others
 
-live_no_dying : (ob : Object) (found : Object) → Some ob ≡ Some found → is_live (Some ob) ≡ true → found.phase ≡ Dying → ⊥
-live_no_dying ob found e live dying =
+live_no_dying : (ob found : Object) (fields : Option (List ℕ)) → Some ob ≡ Some found → is_live (Some ob) ≡ true → IsAsFar fields found → ⊥
+live_no_dying ob found fields e live far =
     let same : ob ≡ found = cc in
-    let no : false ≡ true = ap object_live_at (sym dying ∙ ap (λ (x : Object). x.phase) (sym same)) ∙ live in
+    let no : false ≡ true = sym (not_live fields far) ∙ ap (λ (x : Object). is_live (Some x)) (sym same) ∙ live in
     false≢true no
   where
-    object_live_at : Phase → Bool
-    object_live_at phase = object_live (record { class = 0; fields = []; phase = phase })
+    live_in : Phase → Bool
+    live_in phase = is_live (Some (in_phase phase found))
+
+    not_live : (fs : Option (List ℕ)) → IsAsFar fs found → is_live (Some found) ≡ false
+    not_live None far1 = ap live_in far1
+    not_live (Some fs) far1 = ap live_in far1.0
 
 -- what isn't ending yet is none of those that are
-pub live_apart : (objects : List Object) (k : ℕ) (ob : Object) (all : List ℕ) → object_at objects (suc k) ≡ Some ob → is_live (Some ob) ≡ true → AllDying objects all → IsApart (suc k) all
+pub live_apart : (objects : List Object) (k : ℕ) (ob : Object) (all : List End) → object_at objects (suc k) ≡ Some ob → is_live (Some ob) ≡ true → AllDying objects all → IsApart (suc k) all
 live_apart objects k ob [] found live d = tt
 live_apart objects k ob (o ∷ others) found live d =
-    (λ same. live_no_dying ob d.0.0 (sym found ∙ ap (object_at objects) (sym same) ∙ d.0.1) live d.0.2, live_apart objects k ob others found live d.1)
+    (λ same. live_no_dying ob d.0.0 o.fields (sym found ∙ ap (object_at objects) (sym same) ∙ d.0.1) live d.0.2, live_apart objects k ob others found live d.1)
 
-apart_dies : (objects : List Object) (k : ℕ) (x : Object) (o : ℕ) → (o ≡ suc k → ⊥) → IsDying objects o → IsDying (slice_set objects k x) o
-apart_dies objects k x zero ne d = absurd (none d.1)
+apart_dies : (objects : List Object) (k : ℕ) (x : Object) (o : ℕ) (fields : Option (List ℕ)) → (o ≡ suc k → ⊥) → IsDying objects o fields → IsDying (slice_set objects k x) o fields
+apart_dies objects k x zero fields ne d = absurd (none d.1)
   where
     none : None ≡ Some d.0 → ⊥
     none e = cc
-apart_dies objects k x (suc j) ne d = (d.0, set_other objects k j x (λ e. ne (ap suc e)) ∙ d.1, d.2)
+apart_dies objects k x (suc j) fields ne d = (d.0, set_other objects k j x (λ e. ne (ap suc e)) ∙ d.1, d.2)
 
-pub apart_dying : (objects : List Object) (k : ℕ) (x : Object) (all : List ℕ) → IsApart (suc k) all → AllDying objects all → AllDying (slice_set objects k x) all
+pub apart_dying : (objects : List Object) (k : ℕ) (x : Object) (all : List End) → IsApart (suc k) all → AllDying objects all → AllDying (slice_set objects k x) all
 apart_dying objects k x [] apart d = tt
-apart_dying objects k x (o ∷ others) apart d = (apart_dies objects k x o apart.0 d.0, apart_dying objects k x others apart.1 d.1)
+apart_dying objects k x (o ∷ others) apart d = (apart_dies objects k x o.object o.fields apart.0 d.0, apart_dying objects k x others apart.1 d.1)
 
 -- nil doesn't end
-pub no_nil : (objects : List Object) → IsDying objects 0 → ⊥
-no_nil objects d = none d.1
+pub no_nil : (objects : List Object) (fields : Option (List ℕ)) → IsDying objects 0 fields → ⊥
+no_nil objects fields d = none d.1
   where
     none : None ≡ Some d.0 → ⊥
     none e = cc
+
+-- the same object, found twice
+pub found_once : (ob found : Object) (o : Option Object) → o ≡ Some ob → o ≡ Some found → ob ≡ found
+found_once ob found o e f = cc
+
+-- ---- fields that are destroyed
+
+-- an object whose fields aren't destroyed is as far with other fields that name objects
+pub stored_far : (objects : List Object) (k : ℕ) (ob : Object) (strong : List ℕ) → object_at objects (suc k) ≡ Some ob → is_emptying ob.phase ≡ false → (fields : Option (List ℕ)) → IsDying objects (suc k) fields → IsAsFar fields (with_strong_fields ob strong)
+stored_far objects k ob strong found not_yet None d = ap (λ (x : Object). x.phase) (found_once ob d.0 (object_at objects (suc k)) found d.1) ∙ d.2
+stored_far objects k ob strong found not_yet (Some fields) d =
+    let is : ob.phase ≡ Emptying = ap (λ (x : Object). x.phase) (found_once ob d.0 (object_at objects (suc k)) found d.1) ∙ d.2.0 in
+    let no : false ≡ true = sym not_yet ∙ ap is_emptying is in
+    absurd (false≢true no)
+
+-- an object is as far with other fields that hold numbers
+pub fields_far : (objects : List Object) (k : ℕ) (ob : Object) (numbers : List ℤ) → object_at objects (suc k) ≡ Some ob → (fields : Option (List ℕ)) → IsDying objects (suc k) fields → IsAsFar fields (with_fields ob numbers)
+fields_far objects k ob numbers found None d = ap (λ (x : Object). x.phase) (found_once ob d.0 (object_at objects (suc k)) found d.1) ∙ d.2
+fields_far objects k ob numbers found (Some fields) d =
+    subst (λ (x : Object). (x.phase ≡ Emptying) × NilBut fields x.strong) (sym (found_once ob d.0 (object_at objects (suc k)) found d.1)) d.2
+
+-- one field more names nothing
+pub one_nil : (index : ℕ) (fields strong : List ℕ) → NilBut (index ∷ fields) strong → NilBut fields (slice_set strong index 0)
+one_nil index fields strong but i k named = ⊎_elim
+    (λ same. absurd (zero_named (set_same strong index 0 (suc k) (subst (λ j. slice_get (slice_set strong index 0) j ≡ Some (suc k)) same named))))
+    (λ ne. ⊎_elim (λ same. absurd (ne same)) (λ rest. rest) (but i k (sym (set_other strong index i 0 ne) ∙ named)))
+    (cases_eq i index)
+  where
+    zero_named : 0 ≡ suc k → ⊥
+    zero_named e = omega (arith, e)
+
+-- where that field isn't there
+pub no_field : (index : ℕ) (fields strong : List ℕ) → slice_get strong index ≡ None → NilBut (index ∷ fields) strong → NilBut fields strong
+no_field index fields strong none but i k named = ⊎_elim (λ same. absurd (nothing (sym none ∙ ap (slice_get strong) (sym same) ∙ named))) (λ rest. rest) (but i k named)
+  where
+    nothing : None ≡ Some (suc k) → ⊥
+    nothing e = cc
+
+-- fields that all are nil name nothing
+pub nil_named : (strong : List ℕ) → NilBut [] strong → (k : ℕ) → holders (suc k) strong ≡ 0
+nil_named [] but k = refl
+nil_named (zero ∷ strong) but k = omega (arith, holders_nil k strong, nil_named strong (λ i. but (suc i)) k)
+nil_named (suc j ∷ strong) but k = absurd (but 0 j refl)
+
+-- ---- all fields are destroyed
+
+pub in_numbers : (i first count : ℕ) → first ≤ i → i < first + count → IsOneOf i (numbers_from first count)
+in_numbers i first zero le lt = absurd (omega (arith, le, lt))
+in_numbers i first (suc n) le lt = ⊎_elim (λ same. inl same) (λ ne. inr (in_numbers i (suc first) n (omega (arith, le, ne)) (omega (arith, lt)))) (cases_eq i first)
+
+pub in_first : (i : ℕ) (a b : List ℕ) → IsOneOf i a → IsOneOf i (a ++ b)
+in_first i [] b one = absurd one
+in_first i (j ∷ a) b one = ⊎_elim (λ same. inl same) (λ rest. inr (in_first i a b rest)) one
+
+pub in_next : (i : ℕ) (a b : List ℕ) → IsOneOf i b → IsOneOf i (a ++ b)
+in_next i [] b one = one
+in_next i (j ∷ a) b one = inr (in_next i a b one)
+
+in_order : (above : List ℕ) (i count : ℕ) → i < count → IsOneOf i (order_of_fields count above)
+in_order [] i count lt = in_numbers i 0 count (omega arith) (omega (arith, lt))
+in_order (n ∷ above) i count lt =
+    let least = lesser n count in
+    ⊎_elim
+    (λ small. in_next i (numbers_from least (count - least)) (order_of_fields least above) (in_order above i least small))
+    (λ great. in_first i (numbers_from least (count - least)) (order_of_fields least above) (in_numbers i least (count - least) great (omega (arith, great, lt))))
+    (before_or i least)
+  where
+    before_or : (a b : ℕ) → (a < b) ⊎ (b ≤ a)
+    before_or a b = grind arith
+
+named_within : (strong : List ℕ) (i r : ℕ) → slice_get strong i ≡ Some r → i < length strong
+named_within [] i r e = cc
+named_within (s ∷ strong) zero r e = omega arith
+named_within (s ∷ strong) (suc i) r e = omega (arith, named_within strong i r e)
+
+-- the order of an object's fields has all of them
+pub all_in_order : (classes : List Class) (ob : Object) → length ob.strong ≡ strong_count (slice_get classes ob.class) → NilBut (field_order classes ob.class) ob.strong
+all_in_order classes ob size i k named =
+    in_order (strong_counts classes (ancestry (superclasses classes) (above_class (slice_get classes ob.class)))) i (strong_count (slice_get classes ob.class)) (omega (arith, size, named_within ob.strong i (suc k) named))

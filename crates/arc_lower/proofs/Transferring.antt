@@ -74,7 +74,7 @@ module _ (p : Program) (R : resolved.Program) (is : orders p.actions ≡ lowered
   seen_fresh (Wedged i t) = refl
 
   -- what is seen of the steps
-  pub seen_moves : (input : List ℕ) (n : ℕ) → seen p input n ≡ run_seen (after_steps (moves p) n (Running (start p) input []))
+  pub seen_moves : (input : List ℕ) (n : ℕ) → seen p input n ≡ run_seen (after_steps (moves p) n (Running (fresh (start p)) input []))
   seen_moves input n = sym (seen_fresh (after_steps (step p) n (Running (start p) input []))) ∙ ap run_seen (sym (steps_fresh n (Running (start p) input []) (start_good p R is entries classes end)))
 
   fresh_wedged : (r : Reached State) (i : List ℕ) (t : List Event) → Kept r → freshened r ≡ Wedged i t → ⊥
@@ -84,7 +84,7 @@ module _ (p : Program) (R : resolved.Program) (is : orders p.actions ≡ lowered
   fresh_wedged (Wedged i1 t1) i t k e = k
 
   -- no run comes to a step that it hasn't
-  pub never_wedged : (input i : List ℕ) (t : List Event) (n : ℕ) → after_steps (moves p) n (Running (start p) input []) ≡ Wedged i t → ⊥
+  pub never_wedged : (input i : List ℕ) (t : List Event) (n : ℕ) → after_steps (moves p) n (Running (fresh (start p)) input []) ≡ Wedged i t → ⊥
   never_wedged input i t n e =
       let r = Running (start p) input [] in
       let k = start_good p R is entries classes end in

@@ -9,26 +9,37 @@ use Rattle.arc_spec.specs.Resolved.{Piece, Bytes, Decimal, Character, Function, 
 use Rattle.arc_code.specs.declared.instr.Op.{Op}
 use Rattle.arc_code.specs.declared.instr.Op.TheVariants as ops
 use Rattle.arc_code.specs.declared.instr.Op.TheVariants.{Num, Bin, Un, Narrow, Pop, Get, Set, PrintNum, PrintByte, Declare, Nil, ReadRef, Hold, Forget, Alloc, GetField, SetField, Differ, IsObject}
-use Rattle.arc_code.specs.declared.instr.Instr.TheVariants.{Plain, PrintText, Jump, JumpZero, Call, Send, SendSuper, SendTo, SendToSuper, StoreStrong, Empty, DropAll, Return}
+use Rattle.arc_code.specs.declared.instr.Instr.TheVariants.{Plain, PrintText, Jump, JumpZero, Call, Send, SendSuper, SendTo, SendToSuper, StoreStrong, StoreGlobal, StoreField, Empty, DropAll, Return}
 use Rattle.arc_code.specs.declared.effect.Effect.{Effect}
 use Rattle.arc_code.specs.declared.effect.Height.{Height}
 use Rattle.arc_code.specs.Effects.{on_numbers, operation_effect, passes}
 use Rattle.arc_ir.specs.declared.action.Target.TheVariants.{Skip}
 use Rattle.arc_lower.specs.Order.{Order}
-use Rattle.arc_lower.specs.Lowered.{conversion_orders, part_orders, piece_orders, left_behind, format_orders, pop_orders, keep_orders, print_orders, get_orders, set_orders, zero_orders, fit_orders, declare_orders, read_orders, store_orders, drop_orders, empty_orders, all_empty_orders, number_of, slots_of, call_orders, Inside, Block, Then, Fork, Loop, Quit, Advance, Full, Leave, flat}
+use Rattle.arc_lower.specs.Lowered.{conversion_orders, part_orders, piece_orders, left_behind, format_orders, pop_orders, keep_orders, print_orders, get_orders, set_orders, zero_orders, fit_orders, declare_orders, read_orders, store_orders, drop_orders, empty_orders, all_empty_orders, number_of, slots_of, parameters_of, object_parameters, forget_orders, nil_orders, fit_object_orders, passing_orders, take_orders, call_orders, Inside, Block, Then, Fork, Loop, Quit, Advance, Full, Leave, flat}
 use Rattle.arc_lower.specs.Heights.{height, between, after_effect, next_height, Walk, walk, next_walk, last_walk}
 use Rattle.arc_lower.proofs.Linking.{out_of_list}
 
 slots_by : (P : Program) (f : ℕ) (b : Bool) → nat_lt f (length P.functions) ≡ b → slots_of P (if b then f else length P.functions) ≡ slots_of P f
 slots_by P f true e = refl
 slots_by P f false e =
-    let past = out_of_list P.functions P.main P.globals P.classes (length P.functions) (omega arith) in
-    let other = out_of_list P.functions P.main P.globals P.classes f (ltb-false f (length P.functions) e) in
+    let past = out_of_list P.functions P.main P.globals P.strong_globals P.classes (length P.functions) (omega arith) in
+    let other = out_of_list P.functions P.main P.globals P.strong_globals P.classes f (ltb-false f (length P.functions) e) in
     ap (λ (g : Function). g.slots) (sym past ∙ other)
 
 -- a function that there isn't has as many variables as the one that is called for it
 pub slots_same : (P : Program) (f : ℕ) → slots_of P (number_of P f) ≡ slots_of P f
 slots_same P f = slots_by P f (nat_lt f (length P.functions)) refl
+
+parameters_by : (P : Program) (f : ℕ) (b : Bool) → nat_lt f (length P.functions) ≡ b → parameters_of P (if b then f else length P.functions) ≡ parameters_of P f
+parameters_by P f true e = refl
+parameters_by P f false e =
+    let past = out_of_list P.functions P.main P.globals P.strong_globals P.classes (length P.functions) (omega arith) in
+    let other = out_of_list P.functions P.main P.globals P.strong_globals P.classes f (ltb-false f (length P.functions) e) in
+    ap object_parameters (sym past ∙ other)
+
+-- and takes as many objects
+pub parameters_same : (P : Program) (f : ℕ) → parameters_of P (number_of P f) ≡ parameters_of P f
+parameters_same P f = parameters_by P f (nat_lt f (length P.functions)) refl
 
 number_by : (P : Program) (f : ℕ) (b : Bool) → nat_lt f (length P.functions) ≡ b → (if b then f else length P.functions) ≤ length P.functions
 number_by P f true e = let lt = ltb-true f (length P.functions) e in omega (arith, lt)
@@ -68,6 +79,7 @@ Reaches PrintNum h = 2 ≤ h.numbers
 Reaches PrintByte h = 2 ≤ h.numbers
 Reaches Declare h = h.temporaries ≡ 0
 Reaches (ReadRef i) h = i < h.variables
+Reaches (ops.ReadField class index) h = 1 ≤ h.names
 Reaches Hold h = 1 ≤ h.names
 Reaches ops.Again h = 1 ≤ h.names
 Reaches Forget h = 1 ≤ h.names
@@ -83,12 +95,14 @@ module _ (P : Program) where
   abbrev pub Needs : Order → Height → Type 0
   Needs (Plain o) h = Reaches o h
   Needs (PrintText t) h = 1 ≤ h.numbers
-  Needs (Call f) h = (slots_of P f ≤ h.numbers) × (f ≤ length P.functions)
-  Needs (Send selector takes) h = passes signs.Class takes ≤ h.numbers
-  Needs (SendSuper from selector takes) h = passes signs.Class takes ≤ h.numbers
-  Needs (SendTo selector takes) h = (takes ≤ h.numbers) × (1 ≤ h.names)
-  Needs (SendToSuper from selector takes) h = (takes ≤ h.numbers) × (1 ≤ h.names)
+  Needs (Call f) h = (slots_of P f ≤ h.numbers) × (f ≤ length P.functions) × (parameters_of P f ≤ h.names)
+  Needs (Send selector takes objects) h = (passes signs.Class takes ≤ h.numbers) × (objects ≤ h.names)
+  Needs (SendSuper from selector takes objects) h = (passes signs.Class takes ≤ h.numbers) × (objects ≤ h.names)
+  Needs (SendTo selector takes objects) h = (takes ≤ h.numbers) × (suc objects ≤ h.names)
+  Needs (SendToSuper from selector takes objects) h = (takes ≤ h.numbers) × (suc objects ≤ h.names)
   Needs (StoreStrong i) h = (1 ≤ h.names) × (i < h.variables)
+  Needs (StoreGlobal i) h = 1 ≤ h.names
+  Needs (StoreField class index) h = 2 ≤ h.names
   Needs (Empty i) h = i < h.variables
   Needs DropAll h = h.names ≡ 0
   Needs _ h = ⊥
@@ -130,7 +144,7 @@ module _ (P : Program) (r s : ℕ) where
     -- an operation before others, and an operation alone
     pub op : (taken given a : ℕ) (o : Op) (xs : List Order) (n u : ℕ) → operation_effect o ≡ on_numbers taken given → Reaches o (height (a + r) b c (d + s)) → a - taken + given ≡ n → Counts n xs u → Counts a (Plain o ∷ xs) u
     op taken given a o xs n u e needs count next =
-        (needs, subst (λ h. Types h xs (height u b c d)) (sym (ap (λ (f : Effect). after_effect (height a b c d) f.numbers_taken f) e ∙ numbers_same taken given a n count)) next)
+        (needs, subst (λ h. Types h xs (height u b c d)) (sym (ap (λ (f : Effect). after_effect (height a b c d) f) e ∙ numbers_same taken given a n count)) next)
 
     pub one : (taken given a : ℕ) (o : Op) (n : ℕ) → operation_effect o ≡ on_numbers taken given → Reaches o (height (a + r) b c (d + s)) → a - taken + given ≡ n → Counts a (Plain o ∷ []) n
     one taken given a o n e needs count = op taken given a o [] n n e needs count refl
@@ -208,18 +222,53 @@ module _ (P : Program) (r s : ℕ) where
             op 0 1 (suc a) (Get 0) (Plain (Set set) ∷ []) (suc (suc a)) (suc a) refl (omega arith) (omega arith) (one 1 0 (suc (suc a)) (Set set) (suc a) refl (omega (arith, lt, h)) (omega arith))
         by false e = refl
 
-    pub call_types : (f values a : ℕ) → Counts (values + a) (call_orders P f values) (suc a)
-    call_types f values a =
-        let same = slots_same P f in
-        counts_then (values + a) (fit_orders values (slots_of P f)) (slots_of P f + a) (Call (number_of P f) ∷ []) (suc a) (fit_types values (slots_of P f) a)
-        ((omega (arith, same), number_there P f), numbers_same (slots_of P (number_of P f)) 1 (slots_of P f + a) (suc a) (omega (arith, same)))
+  -- ---- references, and calls
+
+  pub forgets_type : (n a b c d : ℕ) → Types (height a (n + b) c d) (forget_orders n) (height a b c d)
+  forgets_type zero a b c d = heights_same a (0 + b) c d a b c d refl (omega arith) refl refl
+  forgets_type (suc n) a b c d = (omega arith, subst (λ h. Types h (forget_orders n) (height a b c d)) (heights_same a (n + b) c d _ _ _ _ (omega arith) (omega arith) (omega arith) (omega arith)) (forgets_type n a b c d))
+
+  nils_type : (n a b c d : ℕ) → Types (height a b c d) (nil_orders n) (height a (n + b) c d)
+  nils_type zero a b c d = heights_same a b c d a (0 + b) c d refl (omega arith) refl refl
+  nils_type (suc n) a b c d = (
+    tt,
+    subst (λ h. Types h (nil_orders n) (height a (suc n + b) c d)) (heights_same a (suc b) c d _ _ _ _ (omega arith) (omega arith) (omega arith) (omega arith))
+        (types_same (height a (suc b) c d) (nil_orders n) (height a (n + suc b) c d) (height a (suc n + b) c d) (heights_same a (n + suc b) c d a (suc n + b) c d refl (omega arith) refl refl) (nils_type n a (suc b) c d)),
+  )
+
+  fit_objects_by : (objects parameters a b c d forgets nils : ℕ) → forgets ≡ objects - parameters → nils ≡ parameters - objects → Types (height a (objects + b) c d) (forget_orders forgets ++ nil_orders nils) (height a (parameters + b) c d)
+  fit_objects_by objects parameters a b c d forgets nils e f =
+      let rest = objects + b - forgets in
+      let begin : forgets + rest ≡ objects + b = omega (arith, e) in
+      let end : nils + rest ≡ parameters + b = omega (arith, e, f) in
+      types_then (height a (objects + b) c d) (forget_orders forgets) (height a rest c d) (nil_orders nils) (height a (parameters + b) c d)
+      (subst (λ n. Types (height a n c d) (forget_orders forgets) (height a rest c d)) begin (forgets_type forgets a rest c d))
+      (subst (λ n. Types (height a rest c d) (nil_orders nils) (height a n c d)) end (nils_type nils a rest c d))
+
+  pub fit_object_types : (objects parameters a b c d : ℕ) → Types (height a (objects + b) c d) (fit_object_orders objects parameters) (height a (parameters + b) c d)
+  fit_object_types objects parameters a b c d = fit_objects_by objects parameters a b c d (objects - parameters) (parameters - objects) refl refl
+
+  -- so many numbers and references become what a function takes
+  pub passing_types : (f values objects a b c d : ℕ) → Types (height (values + a) (objects + b) c d) (passing_orders P f values objects) (height (slots_of P f + a) (parameters_of P f + b) c d)
+  passing_types f values objects a b c d =
+      types_then (height (values + a) (objects + b) c d) (fit_orders values (slots_of P f)) (height (slots_of P f + a) (objects + b) c d) (fit_object_orders objects (parameters_of P f)) (height (slots_of P f + a) (parameters_of P f + b) c d)
+      (fit_types (objects + b) c d values (slots_of P f) a)
+      (fit_object_types objects (parameters_of P f) (slots_of P f + a) b c d)
+
+  pub call_types : (b c d f values objects a : ℕ) → Types (height (values + a) (objects + b) c d) (call_orders P f values objects) (height (suc a) b c d)
+  call_types b c d f values objects a =
+      let same = slots_same P f in
+      let other = parameters_same P f in
+      types_then (height (values + a) (objects + b) c d) (passing_orders P f values objects) (height (slots_of P f + a) (parameters_of P f + b) c d) (Call (number_of P f) ∷ []) (height (suc a) b c d)
+      (passing_types f values objects a b c d)
+      ((omega (arith, same), number_there P f, omega (arith, other)), heights_same _ _ _ _ (suc a) b c d (omega (arith, same)) (omega (arith, other)) (omega arith) (omega arith))
 
   -- ---- variables that name objects
 
-  pub declare_types : (n a d : ℕ) → Types (height a 0 0 d) (declare_orders n) (height a 0 0 (n + d))
-  declare_types zero a d = heights_same _ _ _ _ a 0 0 (0 + d) refl refl refl (omega arith)
-  declare_types (suc n) a d =
-      (refl, subst (λ h. Types h (declare_orders n) (height a 0 0 (suc n + d))) (heights_same a 0 0 (d + 1) _ _ _ _ (omega arith) (omega arith) (omega arith) (omega arith)) (types_same (height a 0 0 (d + 1)) (declare_orders n) (height a 0 0 (n + (d + 1))) (height a 0 0 (suc n + d)) (heights_same _ _ _ _ a 0 0 (suc n + d) refl refl refl (omega arith)) (declare_types n a (d + 1))))
+  pub declare_types : (n a b d : ℕ) → Types (height a b 0 d) (declare_orders n) (height a b 0 (n + d))
+  declare_types zero a b d = heights_same _ _ _ _ a b 0 (0 + d) refl refl refl (omega arith)
+  declare_types (suc n) a b d =
+      (refl, subst (λ h. Types h (declare_orders n) (height a b 0 (suc n + d))) (heights_same a b 0 (d + 1) _ _ _ _ (omega arith) (omega arith) (omega arith) (omega arith)) (types_same (height a b 0 (d + 1)) (declare_orders n) (height a b 0 (n + (d + 1))) (height a b 0 (suc n + d)) (heights_same _ _ _ _ a b 0 (suc n + d) refl refl refl (omega arith)) (declare_types n a b (d + 1))))
 
   module _ (names a b c d : ℕ) (room : names ≤ d + s) where
     abbrev stays : Height
@@ -236,15 +285,25 @@ module _ (P : Program) (r s : ℕ) where
     all_empty_type first zero = refl
     all_empty_type first (suc n) = types_then stays (empty_orders names (first + n)) stays (all_empty_orders names first n) stays (empty_types (first + n)) (all_empty_type first n)
 
-    pub store_types : (i : ℕ) → 1 ≤ b → Types stays (store_orders names i) stays
-    store_types i some = by (nat_lt i names) refl
+    pub store_types : (i : Location) → 1 ≤ b → Types stays (store_orders names i) stays
+    store_types (Global i) some = (some, heights_same _ _ _ _ a b c d (omega arith) (omega (arith, some)) (omega arith) (omega arith))
+    store_types (Local i) some = by (nat_lt i names) refl
       where
         by : (t : Bool) → nat_lt i names ≡ t → Types stays (if t then StoreStrong i ∷ [] else []) stays
         by true e = let lt = ltb-true i names e in ((some, omega (arith, lt, room)), heights_same _ _ _ _ a b c d (omega arith) (omega (arith, some)) (omega arith) (omega arith))
         by false e = refl
 
-  pub read_types : (names i a b c d : ℕ) → names ≤ d + s → Types (height a b c d) (read_orders names i) (height a (suc b) (c + 1) d)
-  read_types names i a b c d room = by (nat_lt i names) refl
+  -- the first variables take what the last references name
+  pub take_types : (n a b c d : ℕ) → n ≤ d + s → Types (height a (n + b) c d) (take_orders n) (height a b c d)
+  take_types zero a b c d room = heights_same a (0 + b) c d a b c d refl (omega arith) refl refl
+  take_types (suc n) a b c d room = (
+    (omega arith, omega (arith, room)),
+    (omega arith, subst (λ h. Types h (take_orders n) (height a b c d)) (heights_same a (n + b) c d _ _ _ _ (omega arith) (omega arith) (omega arith) (omega arith)) (take_types n a b c d (omega (arith, room)))),
+  )
+
+  pub read_types : (names : ℕ) (i : Location) (a b c d : ℕ) → names ≤ d + s → Types (height a b c d) (read_orders names i) (height a (suc b) (c + 1) d)
+  read_types names (Global i) a b c d room = (tt, heights_same _ _ _ _ a (suc b) (c + 1) d (omega arith) (omega arith) (omega arith) (omega arith))
+  read_types names (Local i) a b c d room = by (nat_lt i names) refl
     where
       by : (t : Bool) → nat_lt i names ≡ t → Types (height a b c d) (if t then Plain (ReadRef i) ∷ [] else Plain Nil ∷ Plain Hold ∷ []) (height a (suc b) (c + 1) d)
       by true e = let lt = ltb-true i names e in (omega (arith, lt, room), heights_same _ _ _ _ a (suc b) (c + 1) d (omega arith) (omega arith) (omega arith) (omega arith))

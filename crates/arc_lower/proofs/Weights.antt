@@ -1,21 +1,24 @@
 -- What an expression is of its parts, and how much of it is left to lower: that falls with each call.
-use Rattle.std.proofs.Common.{rules, arith, ◌≡◌, ℕ, zero, suc, ◌+◌, ◌<◌, List, [], ◌∷◌, Box, Global, length, get_or, refl, sym, ap, subst, ◌∙◌}
+use Rattle.std.proofs.Common.{rules, arith, ◌≡◌, ℕ, zero, suc, ◌+◌, ◌<◌, ◌≤◌, List, [], ◌∷◌, Box, Global, length, get_or, refl, sym, ap, subst, ◌∙◌}
 use Rattle.arc_ast.specs.declared.tree.Kind.{Kind}
 use Rattle.arc_ast.specs.declared.tree.Moment.{Moment}
 use Rattle.arc_ast.specs.declared.tree.UnaryOperator.{UnaryOperator}
 use Rattle.arc_ast.specs.declared.tree.BinaryOperator.{BinaryOperator}
 use Rattle.arc_check.specs.declared.checked.Value as c
 use Rattle.arc_check.specs.declared.checked.Reference as r
+use Rattle.arc_check.specs.declared.checked.Receiver as rc
+use Rattle.arc_check.specs.declared.checked.Argument as g
+use Rattle.arc_check.specs.declared.checked.Argument.TheVariants.{Number', Object'}
 use Rattle.arc_spec.specs.declared.location.Location.{Location}
-use Rattle.arc_spec.specs.Resolved.{Value, Number, ReadByte, Print, Applied, Combined, Choice, Converted, Read, Assigned, Updated, Invoked, Sent, SentSuper, SentTo, SentToSuper, Field, FieldAssigned, FieldUpdated, Differ, IsObject, Reference, Nil, Itself, Variable, Chosen, Stored, Made, Initialized, Values, no_values, and_value}
-use Rattle.arc_check.specs.Checked.{value, values, reference}
+use Rattle.arc_spec.specs.Resolved.{Value, Number, ReadByte, Print, Applied, Combined, Choice, Converted, Read, Assigned, Updated, Invoked, Sent, Receiver, ClassValue, ClassSuper, ObjectValue, ObjectSuper, Field, FieldAssigned, FieldUpdated, Differ, IsObject, Reference, Nil, Itself, Variable, Chosen, Stored, ObjectField, ObjectFieldStored, Made, Initialized, Arguments, no_arguments, number_argument, object_argument}
+use Rattle.arc_check.specs.Checked.{value, arguments, and_argument, reference, receiver}
 use Rattle.arc_lower.specs.Lowered.{unused}
 
 abbrev mutual
   pub value_weight : Value → ℕ
   value_weight (Number n) = 1
   value_weight ReadByte = 1
-  value_weight (Print pieces arguments) = 2 + values_weight arguments
+  value_weight (Print pieces arguments) = 2 + arguments_weight arguments
   value_weight (Applied operator kind a) = 2 + value_weight a
   value_weight (Combined operator kind a b) = 2 + value_weight a + value_weight b
   value_weight (Choice c a b) = 2 + value_weight c + value_weight a + value_weight b
@@ -23,11 +26,8 @@ abbrev mutual
   value_weight (Read i) = 1
   value_weight (Assigned i a) = 2 + value_weight a
   value_weight (Updated moment i operator computed kept a) = 3 + value_weight a
-  value_weight (Invoked f arguments) = 2 + values_weight arguments
-  value_weight (Sent a selector arguments) = 2 + value_weight a + values_weight arguments
-  value_weight (SentSuper from selector arguments) = 2 + values_weight arguments
-  value_weight (SentTo a selector arguments) = 2 + reference_weight a + values_weight arguments
-  value_weight (SentToSuper from selector arguments) = 2 + values_weight arguments
+  value_weight (Invoked f arguments) = 2 + arguments_weight arguments
+  value_weight (Sent receiver selector arguments) = 2 + receiver_weight receiver + arguments_weight arguments
   value_weight (Field a class index) = 2 + reference_weight a
   value_weight (FieldAssigned a class index b) = 2 + reference_weight a + value_weight b
   value_weight (FieldUpdated moment a class index operator computed kept b) = 3 + reference_weight a + value_weight b
@@ -40,20 +40,39 @@ abbrev mutual
   reference_weight (Variable i) = 1
   reference_weight (Chosen c a b) = 2 + value_weight c + reference_weight a + reference_weight b
   reference_weight (Stored i a) = suc (reference_weight a)
+  reference_weight (ObjectField a class index) = 2 + reference_weight a
+  reference_weight (ObjectFieldStored a class index b) = 2 + reference_weight a + reference_weight b
   reference_weight (Made a) = 2 + value_weight a
   reference_weight (Initialized a) = 2 + reference_weight a
 
-  pub values_weight : Values → ℕ
-  values_weight no_values = 0
-  values_weight (and_value a others) = suc (value_weight a + values_weight others)
+  pub receiver_weight : Receiver → ℕ
+  receiver_weight (ClassValue a) = suc (value_weight a)
+  receiver_weight (ClassSuper from) = 1
+  receiver_weight (ObjectValue a) = suc (reference_weight a)
+  receiver_weight (ObjectSuper from) = 1
+
+  pub arguments_weight : Arguments → ℕ
+  arguments_weight no_arguments = 0
+  arguments_weight (number_argument a others) = 2 + value_weight a + arguments_weight others
+  arguments_weight (object_argument a others) = 2 + reference_weight a + arguments_weight others
+
+-- what one argument weighs
+abbrev pub argument_weight : g.Argument → ℕ
+argument_weight x = arguments_weight (and_argument x no_arguments)
 
 nothing_below : {A : Type 0} {n : ℕ} → n < 0 → A
 nothing_below {A} {n} h = search (rules, h)
 
-pub value_in : (vs : List c.Value) (i : ℕ) (v : c.Value) → i < length vs → v ≡ get_or vs i v → value_weight (value v) < values_weight (values vs)
-value_in [] i v below is = nothing_below below
-value_in (a ∷ vs) zero v below is = subst (λ x. value_weight (value x) < suc (value_weight (value a) + values_weight (values vs))) (sym is) (omega arith)
-value_in (a ∷ vs) (suc i) v below is = let deep = value_in vs i v (omega (arith, below)) is in omega (arith, deep)
+before_others : (x : g.Argument) (others : Arguments) → arguments_weight (and_argument x others) ≡ argument_weight x + arguments_weight others
+before_others (Number' q a) others = omega arith
+before_others (Object' q a) others = omega arith
+
+pub argument_in : (vs : List g.Argument) (i : ℕ) (v : g.Argument) → i < length vs → v ≡ get_or vs i v → argument_weight v ≤ arguments_weight (arguments vs)
+argument_in [] i v below is = nothing_below below
+argument_in (a ∷ vs) zero v below is =
+    let whole = before_others a (arguments vs) in
+    subst (λ x. argument_weight x ≤ arguments_weight (and_argument a (arguments vs))) (sym is) (omega (arith, whole))
+argument_in (a ∷ vs) (suc i) v below is = let deep = argument_in vs i v (omega (arith, below)) is in let whole = before_others a (arguments vs) in omega (arith, deep, whole)
 
 pub is_applied : (v : c.Value) (operator : UnaryOperator) (kind : Kind) (a : Box c.Value Global) (this : c.Value) → v ≡ c.Applied operator kind a → this ≡ a.value → value v ≡ Applied operator kind (value this)
 is_applied v operator kind a this is same = ap value is ∙ ap (λ x. Applied operator kind (value x)) (sym same)
@@ -122,11 +141,34 @@ is_differ v a b left right is same_left same_right =
 pub is_object : (v : c.Value) (a : Box r.Reference Global) (this : r.Reference) → v ≡ c.IsObject a → this ≡ a.value → value v ≡ IsObject (reference this)
 is_object v a this is same = ap value is ∙ ap (λ x. IsObject (reference x)) (sym same)
 
-pub is_stored : (v : r.Reference) (i : ℕ) (a : Box r.Reference Global) (this : r.Reference) → v ≡ r.Stored i a → this ≡ a.value → reference v ≡ Stored i (reference this)
+pub is_stored : (v : r.Reference) (i : Location) (a : Box r.Reference Global) (this : r.Reference) → v ≡ r.Stored i a → this ≡ a.value → reference v ≡ Stored i (reference this)
 is_stored v i a this is same = ap reference is ∙ ap (λ x. Stored i (reference x)) (sym same)
+
+pub is_object_field : (v : r.Reference) (a : Box r.Reference Global) (class index : ℕ) (this : r.Reference) → v ≡ r.ObjectField a class index → this ≡ a.value → reference v ≡ ObjectField (reference this) class index
+is_object_field v a class index this is same = ap reference is ∙ ap (λ x. ObjectField (reference x) class index) (sym same)
+
+pub is_object_field_stored : (v : r.Reference) (a : Box r.Reference Global) (class index : ℕ) (b : Box r.Reference Global) (object operand : r.Reference)
+    → v ≡ r.ObjectFieldStored a class index b → object ≡ a.value → operand ≡ b.value → reference v ≡ ObjectFieldStored (reference object) class index (reference operand)
+is_object_field_stored v a class index b object operand is same_object same =
+    ap reference is
+    ∙ ap (λ x. ObjectFieldStored (reference x) class index (reference b.value)) (sym same_object)
+    ∙ ap (λ x. ObjectFieldStored (reference object) class index (reference x)) (sym same)
 
 pub is_made : (v : r.Reference) (a : Box c.Value Global) (this : c.Value) → v ≡ r.Made a → this ≡ a.value → reference v ≡ Made (value this)
 is_made v a this is same = ap reference is ∙ ap (λ x. Made (value x)) (sym same)
 
 pub is_initialized : (v : r.Reference) (a : Box r.Reference Global) (this : r.Reference) → v ≡ r.Initialized a → this ≡ a.value → reference v ≡ Initialized (reference this)
 is_initialized v a this is same = ap reference is ∙ ap (λ x. Initialized (reference x)) (sym same)
+
+-- what a receiver and an argument are of their parts
+pub is_class_value : (v : rc.Receiver) (a : Box c.Value Global) (this : c.Value) → v ≡ rc.ClassValue a → this ≡ a.value → receiver v ≡ ClassValue (value this)
+is_class_value v a this is same = ap receiver is ∙ ap (λ x. ClassValue (value x)) (sym same)
+
+pub is_object_value : (v : rc.Receiver) (a : Box r.Reference Global) (this : r.Reference) → v ≡ rc.ObjectValue a → this ≡ a.value → receiver v ≡ ObjectValue (reference this)
+is_object_value v a this is same = ap receiver is ∙ ap (λ x. ObjectValue (reference x)) (sym same)
+
+pub is_number_argument : (v : g.Argument) (a : Box c.Value Global) (this : c.Value) (others : Arguments) → v ≡ g.Number a → this ≡ a.value → and_argument v others ≡ number_argument (value this) others
+is_number_argument v a this others is same = ap (λ x. and_argument x others) is ∙ ap (λ x. number_argument (value x) others) (sym same)
+
+pub is_object_argument : (v : g.Argument) (a : Box r.Reference Global) (this : r.Reference) (others : Arguments) → v ≡ g.Object a → this ≡ a.value → and_argument v others ≡ object_argument (reference this) others
+is_object_argument v a this others is same = ap (λ x. and_argument x others) is ∙ ap (λ x. object_argument (reference x) others) (sym same)

@@ -1,10 +1,10 @@
 -- The actions of a checked program perform it.
-use Rattle.std.proofs.Common.{◌≡◌, ℕ, ◌+◌, ◌≤◌, ℤ, List, [], ◌∷◌, length, ap, sym, ◌∙◌, arith, refl, subst, inl, inr}
+use Rattle.std.proofs.Common.{◌≡◌, ℕ, ◌+◌, ◌≤◌, ℤ, List, [], ◌∷◌, ◌++◌, length, length-append, ap, sym, ◌∙◌, arith, refl, subst, inl, inr}
 use Rattle.arc_ast.specs.declared.tree.Kind.TheVariants as k
 use Rattle.arc_spec.specs.Number.{converted}
 use Rattle.arc_spec.specs.Resolved as resolved
 use Rattle.arc_spec.specs.World as world
-use Rattle.arc_spec.specs.World.{World, Outcome, Done, Faulted, Cut, first_frame, first_world, first_locals}
+use Rattle.arc_spec.specs.World.{World, Outcome, Done, Faulted, Cut, first_frame, first_world, first_locals, first_names, nothing_given}
 use Rattle.arc_spec.specs.Meaning.{level, most_levels, mean}
 use Rattle.arc_spec.specs.Holding.{all_nil, on_left}
 use Rattle.arc_spec.specs.Stepping.{Next, Reached, Running, Ends, Ended, only_if, after_steps}
@@ -13,15 +13,15 @@ use Rattle.arc_spec.proofs.Steadiness.{steady}
 use Rattle.arc_ir.specs.Acting.{Program, State, step, start, seen}
 use Rattle.arc_code.specs.declared.instr.Instr.TheVariants.{Call, Return, EndStep}
 use Rattle.arc_lower.specs.Order.{orders}
-use Rattle.arc_lower.specs.Lowered.{number_of, slots_of, zero_orders, lowered, entries_of, end_step_of, classes_linked}
+use Rattle.arc_lower.specs.Lowered.{number_of, slots_of, parameters_of, passing_orders, lowered, entries_of, end_step_of, classes_linked}
 use Rattle.arc_lower.specs.Promise.{Performs, IsLowered}
 use Rattle.arc_lower.proofs.Leading.{leads_same, leads_step, Comes, Runs, leads_runs, then_runs}
 use Rattle.arc_lower.proofs.Behaving.{Shows, behaves}
-use Rattle.arc_lower.proofs.Recounting.{recount, moves, at, held_of}
-use Rattle.arc_lower.proofs.Doing.{has_front, has_back}
+use Rattle.arc_lower.proofs.Recounting.{fresh, recount, moves, at, held_of}
+use Rattle.arc_lower.proofs.Doing.{HasAt, has_front, has_back}
 use Rattle.arc_lower.proofs.Segments.{running}
 use Rattle.arc_lower.proofs.Stacking.{onto}
-use Rattle.arc_lower.proofs.Fitting.{zeros_pass}
+use Rattle.arc_lower.proofs.Fitting.{passing_leads}
 use Rattle.arc_lower.proofs.Running.{Returns}
 use Rattle.arc_lower.proofs.Linking.{has_start, has_end, has_stubs, begins}
 use Rattle.arc_lower.proofs.Finding.{Linked, linked}
@@ -33,7 +33,7 @@ use Rattle.arc_lower.proofs.Transferring.{seen_moves, never_wedged}
 abbrev Ends_with : ℤ → World → Reached State → Type 0
 Ends_with v w to = to ≡ Ended v w.input w.trace
 
-shows : (p : Program) (input : List ℕ) (bound : ℕ) (o : Outcome ℤ) → ((n : ℕ) → seen p input n ≡ run_seen (after_steps (moves p) n (Running (start p) input []))) → Comes (moves p) bound (running [] [] 0 [] (first_world p.globals input)) Ends_with o → Shows (seen p input) bound (meaning_seen o)
+shows : (p : Program) (input : List ℕ) (bound : ℕ) (o : Outcome ℤ) → ((n : ℕ) → seen p input n ≡ run_seen (after_steps (moves p) n (Running (fresh (start p)) input []))) → Comes (moves p) bound (running [] [] 0 [] (first_world p.globals p.strong_globals input)) Ends_with o → Shows (seen p input) bound (meaning_seen o)
 shows p input bound (Done v w) alike r = record { steps = r.1.steps; same = alike r.1.steps ∙ ap run_seen (r.1.there ∙ r.2); enough = λ e. cc }
 shows p input bound (Faulted f w) alike r = record { steps = r.steps; same = alike r.steps ∙ ap run_seen r.there; enough = λ e. cc }
 shows p input bound (Cut w) alike r = record { steps = r.0; same = alike r.0 ∙ ap run_seen r.3; enough = λ e. r.2 }
@@ -48,31 +48,36 @@ module _ (p : Program) (R : resolved.Program) (is : orders p.actions ≡ lowered
   links : Linked p R
   links = linked p R classes (has_stubs p R is entries)
 
-  program_runs : (input : List ℕ) (bound : ℕ) → Runs (moves p) bound (running [] [] 0 [] (first_world R.globals input)) Ends_with (mean R input bound)
+  program_runs : (input : List ℕ) (bound : ℕ) → Runs (moves p) bound (running [] [] 0 [] (first_world R.globals R.strong_globals input)) Ends_with (mean R input bound)
   program_runs input bound =
-      let w = first_world R.globals input in
-      let zeros = zero_orders (slots_of R R.main) in
-      let call = Call (number_of R R.main) ∷ (Return ∷ (EndStep ∷ [])) in
-      let q = 0 + length zeros in
+      let w = first_world R.globals R.strong_globals input in
+      let fits = passing_orders R R.main 0 0 in
+      let call = Call (number_of R R.main) ∷ [] in
+      let last_orders = Return ∷ (EndStep ∷ []) in
+      let q = 0 + length fits in
       let has = has_start p R is entries in
-      let last = has_back p 0 zeros call has in
+      let has_call = has_front p 0 (fits ++ call) last_orders has in
+      let behind = has_back p 0 (fits ++ call) last_orders has in
+      let size : 0 + length (fits ++ call) ≡ q + 1 = omega (arith, length-append fits call) in
+      let last = subst (λ n. HasAt p n last_orders) size behind in
       let s = onto (first_locals (slots_of R R.main) []) [] in
-      let o = (level R bound most_levels).call R.main 0 [] w in
+      let names = onto (first_names (parameters_of R R.main) []) [] in
+      let o = (level R bound most_levels).call R.main 0 nothing_given w in
       let end = Returns [] [] q [] w in
-      let ready = zeros_pass p [] bound [] (slots_of R R.main) [] w 0 (has_front p 0 zeros call has) in
-      let called = (calls_run p R bound (begins p R is entries) links (has_end p R is entries end_at) most_levels [] none).invokes R.main [] [] [] w q (last.0, tt) in
+      let ready = passing_leads p [] (slots_of R R.main) (parameters_of R R.main) 0 0 nothing_given [] [] w 0 refl refl (has_front p 0 fits call has_call) in
+      let called = (calls_run p R bound (begins p R is entries) links (has_end p R is entries end_at) most_levels [] none).invokes R.main nothing_given [] [] w q (has_back p 0 fits call has_call) in
       then_runs (moves p) bound (running [] [] 0 [] w) end Ends_with o (λ v w1. Done (converted k.Int v) w1)
-      (leads_runs (moves p) bound (running [] [] 0 [] w) (running [] [] q s w) end o ready called)
+      (leads_runs (moves p) bound (running [] [] 0 [] w) (running [] names q s w) end o ready called)
       (λ v w1 to m.
       let from = running [] [] (q + 1) (v ∷ []) w1 in
       leads_runs (moves p) bound to from Ends_with (Done (converted k.Int v) w1) (leads_same (moves p) to from m.0)
-      (inr (Ended (converted k.Int v) w1.input w1.trace, leads_step (moves p) (at [] (q + 1) (v ∷ []) (held_of [] w1)) w1.input w1.trace (Ends (converted k.Int v)) (ap recount (last.1.0 [] (v ∷ []) (held_of [] w1)) ∙ main_ends v w1 m.1.frame), refl)))
+      (inr (Ended (converted k.Int v) w1.input w1.trace, leads_step (moves p) (at [] (q + 1) (v ∷ []) (held_of [] w1)) w1.input w1.trace (Ends (converted k.Int v)) (ap recount (last.0 [] (v ∷ []) (held_of [] w1)) ∙ main_ends v w1 m.1.frame), refl)))
     where
       none : 0 + most_levels ≡ most_levels
       none = omega arith
 
   -- no step lacks what it needs
-  program_comes : (input : List ℕ) (bound : ℕ) → Runs (moves p) bound (running [] [] 0 [] (first_world p.globals input)) Ends_with (mean R input bound) → Comes (moves p) bound (running [] [] 0 [] (first_world p.globals input)) Ends_with (mean R input bound)
+  program_comes : (input : List ℕ) (bound : ℕ) → Runs (moves p) bound (running [] [] 0 [] (first_world p.globals p.strong_globals input)) Ends_with (mean R input bound) → Comes (moves p) bound (running [] [] 0 [] (first_world p.globals p.strong_globals input)) Ends_with (mean R input bound)
   program_comes input bound (inl wedged) = absurd (never_wedged p R is entries classes end_at input wedged.0 wedged.1 wedged.2.steps wedged.2.there)
   program_comes input bound (inr comes) = comes
 
@@ -86,7 +91,8 @@ performs p R is =
     record {
       behaves = behaves (λ input bound. meaning_seen (mean R input bound)) (seen p) calm
           (λ input bound. shows p input bound (mean R input bound) (seen_moves p R is.actions is.entries is.classes is.end_step input) (program_comes p R is.actions is.entries is.classes is.end_step input bound
-          (subst (λ globals. Runs (moves p) bound (running [] [] 0 [] (first_world globals input)) Ends_with (mean R input bound)) (sym is.globals) (program_runs p R is.actions is.entries is.classes is.end_step input bound))));
+          (subst (λ globals. Runs (moves p) bound (running [] [] 0 [] (first_world globals p.strong_globals input)) Ends_with (mean R input bound)) (sym is.globals)
+          (subst (λ n. Runs (moves p) bound (running [] [] 0 [] (first_world R.globals n input)) Ends_with (mean R input bound)) (sym is.strong_globals) (program_runs p R is.actions is.entries is.classes is.end_step input bound)))));
       steady = calm;
       sound = room_suffices p R is.actions is.entries is.classes is.end_step (at_most_same is.room) (at_most_same is.names) (at_most_same is.places);
     }

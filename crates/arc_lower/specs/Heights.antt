@@ -6,9 +6,9 @@ use Rattle.arc_spec.specs.Classes.{Class}
 use Rattle.arc_code.specs.declared.instr.Instr.TheVariants.{Jump, JumpZero, Call, DropAll, Return}
 use Rattle.arc_code.specs.declared.effect.Effect.{Effect}
 use Rattle.arc_code.specs.declared.effect.Height.{Height}
-use Rattle.arc_code.specs.Effects.{effect, passes, no_height, room_for}
+use Rattle.arc_code.specs.Effects.{effect, of_names, passes, no_height, room_for}
 use Rattle.arc_lower.specs.Order.{Order}
-use Rattle.arc_lower.specs.Lowered.{all_functions, slots_of, start_orders, function_orders, stub_orders, entries_of}
+use Rattle.arc_lower.specs.Lowered.{all_functions, slots_of, parameters_of, object_parameters, start_orders, leave_orders, entry_of, body_orders, function_orders, stub_orders, entries_of}
 
 abbrev pub height : (numbers names temporaries variables : ℕ) → Height
 height numbers names temporaries variables = record { numbers = numbers; names = names; temporaries = temporaries; variables = variables }
@@ -20,19 +20,20 @@ between slots names = height slots 0 0 names
 abbrev pub highest : Height → Height → Height
 highest a b = height (max a.numbers b.numbers) (max a.names b.names) (max a.temporaries b.temporaries) (max a.variables b.variables)
 
--- how many numbers an action takes; a call takes the variables of the function
-abbrev pub numbers_taken : Program → Order → ℕ
-numbers_taken P (Call f) = slots_of P f
-numbers_taken P x = (effect x).numbers_taken
+-- what an action takes and gives; a call takes the variables of the function that hold numbers, and the references of its parameters
+abbrev pub effect_in : Program → Order → Effect
+effect_in P (Call f) = of_names (slots_of P f) 1 (parameters_of P f)
+effect_in P x = effect x
 
--- the height once so many numbers are taken, and as many references as an effect takes, and what it gives is there
-abbrev pub after_effect : Height → (taken : ℕ) → Effect → Height
-after_effect h taken e = height (h.numbers - taken + e.numbers_given) (h.names - e.names_taken + e.names_given) (h.temporaries + e.temporaries) (h.variables + e.variables)
+-- the height once an effect has taken what it takes, and what it gives is there
+abbrev pub after_effect : Height → Effect → Height
+after_effect h e =
+    height (h.numbers - e.numbers_taken + e.numbers_given) (h.names - e.names_taken + e.names_given) (h.temporaries + e.temporaries) (h.variables + e.variables)
 
 -- the height after an action that goes on with the next one
 abbrev pub next_height : Program → Order → Height → Height
 next_height P DropAll h = record h { temporaries = 0 }
-next_height P x h = after_effect h (numbers_taken P x) (effect x)
+next_height P x h = after_effect h (effect_in P x)
 
 -- where a walk over actions is: the height there, and those at which the parts begin that tests may lead to, the last test first
 pub record Walk : Type 0 where
@@ -47,7 +48,7 @@ walk h pending = record { height = h; pending = pending }
 abbrev pub other_part : (base : Height) → Walk → Height
 other_part base w = record (get_or w.pending 0 base) { temporaries = w.height.temporaries }
 
--- The walk before the next action, in a function that has so much between two statements. What stands after a return is where the function is entered.
+-- The walk before the next action, in a function that has so much between two statements. What stands after a return is another part of the program.
 abbrev pub next_walk : Program → (base : Height) → Order → Walk → Walk
 next_walk P base (Jump to) w = walk (other_part base w) (drop 1 w.pending)
 next_walk P base (JumpZero to) w = let h = next_height P (JumpZero to) w.height in walk h (h ∷ w.pending)
@@ -79,24 +80,27 @@ greatest (h ∷ others) most = greatest others (highest most h)
 abbrev pub start_heights : Program → List Height
 start_heights P = heights P no_height no_height (start_orders P)
 
--- a function is left with its result above its variables
+-- a function is left with its result above its variables, and entered with the references of its parameters
 abbrev pub function_heights : Program → (place : ℕ) → Function → List Height
-function_heights P place f = heights P (between f.slots f.names) (between (suc f.slots) f.names) (function_orders P place f)
+function_heights P place f =
+    let base = between f.slots f.names in
+    heights P base (between (suc f.slots) f.names) (leave_orders f.slots f.names)
+    ++ heights P base (height f.slots (object_parameters f) 0 0) (body_orders P place (entry_of place f) f)
 
 abbrev pub functions_heights : Program → (place : ℕ) → List Function → List Height
 functions_heights P place [] = []
 functions_heights P place (f ∷ others) = function_heights P place f ++ functions_heights P (place + length (function_orders P place f)) others
 
-abbrev pub stub_heights : Program → (entries : List ℕ) → (values f : ℕ) → List Height
-stub_heights P entries values f = heights P no_height (between values 0) (stub_orders P entries values f)
+abbrev pub stub_heights : Program → (entries : List ℕ) → (values objects f : ℕ) → List Height
+stub_heights P entries values objects f = heights P no_height (height values objects 0 0) (stub_orders P entries values objects f)
 
 abbrev pub methods_heights : Program → (entries : List ℕ) → List Method → List Height
 methods_heights P entries [] = []
-methods_heights P entries (m ∷ others) = stub_heights P entries (passes m.sign m.takes) m.runs ++ methods_heights P entries others
+methods_heights P entries (m ∷ others) = stub_heights P entries (passes m.sign m.takes) m.objects m.runs ++ methods_heights P entries others
 
 abbrev pub dealloc_heights : Program → (entries : List ℕ) → Option ℕ → List Height
 dealloc_heights P entries None = []
-dealloc_heights P entries (Some f) = stub_heights P entries 0 f
+dealloc_heights P entries (Some f) = stub_heights P entries 0 0 f
 
 abbrev pub class_heights : Program → (entries : List ℕ) → Class → List Height
 class_heights P entries c = dealloc_heights P entries c.dealloc ++ methods_heights P entries c.methods

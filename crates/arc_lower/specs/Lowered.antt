@@ -10,15 +10,15 @@ use Rattle.arc_ast.specs.declared.tree.Moment.{Moment}
 use Rattle.arc_ast.specs.declared.tree.Moment.TheVariants.{Before, After}
 use Rattle.arc_spec.specs.declared.location.Location.{Location}
 use Rattle.arc_spec.specs.declared.location.Location.TheVariants.{Local, Global}
-use Rattle.arc_spec.specs.Resolved.{Piece, Bytes, Decimal, Character, Value, Number, ReadByte, Print, Applied, Combined, Choice, Converted, Assigned, Updated, Invoked, Sent, SentSuper, SentTo, SentToSuper, Field, FieldAssigned, FieldUpdated, Reference, Itself, Variable, Chosen, Stored, Made, Initialized, Values, no_values, and_value, Command, Sequence, Evaluate, EvaluateReference, Begin, Choose, Repeat, RepeatAfter, Break, Continue, Commands, no_commands, and_command, Function, Program}
+use Rattle.arc_spec.specs.Resolved.{Piece, Bytes, Decimal, Character, Value, Number, ReadByte, Print, Applied, Combined, Choice, Converted, Assigned, Updated, Invoked, Sent, Receiver, ClassValue, ClassSuper, ObjectValue, ObjectSuper, Field, FieldAssigned, FieldUpdated, Reference, Itself, Variable, Chosen, Stored, ObjectField, ObjectFieldStored, Made, Initialized, Arguments, no_arguments, number_argument, object_argument, Command, Sequence, Evaluate, EvaluateReference, Begin, Choose, Repeat, RepeatAfter, Break, Continue, Commands, no_commands, and_command, Function, Program}
 use Rattle.arc_spec.specs.Resolved as resolved
 use Rattle.arc_spec.specs.declared.class.Method.{Method}
-use Rattle.arc_spec.specs.Classes.{Class}
+use Rattle.arc_spec.specs.Classes.{Class, lesser}
 use Rattle.arc_spec.specs.Meaning.{function_at}
 use Rattle.arc_code.specs.declared.instr.Op.{Op}
-use Rattle.arc_code.specs.declared.instr.Op.TheVariants.{Num, Bin, Un, Narrow, Pop, Get, Set, PrintNum, PrintByte, GetChar, Declare, Nil, ReadSelf, ReadRef, Hold, Forget, Alloc, GetField, SetField, Differ, IsObject}
+use Rattle.arc_code.specs.declared.instr.Op.TheVariants.{Num, Bin, Un, Narrow, Pop, Get, Set, PrintNum, PrintByte, GetChar, Declare, Nil, ReadSelf, ReadRef, ReadGlobal, ReadField, Hold, Forget, Alloc, GetField, SetField, Differ, IsObject}
 use Rattle.arc_code.specs.declared.instr.Op.TheVariants as ops
-use Rattle.arc_code.specs.declared.instr.Instr.TheVariants.{Plain, PrintText, Jump, JumpZero, Call, Send, SendSuper, SendTo, SendToSuper, StoreStrong, Empty, DropAll, Return, EndStep}
+use Rattle.arc_code.specs.declared.instr.Instr.TheVariants.{Plain, PrintText, Jump, JumpZero, Call, Send, SendSuper, SendTo, SendToSuper, StoreStrong, StoreGlobal, StoreField, Empty, DropAll, Return, EndStep}
 use Rattle.arc_code.specs.Effects.{effect, passes}
 use Rattle.arc_ir.specs.declared.action.Target.TheVariants.{Skip, Back, At}
 use Rattle.arc_lower.specs.declared.frame.Turn.{Turn}
@@ -26,9 +26,16 @@ use Rattle.arc_lower.specs.declared.frame.Scope.{Scope}
 use Rattle.arc_lower.specs.Order.{Order}
 use Rattle.arc_lower.specs.Known.{is_within, combined_kind, known_kind}
 
-abbrev pub value_count : Values → ℕ
-value_count no_values = 0
-value_count (and_value a others) = suc (value_count others)
+-- how many of the arguments are numbers, and how many objects
+abbrev pub number_count : Arguments → ℕ
+number_count no_arguments = 0
+number_count (number_argument a others) = suc (number_count others)
+number_count (object_argument a others) = number_count others
+
+abbrev pub object_count : Arguments → ℕ
+object_count no_arguments = 0
+object_count (number_argument a others) = object_count others
+object_count (object_argument a others) = suc (object_count others)
 
 -- prints the first of so many values that lie below the count of bytes, the first one deepest; nothing where there is none
 abbrev pub conversion_orders : Order → (left : ℕ) → List Order
@@ -93,18 +100,39 @@ zero_orders (suc n) = Plain (Num (pos 0)) ∷ zero_orders n
 abbrev pub fit_orders : (values slots : ℕ) → List Order
 fit_orders values slots = pop_orders (values - slots) ++ zero_orders (slots - values)
 
+-- takes so many references
+abbrev pub forget_orders : ℕ → List Order
+forget_orders zero = []
+forget_orders (suc n) = Plain Forget ∷ forget_orders n
+
+-- so many references to nil
+abbrev pub nil_orders : ℕ → List Order
+nil_orders zero = []
+nil_orders (suc n) = Plain Nil ∷ nil_orders n
+
+-- makes so many references, the last ones, those of the parameters of a function: those beyond are taken, and those that lack are nil
+abbrev pub fit_object_orders : (objects parameters : ℕ) → List Order
+fit_object_orders objects parameters = forget_orders (objects - parameters) ++ nil_orders (parameters - objects)
+
 -- so many variables that name objects
 abbrev pub declare_orders : ℕ → List Order
 declare_orders zero = []
 declare_orders (suc n) = Plain Declare ∷ declare_orders n
 
+-- so many variables, the first ones, take what the last references name, the last one first; the references are taken
+abbrev pub take_orders : ℕ → List Order
+take_orders zero = []
+take_orders (suc n) = StoreStrong n ∷ Plain Forget ∷ take_orders n
+
 -- names what a variable names, and a temporary takes it; nil for a variable that there isn't
-abbrev pub read_orders : (names i : ℕ) → List Order
-read_orders names i = if nat_lt i names then Plain (ReadRef i) ∷ [] else Plain Nil ∷ Plain Hold ∷ []
+abbrev pub read_orders : (names : ℕ) → Location → List Order
+read_orders names (Global i) = Plain (ReadGlobal i) ∷ []
+read_orders names (Local i) = if nat_lt i names then Plain (ReadRef i) ∷ [] else Plain Nil ∷ Plain Hold ∷ []
 
 -- a variable takes what the last reference names, where there is such a variable
-abbrev pub store_orders : (names i : ℕ) → List Order
-store_orders names i = if nat_lt i names then StoreStrong i ∷ [] else []
+abbrev pub store_orders : (names : ℕ) → Location → List Order
+store_orders names (Global i) = StoreGlobal i ∷ []
+store_orders names (Local i) = if nat_lt i names then StoreStrong i ∷ [] else []
 
 -- whether an order has a temporary take an object
 abbrev pub order_takes : Order → Bool
@@ -125,7 +153,7 @@ all_empty_orders names first (suc n) = empty_orders names (first + n) ++ all_emp
 
 -- a function that gives 0, which stands behind the others: one that there isn't is called as this one
 abbrev pub nothing : Function
-nothing = record { slots = 0; names = 0; body = no_commands }
+nothing = record { slots = 0; names = 0; parameters = 0; body = no_commands }
 
 abbrev pub all_functions : Program → List Function
 all_functions P = P.functions ++ nothing ∷ []
@@ -136,9 +164,20 @@ number_of P f = if nat_lt f (length P.functions) then f else length P.functions
 abbrev pub slots_of : Program → (f : ℕ) → ℕ
 slots_of P f = (function_at P f).slots
 
--- calls a function with so many values
-abbrev pub call_orders : Program → (f values : ℕ) → List Order
-call_orders P f values = fit_orders values (slots_of P f) ++ Call (number_of P f) ∷ []
+-- how many objects a function takes: it has no more parameters than variables
+abbrev pub object_parameters : Function → ℕ
+object_parameters f = lesser f.parameters f.names
+
+abbrev pub parameters_of : Program → (f : ℕ) → ℕ
+parameters_of P f = object_parameters (function_at P f)
+
+-- makes so many numbers and so many references what a function takes
+abbrev pub passing_orders : Program → (f values objects : ℕ) → List Order
+passing_orders P f values objects = fit_orders values (slots_of P f) ++ fit_object_orders objects (parameters_of P f)
+
+-- calls a function with so many numbers and so many objects
+abbrev pub call_orders : Program → (f values objects : ℕ) → List Order
+call_orders P f values objects = passing_orders P f values objects ++ Call (number_of P f) ∷ []
 
 -- who gets a message: a class, `super` in a class method, an object, or `super`
 pub data Message : Type 0 where
@@ -163,14 +202,16 @@ pub data Block : Type 0 where
   Load : (depth : ℕ) → Location → Block
   Store : (depth : ℕ) → Location → Block
   -- a variable that names an object is read, and takes what the last reference names
-  Read : ℕ → Block
-  Assign : ℕ → Block
+  Read : Location → Block
+  Assign : Location → Block
+  -- a field of the object of the reference before the last one takes what that names
+  AssignField : (class index : ℕ) → Block
   -- so many variables are emptied, from the first one on
   Clear : (first count : ℕ) → Block
-  -- a format, a call and a message, with so many values
-  Format : List Piece → (values : ℕ) → Block
-  Calls : (f values : ℕ) → Block
-  Tells : Message → (values : ℕ) → Block
+  -- a format, a call and a message, with so many numbers and so many objects
+  Format : List Piece → (values objects : ℕ) → Block
+  Calls : (f values objects : ℕ) → Block
+  Tells : Message → (values objects : ℕ) → Block
   -- one after another
   Then : Block → Block → Block
   -- takes a number: the first where it isn't 0, else the second
@@ -186,11 +227,11 @@ pub data Block : Type 0 where
   -- leaves the function at its exit, with its result on top
   Leave : (exit : ℕ) → Block
 
-abbrev pub message_order : Message → (values : ℕ) → Order
-message_order (ToClass selector) n = Send selector n
-message_order (ToSuperClass from selector) n = SendSuper from selector n
-message_order (ToObject selector) n = SendTo selector n
-message_order (ToSuper from selector) n = SendToSuper from selector n
+abbrev pub message_order : Message → (values objects : ℕ) → Order
+message_order (ToClass selector) n m = Send selector n m
+message_order (ToSuperClass from selector) n m = SendSuper from selector n m
+message_order (ToObject selector) n m = SendTo selector n m
+message_order (ToSuper from selector) n m = SendToSuper from selector n m
 
 -- where no loop's turn is
 abbrev pub no_turn : Turn
@@ -242,9 +283,10 @@ flat P slots names e (Store depth i) = set_orders slots depth i
 flat P slots names e (Read i) = read_orders names i
 flat P slots names e (Assign i) = store_orders names i
 flat P slots names e (Clear first count) = all_empty_orders names first count
-flat P slots names e (Format pieces n) = print_orders pieces n
-flat P slots names e (Calls f n) = call_orders P f n
-flat P slots names e (Tells message n) = message_order message n ∷ []
+flat P slots names e (AssignField class index) = StoreField class index ∷ []
+flat P slots names e (Format pieces n m) = forget_orders m ++ print_orders pieces n
+flat P slots names e (Calls f n m) = call_orders P f n m
+flat P slots names e (Tells message n m) = message_order message n m ∷ []
 flat P slots names e (Then a b) =
     let xs = flat P slots names e a in
     xs ++ flat P slots names (past (length xs) e) b
@@ -288,12 +330,25 @@ abbrev pub update_block : Moment → (right : Block) → BinaryOperator → (com
 update_block moment right operator computed kept store =
     Then (old_block moment) (Then right (Then (One (Bin operator computed)) (Then (narrow_block (combined_kind operator computed) kept) (Then store (given_block moment)))))
 
--- An expression leaves one operand more. What gets a message to a class lies below its arguments; one to `super` goes to `self`, in a class method the first variable.
+-- how many operands lie below the arguments of a message: a class that gets it is one more
+abbrev pub below_arguments : Receiver → (depth : ℕ) → ℕ
+below_arguments (ClassValue a) depth = suc depth
+below_arguments (ClassSuper from) depth = suc depth
+below_arguments (ObjectValue a) depth = depth
+below_arguments (ObjectSuper from) depth = depth
+
+abbrev pub message_to : Receiver → (selector : ℕ) → Message
+message_to (ClassValue a) selector = ToClass selector
+message_to (ClassSuper from) selector = ToSuperClass from selector
+message_to (ObjectValue a) selector = ToObject selector
+message_to (ObjectSuper from) selector = ToSuper from selector
+
+-- An expression leaves one operand more. What gets a message lies below its arguments; one to `super` goes to `self`, in a class method the first variable.
 abbrev mutual
   pub value_block : (depth : ℕ) → Value → Block
   value_block depth (Number n) = One (Num n)
   value_block depth ReadByte = One GetChar
-  value_block depth (Print pieces arguments) = Then (values_block depth arguments) (Format pieces (value_count arguments))
+  value_block depth (Print pieces arguments) = Then (arguments_block depth arguments) (Format pieces (number_count arguments) (object_count arguments))
   value_block depth (Applied operator kind a) = Then (value_block depth a) (One (Un operator kind))
   value_block depth (Combined operator kind a b) = Then (value_block depth a) (Then (value_block (suc depth) b) (One (Bin operator kind)))
   value_block depth (Choice c a b) = Then (value_block depth c) (Fork (value_block depth a) (value_block depth b))
@@ -303,15 +358,10 @@ abbrev mutual
   value_block depth (Updated moment i operator computed kept a) =
       let below = below_new moment depth in
       Then (Load depth i) (update_block moment (value_block (suc below) a) operator computed kept (Store below i))
-  value_block depth (Invoked f arguments) = Then (values_block depth arguments) (Calls f (value_count arguments))
-  value_block depth (Sent a selector arguments) =
-      Then (value_block depth a) (Then (values_block (suc depth) arguments) (Tells (ToClass selector) (value_count arguments)))
-  value_block depth (SentSuper from selector arguments) =
-      Then (Load depth (Local 0)) (Then (values_block (suc depth) arguments) (Tells (ToSuperClass from selector) (value_count arguments)))
-  value_block depth (SentTo a selector arguments) =
-      Then (reference_block depth a) (Then (values_block depth arguments) (Tells (ToObject selector) (value_count arguments)))
-  value_block depth (SentToSuper from selector arguments) =
-      Then (One ReadSelf) (Then (values_block depth arguments) (Tells (ToSuper from selector) (value_count arguments)))
+  value_block depth (Invoked f arguments) = Then (arguments_block depth arguments) (Calls f (number_count arguments) (object_count arguments))
+  value_block depth (Sent receiver selector arguments) =
+      Then (receiver_block depth receiver) (Then (arguments_block (below_arguments receiver depth) arguments)
+      (Tells (message_to receiver selector) (number_count arguments) (object_count arguments)))
   value_block depth (Field a class index) = Then (reference_block depth a) (One (GetField class index))
   value_block depth (FieldAssigned a class index b) = Then (reference_block depth a) (Then (value_block depth b) (One (SetField class index)))
   value_block depth (FieldUpdated moment a class index operator computed kept b) =
@@ -327,12 +377,24 @@ abbrev mutual
   reference_block depth (Variable i) = Read i
   reference_block depth (Chosen c a b) = Then (value_block depth c) (Fork (reference_block depth a) (reference_block depth b))
   reference_block depth (Stored i a) = Then (reference_block depth a) (Then (Assign i) (One Hold))
+  reference_block depth (ObjectField a class index) = Then (reference_block depth a) (One (ReadField class index))
+  reference_block depth (ObjectFieldStored a class index b) =
+      Then (reference_block depth a) (Then (reference_block depth b) (Then (AssignField class index) (One Hold)))
   reference_block depth (Made a) = Then (value_block depth a) (One Alloc)
   reference_block depth (Initialized a) = Then (reference_block depth a) (One Hold)
 
-  pub values_block : (depth : ℕ) → Values → Block
-  values_block depth no_values = Idle
-  values_block depth (and_value a others) = Then (value_block depth a) (values_block (suc depth) others)
+  -- leaves the class that gets a message as one operand more, or a reference to the object
+  pub receiver_block : (depth : ℕ) → Receiver → Block
+  receiver_block depth (ClassValue a) = value_block depth a
+  receiver_block depth (ClassSuper from) = Load depth (Local 0)
+  receiver_block depth (ObjectValue a) = reference_block depth a
+  receiver_block depth (ObjectSuper from) = One ReadSelf
+
+  -- leaves an operand for each number, and a reference for each object
+  pub arguments_block : (depth : ℕ) → Arguments → Block
+  arguments_block depth no_arguments = Idle
+  arguments_block depth (number_argument a others) = Then (value_block depth a) (arguments_block (suc depth) others)
+  arguments_block depth (object_argument a others) = Then (reference_block depth a) (arguments_block depth others)
 
 -- full-expressions
 abbrev pub whole_block : Value → Block
@@ -343,7 +405,7 @@ whole_reference_block a = Full (reference_block 0 a) (One Forget)
 
 -- a variable begins with an object
 abbrev pub begin_block : ℕ → Reference → Block
-begin_block i a = Full (reference_block 0 a) (Then (Assign i) (One Forget))
+begin_block i a = Full (reference_block 0 a) (Then (Assign (Local i)) (One Forget))
 
 -- An expression that does the same, where nobody uses the number that it gives: an update gives the new number then, for which no copy of the old one is kept.
 abbrev pub unused : Value → Value
@@ -412,8 +474,11 @@ value_orders P slots names depth a = flat P slots names Inside (value_block dept
 abbrev pub reference_orders : Program → (slots names depth : ℕ) → Reference → List Order
 reference_orders P slots names depth a = flat P slots names Inside (reference_block depth a)
 
-abbrev pub all_value_orders : Program → (slots names depth : ℕ) → Values → List Order
-all_value_orders P slots names depth all = flat P slots names Inside (values_block depth all)
+abbrev pub receiver_orders : Program → (slots names depth : ℕ) → Receiver → List Order
+receiver_orders P slots names depth a = flat P slots names Inside (receiver_block depth a)
+
+abbrev pub argument_orders : Program → (slots names depth : ℕ) → Arguments → List Order
+argument_orders P slots names depth all = flat P slots names Inside (arguments_block depth all)
 
 abbrev pub whole_orders : Program → (slots names : ℕ) → Value → List Order
 whole_orders P slots names a = flat P slots names Inside (whole_block a)
@@ -460,11 +525,15 @@ command_orders P slots names here s c = flat P slots names (spot here s.turn) (c
 abbrev pub commands_orders : Program → (slots names here : ℕ) → Surroundings → Commands → List Order
 commands_orders P slots names here s all = flat P slots names (spot here s.turn) (commands_block s.exit (breaking s) (continuing s) all)
 
+-- what a function begins with: its variables that name objects, of which the first take what it is given
+abbrev pub opening_orders : (names parameters : ℕ) → List Order
+opening_orders names parameters = declare_orders names ++ take_orders parameters
+
 -- what a function does from its entry on, which is at this place
 abbrev pub body_orders : Program → (exit entry : ℕ) → Function → List Order
 body_orders P exit entry f =
-    let declares = declare_orders f.names in
-    declares ++ flat P f.slots f.names (Between (entry + length declares) no_turn) (body_block exit f.body)
+    let opening = opening_orders f.names (object_parameters f) in
+    opening ++ flat P f.slots f.names (Between (entry + length opening) no_turn) (body_block exit f.body)
 
 -- leaves a function with so many variables of each kind: those that name objects are emptied, and its result, on top, is put in the place of the others
 abbrev pub leave_orders : (slots names : ℕ) → List Order
@@ -490,30 +559,30 @@ abbrev pub entries_from : Program → (place : ℕ) → List Function → List �
 entries_from P place [] = []
 entries_from P place (f ∷ others) = entry_of place f ∷ entries_from P (place + length (function_orders P place f)) others
 
--- where a program begins: main's variables, a call of main, and the end; and behind it where the ends of objects go on
+-- where a program begins: a call of main without arguments, and the end; and behind it where the ends of objects go on
 abbrev pub start_orders : Program → List Order
-start_orders P = zero_orders (slots_of P P.main) ++ (Call (number_of P P.main) ∷ [] ++ (Return ∷ [] ++ EndStep ∷ []))
+start_orders P = call_orders P P.main 0 0 ++ (Return ∷ [] ++ EndStep ∷ [])
 
 -- where the ends of objects go on
 abbrev pub end_step_of : Program → ℕ
-end_step_of P = slots_of P P.main + 2
+end_step_of P = slots_of P P.main + parameters_of P P.main + 2
 
 abbrev pub entries_of : Program → List ℕ
 entries_of P = entries_from P (length (start_orders P)) (all_functions P)
 
--- A stub, to which a message goes, or the end of an object: it makes so many numbers the variables of a function, and goes on where that is entered.
-abbrev pub stub_orders : Program → (entries : List ℕ) → (values f : ℕ) → List Order
-stub_orders P entries values f = fit_orders values (slots_of P f) ++ Jump (At (slice_index_or entries (number_of P f) 0)) ∷ []
+-- A stub, to which a message goes, or the end of an object: it makes so many numbers and objects what a function takes, and goes on where that is entered.
+abbrev pub stub_orders : Program → (entries : List ℕ) → (values objects f : ℕ) → List Order
+stub_orders P entries values objects f = passing_orders P f values objects ++ Jump (At (slice_index_or entries (number_of P f) 0)) ∷ []
 
 -- the stubs of methods, one behind the other
 abbrev pub methods_orders : Program → (entries : List ℕ) → List Method → List Order
 methods_orders P entries [] = []
-methods_orders P entries (m ∷ others) = stub_orders P entries (passes m.sign m.takes) m.runs ++ methods_orders P entries others
+methods_orders P entries (m ∷ others) = stub_orders P entries (passes m.sign m.takes) m.objects m.runs ++ methods_orders P entries others
 
 -- the stub of a dealloc, where there is one
 abbrev pub dealloc_orders : Program → (entries : List ℕ) → Option ℕ → List Order
 dealloc_orders P entries None = []
-dealloc_orders P entries (Some f) = stub_orders P entries 0 f
+dealloc_orders P entries (Some f) = stub_orders P entries 0 0 f
 
 -- the stub of a class's dealloc, and those of its methods
 abbrev pub class_orders : Program → (entries : List ℕ) → Class → List Order
@@ -527,8 +596,8 @@ classes_orders P entries (c ∷ others) = class_orders P entries c ++ classes_or
 abbrev pub linked_methods : Program → (entries : List ℕ) → (place : ℕ) → List Method → List Method
 linked_methods P entries place [] = []
 linked_methods P entries place (m ∷ others) =
-    record { sign = m.sign; selector = m.selector; takes = m.takes; runs = place }
-    ∷ linked_methods P entries (place + length (stub_orders P entries (passes m.sign m.takes) m.runs)) others
+    record { sign = m.sign; selector = m.selector; takes = m.takes; objects = m.objects; runs = place }
+    ∷ linked_methods P entries (place + length (stub_orders P entries (passes m.sign m.takes) m.objects m.runs)) others
 
 -- a dealloc runs its stub at this place
 abbrev pub linked_dealloc : (place : ℕ) → Option ℕ → Option ℕ
@@ -541,6 +610,7 @@ linked_class P entries place c = record {
   methods = linked_methods P entries (place + length (dealloc_orders P entries c.dealloc)) c.methods;
   dealloc = linked_dealloc place c.dealloc;
   fields = c.fields;
+  strong_fields = c.strong_fields;
 }
 
 abbrev pub linked_classes : Program → (entries : List ℕ) → (place : ℕ) → List Class → List Class

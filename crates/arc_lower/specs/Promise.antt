@@ -23,4 +23,5 @@ pub record IsLowered (meant : resolved.Program) (acting : Program) : Type 0 wher
   pub names : acting.names ≡ names_of meant
   pub places : acting.places ≡ places_of meant
   pub globals : acting.globals ≡ meant.globals
+  pub strong_globals : acting.strong_globals ≡ meant.strong_globals
   pub classes : acting.classes ≡ classes_linked meant

@@ -1,24 +1,24 @@
 //! From expressions to actions that leave a number on the stack, or a reference to an object.
-ghost use Rattle.std.specs.Prelude.{◌≡◌, ◌++◌, suc, [], ◌∷◌, OnOk};
+ghost use Rattle.std.specs.Prelude.{◌≡◌, ◌++◌, suc, [], ◌∷◌, OnOk, IfOk};
 ghost use Rattle.arc_check.specs.Checked as checked;
-ghost use Rattle.arc_check.specs.Checked.{value, reference, values, program_of};
+ghost use Rattle.arc_check.specs.Checked.{value, reference, receiver as receiver_of, arguments as arguments_of, program_of};
 ghost use Rattle.arc_spec.specs.Resolved as resolved;
 ghost use Rattle.arc_lower.specs.Order.{order, orders};
 ghost use Rattle.arc_lower.specs.Known.{combined_kind};
 ghost use Rattle.arc_code.specs.declared.instr.Op.TheVariants.{Bin};
 ghost use Rattle.arc_code.specs.declared.instr.Instr.TheVariants.{Plain};
-ghost use Rattle.arc_lower.specs.Lowered.{old_orders, narrow_orders, unused, value_orders, reference_orders, all_value_orders};
+ghost use Rattle.arc_lower.specs.Lowered.{old_orders, narrow_orders, unused, value_orders, reference_orders, receiver_orders, argument_orders, number_count, object_count, below_arguments, message_to, message_order};
 
 use crate::call::append_call;
 use crate::frame::Frame;
 use crate::jump::join;
 use crate::known::known_kind;
-use crate::place::{append_read, append_store};
+use crate::place::{append_forgets, append_read, append_store};
 use crate::print::append_print;
 use crate::update::{Update, append_given, append_narrow, append_new, append_old, below_new};
 use crate::variable::{append_get, append_set, one_more};
 use arc_ast::tree::{Kind, Moment};
-use arc_check::checked::{Checked, Piece, Reference, Value};
+use arc_check::checked::{Argument, Checked, Piece, Receiver, Reference, Value};
 use arc_code::instr::{Instr, Op};
 use arc_ir::action::{Action, Target};
 use arc_spec::event::NoMemory;
@@ -86,17 +86,10 @@ pub(crate) fn append_value(
         Value::Invoked(function, arguments) => {
             append_invoked(alloc, actions, program, frame, *function, arguments)
         }
-        Value::Sent(target, selector, arguments) => {
-            append_sent(alloc, actions, program, frame, target, *selector, arguments)
-        }
-        Value::SentSuper(from, selector, arguments) => {
-            append_sent_super(alloc, actions, program, frame, *from, *selector, arguments)
-        }
-        Value::SentTo(target, selector, arguments) => {
-            append_sent_to(alloc, actions, program, frame, target, *selector, arguments)
-        }
-        Value::SentToSuper(from, selector, arguments) => {
-            append_sent_to_super(alloc, actions, program, frame, *from, *selector, arguments)
+        Value::Sent(receiver, selector, arguments) => {
+            append_sent(
+                alloc, actions, program, frame, receiver, *selector, arguments,
+            )
         }
         Value::Field(object, class, index) => {
             let action = Instr::Plain(Op::GetField(*class, *index));
@@ -175,12 +168,13 @@ fn append_printed(
     program: &Checked,
     frame: Frame,
     pieces: &[Piece],
-    arguments: &[Value],
+    arguments: &[Argument],
 ) -> Result<(), NoMemory>
-    ensures { OnOk result (orders actions.new.items ≡ orders actions.old.items ++ value_orders (program_of program.now) frame.slots frame.names frame.operands (resolved.Print (checked.pieces pieces.now) (values arguments.now))) }
+    ensures { OnOk result (orders actions.new.items ≡ orders actions.old.items ++ value_orders (program_of program.now) frame.slots frame.names frame.operands (resolved.Print (checked.pieces pieces.now) (arguments_of arguments.now))) }
 {
-    append_values(alloc, actions, program, frame, arguments)?;
-    append_print(alloc, actions, pieces, arguments.len())
+    append_arguments(alloc, actions, program, frame, arguments)?;
+    append_forgets(actions, count_objects(arguments))?;
+    append_print(alloc, actions, pieces, count_numbers(arguments))
 }
 
 /// Appends the actions of an expression that gives a number, and this action behind them.
@@ -389,89 +383,110 @@ fn append_invoked(
     program: &Checked,
     frame: Frame,
     function: usize,
-    arguments: &[Value],
+    arguments: &[Argument],
 ) -> Result<(), NoMemory>
-    ensures { OnOk result (orders actions.new.items ≡ orders actions.old.items ++ value_orders (program_of program.now) frame.slots frame.names frame.operands (resolved.Invoked function (values arguments.now))) }
+    ensures { OnOk result (orders actions.new.items ≡ orders actions.old.items ++ value_orders (program_of program.now) frame.slots frame.names frame.operands (resolved.Invoked function (arguments_of arguments.now))) }
 {
-    append_values(alloc, actions, program, frame, arguments)?;
-    append_call(actions, program, function, arguments.len())
+    append_arguments(alloc, actions, program, frame, arguments)?;
+    append_call(
+        actions,
+        program,
+        function,
+        count_numbers(arguments),
+        count_objects(arguments),
+    )
 }
 
-/// Appends the actions of a message to a class, below whose arguments lies what gets it.
+/// Appends the actions of a message, what gets it first.
 #[cycle(expression)]
 fn append_sent(
     alloc: Global,
     actions: &mut Vec<Action>,
     program: &Checked,
     frame: Frame,
-    receiver: &Value,
+    receiver: &Receiver,
     selector: usize,
-    arguments: &[Value],
+    arguments: &[Argument],
 ) -> Result<(), NoMemory>
-    ensures { OnOk result (orders actions.new.items ≡ orders actions.old.items ++ value_orders (program_of program.now) frame.slots frame.names frame.operands (resolved.Sent (value receiver.now) selector (values arguments.now))) }
+    ensures { OnOk result (orders actions.new.items ≡ orders actions.old.items ++ value_orders (program_of program.now) frame.slots frame.names frame.operands (resolved.Sent (receiver_of receiver.now) selector (arguments_of arguments.now))) }
 {
-    append_value(alloc, actions, program, frame, receiver)?;
-    let operands = one_more(frame.operands)?;
-    let above_receiver = Frame { operands, ..frame };
-    append_values(alloc, actions, program, above_receiver, arguments)?;
-    append(actions, Instr::Send(selector, arguments.len()))
-}
-
-/// Appends the actions of a message to `super` in a class method, which `self` gets, the first
-/// variable.
-#[cycle(expression)]
-fn append_sent_super(
-    alloc: Global,
-    actions: &mut Vec<Action>,
-    program: &Checked,
-    frame: Frame,
-    from: usize,
-    selector: usize,
-    arguments: &[Value],
-) -> Result<(), NoMemory>
-    ensures { OnOk result (orders actions.new.items ≡ orders actions.old.items ++ value_orders (program_of program.now) frame.slots frame.names frame.operands (resolved.SentSuper from selector (values arguments.now))) }
-{
-    append_get(actions, frame.slots, frame.operands, Location::Local(0))?;
-    let operands = one_more(frame.operands)?;
+    append_receiver(alloc, actions, program, frame, receiver)?;
+    let operands = below_arguments(receiver, frame.operands)?;
     let above = Frame { operands, ..frame };
-    append_values(alloc, actions, program, above, arguments)?;
-    append(actions, Instr::SendSuper(from, selector, arguments.len()))
+    append_arguments(alloc, actions, program, above, arguments)?;
+    let numbers = count_numbers(arguments);
+    let objects = count_objects(arguments);
+    append(actions, message(receiver, selector, numbers, objects))
 }
 
-/// Appends the actions of a message to an object, whose reference is found first.
+/// Appends the actions of what gets a message: a class, which lies below the arguments, or an object; `super`
+/// in a class method is `self`, the first variable.
 #[cycle(expression)]
-fn append_sent_to(
+fn append_receiver(
     alloc: Global,
     actions: &mut Vec<Action>,
     program: &Checked,
     frame: Frame,
-    receiver: &Reference,
-    selector: usize,
-    arguments: &[Value],
+    receiver: &Receiver,
 ) -> Result<(), NoMemory>
-    ensures { OnOk result (orders actions.new.items ≡ orders actions.old.items ++ value_orders (program_of program.now) frame.slots frame.names frame.operands (resolved.SentTo (reference receiver.now) selector (values arguments.now))) }
+    ensures { OnOk result (orders actions.new.items ≡ orders actions.old.items ++ receiver_orders (program_of program.now) frame.slots frame.names frame.operands (receiver_of receiver.now)) }
 {
-    append_reference(alloc, actions, program, frame, receiver)?;
-    append_values(alloc, actions, program, frame, arguments)?;
-    append(actions, Instr::SendTo(selector, arguments.len()))
+    match receiver {
+        Receiver::ClassValue(value) => append_value(alloc, actions, program, frame, value),
+        Receiver::ClassSuper(_) => {
+            append_get(actions, frame.slots, frame.operands, Location::Local(0))
+        }
+        Receiver::ObjectValue(object) => append_reference(alloc, actions, program, frame, object),
+        Receiver::ObjectSuper(_) => append(actions, Instr::Plain(Op::ReadSelf)),
+    }
 }
 
-/// Appends the actions of a message to `super` in a method of objects, which `self` gets.
-#[cycle(expression)]
-fn append_sent_to_super(
-    alloc: Global,
-    actions: &mut Vec<Action>,
-    program: &Checked,
-    frame: Frame,
-    from: usize,
-    selector: usize,
-    arguments: &[Value],
-) -> Result<(), NoMemory>
-    ensures { OnOk result (orders actions.new.items ≡ orders actions.old.items ++ value_orders (program_of program.now) frame.slots frame.names frame.operands (resolved.SentToSuper from selector (values arguments.now))) }
+/// How many operands lie below the arguments of a message to this receiver.
+fn below_arguments(receiver: &Receiver, operands: usize) -> Result<usize, NoMemory>
+    ensures { IfOk result (λ below. below ≡ below_arguments (receiver_of receiver.now) operands) }
 {
-    append(actions, Instr::Plain(Op::ReadSelf))?;
-    append_values(alloc, actions, program, frame, arguments)?;
-    append(actions, Instr::SendToSuper(from, selector, arguments.len()))
+    match receiver {
+        Receiver::ClassValue(_) | Receiver::ClassSuper(_) => one_more(operands),
+        Receiver::ObjectValue(_) | Receiver::ObjectSuper(_) => Ok(operands),
+    }
+}
+
+/// The action that sends a message with so many numbers and so many objects as arguments.
+fn message(receiver: &Receiver, selector: usize, numbers: usize, objects: usize) -> Action
+    ensures { order result ≡ message_order (message_to (receiver_of receiver.now) selector) numbers objects }
+{
+    match receiver {
+        Receiver::ClassValue(_) => Instr::Send(selector, numbers, objects),
+        Receiver::ClassSuper(from) => Instr::SendSuper(*from, selector, numbers, objects),
+        Receiver::ObjectValue(_) => Instr::SendTo(selector, numbers, objects),
+        Receiver::ObjectSuper(from) => Instr::SendToSuper(*from, selector, numbers, objects),
+    }
+}
+
+/// How many of the arguments are numbers.
+fn count_numbers(arguments: &[Argument]) -> usize
+    ensures { result ≡ number_count (arguments_of arguments.now) }
+{
+    let mut count = 0;
+    for argument in arguments {
+        if matches!(argument, Argument::Number(_)) {
+            count += 1;
+        }
+    }
+    count
+}
+
+/// How many of the arguments are objects.
+fn count_objects(arguments: &[Argument]) -> usize
+    ensures { result ≡ object_count (arguments_of arguments.now) }
+{
+    let mut count = 0;
+    for argument in arguments {
+        if matches!(argument, Argument::Object(_)) {
+            count += 1;
+        }
+    }
+    count
 }
 
 /// Appends the actions of an assignment to a field of an object, which is found first.
@@ -524,11 +539,20 @@ pub(crate) fn append_reference(
     match expression {
         Reference::Nil => append(actions, Instr::Plain(Op::Nil)),
         Reference::Itself => append(actions, Instr::Plain(Op::ReadSelf)),
-        Reference::Variable(index) => append_read(actions, frame.names, *index),
-        Reference::Stored(index, operand) => {
+        Reference::Variable(location) => append_read(actions, frame.names, *location),
+        Reference::Stored(location, operand) => {
             append_reference(alloc, actions, program, frame, operand)?;
-            append_store(actions, frame.names, *index)?;
+            append_store(actions, frame.names, *location)?;
             append(actions, Instr::Plain(Op::Hold))
+        }
+        Reference::ObjectField(object, class, index) => {
+            let action = Instr::Plain(Op::ReadField(*class, *index));
+            append_reference_then(alloc, actions, program, frame, object, action)
+        }
+        Reference::ObjectFieldStored(object, class, index, operand) => {
+            append_field_stored(
+                alloc, actions, program, frame, object, *class, *index, operand,
+            )
         }
         Reference::Made(class) => {
             append_value_then(
@@ -550,22 +574,49 @@ pub(crate) fn append_reference(
     }
 }
 
-/// Appends the actions of expressions, in their order, each of which adds an operand.
+/// Appends the actions of an assignment of an object to a field of another one, which is found first.
 #[cycle(expression)]
-fn append_values(
+fn append_field_stored(
     alloc: Global,
     actions: &mut Vec<Action>,
     program: &Checked,
     frame: Frame,
-    all: &[Value],
+    object: &Reference,
+    class: usize,
+    index: usize,
+    operand: &Reference,
 ) -> Result<(), NoMemory>
-    ensures { OnOk result (orders actions.new.items ≡ orders actions.old.items ++ all_value_orders (program_of program.now) frame.slots frame.names frame.operands (values all.now)) }
+    ensures { OnOk result (orders actions.new.items ≡ orders actions.old.items ++ reference_orders (program_of program.now) frame.slots frame.names frame.operands (resolved.ObjectFieldStored (reference object.now) class index (reference operand.now))) }
+{
+    append_reference(alloc, actions, program, frame, object)?;
+    append_reference(alloc, actions, program, frame, operand)?;
+    append(actions, Instr::StoreField(class, index))?;
+    append(actions, Instr::Plain(Op::Hold))
+}
+
+/// Appends the actions of arguments, in their order; each number adds an operand, and each object a reference.
+#[cycle(expression)]
+fn append_arguments(
+    alloc: Global,
+    actions: &mut Vec<Action>,
+    program: &Checked,
+    frame: Frame,
+    all: &[Argument],
+) -> Result<(), NoMemory>
+    ensures { OnOk result (orders actions.new.items ≡ orders actions.old.items ++ argument_orders (program_of program.now) frame.slots frame.names frame.operands (arguments_of all.now)) }
 {
     let mut operands = frame.operands;
-    for expression in all {
+    for argument in all {
         let above = Frame { operands, ..frame };
-        append_value(alloc, actions, program, above, expression)?;
-        operands = one_more(operands)?;
+        match argument {
+            Argument::Number(value) => {
+                append_value(alloc, actions, program, above, value)?;
+                operands = one_more(operands)?;
+            }
+            Argument::Object(object) => {
+                append_reference(alloc, actions, program, above, object)?;
+            }
+        }
     }
     Ok(())
 }

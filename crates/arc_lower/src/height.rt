@@ -4,9 +4,9 @@ ghost use Rattle.std.specs.Prelude.{◌≡◌, IfOk, drop, get_or, reverse};
 ghost use Rattle.arc_code.specs.Effects.{no_height};
 ghost use Rattle.arc_check.specs.Checked.{program_of};
 ghost use Rattle.arc_lower.specs.Order.{order, orders};
-ghost use Rattle.arc_lower.specs.Heights.{between, highest, after_effect, walk, next_walk, heights, greatest};
+ghost use Rattle.arc_lower.specs.Heights.{height, between, highest, after_effect, effect_in, walk, next_walk, heights, greatest};
 
-use crate::call::slots_of;
+use crate::call::{parameters_of, slots_of};
 use crate::variable::add_operands;
 use arc_check::checked::Checked;
 use arc_code::effect::{Effect, Height, instr_effect};
@@ -20,6 +20,18 @@ pub(crate) fn no_height() -> Height
     ensures { result ≡ no_height }
 {
     between(0, 0)
+}
+
+/// The height where a function begins that is passed so many numbers and so many objects.
+pub(crate) fn passed(numbers: usize, objects: usize) -> Height
+    ensures { result ≡ height numbers objects 0 0 }
+{
+    Height {
+        numbers,
+        names: objects,
+        temporaries: 0,
+        variables: 0,
+    }
 }
 
 /// The height between two statements of a function with so many variables of each kind.
@@ -46,12 +58,12 @@ fn highest(first: Height, second: Height) -> Height
     }
 }
 
-/// The height after so many numbers are taken, and as many references as an effect takes, and what
-/// it gives is there. NoMemory: no stack has so many.
-fn after_effect(before: Height, taken: usize, effect: Effect) -> Result<Height, NoMemory>
-    ensures { IfOk result (λ next. next ≡ after_effect before taken effect) }
+/// The height after an effect has taken what it takes, and what it gives is there. NoMemory: no stack
+/// has so many.
+fn after_effect(before: Height, effect: Effect) -> Result<Height, NoMemory>
+    ensures { IfOk result (λ next. next ≡ after_effect before effect) }
 {
-    let numbers = before.numbers.saturating_sub(taken);
+    let numbers = before.numbers.saturating_sub(effect.numbers_taken);
     let names = before.names.saturating_sub(effect.names_taken);
     Ok(Height {
         numbers: add_operands(numbers, effect.numbers_given)?,
@@ -70,6 +82,24 @@ fn take_part(pending: &mut Vec<Height>, base: Height) -> Height
     pending.pop().unwrap_or(base)
 }
 
+/// What an action takes and gives; a call takes the variables of the function that hold numbers, and the references
+/// of its parameters. NoMemory: no stack has so many.
+fn effect_in(program: &Checked, action: &Action) -> Result<Effect, NoMemory>
+    ensures { IfOk result (λ found. found ≡ effect_in (program_of program.now) (order action.now)) }
+{
+    let Some(effect) = instr_effect(action) else {
+        return Err(NoMemory);
+    };
+    match action {
+        Instr::Call(function) => Ok(Effect {
+            numbers_taken: slots_of(program, *function),
+            names_taken: parameters_of(program, *function),
+            ..effect
+        }),
+        _ => Ok(effect),
+    }
+}
+
 /// The height before the next action, in a function with the height `base` between two statements;
 /// `pending` are the heights at which the parts begin that the tests before it may lead to.
 /// NoMemory: no stack has so many numbers, references or places.
@@ -82,16 +112,14 @@ fn next_height(
 ) -> Result<Height, NoMemory>
     ensures { IfOk result (λ next. walk next (reverse pending.new.items) ≡ next_walk (program_of program.now) base (order action.now) (walk before (reverse pending.old.items))) }
 {
-    let Some(effect) = instr_effect(action) else {
-        return Err(NoMemory);
-    };
+    let effect = effect_in(program, action)?;
     match action {
         Instr::Jump(_) => Ok(Height {
             temporaries: before.temporaries,
             ..take_part(pending, base)
         }),
         Instr::JumpZero(_) => {
-            let next = after_effect(before, effect.numbers_taken, effect)?;
+            let next = after_effect(before, effect)?;
             pending.push(next)?;
             Ok(next)
         }
@@ -103,19 +131,13 @@ fn next_height(
             variables: 0,
             ..base
         }),
-        Instr::Call(function) => after_effect(before, slots_of(program, *function), effect),
-        Instr::Plain(_) | Instr::PrintText(_) | Instr::EndStep => {
-            after_effect(before, effect.numbers_taken, effect)
+        Instr::Plain(_) | Instr::PrintText(_) | Instr::Call(_) | Instr::EndStep => {
+            after_effect(before, effect)
         }
-        Instr::Send(_, _) | Instr::SendSuper(_, _, _) => {
-            after_effect(before, effect.numbers_taken, effect)
-        }
-        Instr::SendTo(_, _) | Instr::SendToSuper(_, _, _) => {
-            after_effect(before, effect.numbers_taken, effect)
-        }
-        Instr::StoreStrong(_) | Instr::Empty(_) => {
-            after_effect(before, effect.numbers_taken, effect)
-        }
+        Instr::Send(_, _, _) | Instr::SendSuper(_, _, _, _) => after_effect(before, effect),
+        Instr::SendTo(_, _, _) | Instr::SendToSuper(_, _, _, _) => after_effect(before, effect),
+        Instr::StoreStrong(_) | Instr::StoreGlobal(_) => after_effect(before, effect),
+        Instr::StoreField(_, _) | Instr::Empty(_) => after_effect(before, effect),
     }
 }
 

@@ -116,9 +116,6 @@ pub(crate) fn known_kind(expression: &Value) -> Kind
         Value::Updated(_, _, _, _, _, _) => Kind::Long,
         Value::Invoked(_, _) => Kind::Long,
         Value::Sent(_, _, _) => Kind::Long,
-        Value::SentSuper(_, _, _) => Kind::Long,
-        Value::SentTo(_, _, _) => Kind::Long,
-        Value::SentToSuper(_, _, _) => Kind::Long,
         Value::Field(_, _, _) => Kind::Long,
         Value::FieldUpdated(_, _, _, _, _, _, _, _) => Kind::Long,
     }

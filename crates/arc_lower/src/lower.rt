@@ -8,14 +8,14 @@ ghost use Rattle.arc_lower.specs.Lowered.{body_orders, entry_of, function_orders
 ghost use Rattle.arc_lower.specs.Heights.{greatest, start_heights, function_heights, functions_heights};
 ghost use Rattle.arc_lower.specs.Promise.{Performs, IsLowered};
 
-use crate::call::{append_leave, number_of, slots_of};
+use crate::call::{append_call, append_leave, lesser};
 use crate::expression::append;
 use crate::frame::Body;
-use crate::height::{between, greatest, no_height};
-use crate::place::append_declares;
+use crate::height::{between, greatest, no_height, passed};
+use crate::place::{append_declares, append_takes};
 use crate::statement::append_commands;
 use crate::stub::append_classes;
-use crate::variable::{add_operands, append_zeros, one_more};
+use crate::variable::{add_operands, one_more};
 use arc_check::checked::{Checked, Command};
 use arc_code::effect::Height;
 use arc_code::instr::{Instr, Op};
@@ -55,6 +55,7 @@ pub fn lower(alloc: Global, program: &Owned) -> Result<Ir, NoMemory>
         names,
         places,
         globals,
+        strong_globals: program.program.strong_globals,
         classes,
     })
 }
@@ -80,8 +81,7 @@ fn append_call_of_main(actions: &mut Vec<Action>, program: &Checked) -> Result<u
     ensures actions { OnOk result (orders actions.new.items ≡ orders actions.old.items ++ start_orders (program_of program.now)) }
     ensures end_step { IfOk result (λ place. place ≡ length (orders actions.old.items) + end_step_of (program_of program.now)) }
 {
-    append_zeros(actions, slots_of(program, program.main))?;
-    append(actions, Instr::Call(number_of(program, program.main)))?;
+    append_call(actions, program, program.main, 0, 0)?;
     append(actions, Instr::Return)?;
     let end_step = actions.len();
     append(actions, Instr::EndStep)?;
@@ -124,6 +124,7 @@ fn append_functions(
         let function = Definition {
             slots: function.slots,
             names: function.names,
+            parameters: function.parameters,
             body: &function.body,
         };
         append_function(alloc, actions, entries, program, function, most)?;
@@ -131,17 +132,20 @@ fn append_functions(
     let nothing = Definition {
         slots: 0,
         names: 0,
+        parameters: 0,
         body: &[],
     };
     append_function(alloc, actions, entries, program, nothing, most)?;
     Ok(())
 }
 
-/// A function: how many variables of ints and of objects it has, and what it does.
+/// A function: how many variables it has that hold numbers and that name objects, of which so many are
+/// parameters, and what it does.
 #[derive(Clone, Copy)]
 struct Definition<'p> {
     slots: usize,
     names: usize,
+    parameters: usize,
     body: &'p [Command],
 }
 
@@ -154,53 +158,49 @@ fn append_function(
     function: Definition<'_>,
     most: &mut Height,
 ) -> Result<(), NoMemory>
-    ensures actions { OnOk result (orders actions.new.items ≡ orders actions.old.items ++ function_orders (program_of program.now) (length (orders actions.old.items)) (record { slots = function.entry.slots; names = function.entry.names; body = commands function.entry.body.now })) }
-    ensures entries { OnOk result (entries.new.items ≡ entries.old.items ++ entry_of (length (orders actions.old.items)) (record { slots = function.entry.slots; names = function.entry.names; body = commands function.entry.body.now }) ∷ []) }
-    ensures most { OnOk result (most.new ≡ greatest (function_heights (program_of program.now) (length (orders actions.old.items)) (record { slots = function.entry.slots; names = function.entry.names; body = commands function.entry.body.now })) most.old) }
+    ensures actions { OnOk result (orders actions.new.items ≡ orders actions.old.items ++ function_orders (program_of program.now) (length (orders actions.old.items)) (record { slots = function.entry.slots; names = function.entry.names; parameters = function.entry.parameters; body = commands function.entry.body.now })) }
+    ensures entries { OnOk result (entries.new.items ≡ entries.old.items ++ entry_of (length (orders actions.old.items)) (record { slots = function.entry.slots; names = function.entry.names; parameters = function.entry.parameters; body = commands function.entry.body.now }) ∷ []) }
+    ensures most { OnOk result (most.new ≡ greatest (function_heights (program_of program.now) (length (orders actions.old.items)) (record { slots = function.entry.slots; names = function.entry.names; parameters = function.entry.parameters; body = commands function.entry.body.now })) most.old) }
 {
-    let begin = actions.len();
-    append_exit_and_body(alloc, actions, entries, program, function)?;
+    let exit = actions.len();
+    append_leave(actions, function.slots, function.names)?;
     let base = between(function.slots, function.names);
     let left = between(one_more(function.slots)?, function.names);
-    *most = greatest(alloc, program, base, left, &actions[begin..], *most)?;
+    *most = greatest(alloc, program, base, left, &actions[exit..], *most)?;
+    let entry = actions.len();
+    entries.push(entry)?;
+    append_body(alloc, actions, program, exit, function)?;
+    let entered = passed(function.slots, lesser(function.parameters, function.names));
+    *most = greatest(alloc, program, base, entered, &actions[entry..], *most)?;
     Ok(())
 }
 
-/// Appends the actions that leave a function, and those from its entry on, and where that is.
-fn append_exit_and_body(
-    alloc: Global,
-    actions: &mut Vec<Action>,
-    entries: &mut Vec<usize>,
-    program: &Checked,
-    function: Definition<'_>,
-) -> Result<(), NoMemory>
-    ensures actions { OnOk result (orders actions.new.items ≡ orders actions.old.items ++ function_orders (program_of program.now) (length (orders actions.old.items)) (record { slots = function.entry.slots; names = function.entry.names; body = commands function.entry.body.now })) }
-    ensures entries { OnOk result (entries.new.items ≡ entries.old.items ++ entry_of (length (orders actions.old.items)) (record { slots = function.entry.slots; names = function.entry.names; body = commands function.entry.body.now }) ∷ []) }
-{
-    let body = Body {
-        slots: function.slots,
-        names: function.names,
-        exit: actions.len(),
-        turn: None,
-    };
-    append_leave(actions, function.slots, function.names)?;
-    entries.push(actions.len())?;
-    append_body(alloc, actions, program, body, function.body)
-}
-
-/// Appends what a function does from its entry on.
+/// Appends what a function does from its entry on, which is left at this action.
 fn append_body(
     alloc: Global,
     actions: &mut Vec<Action>,
     program: &Checked,
-    body: Body,
-    all: &[Command],
+    exit: usize,
+    function: Definition<'_>,
 ) -> Result<(), NoMemory>
-    ensures { OnOk result (orders actions.new.items ≡ orders actions.old.items ++ body_orders (program_of program.now) body.exit (length (orders actions.old.items)) (record { slots = body.slots; names = body.names; body = commands all.now })) }
+    ensures { OnOk result (orders actions.new.items ≡ orders actions.old.items ++ body_orders (program_of program.now) exit (length (orders actions.old.items)) (record { slots = function.entry.slots; names = function.entry.names; parameters = function.entry.parameters; body = commands function.entry.body.now })) }
 {
-    let body = Body { turn: None, ..body };
-    append_declares(actions, body.names)?;
-    append_commands(alloc, actions, program, body, &mut Vec::new(alloc), all)?;
+    let body = Body {
+        slots: function.slots,
+        names: function.names,
+        exit,
+        turn: None,
+    };
+    append_declares(actions, function.names)?;
+    append_takes(actions, lesser(function.parameters, function.names))?;
+    append_commands(
+        alloc,
+        actions,
+        program,
+        body,
+        &mut Vec::new(alloc),
+        function.body,
+    )?;
     append(actions, Instr::Plain(Op::Num(0)))?;
-    append(actions, Instr::Jump(Target::At(body.exit)))
+    append(actions, Instr::Jump(Target::At(exit)))
 }

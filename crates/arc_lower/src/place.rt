@@ -4,14 +4,16 @@ ghost use Rattle.std.specs.List.{list_any};
 ghost use Rattle.arc_code.specs.Effects.{operation_effect};
 ghost use Rattle.arc_code.specs.declared.instr.Op.TheVariants.{Forget};
 ghost use Rattle.arc_code.specs.declared.instr.Instr.TheVariants.{Plain, DropAll};
+ghost use Rattle.arc_spec.specs.declared.location.Location.TheVariants.{Local};
 ghost use Rattle.arc_lower.specs.Order.{order, orders};
-ghost use Rattle.arc_lower.specs.Lowered.{declare_orders, read_orders, store_orders, order_takes, empty_orders, all_empty_orders};
+ghost use Rattle.arc_lower.specs.Lowered.{declare_orders, forget_orders, nil_orders, take_orders, read_orders, store_orders, order_takes, empty_orders, all_empty_orders};
 
 use crate::expression::append;
 use crate::variable::add_operands;
 use arc_code::instr::{Instr, Op};
 use arc_ir::action::Action;
 use arc_spec::event::NoMemory;
+use arc_spec::location::Location;
 
 /// Appends actions that declare `count` variables that name objects.
 pub(crate) fn append_declares(actions: &mut Vec<Action>, count: usize) -> Result<(), NoMemory>
@@ -23,13 +25,54 @@ pub(crate) fn append_declares(actions: &mut Vec<Action>, count: usize) -> Result
     Ok(())
 }
 
+/// Appends actions that take `count` references.
+pub(crate) fn append_forgets(actions: &mut Vec<Action>, count: usize) -> Result<(), NoMemory>
+    ensures { OnOk result (orders actions.new.items ≡ orders actions.old.items ++ forget_orders count) }
+{
+    for _reference in 0..count {
+        append(actions, Instr::Plain(Op::Forget))?;
+    }
+    Ok(())
+}
+
+/// Appends actions that give `count` references to nil.
+pub(crate) fn append_nils(actions: &mut Vec<Action>, count: usize) -> Result<(), NoMemory>
+    ensures { OnOk result (orders actions.new.items ≡ orders actions.old.items ++ nil_orders count) }
+{
+    for _reference in 0..count {
+        append(actions, Instr::Plain(Op::Nil))?;
+    }
+    Ok(())
+}
+
+/// Appends the actions by which the first `count` variables take what the last references name, which are taken.
+pub(crate) fn append_takes(actions: &mut Vec<Action>, count: usize) -> Result<(), NoMemory>
+    ensures { OnOk result (orders actions.new.items ≡ orders actions.old.items ++ take_orders count) }
+{
+    for variable in (0..count).rev() {
+        append(actions, Instr::StoreStrong(variable))?;
+        append(actions, Instr::Plain(Op::Forget))?;
+    }
+    Ok(())
+}
+
 /// Appends the actions that name what a variable names, which a temporary takes.
 pub(crate) fn append_read(
     actions: &mut Vec<Action>,
     names: usize,
-    index: usize,
+    location: Location,
 ) -> Result<(), NoMemory>
-    ensures { OnOk result (orders actions.new.items ≡ orders actions.old.items ++ read_orders names index) }
+    ensures { OnOk result (orders actions.new.items ≡ orders actions.old.items ++ read_orders names location) }
+{
+    match location {
+        Location::Global(number) => append(actions, Instr::Plain(Op::ReadGlobal(number))),
+        Location::Local(index) => append_read_local(actions, names, index),
+    }
+}
+
+/// The same of a variable of the function.
+fn append_read_local(actions: &mut Vec<Action>, names: usize, index: usize) -> Result<(), NoMemory>
+    ensures { OnOk result (orders actions.new.items ≡ orders actions.old.items ++ read_orders names (Local index)) }
 {
     if index < names {
         append(actions, Instr::Plain(Op::ReadRef(index)))
@@ -43,9 +86,19 @@ pub(crate) fn append_read(
 pub(crate) fn append_store(
     actions: &mut Vec<Action>,
     names: usize,
-    index: usize,
+    location: Location,
 ) -> Result<(), NoMemory>
-    ensures { OnOk result (orders actions.new.items ≡ orders actions.old.items ++ store_orders names index) }
+    ensures { OnOk result (orders actions.new.items ≡ orders actions.old.items ++ store_orders names location) }
+{
+    match location {
+        Location::Global(number) => append(actions, Instr::StoreGlobal(number)),
+        Location::Local(index) => append_store_local(actions, names, index),
+    }
+}
+
+/// The same of a variable of the function.
+fn append_store_local(actions: &mut Vec<Action>, names: usize, index: usize) -> Result<(), NoMemory>
+    ensures { OnOk result (orders actions.new.items ≡ orders actions.old.items ++ store_orders names (Local index)) }
 {
     if index < names {
         append(actions, Instr::StoreStrong(index))
@@ -59,7 +112,8 @@ fn operation_takes(operation: Op) -> bool
     ensures { result ≡ nat_lt 0 (operation_effect operation).temporaries }
 {
     match operation {
-        Op::ReadSelf | Op::ReadRef(_) | Op::Hold | Op::Alloc => true,
+        Op::ReadSelf | Op::ReadRef(_) | Op::ReadGlobal(_) | Op::ReadField(_, _) => true,
+        Op::Hold | Op::Alloc => true,
         Op::Num(_) | Op::Bin(_, _) | Op::Un(_, _) | Op::Narrow(_) | Op::Pop | Op::Get(_) => false,
         Op::Set(_) | Op::GetGlobal(_) | Op::SetGlobal(_) | Op::PrintNum | Op::PrintByte => false,
         Op::Again | Op::Forget | Op::GetField(_, _) | Op::SetField(_, _) | Op::Differ => false,
@@ -74,8 +128,9 @@ fn takes(action: &Action) -> bool
     match action {
         Instr::Plain(operation) => operation_takes(*operation),
         Instr::PrintText(_) | Instr::Jump(_) | Instr::JumpZero(_) | Instr::Call(_) => false,
-        Instr::Send(_, _) | Instr::SendSuper(_, _, _) | Instr::SendTo(_, _) => false,
-        Instr::SendToSuper(_, _, _) | Instr::StoreStrong(_) | Instr::Empty(_) => false,
+        Instr::Send(_, _, _) | Instr::SendSuper(_, _, _, _) | Instr::SendTo(_, _, _) => false,
+        Instr::SendToSuper(_, _, _, _) | Instr::StoreStrong(_) | Instr::StoreGlobal(_) => false,
+        Instr::StoreField(_, _) | Instr::Empty(_) => false,
         Instr::DropAll | Instr::Return | Instr::EndStep => false,
     }
 }

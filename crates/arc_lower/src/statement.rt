@@ -17,6 +17,7 @@ use arc_check::checked::{Checked, Command, Reference, Value};
 use arc_code::instr::{Instr, Op};
 use arc_ir::action::{Action, Target};
 use arc_spec::event::NoMemory;
+use arc_spec::location::Location;
 use std::alloc::Global;
 
 /// Appends the actions of a full-expression that gives a number.
@@ -102,7 +103,7 @@ fn append_begin(
     let begin = actions.len();
     append_reference(alloc, actions, program, frame, expression)?;
     let taken = take_some(&actions[begin..]);
-    append_store(actions, body.names, index)?;
+    append_store(actions, body.names, Location::Local(index))?;
     append_forget(actions, taken)
 }
 

@@ -7,9 +7,9 @@ ghost use Rattle.arc_lower.specs.Order.{orders};
 ghost use Rattle.arc_lower.specs.Heights.{greatest, stub_heights, methods_heights, dealloc_heights, class_heights, classes_heights};
 ghost use Rattle.arc_lower.specs.Lowered.{stub_orders, methods_orders, dealloc_orders, class_orders, classes_orders, linked_methods, linked_dealloc, linked_class, linked_classes};
 
-use crate::call::{append_fit, number_of, slots_of};
+use crate::call::{append_passing, number_of};
 use crate::expression::append;
-use crate::height::{between, greatest, no_height};
+use crate::height::{greatest, no_height, passed};
 use crate::variable::one_more;
 use arc_ast::tree::Sign;
 use arc_check::checked::Checked;
@@ -41,39 +41,41 @@ fn numbers_passed(sign: Sign, takes: usize) -> Result<usize, NoMemory>
     }
 }
 
-/// Appends the actions that make the `count` numbers on top the variables of a function, and go on
-/// where that is entered.
+/// Appends the actions that make the `count` numbers on top and the `objects` last references what a
+/// function takes, and go on where that is entered.
 fn append_jump_to(
     actions: &mut Vec<Action>,
     program: &Checked,
     entries: &[usize],
     count: usize,
+    objects: usize,
     function: usize,
 ) -> Result<(), NoMemory>
-    ensures { OnOk result (orders actions.new.items ≡ orders actions.old.items ++ stub_orders (program_of program.now) entries.now count function) }
+    ensures { OnOk result (orders actions.new.items ≡ orders actions.old.items ++ stub_orders (program_of program.now) entries.now count objects function) }
 {
-    append_fit(actions, count, slots_of(program, function))?;
+    append_passing(actions, program, function, count, objects)?;
     let entry = entry_of(entries, number_of(program, function));
     append(actions, Instr::Jump(Target::At(entry)))
 }
 
-/// Appends the stub of a function that is passed `count` numbers, and raises the greatest height to
-/// its.
+/// Appends the stub of a function that is passed `count` numbers and `objects` objects, and raises the
+/// greatest height to its.
 fn append_stub(
     alloc: Global,
     actions: &mut Vec<Action>,
     program: &Checked,
     entries: &[usize],
     count: usize,
+    objects: usize,
     function: usize,
     most: &mut Height,
 ) -> Result<(), NoMemory>
-    ensures actions { OnOk result (orders actions.new.items ≡ orders actions.old.items ++ stub_orders (program_of program.now) entries.now count function) }
-    ensures most { OnOk result (most.new ≡ greatest (stub_heights (program_of program.now) entries.now count function) most.old) }
+    ensures actions { OnOk result (orders actions.new.items ≡ orders actions.old.items ++ stub_orders (program_of program.now) entries.now count objects function) }
+    ensures most { OnOk result (most.new ≡ greatest (stub_heights (program_of program.now) entries.now count objects function) most.old) }
 {
     let begin = actions.len();
-    append_jump_to(actions, program, entries, count, function)?;
-    let first = between(count, 0);
+    append_jump_to(actions, program, entries, count, objects, function)?;
+    let first = passed(count, objects);
     *most = greatest(alloc, program, no_height(), first, &actions[begin..], *most)?;
     Ok(())
 }
@@ -98,10 +100,20 @@ fn append_methods(
             sign: method.sign,
             selector: method.selector,
             takes: method.takes,
+            objects: method.objects,
             runs: actions.len(),
         })?;
         let count = numbers_passed(method.sign, method.takes)?;
-        append_stub(alloc, actions, program, entries, count, method.runs, most)?;
+        append_stub(
+            alloc,
+            actions,
+            program,
+            entries,
+            count,
+            method.objects,
+            method.runs,
+            most,
+        )?;
     }
     Ok(linked)
 }
@@ -124,7 +136,7 @@ fn append_dealloc(
         return Ok(None);
     };
     let place = actions.len();
-    append_stub(alloc, actions, program, entries, 0, function, most)?;
+    append_stub(alloc, actions, program, entries, 0, 0, function, most)?;
     Ok(Some(place))
 }
 
@@ -148,6 +160,7 @@ fn append_class(
         methods,
         dealloc,
         fields: class.fields,
+        strong_fields: class.strong_fields,
     })
 }
 

@@ -12,17 +12,19 @@ returns-in-Some c =
     let all = c.deref.result.now in
     let main = c.args.program.now.main in
     let gs = c.args.program.now.globals.items in
+    let sg = c.args.program.now.strong_globals in
     let cs = classes_of c.args.program.now.classes.items in
     let h = c.in-Some.ensures.lookup in
     let lt : c.args.function < length all = ltb-true c.args.function (length all) (sym h.0) in
-    ap (λ (f : CheckedFunction). f.slots) h.1 ∙ sym (slots_found all main gs cs c.args.function c.in-Some.found.now lt) ∙ ap (λ l. slots_of (record { functions = functions l; main = main; globals = gs; classes = cs }) c.args.function) c.deref.ensures.value
+    ap (λ (f : CheckedFunction). f.slots) h.1 ∙ sym (slots_found all main gs sg cs c.args.function c.in-Some.found.now lt) ∙ ap (λ l. slots_of (record { functions = functions l; main = main; globals = gs; strong_globals = sg; classes = cs }) c.args.function) c.deref.ensures.value
 
 pub returns-in-None : goal.returns-in-None
 returns-in-None c =
     let all = c.deref.result.now in
     let main = c.args.program.now.main in
     let gs = c.args.program.now.globals.items in
+    let sg = c.args.program.now.strong_globals in
     let cs = classes_of c.args.program.now.classes.items in
     let h = c.in-None.ensures.lookup in
     let le : length all ≤ c.args.function = ltb-false c.args.function (length all) (sym h.0) in
-    sym (slots_none all main gs cs c.args.function le) ∙ ap (λ l. slots_of (record { functions = functions l; main = main; globals = gs; classes = cs }) c.args.function) c.deref.ensures.value
+    sym (slots_none all main gs sg cs c.args.function le) ∙ ap (λ l. slots_of (record { functions = functions l; main = main; globals = gs; strong_globals = sg; classes = cs }) c.args.function) c.deref.ensures.value

@@ -1,24 +1,24 @@
-use Rattle.std.proofs.Common.{◌≡◌, ℕ, suc, ◌+◌, Bool, true, false, if◌then◌else◌, List, [], ◌∷◌, ◌++◌, length, Result, drop, refl, ap, sym, subst, ◌∙◌, append_assoc, arith, OnOk}
+use Rattle.std.proofs.Common.{◌≡◌, ℕ, suc, ◌+◌, ◌<◌, Bool, true, false, if◌then◌else◌, List, [], ◌∷◌, ◌++◌, length, get_or, Result, drop, refl, ap, sym, subst, ◌∙◌, append_assoc, arith, OnOk}
 use Rattle.std.proofs.lemmas.List.{drop_more, length-map}
 use Rattle.arc_ast.specs.declared.tree.Kind.{Kind}
 use Rattle.arc_ast.specs.declared.tree.Moment.{Moment}
 use Rattle.arc_ast.specs.declared.tree.Moment.TheVariants.{Before, After}
-use Rattle.arc_spec.specs.declared.location.Location.TheVariants.{Local}
 use Rattle.arc_spec.specs.Resolved as resolved
-use Rattle.arc_spec.specs.Resolved.{and_value}
+use Rattle.arc_spec.specs.Resolved.{no_arguments}
 use Rattle.arc_check.specs.declared.checked.Value.{Value}
-use Rattle.arc_check.specs.Checked.{pieces, value, reference, values, program_of}
+use Rattle.arc_check.specs.declared.checked.Argument.{Argument}
+use Rattle.arc_check.specs.Checked.{pieces, value, reference, receiver, arguments, and_argument, program_of}
 use Rattle.arc_code.specs.declared.instr.Op.TheVariants as ops
-use Rattle.arc_code.specs.declared.instr.Op.TheVariants.{Bin, Narrow, ReadSelf, GetField, SetField, Differ}
-use Rattle.arc_code.specs.declared.instr.Instr.TheVariants.{Plain, Send, SendSuper, SendTo, SendToSuper}
+use Rattle.arc_code.specs.declared.instr.Op.TheVariants.{Bin, Narrow, Hold, GetField, SetField, Differ}
+use Rattle.arc_code.specs.declared.instr.Instr.TheVariants.{Plain, StoreField}
 use Rattle.arc_lower.specs.Order.{Order, order, orders}
 use Rattle.arc_lower.specs.Known.{is_within, combined_kind, known_kind}
-use Rattle.arc_lower.specs.Lowered.{Idle, One, Inside, flat, old_block, given_block, narrow_block, old_orders, given_orders, narrow_orders, below_new, value_orders, reference_orders, all_value_orders, print_orders, call_orders, get_orders, set_orders, value_count}
+use Rattle.arc_lower.specs.Lowered.{Idle, One, Inside, flat, old_block, given_block, narrow_block, old_orders, given_orders, narrow_orders, below_new, value_orders, reference_orders, receiver_orders, argument_orders, forget_orders, print_orders, call_orders, get_orders, set_orders, number_count, object_count, below_arguments, message_to, message_order}
 use Rattle.arc_lower.proofs.Patching.{patch_fork}
-use Rattle.arc_lower.proofs.Rows.{values_counted}
-use Rattle.arc_check.proofs.Trees.{is_print, is_invoked, is_sent, is_sent_super, is_sent_to, is_sent_to_super}
-use Rattle.arc_lower.proofs.Weights.{value_weight, reference_weight, value_in, is_applied, is_combined, is_choice, is_chosen, is_converted, is_assigned, is_updated, is_field, is_field_assigned, is_field_updated, is_differ, is_object, is_stored, is_made, is_initialized}
+use Rattle.arc_check.proofs.Trees.{is_print, is_invoked, is_sent}
+use Rattle.arc_lower.proofs.Weights.{value_weight, reference_weight, argument_in, receiver_weight, arguments_weight, is_applied, is_combined, is_choice, is_chosen, is_converted, is_assigned, is_updated, is_field, is_field_assigned, is_field_updated, is_differ, is_object, is_stored, is_object_field, is_object_field_stored, is_made, is_initialized, is_class_value, is_object_value, is_number_argument, is_object_argument}
 use Rattle.arc_lower.proofs.expression.+expression.Goals as goal
+use Rattle.arc_lower.proofs.expression.+expression.Goals.{append_arguments-in-Number+in_ok-append_value-in-Number+in_ok-operands-in-Number, append_arguments-in-Object+in_ok-append_reference-in-Object}
 
 behind_two : (old o1 o2 a b last : List Order) → o1 ≡ old ++ a → o2 ≡ o1 ++ b → o2 ++ last ≡ old ++ (a ++ (b ++ last))
 behind_two old o1 o2 a b last e1 e2 = ap (λ l. l ++ last) (e2 ∙ ap (λ l. l ++ b) e1) ∙ append_assoc (old ++ a) b last ∙ append_assoc old a (b ++ last)
@@ -139,43 +139,13 @@ append_value-returns-in-Invoked t c =
 
 pub append_value-append_sent-requires : goal.append_value-append_sent-requires
 append_value-append_sent-requires t c =
-    (omega (arith, ap value_weight (is_sent c.args.expression.now c.in-Sent.target c.in-Sent.selector c.in-Sent.arguments c.deref-in-Sent.result.now c.deref-in-Sent-2.result.now c.in-Sent.is c.deref-in-Sent.ensures c.deref-in-Sent-2.ensures.value), c.decreases), tt)
+    (omega (arith, ap value_weight (is_sent c.args.expression.now c.in-Sent.receiver c.in-Sent.selector c.in-Sent.arguments c.deref-in-Sent.result.now c.deref-in-Sent-2.result.now c.in-Sent.is c.deref-in-Sent.ensures c.deref-in-Sent-2.ensures.value), c.decreases), tt)
 
 pub append_value-returns-in-Sent : goal.append_value-returns-in-Sent
 append_value-returns-in-Sent t c =
     let f = c.args.frame in
     told (λ x. OnOk c.append_sent.result (orders c.append_sent.new.actions.items ≡ orders c.args.actions.now.items ++ value_orders (program_of c.args.program.now) f.slots f.names f.operands x)) c.args.expression.now _
-    (is_sent c.args.expression.now c.in-Sent.target c.in-Sent.selector c.in-Sent.arguments c.deref-in-Sent.result.now c.deref-in-Sent-2.result.now c.in-Sent.is c.deref-in-Sent.ensures c.deref-in-Sent-2.ensures.value) c.append_sent.ensures
-
-pub append_value-append_sent_super-requires : goal.append_value-append_sent_super-requires
-append_value-append_sent_super-requires t c =
-    (omega (arith, ap value_weight (is_sent_super c.args.expression.now c.in-SentSuper.from c.in-SentSuper.selector c.in-SentSuper.arguments c.deref-in-SentSuper.result.now c.in-SentSuper.is c.deref-in-SentSuper.ensures.value), c.decreases), tt)
-
-pub append_value-returns-in-SentSuper : goal.append_value-returns-in-SentSuper
-append_value-returns-in-SentSuper t c =
-    let f = c.args.frame in
-    told (λ x. OnOk c.append_sent_super.result (orders c.append_sent_super.new.actions.items ≡ orders c.args.actions.now.items ++ value_orders (program_of c.args.program.now) f.slots f.names f.operands x)) c.args.expression.now _
-    (is_sent_super c.args.expression.now c.in-SentSuper.from c.in-SentSuper.selector c.in-SentSuper.arguments c.deref-in-SentSuper.result.now c.in-SentSuper.is c.deref-in-SentSuper.ensures.value) c.append_sent_super.ensures
-
-pub append_value-append_sent_to-requires : goal.append_value-append_sent_to-requires
-append_value-append_sent_to-requires t c =
-    (omega (arith, ap value_weight (is_sent_to c.args.expression.now c.in-SentTo.target c.in-SentTo.selector c.in-SentTo.arguments c.deref-in-SentTo.result.now c.deref-in-SentTo-2.result.now c.in-SentTo.is c.deref-in-SentTo.ensures c.deref-in-SentTo-2.ensures.value), c.decreases), tt)
-
-pub append_value-returns-in-SentTo : goal.append_value-returns-in-SentTo
-append_value-returns-in-SentTo t c =
-    let f = c.args.frame in
-    told (λ x. OnOk c.append_sent_to.result (orders c.append_sent_to.new.actions.items ≡ orders c.args.actions.now.items ++ value_orders (program_of c.args.program.now) f.slots f.names f.operands x)) c.args.expression.now _
-    (is_sent_to c.args.expression.now c.in-SentTo.target c.in-SentTo.selector c.in-SentTo.arguments c.deref-in-SentTo.result.now c.deref-in-SentTo-2.result.now c.in-SentTo.is c.deref-in-SentTo.ensures c.deref-in-SentTo-2.ensures.value) c.append_sent_to.ensures
-
-pub append_value-append_sent_to_super-requires : goal.append_value-append_sent_to_super-requires
-append_value-append_sent_to_super-requires t c =
-    (omega (arith, ap value_weight (is_sent_to_super c.args.expression.now c.in-SentToSuper.from c.in-SentToSuper.selector c.in-SentToSuper.arguments c.deref-in-SentToSuper.result.now c.in-SentToSuper.is c.deref-in-SentToSuper.ensures.value), c.decreases), tt)
-
-pub append_value-returns-in-SentToSuper : goal.append_value-returns-in-SentToSuper
-append_value-returns-in-SentToSuper t c =
-    let f = c.args.frame in
-    told (λ x. OnOk c.append_sent_to_super.result (orders c.append_sent_to_super.new.actions.items ≡ orders c.args.actions.now.items ++ value_orders (program_of c.args.program.now) f.slots f.names f.operands x)) c.args.expression.now _
-    (is_sent_to_super c.args.expression.now c.in-SentToSuper.from c.in-SentToSuper.selector c.in-SentToSuper.arguments c.deref-in-SentToSuper.result.now c.in-SentToSuper.is c.deref-in-SentToSuper.ensures.value) c.append_sent_to_super.ensures
+    (is_sent c.args.expression.now c.in-Sent.receiver c.in-Sent.selector c.in-Sent.arguments c.deref-in-Sent.result.now c.deref-in-Sent-2.result.now c.in-Sent.is c.deref-in-Sent.ensures c.deref-in-Sent-2.ensures.value) c.append_sent.ensures
 
 pub append_value-append_reference_then-requires : goal.append_value-append_reference_then-requires
 append_value-append_reference_then-requires t c =
@@ -291,36 +261,16 @@ pub append_chosen-append_reference-requires-2 : goal.append_chosen-append_refere
 append_chosen-append_reference-requires-2 t c =
     (omega (arith, c.decreases), tt)
 
-pub append_printed-append_values-requires : goal.append_printed-append_values-requires
-append_printed-append_values-requires t c =
+pub append_printed-append_arguments-requires : goal.append_printed-append_arguments-requires
+append_printed-append_arguments-requires t c =
     (omega (arith, c.decreases), tt)
 
-pub append_invoked-append_values-requires : goal.append_invoked-append_values-requires
-append_invoked-append_values-requires t c =
+pub append_invoked-append_arguments-requires : goal.append_invoked-append_arguments-requires
+append_invoked-append_arguments-requires t c =
     (omega (arith, c.decreases), tt)
 
-pub append_sent-append_value-requires : goal.append_sent-append_value-requires
-append_sent-append_value-requires t c =
-    (omega (arith, c.decreases), tt)
-
-pub append_sent-append_values-requires : goal.append_sent-append_values-requires
-append_sent-append_values-requires t c =
-    (omega (arith, c.decreases), tt)
-
-pub append_sent_super-append_values-requires : goal.append_sent_super-append_values-requires
-append_sent_super-append_values-requires t c =
-    (omega (arith, c.decreases), tt)
-
-pub append_sent_to-append_reference-requires : goal.append_sent_to-append_reference-requires
-append_sent_to-append_reference-requires t c =
-    (omega (arith, c.decreases), tt)
-
-pub append_sent_to-append_values-requires : goal.append_sent_to-append_values-requires
-append_sent_to-append_values-requires t c =
-    (omega (arith, c.decreases), tt)
-
-pub append_sent_to_super-append_values-requires : goal.append_sent_to_super-append_values-requires
-append_sent_to_super-append_values-requires t c =
+pub append_sent-append_arguments-requires : goal.append_sent-append_arguments-requires
+append_sent-append_arguments-requires t c =
     (omega (arith, c.decreases), tt)
 
 pub append_value_then-append_value-requires : goal.append_value_then-append_value-requires
@@ -377,7 +327,7 @@ append_differ-append_reference-requires-2 t c =
 
 pub append_reference-append_reference-requires : goal.append_reference-append_reference-requires
 append_reference-append_reference-requires t c =
-    (omega (arith, ap reference_weight (is_stored c.args.expression.now c.in-Stored.index c.in-Stored.operand c.deref.result.now c.in-Stored.is c.deref.ensures), c.decreases), tt)
+    (omega (arith, ap reference_weight (is_stored c.args.expression.now c.in-Stored.location c.in-Stored.operand c.deref.result.now c.in-Stored.is c.deref.ensures), c.decreases), tt)
 
 pub append_reference-append_value_then-requires : goal.append_reference-append_value_then-requires
 append_reference-append_value_then-requires t c =
@@ -385,37 +335,7 @@ append_reference-append_value_then-requires t c =
 
 pub append_reference-append_reference_then-requires : goal.append_reference-append_reference_then-requires
 append_reference-append_reference_then-requires t c =
-    (omega (arith, ap reference_weight (is_initialized c.args.expression.now c.in-Initialized.operand c.deref-in-Initialized.result.now c.in-Initialized.is c.deref-in-Initialized.ensures), c.decreases), tt)
-
-pub append_values-append_value-requires : goal.append_values-append_value-requires
-append_values-append_value-requires t c =
-    (omega (arith, value_in c.args.all.now c.loop-expression.expression-index c.expression-item.result c.loop-expression-test.true c.expression-item.is, c.decreases), tt)
-
-pub append_printed-returns : goal.append_printed-returns
-append_printed-returns t c =
-    let P = program_of c.args.program.now in
-    let f = c.args.frame in
-    let old = orders c.args.actions.now.items in
-    let these = c.args.arguments.now in
-    let xs = all_value_orders P f.slots f.names f.operands (values these) in
-    rightly c.append_print.result (orders c.append_print.new.actions.items) _ _
-    (ap (λ l. l ++ print_orders (pieces c.args.pieces.now) (length these)) c.in_ok-append_values.ensures
-    ∙ ap (λ n. (old ++ xs) ++ print_orders (pieces c.args.pieces.now) n) (sym (values_counted these))
-    ∙ append_assoc old xs _)
-    c.append_print.ensures
-
-pub append_invoked-returns : goal.append_invoked-returns
-append_invoked-returns t c =
-    let P = program_of c.args.program.now in
-    let f = c.args.frame in
-    let old = orders c.args.actions.now.items in
-    let these = c.args.arguments.now in
-    let xs = all_value_orders P f.slots f.names f.operands (values these) in
-    rightly c.append_call.result (orders c.append_call.new.actions.items) _ _
-    (ap (λ l. l ++ call_orders P c.args.function (length these)) c.in_ok-append_values.ensures
-    ∙ ap (λ n. (old ++ xs) ++ call_orders P c.args.function n) (sym (values_counted these))
-    ∙ append_assoc old xs _)
-    c.append_call.ensures
+    (omega (arith, ap reference_weight (is_object_field c.args.expression.now c.in-ObjectField.object c.in-ObjectField.class c.in-ObjectField.index c.deref-in-ObjectField.result.now c.in-ObjectField.is c.deref-in-ObjectField.ensures), c.decreases), tt)
 
 pub append_assigned-returns : goal.append_assigned-returns
 append_assigned-returns t c =
@@ -462,66 +382,6 @@ append_both-returns t c =
     rightly c.append.result (orders c.append.new.actions.items) _ _
     (behind_two old o1 o2 (value_orders P f.slots f.names f.operands (value c.args.left.now)) (value_orders P f.slots f.names (suc f.operands) b) (order c.args.action ∷ []) c.in_ok-append_value.ensures next)
     c.append.ensures
-
-pub append_sent-returns : goal.append_sent-returns
-append_sent-returns t c =
-    let P = program_of c.args.program.now in
-    let f = c.args.frame in
-    let old = orders c.args.actions.now.items in
-    let selector = c.args.selector in
-    let these = c.args.arguments.now in
-    let o1 = orders c.append_value.new.actions.items in
-    let o2 = orders c.append_values.new.actions.items in
-    let next = c.in_ok-append_values.ensures ∙ ap (λ n. o1 ++ all_value_orders P f.slots f.names n (values these)) c.in_ok-operands.ensures in
-    rightly c.append.result (orders c.append.new.actions.items) _ _
-    (ap (λ n. o2 ++ Send selector n ∷ []) (sym (values_counted these))
-    ∙ behind_two old o1 o2 (value_orders P f.slots f.names f.operands (value c.args.receiver.now)) (all_value_orders P f.slots f.names (suc f.operands) (values these)) (Send selector (value_count (values these)) ∷ []) c.in_ok-append_value.ensures next)
-    c.append.ensures
-
-pub append_sent_super-returns : goal.append_sent_super-returns
-append_sent_super-returns t c =
-    let P = program_of c.args.program.now in
-    let f = c.args.frame in
-    let old = orders c.args.actions.now.items in
-    let from = c.args.from in
-    let selector = c.args.selector in
-    let these = c.args.arguments.now in
-    let o1 = orders c.append_get.new.actions.items in
-    let o2 = orders c.append_values.new.actions.items in
-    let next = c.in_ok-append_values.ensures ∙ ap (λ n. o1 ++ all_value_orders P f.slots f.names n (values these)) c.in_ok-operands.ensures in
-    rightly c.append.result (orders c.append.new.actions.items) _ _
-    (ap (λ n. o2 ++ SendSuper from selector n ∷ []) (sym (values_counted these))
-    ∙ behind_two old o1 o2 (get_orders f.slots f.operands (Local 0)) (all_value_orders P f.slots f.names (suc f.operands) (values these)) (SendSuper from selector (value_count (values these)) ∷ []) c.in_ok-append_get.ensures next)
-    c.append.ensures
-
-pub append_sent_to-returns : goal.append_sent_to-returns
-append_sent_to-returns t c =
-    let P = program_of c.args.program.now in
-    let f = c.args.frame in
-    let old = orders c.args.actions.now.items in
-    let selector = c.args.selector in
-    let these = c.args.arguments.now in
-    let o1 = orders c.append_reference.new.actions.items in
-    let o2 = orders c.append_values.new.actions.items in
-    rightly c.append.result (orders c.append.new.actions.items) _ _
-    (ap (λ n. o2 ++ SendTo selector n ∷ []) (sym (values_counted these))
-    ∙ behind_two old o1 o2 (reference_orders P f.slots f.names f.operands (reference c.args.receiver.now)) (all_value_orders P f.slots f.names f.operands (values these)) (SendTo selector (value_count (values these)) ∷ []) c.in_ok-append_reference.ensures c.in_ok-append_values.ensures)
-    c.append.ensures
-
-pub append_sent_to_super-returns : goal.append_sent_to_super-returns
-append_sent_to_super-returns t c =
-    let P = program_of c.args.program.now in
-    let f = c.args.frame in
-    let old = orders c.args.actions.now.items in
-    let from = c.args.from in
-    let selector = c.args.selector in
-    let these = c.args.arguments.now in
-    let o1 = orders c.append.new.actions.items in
-    let o2 = orders c.append_values.new.actions.items in
-    rightly c.append-2.result (orders c.append-2.new.actions.items) _ _
-    (ap (λ n. o2 ++ SendToSuper from selector n ∷ []) (sym (values_counted these))
-    ∙ behind_two old o1 o2 (Plain ReadSelf ∷ []) (all_value_orders P f.slots f.names f.operands (values these)) (SendToSuper from selector (value_count (values these)) ∷ []) c.in_ok-append.ensures c.in_ok-append_values.ensures)
-    c.append-2.ensures
 
 pub append_field_assigned-returns : goal.append_field_assigned-returns
 append_field_assigned-returns t c =
@@ -617,20 +477,162 @@ append_differ-returns t c =
     (behind_two old o1 o2 (reference_orders P f.slots f.names f.operands (reference c.args.left.now)) (reference_orders P f.slots f.names f.operands (reference c.args.right.now)) (Plain Differ ∷ []) c.in_ok-append_reference.ensures c.in_ok-append_reference-2.ensures)
     c.append.ensures
 
-pub append_values-loop-expression-preserved : goal.append_values-loop-expression-preserved
-append_values-loop-expression-preserved t c =
+pub append_reference-append_field_stored-requires : goal.append_reference-append_field_stored-requires
+append_reference-append_field_stored-requires t c =
+    (omega (arith, ap reference_weight (is_object_field_stored c.args.expression.now c.in-ObjectFieldStored.object c.in-ObjectFieldStored.class c.in-ObjectFieldStored.index c.in-ObjectFieldStored.operand c.deref-in-ObjectFieldStored.result.now c.deref-in-ObjectFieldStored-2.result.now c.in-ObjectFieldStored.is c.deref-in-ObjectFieldStored.ensures c.deref-in-ObjectFieldStored-2.ensures), c.decreases), tt)
+
+pub append_reference-append_reference_then-requires-in-Initialized : goal.append_reference-append_reference_then-requires-in-Initialized
+append_reference-append_reference_then-requires-in-Initialized t c =
+    (omega (arith, ap reference_weight (is_initialized c.args.expression.now c.in-Initialized.operand c.deref-in-Initialized.result.now c.in-Initialized.is c.deref-in-Initialized.ensures), c.decreases), tt)
+
+pub append_reference-returns-in-ObjectField : goal.append_reference-returns-in-ObjectField
+append_reference-returns-in-ObjectField t c =
+    let f = c.args.frame in
+    subst (λ x. OnOk c.append_reference_then.result (orders c.append_reference_then.new.actions.items ≡ orders c.args.actions.now.items ++ reference_orders (program_of c.args.program.now) f.slots f.names f.operands x))
+    (sym (is_object_field c.args.expression.now c.in-ObjectField.object c.in-ObjectField.class c.in-ObjectField.index c.deref-in-ObjectField.result.now c.in-ObjectField.is c.deref-in-ObjectField.ensures)) c.append_reference_then.ensures
+
+pub append_reference-returns-in-ObjectFieldStored : goal.append_reference-returns-in-ObjectFieldStored
+append_reference-returns-in-ObjectFieldStored t c =
+    let f = c.args.frame in
+    subst (λ x. OnOk c.append_field_stored.result (orders c.append_field_stored.new.actions.items ≡ orders c.args.actions.now.items ++ reference_orders (program_of c.args.program.now) f.slots f.names f.operands x))
+    (sym (is_object_field_stored c.args.expression.now c.in-ObjectFieldStored.object c.in-ObjectFieldStored.class c.in-ObjectFieldStored.index c.in-ObjectFieldStored.operand c.deref-in-ObjectFieldStored.result.now c.deref-in-ObjectFieldStored-2.result.now c.in-ObjectFieldStored.is c.deref-in-ObjectFieldStored.ensures c.deref-in-ObjectFieldStored-2.ensures)) c.append_field_stored.ensures
+
+pub append_receiver-append_value-requires : goal.append_receiver-append_value-requires
+append_receiver-append_value-requires t c =
+    (omega (arith, ap receiver_weight (is_class_value c.args.receiver.now c.in-ClassValue.value c.deref.result.now c.in-ClassValue.is c.deref.ensures), c.decreases), tt)
+
+pub append_receiver-append_reference-requires : goal.append_receiver-append_reference-requires
+append_receiver-append_reference-requires t c =
+    (omega (arith, ap receiver_weight (is_object_value c.args.receiver.now c.in-ObjectValue.object c.deref-in-ObjectValue.result.now c.in-ObjectValue.is c.deref-in-ObjectValue.ensures), c.decreases), tt)
+
+pub append_receiver-returns-in-ClassValue : goal.append_receiver-returns-in-ClassValue
+append_receiver-returns-in-ClassValue t c =
+    let f = c.args.frame in
+    subst (λ x. OnOk c.append_value.result (orders c.append_value.new.actions.items ≡ orders c.args.actions.now.items ++ receiver_orders (program_of c.args.program.now) f.slots f.names f.operands x))
+    (sym (is_class_value c.args.receiver.now c.in-ClassValue.value c.deref.result.now c.in-ClassValue.is c.deref.ensures)) c.append_value.ensures
+
+pub append_receiver-returns-in-ObjectValue : goal.append_receiver-returns-in-ObjectValue
+append_receiver-returns-in-ObjectValue t c =
+    let f = c.args.frame in
+    subst (λ x. OnOk c.append_reference.result (orders c.append_reference.new.actions.items ≡ orders c.args.actions.now.items ++ receiver_orders (program_of c.args.program.now) f.slots f.names f.operands x))
+    (sym (is_object_value c.args.receiver.now c.in-ObjectValue.object c.deref-in-ObjectValue.result.now c.in-ObjectValue.is c.deref-in-ObjectValue.ensures)) c.append_reference.ensures
+
+pub append_arguments-append_value-requires : goal.append_arguments-append_value-requires
+append_arguments-append_value-requires t c =
+    let within = argument_in c.args.all.now c.loop-argument.argument-index c.argument-item.result c.loop-argument-test.true c.argument-item.is in
+    let is = ap arguments_weight (is_number_argument c.argument-item.result c.in-Number.value c.deref.result.now no_arguments c.in-Number.is c.deref.ensures) in
+    (omega (arith, within, is, c.decreases), tt)
+
+pub append_arguments-append_reference-requires : goal.append_arguments-append_reference-requires
+append_arguments-append_reference-requires t c =
+    let within = argument_in c.args.all.now c.loop-argument.argument-index c.argument-item.result c.loop-argument-test.true c.argument-item.is in
+    let is = ap arguments_weight (is_object_argument c.argument-item.result c.in-Object.object c.deref-in-Object.result.now no_arguments c.in-Object.is c.deref-in-Object.ensures) in
+    (omega (arith, within, is, c.decreases), tt)
+
+-- the arguments that are left, without the next one
+left_of : (all : List Argument) (i : ℕ) (a : Argument) → i < length all → a ≡ get_or all i a → arguments (drop i all) ≡ and_argument a (arguments (drop (i + 1) all))
+left_of all i a below is = ap arguments (drop_more all i a below ∙ ap (λ x. x ∷ drop (i + 1) all) (sym is))
+
+-- the actions of an argument come behind those so far
+one_argument : (old now xs left whole start : List Order) → now ≡ old ++ xs → whole ≡ xs ++ left → old ++ whole ≡ start → now ++ left ≡ start
+one_argument old now xs left whole start first second so_far = ap (λ l. l ++ left) first ∙ append_assoc old xs left ∙ ap (λ l. old ++ l) (sym second) ∙ so_far
+
+pub append_arguments-loop-argument-preserved : goal.append_arguments-loop-argument-preserved
+append_arguments-loop-argument-preserved t c =
     let P = program_of c.args.program.now in
     let f = c.args.frame in
     let all = c.args.all.now in
-    let i = c.loop-expression.expression-index in
-    let a = c.expression-item.result in
-    let rest = values (drop (i + 1) all) in
-    let old = orders c.loop-expression.actions.items in
-    let n = c.loop-expression.operands in
-    let xs = value_orders P f.slots f.names n (value a) in
-    let split : values (drop i all) ≡ and_value (value a) rest = ap values (drop_more all i a c.loop-expression-test.true ∙ ap (λ x. x ∷ drop (i + 1) all) (sym c.expression-item.is)) in
-    ap (λ l. l ++ all_value_orders P f.slots f.names c.in_ok-operands.operands rest) c.in_ok-append_value.ensures
-    ∙ ap (λ m. (old ++ xs) ++ all_value_orders P f.slots f.names m rest) c.in_ok-operands.ensures
-    ∙ append_assoc old xs (all_value_orders P f.slots f.names (suc n) rest)
-    ∙ ap (λ l. old ++ all_value_orders P f.slots f.names n l) (sym split)
-    ∙ c.loop-expression.invariant
+    let i = c.loop-argument.argument-index in
+    let a = c.argument-item.result in
+    let rest = arguments (drop (i + 1) all) in
+    let old = orders c.loop-argument.actions.items in
+    let n = c.loop-argument.operands in
+    let split = left_of all i a c.loop-argument-test.true c.argument-item.is in
+    elim c.match-argument.branch [
+      | append_arguments-in-Number+in_ok-append_value-in-Number+in_ok-operands-in-Number w ↦
+          ap (λ m. orders m.items ++ argument_orders P f.slots f.names c.match-argument.operands rest) w.actions-is
+          ∙ ap (λ m. orders w.append_value.new.actions.items ++ argument_orders P f.slots f.names m rest) (w.operands-is ∙ w.in_ok-operands-in-Number.ensures)
+          ∙ one_argument old (orders w.append_value.new.actions.items) (value_orders P f.slots f.names n (value w.deref.result.now)) (argument_orders P f.slots f.names (suc n) rest) (argument_orders P f.slots f.names n (arguments (drop i all))) _
+          w.in_ok-append_value-in-Number.ensures
+          (ap (argument_orders P f.slots f.names n) (split ∙ is_number_argument a w.in-Number.value w.deref.result.now rest w.in-Number.is w.deref.ensures))
+          c.loop-argument.invariant
+      | append_arguments-in-Object+in_ok-append_reference-in-Object w ↦
+          ap (λ m. orders m.items ++ argument_orders P f.slots f.names c.match-argument.operands rest) w.actions-is
+          ∙ ap (λ m. orders w.append_reference.new.actions.items ++ argument_orders P f.slots f.names m rest) w.operands-is
+          ∙ one_argument old (orders w.append_reference.new.actions.items) (reference_orders P f.slots f.names n (reference w.deref-in-Object.result.now)) (argument_orders P f.slots f.names n rest) (argument_orders P f.slots f.names n (arguments (drop i all))) _
+          w.in_ok-append_reference-in-Object.ensures
+          (ap (argument_orders P f.slots f.names n) (split ∙ is_object_argument a w.in-Object.object w.deref-in-Object.result.now rest w.in-Object.is w.deref-in-Object.ensures))
+          c.loop-argument.invariant
+    ]
+
+pub append_printed-returns : goal.append_printed-returns
+append_printed-returns t c =
+    let P = program_of c.args.program.now in
+    let f = c.args.frame in
+    let old = orders c.args.actions.now.items in
+    let these = arguments c.args.arguments.now in
+    let xs = argument_orders P f.slots f.names f.operands these in
+    let o1 = orders c.append_arguments.new.actions.items in
+    let o2 = orders c.append_forgets.new.actions.items in
+    let forgotten = c.in_ok-append_forgets.ensures ∙ ap (λ n. o1 ++ forget_orders n) c.count_objects.ensures in
+    rightly c.append_print.result (orders c.append_print.new.actions.items) _ _
+    (ap (λ n. o2 ++ print_orders (pieces c.args.pieces.now) n) c.count_numbers.ensures
+    ∙ behind_two old o1 o2 xs (forget_orders (object_count these)) (print_orders (pieces c.args.pieces.now) (number_count these)) c.in_ok-append_arguments.ensures forgotten)
+    c.append_print.ensures
+
+pub append_invoked-returns : goal.append_invoked-returns
+append_invoked-returns t c =
+    let P = program_of c.args.program.now in
+    let f = c.args.frame in
+    let old = orders c.args.actions.now.items in
+    let these = arguments c.args.arguments.now in
+    let xs = argument_orders P f.slots f.names f.operands these in
+    rightly c.append_call.result (orders c.append_call.new.actions.items) _ _
+    (ap (λ l. l ++ call_orders P c.args.function c.count_numbers.result c.count_objects.result) c.in_ok-append_arguments.ensures
+    ∙ ap (λ n. (old ++ xs) ++ call_orders P c.args.function n c.count_objects.result) c.count_numbers.ensures
+    ∙ ap (λ n. (old ++ xs) ++ call_orders P c.args.function (number_count these) n) c.count_objects.ensures
+    ∙ append_assoc old xs _)
+    c.append_call.ensures
+
+pub append_sent-returns : goal.append_sent-returns
+append_sent-returns t c =
+    let P = program_of c.args.program.now in
+    let f = c.args.frame in
+    let old = orders c.args.actions.now.items in
+    let got = receiver c.args.receiver.now in
+    let these = arguments c.args.arguments.now in
+    let o1 = orders c.append_receiver.new.actions.items in
+    let o2 = orders c.append_arguments.new.actions.items in
+    let tells = message_order (message_to got c.args.selector) in
+    let next = c.in_ok-append_arguments.ensures ∙ ap (λ n. o1 ++ argument_orders P f.slots f.names n these) c.in_ok-operands.ensures in
+    rightly c.append.result (orders c.append.new.actions.items) _ _
+    (ap (λ o. o2 ++ o ∷ []) (c.message.ensures ∙ ap (λ n. tells n c.count_objects-objects.result) c.count_numbers-numbers.ensures ∙ ap (tells (number_count these)) c.count_objects-objects.ensures)
+    ∙ behind_two old o1 o2 (receiver_orders P f.slots f.names f.operands got) (argument_orders P f.slots f.names (below_arguments got f.operands) these) (tells (number_count these) (object_count these) ∷ []) c.in_ok-append_receiver.ensures next)
+    c.append.ensures
+
+pub append_field_stored-returns : goal.append_field_stored-returns
+append_field_stored-returns t c =
+    let P = program_of c.args.program.now in
+    let f = c.args.frame in
+    let old = orders c.args.actions.now.items in
+    let o1 = orders c.append_reference.new.actions.items in
+    let o2 = orders c.append_reference-2.new.actions.items in
+    let store : List Order = StoreField c.args.class c.args.index ∷ [] in
+    let last : List Order = Plain Hold ∷ [] in
+    rightly c.append-2.result (orders c.append-2.new.actions.items) _ _
+    (ap (λ l. l ++ last) c.in_ok-append.ensures
+    ∙ append_assoc o2 store last
+    ∙ behind_two old o1 o2 (reference_orders P f.slots f.names f.operands (reference c.args.object.now)) (reference_orders P f.slots f.names f.operands (reference c.args.operand.now)) (store ++ last) c.in_ok-append_reference.ensures c.in_ok-append_reference-2.ensures)
+    c.append-2.ensures
+
+pub append_sent-append_receiver-requires : goal.append_sent-append_receiver-requires
+append_sent-append_receiver-requires t c =
+    (omega (arith, c.decreases), tt)
+
+pub append_field_stored-append_reference-requires : goal.append_field_stored-append_reference-requires
+append_field_stored-append_reference-requires t c =
+    (omega (arith, c.decreases), tt)
+
+pub append_field_stored-append_reference-requires-2 : goal.append_field_stored-append_reference-requires-2
+append_field_stored-append_reference-requires-2 t c =
+    (omega (arith, c.decreases), tt)

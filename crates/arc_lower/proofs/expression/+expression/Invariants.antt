@@ -1,8 +1,8 @@
 use Rattle.std.proofs.Common.{◌≡◌, suc, ◌+◌, ◌++◌, drop}
-use Rattle.arc_check.specs.Checked.{value, reference, values, program_of}
+use Rattle.arc_check.specs.Checked.{value, reference, receiver, arguments, program_of}
 use Rattle.arc_lower.specs.Order.{orders}
-use Rattle.arc_lower.specs.Lowered.{all_value_orders}
-use Rattle.arc_lower.proofs.Weights.{value_weight, reference_weight, values_weight}
+use Rattle.arc_lower.specs.Lowered.{argument_orders}
+use Rattle.arc_lower.proofs.Weights.{value_weight, reference_weight, receiver_weight, arguments_weight}
 use Rattle.arc_lower.proofs.expression.+expression.Given as goal
 
 abbrev pub decreases-append_value : goal.decreases-append_value
@@ -11,20 +11,20 @@ decreases-append_value l = value_weight (value l.expression.now)
 abbrev pub decreases-append_reference : goal.decreases-append_reference
 decreases-append_reference l = reference_weight (reference l.expression.now)
 
-abbrev pub decreases-append_values : goal.decreases-append_values
-decreases-append_values l = values_weight (values l.all.now)
+abbrev pub decreases-append_arguments : goal.decreases-append_arguments
+decreases-append_arguments l = arguments_weight (arguments l.all.now)
+
+abbrev pub decreases-append_receiver : goal.decreases-append_receiver
+decreases-append_receiver l = receiver_weight (receiver l.receiver.now)
+
+abbrev pub decreases-append_field_stored : goal.decreases-append_field_stored
+decreases-append_field_stored l = suc (reference_weight (reference l.object.now) + reference_weight (reference l.operand.now))
 
 abbrev pub decreases-append_printed : goal.decreases-append_printed
-decreases-append_printed l = suc (values_weight (values l.arguments.now))
+decreases-append_printed l = suc (arguments_weight (arguments l.arguments.now))
 
 abbrev pub decreases-append_invoked : goal.decreases-append_invoked
-decreases-append_invoked l = suc (values_weight (values l.arguments.now))
-
-abbrev pub decreases-append_sent_super : goal.decreases-append_sent_super
-decreases-append_sent_super l = suc (values_weight (values l.arguments.now))
-
-abbrev pub decreases-append_sent_to_super : goal.decreases-append_sent_to_super
-decreases-append_sent_to_super l = suc (values_weight (values l.arguments.now))
+decreases-append_invoked l = suc (arguments_weight (arguments l.arguments.now))
 
 abbrev pub decreases-append_value_then : goal.decreases-append_value_then
 decreases-append_value_then l = suc (value_weight (value l.operand.now))
@@ -48,10 +48,7 @@ abbrev pub decreases-append_chosen : goal.decreases-append_chosen
 decreases-append_chosen l = suc (value_weight (value l.test.now) + reference_weight (reference l.first.now) + reference_weight (reference l.second.now))
 
 abbrev pub decreases-append_sent : goal.decreases-append_sent
-decreases-append_sent l = suc (value_weight (value l.receiver.now) + values_weight (values l.arguments.now))
-
-abbrev pub decreases-append_sent_to : goal.decreases-append_sent_to
-decreases-append_sent_to l = suc (reference_weight (reference l.receiver.now) + values_weight (values l.arguments.now))
+decreases-append_sent l = suc (receiver_weight (receiver l.receiver.now) + arguments_weight (arguments l.arguments.now))
 
 abbrev pub decreases-append_field_assigned : goal.decreases-append_field_assigned
 decreases-append_field_assigned l = suc (reference_weight (reference l.object.now) + value_weight (value l.operand.now))
@@ -68,5 +65,7 @@ decreases-append_update l = suc (value_weight (value l.operand.now))
 abbrev pub decreases-append_differ : goal.decreases-append_differ
 decreases-append_differ l = suc (reference_weight (reference l.left.now) + reference_weight (reference l.right.now))
 
-abbrev pub invariant-append_values-loop-expression : goal.invariant-append_values-loop-expression
-invariant-append_values-loop-expression l = orders l.actions.items ++ all_value_orders (program_of l.program) l.frame.slots l.frame.names l.operands (values (drop l.expression-index l.all)) ≡ orders l.initial.actions.items ++ all_value_orders (program_of l.program) l.frame.slots l.frame.names l.frame.operands (values l.all)
+-- the actions of the arguments that are left come behind those so far
+abbrev pub invariant-append_arguments-loop-argument : goal.invariant-append_arguments-loop-argument
+invariant-append_arguments-loop-argument l = orders l.actions.items ++ argument_orders (program_of l.program) l.frame.slots l.frame.names l.operands (arguments (drop l.argument-index l.all))
+    ≡ orders l.initial.actions.items ++ argument_orders (program_of l.program) l.frame.slots l.frame.names l.frame.operands (arguments l.all)

@@ -21,12 +21,12 @@ loop-function-preserved c =
     let whole = functions all ++ nothing ∷ [] in
     let left = functions (drop (i + 1) all) ++ nothing ∷ [] in
     let body = ap commands c.deref.ensures.value in
-    let f : Function = record { slots = item.slots; names = item.names; body = commands item.body.items } in
+    let f : Function = record { slots = item.slots; names = item.names; parameters = item.parameters; body = commands item.body.items } in
     let split : drop i all ≡ item ∷ drop (i + 1) all = drop_more all i item c.loop-function-test.true ∙ ap (λ (x : CheckedFunction). x ∷ drop (i + 1) all) (sym c.function-item.is) in
     let before : Laid P start c.args.entries.now.items c.args.most.now whole o c.loop-function.entries.items c.loop-function.most (f ∷ left) = subst (λ l. Laid P start c.args.entries.now.items c.args.most.now whole o c.loop-function.entries.items c.loop-function.most (functions l ++ nothing ∷ [])) split c.loop-function.invariant in
-    let laid = c.in_ok-append_function.ensures.actions ∙ ap (λ l. o ++ function_orders P (length o) (record { slots = item.slots; names = item.names; body = l })) body in
-    let entries = c.in_ok-append_function.ensures.entries ∙ ap (λ l. c.loop-function.entries.items ++ entry_of (length o) (record { slots = item.slots; names = item.names; body = l }) ∷ []) body in
-    let most = c.in_ok-append_function.ensures.most ∙ ap (λ l. greatest (function_heights P (length o) (record { slots = item.slots; names = item.names; body = l })) c.loop-function.most) body in
+    let laid = c.in_ok-append_function.ensures.actions ∙ ap (λ l. o ++ function_orders P (length o) (record { slots = item.slots; names = item.names; parameters = item.parameters; body = l })) body in
+    let entries = c.in_ok-append_function.ensures.entries ∙ ap (λ l. c.loop-function.entries.items ++ entry_of (length o) (record { slots = item.slots; names = item.names; parameters = item.parameters; body = l }) ∷ []) body in
+    let most = c.in_ok-append_function.ensures.most ∙ ap (λ l. greatest (function_heights P (length o) (record { slots = item.slots; names = item.names; parameters = item.parameters; body = l })) c.loop-function.most) body in
     laid_more P start c.args.entries.now.items c.args.most.now whole o c.loop-function.entries.items c.loop-function.most f left (orders c.append_function.new.actions.items) c.append_function.new.entries.items c.append_function.new.most before laid entries most
 
 -- behind the last function

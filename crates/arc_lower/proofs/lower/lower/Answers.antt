@@ -1,4 +1,4 @@
-use Rattle.std.proofs.Common.{◌≡◌, ◌+◌, ◌++◌, length, sym, ap, ◌∙◌, arith}
+use Rattle.std.proofs.Common.{◌≡◌, refl, ◌+◌, ◌++◌, length, sym, ap, ◌∙◌, arith}
 use Rattle.arc_spec.specs.Classes.{classes_of}
 use Rattle.arc_check.specs.Checked.{program_of}
 use Rattle.arc_ir.specs.Acting.{Program}
@@ -35,7 +35,7 @@ returns c =
     let room = c.in_ok-room.ensures ∙ ap (λ (h : Height). room_for h.numbers) most in
     let names = c.in_ok-names.ensures ∙ ap (λ (h : Height). room_for h.names) most in
     let places = c.in_ok-places.ensures ∙ ap room_for c.in_ok-add_operands.ensures ∙ ap (λ (h : Height). room_for (places_in h)) most in
-    let made : Program = record { actions = c.append_classes.new.actions.items; entries = found; end_step = c.in_ok-end_step.end_step; room = c.in_ok-room.room; names = c.in_ok-names.names; places = c.in_ok-places.places; globals = c.in_ok-globals.globals.items; classes = classes_of c.in_ok-classes.classes.items } in
+    let made : Program = record { actions = c.append_classes.new.actions.items; entries = found; end_step = c.in_ok-end_step.end_step; room = c.in_ok-room.room; names = c.in_ok-names.names; places = c.in_ok-places.places; globals = c.in_ok-globals.globals.items; strong_globals = R.strong_globals; classes = classes_of c.in_ok-classes.classes.items } in
     let exact : IsLowered R made = record {
       actions = c.in_ok-classes.ensures.actions ∙ ap (λ s. s ++ classes_orders R c.deref.result.now R.classes) running ∙ ap (λ e. running_orders R ++ classes_orders R e R.classes) given;
       entries = entries;
@@ -44,6 +44,7 @@ returns c =
       names = names;
       places = places;
       globals = c.in_ok-globals.ensures.items ∙ c.deref-2.ensures.value;
+      strong_globals = refl;
       classes = c.in_ok-classes.ensures.linked ∙ ap (λ s. linked_classes R c.deref.result.now (length s) R.classes) running ∙ ap (λ e. linked_classes R e (length (running_orders R)) R.classes) given;
     } in
     record { performs = performs made R exact; exact = exact }

@@ -3,6 +3,7 @@ use Rattle.std.specs.List.{list_any}
 use Rattle.arc_check.specs.Checked.{reference, program_of}
 use Rattle.arc_code.specs.declared.instr.Instr.TheVariants.{Plain, DropAll}
 use Rattle.arc_code.specs.declared.instr.Op.TheVariants.{Forget}
+use Rattle.arc_spec.specs.declared.location.Location.TheVariants.{Local}
 use Rattle.arc_lower.specs.Order.{orders}
 use Rattle.arc_lower.specs.Lowered.{store_orders, order_takes, drop_orders, reference_orders}
 use Rattle.arc_lower.proofs.Appended.{slice_behind}
@@ -13,7 +14,7 @@ returns c =
     let b = c.args.body in
     let old = c.args.actions.now in
     let xs = reference_orders (program_of c.args.program.now) b.slots b.names 0 (reference c.args.expression.now) in
-    let store = store_orders b.names c.args.index in
+    let store = store_orders b.names (Local c.args.index) in
     let last = Plain Forget ∷ drop_orders xs in
     let o1 = c.append_reference.new.actions.items in
     let o2 = orders c.append_store.new.actions.items in

@@ -1,0 +1,10 @@
+use Rattle.std.proofs.Common.{◌≡◌, ◌+◌, ◌≤◌, drop}
+use Rattle.arc_check.specs.Checked.{arguments}
+use Rattle.arc_lower.specs.Lowered.{number_count}
+use Rattle.arc_lower.proofs.expression.count_numbers.Given as goal
+
+abbrev pub invariant-loop-argument : goal.invariant-loop-argument
+invariant-loop-argument l = record {
+  few : l.count ≤ l.argument-index;
+  counted : l.count + number_count (arguments (drop l.argument-index l.arguments)) ≡ number_count (arguments l.arguments);
+}
