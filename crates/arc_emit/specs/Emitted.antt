@@ -42,6 +42,7 @@ code_of p = record {
   names = p.names;
   places = p.places;
   globals = p.globals;
+  strong_globals = p.strong_globals;
   classes = p.classes;
 }
 

@@ -58,6 +58,7 @@ fn write_code(alloc: Global, ir: &Ir) -> Result<Code, EmitFault>
         names: ir.names,
         places: ir.places,
         globals,
+        strong_globals: ir.strong_globals,
         classes,
     })
 }
