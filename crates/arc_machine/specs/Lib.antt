@@ -1,5 +1,7 @@
 pub mod Cells
+pub mod Clearing
 pub mod Entering
+pub mod Fields
 pub mod Operands
 pub mod Patterns
 pub mod Places
@@ -8,6 +10,7 @@ pub mod Releases
 pub mod Runs
 pub mod Standing
 pub mod Steps
+pub mod Storing
 pub mod Told
 pub mod Views
 pub mod Words

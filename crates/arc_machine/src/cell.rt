@@ -1,8 +1,8 @@
 //! The blocks of objects. A block has the object's class, how many places name it, its phase, its
-//! number, and then a word for each field.
+//! number, and then a word for each field: those that hold numbers first, and then those that name objects.
 ghost use Rattle.std.specs.Prelude.{◌≡◌, ◌+◌, ◌-◌, ◌^◌, ◌<◌, ◌≤◌, Some, IsNone, IsTrue, ◌↔◌, length, get_or};
 ghost use Rattle.std.specs.Int.{w64, cast_signed};
-ghost use Rattle.arc_machine.specs.Cells.{Cell, IsCell, HasField, Becomes, Makes, with_count, with_phase, with_value, first_cell, fresh_cell};
+ghost use Rattle.arc_machine.specs.Cells.{Cell, IsCell, HasField, Becomes, Makes, with_count, with_phase, with_value, with_word, first_cell, fresh_cell};
 ghost use Rattle.arc_machine.specs.Refusals.{Refuses};
 
 use arc_heap::store::{Ref, Store};
@@ -18,8 +18,14 @@ const NUMBER: usize = 3;
 /// How many words stand before those of the fields.
 const HEAD: usize = 4;
 
-/// The phase of an object whose dealloc has begun. One whose dealloc hasn't has phase 0.
+/// The phase of an object whose dealloc hasn't begun.
+const LIVE: u64 = 0;
+
+/// The phase of an object whose dealloc has begun.
 const DYING: u64 = 1;
+
+/// The phase of an object whose fields that name objects are being destroyed.
+const EMPTYING: u64 = 2;
 
 /// The most fields that an object can have.
 pub const MOST_FIELDS: usize = 124;
@@ -42,13 +48,22 @@ pub fn count_in<S: Store>(store: &S, object: Ref) -> u64
     store.load(object, COUNT)
 }
 
-/// Whether an object's dealloc has begun.
+/// Whether an object's dealloc hasn't begun.
 #[inline(always)]
-pub fn is_dying<S: Store>(store: &S, object: Ref) -> bool
+pub fn is_live<S: Store>(store: &S, object: Ref) -> bool
     requires { (c : Cell) × IsCell (S.out store.now) object.at c }
-    ensures { (c : Cell) → IsCell (S.out store.now) object.at c → IsTrue result ↔ (c.phase ≡ 1) }
+    ensures { (c : Cell) → IsCell (S.out store.now) object.at c → IsTrue result ↔ (c.phase ≡ 0) }
 {
-    store.load(object, PHASE) == DYING
+    store.load(object, PHASE) == LIVE
+}
+
+/// Whether the fields of an object that name objects are being destroyed.
+#[inline(always)]
+pub fn is_emptying<S: Store>(store: &S, object: Ref) -> bool
+    requires { (c : Cell) × IsCell (S.out store.now) object.at c }
+    ensures { (c : Cell) → IsCell (S.out store.now) object.at c → IsTrue result ↔ (c.phase ≡ 2) }
+{
+    store.load(object, PHASE) == EMPTYING
 }
 
 /// An object's number.
@@ -82,6 +97,27 @@ pub fn write_field<S: Store>(store: &mut S, object: Ref, index: usize, value: i6
     store.store(object, HEAD + index, value.cast_unsigned());
 }
 
+/// What the field of an object names that has this index among all of its fields: the place of a block, or 0.
+#[inline(always)]
+pub fn name_in<S: Store>(store: &S, object: Ref, index: usize) -> u64
+    requires short { index < 124 }
+    requires field { HasField (S.out store.now) object.at index }
+    ensures { (c : Cell) → IsCell (S.out store.now) object.at c → result ≡ get_or c.fields index 0 }
+{
+    store.load(object, HEAD + index)
+}
+
+/// The field of an object that has this index among all of its fields names this.
+#[inline(always)]
+pub fn write_name<S: Store>(store: &mut S, object: Ref, index: usize, name: u64)
+    requires short { index < 124 }
+    requires field { HasField (S.out store.old) object.at index }
+    ensures { (c : Cell) → IsCell (S.out store.old) object.at c →
+        Becomes (S.out store.old) (S.out store.new) object.at (with_word c index name) }
+{
+    store.store(object, HEAD + index, name);
+}
+
 /// One more place names an object.
 #[inline(always)]
 pub fn hold<S: Store>(store: &mut S, object: Ref)
@@ -112,6 +148,16 @@ pub fn begin_end<S: Store>(store: &mut S, object: Ref)
         Becomes (S.out store.old) (S.out store.new) object.at (with_phase c 1) }
 {
     store.store(object, PHASE, DYING);
+}
+
+/// The fields of an object that name objects are being destroyed from now on.
+#[inline(always)]
+pub fn begin_emptying<S: Store>(store: &mut S, object: Ref)
+    requires { (c : Cell) × IsCell (S.out store.old) object.at c }
+    ensures { (c : Cell) → IsCell (S.out store.old) object.at c →
+        Becomes (S.out store.old) (S.out store.new) object.at (with_phase c 2) }
+{
+    store.store(object, PHASE, EMPTYING);
 }
 
 /// The block of a new object, which one place names and whose fields are 0. It is None, and nothing is

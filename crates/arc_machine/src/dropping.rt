@@ -33,7 +33,7 @@ fn is_alone<S: Store + Drop>(objects: &Objects<S>, object: u64) -> bool
     if object == 0 {
         return false;
     }
-    objects.count(object) == occurrences(objects, object) && !objects.is_dying(object)
+    objects.count(object) == occurrences(objects, object) && objects.is_live(object)
 }
 
 /// How many temporaries name this.

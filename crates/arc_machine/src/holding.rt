@@ -1,7 +1,7 @@
 //! The instructions that give and take references, and those that keep strong places.
 ghost use Rattle.std.specs.Prelude.{◌≡◌, ◌+◌, ◌-◌, ◌^◌, ◌<◌, ◌≤◌, []};
 ghost use Rattle.arc_code.specs.Running.{program_of};
-ghost use Rattle.arc_machine.specs.Places.{Ready, Executes, HasPlaces, spot};
+ghost use Rattle.arc_machine.specs.Places.{Ready, CanHold, Executes, HasPlaces, spot};
 
 use crate::objects::Objects;
 use crate::place::Place;
@@ -49,6 +49,7 @@ impl Place {
     #[inline(always)]
     pub fn read_self<S: Store + Drop>(&mut self, code: &Code, objects: &mut Objects<S>) -> Answer
         requires ready { Ready S.out (program_of code.now) (Instr.Plain Op.ReadSelf) (spot self.old objects.old) }
+        requires few { CanHold S.out (program_of code.now) (Instr.Plain Op.ReadSelf) (spot self.old objects.old) }
         requires place { self.old.at < 2 ^ 64 - 1 }
         requires room { code.now.room ≤ self.old.stack.room }
         requires places { HasPlaces code.now objects.old }
@@ -56,7 +57,7 @@ impl Place {
             (spot self.old objects.old) (spot self.new objects.new) }
         ensures room { self.new.stack.room ≡ self.old.stack.room }
     {
-        // An object has no more holders than there are places, whose number fits a word.
+        // There are no more places than the code asks for, whose number fits a word.
         let _places = code.places;
         let object = objects.receiver();
         objects.raise(object);
@@ -75,6 +76,7 @@ impl Place {
         objects: &mut Objects<S>,
     ) -> Answer
         requires ready { Ready S.out (program_of code.now) (Instr.Plain (Op.ReadRef variable)) (spot self.old objects.old) }
+        requires few { CanHold S.out (program_of code.now) (Instr.Plain (Op.ReadRef variable)) (spot self.old objects.old) }
         requires place { self.old.at < 2 ^ 64 - 1 }
         requires room { code.now.room ≤ self.old.stack.room }
         requires places { HasPlaces code.now objects.old }
@@ -82,9 +84,36 @@ impl Place {
             (spot self.old objects.old) (spot self.new objects.new) }
         ensures room { self.new.stack.room ≡ self.old.stack.room }
     {
-        // An object has no more holders than there are places, whose number fits a word.
+        // There are no more places than the code asks for, whose number fits a word.
         let _places = code.places;
         let object = objects.variable(variable);
+        objects.raise(object);
+        objects.push(object);
+        objects.name(object);
+        self.at += 1;
+        Answer::Going
+    }
+
+    /// A further reference names what this variable of the whole program does, which a temporary takes.
+    #[inline(always)]
+    pub fn read_global<S: Store + Drop>(
+        &mut self,
+        variable: usize,
+        code: &Code,
+        objects: &mut Objects<S>,
+    ) -> Answer
+        requires ready { Ready S.out (program_of code.now) (Instr.Plain (Op.ReadGlobal variable)) (spot self.old objects.old) }
+        requires few { CanHold S.out (program_of code.now) (Instr.Plain (Op.ReadGlobal variable)) (spot self.old objects.old) }
+        requires place { self.old.at < 2 ^ 64 - 1 }
+        requires room { code.now.room ≤ self.old.stack.room }
+        requires places { HasPlaces code.now objects.old }
+        ensures went { Executes S.out (program_of code.now) (Instr.Plain (Op.ReadGlobal variable)) result []
+            (spot self.old objects.old) (spot self.new objects.new) }
+        ensures room { self.new.stack.room ≡ self.old.stack.room }
+    {
+        // There are no more places than the code asks for, whose number fits a word.
+        let _places = code.places;
+        let object = objects.strong_global(variable).unwrap_or(0);
         objects.raise(object);
         objects.push(object);
         objects.name(object);
@@ -96,6 +125,7 @@ impl Place {
     #[inline(always)]
     pub fn hold<S: Store + Drop>(&mut self, code: &Code, objects: &mut Objects<S>) -> Answer
         requires ready { Ready S.out (program_of code.now) (Instr.Plain Op.Hold) (spot self.old objects.old) }
+        requires few { CanHold S.out (program_of code.now) (Instr.Plain Op.Hold) (spot self.old objects.old) }
         requires place { self.old.at < 2 ^ 64 - 1 }
         requires room { code.now.room ≤ self.old.stack.room }
         requires places { HasPlaces code.now objects.old }
@@ -103,7 +133,7 @@ impl Place {
             (spot self.old objects.old) (spot self.new objects.new) }
         ensures room { self.new.stack.room ≡ self.old.stack.room }
     {
-        // An object has no more holders than there are places, whose number fits a word.
+        // There are no more places than the code asks for, whose number fits a word.
         let _places = code.places;
         let object = objects.reference();
         objects.raise(object);

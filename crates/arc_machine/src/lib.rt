@@ -3,6 +3,7 @@
 
 mod calling;
 mod cell;
+mod clearing;
 mod decoded;
 mod dropping;
 mod engine;
@@ -14,11 +15,13 @@ pub mod machine;
 mod number;
 mod objects;
 mod operand;
+mod order;
 mod pattern;
 mod place;
 mod releasing;
 mod stack;
 mod step;
 pub mod stop;
+mod storing;
 mod turn;
 mod waiting;

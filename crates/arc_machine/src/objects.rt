@@ -1,17 +1,20 @@
 //! The objects of a running program, the places that name them, what waits, and the variables of the whole program.
-ghost use Rattle.std.specs.Prelude.{◌≡◌, ◌≢◌, ◌+◌, ◌-◌, ◌^◌, ◌<◌, ◌≤◌, ℕ, List, ◌∷◌, Option, Some, IsNone, IsTrue, ◌↔◌, length, nat_lt, slice_get, slice_set, slice_index_or, pos, get_or, IfOk};
+ghost use Rattle.std.specs.Prelude.{◌≡◌, ◌≢◌, ◌+◌, ◌-◌, ◌^◌, ◌<◌, ◌≤◌, ℕ, List, ◌∷◌, ◌++◌, Option, Some, IsNone, IsTrue, ◌↔◌, length, take, drop, nat_lt, slice_get, slice_set, slice_index_or, pos, get_or, IfOk};
 ghost use Rattle.std.specs.Int.{w64, cast_signed};
 ghost use Rattle.arc_spec.specs.Meaning.{most_levels};
+ghost use Rattle.arc_code.specs.Running.{program_of};
 ghost use Rattle.arc_machine.specs.declared.waiting.Waiting.{Waiting};
 ghost use Rattle.arc_machine.specs.declared.waiting.Waiting.TheVariants as waits;
-ghost use Rattle.arc_machine.specs.Cells.{Cell, IsCell, HasField, with_count, with_phase, with_value};
+ghost use Rattle.arc_machine.specs.Cells.{Cell, IsCell, HasField, with_count, with_phase, with_value, with_word};
 ghost use Rattle.arc_machine.specs.Refusals.{Refuses};
-ghost use Rattle.arc_machine.specs.Standing.{NamesBlock, Alters, IsLast, NewIn, Turns, no_objects, memory_of, with_places, with_names, with_frames, with_globals, taking, dropping, declaring, undeclaring, words_of, entering, resuming};
+ghost use Rattle.arc_machine.specs.Standing.{NamesBlock, Alters, IsLast, NewIn, Turns, no_objects, memory_of, with_places, with_names, with_frames, with_globals, with_strong_globals, order_at, next_in, taking, dropping, declaring, undeclaring, words_of, entering, resuming};
 ghost use Rattle.arc_machine.specs.Words.{Took};
 
 use crate::cell;
+use crate::order::orders_of;
 use crate::stack::Stack;
 use crate::waiting::{Waiter, Waiting};
+use arc_code::code::Code;
 use arc_heap::store::{Ref, Store};
 use arc_spec::event::NoMemory;
 use std::alloc::Global;
@@ -22,9 +25,10 @@ const MOST_LEVELS: usize = 2_000;
 
 /// A store with the blocks of objects, how many objects were made, the strong places, of which the
 /// last ones are the temporaries of the running function, and those before them its variables, how
-/// many of each it has, the references, `self` of the running function, what waits for it, and the numbers
-/// that the variables of the whole program hold. A word names the object of a block by the block's place,
-/// and nil by 0. Only making an object takes memory.
+/// many of each it has, the references, `self` of the running function, what waits for it, the numbers
+/// that the variables of the whole program hold, what those of them name that name objects, and for each
+/// class the fields of its objects that name objects, in the order in which they are destroyed. A word names
+/// the object of a block by the block's place, and nil by 0. Only making an object takes memory.
 #[derive(Drop)]
 pub struct Objects<S: Store + Drop> {
     store: S,
@@ -36,12 +40,14 @@ pub struct Objects<S: Store + Drop> {
     receiver: u64,
     frames: Stack<Waiting>,
     globals: Vec<i64>,
+    strong_globals: Vec<u64>,
+    orders: Vec<Vec<usize>>,
 }
 
 impl<S: Store + Drop> Model for Objects<S> {
-    ghost use Rattle.std.specs.Prelude.{◌≤◌};
+    ghost use Rattle.std.specs.Prelude.{◌≤◌, map};
     ghost use Rattle.arc_spec.specs.Meaning.{most_levels};
-    ghost use Rattle.arc_machine.specs.Standing.{Parts};
+    ghost use Rattle.arc_machine.specs.Standing.{Parts, items_of};
 
     ghost Value = { Parts S };
 
@@ -57,33 +63,31 @@ impl<S: Store + Drop> Model for Objects<S> {
       names_room = a.names.room;
       frames = a.frames.items;
       globals = a.globals.items;
+      strong_globals = a.strong_globals.items;
+      orders = map items_of a.orders.items;
     } };
 
     ghost invariant = { λ a. most_levels ≤ a.frames.room };
 }
 
 impl<S: Store + Drop> Objects<S> {
-    /// No objects, with room for so many strong places and references, and variables of the whole program
-    /// that hold these numbers. The error is a refusal of the memory for these and for 2,000 calls.
-    pub fn new(
-        alloc: Global,
-        store: S,
-        places: usize,
-        names: usize,
-        globals: &[i64],
-    ) -> Result<Objects<S>, NoMemory>
-        ensures { IfOk result (λ m. m ≡ no_objects store places names globals.now) }
+    /// No objects, with room for as many strong places and references as this code asks for, and its variables
+    /// of the whole program as they are first. The error is a refusal of the memory for these and for 2,000 calls.
+    pub fn new(alloc: Global, store: S, code: &Code) -> Result<Objects<S>, NoMemory>
+        ensures { IfOk result (λ m. m ≡ no_objects store (program_of code.now)) }
     {
         Ok(Objects {
             store,
             made: 0,
-            places: Stack::with_room(alloc, places)?,
+            places: Stack::with_room(alloc, code.places)?,
             temporaries: 0,
             variables: 0,
-            names: Stack::with_room(alloc, names)?,
+            names: Stack::with_room(alloc, code.names)?,
             receiver: 0,
             frames: Stack::with_room(alloc, MOST_LEVELS)?,
-            globals: Vec::from_slice(alloc, globals)?,
+            globals: Vec::from_slice(alloc, &code.globals)?,
+            strong_globals: vec![in alloc; 0; code.strong_globals]?,
+            orders: orders_of(alloc, &code.classes)?,
         })
     }
 
@@ -108,6 +112,24 @@ impl<S: Store + Drop> Objects<S> {
     {
         if let Some(place) = self.globals.get_mut(variable) {
             *place = number;
+        }
+    }
+
+    /// What the variable of the whole program with this number names, where there is one.
+    #[inline(always)]
+    pub fn strong_global(&self, variable: usize) -> Option<u64>
+        ensures { result ≡ slice_get self.now.strong_globals variable }
+    {
+        self.strong_globals.get(variable).copied()
+    }
+
+    /// This variable of the whole program, where there is one, names this.
+    #[inline(always)]
+    pub fn put_strong_global(&mut self, variable: usize, object: u64)
+        ensures { self.new ≡ with_strong_globals self.old (slice_set self.old.strong_globals variable object) }
+    {
+        if let Some(place) = self.strong_globals.get_mut(variable) {
+            *place = object;
         }
     }
 
@@ -232,6 +254,33 @@ impl<S: Store + Drop> Objects<S> {
         ensures others { self.new ≡ with_names self.old self.new.names }
     {
         self.names.pop()
+    }
+
+    /// What the reference below so many others names.
+    #[inline(always)]
+    pub fn reference_below(&self, depth: usize) -> u64
+        requires { depth < length self.now.names }
+        ensures { slice_get self.now.names depth ≡ Some result }
+    {
+        self.names.get(depth)
+    }
+
+    /// Takes the reference below so many others, which stay.
+    #[inline(always)]
+    pub fn take_below(&mut self, depth: usize)
+        requires { depth < length self.old.names }
+        ensures { self.new ≡ with_names self.old (take depth self.old.names ++ drop (depth + 1) self.old.names) }
+    {
+        let _ = self.names.remove(depth);
+    }
+
+    /// Takes so many references, the last ones.
+    #[inline(always)]
+    pub fn forget(&mut self, count: usize)
+        requires { count ≤ length self.old.names }
+        ensures { self.new ≡ with_names self.old (drop count self.old.names) }
+    {
+        self.names.forget(count);
     }
 
     // ---- what waits
@@ -368,17 +417,27 @@ impl<S: Store + Drop> Objects<S> {
             return false;
         }
         let block = Ref { at: object };
-        cell::count_in(&self.store, block) == 1 && !cell::is_dying(&self.store, block)
+        cell::count_in(&self.store, block) == 1 && cell::is_live(&self.store, block)
     }
 
-    /// Whether the dealloc of an object has begun.
+    /// Whether the dealloc of an object hasn't begun.
     #[inline(always)]
-    pub fn is_dying(&self, object: u64) -> bool
+    pub fn is_live(&self, object: u64) -> bool
         requires some { 0 < object }
         requires object { (c : Cell) × IsCell (S.out self.now.store) object c }
-        ensures { (c : Cell) → IsCell (S.out self.now.store) object c → IsTrue result ↔ (c.phase ≡ 1) }
+        ensures { (c : Cell) → IsCell (S.out self.now.store) object c → IsTrue result ↔ (c.phase ≡ 0) }
     {
-        cell::is_dying(&self.store, Ref { at: object })
+        cell::is_live(&self.store, Ref { at: object })
+    }
+
+    /// Whether the fields of an object that name objects are being destroyed.
+    #[inline(always)]
+    pub fn is_emptying(&self, object: u64) -> bool
+        requires some { 0 < object }
+        requires object { (c : Cell) × IsCell (S.out self.now.store) object c }
+        ensures { (c : Cell) → IsCell (S.out self.now.store) object c → IsTrue result ↔ (c.phase ≡ 2) }
+    {
+        cell::is_emptying(&self.store, Ref { at: object })
     }
 
     /// The number of an object's class.
@@ -432,6 +491,56 @@ impl<S: Store + Drop> Objects<S> {
         ensures { Alters (memory_of S.out self.old) (memory_of S.out self.new) object (λ c. with_value c index value) }
     {
         cell::write_field(&mut self.store, Ref { at: object }, index, value);
+    }
+
+    /// What the field of an object names that has this index among all of its fields.
+    #[inline(always)]
+    pub fn field_name(&self, object: u64, index: usize) -> u64
+        requires some { 0 < object }
+        requires short { index < 124 }
+        requires field { HasField (S.out self.now.store) object index }
+        ensures { (c : Cell) → IsCell (S.out self.now.store) object c → result ≡ get_or c.fields index 0 }
+    {
+        cell::name_in(&self.store, Ref { at: object }, index)
+    }
+
+    /// The field of an object that has this index among all of its fields names this.
+    #[inline(always)]
+    pub fn put_field_name(&mut self, object: u64, index: usize, name: u64)
+        requires some { 0 < object }
+        requires short { index < 124 }
+        requires field { HasField (S.out self.old.store) object index }
+        ensures { Alters (memory_of S.out self.old) (memory_of S.out self.new) object (λ c. with_word c index name) }
+    {
+        cell::write_name(&mut self.store, Ref { at: object }, index, name);
+    }
+
+    /// How many fields that name objects the objects of a class have.
+    pub fn field_count(&self, class: usize) -> usize
+        ensures { result ≡ length (order_at self.now.orders class) }
+    {
+        match self.orders.get(class) {
+            Some(order) => order.len(),
+            None => 0,
+        }
+    }
+
+    /// The next field of an object of a class that is destroyed, where so many are left.
+    pub fn next_field(&self, class: usize, left: usize) -> Option<usize>
+        ensures { result ≡ next_in (order_at self.now.orders class) left }
+    {
+        let order = self.orders.get(class)?;
+        let next = order.len().checked_sub(left)?;
+        order.get(next).copied()
+    }
+
+    /// The fields of an object that name objects are being destroyed from now on.
+    pub fn begin_emptying(&mut self, object: u64)
+        requires some { 0 < object }
+        requires object { (c : Cell) × IsCell (S.out self.old.store) object c }
+        ensures { Alters (memory_of S.out self.old) (memory_of S.out self.new) object (λ c. with_phase c 2) }
+    {
+        cell::begin_emptying(&mut self.store, Ref { at: object });
     }
 
     /// The last holder of an object lets go of it, and its dealloc begins.

@@ -1,5 +1,5 @@
 //! A stack, in room that was reserved.
-ghost use Rattle.std.specs.Prelude.{◌≡◌, ◌+◌, ◌<◌, ◌≤◌, ◌∷◌, length, drop, IfOk, List, Some, slice_get};
+ghost use Rattle.std.specs.Prelude.{◌≡◌, ◌+◌, ◌<◌, ◌≤◌, ◌∷◌, ◌++◌, length, take, drop, IfOk, List, Some, slice_get};
 ghost use Rattle.arc_machine.specs.Words.{empty, pushed, with_item, Took};
 
 use arc_spec::event::NoMemory;
@@ -114,6 +114,18 @@ impl<T: Copy + Drop> Stack<T> {
     {
         let place = self.items.len() - 1 - depth;
         self.items[place] = item;
+    }
+
+    /// Takes what is below so many others, which stay.
+    #[inline(always)]
+    pub fn remove(&mut self, depth: usize) -> T
+        requires { depth < length self.old.items }
+        ensures value { slice_get self.old.items depth ≡ Some result }
+        ensures items { self.new.items ≡ take depth self.old.items ++ drop (depth + 1) self.old.items }
+        ensures room { self.new.room ≡ self.old.room }
+    {
+        let place = self.items.len() - 1 - depth;
+        self.items.remove(place)
     }
 
     /// Takes so many from the top.

@@ -26,4 +26,12 @@ pub enum Waiting {
         next: Option<usize>,
         left: usize,
     },
+    /// The end of the object of a block. So many of its fields that name objects, the last ones in their
+    /// order, are still to be destroyed.
+    Clear {
+        back: usize,
+        waiter: Waiter,
+        object: u64,
+        left: usize,
+    },
 }

@@ -6,7 +6,7 @@ use Rattle.arc_machine.proofs.Putting.{empty_puts, ready_put, put_turn_went}
 use Rattle.arc_machine.proofs.place.Place.empty.Goals as goal
 
 pub put-requires-clause-can : goal.put-requires-clause-can
-put-requires-clause-can g c = ready_put g.S.Store.out (program_of c.args.code.now) (spot c.args.self.now c.args.objects.now) c.args.variable (Empty c.args.variable) 0 (empty_puts g.S.Store.out (program_of c.args.code.now) (spot c.args.self.now c.args.objects.now) c.args.variable) c.requires.ready (omega arith)
+put-requires-clause-can g c = ready_put g.S.Store.out (program_of c.args.code.now) (spot c.args.self.now c.args.objects.now) c.args.variable (Empty c.args.variable) 0 (empty_puts g.S.Store.out (program_of c.args.code.now) (spot c.args.self.now c.args.objects.now) c.args.variable) c.requires.ready (λ above. absurd (omega (arith, above)))
 
 pub returns-clause-went : goal.returns-clause-went
 returns-clause-went g c = put_turn_went g.S.Store.out (program_of c.args.code.now) (spot c.args.self.now c.args.objects.now) c.args.variable (Empty c.args.variable) 0 (empty_puts g.S.Store.out (program_of c.args.code.now) (spot c.args.self.now c.args.objects.now) c.args.variable) _ _ (spot c.put.new.self c.put.new.objects) c.put.ensures.turn

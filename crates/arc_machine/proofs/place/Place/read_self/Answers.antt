@@ -8,27 +8,27 @@ use Rattle.arc_machine.proofs.Holdings.{self_taking, taking_needs, taking_went}
 use Rattle.arc_machine.proofs.place.Place.read_self.Goals as goal
 
 pub raise-requires-clause-object : goal.raise-requires-clause-object
-raise-requires-clause-object g c = (taking_needs g.S.Store.out (program_of c.args.code.now) (spot c.args.self.now c.args.objects.now) (Plain ReadSelf) c.receiver-object.result (c.receiver-object.result ∷ c.args.objects.now.names) (self_taking g.S.Store.out (program_of c.args.code.now) (spot c.args.self.now c.args.objects.now) _ c.receiver-object.ensures) c.requires.ready (omega arith)).0
+raise-requires-clause-object g c = (taking_needs g.S.Store.out (program_of c.args.code.now) (spot c.args.self.now c.args.objects.now) (Plain ReadSelf) c.receiver-object.result (c.receiver-object.result ∷ c.args.objects.now.names) (self_taking g.S.Store.out (program_of c.args.code.now) (spot c.args.self.now c.args.objects.now) _ c.receiver-object.ensures) c.requires.few (omega arith)).0
 
 pub raise-requires-clause-fits : goal.raise-requires-clause-fits
-raise-requires-clause-fits g c = (taking_needs g.S.Store.out (program_of c.args.code.now) (spot c.args.self.now c.args.objects.now) (Plain ReadSelf) c.receiver-object.result (c.receiver-object.result ∷ c.args.objects.now.names) (self_taking g.S.Store.out (program_of c.args.code.now) (spot c.args.self.now c.args.objects.now) _ c.receiver-object.ensures) c.requires.ready (omega arith)).1
+raise-requires-clause-fits g c = (taking_needs g.S.Store.out (program_of c.args.code.now) (spot c.args.self.now c.args.objects.now) (Plain ReadSelf) c.receiver-object.result (c.receiver-object.result ∷ c.args.objects.now.names) (self_taking g.S.Store.out (program_of c.args.code.now) (spot c.args.self.now c.args.objects.now) _ c.receiver-object.ensures) c.requires.few (omega arith)).1
 
 pub push-requires-clause-few : goal.push-requires-clause-few
 push-requires-clause-few g c =
-    let few = (taking_needs g.S.Store.out (program_of c.args.code.now) (spot c.args.self.now c.args.objects.now) (Plain ReadSelf) c.receiver-object.result (c.receiver-object.result ∷ c.args.objects.now.names) (self_taking g.S.Store.out (program_of c.args.code.now) (spot c.args.self.now c.args.objects.now) _ c.receiver-object.ensures) c.requires.ready (omega arith)).2 in
+    let few = (taking_needs g.S.Store.out (program_of c.args.code.now) (spot c.args.self.now c.args.objects.now) (Plain ReadSelf) c.receiver-object.result (c.receiver-object.result ∷ c.args.objects.now.names) (self_taking g.S.Store.out (program_of c.args.code.now) (spot c.args.self.now c.args.objects.now) _ c.receiver-object.ensures) c.requires.few (omega arith)).2 in
     let same = ap (λ (x : Memory). x.temporaries) c.raise.ensures.others in
     omega (arith, few, same)
 
 pub push-requires-clause-room : goal.push-requires-clause-room
 push-requires-clause-room g c =
-    let few = (taking_needs g.S.Store.out (program_of c.args.code.now) (spot c.args.self.now c.args.objects.now) (Plain ReadSelf) c.receiver-object.result (c.receiver-object.result ∷ c.args.objects.now.names) (self_taking g.S.Store.out (program_of c.args.code.now) (spot c.args.self.now c.args.objects.now) _ c.receiver-object.ensures) c.requires.ready (omega arith)).3 in
+    let few = (taking_needs g.S.Store.out (program_of c.args.code.now) (spot c.args.self.now c.args.objects.now) (Plain ReadSelf) c.receiver-object.result (c.receiver-object.result ∷ c.args.objects.now.names) (self_taking g.S.Store.out (program_of c.args.code.now) (spot c.args.self.now c.args.objects.now) _ c.receiver-object.ensures) c.requires.few (omega arith)).3 in
     let same = ap (λ (x : Memory). length x.places) c.raise.ensures.others in
     let room = ap (λ (x : Memory). x.room) c.raise.ensures.others in
     omega (arith, few, same, room, c.requires.places.places)
 
 pub name-requires : goal.name-requires
 name-requires g c =
-    let few = (taking_needs g.S.Store.out (program_of c.args.code.now) (spot c.args.self.now c.args.objects.now) (Plain ReadSelf) c.receiver-object.result (c.receiver-object.result ∷ c.args.objects.now.names) (self_taking g.S.Store.out (program_of c.args.code.now) (spot c.args.self.now c.args.objects.now) _ c.receiver-object.ensures) c.requires.ready (omega arith)).4 in
+    let few = (taking_needs g.S.Store.out (program_of c.args.code.now) (spot c.args.self.now c.args.objects.now) (Plain ReadSelf) c.receiver-object.result (c.receiver-object.result ∷ c.args.objects.now.names) (self_taking g.S.Store.out (program_of c.args.code.now) (spot c.args.self.now c.args.objects.now) _ c.receiver-object.ensures) c.requires.few (omega arith)).4 in
     let same = ap (λ x. length x.names) c.push.ensures ∙ ap (λ (x : Memory). length x.names) c.raise.ensures.others in
     let room = ap (λ x. x.names_room) c.push.ensures ∙ ap (λ (x : Memory). x.names_room) c.raise.ensures.others in
     omega (arith, few, same, room, c.requires.places.names)
