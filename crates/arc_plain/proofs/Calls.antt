@@ -1,19 +1,21 @@
 -- Calls, ends of objects and places that are dropped, of which the parts are known.
-use Rattle.std.proofs.Common.{arith, ◌≡◌, ℕ, zero, suc, ◌+◌, ◌-◌, ◌<◌, ◌≤◌, ℤ, pos, List, [], ◌∷◌, length, take, reverse, get_or, Option, Some, None, option_map, Result, Err, slice_get, refl, sym, ap, subst, ◌∙◌}
-use Rattle.std.proofs.lemmas.List.{reverse-reverse, length-reverse}
+use Rattle.std.proofs.Common.{arith, ◌≡◌, ℕ, zero, suc, ◌+◌, ◌-◌, ◌<◌, ◌≤◌, ℤ, pos, List, [], ◌∷◌, length, take, drop, reverse, get_or, Option, Some, None, option_map, Result, Err, slice_get, refl, sym, ap, subst, ◌∙◌}
+use Rattle.std.proofs.lemmas.List.{reverse-reverse, length-reverse, drop_more}
 use Rattle.std.proofs.lemmas.Option.{slice_get-map}
 use Rattle.arc_check.specs.declared.checked.CheckedFunction.{CheckedFunction}
 use Rattle.arc_check.specs.Checked.{functions, program_of}
 use Rattle.arc_spec.specs.declared.class.Class as declared
-use Rattle.arc_spec.specs.Classes.{class_of, classes_of, superclasses, ancestry_within, lookup}
+use Rattle.arc_spec.specs.Classes.{Class, field_order, class_of, classes_of, superclasses, ancestry_within}
 use Rattle.arc_spec.proofs.Deallocs.{dealloc_and_above, deallocs_from}
 use Rattle.arc_ast.specs.declared.tree.Sign.TheVariants as signs
 use Rattle.arc_spec.specs.Resolved.{Function, Program, no_commands}
-use Rattle.arc_spec.specs.World.{Frame, World, Outcome, Done, then_do, Finished, finished, entered, left, stores, name_at, with_temporaries}
-use Rattle.arc_spec.specs.Meaning.{Deeper, Flow, given, called, all_executed, variables_dropped, released, temporaries_dropped, all_dropped, function_at, dealloc_run, deallocs_run, sent_from, runs_found}
+use Rattle.arc_spec.specs.declared.location.Location.TheVariants.{Local}
+use Rattle.arc_spec.specs.World.{Frame, World, Outcome, Done, then_do, Finished, finished, Given, entered, left, name_at, named_at, stores, with_temporaries}
+use Rattle.arc_spec.specs.Objects.{Object, Emptying, object_at}
+use Rattle.arc_spec.specs.Meaning.{Deeper, Flow, given, called, all_executed, variables_dropped, released, temporaries_dropped, all_dropped, function_at, dealloc_run, deallocs_run, finds, sent_from, runs_found, field_dropped, fields_dropped, emptied, turned, class_in}
 use Rattle.arc_plain.specs.declared.context.Context.{Context}
 use Rattle.arc_plain.specs.declared.halt.Halt.{Halt}
-use Rattle.arc_plain.specs.Views.{Tells, left_at, function_of}
+use Rattle.arc_plain.specs.Views.{Tells, left_at, function_of, named_in, cleared}
 use Rattle.arc_plain.proofs.Keeping.{Waits, Same, Steady, after_done, commands_wait, variables_wait, released_same}
 use Rattle.arc_plain.proofs.Turns.{tells_through, nothing_below, function_found, function_missing}
 
@@ -25,18 +27,18 @@ same_below old begun now count w1 w3 first last same below =
     let there : now ≡ begun = sym (reverse-reverse now) ∙ ap reverse (sym last ∙ (same ∙ first)) ∙ reverse-reverse begun in
     ap (take count) there ∙ below
 
-module _ (D : Deeper) (steady : Steady D) (bound : ℕ) (f : Function) (self : ℕ) (arguments : List ℤ) (w0 w1 : World) (begins : w1 ≡ entered f.slots f.names self arguments w0) where
+module _ (D : Deeper) (steady : Steady D) (bound : ℕ) (f : Function) (self : ℕ) (passed : Given) (w0 w1 : World) (begins : w1 ≡ entered f.slots f.names f.parameters self passed w0) where
   -- a call whose body and whose variables were done
   pub call_told : (w2 w3 w4 : World) (flow : Flow) (n : ℤ) (count : ℕ) (old begun now : List ℕ)
       → all_executed D bound f.body w1 ≡ Done flow w2 → variables_dropped D 0 f.names w2 ≡ Done finished w3
       → w0.waiting ≡ reverse old → w1.waiting ≡ reverse begun → w3.waiting ≡ reverse now → take count begun ≡ old
-      → w4 ≡ left_at w0.frame (take count now) w3 → n ≡ given flow → called D bound f self arguments w0 ≡ Done n w4
+      → w4 ≡ left_at w0.frame (take count now) w3 → n ≡ given flow → called D bound f self passed w0 ≡ Done n w4
   call_told w2 w3 w4 flow n count old begun now body dropped waits first last below leaves gives =
       let between : w2.waiting ≡ w1.waiting = after_done (Waits w1) (all_executed D bound f.body w1) flow w2 (commands_wait D steady bound f.body w1) body in
       let behind : w3.waiting ≡ w2.waiting = after_done (Waits w2) (variables_dropped D 0 f.names w2) finished w3 (variables_wait D steady 0 f.names w2) dropped in
       let back : reverse (take count now) ≡ w0.waiting = ap reverse (same_below old begun now count w1 w3 first last (behind ∙ between) below) ∙ sym waits in
       let there : w4 ≡ left w0 w3 = leaves ∙ ap (λ (l : List ℕ). record w3 { frame = w0.frame; waiting = l }) back in
-      let meant : called D bound f self arguments w0 ≡ then_do (all_executed D bound f.body w1) (λ flow1 v1. then_do (variables_dropped D 0 f.names v1) (λ _ v2. Done (given flow1) (left w0 v2))) =
+      let meant : called D bound f self passed w0 ≡ then_do (all_executed D bound f.body w1) (λ flow1 v1. then_do (variables_dropped D 0 f.names v1) (λ _ v2. Done (given flow1) (left w0 v2))) =
       ap (λ w. then_do (all_executed D bound f.body w) (λ flow1 v1. then_do (variables_dropped D 0 f.names v1) (λ _ v2. Done (given flow1) (left w0 v2)))) (sym begins) in
       meant ∙ ap (λ o. then_do o (λ flow1 v1. then_do (variables_dropped D 0 f.names v1) (λ _ v2. Done (given flow1) (left w0 v2)))) body
       ∙ ap (λ o. then_do o (λ _ v2. Done (given flow) (left w0 v2))) dropped
@@ -44,39 +46,39 @@ module _ (D : Deeper) (steady : Steady D) (bound : ℕ) (f : Function) (self : �
 
   -- one whose body fails
   pub body_failed : {A : Type 0} (view : A → Flow) (e : Halt) (r : Result ℤ Halt) (after : World) → r ≡ Err e → Tells view (Err e) (all_executed D bound f.body w1) after
-      → Tells (λ n. n) r (called D bound f self arguments w0) after
+      → Tells (λ n. n) r (called D bound f self passed w0) after
   body_failed view e r after failed h =
       let go = λ (flow1 : Flow) (v1 : World). then_do (variables_dropped D 0 f.names v1) (λ _ v2. Done (given flow1) (left w0 v2)) in
-      let meant : called D bound f self arguments w0 ≡ then_do (all_executed D bound f.body w1) go = ap (λ w. then_do (all_executed D bound f.body w) go) (sym begins) in
-      subst (λ x. Tells (λ n. n) x (called D bound f self arguments w0) after) (sym failed)
-      (tells_through e view (λ n. n) after go (all_executed D bound f.body w1) (called D bound f self arguments w0) meant h)
+      let meant : called D bound f self passed w0 ≡ then_do (all_executed D bound f.body w1) go = ap (λ w. then_do (all_executed D bound f.body w) go) (sym begins) in
+      subst (λ x. Tells (λ n. n) x (called D bound f self passed w0) after) (sym failed)
+      (tells_through e view (λ n. n) after go (all_executed D bound f.body w1) (called D bound f self passed w0) meant h)
 
   -- one whose variables fail to be dropped
   pub drop_failed : {A : Type 0} (view : A → Finished) (flow : Flow) (w2 : World) (e : Halt) (r : Result ℤ Halt) (after : World) → all_executed D bound f.body w1 ≡ Done flow w2 → r ≡ Err e
-      → Tells view (Err e) (variables_dropped D 0 f.names w2) after → Tells (λ n. n) r (called D bound f self arguments w0) after
+      → Tells view (Err e) (variables_dropped D 0 f.names w2) after → Tells (λ n. n) r (called D bound f self passed w0) after
   drop_failed view flow w2 e r after body failed h =
       let go = λ (flow1 : Flow) (v1 : World). then_do (variables_dropped D 0 f.names v1) (λ _ v2. Done (given flow1) (left w0 v2)) in
-      let meant : called D bound f self arguments w0 ≡ then_do (variables_dropped D 0 f.names w2) (λ _ v2. Done (given flow) (left w0 v2)) =
+      let meant : called D bound f self passed w0 ≡ then_do (variables_dropped D 0 f.names w2) (λ _ v2. Done (given flow) (left w0 v2)) =
       ap (λ w. then_do (all_executed D bound f.body w) go) (sym begins) ∙ ap (λ o. then_do o go) body in
-      subst (λ x. Tells (λ n. n) x (called D bound f self arguments w0) after) (sym failed)
-      (tells_through e view (λ n. n) after (λ _ v2. Done (given flow) (left w0 v2)) (variables_dropped D 0 f.names w2) (called D bound f self arguments w0) meant h)
+      subst (λ x. Tells (λ n. n) x (called D bound f self passed w0) after) (sym failed)
+      (tells_through e view (λ n. n) after (λ _ v2. Done (given flow) (left w0 v2)) (variables_dropped D 0 f.names w2) (called D bound f self passed w0) meant h)
 
 -- the function of a number, where it was found and where it wasn't
 pub function_there : (context : Context) (all : List CheckedFunction) (f : ℕ) (g : CheckedFunction) → all ≡ context.program.now.functions.items → f < length all → g ≡ get_or all f g
     → function_at (program_of context.program.now) f ≡ function_of g
 function_there context all f g same below is =
     let program = context.program.now in
-    ap (λ l. function_at (record { functions = functions l; main = program.main; globals = program.globals.items; classes = classes_of program.classes.items }) f) (sym same) ∙ function_found all (classes_of program.classes.items) program.globals.items program.main f g below is
+    ap (λ l. function_at (record { functions = functions l; main = program.main; globals = program.globals.items; strong_globals = program.strong_globals; classes = classes_of program.classes.items }) f) (sym same) ∙ function_found all (classes_of program.classes.items) program.globals.items program.strong_globals program.main f g below is
 
 pub function_absent : (context : Context) (all : List CheckedFunction) (f : ℕ) → all ≡ context.program.now.functions.items → length all ≤ f
-    → function_at (program_of context.program.now) f ≡ record { slots = 0; names = 0; body = no_commands }
+    → function_at (program_of context.program.now) f ≡ record { slots = 0; names = 0; parameters = 0; body = no_commands }
 function_absent context all f same past =
     let program = context.program.now in
-    ap (λ l. function_at (record { functions = functions l; main = program.main; globals = program.globals.items; classes = classes_of program.classes.items }) f) (sym same) ∙ function_missing all (classes_of program.classes.items) program.globals.items program.main f past
+    ap (λ l. function_at (record { functions = functions l; main = program.main; globals = program.globals.items; strong_globals = program.strong_globals; classes = classes_of program.classes.items }) f) (sym same) ∙ function_missing all (classes_of program.classes.items) program.globals.items program.strong_globals program.main f past
 
 -- a function that there isn't does nothing
-pub nothing_called : (D : Deeper) (bound self : ℕ) (arguments : List ℤ) (w : World) → called D bound (record { slots = 0; names = 0; body = no_commands }) self arguments w ≡ Done (pos 0) w
-nothing_called D bound self arguments w = refl
+pub nothing_called : (D : Deeper) (bound self : ℕ) (passed : Given) (w : World) → called D bound (record { slots = 0; names = 0; parameters = 0; body = no_commands }) self passed w ≡ Done (pos 0) w
+nothing_called D bound self passed w = refl
 
 -- ---- places that are dropped
 
@@ -103,23 +105,23 @@ temporaries_fewer D steady r w between after before now last done first behind =
 
 -- one variable more
 pub variable_step : (D : Deeper) (whole : Outcome Finished) (first n offset r : ℕ) (w between after : World) → n ≡ suc offset
-    → whole ≡ variables_dropped D first n w → r ≡ name_at w.frame.strong (first + offset) → between ≡ stores (first + offset) 0 w
+    → whole ≡ variables_dropped D first n w → r ≡ named_at (Local (first + offset)) w → between ≡ stores (Local (first + offset)) 0 w
     → released D r between ≡ Done finished after → whole ≡ variables_dropped D first offset after
 variable_step D whole first n offset r w between after one old named stored done =
     old ∙ ap (λ m. variables_dropped D first m w) one
-    ∙ ap (λ q. then_do (released D q (stores (first + offset) 0 w)) (λ _ w1. variables_dropped D first offset w1)) (sym named)
+    ∙ ap (λ q. then_do (released D q (stores (Local (first + offset)) 0 w)) (λ _ w1. variables_dropped D first offset w1)) (sym named)
     ∙ ap (λ v. then_do (released D r v) (λ _ w1. variables_dropped D first offset w1)) (sym stored)
     ∙ ap (λ o. then_do o (λ _ w1. variables_dropped D first offset w1)) done
 
 -- a variable whose object fails to end
 pub variable_failed : {A : Type 0} (D : Deeper) (whole : Outcome Finished) (first n offset r : ℕ) (w between after : World) (view other : A → Finished) (e : Halt) (result : Result A Halt) → n ≡ suc offset
-    → whole ≡ variables_dropped D first n w → r ≡ name_at w.frame.strong (first + offset) → between ≡ stores (first + offset) 0 w
+    → whole ≡ variables_dropped D first n w → r ≡ named_at (Local (first + offset)) w → between ≡ stores (Local (first + offset)) 0 w
     → result ≡ Err e → Tells view (Err e) (released D r between) after → Tells other result whole after
 variable_failed D whole first n offset r w between after view other e result one old named stored failed h =
     let go = λ (u : Finished) (w1 : World). variables_dropped D first offset w1 in
     let meant : whole ≡ then_do (released D r between) go =
     old ∙ ap (λ m. variables_dropped D first m w) one
-    ∙ ap (λ q. then_do (released D q (stores (first + offset) 0 w)) go) (sym named)
+    ∙ ap (λ q. then_do (released D q (stores (Local (first + offset)) 0 w)) go) (sym named)
     ∙ ap (λ v. then_do (released D r v) go) (sym stored) in
     subst (λ x. Tells other x whole after) (sym failed) (tells_through e view other after go (released D r between) whole meant h)
 
@@ -142,10 +144,10 @@ no_temporary D whole w after old none rest same =
 -- ---- messages and ends of objects
 
 -- a message to what isn't nil
-pub object_sent : (D : Deeper) (from : Option ℕ) (self selector : ℕ) (arguments : List ℤ) (w : World) → 0 < self
-    → sent_from D from self selector arguments w ≡ runs_found D (lookup D.classes from signs.Instance selector (length arguments)) self arguments w
-object_sent D from zero selector arguments w some = nothing_below some
-object_sent D from (suc k) selector arguments w some = refl
+pub object_sent : (D : Deeper) (from : Option ℕ) (self selector : ℕ) (passed : Given) (w : World) → 0 < self
+    → sent_from D from self selector passed w ≡ runs_found D (finds D from signs.Instance selector passed) self passed w
+object_sent D from zero selector passed w some = nothing_below some
+object_sent D from (suc k) selector passed w some = refl
 
 module _ (P : Program) (D : Deeper) (bound : ℕ) (all : List declared.Class) (o : ℕ) (classes : P.classes ≡ classes_of all) where
   found_here : (number : ℕ) (c : Option declared.Class) → slice_get all number ≡ c → slice_get P.classes number ≡ option_map class_of c
@@ -193,3 +195,42 @@ layer_failed P D bound whole count i o class dealloc above w after view other e 
     let go = λ (u : Finished) (w1 : World). deallocs_run P D bound (ancestry_within (count - (i + 1)) (superclasses P.classes) above) o w1 in
     subst (λ x. Tells other x whole after) (sym failed)
     (tells_through e view other after go (dealloc_run P D bound dealloc o w) whole (layer_run P D bound whole count i o class dealloc above w below old layer) h)
+
+-- ---- fields that are dropped
+
+-- a field of an object lets go of what it named
+pub field_let_go : (D : Deeper) (o index r : ℕ) (ob : Option Object) (w between : World) → r ≡ named_in ob index → between ≡ cleared o index ob w → field_dropped D o index ob w ≡ released D r between
+field_let_go D o index r None w between named there = ap (λ v. Done finished v) (sym there) ∙ ap (λ q. released D q between) (sym named)
+field_let_go D o index r (Some ob) w between named there = ap (λ v. released D (name_at ob.strong index) v) (sym there) ∙ ap (λ q. released D q between) (sym named)
+
+-- one field more
+pub field_step : (D : Deeper) (whole : Outcome Finished) (order : List ℕ) (i index o r : ℕ) (w between after : World) → i < length order → index ≡ get_or order i index
+    → whole ≡ fields_dropped D (drop i order) o w → r ≡ named_in (object_at w.objects o) index → between ≡ cleared o index (object_at w.objects o) w
+    → released D r between ≡ Done finished after → whole ≡ fields_dropped D (drop (i + 1) order) o after
+field_step D whole order i index o r w between after below is old named there done =
+    old ∙ ap (λ l. fields_dropped D l o w) (drop_more order i index below ∙ ap (λ x. x ∷ drop (i + 1) order) (sym is))
+    ∙ ap (λ x. then_do x (λ _ w1. fields_dropped D (drop (i + 1) order) o w1)) (field_let_go D o index r (object_at w.objects o) w between named there ∙ done)
+
+-- a field whose object fails to end
+pub field_failed : {A : Type 0} (D : Deeper) (whole : Outcome Finished) (order : List ℕ) (i index o r : ℕ) (w between after : World) (view other : A → Finished) (e : Halt) (result : Result A Halt)
+    → i < length order → index ≡ get_or order i index → whole ≡ fields_dropped D (drop i order) o w → r ≡ named_in (object_at w.objects o) index → between ≡ cleared o index (object_at w.objects o) w
+    → result ≡ Err e → Tells view (Err e) (released D r between) after → Tells other result whole after
+field_failed D whole order i index o r w between after view other e result below is old named there failed h =
+    let go = λ (u : Finished) (w1 : World). fields_dropped D (drop (i + 1) order) o w1 in
+    let meant : whole ≡ then_do (released D r between) go =
+    old ∙ ap (λ l. fields_dropped D l o w) (drop_more order i index below ∙ ap (λ x. x ∷ drop (i + 1) order) (sym is))
+    ∙ ap (λ x. then_do x go) (field_let_go D o index r (object_at w.objects o) w between named there) in
+    subst (λ x. Tells other x whole after) (sym failed) (tells_through e view other after go (released D r between) whole meant h)
+
+-- the fields of an object of a known class
+abbrev known_class : Option ℕ → ℕ
+known_class None = 0
+known_class (Some class) = class
+
+pub emptied_is : (D : Deeper) (classes : List Class) (o class : ℕ) (ob : Option Object) (order : List ℕ) (w next : World) → D.classes ≡ classes → Some class ≡ class_in ob → order ≡ field_order classes class
+    → next ≡ turned Emptying o ob w → emptied D o ob w ≡ fields_dropped D order o next
+emptied_is D classes o class None order w next same known listed turns = absurd (cc)
+emptied_is D classes o class (Some ob) order w next same known listed turns =
+    let one : ob.class ≡ class = sym (ap known_class known) in
+    let fields : field_order D.classes ob.class ≡ order = ap (λ l. field_order l ob.class) same ∙ ap (field_order classes) one ∙ sym listed in
+    ap (λ l. fields_dropped D l o (turned Emptying o (Some ob) w)) fields ∙ ap (fields_dropped D order o) (sym turns)

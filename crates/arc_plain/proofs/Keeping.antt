@@ -3,14 +3,15 @@ use Rattle.std.proofs.Common.{◌≡◌, ℕ, zero, suc, ◌+◌, ℤ, pos, List
 use Rattle.std.specs.Prelude.{slice_set, slice_index_or, if◌then◌else◌}
 use Rattle.arc_ast.specs.declared.tree.BinaryOperator.{BinaryOperator}
 use Rattle.arc_ast.specs.declared.tree.Kind.{Kind}
-use Rattle.arc_spec.specs.Classes.{superclasses, ancestry, own_dealloc, class_at, descends}
+use Rattle.arc_spec.specs.Classes.{superclasses, ancestry, own_dealloc, class_at, descends, field_order}
 use Rattle.arc_spec.specs.Number.{converted, applied, combined, is_zero}
-use Rattle.arc_spec.specs.Objects.{Object, Phase, object_at, is_live, names, with_object, with_fields}
+use Rattle.arc_spec.specs.Objects.{Object, Phase, Emptying, is_emptying, object_at, is_live, names, with_object, with_fields}
+use Rattle.arc_ast.specs.declared.tree.Sign.TheVariants as signs
 use Rattle.arc_spec.specs.declared.location.Location.{Location}
 use Rattle.arc_spec.specs.declared.location.Location.TheVariants.{Local, Global}
-use Rattle.arc_spec.specs.Resolved.{Value, Number, ReadByte, Print, Applied, Combined, Choice, Converted, Read, Assigned, Updated, Invoked, Sent, SentSuper, SentTo, SentToSuper, Field, FieldAssigned, FieldUpdated, Differ, IsObject, Reference, Nil, Itself, Variable, Chosen, Stored, Made, Initialized, Values, no_values, and_value, Command, Sequence, Evaluate, EvaluateReference, Begin, Return, Choose, Repeat, RepeatAfter, Break, Continue, Commands, no_commands, and_command, Function, Program}
-use Rattle.arc_spec.specs.World.{World, Outcome, Done, Faulted, Cut, then_do, Finished, finished, places, prints, entered, left, takes, stores, with_temporaries, with_objects, local_at, name_at}
-use Rattle.arc_spec.specs.Meaning.{Deeper, held_at, holds, formatted, byte_count, or_fault, updated, given_by, released, temporaries_dropped, all_dropped, assigned, variables_dropped, dispatched, finds, runs_found, class_in, sent_from, sent_to, made, in_object, field_read, field_set, difference, evaluated, referred, all_evaluated, whole, whole_reference, begun, Flow, Normal, Broken, Continued, Returned, if_normal, in_turn, after_body, chosen, turns, turns_after, scope_left, normally, executed, all_executed, given, function_at, called, dealloc_run, deallocs_run, turned, gone, dying, ended, level}
+use Rattle.arc_spec.specs.Resolved.{Value, Number, ReadByte, Print, Applied, Combined, Choice, Converted, Read, Assigned, Updated, Invoked, Sent, Receiver, ClassValue, ClassSuper, ObjectValue, ObjectSuper, Field, FieldAssigned, FieldUpdated, Differ, IsObject, Reference, Nil, Itself, Variable, Chosen, Stored, ObjectField, ObjectFieldStored, Made, Initialized, Arguments, no_arguments, number_argument, object_argument, Command, Sequence, Evaluate, EvaluateReference, Begin, Return, Choose, Repeat, RepeatAfter, Break, Continue, Commands, no_commands, and_command, Function, Program}
+use Rattle.arc_spec.specs.World.{World, Outcome, Done, Faulted, Cut, then_do, Finished, finished, places, prints, Given, nothing_given, entered, left, takes, named_at, stores, with_temporaries, with_objects, name_at}
+use Rattle.arc_spec.specs.Meaning.{Deeper, held_at, holds, formatted, byte_count, or_fault, updated, given_by, released, temporaries_dropped, all_dropped, assigned, variables_dropped, and_number, and_object, dispatched, finds, runs_found, class_in, sent_from, Target, ToClass, ToObject, ToSuper, sent, made, in_object, field_read, field_set, object_field_read, field_stores, field_assigned, object_field_set, difference, evaluated, referred, received, all_evaluated, whole, whole_reference, begun, Flow, Normal, Broken, Continued, Returned, if_normal, in_turn, after_body, chosen, turns, turns_after, scope_left, normally, executed, all_executed, given, function_at, called, dealloc_run, deallocs_run, turned, gone, dying, field_dropped, fields_dropped, emptied, ended, level}
 
 -- what holds of the world behind a part that was done
 abbrev pub After : {A : Type 0} → (World → Type 0) → Outcome A → Type 0
@@ -70,20 +71,20 @@ after_chosen P false x y h k = h
 
 -- a level at which calls and ends leave these as they were
 pub record Steady (D : Deeper) : Type 0 where
-  pub calls : (f self : ℕ) (arguments : List ℤ) (w : World) → After (Same w) (D.call f self arguments w)
+  pub calls : (f self : ℕ) (passed : Given) (w : World) → After (Same w) (D.call f self passed w)
   pub ends : (o : ℕ) (w : World) → After (Same w) (D.end_of o w)
 
-called_same : (D : Deeper) (bound : ℕ) (f : Function) (self : ℕ) (arguments : List ℤ) (w : World) → After (Same w) (called D bound f self arguments w)
-called_same D bound f self arguments w =
-    after_then (λ w1. Unit {0}) (Same w) (all_executed D bound f.body (entered f.slots f.names self arguments w)) (λ flow w1. then_do (variables_dropped D 0 f.names w1) (λ _ w2. Done (given flow) (left w w2)))
-    (after_any (all_executed D bound f.body (entered f.slots f.names self arguments w)))
+called_same : (D : Deeper) (bound : ℕ) (f : Function) (self : ℕ) (passed : Given) (w : World) → After (Same w) (called D bound f self passed w)
+called_same D bound f self passed w =
+    after_then (λ w1. Unit {0}) (Same w) (all_executed D bound f.body (entered f.slots f.names f.parameters self passed w)) (λ flow w1. then_do (variables_dropped D 0 f.names w1) (λ _ w2. Done (given flow) (left w w2)))
+    (after_any (all_executed D bound f.body (entered f.slots f.names f.parameters self passed w)))
     (λ flow w1 _. after_then (λ w2. Unit {0}) (Same w) (variables_dropped D 0 f.names w1) (λ _ w2. Done (given flow) (left w w2))
     (after_any (variables_dropped D 0 f.names w1)) (λ _ w2 _. record { frame = refl; waiting = refl }))
 
 dealloc_same : (P : Program) (D : Deeper) (bound : ℕ) (f : Option ℕ) (o : ℕ) (w : World) → After (Same w) (dealloc_run P D bound f o w)
 dealloc_same P D bound None o w = same_refl w
 dealloc_same P D bound (Some f) o w =
-    same_then w (called D bound (function_at P f) o [] w) (λ _ w1. Done finished w1) (called_same D bound (function_at P f) o [] w) (λ _ w1. same_refl w1)
+    same_then w (called D bound (function_at P f) o nothing_given w) (λ _ w1. Done finished w1) (called_same D bound (function_at P f) o nothing_given w) (λ _ w1. same_refl w1)
 
 deallocs_same : (P : Program) (D : Deeper) (bound : ℕ) (classes : List ℕ) (o : ℕ) (w : World) → After (Same w) (deallocs_run P D bound classes o w)
 deallocs_same P D bound [] o w = same_refl w
@@ -102,65 +103,95 @@ dying_same o (Some ob) w = record { frame = refl; waiting = refl }
 gone_same : (o : ℕ) (w : World) → After (Same w) (gone o w)
 gone_same o w = after_if (Same w) (names o (places w)) _ _ tt (turned_same _ o (object_at w.objects o) w)
 
-ended_same : (P : Program) (D : Deeper) (bound o : ℕ) (w : World) → After (Same w) (ended P D bound o w)
-ended_same P D bound o w =
+pub released_same : (D : Deeper) → Steady D → (r : ℕ) (w : World) → After (Same w) (released D r w)
+released_same D steady r w = after_if (Same w) (is_live (object_at w.objects r) && not (names r (places w))) (D.end_of r w) (Done finished w) (steady.ends r w) (same_refl w)
+
+field_same : (D : Deeper) → Steady D → (o index : ℕ) (ob : Option Object) (w : World) → After (Same w) (field_dropped D o index ob w)
+field_same D steady o index None w = same_refl w
+field_same D steady o index (Some ob) w =
+    let next = field_stores o ob index 0 w in
+    let first : Same w next = record { frame = refl; waiting = refl } in
+    after_weaker (Same next) (Same w) (released D (name_at ob.strong index) next) (λ w1 s. same_trans w next w1 first s) (released_same D steady (name_at ob.strong index) next)
+
+fields_same : (D : Deeper) → Steady D → (order : List ℕ) (o : ℕ) (w : World) → After (Same w) (fields_dropped D order o w)
+fields_same D steady [] o w = same_refl w
+fields_same D steady (index ∷ others) o w =
+    same_then w (field_dropped D o index (object_at w.objects o) w) (λ _ w1. fields_dropped D others o w1) (field_same D steady o index (object_at w.objects o) w) (λ _ w1. fields_same D steady others o w1)
+
+emptied_same : (D : Deeper) → Steady D → (o : ℕ) (ob : Option Object) (w : World) → After (Same w) (emptied D o ob w)
+emptied_same D steady o None w = same_refl w
+emptied_same D steady o (Some ob) w =
+    let next = turned Emptying o (Some ob) w in
+    after_weaker (Same next) (Same w) (fields_dropped D (field_order D.classes ob.class) o next) (λ w1 s. same_trans w next w1 (turned_same Emptying o (Some ob) w) s)
+    (fields_same D steady (field_order D.classes ob.class) o next)
+
+ended_same : (P : Program) (D : Deeper) → Steady D → (bound o : ℕ) (w : World) → After (Same w) (ended P D bound o w)
+ended_same P D steady bound o w =
     let first = dying o (object_at w.objects o) w in
     let classes = ancestry (superclasses P.classes) (class_in (object_at w.objects o)) in
     let run = deallocs_run P D bound classes o first in
-    after_weaker (Same first) (Same w) (then_do run (λ _ w1. gone o w1)) (λ w1 s. same_trans w first w1 (dying_same o (object_at w.objects o) w) s)
-    (same_then first run (λ _ w1. gone o w1) (deallocs_same P D bound classes o first) (λ _ w1. gone_same o w1))
+    let rest : Finished → World → Outcome Finished = λ _ w1. then_do (emptied D o (object_at w1.objects o) w1) (λ _ w2. gone o w2) in
+    after_weaker (Same first) (Same w) (then_do run rest) (λ w1 s. same_trans w first w1 (dying_same o (object_at w.objects o) w) s)
+    (same_then first run rest (deallocs_same P D bound classes o first)
+    (λ _ w1. same_then w1 (emptied D o (object_at w1.objects o) w1) (λ _ w2. gone o w2) (emptied_same D steady o (object_at w1.objects o) w1) (λ _ w2. gone_same o w2)))
 
 pub level_steady : (P : Program) (bound levels : ℕ) → Steady (level P bound levels)
-level_steady P bound zero = record { calls = λ f self arguments w. tt; ends = λ o w. tt }
+level_steady P bound zero = record { calls = λ f self passed w. tt; ends = λ o w. tt }
 level_steady P bound (suc n) = record {
-  calls = λ f self arguments w. called_same (level P bound n) bound (function_at P f) self arguments w;
-  ends = λ o w. ended_same P (level P bound n) bound o w;
+  calls = λ f self passed w. called_same (level P bound n) bound (function_at P f) self passed w;
+  ends = λ o w. ended_same P (level P bound n) (level_steady P bound n) bound o w;
 }
 
 -- ---- places that are dropped
 
 module _ (D : Deeper) (steady : Steady D) where
-  pub released_same : (r : ℕ) (w : World) → After (Same w) (released D r w)
-  released_same r w = after_if (Same w) (is_live (object_at w.objects r) && not (names r (places w))) (D.end_of r w) (Done finished w) (steady.ends r w) (same_refl w)
-
   temporaries_wait : (all : List ℕ) (w : World) → After (Waits w) (temporaries_dropped D all w)
   temporaries_wait [] w = refl
   temporaries_wait (r ∷ others) w =
       let next = with_temporaries w others in
       waits_then w (released D r next) (λ _ w1. temporaries_dropped D others w1)
-      (after_weaker (Same next) (Waits w) (released D r next) (λ w1 s. s.waiting) (released_same r next)) (λ _ w1. temporaries_wait others w1)
+      (after_weaker (Same next) (Waits w) (released D r next) (λ w1 s. s.waiting) (released_same D steady r next)) (λ _ w1. temporaries_wait others w1)
 
-  assigned_wait : (i r : ℕ) (w : World) → After (Waits w) (assigned D i r w)
+  stores_wait : (i : Location) (r : ℕ) (w : World) → Waits w (stores i r w)
+  stores_wait (Local i) r w = refl
+  stores_wait (Global i) r w = refl
+
+  assigned_wait : (i : Location) (r : ℕ) (w : World) → After (Waits w) (assigned D i r w)
   assigned_wait i r w =
       let next = stores i r w in
-      after_weaker (Same next) (Waits w) (released D (name_at w.frame.strong i) next) (λ w1 s. s.waiting) (released_same (name_at w.frame.strong i) next)
+      after_weaker (Same next) (Waits w) (released D (named_at i w) next) (λ w1 s. s.waiting ∙ stores_wait i r w) (released_same D steady (named_at i w) next)
 
   pub variables_wait : (first count : ℕ) (w : World) → After (Waits w) (variables_dropped D first count w)
   variables_wait first zero w = refl
-  variables_wait first (suc n) w = waits_then w (assigned D (first + n) 0 w) (λ _ w1. variables_dropped D first n w1) (assigned_wait (first + n) 0 w) (λ _ w1. variables_wait first n w1)
+  variables_wait first (suc n) w = waits_then w (assigned D (Local (first + n)) 0 w) (λ _ w1. variables_dropped D first n w1) (assigned_wait (Local (first + n)) 0 w) (λ _ w1. variables_wait first n w1)
 
   -- ---- expressions
 
-  call_waits : (f self : ℕ) (arguments : List ℤ) (w : World) → After (Waits w) (D.call f self arguments w)
-  call_waits f self arguments w = after_weaker (Same w) (Waits w) (D.call f self arguments w) (λ w1 s. s.waiting) (steady.calls f self arguments w)
+  call_waits : (f self : ℕ) (passed : Given) (w : World) → After (Waits w) (D.call f self passed w)
+  call_waits f self passed w = after_weaker (Same w) (Waits w) (D.call f self passed w) (λ w1 s. s.waiting) (steady.calls f self passed w)
 
-  dispatched_waits : (f : Option ℕ) (class : ℤ) (arguments : List ℤ) (w : World) → After (Waits w) (dispatched D f class arguments w)
-  dispatched_waits None class arguments w = tt
-  dispatched_waits (Some f) class arguments w = call_waits f 0 (class ∷ arguments) w
+  dispatched_waits : (f : Option ℕ) (class : ℤ) (passed : Given) (w : World) → After (Waits w) (dispatched D f class passed w)
+  dispatched_waits None class passed w = tt
+  dispatched_waits (Some f) class passed w = call_waits f 0 (and_number class passed) w
 
-  found_waits : (f : Option ℕ) (self : ℕ) (arguments : List ℤ) (w : World) → After (Waits w) (runs_found D f self arguments w)
-  found_waits None self arguments w = tt
-  found_waits (Some f) self arguments w = call_waits f self arguments w
+  found_waits : (f : Option ℕ) (self : ℕ) (passed : Given) (w : World) → After (Waits w) (runs_found D f self passed w)
+  found_waits None self passed w = tt
+  found_waits (Some f) self passed w = call_waits f self passed w
 
-  sent_waits : (from : Option ℕ) (self selector : ℕ) (arguments : List ℤ) (w : World) → After (Waits w) (sent_from D from self selector arguments w)
-  sent_waits from zero selector arguments w = refl
-  sent_waits from (suc k) selector arguments w = found_waits _ (suc k) arguments w
+  sent_waits : (from : Option ℕ) (self selector : ℕ) (passed : Given) (w : World) → After (Waits w) (sent_from D from self selector passed w)
+  sent_waits from zero selector passed w = refl
+  sent_waits from (suc k) selector passed w = found_waits _ (suc k) passed w
+
+  target_waits : (target : Target) (selector : ℕ) (passed : Given) (w : World) → After (Waits w) (sent D target selector passed w)
+  target_waits (ToClass from class) selector passed w = dispatched_waits (finds D from signs.Class selector passed) class passed w
+  target_waits (ToObject self) selector passed w = sent_waits (class_in (object_at w.objects self)) self selector passed w
+  target_waits (ToSuper from self) selector passed w = sent_waits (Some from) self selector passed w
 
   made_waits : (class : Option ℕ) (w : World) → After (Waits w) (made D class w)
   made_waits None w = tt
   made_waits (Some c) w = refl
 
-  in_object_waits : (class : ℕ) (ob : Option Object) (go : Object → Outcome ℤ) (w : World) → ((o : Object) → After (Waits w) (go o)) → After (Waits w) (in_object D class ob go w)
+  in_object_waits : {A : Type 0} (class : ℕ) (ob : Option Object) (go : Object → Outcome A) (w : World) → ((o : Object) → After (Waits w) (go o)) → After (Waits w) (in_object D class ob go w)
   in_object_waits class None go w h = tt
   in_object_waits class (Some o) go w h = after_if (Waits w) (descends D.classes (Some o.class) class) (go o) (Faulted _ w) (h o) tt
 
@@ -177,6 +208,18 @@ module _ (D : Deeper) (steady : Steady D) where
   set_waits : (r class index : ℕ) (v : ℤ) (w : World) → After (Waits w) (field_set D r class index v w)
   set_waits r class index v w = in_object_waits class (object_at w.objects r) (λ o. Done v (with_objects w (with_object w.objects r (with_fields o (slice_set o.fields index v))))) w (λ o. refl)
 
+  object_read_waits : (r class index : ℕ) (w : World) → After (Waits w) (object_field_read D r class index w)
+  object_read_waits r class index w = in_object_waits class (object_at w.objects r) (λ o. Done (name_at o.strong index) (takes (name_at o.strong index) w)) w (λ o. refl)
+
+  field_assigned_waits : (r index value : ℕ) (w : World) (o : Object) → After (Waits w) (field_assigned D r index value w o)
+  field_assigned_waits r index value w o =
+      let next = field_stores r o index value w in
+      after_if (Waits w) (is_emptying o.phase) (Faulted _ w) (released D (name_at o.strong index) next) tt
+      (after_weaker (Same next) (Waits w) (released D (name_at o.strong index) next) (λ w1 s. s.waiting) (released_same D steady (name_at o.strong index) next))
+
+  object_set_waits : (r class index value : ℕ) (w : World) → After (Waits w) (object_field_set D r class index value w)
+  object_set_waits r class index value w = in_object_waits class (object_at w.objects r) (field_assigned D r index value w) w (field_assigned_waits r index value w)
+
   holds_waits : (i : Location) (v : ℤ) (w : World) → Waits w (holds i v w)
   holds_waits (Local i) v w = refl
   holds_waits (Global i) v w = refl
@@ -186,7 +229,7 @@ module _ (D : Deeper) (steady : Steady D) where
     value_waits (Number n) w = refl
     value_waits ReadByte w = refl
     value_waits (Print pieces arguments) w =
-        waits_then w (all_evaluated D arguments w) (λ values w1. let bytes = formatted pieces values in Done (byte_count bytes) (prints bytes w1)) (values_wait arguments w) (λ values w1. refl)
+        waits_then w (all_evaluated D arguments w) (λ passed w1. let bytes = formatted pieces passed.numbers in Done (byte_count bytes) (prints bytes w1)) (arguments_wait arguments w) (λ passed w1. refl)
     value_waits (Applied operator kind a) w = waits_then w (evaluated D a w) (λ x w1. Done (applied operator kind x) w1) (value_waits a w) (λ x w1. refl)
     value_waits (Combined operator kind a b) w =
         waits_then w (evaluated D a w) (λ x w1. then_do (evaluated D b w1) (λ y w2. or_fault (combined operator kind x y) w2)) (value_waits a w)
@@ -202,21 +245,10 @@ module _ (D : Deeper) (steady : Steady D) where
         let stored : ℤ → World → Outcome ℤ = λ new w2. Done (given_by moment old new) (holds i new w2) in
         waits_then w (evaluated D a w) (λ x w1. then_do (updated operator computed kept old x w1) stored) (value_waits a w)
         (λ x w1. waits_then w1 (updated operator computed kept old x w1) stored (updated_waits operator computed kept old x w1) (λ new w2. holds_waits i new w2))
-    value_waits (Invoked f arguments) w = waits_then w (all_evaluated D arguments w) (λ given w1. D.call f 0 given w1) (values_wait arguments w) (λ given w1. call_waits f 0 given w1)
-    value_waits (Sent a selector arguments) w =
-        waits_then w (evaluated D a w) (λ self w1. then_do (all_evaluated D arguments w1) (λ given w2. dispatched D (finds D (class_at self) selector given) self given w2)) (value_waits a w)
-        (λ self w1. waits_then w1 (all_evaluated D arguments w1) (λ given w2. dispatched D (finds D (class_at self) selector given) self given w2) (values_wait arguments w1)
-        (λ given w2. dispatched_waits (finds D (class_at self) selector given) self given w2))
-    value_waits (SentSuper from selector arguments) w =
-        waits_then w (all_evaluated D arguments w) (λ given w1. dispatched D (finds D (Some from) selector given) (local_at w.frame.locals 0) given w1) (values_wait arguments w)
-        (λ given w1. dispatched_waits (finds D (Some from) selector given) (local_at w.frame.locals 0) given w1)
-    value_waits (SentTo a selector arguments) w =
-        waits_then w (referred D a w) (λ self w1. then_do (all_evaluated D arguments w1) (λ given w2. sent_to D self selector given w2)) (reference_waits a w)
-        (λ self w1. waits_then w1 (all_evaluated D arguments w1) (λ given w2. sent_to D self selector given w2) (values_wait arguments w1)
-        (λ given w2. sent_waits (class_in (object_at w2.objects self)) self selector given w2))
-    value_waits (SentToSuper from selector arguments) w =
-        waits_then w (all_evaluated D arguments (takes w.frame.self w)) (λ given w1. sent_from D (Some from) w.frame.self selector given w1) (values_wait arguments (takes w.frame.self w))
-        (λ given w1. sent_waits (Some from) w.frame.self selector given w1)
+    value_waits (Invoked f arguments) w = waits_then w (all_evaluated D arguments w) (λ passed w1. D.call f 0 passed w1) (arguments_wait arguments w) (λ passed w1. call_waits f 0 passed w1)
+    value_waits (Sent receiver selector arguments) w =
+        waits_then w (received D receiver w) (λ target w1. then_do (all_evaluated D arguments w1) (λ passed w2. sent D target selector passed w2)) (receiver_waits receiver w)
+        (λ target w1. waits_then w1 (all_evaluated D arguments w1) (λ passed w2. sent D target selector passed w2) (arguments_wait arguments w1) (λ passed w2. target_waits target selector passed w2))
     value_waits (Field a class index) w =
         waits_then w (referred D a w) (λ r w1. field_read D r class index w1) (reference_waits a w)
         (λ r w1. read_waits r class index w1)
@@ -247,14 +279,31 @@ module _ (D : Deeper) (steady : Steady D) where
     reference_waits (Stored i a) w =
         waits_then w (referred D a w) (λ r w1. then_do (assigned D i r w1) (λ _ w2. Done r (takes r w2))) (reference_waits a w)
         (λ r w1. waits_then w1 (assigned D i r w1) (λ _ w2. Done r (takes r w2)) (assigned_wait i r w1) (λ _ w2. refl))
+    reference_waits (ObjectField a class index) w =
+        waits_then w (referred D a w) (λ r w1. object_field_read D r class index w1) (reference_waits a w) (λ r w1. object_read_waits r class index w1)
+    reference_waits (ObjectFieldStored a class index b) w =
+        let taken : ℕ → Finished → World → Outcome ℕ = λ value _ w3. Done value (takes value w3) in
+        let set : ℕ → ℕ → World → Outcome ℕ = λ r value w2. then_do (object_field_set D r class index value w2) (taken value) in
+        waits_then w (referred D a w) (λ r w1. then_do (referred D b w1) (set r)) (reference_waits a w)
+        (λ r w1. waits_then w1 (referred D b w1) (set r) (reference_waits b w1)
+        (λ value w2. waits_then w2 (object_field_set D r class index value w2) (taken value) (object_set_waits r class index value w2) (λ _ w3. refl)))
     reference_waits (Made a) w = waits_then w (evaluated D a w) (λ class w1. made D (class_at class) w1) (value_waits a w) (λ class w1. made_waits (class_at class) w1)
     reference_waits (Initialized a) w = waits_then w (referred D a w) (λ r w1. Done r (takes r w1)) (reference_waits a w) (λ r w1. refl)
 
-    values_wait : (all : Values) (w : World) → After (Waits w) (all_evaluated D all w)
-    values_wait no_values w = refl
-    values_wait (and_value a others) w =
-        waits_then w (evaluated D a w) (λ x w1. then_do (all_evaluated D others w1) (λ xs w2. Done (x ∷ xs) w2)) (value_waits a w)
-        (λ x w1. waits_then w1 (all_evaluated D others w1) (λ xs w2. Done (x ∷ xs) w2) (values_wait others w1) (λ xs w2. refl))
+    receiver_waits : (receiver : Receiver) (w : World) → After (Waits w) (received D receiver w)
+    receiver_waits (ClassValue a) w = waits_then w (evaluated D a w) (λ class w1. Done (ToClass (class_at class) class) w1) (value_waits a w) (λ class w1. refl)
+    receiver_waits (ClassSuper from) w = refl
+    receiver_waits (ObjectValue a) w = waits_then w (referred D a w) (λ self w1. Done (ToObject self) w1) (reference_waits a w) (λ self w1. refl)
+    receiver_waits (ObjectSuper from) w = refl
+
+    arguments_wait : (all : Arguments) (w : World) → After (Waits w) (all_evaluated D all w)
+    arguments_wait no_arguments w = refl
+    arguments_wait (number_argument a others) w =
+        waits_then w (evaluated D a w) (λ x w1. then_do (all_evaluated D others w1) (λ passed w2. Done (and_number x passed) w2)) (value_waits a w)
+        (λ x w1. waits_then w1 (all_evaluated D others w1) (λ passed w2. Done (and_number x passed) w2) (arguments_wait others w1) (λ passed w2. refl))
+    arguments_wait (object_argument a others) w =
+        waits_then w (referred D a w) (λ r w1. then_do (all_evaluated D others w1) (λ passed w2. Done (and_object r passed) w2)) (reference_waits a w)
+        (λ r w1. waits_then w1 (all_evaluated D others w1) (λ passed w2. Done (and_object r passed) w2) (arguments_wait others w1) (λ passed w2. refl))
 
   -- ---- statements
 
@@ -271,8 +320,8 @@ module _ (D : Deeper) (steady : Steady D) where
 
   begun_waits : (i : ℕ) (a : Reference) (w : World) → After (Waits w) (begun D i a w)
   begun_waits i a w =
-      waits_then w (referred D a w) (λ r w1. then_do (assigned D i r w1) (λ _ w2. all_dropped D w2)) (reference_waits a w)
-      (λ r w1. waits_then w1 (assigned D i r w1) (λ _ w2. all_dropped D w2) (assigned_wait i r w1) (λ _ w2. dropped_waits w2))
+      waits_then w (referred D a w) (λ r w1. then_do (assigned D (Local i) r w1) (λ _ w2. all_dropped D w2)) (reference_waits a w)
+      (λ r w1. waits_then w1 (assigned D (Local i) r w1) (λ _ w2. all_dropped D w2) (assigned_wait (Local i) r w1) (λ _ w2. dropped_waits w2))
 
   normally_waits : (o : Outcome Finished) (w : World) → After (Waits w) o → After (Waits w) (normally o)
   normally_waits o w h = waits_then w o (λ _ w1. Done Normal w1) h (λ _ w1. refl)

@@ -1,20 +1,21 @@
 -- Objects and the places that name them.
-use Rattle.std.proofs.Common.{arith, ◌≡◌, ℕ, zero, suc, ◌-◌, ◌<◌, ◌≤◌, ℤ, pos, Bool, true, false, ◌||◌, nat_eq, nat_lt, List, [], ◌∷◌, ◌++◌, length, map, reverse, replicate, get_or, Option, Some, None, option_map, Result, MatchOption, slice_get, slice_set, refl, sym, ap, subst, ◌∙◌}
+use Rattle.std.proofs.Common.{arith, ◌≡◌, ℕ, zero, suc, ◌+◌, ◌-◌, ◌<◌, ◌≤◌, ℤ, pos, Bool, true, false, ◌||◌, nat_eq, nat_lt, List, [], ◌∷◌, ◌++◌, length, map, drop, reverse, replicate, get_or, Option, Some, None, option_map, Result, MatchOption, slice_get, slice_set, refl, sym, ap, subst, ◌∙◌}
 use Rattle.std.specs.Prelude.{slice_index_or, if◌then◌else◌}
 use Rattle.std.specs.Option.{is_some, IfSome}
-use Rattle.std.proofs.lemmas.List.{reverse-append, map-set, map-append, length-map, length-append}
+use Rattle.std.proofs.lemmas.List.{reverse-append, map-set, map-append, length-map, length-append, drop_more}
 use Rattle.std.proofs.lemmas.Option.{slice_get-map, slice_get_read, slice_get_past}
 use Rattle.std.proofs.lemmas.Bool.{ltb-true, ltb-false}
 use Rattle.std.specs.Borrow.{Bor}
-use Rattle.arc_spec.specs.declared.event.Fault.TheVariants.{FieldClass}
-use Rattle.arc_spec.specs.Classes.{Class, descends}
+use Rattle.arc_spec.specs.declared.event.Event.{Event}
+use Rattle.arc_spec.specs.declared.event.Fault.TheVariants.{FieldClass, Resurrected}
+use Rattle.arc_spec.specs.Classes.{Class, descends, strong_count}
 use Rattle.arc_spec.specs.Objects as objects
-use Rattle.arc_spec.specs.Objects.{object_at, with_object, with_fields, new_object, names, nils, zeros}
-use Rattle.arc_spec.specs.World.{World, Outcome, Done, Faulted, takes, with_objects}
-use Rattle.arc_spec.specs.Meaning.{Deeper, class_in, field_count, next_object, made, in_object, field_read, field_set}
+use Rattle.arc_spec.specs.Objects.{object_at, with_object, with_fields, with_strong_fields, is_emptying, new_object, names, field_places, nils, zeros}
+use Rattle.arc_spec.specs.World.{Frame, World, Outcome, Done, Faulted, takes, with_objects, name_at, first_frame, first_world}
+use Rattle.arc_spec.specs.Meaning.{Deeper, class_in, field_count, next_object, made, in_object, field_read, field_set, field_stores}
 use Rattle.arc_plain.specs.declared.halt.Halt.{Halt}
 use Rattle.arc_plain.specs.declared.object.Object.{Object}
-use Rattle.arc_plain.specs.Views.{Tells, object_of, changed, changed_to}
+use Rattle.arc_plain.specs.Views.{Tells, object_of, changed, changed_to, named_in, field_replaced, object_field_replaced}
 use Rattle.arc_plain.proofs.Turns.{nothing_below}
 
 pub nils_are : (n : ℕ) → replicate n 0 ≡ nils n
@@ -26,8 +27,9 @@ zeros_are zero = refl
 zeros_are (suc n) = ap (λ l. pos 0 ∷ l) (zeros_are n)
 
 -- an object as it is made
-pub new_told : (class count : ℕ) (fields : List ℤ) → fields ≡ replicate count (pos 0) → with_fields (new_object class 0) fields ≡ new_object class count
-new_told class count fields is = ap (with_fields (new_object class 0)) (is ∙ zeros_are count)
+pub new_told : (class count strong_count : ℕ) (fields : List ℤ) (strong : List ℕ) → fields ≡ replicate count (pos 0) → strong ≡ replicate strong_count 0
+    → with_strong_fields (with_fields (new_object class 0 0) fields) strong ≡ new_object class count strong_count
+new_told class count strong_count fields strong is names = ap (λ l. with_strong_fields (with_fields (new_object class 0 0) l) strong) (is ∙ zeros_are count) ∙ ap (with_strong_fields (with_fields (new_object class 0 0) (zeros count))) (names ∙ nils_are strong_count)
 
 -- ---- places
 
@@ -65,14 +67,24 @@ names_reverse o (p ∷ a) =
     ∙ or_swap (names o (reverse a)) (names o (p ∷ []))
     ∙ ap (λ x. x || names o (reverse a)) (names_one o p) ∙ ap (λ x. nat_eq o p || x) (names_reverse o a) ∙ sym (name_first (nat_eq o p) (names o a))
 
--- whether a place names an object, of three kinds of places
-pub names_places : (o : ℕ) (t s w : List ℕ) → names o ((reverse t ++ s) ++ reverse w) ≡ (names o t || (names o s || names o w))
-names_places o t s w =
-    names_append o (reverse t ++ s) (reverse w)
-    ∙ ap (λ x. x || names o (reverse w)) (names_append o (reverse t) s)
-    ∙ or_assoc (names o (reverse t)) (names o s) (names o (reverse w))
-    ∙ ap (λ x. x || (names o s || names o (reverse w))) (names_reverse o t)
-    ∙ ap (λ x. names o t || (names o s || x)) (names_reverse o w)
+-- whether a place names an object, of all kinds of places
+pub names_places : (o : ℕ) (t s w g f : List ℕ) → names o (((reverse t ++ s) ++ reverse w) ++ (g ++ f)) ≡ (names o t || (names o s || (names o w || (names o g || names o f))))
+names_places o t s w g f =
+    names_append o ((reverse t ++ s) ++ reverse w) (g ++ f)
+    ∙ ap (λ x. names o ((reverse t ++ s) ++ reverse w) || x) (names_append o g f)
+    ∙ ap (λ x. x || (names o g || names o f)) (names_append o (reverse t ++ s) (reverse w))
+    ∙ ap (λ x. (x || names o (reverse w)) || (names o g || names o f)) (names_append o (reverse t) s)
+    ∙ ap (λ x. ((x || names o s) || names o (reverse w)) || (names o g || names o f)) (names_reverse o t)
+    ∙ ap (λ x. ((names o t || names o s) || x) || (names o g || names o f)) (names_reverse o w)
+    ∙ or_assoc (names o t || names o s) (names o w) (names o g || names o f)
+    ∙ or_assoc (names o t) (names o s) (names o w || (names o g || names o f))
+
+-- whether the fields of some objects name one
+pub names_fields : (o : ℕ) (all : List Object) (i : ℕ) (one : Object) → i < length all → one ≡ get_or all i one
+    → names o (field_places (map object_of (drop i all))) ≡ (names o (objects.fields_of (object_of one)) || names o (field_places (map object_of (drop (i + 1) all))))
+names_fields o all i one below is =
+    ap (λ l. names o (field_places (map object_of l))) (drop_more all i one below ∙ ap (λ x. x ∷ drop (i + 1) all) (sym is))
+    ∙ names_append o (objects.fields_of (object_of one)) (field_places (map object_of (drop (i + 1) all)))
 
 -- ---- objects by number
 
@@ -166,16 +178,62 @@ set_told D classes r class index own v given w all new same is holds gives there
 
 -- ---- objects that are made
 
-pub make_told : (D : Deeper) (classes : List Class) (known : Option ℕ) (c count number : ℕ) (w : World) (old new : List Object) (o : Object) (result : Result ℕ Halt) (after : World)
-    → D.classes ≡ classes → known ≡ Some c → w.objects ≡ map object_of old → count ≡ field_count (slice_get classes c) → object_of o ≡ new_object c count → new ≡ old ++ o ∷ [] → number ≡ length new
+pub make_told : (D : Deeper) (classes : List Class) (known : Option ℕ) (c count strong number : ℕ) (w : World) (old new : List Object) (o : Object) (result : Result ℕ Halt) (after : World)
+    → D.classes ≡ classes → known ≡ Some c → w.objects ≡ map object_of old → count ≡ field_count (slice_get classes c) → strong ≡ strong_count (slice_get classes c) → object_of o ≡ new_object c count strong
+    → new ≡ old ++ o ∷ [] → number ≡ length new
     → Tells (λ n. n) result (Done number (takes number (with_objects w (map object_of new)))) after → Tells (λ n. n) result (made D known w) after
-make_told D classes known c count number w old new o result after same is there counts makes grown last told =
+make_told D classes known c count strong number w old new o result after same is there counts strongs makes grown last told =
     let fields : count ≡ field_count (slice_get D.classes c) = counts ∙ ap (λ l. field_count (slice_get l c)) (sym same) in
-    let objects : map object_of new ≡ w.objects ++ new_object c (field_count (slice_get D.classes c)) ∷ [] =
-    ap (map object_of) grown ∙ map-append object_of old (o ∷ []) ∙ ap (λ l. l ++ object_of o ∷ []) (sym there) ∙ ap (λ x. w.objects ++ x ∷ []) (makes ∙ ap (new_object c) fields) in
+    let names : strong ≡ strong_count (slice_get D.classes c) = strongs ∙ ap (λ l. strong_count (slice_get l c)) (sym same) in
+    let objects : map object_of new ≡ w.objects ++ new_object c (field_count (slice_get D.classes c)) (strong_count (slice_get D.classes c)) ∷ [] =
+    ap (map object_of) grown ∙ map-append object_of old (o ∷ []) ∙ ap (λ l. l ++ object_of o ∷ []) (sym there)
+    ∙ ap (λ x. w.objects ++ x ∷ []) (makes ∙ ap (λ n. new_object c n strong) fields ∙ ap (new_object c (field_count (slice_get D.classes c))) names) in
     let first : length w.objects ≡ length old = ap length there ∙ length-map old object_of in
     let one : number ≡ next_object w = omega (arith, last, ap length grown, length-append old (o ∷ []), first) in
     let meant : Done number (takes number (with_objects w (map object_of new))) ≡ made D known w =
     ap (λ n. Done n (takes n (with_objects w (map object_of new)))) one
     ∙ ap (λ l. Done (next_object w) (takes (next_object w) (with_objects w l))) objects ∙ ap (λ k. made D k w) (sym is) in
     subst (λ x. Tells (λ n. n) result x after) meant told
+
+-- ---- fields that name objects
+
+-- a field of an object of another class
+pub in_other_class : {A : Type 0} (D : Deeper) (classes : List Class) (r class : ℕ) (o : objects.Object) (w : World) (go : objects.Object → Outcome A) → D.classes ≡ classes → object_at w.objects r ≡ Some o
+    → descends classes (Some o.class) class ≡ false → in_object D class (object_at w.objects r) go w ≡ Faulted FieldClass w
+in_other_class D classes r class o w go same is other =
+    ap (λ ob. in_object D class ob go w) is ∙ ap (λ b. if b then go o else Faulted FieldClass w) (ap (λ l. descends l (Some o.class) class) same ∙ other)
+
+-- a field of an object that has it
+pub in_own_class : {A : Type 0} (D : Deeper) (classes : List Class) (r class : ℕ) (o : objects.Object) (w : World) (go : objects.Object → Outcome A) → D.classes ≡ classes → object_at w.objects r ≡ Some o
+    → descends classes (Some o.class) class ≡ true → in_object D class (object_at w.objects r) go w ≡ go o
+in_own_class D classes r class o w go same is holds =
+    ap (λ ob. in_object D class ob go w) is ∙ ap (λ b. if b then go o else Faulted FieldClass w) (ap (λ l. descends l (Some o.class) class) same ∙ holds)
+
+-- what a field names that takes a new value
+pub replaced_told : (D : Deeper) (classes : List Class) (r class index value : ℕ) (o : objects.Object) (w : World) (all new : List objects.Object) (before : ℕ) → D.classes ≡ classes → object_at w.objects r ≡ Some o
+    → descends classes (Some o.class) class ≡ true → is_emptying o.phase ≡ false → all ≡ w.objects → before ≡ named_in (object_at all r) index
+    → new ≡ changed all r (λ x. with_strong_fields x (slice_set x.strong index value)) → object_field_replaced D r class index value w ≡ Done before (with_objects w new)
+replaced_told D classes r class index value o w all new before same is holds phase there gives changes =
+    let change = λ (x : objects.Object). with_strong_fields x (slice_set x.strong index value) in
+    let found : object_at all r ≡ Some o = ap (λ l. object_at l r) there ∙ is in
+    let named : before ≡ name_at o.strong index = gives ∙ ap (λ ob. named_in ob index) found in
+    let stored : new ≡ with_object w.objects r (change o) = changes ∙ ap (changed_to all r change) found ∙ ap (λ l. with_object l r (change o)) there in
+    in_own_class D classes r class o w (field_replaced r index value w) same is holds
+    ∙ ap (λ b. if b then Faulted Resurrected w else Done (name_at o.strong index) (field_stores r o index value w)) phase
+    ∙ ap (λ n. Done n (field_stores r o index value w)) (sym named)
+    ∙ ap (λ l. Done before (with_objects w l)) (sym stored)
+
+-- what a program begins with
+abbrev begin_with : (input : List ℕ) (trace : List Event) (globals : List ℤ) (names : List ℕ) (all : List objects.Object) (frame : Frame) (waiting : List ℕ) → World
+begin_with input trace globals names all frame waiting = record { input = input; trace = trace; globals = globals; strong_globals = names; objects = all; frame = frame; waiting = waiting }
+
+pub started : (input : List ℕ) (trace : List Event) (globals : List ℤ) (names : List ℕ) (all : List objects.Object) (frame : Frame) (waiting : List ℕ) (known : List ℤ) (count : ℕ)
+    → trace ≡ [] → globals ≡ known → names ≡ replicate count 0 → all ≡ [] → frame ≡ first_frame → waiting ≡ []
+    → record { input = input; trace = trace; globals = globals; strong_globals = names; objects = all; frame = frame; waiting = waiting } ≡ first_world known count input
+started input trace globals names all frame waiting known count nothing_shown numbers nothing_named nothing_made runs none_wait =
+    ap (λ x. begin_with input x globals names all frame waiting) nothing_shown
+    ∙ ap (λ x. begin_with input [] x names all frame waiting) numbers
+    ∙ ap (λ x. begin_with input [] known x all frame waiting) (nothing_named ∙ nils_are count)
+    ∙ ap (λ x. begin_with input [] known (nils count) x frame waiting) nothing_made
+    ∙ ap (λ x. begin_with input [] known (nils count) [] x waiting) runs
+    ∙ ap (λ x. begin_with input [] known (nils count) [] first_frame x) none_wait

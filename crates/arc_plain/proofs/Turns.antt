@@ -1,25 +1,38 @@
 -- The interpreter's loops, and its parts' failures.
-use Rattle.std.proofs.Common.{rules, Bool, true, ◌≡◌, ℕ, zero, suc, ◌+◌, ◌-◌, ◌<◌, ◌≤◌, ℤ, false, List, [], ◌∷◌, ◌++◌, length, get_or, drop, Option, Some, None, Result, Err, append_assoc, refl, sym, ap, subst, ◌∙◌}
+use Rattle.std.proofs.Common.{rules, Bool, true, ◌≡◌, ℕ, zero, suc, ◌+◌, ◌-◌, ◌<◌, ◌≤◌, ℤ, false, List, [], ◌∷◌, ◌++◌, length, get_or, drop, Option, Some, None, Result, Err, Box, Global, append_assoc, refl, sym, ap, subst, ◌∙◌}
 use Rattle.std.proofs.lemmas.List.{drop_more}
 use native.Mathlib.Omega.{arith}
 use Rattle.arc_check.specs.declared.checked.Value.{Value}
 use Rattle.arc_check.specs.declared.checked.Command.{Command}
-use Rattle.arc_check.specs.Checked.{functions, value, values, command}
+use Rattle.arc_check.specs.declared.checked.Reference.{Reference}
+use Rattle.arc_check.specs.declared.checked.Argument as g
+use Rattle.arc_check.specs.declared.checked.Argument.{Argument}
+use Rattle.arc_check.specs.Checked.{functions, value, reference, arguments, and_argument, command}
 use Rattle.arc_spec.specs.Resolved as resolved
-use Rattle.arc_spec.specs.Classes.{Class, class_at}
-use Rattle.arc_spec.specs.World.{World, Outcome, Done, Faulted, Cut, then_do}
+use Rattle.arc_spec.specs.Classes.{Class}
+use Rattle.arc_spec.specs.World.{World, Outcome, Done, Faulted, Cut, then_do, Given}
 use Rattle.arc_spec.specs.Number.{is_zero}
 use Rattle.arc_check.specs.declared.checked.CheckedFunction.{CheckedFunction}
 use Rattle.arc_plain.specs.declared.halt.Halt.{Halt}
 use Rattle.arc_plain.specs.declared.halt.Halt.TheVariants.{Stopped, Cut, Memory}
 use Rattle.arc_spec.specs.Meaning as meaning
-use Rattle.arc_spec.specs.Meaning.{Deeper, Normal, Broken, Continued, Returned, level, called, dispatched, finds, turns, turns_after, chosen, if_normal, in_turn, after_body, function_at, ended, evaluated, all_evaluated, executed}
+use Rattle.arc_spec.specs.Meaning.{Deeper, Normal, Broken, Continued, Returned, level, called, and_number, and_object, turns, turns_after, chosen, if_normal, in_turn, after_body, function_at, ended, evaluated, referred, all_evaluated, executed}
 use Rattle.arc_plain.specs.declared.statement.Flow.{Flow}
 use Rattle.arc_plain.specs.Views.{Tells, flow_of, function_of, leaving, step_of, test_of, behind_body, turn_of}
 
--- the values that were found, in front of those to come
-abbrev pub front : List ℤ → Outcome (List ℤ) → Outcome (List ℤ)
-front found rest = then_do rest (λ numbers w. Done (found ++ numbers) w)
+-- arguments, and those after them
+abbrev pub joined : Given → Given → Given
+joined found rest = record { numbers = found.numbers ++ rest.numbers; objects = found.objects ++ rest.objects }
+
+abbrev pub with_numbers : Given → List ℤ → Given
+with_numbers found numbers = record found { numbers = numbers }
+
+abbrev pub with_named : Given → List ℕ → Given
+with_named found named = record found { objects = named }
+
+-- the arguments that were found, in front of those to come
+abbrev pub front : Given → Outcome Given → Outcome Given
+front found rest = then_do rest (λ passed w. Done (joined found passed) w)
 
 pub nothing_below : {A : Type 0} {n : ℕ} → n < 0 → A
 nothing_below {A} {n} h = search (rules, h)
@@ -36,39 +49,50 @@ pub value_told : (D : Deeper) (v : Value) (meant : resolved.Value) (r : Result �
     → value v ≡ meant → Tells (λ n. n) r (evaluated D meant w) after → Tells (λ n. n) r (evaluated D (value v) w) after
 value_told D v meant r w after is h = subst (λ x. Tells (λ n. n) r (evaluated D x w) after) (sym is) h
 
--- a message to a class, whose receiver was evaluated before the arguments
-pub message_told : (D : Deeper) (a : resolved.Value) (arguments : resolved.Values) (selector : ℕ) (self passed : ℤ) (numbers found : List ℤ) (from : Option ℕ) (r : Result ℤ Halt) (w between last after : World)
-    → passed ≡ self → found ≡ numbers → from ≡ class_at passed → evaluated D a w ≡ Done self between → all_evaluated D arguments between ≡ Done numbers last
-    → Tells (λ n. n) r (dispatched D (finds D from selector found) passed found last) after → Tells (λ n. n) r (evaluated D (resolved.Sent a selector arguments) w) after
-message_told D a arguments selector self passed numbers found from r w between last after same same_numbers class receiver others h =
-    let go = λ (n : ℤ) (given : List ℤ) (v : World). dispatched D (finds D (class_at n) selector given) n given v in
-    let meant : evaluated D (resolved.Sent a selector arguments) w ≡ dispatched D (finds D from selector found) passed found last =
-    ap (λ o. then_do o (λ n v. then_do (all_evaluated D arguments v) (go n))) receiver
-    ∙ ap (λ o. then_do o (go self)) others
-    ∙ ap (λ n. go n numbers last) (sym same)
-    ∙ ap (λ l. go passed l last) (sym same_numbers)
-    ∙ ap (λ c. dispatched D (finds D c selector found) passed found last) (sym class) in
-    subst (λ o. Tells (λ n. n) r o after) (sym meant) h
-
 -- what is told of the statement that a command stands for
 pub command_told : (D : Deeper) (bound : ℕ) (c : Command) (meant : resolved.Command) (r : Result Flow Halt) (w after : World)
     → command c ≡ meant → Tells flow_of r (executed D bound meant w) after → Tells flow_of r (executed D bound (command c) w) after
 command_told D bound c meant r w after is h = subst (λ x. Tells flow_of r (executed D bound x w) after) (sym is) h
 
-front_one : (found : List ℤ) (n : ℤ) (o : Outcome (List ℤ)) → front found (then_do o (λ xs w. Done (n ∷ xs) w)) ≡ front (found ++ n ∷ []) o
-front_one found n (Done xs w) = ap (λ l. Done l w) (sym (append_assoc found (n ∷ []) xs))
-front_one found n (Faulted f w) = refl
-front_one found n (Cut w) = refl
+number_front : (found : Given) (n : ℤ) (o : Outcome Given) → front found (then_do o (λ passed w. Done (and_number n passed) w)) ≡ front (record found { numbers = found.numbers ++ n ∷ [] }) o
+number_front found n (Done passed w) = ap (λ l. Done (record { numbers = l; objects = found.objects ++ passed.objects }) w) (sym (append_assoc found.numbers (n ∷ []) passed.numbers))
+number_front found n (Faulted f w) = refl
+number_front found n (Cut w) = refl
 
--- one value more
-pub values_step : (D : Deeper) (vs : List Value) (i : ℕ) (v : Value) (found more : List ℤ) (n : ℤ) (whole : Outcome (List ℤ)) (w after : World)
-    → i < length vs → v ≡ get_or vs i v → whole ≡ front found (all_evaluated D (values (drop i vs)) w) → evaluated D (value v) w ≡ Done n after → more ≡ found ++ n ∷ []
-    → whole ≡ front more (all_evaluated D (values (drop (i + 1) vs)) after)
-values_step D vs i v found more n whole w after below is old done grown =
-    let rest = values (drop (i + 1) vs) in
-    old ∙ ap (λ l. front found (all_evaluated D (values l) w)) (drop_more vs i v below ∙ ap (λ x. x ∷ drop (i + 1) vs) (sym is))
-    ∙ ap (λ o. front found (then_do o (λ x w1. then_do (all_evaluated D rest w1) (λ xs w2. Done (x ∷ xs) w2)))) done
-    ∙ front_one found n (all_evaluated D rest after)
+object_front : (found : Given) (r : ℕ) (o : Outcome Given) → front found (then_do o (λ passed w. Done (and_object r passed) w)) ≡ front (record found { objects = found.objects ++ r ∷ [] }) o
+object_front found r (Done passed w) = ap (λ l. Done (record { numbers = found.numbers ++ passed.numbers; objects = l }) w) (sym (append_assoc found.objects (r ∷ []) passed.objects))
+object_front found r (Faulted f w) = refl
+object_front found r (Cut w) = refl
+
+-- what one argument is, of which the part is known
+pub is_number : (v : Argument) (a : Box Value Global) (got : Value) → v ≡ g.Number a → got ≡ a.value → (others : resolved.Arguments) → and_argument v others ≡ resolved.number_argument (value got) others
+is_number v a got is same others = ap (λ x. and_argument x others) is ∙ ap (λ x. resolved.number_argument (value x) others) (sym same)
+
+pub is_object : (v : Argument) (a : Box Reference Global) (got : Reference) → v ≡ g.Object a → got ≡ a.value → (others : resolved.Arguments) → and_argument v others ≡ resolved.object_argument (reference got) others
+is_object v a got is same others = ap (λ x. and_argument x others) is ∙ ap (λ x. resolved.object_argument (reference x) others) (sym same)
+
+-- one number more
+pub number_step : (D : Deeper) (vs : List Argument) (i : ℕ) (v : Argument) (a : resolved.Value) (found more : Given) (n : ℤ) (whole : Outcome Given) (w after : World)
+    → i < length vs → v ≡ get_or vs i v → ((others : resolved.Arguments) → and_argument v others ≡ resolved.number_argument a others) → whole ≡ front found (all_evaluated D (arguments (drop i vs)) w)
+    → evaluated D a w ≡ Done n after → more ≡ record found { numbers = found.numbers ++ n ∷ [] } → whole ≡ front more (all_evaluated D (arguments (drop (i + 1) vs)) after)
+number_step D vs i v a found more n whole w after below is kind old done grown =
+    let rest = arguments (drop (i + 1) vs) in
+    old ∙ ap (λ l. front found (all_evaluated D (arguments l) w)) (drop_more vs i v below ∙ ap (λ x. x ∷ drop (i + 1) vs) (sym is))
+    ∙ ap (λ l. front found (all_evaluated D l w)) (kind rest)
+    ∙ ap (λ o. front found (then_do o (λ x w1. then_do (all_evaluated D rest w1) (λ passed w2. Done (and_number x passed) w2)))) done
+    ∙ number_front found n (all_evaluated D rest after)
+    ∙ ap (λ l. front l (all_evaluated D rest after)) (sym grown)
+
+-- one object more
+pub object_step : (D : Deeper) (vs : List Argument) (i : ℕ) (v : Argument) (a : resolved.Reference) (found more : Given) (r : ℕ) (whole : Outcome Given) (w after : World)
+    → i < length vs → v ≡ get_or vs i v → ((others : resolved.Arguments) → and_argument v others ≡ resolved.object_argument a others) → whole ≡ front found (all_evaluated D (arguments (drop i vs)) w)
+    → referred D a w ≡ Done r after → more ≡ record found { objects = found.objects ++ r ∷ [] } → whole ≡ front more (all_evaluated D (arguments (drop (i + 1) vs)) after)
+object_step D vs i v a found more r whole w after below is kind old done grown =
+    let rest = arguments (drop (i + 1) vs) in
+    old ∙ ap (λ l. front found (all_evaluated D (arguments l) w)) (drop_more vs i v below ∙ ap (λ x. x ∷ drop (i + 1) vs) (sym is))
+    ∙ ap (λ l. front found (all_evaluated D l w)) (kind rest)
+    ∙ ap (λ o. front found (then_do o (λ x w1. then_do (all_evaluated D rest w1) (λ passed w2. Done (and_object x passed) w2)))) done
+    ∙ object_front found r (all_evaluated D rest after)
     ∙ ap (λ l. front l (all_evaluated D rest after)) (sym grown)
 
 -- a loop goes on with this, unless it was left
@@ -188,9 +212,9 @@ turn_after_failed view bound i test body whole e r w after below old failed h =
     (tells_through e view flow_of after (λ o w1. goes_on o (turns_after (bound - (i + 1)) test body) w1) (turn_of (test_of test) body w) whole (turns_after_on bound i test body whole w below old) h)
 
 -- a call and an end, one level deeper
-pub call_is : (P : resolved.Program) (bound levels n f self : ℕ) (arguments : List ℤ) (w : World) → levels ≡ suc n
-    → (level P bound levels).call f self arguments w ≡ called (level P bound n) bound (function_at P f) self arguments w
-call_is P bound levels n f self arguments w is = ap (λ m. (level P bound m).call f self arguments w) is
+pub call_is : (P : resolved.Program) (bound levels n f self : ℕ) (passed : Given) (w : World) → levels ≡ suc n
+    → (level P bound levels).call f self passed w ≡ called (level P bound n) bound (function_at P f) self passed w
+call_is P bound levels n f self passed w is = ap (λ m. (level P bound m).call f self passed w) is
 
 pub end_is : (P : resolved.Program) (bound levels n o : ℕ) (w : World) → levels ≡ suc n → (level P bound levels).end_of o w ≡ ended P (level P bound n) bound o w
 end_is P bound levels n o w is = ap (λ m. (level P bound m).end_of o w) is
@@ -200,14 +224,14 @@ pub level_classes : (P : resolved.Program) (bound levels : ℕ) → (level P bou
 level_classes P bound zero = refl
 level_classes P bound (suc n) = refl
 
-pub function_found : (cs : List CheckedFunction) (classes : List Class) (globals : List ℤ) (main f : ℕ) (g : CheckedFunction) → f < length cs → g ≡ get_or cs f g
-    → function_at (record { functions = functions cs; main = main; globals = globals; classes = classes }) f ≡ function_of g
-function_found [] classes globals main f g below is = nothing_below below
-function_found (c ∷ cs) classes globals main zero g below is = ap function_of (sym is)
-function_found (c ∷ cs) classes globals main (suc f) g below is = function_found cs classes globals main f g (omega (arith, below)) is
+pub function_found : (cs : List CheckedFunction) (classes : List Class) (globals : List ℤ) (strong main f : ℕ) (g : CheckedFunction) → f < length cs → g ≡ get_or cs f g
+    → function_at (record { functions = functions cs; main = main; globals = globals; strong_globals = strong; classes = classes }) f ≡ function_of g
+function_found [] classes globals strong main f g below is = nothing_below below
+function_found (c ∷ cs) classes globals strong main zero g below is = ap function_of (sym is)
+function_found (c ∷ cs) classes globals strong main (suc f) g below is = function_found cs classes globals strong main f g (omega (arith, below)) is
 
-pub function_missing : (cs : List CheckedFunction) (classes : List Class) (globals : List ℤ) (main f : ℕ) → length cs ≤ f
-    → function_at (record { functions = functions cs; main = main; globals = globals; classes = classes }) f ≡ record { slots = 0; names = 0; body = resolved.no_commands }
-function_missing [] classes globals main f past = refl
-function_missing (c ∷ cs) classes globals main zero past = nothing_below past
-function_missing (c ∷ cs) classes globals main (suc f) past = function_missing cs classes globals main f (omega (arith, past))
+pub function_missing : (cs : List CheckedFunction) (classes : List Class) (globals : List ℤ) (strong main f : ℕ) → length cs ≤ f
+    → function_at (record { functions = functions cs; main = main; globals = globals; strong_globals = strong; classes = classes }) f ≡ record { slots = 0; names = 0; parameters = 0; body = resolved.no_commands }
+function_missing [] classes globals strong main f past = refl
+function_missing (c ∷ cs) classes globals strong main zero past = nothing_below past
+function_missing (c ∷ cs) classes globals strong main (suc f) past = function_missing cs classes globals strong main f (omega (arith, past))

@@ -1,14 +1,16 @@
 -- How much of a program is left to go through: the interpreter ends, since that falls with each call.
 use Rattle.std.proofs.Common.{arith, ◌≡◌, ℕ, zero, suc, ◌+◌, ◌<◌, ◌≤◌, List, [], ◌∷◌, Some, None, Vec, Box, Global, length, get_or, sym, ap, subst}
 use Rattle.arc_check.specs.declared.checked.Value as c
-use Rattle.arc_check.specs.declared.checked.Reference as r
+use Rattle.arc_check.specs.declared.checked.Receiver as rc
+use Rattle.arc_check.specs.declared.checked.Argument as g
+use Rattle.arc_check.specs.declared.checked.Argument.TheVariants.{Number', Object'}
 use Rattle.arc_check.specs.declared.checked.Command as d
 use Rattle.arc_check.specs.declared.checked.Piece.{Piece}
 use Rattle.arc_check.specs.declared.checked.CheckedFunction.{CheckedFunction}
 use Rattle.arc_check.specs.declared.checked.Checked.{Checked}
-use Rattle.arc_spec.specs.Resolved.{Value, Number, ReadByte, Print, Applied, Combined, Choice, Converted, Read, Assigned, Updated, Invoked, Sent, SentSuper, SentTo, SentToSuper, Field, FieldAssigned, FieldUpdated, Differ, IsObject, Reference, Nil, Itself, Variable, Chosen, Stored, Made, Initialized, Values, no_values, and_value, Command, Sequence, Evaluate, EvaluateReference, Begin, Return, Choose, Repeat, RepeatAfter, Break, Continue, Commands, no_commands, and_command, Function}
-use Rattle.arc_check.specs.Checked.{program_of, functions, value, values, reference, command, commands}
-use Rattle.arc_check.proofs.Trees.{is_print, is_invoked, is_sent, is_sent_super, is_sent_to, is_sent_to_super, is_sequence}
+use Rattle.arc_spec.specs.Resolved.{Value, Number, ReadByte, Print, Applied, Combined, Choice, Converted, Read, Assigned, Updated, Invoked, Sent, Receiver, ClassValue, ClassSuper, ObjectValue, ObjectSuper, Field, FieldAssigned, FieldUpdated, Differ, IsObject, Reference, Nil, Itself, Variable, Chosen, Stored, ObjectField, ObjectFieldStored, Made, Initialized, Arguments, no_arguments, number_argument, object_argument, Command, Sequence, Evaluate, EvaluateReference, Begin, Return, Choose, Repeat, RepeatAfter, Break, Continue, Commands, no_commands, and_command, Function}
+use Rattle.arc_check.specs.Checked.{program_of, functions, value, arguments, and_argument, receiver, command, commands}
+use Rattle.arc_check.proofs.Trees.{is_print, is_invoked, is_sent, is_sequence}
 use Rattle.arc_plain.proofs.Turns.{nothing_below}
 use Rattle.arc_plain.specs.declared.context.Context.{Context}
 
@@ -16,7 +18,7 @@ abbrev mutual
   pub value_weight : Value → ℕ
   value_weight (Number n) = 1
   value_weight ReadByte = 1
-  value_weight (Print pieces arguments) = 2 + values_weight arguments
+  value_weight (Print pieces arguments) = 2 + arguments_weight arguments
   value_weight (Applied operator kind a) = suc (value_weight a)
   value_weight (Combined operator kind a b) = 2 + value_weight a + value_weight b
   value_weight (Choice c a b) = 2 + value_weight c + value_weight a + value_weight b
@@ -24,11 +26,8 @@ abbrev mutual
   value_weight (Read i) = 1
   value_weight (Assigned i a) = suc (value_weight a)
   value_weight (Updated moment i operator computed kept a) = 2 + value_weight a
-  value_weight (Invoked f arguments) = 2 + values_weight arguments
-  value_weight (Sent a selector arguments) = 3 + value_weight a + values_weight arguments
-  value_weight (SentSuper from selector arguments) = 3 + values_weight arguments
-  value_weight (SentTo a selector arguments) = 3 + reference_weight a + values_weight arguments
-  value_weight (SentToSuper from selector arguments) = 3 + values_weight arguments
+  value_weight (Invoked f arguments) = 2 + arguments_weight arguments
+  value_weight (Sent receiver selector arguments) = 3 + receiver_weight receiver + arguments_weight arguments
   value_weight (Field a class index) = suc (reference_weight a)
   value_weight (FieldAssigned a class index b) = 2 + reference_weight a + value_weight b
   value_weight (FieldUpdated moment a class index operator computed kept b) = 2 + reference_weight a + value_weight b
@@ -41,12 +40,25 @@ abbrev mutual
   reference_weight (Variable i) = 1
   reference_weight (Chosen c a b) = 2 + value_weight c + reference_weight a + reference_weight b
   reference_weight (Stored i a) = 2 + reference_weight a
+  reference_weight (ObjectField a class index) = suc (reference_weight a)
+  reference_weight (ObjectFieldStored a class index b) = 4 + reference_weight a + reference_weight b
   reference_weight (Made a) = suc (value_weight a)
   reference_weight (Initialized a) = suc (reference_weight a)
 
-  pub values_weight : Values → ℕ
-  values_weight no_values = 0
-  values_weight (and_value a others) = suc (value_weight a + values_weight others)
+  pub receiver_weight : Receiver → ℕ
+  receiver_weight (ClassValue a) = suc (value_weight a)
+  receiver_weight (ClassSuper from) = 1
+  receiver_weight (ObjectValue a) = suc (reference_weight a)
+  receiver_weight (ObjectSuper from) = 1
+
+  pub arguments_weight : Arguments → ℕ
+  arguments_weight no_arguments = 0
+  arguments_weight (number_argument a others) = 2 + value_weight a + arguments_weight others
+  arguments_weight (object_argument a others) = 2 + reference_weight a + arguments_weight others
+
+-- what one argument weighs
+abbrev pub argument_weight : g.Argument → ℕ
+argument_weight x = arguments_weight (and_argument x no_arguments)
 
 abbrev mutual
   pub command_weight : Command → ℕ
@@ -83,45 +95,49 @@ program_weight context = functions_weight (program_of context.program.now).funct
 abbrev pub levels_left : Context → ℕ
 levels_left context = levels_weight context.levels (6 + program_weight context)
 
-pub value_in : (vs : List c.Value) (i : ℕ) (v : c.Value) → i < length vs → v ≡ get_or vs i v → value_weight (value v) < values_weight (values vs)
-value_in [] i v below is = nothing_below below
-value_in (a ∷ vs) zero v below is = subst (λ x. value_weight (value x) < suc (value_weight (value a) + values_weight (values vs))) (sym is) (omega arith)
-value_in (a ∷ vs) (suc i) v below is = let deep = value_in vs i v (omega (arith, below)) is in omega (arith, deep)
+before_others : (x : g.Argument) (others : Arguments) → arguments_weight (and_argument x others) ≡ argument_weight x + arguments_weight others
+before_others (Number' q a) others = omega arith
+before_others (Object' q a) others = omega arith
+
+pub argument_in : (vs : List g.Argument) (i : ℕ) (v : g.Argument) → i < length vs → v ≡ get_or vs i v → argument_weight v ≤ arguments_weight (arguments vs)
+argument_in [] i v below is = nothing_below below
+argument_in (a ∷ vs) zero v below is =
+    let whole = before_others a (arguments vs) in
+    subst (λ x. argument_weight x ≤ arguments_weight (and_argument a (arguments vs))) (sym is) (omega (arith, whole))
+argument_in (a ∷ vs) (suc i) v below is = let deep = argument_in vs i v (omega (arith, below)) is in let whole = before_others a (arguments vs) in omega (arith, deep, whole)
+
+pub number_lighter : (vs : List g.Argument) (i : ℕ) (v : g.Argument) (a : Value) → i < length vs → v ≡ get_or vs i v → and_argument v no_arguments ≡ number_argument a no_arguments → value_weight a < arguments_weight (arguments vs)
+number_lighter vs i v a below is kind = let most = argument_in vs i v below is in omega (arith, most, ap arguments_weight kind)
+
+pub object_lighter : (vs : List g.Argument) (i : ℕ) (v : g.Argument) (a : Reference) → i < length vs → v ≡ get_or vs i v → and_argument v no_arguments ≡ object_argument a no_arguments → reference_weight a < arguments_weight (arguments vs)
+object_lighter vs i v a below is kind = let most = argument_in vs i v below is in omega (arith, most, ap arguments_weight kind)
+
+-- a receiver weighs something
+pub receiver_counts : (x : Receiver) → 0 < receiver_weight x
+receiver_counts (ClassValue a) = omega arith
+receiver_counts (ClassSuper from) = omega arith
+receiver_counts (ObjectValue a) = omega arith
+receiver_counts (ObjectSuper from) = omega arith
 
 pub command_in : (cs : List d.Command) (i : ℕ) (v : d.Command) → i < length cs → v ≡ get_or cs i v → command_weight (command v) < commands_weight (commands cs)
 command_in [] i v below is = nothing_below below
 command_in (a ∷ cs) zero v below is = subst (λ x. command_weight (command x) < suc (command_weight (command a) + commands_weight (commands cs))) (sym is) (omega arith)
 command_in (a ∷ cs) (suc i) v below is = let deep = command_in cs i v (omega (arith, below)) is in omega (arith, deep)
 
-pub print_lighter : (v : c.Value) (all : Vec Piece Global) (arguments : Vec c.Value Global) (shapes : List Piece) (these : List c.Value) → v ≡ c.Print all arguments → shapes ≡ all.items → these ≡ arguments.items
-    → suc (values_weight (values these)) < value_weight (value v)
-print_lighter v all arguments shapes these is same_shapes same =
-    omega (arith, ap value_weight (is_print v all arguments shapes these is same_shapes same))
+pub print_lighter : (v : c.Value) (all : Vec Piece Global) (given : Vec g.Argument Global) (shapes : List Piece) (these : List g.Argument) → v ≡ c.Print all given → shapes ≡ all.items → these ≡ given.items
+    → suc (arguments_weight (arguments these)) < value_weight (value v)
+print_lighter v all given shapes these is same_shapes same =
+    omega (arith, ap value_weight (is_print v all given shapes these is same_shapes same))
 
-pub call_lighter : (v : c.Value) (f : ℕ) (arguments : Vec c.Value Global) (these : List c.Value) → v ≡ c.Invoked f arguments → these ≡ arguments.items
-    → suc (values_weight (values these)) < value_weight (value v)
-call_lighter v f arguments these is same =
-    omega (arith, ap value_weight (is_invoked v f arguments these is same))
+pub call_lighter : (v : c.Value) (f : ℕ) (given : Vec g.Argument Global) (these : List g.Argument) → v ≡ c.Invoked f given → these ≡ given.items
+    → suc (arguments_weight (arguments these)) < value_weight (value v)
+call_lighter v f given these is same =
+    omega (arith, ap value_weight (is_invoked v f given these is same))
 
-pub sent_lighter : (v : c.Value) (a : Box c.Value Global) (selector : ℕ) (arguments : Vec c.Value Global) (receiver : c.Value) (these : List c.Value)
-    → v ≡ c.Sent a selector arguments → receiver ≡ a.value → these ≡ arguments.items → 2 + value_weight (value receiver) + values_weight (values these) < value_weight (value v)
-sent_lighter v a selector arguments receiver these is same_receiver same =
-    omega (arith, ap value_weight (is_sent v a selector arguments receiver these is same_receiver same))
-
-pub super_lighter : (v : c.Value) (from selector : ℕ) (arguments : Vec c.Value Global) (these : List c.Value)
-    → v ≡ c.SentSuper from selector arguments → these ≡ arguments.items → 2 + values_weight (values these) < value_weight (value v)
-super_lighter v from selector arguments these is same =
-    omega (arith, ap value_weight (is_sent_super v from selector arguments these is same))
-
-pub sent_to_lighter : (v : c.Value) (a : Box r.Reference Global) (selector : ℕ) (arguments : Vec c.Value Global) (receiver : r.Reference) (these : List c.Value)
-    → v ≡ c.SentTo a selector arguments → receiver ≡ a.value → these ≡ arguments.items → 2 + reference_weight (reference receiver) + values_weight (values these) < value_weight (value v)
-sent_to_lighter v a selector arguments receiver these is same_receiver same =
-    omega (arith, ap value_weight (is_sent_to v a selector arguments receiver these is same_receiver same))
-
-pub to_super_lighter : (v : c.Value) (from selector : ℕ) (arguments : Vec c.Value Global) (these : List c.Value)
-    → v ≡ c.SentToSuper from selector arguments → these ≡ arguments.items → 2 + values_weight (values these) < value_weight (value v)
-to_super_lighter v from selector arguments these is same =
-    omega (arith, ap value_weight (is_sent_to_super v from selector arguments these is same))
+pub sent_lighter : (v : c.Value) (a : Box rc.Receiver Global) (selector : ℕ) (given : Vec g.Argument Global) (got : rc.Receiver) (these : List g.Argument)
+    → v ≡ c.Sent a selector given → got ≡ a.value → these ≡ given.items → 2 + receiver_weight (receiver got) + arguments_weight (arguments these) < value_weight (value v)
+sent_lighter v a selector given got these is same_receiver same =
+    omega (arith, ap value_weight (is_sent v a selector given got these is same_receiver same))
 
 pub sequence_lighter : (v : d.Command) (first count : ℕ) (all : Vec d.Command Global) (these : List d.Command) → v ≡ d.Sequence first count all → these ≡ all.items
     → 3 + commands_weight (commands these) < command_weight (command v)

@@ -1,21 +1,25 @@
 -- What the interpreter's values stand for. The interpreter is this project's own.
-use Rattle.std.specs.Prelude.{Option, None, ◌≡◌, ℕ, ℤ, List, ◌∷◌, ◌++◌, map, reverse, Some, Result, Ok, Err}
+use Rattle.std.specs.Prelude.{Option, None, ◌≡◌, ℕ, ℤ, List, ◌∷◌, ◌++◌, map, reverse, if◌then◌else◌, Some, Result, Ok, Err}
 use Rattle.arc_spec.specs.Resolved.{Piece, Function}
 use Rattle.arc_spec.specs.Objects as objects
-use Rattle.arc_spec.specs.Objects.{object_at, with_object}
+use Rattle.arc_spec.specs.Objects.{object_at, with_object, is_emptying}
 use Rattle.arc_spec.specs.World as worlds
-use Rattle.arc_spec.specs.World.{World, Outcome, Done, Faulted, Cut, then_do, Finished, finished, prints}
+use Rattle.arc_spec.specs.World.{World, Outcome, Done, Faulted, Cut, then_do, Finished, finished, prints, name_at}
 use Rattle.arc_ast.specs.declared.tree.Kind.TheVariants as k
 use Rattle.arc_spec.specs.Number.{converted, is_zero}
 use Rattle.arc_spec.specs.Meaning as meaning
-use Rattle.arc_spec.specs.Meaning.{formatted, byte_count, Deeper, chosen, level}
+use Rattle.arc_spec.specs.Meaning.{formatted, byte_count, Deeper, chosen, level, in_object, field_stores, ToClass, ToObject, ToSuper}
 use Rattle.arc_check.specs.declared.checked.CheckedFunction.{CheckedFunction}
 use Rattle.arc_check.specs.Checked.{program_of, commands}
 use Rattle.arc_plain.specs.declared.context.Context.{Context}
 use Rattle.arc_plain.specs.declared.frame.Frame.{Frame}
+use Rattle.arc_plain.specs.declared.given.Given.{Given}
+use Rattle.arc_plain.specs.declared.message.Target.{Target}
+use Rattle.arc_plain.specs.declared.message.Target.TheVariants as targets
+use Rattle.arc_spec.specs.declared.event.Fault.TheVariants.{Resurrected}
 use Rattle.arc_plain.specs.declared.object.Object.{Object}
 use Rattle.arc_plain.specs.declared.object.Phase.{Phase}
-use Rattle.arc_plain.specs.declared.object.Phase.TheVariants.{Live, Dying, Gone}
+use Rattle.arc_plain.specs.declared.object.Phase.TheVariants.{Live, Dying, Emptying, Gone}
 use Rattle.arc_spec.specs.Correct.{meaning_seen, Sight, Stop, Ends, Faults}
 use Rattle.arc_plain.specs.declared.progress.Progress.{Progress}
 use Rattle.arc_plain.specs.declared.halt.Halt.{Halt}
@@ -31,22 +35,25 @@ use Rattle.arc_plain.specs.declared.interpret.PlainStop.TheVariants.{Ended, Faul
 abbrev pub phase_of : Phase → objects.Phase
 phase_of Live = objects.Live
 phase_of Dying = objects.Dying
+phase_of Emptying = objects.Emptying
 phase_of Gone = objects.Gone
 
 -- an object without where its fields lie in memory
 abbrev pub object_of : Object → objects.Object
-object_of o = record { class = o.class; fields = o.fields.items; phase = phase_of o.phase }
+object_of o = record { class = o.class; fields = o.fields.items; strong = o.strong.items; phase = phase_of o.phase }
 
 -- the running function, whose last temporary lies at the end
 abbrev pub frame_of : Frame → worlds.Frame
 frame_of f = record { self = f.itself; locals = f.locals.items; strong = f.strong.items; temporaries = reverse f.temporaries.items }
 
--- what is left to read, the events so far, the numbers of the whole program's variables, the objects, the running function, and the places of those that wait, of which the newest lie at the end
+-- what is left to read, the events so far, the numbers of the whole program's variables, what those of them name that name objects, the objects, the running function,
+-- and the places of those that wait, of which the newest lie at the end
 abbrev pub world : Progress → World
 world progress = record {
   input = progress.input.now;
   trace = progress.trace.items;
   globals = progress.globals.items;
+  strong_globals = progress.strong_globals.items;
   objects = map object_of progress.objects.items;
   frame = frame_of progress.frame;
   waiting = reverse progress.waiting.items;
@@ -64,9 +71,36 @@ changed_to all o change (Some ob) = with_object all o (change ob)
 abbrev pub changed : List objects.Object → (o : ℕ) → (objects.Object → objects.Object) → List objects.Object
 changed all o change = changed_to all o change (object_at all o)
 
+-- what an object's field names; nothing where there is no such object
+abbrev pub named_in : Option objects.Object → (index : ℕ) → ℕ
+named_in None index = 0
+named_in (Some ob) index = name_at ob.strong index
+
+-- a field of an object is nil, where there is the object
+abbrev pub cleared : (o index : ℕ) → Option objects.Object → World → World
+cleared o index None w = w
+cleared o index (Some ob) w = field_stores o ob index 0 w
+
+-- a field of an object takes a new value, and the old one is given, which isn't dropped yet
+abbrev pub field_replaced : (r index value : ℕ) → World → objects.Object → Outcome ℕ
+field_replaced r index value w o = if is_emptying o.phase then Faulted Resurrected w else Done (name_at o.strong index) (field_stores r o index value w)
+
+abbrev pub object_field_replaced : Deeper → (r class index value : ℕ) → World → Outcome ℕ
+object_field_replaced D r class index value w = in_object D class (object_at w.objects r) (field_replaced r index value w) w
+
+-- arguments without where they lie in memory
+abbrev pub given_of : Given → worlds.Given
+given_of given = record { numbers = given.numbers.items; objects = given.objects.items }
+
+-- who gets a message
+abbrev pub target_of : Target → meaning.Target
+target_of (targets.Class from class) = ToClass from class
+target_of (targets.Object self) = ToObject self
+target_of (targets.Super from self) = ToSuper from self
+
 -- a function without where it lies in memory
 abbrev pub function_of : CheckedFunction → Function
-function_of f = record { slots = f.slots; names = f.names; body = commands f.body.items }
+function_of f = record { slots = f.slots; names = f.names; parameters = f.parameters; body = commands f.body.items }
 
 -- what a call or an end of an object does in this context
 abbrev pub deeper : Context → Deeper

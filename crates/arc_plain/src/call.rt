@@ -2,17 +2,22 @@
 ghost use Rattle.std.specs.Prelude.{◌≡◌};
 ghost use Rattle.arc_spec.specs.Classes.{superclasses, ancestry};
 ghost use Rattle.arc_check.specs.Checked.{program_of};
-ghost use Rattle.arc_spec.specs.Meaning.{called, given, released, all_dropped, variables_dropped, function_at, dealloc_run, deallocs_run};
-ghost use Rattle.arc_plain.specs.Views.{world, Tells, flow_of, nothing_of, deeper};
+ghost use Rattle.arc_spec.specs.Objects.{object_at};
+ghost use Rattle.arc_spec.specs.Meaning.{emptied, fields_dropped, called, given, released, all_dropped, variables_dropped, function_at, dealloc_run, deallocs_run};
+ghost use Rattle.arc_plain.specs.Views.{world, given_of, Tells, flow_of, nothing_of, deeper};
 
 use crate::context::Context;
 use crate::format::count;
+use crate::given::{Given, nothing};
 use crate::halt::Halt;
-use crate::object::{begin_end, class_of, dealloc_from, finish_end, is_live};
+use crate::object::{
+    begin_emptying, begin_end, class_of, clear_field, dealloc_from, finish_end, is_live,
+};
 use crate::place::{clear, drop_last, is_named, pop_frame, push_frame};
 use crate::progress::Progress;
 use crate::statement::{Flow, execute_all};
 use arc_spec::event::Fault;
+use arc_spec::order::field_order;
 use std::alloc::Global;
 
 /// Calls the function with this number, one level deeper, with this `self`.
@@ -23,9 +28,9 @@ pub fn call(
     progress: &mut Progress,
     function: usize,
     itself: usize,
-    arguments: &[i64],
+    given: &Given,
 ) -> Result<i64, Halt>
-    ensures { Tells (λ n. n) result ((deeper context.now).call function itself arguments.now (world progress.old)) (world progress.new) }
+    ensures { Tells (λ n. n) result ((deeper context.now).call function itself (given_of given.now) (world progress.old)) (world progress.new) }
 {
     if context.levels == 0 {
         return Err(Halt::Stopped(Fault::Depth));
@@ -34,7 +39,7 @@ pub fn call(
         levels: context.levels - 1,
         ..*context
     };
-    enter(alloc, &inner, progress, function, itself, arguments)
+    enter(alloc, &inner, progress, function, itself, given)
 }
 
 /// Runs a function with variables of its own, which are dropped at its end. After it the caller's are there
@@ -46,15 +51,15 @@ fn enter(
     progress: &mut Progress,
     function: usize,
     itself: usize,
-    arguments: &[i64],
+    given: &Given,
 ) -> Result<i64, Halt>
-    ensures { Tells (λ n. n) result (called (deeper context.now) context.now.bound (function_at (program_of context.now.program.now) function) itself arguments.now (world progress.old)) (world progress.new) }
+    ensures { Tells (λ n. n) result (called (deeper context.now) context.now.bound (function_at (program_of context.now.program.now) function) itself (given_of given.now) (world progress.old)) (world progress.new) }
 {
     let Some(entered) = context.program.functions.get(function) else {
         return Ok(0);
     };
     let waiting = progress.waiting.len();
-    let kept = push_frame(alloc, progress, entered, itself, arguments)?;
+    let kept = push_frame(alloc, progress, entered, itself, given)?;
     let flow = execute_all(alloc, context, progress, &entered.body)?;
     drop_variables(alloc, context, progress, 0, entered.names)?;
     pop_frame(progress, kept, waiting);
@@ -86,7 +91,44 @@ fn end(alloc: Global, context: &Context, progress: &mut Progress, object: usize)
     let class = class_of(&progress.objects, object);
     begin_end(progress, object)?;
     run_deallocs(alloc, &inner, progress, class, object)?;
+    empty(alloc, &inner, progress, object)?;
     finish_end(progress, object)
+}
+
+/// The fields of an object that name objects are destroyed: each of them is dropped.
+#[cycle(running)]
+fn empty(
+    alloc: Global,
+    context: &Context,
+    progress: &mut Progress,
+    object: usize,
+) -> Result<(), Halt>
+    ensures { Tells nothing_of result (emptied (deeper context.now) object (object_at (world progress.old).objects object) (world progress.old)) (world progress.new) }
+{
+    let Some(class) = class_of(&progress.objects, object) else {
+        return Ok(());
+    };
+    let order = field_order(alloc, &context.program.classes, class)?;
+    begin_emptying(progress, object);
+    drop_fields(alloc, context, progress, object, &order)
+}
+
+/// These fields of an object are dropped, from the first one on.
+#[cycle(running)]
+fn drop_fields(
+    alloc: Global,
+    context: &Context,
+    progress: &mut Progress,
+    object: usize,
+    order: &[usize],
+) -> Result<(), Halt>
+    ensures { Tells nothing_of result (fields_dropped (deeper context.now) order.now object (world progress.old)) (world progress.new) }
+{
+    for index in order {
+        let before = clear_field(progress, object, *index);
+        release(alloc, context, progress, before)?;
+    }
+    Ok(())
 }
 
 /// What the deallocs of the classes do from this one up.
@@ -126,7 +168,8 @@ fn run_dealloc(
 {
     match dealloc {
         Some(function) => {
-            let _ = enter(alloc, context, progress, function, object, &[])?;
+            let none = nothing(alloc);
+            let _ = enter(alloc, context, progress, function, object, &none)?;
             Ok(())
         }
         None => Ok(()),

@@ -2,20 +2,21 @@
 ghost use Rattle.arc_check.specs.Checked as checked;
 ghost use Rattle.arc_spec.specs.Resolved as resolved;
 ghost use Rattle.arc_spec.specs.Meaning.{evaluated, referred, all_evaluated, whole};
-ghost use Rattle.arc_plain.specs.Views.{world, Tells, printed, deeper};
+ghost use Rattle.arc_plain.specs.Views.{world, given_of, Tells, printed, deeper};
 
 use crate::call::{call, drop_temporaries, release};
 use crate::context::Context;
 use crate::format::{count, format};
+use crate::given::{Given, nothing};
 use crate::halt::Halt;
 use crate::message::{class_at, difference};
-use crate::object::{make, read_field, set_field};
+use crate::object::{make, read_field, read_object_field, replace_object_field, set_field};
 use crate::place::{name, store, take};
 use crate::progress::{Progress, assign, held, print, read};
-use crate::sending::{send, send_super, send_to, send_to_super};
+use crate::sending::send;
 use crate::update::{Update, given_by, renew};
 use arc_ast::tree::{BinaryOperator, Kind};
-use arc_check::checked::{Piece, Reference, Value};
+use arc_check::checked::{Argument, Piece, Reference, Value};
 use arc_spec::event::Fault;
 use arc_spec::location::Location;
 use arc_spec::number::{apply, combine, convert};
@@ -76,15 +77,6 @@ pub fn evaluate(
         Value::Sent(receiver, selector, arguments) => {
             send(alloc, context, progress, receiver, *selector, arguments)
         }
-        Value::SentSuper(from, selector, arguments) => {
-            send_super(alloc, context, progress, *from, *selector, arguments)
-        }
-        Value::SentTo(receiver, selector, arguments) => {
-            send_to(alloc, context, progress, receiver, *selector, arguments)
-        }
-        Value::SentToSuper(from, selector, arguments) => {
-            send_to_super(alloc, context, progress, *from, *selector, arguments)
-        }
         Value::Field(object, class, index) => {
             let number = refer(alloc, context, progress, object)?;
             read_field(context, progress, number, *class, *index)
@@ -133,12 +125,12 @@ fn evaluate_print(
     context: &Context,
     progress: &mut Progress,
     pieces: &[Piece],
-    arguments: &[Value],
+    arguments: &[Argument],
 ) -> Result<i64, Halt>
-    ensures { Tells (λ n. n) result (evaluated (deeper context.now) (resolved.Print (checked.pieces pieces.now) (checked.values arguments.now)) (world progress.old)) (world progress.new) }
+    ensures { Tells (λ n. n) result (evaluated (deeper context.now) (resolved.Print (checked.pieces pieces.now) (checked.arguments arguments.now)) (world progress.old)) (world progress.new) }
 {
-    let values = evaluate_all(alloc, context, progress, arguments)?;
-    print_format(alloc, progress, pieces, &values)
+    let given = evaluate_all(alloc, context, progress, arguments)?;
+    print_format(alloc, progress, pieces, &given.numbers)
 }
 
 /// Prints what the format gives, and counts its bytes.
@@ -202,12 +194,12 @@ fn invoke(
     context: &Context,
     progress: &mut Progress,
     function: usize,
-    arguments: &[Value],
+    arguments: &[Argument],
 ) -> Result<i64, Halt>
-    ensures { Tells (λ n. n) result (evaluated (deeper context.now) (resolved.Invoked function (checked.values arguments.now)) (world progress.old)) (world progress.new) }
+    ensures { Tells (λ n. n) result (evaluated (deeper context.now) (resolved.Invoked function (checked.arguments arguments.now)) (world progress.old)) (world progress.new) }
 {
-    let values = evaluate_all(alloc, context, progress, arguments)?;
-    call(alloc, context, progress, function, 0, &values)
+    let given = evaluate_all(alloc, context, progress, arguments)?;
+    call(alloc, context, progress, function, 0, &given)
 }
 
 /// Gives a field of the object that an expression gives a number; the object is evaluated first.
@@ -283,8 +275,8 @@ pub fn refer(
             let itself = progress.frame.itself;
             take(progress, itself)
         }
-        Reference::Variable(slot) => {
-            let object = name(progress, *slot);
+        Reference::Variable(location) => {
+            let object = name(progress, *location);
             take(progress, object)
         }
         Reference::Chosen(test, first, second) => {
@@ -294,11 +286,18 @@ pub fn refer(
                 refer(alloc, context, progress, first)
             }
         }
-        Reference::Stored(slot, operand) => {
+        Reference::Stored(location, operand) => {
             let object = refer(alloc, context, progress, operand)?;
-            let replaced = store(progress, *slot, object);
+            let replaced = store(progress, *location, object);
             release(alloc, context, progress, replaced)?;
             take(progress, object)
+        }
+        Reference::ObjectField(object, class, index) => {
+            let number = refer(alloc, context, progress, object)?;
+            read_object_field(context, progress, number, *class, *index)
+        }
+        Reference::ObjectFieldStored(object, class, index, operand) => {
+            store_field(alloc, context, progress, object, *class, *index, operand)
         }
         Reference::Made(operand) => {
             let number = evaluate(alloc, context, progress, operand)?;
@@ -311,20 +310,49 @@ pub fn refer(
     }
 }
 
-/// The numbers that the expressions give, from the first one on.
+/// A field of the object that an expression gives names what another one gives; the object is evaluated first. What it
+/// named before is dropped, and a temporary takes what it names now.
+#[cycle(running)]
+fn store_field(
+    alloc: Global,
+    context: &Context,
+    progress: &mut Progress,
+    object: &Reference,
+    class: usize,
+    index: usize,
+    operand: &Reference,
+) -> Result<usize, Halt>
+    ensures { Tells (λ n. n) result (referred (deeper context.now) (resolved.ObjectFieldStored (checked.reference object.now) class index (checked.reference operand.now)) (world progress.old)) (world progress.new) }
+{
+    let number = refer(alloc, context, progress, object)?;
+    let named = refer(alloc, context, progress, operand)?;
+    let replaced = replace_object_field(context, progress, number, class, index, named)?;
+    release(alloc, context, progress, replaced)?;
+    take(progress, named)
+}
+
+/// What the expressions give, from the first one on.
 #[cycle(running)]
 pub fn evaluate_all(
     alloc: Global,
     context: &Context,
     progress: &mut Progress,
-    values: &[Value],
-) -> Result<Vec<i64>, Halt>
-    ensures { Tells (λ v. v.items) result (all_evaluated (deeper context.now) (checked.values values.now) (world progress.old)) (world progress.new) }
+    arguments: &[Argument],
+) -> Result<Given, Halt>
+    ensures { Tells given_of result (all_evaluated (deeper context.now) (checked.arguments arguments.now) (world progress.old)) (world progress.new) }
 {
-    let mut numbers = Vec::new(alloc);
-    for value in values {
-        let number = evaluate(alloc, context, progress, value)?;
-        numbers.push(number)?;
+    let mut given = nothing(alloc);
+    for argument in arguments {
+        match argument {
+            Argument::Number(value) => {
+                let number = evaluate(alloc, context, progress, value)?;
+                given.numbers.push(number)?;
+            }
+            Argument::Object(reference) => {
+                let object = refer(alloc, context, progress, reference)?;
+                given.objects.push(object)?;
+            }
+        }
     }
-    Ok(numbers)
+    Ok(given)
 }

@@ -1,15 +1,15 @@
 //! The running function.
-ghost use Rattle.std.specs.Prelude.{◌≡◌, ◌∷◌, [], ℕ, suc, IfOk};
-ghost use Rattle.arc_spec.specs.Objects.{nils};
-ghost use Rattle.arc_spec.specs.World.{first_frame, first_locals};
-ghost use Rattle.arc_plain.specs.Views.{frame_of};
+ghost use Rattle.std.specs.Prelude.{◌≡◌, ◌∷◌, [], ℕ, suc, take, IfOk};
+ghost use Rattle.arc_spec.specs.World.{first_frame, first_locals, first_names};
+ghost use Rattle.arc_plain.specs.Views.{frame_of, given_of};
 
+use crate::given::Given;
 use arc_spec::event::NoMemory;
 use std::alloc::Global;
 
 /// A running function: in a method of objects `self`, the variables that hold numbers, those that name objects,
-/// and the temporaries of its full-expression, the last one at the end. An object goes by its number, and 0 is
-/// nil.
+/// of which the parameters are the first, and the temporaries of its full-expression, the last one at the end. An
+/// object goes by its number, and 0 is nil.
 #[derive(Drop)]
 pub struct Frame {
     pub itself: usize,
@@ -30,20 +30,22 @@ pub fn nothing_runs(alloc: Global) -> Frame
     }
 }
 
-/// A function that begins, with so many variables that hold numbers and that name objects.
+/// A function that begins, with so many variables that hold numbers and that name objects, of which so many are
+/// parameters.
 pub fn begin(
     alloc: Global,
     slots: usize,
     names: usize,
+    parameters: usize,
     itself: usize,
-    arguments: &[i64],
+    given: &Given,
 ) -> Result<Frame, NoMemory>
-    ensures { IfOk result (λ frame. frame_of frame ≡ record { self = itself; locals = first_locals slots arguments.now; strong = nils names; temporaries = [] }) }
+    ensures { IfOk result (λ frame. frame_of frame ≡ record { self = itself; locals = first_locals slots (given_of given.now).numbers; strong = first_names names (take parameters (given_of given.now).objects); temporaries = [] }) }
 {
     Ok(Frame {
         itself,
-        locals: begin_locals(alloc, slots, arguments)?,
-        strong: begin_names(alloc, names)?,
+        locals: begin_locals(alloc, slots, &given.numbers)?,
+        strong: begin_names(alloc, names, first_objects(&given.objects, parameters))?,
         temporaries: Vec::new(alloc),
     })
 }
@@ -72,9 +74,37 @@ fn take_number(numbers: &[i64]) -> (i64, &[i64])
     }
 }
 
-/// So many variables that name nothing.
-fn begin_names(alloc: Global, count: usize) -> Result<Vec<usize>, NoMemory>
-    ensures { IfOk result (λ names. names.items ≡ nils count) }
+/// The first of the objects, at most so many.
+fn first_objects(objects: &[usize], count: usize) -> &[usize]
+    ensures { result.now ≡ take count objects.now }
 {
-    Ok(vec![in alloc; 0; count]?)
+    if count < objects.len() {
+        &objects[..count]
+    } else {
+        objects
+    }
+}
+
+/// The variables of a function that begins that name objects: what it was given, and nil for all others.
+fn begin_names(alloc: Global, count: usize, objects: &[usize]) -> Result<Vec<usize>, NoMemory>
+    ensures { IfOk result (λ names. names.items ≡ first_names count objects.now) }
+{
+    let mut names = Vec::new(alloc);
+    let mut rest = objects;
+    for _ in 0..count {
+        let (object, others) = take_object(rest);
+        names.push(object)?;
+        rest = others;
+    }
+    Ok(names)
+}
+
+/// The first of the objects, and those after it; where there is none, it counts as nil.
+fn take_object(objects: &[usize]) -> (usize, &[usize])
+    ensures { (count : ℕ) → first_names (suc count) objects.now ≡ result.0 ∷ first_names count result.1.now }
+{
+    match objects.split_first() {
+        Some((object, others)) => (*object, others),
+        None => (0, objects),
+    }
 }

@@ -7,6 +7,7 @@ ghost use Rattle.arc_plain.specs.Views.{Stops, seen};
 
 use crate::call::call;
 use crate::context::Context;
+use crate::given::nothing;
 use crate::halt::Halt;
 use crate::progress::start;
 use arc_check::checked::Checked;
@@ -41,13 +42,14 @@ pub fn interpret(
 ) -> Result<Answer, NoMemory>
     ensures { IfOk result (λ answer. meaning_seen (mean (program_of program.now) input.now bound) ≡ seen answer) }
 {
-    let mut progress = start(alloc, &program.globals, input)?;
+    let mut progress = start(alloc, &program.globals, program.strong_globals, input)?;
     let context = Context {
         program,
         bound,
         levels: 2_000,
     };
-    let left = call(alloc, &context, &mut progress, program.main, 0, &[]);
+    let none = nothing(alloc);
+    let left = call(alloc, &context, &mut progress, program.main, 0, &none);
     let stop = stop_of(left)?;
     Ok(Answer {
         trace: progress.trace,

@@ -6,6 +6,7 @@ mod context;
 mod expression;
 mod format;
 mod frame;
+mod given;
 mod halt;
 pub mod interpret;
 mod message;

@@ -1,15 +1,14 @@
 //! The parts of a message.
-ghost use Rattle.std.specs.Prelude.{◌≡◌, ◌∷◌, IfOk};
-ghost use Rattle.arc_spec.specs.Classes.{class_at, lookup};
-ghost use Rattle.arc_spec.specs.Meaning.{difference};
+ghost use Rattle.std.specs.Prelude.{◌≡◌};
+ghost use Rattle.arc_spec.specs.Classes.{class_at};
+ghost use Rattle.arc_spec.specs.Meaning.{difference, finds};
 ghost use Rattle.arc_spec.specs.Number.{is_zero};
-ghost use Rattle.arc_plain.specs.Views.{deeper};
+ghost use Rattle.arc_plain.specs.Views.{deeper, given_of};
 
 use crate::context::Context;
+use crate::given::Given;
 use arc_ast::tree::Sign;
 use arc_spec::class::look_up;
-use arc_spec::event::NoMemory;
-use std::alloc::Global;
 
 /// The class that a number is the number of; a number below 0 is none's.
 pub fn class_at(number: i64) -> Option<usize>
@@ -18,27 +17,35 @@ pub fn class_at(number: i64) -> Option<usize>
     usize::try_from(number).ok()
 }
 
-/// What a method is given: what got the message, and then the arguments.
-pub fn with_receiver(alloc: Global, receiver: i64, arguments: &[i64]) -> Result<Vec<i64>, NoMemory>
-    ensures { IfOk result (λ passed. passed.items ≡ receiver ∷ arguments.now) }
-{
-    let mut passed = Vec::new(alloc);
-    passed.push(receiver)?;
-    passed.extend_from_slice(arguments)?;
-    Ok(passed)
+/// Who gets a message.
+#[derive(Drop)]
+pub enum Target {
+    /// A class, which comes last, and the class from which the method is looked up.
+    Class(Option<usize>, i64),
+    /// An object.
+    Object(usize),
+    /// An object, which comes last, whose method is looked up from this class.
+    Super(usize, usize),
 }
 
-/// What a message of this sign with this selector and so many arguments runs, from a class up.
+/// What a message of this sign with this selector and these arguments runs, from a class up.
 pub fn find_method(
     context: &Context,
     from: Option<usize>,
     sign: Sign,
     selector: usize,
-    takes: usize,
+    given: &Given,
 ) -> Option<usize>
-    ensures { result ≡ lookup (deeper context.now).classes from sign selector takes }
+    ensures { result ≡ finds (deeper context.now) from sign selector (given_of given.now) }
 {
-    look_up(&context.program.classes, from, sign, selector, takes)
+    look_up(
+        &context.program.classes,
+        from,
+        sign,
+        selector,
+        given.numbers.len(),
+        given.objects.len(),
+    )
 }
 
 /// 1 where two references differ, else 0.

@@ -2,32 +2,37 @@
 ghost use Rattle.std.specs.Prelude.{◌≡◌, ℕ, suc, map, IfOk, MatchOption, None, Some, OnOk, slice_get, slice_set};
 ghost use Rattle.arc_spec.specs.Classes.{classes_of, superclasses, ancestry_within};
 ghost use Rattle.arc_check.specs.Checked.{program_of};
-ghost use Rattle.arc_spec.specs.Meaning.{Deeper, made, field_read, field_set, field_count, dying, gone, class_in, dealloc_run, deallocs_run};
-ghost use Rattle.arc_spec.specs.Objects.{object_at, is_live, new_object, in_phase, with_fields};
+ghost use Rattle.arc_spec.specs.Meaning.{Deeper, turned, made, field_read, field_set, object_field_read, field_count, dying, gone, class_in, dealloc_run, deallocs_run};
+ghost use Rattle.arc_spec.specs.Objects.{Emptying, object_at, is_live, is_emptying, new_object, in_phase, with_fields, with_strong_fields};
 ghost use Rattle.arc_spec.specs.World.{World, Done, then_do, finished};
-ghost use Rattle.arc_plain.specs.Views.{world, deeper, Tells, nothing_of, object_of, phase_of, changed};
+ghost use Rattle.arc_plain.specs.Views.{world, deeper, Tells, nothing_of, object_of, phase_of, changed, object_field_replaced, named_in, cleared};
 
 use crate::context::Context;
 use crate::halt::Halt;
-use crate::place::{is_named, take};
+use crate::place::{is_named, name_at, replace, take};
 use crate::progress::Progress;
 use arc_spec::class::{Class, descends_from};
 use arc_spec::event::{Event, Fault, NoMemory};
+use arc_spec::order::strong_count;
 use std::alloc::Global;
 
-/// How far an object is on its way: its dealloc hasn't begun, has begun, or is done.
+/// How far an object is on its way: its dealloc hasn't begun; its deallocs run; its fields that name objects are
+/// destroyed; or it is gone.
 #[derive(Clone, Copy)]
 pub enum Phase {
     Live,
     Dying,
+    Emptying,
     Gone,
 }
 
-/// An object: the number of its class, its fields, and its phase.
+/// An object: the number of its class, the numbers that its fields hold, what its fields name that name objects,
+/// and its phase.
 #[derive(Drop)]
 pub struct Object {
     pub class: usize,
     pub fields: Vec<i64>,
+    pub strong: Vec<usize>,
     pub phase: Phase,
 }
 
@@ -48,9 +53,19 @@ pub fn is_live(objects: &[Object], number: usize) -> bool
     match object_at(objects, number) {
         Some(object) => match object.phase {
             Phase::Live => true,
-            Phase::Dying | Phase::Gone => false,
+            Phase::Dying | Phase::Emptying | Phase::Gone => false,
         },
         None => false,
+    }
+}
+
+/// Whether the fields that name objects of an object in this phase are being destroyed, or are already.
+fn is_emptying(phase: Phase) -> bool
+    ensures { result ≡ is_emptying (phase_of phase) }
+{
+    match phase {
+        Phase::Live | Phase::Dying => false,
+        Phase::Emptying | Phase::Gone => true,
     }
 }
 
@@ -77,13 +92,14 @@ pub fn make(
         return Err(Halt::Stopped(Fault::Unrecognized));
     };
     let count = field_count(&context.program.classes, class);
-    let object = new_object(alloc, class, count)?;
+    let strong = strong_count(&context.program.classes, class);
+    let object = new_object(alloc, class, count, strong)?;
     progress.objects.push(object)?;
     let number = progress.objects.len();
     take(progress, number)
 }
 
-/// How many fields the objects of a class have.
+/// How many fields the objects of a class have that hold numbers.
 fn field_count(classes: &[Class], class: usize) -> usize
     ensures { result ≡ field_count (slice_get (classes_of classes.now) class) }
 {
@@ -93,13 +109,19 @@ fn field_count(classes: &[Class], class: usize) -> usize
     }
 }
 
-/// An object of a class as it is made, with so many fields.
-fn new_object(alloc: Global, class: usize, fields: usize) -> Result<Object, NoMemory>
-    ensures { IfOk result (λ object. object_of object ≡ new_object class fields) }
+/// An object of a class as it is made, with so many fields of each sort.
+fn new_object(
+    alloc: Global,
+    class: usize,
+    fields: usize,
+    strong_fields: usize,
+) -> Result<Object, NoMemory>
+    ensures { IfOk result (λ object. object_of object ≡ new_object class fields strong_fields) }
 {
     Ok(Object {
         class,
         fields: vec![in alloc; 0; fields]?,
+        strong: vec![in alloc; 0; strong_fields]?,
         phase: Phase::Live,
     })
 }
@@ -145,6 +167,81 @@ pub fn set_field(
     }
     write_field(&mut progress.objects, number, index, value);
     Ok(value)
+}
+
+/// What the field with this number names of an object, whose own class this is, which a temporary takes.
+pub fn read_object_field(
+    context: &Context,
+    progress: &mut Progress,
+    number: usize,
+    class: usize,
+    index: usize,
+) -> Result<usize, Halt>
+    ensures { Tells (λ n. n) result (object_field_read (deeper context.now) number class index (world progress.old)) (world progress.new) }
+{
+    let Some(object) = object_at(&progress.objects, number) else {
+        return Err(Halt::Stopped(Fault::NilField));
+    };
+    if !descends_from(&context.program.classes, Some(object.class), class) {
+        return Err(Halt::Stopped(Fault::FieldClass));
+    }
+    let named = name_at(&object.strong, index);
+    take(progress, named)
+}
+
+/// The field with this number of an object, whose own class this is, names an object from now on, and what it named
+/// before is given. Where the fields of its object are being destroyed this is a fault.
+pub fn replace_object_field(
+    context: &Context,
+    progress: &mut Progress,
+    number: usize,
+    class: usize,
+    index: usize,
+    named: usize,
+) -> Result<usize, Halt>
+    ensures { Tells (λ n. n) result (object_field_replaced (deeper context.now) number class index named (world progress.old)) (world progress.new) }
+{
+    let Some(object) = object_at(&progress.objects, number) else {
+        return Err(Halt::Stopped(Fault::NilField));
+    };
+    if !descends_from(&context.program.classes, Some(object.class), class) {
+        return Err(Halt::Stopped(Fault::FieldClass));
+    }
+    if is_emptying(object.phase) {
+        return Err(Halt::Stopped(Fault::Resurrected));
+    }
+    Ok(replace_field(&mut progress.objects, number, index, named))
+}
+
+/// The field with this number of an object names an object from now on, and what it named before is given.
+fn replace_field(objects: &mut [Object], number: usize, index: usize, named: usize) -> usize
+    ensures before { result ≡ named_in (object_at (map object_of objects.old) number) index }
+    ensures after { map object_of objects.new ≡ changed (map object_of objects.old) number (λ o. with_strong_fields o (slice_set o.strong index named)) }
+{
+    if number == 0 {
+        return 0;
+    }
+    let count = objects.len();
+    if number > count {
+        return 0;
+    }
+    let object = &mut objects[number - 1];
+    replace(&mut object.strong, index, named)
+}
+
+/// The field with this number of an object names nothing from now on, and what it named before is given.
+pub fn clear_field(progress: &mut Progress, number: usize, index: usize) -> usize
+    ensures before { result ≡ named_in (object_at (world progress.old).objects number) index }
+    ensures after { world progress.new ≡ cleared number index (object_at (world progress.old).objects number) (world progress.old) }
+{
+    replace_field(&mut progress.objects, number, index, 0)
+}
+
+/// The fields of an object that name objects are destroyed from now on.
+pub fn begin_emptying(progress: &mut Progress, number: usize)
+    ensures { world progress.new ≡ turned Emptying number (object_at (world progress.old).objects number) (world progress.old) }
+{
+    turn(&mut progress.objects, number, Phase::Emptying);
 }
 
 /// Gives the field with this number of an object a number.

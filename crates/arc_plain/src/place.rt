@@ -1,15 +1,20 @@
 //! Strong places: variables that name objects, and temporaries.
-ghost use Rattle.std.specs.Prelude.{◌≡◌, ◌∷◌, ◌++◌, ◌+◌, [], OnOk, IfOk, MatchOption, length, reverse};
+ghost use Rattle.std.specs.Prelude.{◌≡◌, ◌∷◌, ◌++◌, ◌+◌, [], OnOk, IfOk, MatchOption, length, reverse, map, slice_set};
 ghost use Rattle.std.proofs.Common.{take};
 ghost use Rattle.arc_spec.specs.Objects.{names};
-ghost use Rattle.arc_spec.specs.World.{Done, places, takes, stores, with_temporaries, name_at, entered};
-ghost use Rattle.arc_plain.specs.Views.{world, frame_of, Tells, left_at};
+ghost use Rattle.arc_spec.specs.Objects.{fields_of, field_places};
+ghost use Rattle.arc_spec.specs.declared.location.Location.TheVariants.{Local};
+ghost use Rattle.arc_spec.specs.World.{Done, places, takes, name_at, named_at, stores, with_temporaries, entered};
+ghost use Rattle.arc_plain.specs.Views.{world, frame_of, given_of, object_of, Tells, left_at};
 
 use crate::frame::{Frame, begin};
+use crate::given::Given;
 use crate::halt::Halt;
+use crate::object::{Object, Phase};
 use crate::progress::Progress;
 use arc_check::checked::CheckedFunction;
 use arc_spec::event::NoMemory;
+use arc_spec::location::Location;
 use std::alloc::Global;
 use std::mem;
 
@@ -29,34 +34,56 @@ pub fn drop_last(progress: &mut Progress) -> Option<usize>
     progress.frame.temporaries.pop()
 }
 
-/// What a variable of the running function names.
-pub fn name(progress: &Progress, slot: usize) -> usize
-    ensures { result ≡ name_at (world progress.now).frame.strong slot }
+/// What a place of these names; one that there isn't names nothing.
+pub fn name_at(places: &[usize], index: usize) -> usize
+    ensures { result ≡ name_at places.now index }
 {
-    match progress.frame.strong.get(slot) {
+    match places.get(index) {
         Some(object) => *object,
         None => 0,
     }
 }
 
-/// A variable of the running function names this object from now on, and what it named before is given.
-pub fn store(progress: &mut Progress, slot: usize, object: usize) -> usize
-    ensures before { result ≡ name_at (world progress.old).frame.strong slot }
-    ensures after { world progress.new ≡ stores slot object (world progress.old) }
+/// A place of these names this object from now on, where there is that place, and what it named before is given.
+pub fn replace(places: &mut [usize], index: usize, object: usize) -> usize
+    ensures before { result ≡ name_at places.old index }
+    ensures after { places.new ≡ slice_set places.old index object }
 {
-    match progress.frame.strong.get_mut(slot) {
-        Some(place) => mem::replace(place, object),
-        None => 0,
+    if index < places.len() {
+        mem::replace(&mut places[index], object)
+    } else {
+        0
+    }
+}
+
+/// What a variable names.
+pub fn name(progress: &Progress, location: Location) -> usize
+    ensures { result ≡ named_at location (world progress.now) }
+{
+    match location {
+        Location::Local(slot) => name_at(&progress.frame.strong, slot),
+        Location::Global(index) => name_at(&progress.strong_globals, index),
+    }
+}
+
+/// A variable names this object from now on, and what it named before is given.
+pub fn store(progress: &mut Progress, location: Location, object: usize) -> usize
+    ensures before { result ≡ named_at location (world progress.old) }
+    ensures after { world progress.new ≡ stores location object (world progress.old) }
+{
+    match location {
+        Location::Local(slot) => replace(&mut progress.frame.strong, slot, object),
+        Location::Global(index) => replace(&mut progress.strong_globals, index, object),
     }
 }
 
 /// The variable so far after the first one names nothing from now on, and what it named is given.
 pub fn clear(progress: &mut Progress, first: usize, offset: usize) -> usize
-    ensures before { result ≡ name_at (world progress.old).frame.strong (first + offset) }
-    ensures after { world progress.new ≡ stores (first + offset) 0 (world progress.old) }
+    ensures before { result ≡ named_at (Local (first + offset)) (world progress.old) }
+    ensures after { world progress.new ≡ stores (Local (first + offset)) 0 (world progress.old) }
 {
     match first.checked_add(offset) {
-        Some(slot) => store(progress, slot, 0),
+        Some(slot) => store(progress, Location::Local(slot), 0),
         None => 0,
     }
 }
@@ -73,7 +100,35 @@ pub fn is_named(progress: &Progress, object: usize) -> bool
     if has_name(&frame.strong, object) {
         return true;
     }
-    has_name(&progress.waiting, object)
+    if has_name(&progress.waiting, object) {
+        return true;
+    }
+    if has_name(&progress.strong_globals, object) {
+        return true;
+    }
+    has_field(&progress.objects, object)
+}
+
+/// Whether a field of an object that isn't gone names the object.
+fn has_field(objects: &[Object], object: usize) -> bool
+    ensures { result ≡ names object (field_places (map object_of objects.now)) }
+{
+    for one in objects {
+        if holds(one, object) {
+            return true;
+        }
+    }
+    false
+}
+
+/// Whether a field of this object names the other one, and it isn't gone.
+fn holds(one: &Object, object: usize) -> bool
+    ensures { result ≡ names object (fields_of (object_of one.now)) }
+{
+    match one.phase {
+        Phase::Live | Phase::Dying | Phase::Emptying => has_name(&one.strong, object),
+        Phase::Gone => false,
+    }
 }
 
 /// Whether one of the places names the object.
@@ -94,14 +149,21 @@ pub fn push_frame(
     progress: &mut Progress,
     function: &CheckedFunction,
     itself: usize,
-    arguments: &[i64],
+    given: &Given,
 ) -> Result<Frame, NoMemory>
-    ensures world { OnOk result (world progress.new ≡ entered function.now.slots function.now.names itself arguments.now (world progress.old)) }
+    ensures world { OnOk result (world progress.new ≡ entered function.now.slots function.now.names function.now.parameters itself (given_of given.now) (world progress.old)) }
     ensures kept { IfOk result (λ frame. frame_of frame ≡ (world progress.old).frame) }
     ensures below { OnOk result (take (length progress.old.waiting.items) progress.new.waiting.items ≡ progress.old.waiting.items) }
 {
     wait(alloc, &progress.frame, &mut progress.waiting)?;
-    let frame = begin(alloc, function.slots, function.names, itself, arguments)?;
+    let frame = begin(
+        alloc,
+        function.slots,
+        function.names,
+        function.parameters,
+        itself,
+        given,
+    )?;
     Ok(mem::replace(&mut progress.frame, frame))
 }
 

@@ -12,26 +12,34 @@ use arc_spec::location::Location;
 use std::alloc::Global;
 
 /// What is left of the input, the events so far, the numbers that the variables of the whole program hold,
-/// the objects in the order of their making, the running function, and the strong places of those that wait
-/// for it, the newest at the end.
+/// what those of them name that name objects, the objects in the order of their making, the running function,
+/// and the strong places of those that wait for it, the newest at the end.
 #[derive(Drop)]
 pub struct Progress<'a> {
     pub input: &'a [u8],
     pub trace: Vec<Event>,
     pub globals: Vec<i64>,
+    pub strong_globals: Vec<usize>,
     pub objects: Vec<Object>,
     pub frame: Frame,
     pub waiting: Vec<usize>,
 }
 
-/// Nothing is read or shown yet, and the variables of the whole program hold these numbers.
-pub fn start<'a>(alloc: Global, globals: &[i64], input: &'a [u8]) -> Result<Progress<'a>, NoMemory>
-    ensures { IfOk result (λ progress. world progress ≡ first_world globals.now input.now) }
+/// Nothing is read or shown yet, and the variables of the whole program hold these numbers, and so many of
+/// them name nothing.
+pub fn start<'a>(
+    alloc: Global,
+    globals: &[i64],
+    strong_globals: usize,
+    input: &'a [u8],
+) -> Result<Progress<'a>, NoMemory>
+    ensures { IfOk result (λ progress. world progress ≡ first_world globals.now strong_globals input.now) }
 {
     Ok(Progress {
         input,
         trace: Vec::new(alloc),
         globals: Vec::from_slice(alloc, globals)?,
+        strong_globals: vec![in alloc; 0; strong_globals]?,
         objects: Vec::new(alloc),
         frame: nothing_runs(alloc),
         waiting: Vec::new(alloc),

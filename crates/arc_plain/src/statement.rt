@@ -13,6 +13,7 @@ use crate::message::is_zero;
 use crate::place::store;
 use crate::progress::Progress;
 use arc_check::checked::{Command, Value};
+use arc_spec::location::Location;
 use std::alloc::Global;
 
 /// How a statement was left: at its end, by a `break`, by a `continue`, or by a return with a value.
@@ -49,7 +50,7 @@ fn execute(
         }
         Command::Begin(slot, value) => {
             let object = refer(alloc, context, progress, value)?;
-            let before = store(progress, *slot, object);
+            let before = store(progress, Location::Local(*slot), object);
             release(alloc, context, progress, before)?;
             drop_temporaries(alloc, context, progress)?;
             Ok(Flow::Normal)

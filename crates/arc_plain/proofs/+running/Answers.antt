@@ -1,23 +1,25 @@
-use Rattle.std.proofs.Common.{rules, arith, option_map, suc, length, map, take, vec_len, to_z, of_z, w64, ◌∷◌, ◌++◌, [], refl, ◌≡◌, ◌-◌, ◌<◌, ◌≤◌, Err, sym, subst, ap, ◌∙◌}
+use Rattle.std.proofs.Common.{rules, arith, option_map, suc, length, map, take, Some, vec_len, to_z, of_z, w64, ◌∷◌, ◌++◌, [], refl, ◌≡◌, ◌-◌, ◌<◌, ◌≤◌, Err, sym, subst, ap, ◌∙◌}
 use Rattle.std.proofs.lemmas.Int.{to_z-of_z}
 use Rattle.std.proofs.lemmas.Bool.{ltb-true, ltb-false}
 use Rattle.std.proofs.lemmas.Result.{err_from_is_err_and}
 use Rattle.arc_check.specs.Checked as checked
-use Rattle.arc_spec.specs.Classes.{superclasses, ancestry}
+use Rattle.arc_spec.specs.Classes.{classes_of, superclasses, ancestry, field_order}
 use Rattle.arc_spec.specs.Number.{is_zero}
 use Rattle.arc_spec.proofs.Ancestry.{all_classes}
 use Rattle.arc_check.specs.Checked.{program_of}
-use Rattle.arc_spec.specs.Meaning.{updated, given_by, field_set, evaluated, whole, all_evaluated, all_executed, executed, turns, turns_after, called, function_at, all_dropped, variables_dropped, class_in, deallocs_run, dying, gone, level}
-use Rattle.arc_spec.specs.Resolved.{Updated, FieldUpdated, Function}
+use Rattle.arc_spec.specs.Meaning.{referred, released, updated, given_by, field_set, evaluated, whole, all_evaluated, all_executed, executed, turns, turns_after, called, function_at, all_dropped, variables_dropped, class_in, deallocs_run, dying, emptied, gone, level}
+use Rattle.arc_spec.specs.Resolved.{Updated, FieldUpdated, ObjectFieldStored, Function, no_arguments}
 use Rattle.arc_spec.specs.Objects.{object_at}
-use Rattle.arc_spec.specs.World.{Done, then_do}
-use Rattle.arc_plain.specs.Views.{world, Tells, deeper, flow_of, nothing_of, object_of, function_of, left_at}
-use Rattle.arc_plain.proofs.Calls.{call_told, body_failed, drop_failed, nothing_called, function_there, function_absent, temporary_step, temporaries_fewer, no_temporary, variable_step, variable_failed, layer_done, layer_failed}
+use Rattle.arc_spec.specs.World.{World, Outcome, Done, then_do, Finished, takes}
+use Rattle.arc_plain.specs.Views.{world, given_of, Tells, deeper, flow_of, nothing_of, object_of, function_of, left_at, object_field_replaced}
+use Rattle.arc_plain.proofs.Calls.{call_told, body_failed, drop_failed, nothing_called, function_there, function_absent, temporary_step, temporaries_fewer, no_temporary, variable_step, variable_failed, layer_done, layer_failed, emptied_is}
 use Rattle.arc_plain.proofs.Keeping.{level_steady}
-use Rattle.arc_check.proofs.Trees.{is_print, is_invoked, is_sent, is_sent_super, is_sent_to, is_sent_to_super, is_sequence}
-use Rattle.arc_plain.proofs.Turns.{value_told, message_told, command_told, values_step, test_failed, turns_step, turns_left, turn_failed, turns_after_step, turns_after_left, turn_after_failed, call_is, end_is, tells_through}
-use Rattle.arc_plain.proofs.Updates.{variable_stored, field_stored, variable_updated, field_updated}
-use Rattle.arc_plain.proofs.Weights.{print_lighter, call_lighter, sent_lighter, super_lighter, sent_to_lighter, to_super_lighter, sequence_lighter, value_in, command_in, commands_weight, level_lighter, body_lighter}
+use Rattle.arc_check.proofs.Trees.{is_print, is_invoked, is_sent, is_sequence}
+use Rattle.arc_plain.proofs.Turns.{value_told, command_told, with_numbers, with_named, is_number, is_object, number_step, object_step, test_failed, turns_step, turns_left, turn_failed, turns_after_step, turns_after_left, turn_after_failed, call_is, end_is, level_classes, tells_through}
+use Rattle.arc_plain.proofs.Updates.{variable_stored, field_stored, variable_updated, field_updated, field_named}
+use Rattle.arc_plain.proofs.Weights.{print_lighter, call_lighter, sent_lighter, sequence_lighter, number_lighter, object_lighter, receiver_counts, command_in, commands_weight, level_lighter, body_lighter}
+use Rattle.arc_plain.specs.declared.progress.Progress.{Progress}
+use Rattle.arc_plain.proofs.+running.Goals.{expression::evaluate_all-in-Number+in_ok-number-in-Number+in_ok-push-in-Number, expression::evaluate_all-in-Object+in_ok-object-in-Object+in_ok-push-in-Object}
 use Rattle.arc_plain.proofs.+running.Goals as goal
 
 pub expression::evaluate-returns-in-Print : goal.expression::evaluate-returns-in-Print
@@ -34,29 +36,6 @@ pub expression::evaluate-returns-in-Sent : goal.expression::evaluate-returns-in-
 expression::evaluate-returns-in-Sent t c =
     value_told (deeper c.args.context.now) c.args.value.now _ c.send.result (world c.args.progress.now) (world c.send.new.progress)
     (is_sent c.args.value.now c.in-Sent.receiver c.in-Sent.selector c.in-Sent.arguments c.deref-in-Sent.result.now c.deref-in-Sent-2.result.now c.in-Sent.is c.deref-in-Sent.ensures c.deref-in-Sent-2.ensures.value) c.send.ensures
-
-pub expression::evaluate-returns-in-SentSuper : goal.expression::evaluate-returns-in-SentSuper
-expression::evaluate-returns-in-SentSuper t c =
-    value_told (deeper c.args.context.now) c.args.value.now _ c.send_super.result (world c.args.progress.now) (world c.send_super.new.progress)
-    (is_sent_super c.args.value.now c.in-SentSuper.from c.in-SentSuper.selector c.in-SentSuper.arguments c.deref-in-SentSuper.result.now c.in-SentSuper.is c.deref-in-SentSuper.ensures.value) c.send_super.ensures
-
-pub expression::evaluate-returns-in-SentTo : goal.expression::evaluate-returns-in-SentTo
-expression::evaluate-returns-in-SentTo t c =
-    value_told (deeper c.args.context.now) c.args.value.now _ c.send_to.result (world c.args.progress.now) (world c.send_to.new.progress)
-    (is_sent_to c.args.value.now c.in-SentTo.receiver c.in-SentTo.selector c.in-SentTo.arguments c.deref-in-SentTo.result.now c.deref-in-SentTo-2.result.now c.in-SentTo.is c.deref-in-SentTo.ensures c.deref-in-SentTo-2.ensures.value) c.send_to.ensures
-
-pub expression::evaluate-returns-in-SentToSuper : goal.expression::evaluate-returns-in-SentToSuper
-expression::evaluate-returns-in-SentToSuper t c =
-    value_told (deeper c.args.context.now) c.args.value.now _ c.send_to_super.result (world c.args.progress.now) (world c.send_to_super.new.progress)
-    (is_sent_to_super c.args.value.now c.in-SentToSuper.from c.in-SentToSuper.selector c.in-SentToSuper.arguments c.deref-in-SentToSuper.result.now c.in-SentToSuper.is c.deref-in-SentToSuper.ensures.value) c.send_to_super.ensures
-
-pub sending::send-returns : goal.sending::send-returns
-sending::send-returns t c =
-    let same : to_z w64 (of_z w64 c.in_ok-itself.itself) ≡ c.in_ok-itself.itself = grind (arith, to_z-of_z) in
-    message_told (deeper c.args.context.now) (checked.value c.args.receiver.now) (checked.values c.args.arguments.now) c.args.selector c.in_ok-itself.itself (to_z w64 (of_z w64 c.in_ok-itself.itself))
-    c.in_ok-numbers.numbers.items c.deref.result.now c.class_at-from.result c.dispatch.result
-    (world c.args.progress.now) (world c.evaluate.new.progress) (world c.evaluate_all.new.progress) (world c.dispatch.new.progress)
-    same c.deref.ensures.value c.class_at-from.ensures c.in_ok-itself.ensures c.in_ok-numbers.ensures c.dispatch.ensures
 
 pub expression::update_variable-returns-in_err-new : goal.expression::update_variable-returns-in_err-new
 expression::update_variable-returns-in_err-new t c =
@@ -179,32 +158,9 @@ pub expression::evaluate-send-requires : goal.expression::evaluate-send-requires
 expression::evaluate-send-requires t c =
     (omega (arith, sent_lighter c.args.value.now c.in-Sent.receiver c.in-Sent.selector c.in-Sent.arguments c.deref-in-Sent.result.now c.deref-in-Sent-2.result.now c.in-Sent.is c.deref-in-Sent.ensures c.deref-in-Sent-2.ensures.value, c.decreases), tt)
 
-pub expression::evaluate-send_super-requires : goal.expression::evaluate-send_super-requires
-expression::evaluate-send_super-requires t c =
-    (omega (arith, super_lighter c.args.value.now c.in-SentSuper.from c.in-SentSuper.selector c.in-SentSuper.arguments c.deref-in-SentSuper.result.now c.in-SentSuper.is c.deref-in-SentSuper.ensures.value, c.decreases), tt)
-
-pub expression::evaluate-send_to-requires : goal.expression::evaluate-send_to-requires
-expression::evaluate-send_to-requires t c =
-    (omega (arith, sent_to_lighter c.args.value.now c.in-SentTo.receiver c.in-SentTo.selector c.in-SentTo.arguments c.deref-in-SentTo.result.now c.deref-in-SentTo-2.result.now c.in-SentTo.is c.deref-in-SentTo.ensures c.deref-in-SentTo-2.ensures.value, c.decreases), tt)
-
-pub expression::evaluate-send_to_super-requires : goal.expression::evaluate-send_to_super-requires
-expression::evaluate-send_to_super-requires t c =
-    (omega (arith, to_super_lighter c.args.value.now c.in-SentToSuper.from c.in-SentToSuper.selector c.in-SentToSuper.arguments c.deref-in-SentToSuper.result.now c.in-SentToSuper.is c.deref-in-SentToSuper.ensures.value, c.decreases), tt)
-
-pub expression::evaluate_all-evaluate-requires : goal.expression::evaluate_all-evaluate-requires
-expression::evaluate_all-evaluate-requires t c =
-    (omega (arith, value_in c.args.values.now c.loop-value.value-index c.value-item.result c.loop-value-test.true c.value-item.is, c.decreases), tt)
-
 pub statement::execute_all-execute-requires : goal.statement::execute_all-execute-requires
 statement::execute_all-execute-requires t c =
     (omega (arith, command_in c.args.commands.now c.loop-command.command-index c.command-item.result c.loop-command-test.true c.command-item.is, c.decreases), tt)
-
-pub expression::evaluate_all-loop-value-preserved : goal.expression::evaluate_all-loop-value-preserved
-expression::evaluate_all-loop-value-preserved t c =
-    let same : to_z w64 (of_z w64 c.in_ok-number.number) ≡ c.in_ok-number.number = grind (arith, to_z-of_z) in
-    values_step (deeper c.args.context.now) c.args.values.now c.loop-value.value-index c.value-item.result c.loop-value.numbers.items c.push.new.self.items c.in_ok-number.number
-    (all_evaluated (deeper c.args.context.now) (checked.values c.args.values.now) (world c.args.progress.now)) (world c.loop-value.progress) (world c.evaluate.new.progress)
-    c.loop-value-test.true c.value-item.is c.loop-value.invariant c.in_ok-number.ensures (c.in_ok-push.ensures.items ∙ ap (λ x. c.loop-value.numbers.items ++ x ∷ []) same)
 
 pub statement::repeat-loop-preserved : goal.statement::repeat-loop-preserved
 statement::repeat-loop-preserved t c =
@@ -283,7 +239,7 @@ call::call-returns t c =
     let context = c.args.context.now in
     let one : context.levels ≡ suc (context.levels - 1) = omega (arith, c.if-context-eq0.false) in
     subst (λ o. Tells (λ n. n) c.enter.result o (world c.enter.new.progress))
-    (sym (call_is (program_of context.program.now) context.bound context.levels (context.levels - 1) c.args.function c.args.itself c.args.arguments.now (world c.args.progress.now) one)) c.enter.ensures
+    (sym (call_is (program_of context.program.now) context.bound context.levels (context.levels - 1) c.args.function c.args.itself (given_of c.args.given.now) (world c.args.progress.now) one)) c.enter.ensures
 
 pub call::call-enter-requires : goal.call::call-enter-requires
 call::call-enter-requires t c =
@@ -339,8 +295,8 @@ call::enter-returns-in_default t c =
     let context = c.args.context.now in
     let all = c.deref.result.now in
     let past : length all ≤ c.args.function = ltb-false c.args.function (length all) (sym c.in_default.ensures.lookup.0) in
-    ap (λ g. called (deeper context) context.bound g c.args.itself c.args.arguments.now (world c.args.progress.now)) (function_absent context all c.args.function c.deref.ensures.value past)
-    ∙ nothing_called (deeper context) context.bound c.args.itself c.args.arguments.now (world c.args.progress.now)
+    ap (λ g. called (deeper context) context.bound g c.args.itself (given_of c.args.given.now) (world c.args.progress.now)) (function_absent context all c.args.function c.deref.ensures.value past)
+    ∙ nothing_called (deeper context) context.bound c.args.itself (given_of c.args.given.now) (world c.args.progress.now)
 
 pub call::enter-execute_all-requires : goal.call::enter-execute_all-requires
 call::enter-execute_all-requires t c =
@@ -365,8 +321,8 @@ call::enter-returns-in_err-flow t c =
     let p = err_from_is_err_and c.from_residual-in_err-flow.result c.from_residual-in_err-flow.ensures.1 in
     let body : Tells flow_of (Err c.in_err-flow.field-0.0) (all_executed D context.bound (checked.commands f.body.items) w1) after =
     subst (λ l. Tells flow_of (Err c.in_err-flow.field-0.0) (all_executed D context.bound (checked.commands l) w1) after) c.deref-2.ensures.value c.in_err-flow.ensures in
-    subst (λ (g : Function). Tells (λ n. n) c.from_residual-in_err-flow.result (called D context.bound g c.args.itself c.args.arguments.now w0) after) (sym found)
-    (body_failed D (level_steady P context.bound context.levels) context.bound (function_of f) c.args.itself c.args.arguments.now w0 w1 c.in_ok-kept.ensures.world
+    subst (λ (g : Function). Tells (λ n. n) c.from_residual-in_err-flow.result (called D context.bound g c.args.itself (given_of c.args.given.now) w0) after) (sym found)
+    (body_failed D (level_steady P context.bound context.levels) context.bound (function_of f) c.args.itself (given_of c.args.given.now) w0 w1 c.in_ok-kept.ensures.world
     flow_of c.in_err-flow.field-0.0 c.from_residual-in_err-flow.result after (p.1 ∙ ap Err p.2) body)
 
 pub call::enter-returns-in_err-drop_variables : goal.call::enter-returns-in_err-drop_variables
@@ -385,8 +341,8 @@ call::enter-returns-in_err-drop_variables t c =
     let p = err_from_is_err_and c.from_residual-in_err-drop_variables.result c.from_residual-in_err-drop_variables.ensures.1 in
     let body : all_executed D context.bound (checked.commands f.body.items) w1 ≡ Done (flow_of c.in_ok-flow.flow) w2 =
     ap (λ l. all_executed D context.bound (checked.commands l) w1) (sym c.deref-2.ensures.value) ∙ c.in_ok-flow.ensures in
-    subst (λ (g : Function). Tells (λ n. n) c.from_residual-in_err-drop_variables.result (called D context.bound g c.args.itself c.args.arguments.now w0) after) (sym found)
-    (drop_failed D (level_steady P context.bound context.levels) context.bound (function_of f) c.args.itself c.args.arguments.now w0 w1 c.in_ok-kept.ensures.world
+    subst (λ (g : Function). Tells (λ n. n) c.from_residual-in_err-drop_variables.result (called D context.bound g c.args.itself (given_of c.args.given.now) w0) after) (sym found)
+    (drop_failed D (level_steady P context.bound context.levels) context.bound (function_of f) c.args.itself (given_of c.args.given.now) w0 w1 c.in_ok-kept.ensures.world
     nothing_of (flow_of c.in_ok-flow.flow) w2 c.in_err-drop_variables.field-0.0 c.from_residual-in_err-drop_variables.result after body (p.1 ∙ ap Err p.2) c.in_err-drop_variables.ensures)
 
 pub call::enter-returns : goal.call::enter-returns
@@ -413,8 +369,8 @@ call::enter-returns t c =
     let count : c.len-waiting.result ≡ length old.items = c.len-waiting.ensures ∙ old.ok.0 in
     let kept : take c.len-waiting.result begun ≡ old.items = ap (λ n. take n begun) count ∙ c.in_ok-kept.ensures.below in
     let leaves : w4 ≡ left_at w0.frame (take c.len-waiting.result last) w3 = c.pop_frame.ensures ∙ ap (λ x. left_at x (take c.len-waiting.result last) w3) c.in_ok-kept.ensures.kept in
-    subst (λ (g : Function). called D context.bound g c.args.itself c.args.arguments.now w0 ≡ Done number w4) (sym found)
-    (call_told D (level_steady P context.bound context.levels) context.bound (function_of f) c.args.itself c.args.arguments.now w0 w1 c.in_ok-kept.ensures.world
+    subst (λ (g : Function). called D context.bound g c.args.itself (given_of c.args.given.now) w0 ≡ Done number w4) (sym found)
+    (call_told D (level_steady P context.bound context.levels) context.bound (function_of f) c.args.itself (given_of c.args.given.now) w0 w1 c.in_ok-kept.ensures.world
     w2 w3 w4 (flow_of c.in_ok-flow.flow) number c.len-waiting.result old.items begun last body c.in_ok-drop_variables.ensures refl refl refl kept leaves (same ∙ c.number_of.ensures))
 
 pub call::end-returns-in_err-run_deallocs : goal.call::end-returns-in_err-run_deallocs
@@ -430,13 +386,14 @@ call::end-returns-in_err-run_deallocs t c =
     let known : class ≡ class_in (object_at w.objects o) = c.class_of-class.ensures ∙ ap (λ l. class_in (object_at (map object_of l) o)) c.deref.ensures.value in
     let p = err_from_is_err_and c.from_residual-in_err-run_deallocs.result c.from_residual-in_err-run_deallocs.ensures.1 in
     let whole = (deeper context).end_of o w in
+    let rest : Finished → World → Outcome Finished = λ _ w2. then_do (emptied (level P context.bound n) o (object_at w2.objects o) w2) (λ _ w3. gone o w3) in
     let after = world c.run_deallocs.new.progress in
-    let meant : whole ≡ then_do (deallocs_run P (level P context.bound n) context.bound (ancestry (superclasses P.classes) class) o w1) (λ _ w2. gone o w2) =
+    let meant : whole ≡ then_do (deallocs_run P (level P context.bound n) context.bound (ancestry (superclasses P.classes) class) o w1) rest =
     end_is P context.bound context.levels n o w one
-    ∙ ap (λ x. then_do (deallocs_run P (level P context.bound n) context.bound (ancestry (superclasses P.classes) x) o (dying o (object_at w.objects o) w)) (λ _ w2. gone o w2)) (sym known)
-    ∙ ap (λ v. then_do (deallocs_run P (level P context.bound n) context.bound (ancestry (superclasses P.classes) class) o v) (λ _ w2. gone o w2)) (sym c.in_ok-begin_end.ensures) in
+    ∙ ap (λ x. then_do (deallocs_run P (level P context.bound n) context.bound (ancestry (superclasses P.classes) x) o (dying o (object_at w.objects o) w)) rest) (sym known)
+    ∙ ap (λ v. then_do (deallocs_run P (level P context.bound n) context.bound (ancestry (superclasses P.classes) class) o v) rest) (sym c.in_ok-begin_end.ensures) in
     subst (λ r. Tells nothing_of r whole after) (sym (p.1 ∙ ap Err p.2))
-    (tells_through c.in_err-run_deallocs.field-0.0 nothing_of nothing_of after (λ _ w2. gone o w2) (deallocs_run P (level P context.bound n) context.bound (ancestry (superclasses P.classes) class) o w1) whole meant c.in_err-run_deallocs.ensures)
+    (tells_through c.in_err-run_deallocs.field-0.0 nothing_of nothing_of after rest (deallocs_run P (level P context.bound n) context.bound (ancestry (superclasses P.classes) class) o w1) whole meant c.in_err-run_deallocs.ensures)
 
 pub call::run_deallocs-loop-passed-init : goal.call::run_deallocs-loop-passed-init
 call::run_deallocs-loop-passed-init t c =
@@ -476,3 +433,110 @@ call::run_deallocs-returns-in_err-run_dealloc t c =
     layer_failed P D context.bound (deallocs_run P D context.bound (ancestry (superclasses P.classes) c.args.class) c.args.object (world c.args.progress.now)) (length all) i c.args.object c.loop-passed.next layer.0 layer.1 w (world c.run_dealloc.new.progress)
     nothing_of nothing_of c.in_err-run_dealloc.field-0.0 c.from_residual.result
     below c.loop-passed.invariant (λ n. c.in-Some.ensures D context.bound n c.args.object w) (p.1 ∙ ap Err p.2) c.in_err-run_dealloc.ensures
+
+pub call::empty-returns : goal.call::empty-returns
+call::empty-returns t c =
+    let context = c.args.context.now in
+    let P = program_of context.program.now in
+    let o = c.args.object in
+    let w = world c.args.progress.now in
+    let class = c.in-Some.class in
+    let known : Some class ≡ class_in (object_at w.objects o) = sym c.in-Some.is ∙ (c.class_of.ensures ∙ ap (λ l. class_in (object_at (map object_of l) o)) c.deref.ensures.value) in
+    let meant = emptied_is (deeper context) (classes_of context.program.now.classes.items) o class (object_at w.objects o) c.deref-3.result.now w (world c.begin_emptying.new.progress)
+    (level_classes P context.bound context.levels) known (c.deref-3.ensures.value ∙ c.in_ok-order.ensures ∙ ap (λ l. field_order (classes_of l) class) c.deref-2.ensures.value) c.begin_emptying.ensures in
+    subst (λ x. Tells nothing_of c.drop_fields.result x (world c.drop_fields.new.progress)) (sym meant) c.drop_fields.ensures
+
+pub expression::evaluate_all-evaluate-requires : goal.expression::evaluate_all-evaluate-requires
+expression::evaluate_all-evaluate-requires t c =
+    let kind = is_number c.argument-item.result c.in-Number.value c.deref.result.now c.in-Number.is c.deref.ensures in
+    (omega (arith, number_lighter c.args.arguments.now c.loop-argument.argument-index c.argument-item.result (checked.value c.deref.result.now) c.loop-argument-test.true c.argument-item.is (kind no_arguments), c.decreases), tt)
+
+pub expression::evaluate_all-refer-requires : goal.expression::evaluate_all-refer-requires
+expression::evaluate_all-refer-requires t c =
+    let kind = is_object c.argument-item.result c.in-Object.reference c.deref-in-Object.result.now c.in-Object.is c.deref-in-Object.ensures in
+    (omega (arith, object_lighter c.args.arguments.now c.loop-argument.argument-index c.argument-item.result (checked.reference c.deref-in-Object.result.now) c.loop-argument-test.true c.argument-item.is (kind no_arguments), c.decreases), tt)
+
+pub expression::evaluate_all-loop-argument-preserved : goal.expression::evaluate_all-loop-argument-preserved
+expression::evaluate_all-loop-argument-preserved t c =
+    let D = deeper c.args.context.now in
+    let vs = c.args.arguments.now in
+    let i = c.loop-argument.argument-index in
+    let v = c.argument-item.result in
+    let found = given_of c.loop-argument.given in
+    let more = given_of c.match-argument.given in
+    let whole = all_evaluated D (checked.arguments vs) (world c.args.progress.now) in
+    let before = world c.loop-argument.progress in
+    let after = world c.match-argument.progress in
+    elim c.match-argument.branch [
+      | expression::evaluate_all-in-Number+in_ok-number-in-Number+in_ok-push-in-Number w ↦
+          let n = w.in_ok-number-in-Number.number in
+          let same : to_z w64 (of_z w64 n) ≡ n = grind (arith, to_z-of_z) in
+          number_step D vs i v (checked.value w.deref.result.now) found more n whole before after c.loop-argument-test.true c.argument-item.is
+          (is_number v w.in-Number.value w.deref.result.now w.in-Number.is w.deref.ensures) c.loop-argument.invariant
+          (w.in_ok-number-in-Number.ensures ∙ ap (λ (p : Progress). Done n (world p)) (sym w.progress-is))
+          (ap given_of w.given-is ∙ ap (λ l. with_numbers found l) (w.in_ok-push-in-Number.ensures.items ∙ ap (λ x. found.numbers ++ x ∷ []) same))
+      | expression::evaluate_all-in-Object+in_ok-object-in-Object+in_ok-push-in-Object w ↦
+          let r = w.in_ok-object-in-Object.object in
+          object_step D vs i v (checked.reference w.deref-in-Object.result.now) found more r whole before after c.loop-argument-test.true c.argument-item.is
+          (is_object v w.in-Object.reference w.deref-in-Object.result.now w.in-Object.is w.deref-in-Object.ensures) c.loop-argument.invariant
+          (w.in_ok-object-in-Object.ensures ∙ ap (λ (p : Progress). Done r (world p)) (sym w.progress-is))
+          (ap given_of w.given-is ∙ ap (λ l. with_named found l) w.in_ok-push-in-Object.ensures.items)
+    ]
+
+pub expression::store_field-returns-in_err-replaced : goal.expression::store_field-returns-in_err-replaced
+expression::store_field-returns-in_err-replaced t c =
+    let D = deeper c.args.context.now in
+    let a = checked.reference c.args.object.now in
+    let b = checked.reference c.args.operand.now in
+    let r = c.in_ok-number.number in
+    let named = c.in_ok-named.named in
+    let w = world c.args.progress.now in
+    let between = world c.refer-2.new.progress in
+    let after = world c.replace_object_field.new.progress in
+    let e = c.in_err-replaced.field-0.0 in
+    let replaced = object_field_replaced D r c.args.class c.args.index named between in
+    let drop : Outcome Finished = then_do replaced (λ old w1. released D old w1) in
+    let meant = field_named D c.args.class c.args.index a b r named w (world c.refer.new.progress) between c.in_ok-number.ensures c.in_ok-named.ensures in
+    let p = err_from_is_err_and c.from_residual-in_err-replaced.result c.from_residual-in_err-replaced.ensures.1 in
+    let part : Tells nothing_of (Err e) drop after = tells_through e (λ n. n) nothing_of after (λ old w1. released D old w1) replaced drop refl c.in_err-replaced.ensures in
+    subst (λ x. Tells (λ n. n) x (referred D (ObjectFieldStored a c.args.class c.args.index b) w) after) (sym (p.1 ∙ ap Err p.2))
+    (tells_through e nothing_of (λ n. n) after (λ _ w1. Done named (takes named w1)) drop _ meant part)
+
+pub expression::store_field-returns-in_err-release : goal.expression::store_field-returns-in_err-release
+expression::store_field-returns-in_err-release t c =
+    let D = deeper c.args.context.now in
+    let a = checked.reference c.args.object.now in
+    let b = checked.reference c.args.operand.now in
+    let r = c.in_ok-number.number in
+    let named = c.in_ok-named.named in
+    let w = world c.args.progress.now in
+    let between = world c.refer-2.new.progress in
+    let stored = world c.replace_object_field.new.progress in
+    let after = world c.release.new.progress in
+    let e = c.in_err-release.field-0.0 in
+    let taken : Finished → World → Outcome _ = λ _ w1. Done named (takes named w1) in
+    let meant : referred D (ObjectFieldStored a c.args.class c.args.index b) w ≡ then_do (released D c.in_ok-replaced.replaced stored) taken =
+    field_named D c.args.class c.args.index a b r named w (world c.refer.new.progress) between c.in_ok-number.ensures c.in_ok-named.ensures
+    ∙ ap (λ o. then_do (then_do o (λ old w1. released D old w1)) taken) c.in_ok-replaced.ensures in
+    let p = err_from_is_err_and c.from_residual-in_err-release.result c.from_residual-in_err-release.ensures.1 in
+    subst (λ x. Tells (λ n. n) x (referred D (ObjectFieldStored a c.args.class c.args.index b) w) after) (sym (p.1 ∙ ap Err p.2))
+    (tells_through e nothing_of (λ n. n) after taken (released D c.in_ok-replaced.replaced stored) _ meant c.in_err-release.ensures)
+
+pub expression::store_field-returns : goal.expression::store_field-returns
+expression::store_field-returns t c =
+    let D = deeper c.args.context.now in
+    let a = checked.reference c.args.object.now in
+    let b = checked.reference c.args.operand.now in
+    let r = c.in_ok-number.number in
+    let named = c.in_ok-named.named in
+    let w = world c.args.progress.now in
+    let between = world c.refer-2.new.progress in
+    let taken : Finished → World → Outcome _ = λ _ w1. Done named (takes named w1) in
+    let meant : referred D (ObjectFieldStored a c.args.class c.args.index b) w ≡ Done named (takes named (world c.release.new.progress)) =
+    field_named D c.args.class c.args.index a b r named w (world c.refer.new.progress) between c.in_ok-number.ensures c.in_ok-named.ensures
+    ∙ ap (λ o. then_do (then_do o (λ old w1. released D old w1)) taken) c.in_ok-replaced.ensures
+    ∙ ap (λ o. then_do o taken) c.in_ok-release.ensures in
+    subst (λ x. Tells (λ n. n) c.take.result x (world c.take.new.progress)) (sym meant) c.take.ensures
+
+pub sending::send-tell-requires : goal.sending::send-tell-requires
+sending::send-tell-requires t c = (omega (arith, receiver_counts (checked.receiver c.args.receiver.now), c.decreases), tt)

@@ -2,10 +2,10 @@ use Rattle.std.proofs.Common.{◌≡◌, ◌+◌, ◌-◌, suc, drop, length, ve
 use Rattle.arc_check.specs.Checked as checked
 use Rattle.arc_check.specs.Checked.{program_of}
 use Rattle.arc_spec.specs.Classes.{superclasses, ancestry, ancestry_within}
-use Rattle.arc_spec.specs.Meaning.{all_evaluated, whole, executed, all_executed, turns, turns_after, all_dropped, variables_dropped, deallocs_run}
-use Rattle.arc_plain.specs.Views.{world, deeper}
+use Rattle.arc_spec.specs.Meaning.{all_evaluated, whole, executed, all_executed, turns, turns_after, all_dropped, variables_dropped, deallocs_run, fields_dropped}
+use Rattle.arc_plain.specs.Views.{world, given_of, deeper}
 use Rattle.arc_plain.proofs.Turns.{front}
-use Rattle.arc_plain.proofs.Weights.{levels_left, program_weight, value_weight, values_weight, reference_weight, command_weight, commands_weight}
+use Rattle.arc_plain.proofs.Weights.{levels_left, program_weight, value_weight, arguments_weight, receiver_weight, reference_weight, command_weight, commands_weight}
 use Rattle.arc_plain.proofs.+running.Given as goal
 
 abbrev pub decreases-call::call : goal.decreases-call::call
@@ -23,6 +23,12 @@ decreases-call::drop_temporaries l = levels_left l.context.now + 2
 abbrev pub decreases-call::drop_variables : goal.decreases-call::drop_variables
 decreases-call::drop_variables l = levels_left l.context.now + 2
 
+abbrev pub decreases-call::drop_fields : goal.decreases-call::drop_fields
+decreases-call::drop_fields l = levels_left l.context.now + 2
+
+abbrev pub decreases-call::empty : goal.decreases-call::empty
+decreases-call::empty l = levels_left l.context.now + 3
+
 abbrev pub decreases-call::enter : goal.decreases-call::enter
 decreases-call::enter l = levels_left l.context.now + (3 + program_weight l.context.now)
 
@@ -36,13 +42,13 @@ abbrev pub decreases-expression::evaluate : goal.decreases-expression::evaluate
 decreases-expression::evaluate l = levels_left l.context.now + value_weight (checked.value l.value.now)
 
 abbrev pub decreases-expression::evaluate_print : goal.decreases-expression::evaluate_print
-decreases-expression::evaluate_print l = levels_left l.context.now + suc (values_weight (checked.values l.arguments.now))
+decreases-expression::evaluate_print l = levels_left l.context.now + suc (arguments_weight (checked.arguments l.arguments.now))
 
 abbrev pub decreases-expression::evaluate_both : goal.decreases-expression::evaluate_both
 decreases-expression::evaluate_both l = levels_left l.context.now + (1 + value_weight (checked.value l.left.now) + value_weight (checked.value l.right.now))
 
 abbrev pub decreases-expression::invoke : goal.decreases-expression::invoke
-decreases-expression::invoke l = levels_left l.context.now + suc (values_weight (checked.values l.arguments.now))
+decreases-expression::invoke l = levels_left l.context.now + suc (arguments_weight (checked.arguments l.arguments.now))
 
 abbrev pub decreases-expression::assign_field : goal.decreases-expression::assign_field
 decreases-expression::assign_field l = levels_left l.context.now + (1 + reference_weight (checked.reference l.object.now) + value_weight (checked.value l.operand.now))
@@ -60,25 +66,25 @@ abbrev pub decreases-expression::refer : goal.decreases-expression::refer
 decreases-expression::refer l = levels_left l.context.now + reference_weight (checked.reference l.reference.now)
 
 abbrev pub decreases-expression::evaluate_all : goal.decreases-expression::evaluate_all
-decreases-expression::evaluate_all l = levels_left l.context.now + values_weight (checked.values l.values.now)
+decreases-expression::evaluate_all l = levels_left l.context.now + arguments_weight (checked.arguments l.arguments.now)
 
 abbrev pub decreases-expression::evaluate_whole : goal.decreases-expression::evaluate_whole
 decreases-expression::evaluate_whole l = levels_left l.context.now + (3 + value_weight (checked.value l.value.now))
 
 abbrev pub decreases-sending::send : goal.decreases-sending::send
-decreases-sending::send l = levels_left l.context.now + (2 + value_weight (checked.value l.receiver.now) + values_weight (checked.values l.arguments.now))
+decreases-sending::send l = levels_left l.context.now + (2 + receiver_weight (checked.receiver l.receiver.now) + arguments_weight (checked.arguments l.arguments.now))
 
-abbrev pub decreases-sending::send_super : goal.decreases-sending::send_super
-decreases-sending::send_super l = levels_left l.context.now + (2 + values_weight (checked.values l.arguments.now))
+abbrev pub decreases-sending::receive : goal.decreases-sending::receive
+decreases-sending::receive l = levels_left l.context.now + receiver_weight (checked.receiver l.receiver.now)
+
+abbrev pub decreases-sending::tell : goal.decreases-sending::tell
+decreases-sending::tell l = levels_left l.context.now + 2
+
+abbrev pub decreases-expression::store_field : goal.decreases-expression::store_field
+decreases-expression::store_field l = levels_left l.context.now + (3 + reference_weight (checked.reference l.object.now) + reference_weight (checked.reference l.operand.now))
 
 abbrev pub decreases-sending::dispatch : goal.decreases-sending::dispatch
 decreases-sending::dispatch l = suc (levels_left l.context.now)
-
-abbrev pub decreases-sending::send_to : goal.decreases-sending::send_to
-decreases-sending::send_to l = levels_left l.context.now + (2 + reference_weight (checked.reference l.receiver.now) + values_weight (checked.values l.arguments.now))
-
-abbrev pub decreases-sending::send_to_super : goal.decreases-sending::send_to_super
-decreases-sending::send_to_super l = levels_left l.context.now + (2 + values_weight (checked.values l.arguments.now))
 
 abbrev pub decreases-sending::dispatch_to : goal.decreases-sending::dispatch_to
 decreases-sending::dispatch_to l = suc (levels_left l.context.now)
@@ -111,9 +117,9 @@ abbrev pub decreases-statement::run_test : goal.decreases-statement::run_test
 decreases-statement::run_test l = levels_left l.context.now + (4 + value_weight (checked.value l.test.now))
 
 -- the whole is what was found in front of what is to come
-abbrev pub invariant-expression::evaluate_all-loop-value : goal.invariant-expression::evaluate_all-loop-value
-invariant-expression::evaluate_all-loop-value l =
-    all_evaluated (deeper l.context) (checked.values l.values) (world l.initial.progress) ≡ front l.numbers.items (all_evaluated (deeper l.context) (checked.values (drop l.value-index l.values)) (world l.progress))
+abbrev pub invariant-expression::evaluate_all-loop-argument : goal.invariant-expression::evaluate_all-loop-argument
+invariant-expression::evaluate_all-loop-argument l =
+    all_evaluated (deeper l.context) (checked.arguments l.arguments) (world l.initial.progress) ≡ front (given_of l.given) (all_evaluated (deeper l.context) (checked.arguments (drop l.argument-index l.arguments)) (world l.progress))
 
 -- what is to come is the whole
 abbrev pub invariant-statement::execute_all-loop-command : goal.invariant-statement::execute_all-loop-command
@@ -151,3 +157,8 @@ invariant-call::run_deallocs-loop-passed l =
     let program = program_of l.context.program.now in
     deallocs_run program (deeper l.context) l.context.bound (ancestry (superclasses program.classes) l.fn.class) l.object (world l.initial.progress)
     ≡ deallocs_run program (deeper l.context) l.context.bound (ancestry_within (length l.context.program.now.classes.items - l._passed) (superclasses program.classes) l.next) l.object (world l.progress)
+
+-- the fields that are left are the whole
+abbrev pub invariant-call::drop_fields-loop-index : goal.invariant-call::drop_fields-loop-index
+invariant-call::drop_fields-loop-index l =
+    fields_dropped (deeper l.context) l.order l.object (world l.initial.progress) ≡ fields_dropped (deeper l.context) (drop l.index-index l.order) l.object (world l.progress)

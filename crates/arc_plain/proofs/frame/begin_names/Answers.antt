@@ -1,6 +1,8 @@
-use Rattle.std.proofs.Common.{◌∙◌}
-use Rattle.arc_plain.proofs.Objects.{nils_are}
+use Rattle.arc_spec.specs.World.{first_names}
+use Rattle.arc_plain.proofs.Locals.{names_step}
 use Rattle.arc_plain.proofs.frame.begin_names.Goals as goal
 
-pub returns : goal.returns
-returns c = c.in_ok-vec.ensures.items_if_clones_equal (λ y h. h) ∙ nils_are c.args.count
+pub loop-preserved : goal.loop-preserved
+loop-preserved c =
+    names_step c.args.count c.loop.counter (first_names c.args.count c.args.objects.now) c.loop.names.items c.push.new.self.items c.loop.rest.now c.take_object-object.result.1.now c.take_object-object.result.0
+    c.loop-test.true c.loop.invariant c.take_object-object.ensures c.in_ok-push.ensures.items
